@@ -1,0 +1,127 @@
+//! From bytes to the frame that they are the text of.
+
+ghost use Rattle.std.specs.Prelude.{◌≡◌, ◌+◌, ◌≤◌, ◌↔◌, length, IfOk, IfErr, OnOk};
+ghost use Rattle.std.specs.Result.{result_ok};
+ghost use Rattle.rdm_frame.specs.FrameText.{frame_text, IsFrame};
+ghost use Rattle.rdm_frame.specs.Reading.{frame_of, frame_in, word_at, uid_at, PassesAll, IsFirstFault};
+
+use crate::encoding::{HEAD_SLOTS, START_CODE, SUB_START_CODE, checksum_of};
+use crate::{Body, Frame, Uid};
+use thiserror::Error;
+
+/// How many bytes a frame without parameter data has: the header and the checksum.
+const SHORTEST: usize = 26;
+
+/// Why bytes are no frame: the first of six tests, in this order, that they fail (E1.20 section 6.2).
+#[derive(Clone, Copy, Debug, PartialEq, Eq, Error)]
+pub enum FrameError {
+    /// There are fewer than 26 bytes.
+    #[error("fewer bytes than the shortest frame has")]
+    Short,
+    /// Slot 0 isn't the START code of RDM.
+    #[error("another START code")]
+    Start,
+    /// Slot 1 isn't the sub-START code of a message.
+    #[error("another sub-START code")]
+    SubStart,
+    /// Slot 2, the message length, is under 24, or isn't two less than the number of bytes.
+    #[error("the message length isn't that of the bytes")]
+    Length,
+    /// The parameter data length isn't what the message length leaves for it.
+    #[error("the parameter data length isn't that of the message")]
+    Pdl,
+    /// The last two slots aren't the sum of the others.
+    #[error("another checksum")]
+    Checksum,
+}
+
+/// The frame that the bytes are the text of.
+///
+/// It is `Ok` exactly on the text of a frame. Else the error names the first of the six tests that fails.
+pub fn decode(bytes: &[u8]) -> Result<Frame, FrameError>
+    // What is read is spelled so.
+    ensures ok { IfOk result (λ f. IsFrame f × (bytes.now ≡ frame_text f)) }
+    // What is spelled so is read.
+    ensures only { (f : Frame) → IsFrame f → bytes.now ≡ frame_text f → result ≡ Ok f }
+    // The one frame, as the layers above cite it.
+    ensures value { result_ok result ≡ frame_in bytes.now }
+    // Each error comes exactly where the tests before its own pass, and its own fails.
+    ensures fault { (e : FrameError) → (result ≡ Err e) ↔ IsFirstFault e bytes.now }
+{
+    test(bytes)?;
+    Ok(read(bytes))
+}
+
+/// The six tests, in their order.
+fn test(bytes: &[u8]) -> Result<(), FrameError>
+    ensures ok { OnOk result (PassesAll bytes.now) }
+    ensures err { IfErr result (λ e. IsFirstFault e bytes.now) }
+{
+    let len = bytes.len();
+    if len < SHORTEST {
+        return Err(FrameError::Short);
+    }
+    if bytes[0] != START_CODE {
+        return Err(FrameError::Start);
+    }
+    if bytes[1] != SUB_START_CODE {
+        return Err(FrameError::SubStart);
+    }
+    if (bytes[2] as usize) < HEAD_SLOTS || bytes[2] as usize + 2 != len {
+        return Err(FrameError::Length);
+    }
+    if HEAD_SLOTS + bytes[23] as usize != bytes[2] as usize {
+        return Err(FrameError::Pdl);
+    }
+    if word_at(bytes, len - 2) != checksum_of(&bytes[..len - 2]) {
+        return Err(FrameError::Checksum);
+    }
+    Ok(())
+}
+
+/// What the slots say. The tests have passed, so that they are a frame's.
+#[tactic(auto, unfolding(crate::specs::Reading::frame_of))]
+fn read(bytes: &[u8]) -> Frame
+    requires { PassesAll bytes.now }
+    ensures { result ≡ frame_of bytes.now }
+{
+    let end = HEAD_SLOTS + bytes[23] as usize;
+    let mut body = Body::new();
+    body.append(&bytes[HEAD_SLOTS..end]);
+    Frame {
+        dst: uid_at(bytes, 3),
+        src: uid_at(bytes, 9),
+        tn: bytes[15],
+        port: bytes[16],
+        count: bytes[17],
+        sub: word_at(bytes, 18),
+        class: bytes[20],
+        pid: word_at(bytes, 21),
+        body,
+    }
+}
+
+/// The 16-bit number at a slot.
+fn word_at(bytes: &[u8], slot: usize) -> u16
+    requires { slot + 2 ≤ length bytes.now }
+    ensures { result ≡ word_at bytes.now slot }
+{
+    u16::from_be_bytes([bytes[slot], bytes[slot + 1]])
+}
+
+/// The UID at a slot.
+fn uid_at(bytes: &[u8], slot: usize) -> Uid
+    requires { slot + 6 ≤ length bytes.now }
+    ensures { result ≡ uid_at bytes.now slot }
+{
+    let device = [
+        bytes[slot + 2],
+        bytes[slot + 3],
+        bytes[slot + 4],
+        bytes[slot + 5],
+    ];
+    Uid {
+        maker: word_at(bytes, slot),
+        device: u32::from_be_bytes(device),
+    }
+}

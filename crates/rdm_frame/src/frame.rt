@@ -1,0 +1,26 @@
+//! What a frame says.
+
+use crate::{Body, Uid};
+
+/// A request or a response, without its text (E1.20 section 6.2).
+#[derive(Debug, Drop, PartialEq, Eq)]
+pub struct Frame {
+    /// The destination UID (section 6.2.4).
+    pub dst: Uid,
+    /// The source UID (section 6.2.5).
+    pub src: Uid,
+    /// The transaction number (section 6.2.6).
+    pub tn: u8,
+    /// The port ID in a request, the response type in a response (section 6.2.7).
+    pub port: u8,
+    /// The message count (section 6.2.8).
+    pub count: u8,
+    /// The sub-device (section 6.2.9).
+    pub sub: u16,
+    /// The command class (section 6.2.10).
+    pub class: u8,
+    /// The parameter ID (section 6.2.10).
+    pub pid: u16,
+    /// The parameter data (section 6.2.10).
+    pub body: Body,
+}

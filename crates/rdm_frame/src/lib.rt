@@ -1,0 +1,19 @@
+//! Frames of Remote Device Management (ANSI E1.20-2010, section 6.2): their text as bytes, and back.
+//!
+//! `encode` writes the one text of a frame. `decode` reads exactly the texts of frames, and refuses every other
+//! byte list by the first of six tests that it fails.
+#![tactic(auto)]
+
+mod bytes;
+mod decoding;
+mod encoding;
+mod frame;
+mod laws;
+mod uid;
+
+pub use bytes::{Body, Bytes, Load, Text, Wire};
+pub use decoding::{FrameError, decode};
+pub use encoding::encode;
+pub use frame::Frame;
+pub use laws::{text_belongs_to_one_frame, text_has_its_slots};
+pub use uid::Uid;
