@@ -1,0 +1,30 @@
+-- What happens to a responder, from the moment that it is switched on.
+use Rattle.std.specs.Prelude.{ℕ, List, [], ◌∷◌, ◌++◌}
+use Rattle.rdm_frame.specs.declared.uid.Uid.{Uid}
+
+-- What a responder is set up with: its UID, and how many results of slow commands it has room for.
+pub record Setup : Type 0 where
+  pub uid : Uid
+  pub queue_size : ℕ
+
+-- Something that happens: bytes are heard on the bus.
+pub data Event : Type 0 where
+  Heard : List ℕ → Event
+
+-- A setup, and what happened since, in order of time.
+pub record History : Type 0 where
+  pub setup : Setup
+  pub events : List Event
+
+-- nothing has happened yet
+abbrev pub empty_history : Setup → History
+empty_history setup = record { setup = setup; events = [] }
+
+-- and then this happens
+abbrev pub then_event : History → Event → History
+then_event h event = record h { events = h.events ++ event ∷ [] }
+
+-- and then these byte strings are heard, one after another
+abbrev pub then_heard : History → List (List ℕ) → History
+then_heard h [] = h
+then_heard h (bytes ∷ others) = then_heard (then_event h (Heard bytes)) others

@@ -1,0 +1,4 @@
+pub mod Table
+pub mod History
+pub mod Rules
+pub mod StandsFor
