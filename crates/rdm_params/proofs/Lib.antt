@@ -1,0 +1,4 @@
+pub mod Maps
+pub mod OwnKeys
+pub mod Places
+pub mod ReadBack

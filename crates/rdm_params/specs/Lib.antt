@@ -1,0 +1,16 @@
+pub mod Commands
+pub mod Demo
+pub mod Forms
+pub mod Kinds
+pub mod Laws
+pub mod Map
+pub mod Nacks
+pub mod Parameters
+pub mod Profiles
+pub mod Ranges
+pub mod Replies
+pub mod Spot
+pub mod State
+pub mod Table
+pub mod Uses
+pub mod Values

@@ -1,0 +1,30 @@
+-- The values that a device keeps: for each key, a PID and an index, the bytes of its value.
+use Rattle.std.specs.Prelude.{ℕ, Bool, ◌==◌, ◌&&◌, List, [], ◌∷◌, if◌then◌else◌}
+
+-- The index is 0, but for sensors, where it is the number of the sensor.
+pub record Entry : Type 0 where
+  pub pid : ℕ
+  pub index : ℕ
+  pub bytes : List ℕ
+
+abbrev pub entry : ℕ → ℕ → List ℕ → Entry
+entry pid index bytes = record { pid = pid; index = index; bytes = bytes }
+
+-- whether the entry has this key
+abbrev pub has_key : ℕ → ℕ → Entry → Bool
+has_key pid index e = (e.pid == pid) && (e.index == index)
+
+-- the bytes at a key, and none where there is no such key
+abbrev pub lookup : List Entry → ℕ → ℕ → List ℕ
+lookup [] pid index = []
+lookup (e ∷ es) pid index = if has_key pid index e then e.bytes else lookup es pid index
+
+-- the map in which the entry of that key is the new one
+abbrev pub store : Entry → List Entry → List Entry
+store new [] = []
+store new (e ∷ es) = (if has_key new.pid new.index e then new else e) ∷ store new es
+
+-- the map after several writes, in order
+abbrev pub store_all : List Entry → List Entry → List Entry
+store_all [] es = es
+store_all (new ∷ news) es = store_all news (store new es)

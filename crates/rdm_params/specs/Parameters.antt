@@ -1,0 +1,43 @@
+-- The values that a root device and its sub-devices keep, and those that they start with. E1.20 section 9.
+use Rattle.std.specs.Prelude.{ℕ, List, [], ◌∷◌, ◌++◌, replicate, slice_index}
+use Rattle.rdm_params.specs.declared.profile.Profile.{Profile}
+use Rattle.rdm_params.specs.declared.profile.Unit.{Unit as DeviceUnit}
+use Rattle.rdm_params.specs.Map.{Entry, entry}
+use Rattle.rdm_params.specs.Values.{word_slots, long_slots}
+
+-- the profile, the values of the root, and those of each sub-device, of which the first is number 1
+pub record Parameters : Type 0 where
+  pub profile : Profile
+  pub root : List Entry
+  pub subs : List (List Entry)
+
+-- what every device starts with: the first personality, the lamp off, full power
+unfoldable pub common_at_start : DeviceUnit → List Entry
+common_at_start u =
+    entry 0x00E0 0 (1 ∷ [])
+    ∷ entry 0x00F0 0 (word_slots u.start)
+    ∷ entry 0x0401 0 (long_slots 0)
+    ∷ entry 0x0402 0 (long_slots 0)
+    ∷ entry 0x0403 0 (0 ∷ [])
+    ∷ entry 0x0404 0 (0 ∷ [])
+    ∷ entry 0x1000 0 (0 ∷ [])
+    ∷ entry 0x1010 0 (0xFF ∷ [])
+    ∷ []
+
+-- what the root starts with beside it: the first language, the display at full level, no self test, no preset
+unfoldable pub own_at_start : Profile → List Entry
+own_at_start p =
+    entry 0x00B0 0 (word_slots (slice_index p.languages.items 0))
+    ∷ entry 0x0400 0 (long_slots 0)
+    ∷ entry 0x0405 0 (long_slots 0)
+    ∷ entry 0x0500 0 (0 ∷ [])
+    ∷ entry 0x0501 0 (0xFF ∷ [])
+    ∷ entry 0x0600 0 (0 ∷ [])
+    ∷ entry 0x0601 0 (0 ∷ [])
+    ∷ entry 0x0602 0 (0 ∷ [])
+    ∷ entry 0x1020 0 (0 ∷ [])
+    ∷ entry 0x1031 0 (word_slots 0 ++ 0 ∷ [])
+    ∷ []
+
+unfoldable pub parameters_of : Profile → Parameters
+parameters_of p = record { profile = p; root = common_at_start p.root ++ own_at_start p; subs = replicate p.subs (common_at_start p.sub) }

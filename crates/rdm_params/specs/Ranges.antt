@@ -1,0 +1,47 @@
+-- The ranges of the data of commands.
+use Rattle.std.specs.Prelude.{ℕ, ◌+◌, Bool, true, false, ◌==◌, ◌&&◌, ◌||◌, not, nat_lt, nat_le, List, slice_index, Option, Some, None}
+use Rattle.std.specs.Option.{option_map_or}
+use Rattle.std.specs.List.{list_any}
+use Rattle.rdm_params.specs.declared.value.Value.{Value}
+use Rattle.rdm_params.specs.Values.{byte_in, word_in, preset_in}
+use Rattle.rdm_params.specs.Spot.{Spot, footprint}
+use Rattle.rdm_params.specs.Forms.{Form, has_form}
+
+-- Whether a value is in range at a device. No value of another form is.
+abbrev pub Range : Type 0
+Range = Spot → Value → Bool
+
+-- the test of a number, or of a preset and its level, where the value is one
+abbrev for_byte : (ℕ → Bool) → Value → Bool
+for_byte test v = option_map_or test (byte_in v) false
+
+abbrev for_word : (ℕ → Bool) → Value → Bool
+for_word test v = option_map_or test (word_in v) false
+
+-- every value of the form
+abbrev pub any : Form → Range
+any form spot v = has_form form v
+
+-- the numbers below n
+abbrev pub below : ℕ → Form → Range
+below n form spot v = for_byte (λ b. nat_lt b n) v
+
+-- a language of the profile
+abbrev pub a_language : Form → Range
+a_language form spot v = for_word (λ code. list_any (λ l. l == code) spot.profile.languages.items) v
+
+-- a start address, at a device that uses slots
+abbrev pub a_start : Form → Range
+a_start form spot v = for_word (λ n. nat_le 1 n && nat_le n 512 && not (footprint spot == 0)) v
+
+-- off, standby, on without or with full brightness
+abbrev pub a_power_state : Form → Range
+a_power_state form spot v = for_byte (λ b. (b == 0) || (b == 1) || (b == 2) || (b == 0xFF)) v
+
+-- off, all tests, or a test of the profile
+abbrev pub a_self_test : Form → Range
+a_self_test form spot v = for_byte (λ b. (b == 0) || (b == 0xFF) || list_any (λ t. t.number == b) spot.profile.tests.items) v
+
+-- off, a preset of the profile, or all presets, at any level
+abbrev pub a_preset : Form → Range
+a_preset form spot v = option_map_or (λ p. nat_le p.0 spot.profile.presets || (p.0 == 0xFFFF)) (preset_in v) false

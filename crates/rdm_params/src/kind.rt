@@ -1,0 +1,84 @@
+//! Which parameters there are, and which commands.
+
+ghost use Rattle.std.specs.Prelude.{◌≡◌, ◌↔◌, IfSome, IsSome};
+ghost use Rattle.rdm_params.specs.Kinds.{pid_of};
+ghost use Rattle.rdm_params.specs.Table.{row_of};
+
+/// A parameter of the table, in the order of the PIDs.
+#[derive(Clone, Copy, Debug, PartialEq, Eq)]
+pub enum Kind {
+    /// LANGUAGE (E1.20 section 10.5.8).
+    Language,
+    /// BOOT_SOFTWARE_VERSION_ID (section 10.5.10).
+    BootSoftwareVersionId,
+    /// DMX_START_ADDRESS (section 10.6.3).
+    DmxStartAddress,
+    /// DEVICE_HOURS (section 10.8.1).
+    DeviceHours,
+    /// LAMP_HOURS (section 10.8.2).
+    LampHours,
+    /// LAMP_STRIKES (section 10.8.3).
+    LampStrikes,
+    /// LAMP_STATE (section 10.8.4).
+    LampState,
+    /// LAMP_ON_MODE (section 10.8.5).
+    LampOnMode,
+    /// DEVICE_POWER_CYCLES (section 10.8.6).
+    DevicePowerCycles,
+    /// DISPLAY_INVERT (section 10.9).
+    DisplayInvert,
+    /// DISPLAY_LEVEL (section 10.9).
+    DisplayLevel,
+    /// PAN_INVERT (section 10.10).
+    PanInvert,
+    /// TILT_INVERT (section 10.10).
+    TiltInvert,
+    /// PAN_TILT_SWAP (section 10.10).
+    PanTiltSwap,
+    /// IDENTIFY_DEVICE (section 10.11).
+    IdentifyDevice,
+    /// POWER_STATE (section 10.11).
+    PowerState,
+    /// PERFORM_SELFTEST (section 10.11).
+    PerformSelfTest,
+    /// PRESET_PLAYBACK (section 10.11).
+    PresetPlayback,
+}
+
+/// What a command does with a parameter (E1.20 section 6.2.10).
+#[derive(Clone, Copy, Debug, PartialEq, Eq)]
+pub enum Verb {
+    /// It asks for the value.
+    Get,
+    /// It changes the value.
+    Set,
+}
+
+/// The parameter of a PID (table A-3), or `None` where the table has none.
+#[tactic(auto, unfolding(crate::specs::Table::row_of, crate::specs::Table::table))]
+pub fn kind_of(pid: u16) -> Option<Kind>
+    ensures value { IfSome result (λ kind. pid_of kind ≡ pid) }
+    ensures known { IsSome result ↔ IsSome (row_of pid) }
+{
+    Some(match pid {
+        0x00B0 => Kind::Language,
+        0x00C1 => Kind::BootSoftwareVersionId,
+        0x00F0 => Kind::DmxStartAddress,
+        0x0400 => Kind::DeviceHours,
+        0x0401 => Kind::LampHours,
+        0x0402 => Kind::LampStrikes,
+        0x0403 => Kind::LampState,
+        0x0404 => Kind::LampOnMode,
+        0x0405 => Kind::DevicePowerCycles,
+        0x0500 => Kind::DisplayInvert,
+        0x0501 => Kind::DisplayLevel,
+        0x0600 => Kind::PanInvert,
+        0x0601 => Kind::TiltInvert,
+        0x0602 => Kind::PanTiltSwap,
+        0x1000 => Kind::IdentifyDevice,
+        0x1010 => Kind::PowerState,
+        0x1020 => Kind::PerformSelfTest,
+        0x1031 => Kind::PresetPlayback,
+        _ => return None,
+    })
+}

@@ -1,0 +1,117 @@
+//! What a device is made with: its texts, personalities, slots, sensors and tests.
+
+use arrayvec::ArrayVec;
+use rdm_frame::Text;
+
+/// One way in which a device uses its DMX512 slots (E1.20 section 10.6.1).
+#[derive(Debug, Drop)]
+pub struct Personality {
+    /// How many slots it uses.
+    pub footprint: u16,
+    /// What the personality is called.
+    pub name: Text,
+}
+
+/// What a DMX512 slot is for (sections 10.6.4 to 10.6.6).
+#[derive(Debug, Drop)]
+pub struct Slot {
+    /// The slot type.
+    pub kind: u8,
+    /// The slot label ID.
+    pub label: u16,
+    /// The value of the slot when none is received.
+    pub value: u8,
+    /// What the slot is called.
+    pub name: Text,
+}
+
+/// What a sensor measures (section 10.7.1).
+#[derive(Debug, Drop)]
+pub struct SensorDef {
+    /// The sensor type.
+    pub kind: u8,
+    /// The unit of its values.
+    pub unit: u8,
+    /// The prefix of the unit.
+    pub prefix: u8,
+    /// The least value that it can give.
+    pub low: i16,
+    /// The greatest value that it can give.
+    pub high: i16,
+    /// The least value in normal use.
+    pub normal_low: i16,
+    /// The greatest value in normal use.
+    pub normal_high: i16,
+    /// Which of the recorded, lowest and highest values it supports.
+    pub support: u8,
+    /// What the sensor is called.
+    pub name: Text,
+}
+
+/// A self test that the device can perform (section 10.11).
+#[derive(Debug, Drop)]
+pub struct SelfTest {
+    /// The number of the test: neither 0 nor 255.
+    pub number: u8,
+    /// What the test is called.
+    pub name: Text,
+}
+
+/// What a status ID means (section 10.3.3).
+#[derive(Debug, Drop)]
+pub struct StatusText {
+    /// The status ID.
+    pub id: u16,
+    /// Its meaning.
+    pub text: Text,
+}
+
+/// What the root device and a sub-device each have (section 9).
+#[derive(Debug, Drop)]
+pub struct Unit {
+    /// The model ID (section 10.5.1).
+    pub model: u16,
+    /// The product category (section 10.5.1).
+    pub category: u16,
+    /// The software version ID (section 10.5.1).
+    pub software: u32,
+    /// What the model is called (section 10.5.3).
+    pub model_text: Text,
+    /// What the manufacturer is called (section 10.5.4).
+    pub maker_text: Text,
+    /// The label that the device starts with (section 10.5.5).
+    pub label: Text,
+    /// What the software version is called (section 10.5.9).
+    pub software_text: Text,
+    /// The personalities, of which the first is number 1 (section 10.6.1).
+    pub personalities: ArrayVec<Personality, 8>,
+    /// The DMX512 start address that the device starts with (section 10.6.3).
+    pub start: u16,
+}
+
+/// What a root device and its sub-devices are made with.
+#[derive(Debug, Drop)]
+pub struct Profile {
+    /// The root device.
+    pub root: Unit,
+    /// What each sub-device starts as.
+    pub sub: Unit,
+    /// How many sub-devices there are.
+    pub subs: u16,
+    /// The boot software version ID (section 10.5.10).
+    pub boot: u32,
+    /// What the boot software version is called (section 10.5.11).
+    pub boot_text: Text,
+    /// The language codes, each of two letters (section 10.5.7). The device starts with the first.
+    pub languages: ArrayVec<u16, 8>,
+    /// The DMX512 slots of the root device (section 10.6.4).
+    pub slots: ArrayVec<Slot, 46>,
+    /// The sensors of the root device (section 10.7).
+    pub sensors: ArrayVec<SensorDef, 8>,
+    /// The self tests of the root device (section 10.11).
+    pub tests: ArrayVec<SelfTest, 8>,
+    /// The status IDs of the device (section 10.3.3).
+    pub status_texts: ArrayVec<StatusText, 8>,
+    /// How many presets there are (section 10.11).
+    pub presets: u16,
+}

@@ -1,0 +1,74 @@
+//! From the data of a command to the value that it says.
+
+ghost use Rattle.std.specs.Prelude.{◌≡◌};
+ghost use Rattle.rdm_params.specs.Kinds.{pid_of};
+ghost use Rattle.rdm_params.specs.Table.{row_of, row_in, command_in, software, dmx, usage, display, control};
+ghost use Rattle.rdm_params.specs.Uses.{read};
+
+use crate::table::{kinds, rows};
+use crate::{Kind, Nack, Value, Verb, form};
+
+macro_rules! read_rows {
+    (($kind:ident $verb:ident $data:ident) $(($name:ident $pid:literal $at:ident $get:tt $set:tt))*) => {
+        match $kind {
+            $(Kind::$name => match $verb {
+                Verb::Get => read_command!($get $data),
+                Verb::Set => read_command!($set $data),
+            },)*
+            _ => Err(Nack::FormatError),
+        }
+    };
+}
+
+macro_rules! read_command {
+    (none $data:ident) => { Err(Nack::FormatError) };
+    ((reads $source:tt) $data:ident) => { form::nothing($data) };
+    ((takes $form:ident $range:tt $field:tt) $data:ident) => { form::$form($data) };
+    ((slow $form:ident $range:tt) $data:ident) => { form::$form($data) };
+}
+
+/// The value that the data of a command says.
+///
+/// It is `FormatError` where the data hasn't the length of the command, and where the parameter has no such command.
+#[tactic(auto, unfolding(crate::specs::Table::row_of, crate::specs::Table::table))]
+pub fn read_value(kind: Kind, verb: Verb, data: &[u8]) -> Result<Value, Nack>
+    ensures { result ≡ read (command_in (row_of (pid_of kind)) verb) data.now }
+{
+    match kind {
+        rows!(software, kinds!()) => read_software(kind, verb, data),
+        rows!(dmx, kinds!()) => read_dmx(kind, verb, data),
+        rows!(usage, kinds!()) => read_usage(kind, verb, data),
+        rows!(display, kinds!()) => read_display(kind, verb, data),
+        rows!(control, kinds!()) => read_control(kind, verb, data),
+    }
+}
+
+fn read_software(kind: Kind, verb: Verb, data: &[u8]) -> Result<Value, Nack>
+    ensures { result ≡ read (command_in (row_in software (pid_of kind)) verb) data.now }
+{
+    rows!(software, read_rows!(kind verb data))
+}
+
+fn read_dmx(kind: Kind, verb: Verb, data: &[u8]) -> Result<Value, Nack>
+    ensures { result ≡ read (command_in (row_in dmx (pid_of kind)) verb) data.now }
+{
+    rows!(dmx, read_rows!(kind verb data))
+}
+
+fn read_usage(kind: Kind, verb: Verb, data: &[u8]) -> Result<Value, Nack>
+    ensures { result ≡ read (command_in (row_in usage (pid_of kind)) verb) data.now }
+{
+    rows!(usage, read_rows!(kind verb data))
+}
+
+fn read_display(kind: Kind, verb: Verb, data: &[u8]) -> Result<Value, Nack>
+    ensures { result ≡ read (command_in (row_in display (pid_of kind)) verb) data.now }
+{
+    rows!(display, read_rows!(kind verb data))
+}
+
+fn read_control(kind: Kind, verb: Verb, data: &[u8]) -> Result<Value, Nack>
+    ensures { result ≡ read (command_in (row_in control (pid_of kind)) verb) data.now }
+{
+    rows!(control, read_rows!(kind verb data))
+}
