@@ -1,2 +1,3 @@
 pub mod FrameText
 pub mod Reading
+pub mod UidNumber

@@ -9,11 +9,13 @@ mod decoding;
 mod encoding;
 mod frame;
 mod laws;
+#[cfg(test)]
+mod tests;
 mod uid;
 
 pub use bytes::{Body, Bytes, Load, Text, Wire};
 pub use decoding::{FrameError, decode};
 pub use encoding::encode;
 pub use frame::Frame;
-pub use laws::{text_belongs_to_one_frame, text_has_its_slots};
+pub use laws::{text_belongs_to_one_frame, text_has_its_slots, uids_are_ordered_by_number};
 pub use uid::Uid;
