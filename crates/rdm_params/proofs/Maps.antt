@@ -1,5 +1,5 @@
 -- Laws of lookup and store.
-use Rattle.std.proofs.Common.{◌≡◌, ℕ, List, [], ◌∷◌, ◌++◌, refl, ap, ◌∙◌, cond}
+use Rattle.std.proofs.Common.{◌≡◌, List, [], ◌∷◌, ◌++◌, refl, ap, ◌∙◌, cond}
 use Rattle.rdm_params.specs.Map.{Entry, has_key, store, store_all}
 
 store_append : (new : Entry) (xs ys : List Entry) → store new (xs ++ ys) ≡ store new xs ++ store new ys

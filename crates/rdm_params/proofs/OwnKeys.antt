@@ -1,6 +1,6 @@
 -- A SET changes no value but at the keys of its parameter.
-use Rattle.std.proofs.Common.{◌≡◌, ℕ, zero, suc, ◌-◌, ◌==◌, ◌&&◌, ◌||◌, Bool, true, false, cond, List, [], ◌∷◌, map, Option, Some, None, Result, Ok, Err, refl, sym, ap, subst, ◌∙◌}
-use Rattle.std.specs.Prelude.{find, slice_index_or, slice_set}
+use Rattle.std.proofs.Common.{◌≡◌, ℕ, zero, suc, ◌-◌, ◌==◌, ◌&&◌, ◌||◌, Bool, true, false, cond, List, [], ◌∷◌, map, Option, Some, None, Result, Ok, Err, refl, sym, subst, ◌∙◌}
+use Rattle.std.specs.Prelude.{slice_index_or, slice_set}
 use Rattle.std.specs.List.{list_any, AllByRecursion}
 use Rattle.std.proofs.lemmas.Bool.{eqb-true}
 use Rattle.rdm_params.specs.declared.kind.Verb.TheVariants.{Set}
@@ -12,7 +12,7 @@ use Rattle.rdm_params.specs.Laws.{keys_written, SameAt, ChangesItsKeys}
 use Rattle.rdm_params.specs.Map.{Entry, entry, has_key, lookup, store, store_all}
 use Rattle.rdm_params.specs.Parameters.{Parameters}
 use Rattle.rdm_params.specs.Spot.{Spot}
-use Rattle.rdm_params.specs.Table.{Row, Command, table, row_of, row_in, command_in}
+use Rattle.rdm_params.specs.Table.{Row, table, row_of, row_in, command_in}
 use Rattle.rdm_params.specs.Uses.{is_slow, writes}
 use Rattle.rdm_params.specs.Values.{bytes_of}
 

@@ -1,6 +1,5 @@
 -- The profile of a demonstration device.
 use Rattle.std.specs.Prelude.{ℕ, pos, neg_ℤ, List, [], ◌∷◌, codes}
-use Rattle.arrayvec.specs.ArrayVec.{ArrayVec}
 use Rattle.rdm_params.specs.declared.profile.Personality.{Personality}
 use Rattle.rdm_params.specs.declared.profile.Profile.{Profile}
 use Rattle.rdm_params.specs.declared.profile.SelfTest.{SelfTest}

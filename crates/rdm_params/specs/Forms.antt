@@ -1,5 +1,5 @@
 -- The forms that the data of a command can have.
-use Rattle.std.specs.Prelude.{ℕ, Bool, true, false, ◌==◌, nat_le, List, length, take, slice_index, Option, Some, None, Result, Ok, Err, if◌then◌else◌, is_some}
+use Rattle.std.specs.Prelude.{ℕ, Bool, true, false, ◌==◌, List, length, take, slice_index, Result, Ok, Err, if◌then◌else◌, is_some}
 use Rattle.std.specs.Int.{w16, w32, from_be_bytes}
 use Rattle.rdm_params.specs.declared.nack.Nack.{Nack}
 use Rattle.rdm_params.specs.declared.nack.Nack.TheVariants.{FormatError}

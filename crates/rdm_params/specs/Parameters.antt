@@ -1,5 +1,5 @@
 -- The values that a root device and its sub-devices keep, and those that they start with. E1.20 section 9.
-use Rattle.std.specs.Prelude.{ℕ, List, [], ◌∷◌, ◌++◌, replicate, slice_index}
+use Rattle.std.specs.Prelude.{List, [], ◌∷◌, ◌++◌, replicate, slice_index}
 use Rattle.rdm_params.specs.declared.profile.Profile.{Profile}
 use Rattle.rdm_params.specs.declared.profile.Unit.{Unit as DeviceUnit}
 use Rattle.rdm_params.specs.Map.{Entry, entry}

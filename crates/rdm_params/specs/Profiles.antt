@@ -1,5 +1,5 @@
 -- Which profiles a device can be made with.
-use Rattle.std.specs.Prelude.{◌≡◌, ◌≢◌, ℕ, ◌<◌, ◌≤◌, length, All, AllPairs}
+use Rattle.std.specs.Prelude.{◌≢◌, ℕ, ◌<◌, ◌≤◌, length, All, AllPairs}
 use Rattle.rdm_params.specs.declared.profile.Profile.{Profile}
 use Rattle.rdm_params.specs.declared.profile.Unit.{Unit as DeviceUnit}
 

@@ -1,5 +1,5 @@
 -- The values that devices keep, as a map by keys.
-use Rattle.std.specs.Prelude.{ℕ, List, [], ◌∷◌, ◌++◌, Option, Some, None}
+use Rattle.std.specs.Prelude.{List, [], ◌∷◌, ◌++◌, Option, Some, None}
 use Rattle.rdm_params.specs.declared.state.Common.{Common}
 use Rattle.rdm_params.specs.declared.state.Own.{Own}
 use Rattle.rdm_params.specs.Map.{Entry, entry}

@@ -1,15 +1,10 @@
 -- The table of parameters, one line a row. E1.20 section 10 and table A-3.
-use Rattle.std.specs.Prelude.{ℕ, Bool, true, false, ◌==◌, ◌&&◌, nat_lt, List, [], ◌∷◌, ◌++◌, length, take, slice_index, Option, Some, None, Result, Ok, Err, find, option_to_list, unwrap_or, if◌then◌else◌}
-use Rattle.std.specs.Option.{option_map, option_map_or}
-use Rattle.std.specs.Int.{w16, w32, from_be_bytes}
+use Rattle.std.specs.Prelude.{ℕ, Bool, true, false, ◌==◌, List, [], ◌∷◌, ◌++◌, Option, Some, None, find, if◌then◌else◌}
 use Rattle.rdm_params.specs.declared.kind.Verb.{Verb}
 use Rattle.rdm_params.specs.declared.kind.Verb.TheVariants.{Get, Set}
-use Rattle.rdm_params.specs.declared.nack.Nack.{Nack}
-use Rattle.rdm_params.specs.declared.nack.Nack.TheVariants.{FormatError, UnknownPid, UnsupportedCommandClass}
 use Rattle.rdm_params.specs.declared.value.Value.{Value}
-use Rattle.rdm_params.specs.declared.value.Value.TheVariants.{Nothing, Byte, Word, Long, Preset}
 use Rattle.rdm_params.specs.Map.{Entry, entry, lookup}
-use Rattle.rdm_params.specs.Values.{word_slots, long_slots, bytes_of}
+use Rattle.rdm_params.specs.Values.{long_slots, bytes_of}
 use Rattle.rdm_params.specs.Spot.{Spot}
 use Rattle.rdm_params.specs.Forms.{Form, nothing, byte, word, long, preset, has_form}
 use Rattle.rdm_params.specs.Ranges.{Range, any, below, a_language, a_start, a_power_state, a_self_test, a_preset}
