@@ -1,0 +1,4 @@
+pub mod DigitLemmas
+pub mod Lines
+pub mod Runs
+pub mod Streams

@@ -1,0 +1,47 @@
+-- What the program makes of its input.
+use Rattle.std.specs.Prelude.{◌≡◌, ◌≢◌, ℕ, List, Some}
+use Rattle.rdm_script.specs.declared.script.Step.{Step}
+use Rattle.rdm_script.specs.declared.event.Event.{Event}
+use Rattle.rdm_script.specs.declared.parsing.ScriptError.{ScriptError}
+use Rattle.rdm_script.specs.declared.parsing.ScriptError.TheVariants as script
+use Rattle.rdm_script.specs.declared.running.RunError.{RunError}
+use Rattle.rdm_script.specs.declared.running.RunError.TheVariants as run
+use Rattle.rdm_script.specs.declared.program.ProgramError.{ProgramError}
+use Rattle.rdm_script.specs.declared.program.ProgramError.TheVariants.{Read, Script, Memory, Run, Write}
+use Rattle.rdm_script.specs.Grammar.{IsScript, Refuses}
+use Rattle.rdm_script.specs.BusRun.{IsBusRun, start, first_refusal}
+use Rattle.rdm_script.specs.TraceText.{trace_text}
+
+-- The output is the text of what happens when the script that the input is gets played on a device that has just been
+-- switched on.
+pub record IsTraceOf (input output : List ℕ) : Type 0 where
+  pub steps : List Step
+  pub events : List Event
+  pub spelled : IsScript input steps
+  pub run : IsBusRun start 0 steps events
+  pub written : output ≡ trace_text events
+
+-- Steps can't be played to their end: this is the first reason in their order.
+pub record IsStopped (input : List ℕ) (e : RunError) : Type 0 where
+  pub steps : List Step
+  pub spelled : IsScript input steps
+  pub first : first_refusal steps ≡ Some e
+
+-- Why there is no trace of the input. Want of memory is told as such, and never as a fault of the script or the run.
+abbrev pub IsFailure : ProgramError → List ℕ → Type 0
+IsFailure Read input = Unit {0}
+IsFailure (Script e) input = Refuses e input × (e ≢ script.OutOfMemory)
+IsFailure Memory input = Unit {0}
+IsFailure (Run e) input = IsStopped input e × (e ≢ run.OutOfMemory)
+IsFailure Write input = Unit {0}
+
+-- how each fault of the script and of the run is told
+abbrev pub fault_of_script : ScriptError → ProgramError
+fault_of_script script.OutOfMemory = Memory
+fault_of_script script.TooLong = Script script.TooLong
+fault_of_script (script.Line number) = Script (script.Line number)
+
+abbrev pub fault_of_run : RunError → ProgramError
+fault_of_run run.OutOfMemory = Memory
+fault_of_run run.Reserved = Run run.Reserved
+fault_of_run run.TooLong = Run run.TooLong

@@ -1,0 +1,171 @@
+//! A run: a private controller sends the commands of a script to a responder, one at a time.
+
+ghost use Rattle.std.specs.Prelude.{◌≡◌, ◌≢◌, ◌≤◌, ℕ, Option, None, length, IfOk, IfErr, OnErr};
+ghost use Rattle.rdm_frame.specs.FrameText.{frame_text};
+ghost use Rattle.rdm_responder.specs.History.{History, Heard as BytesHeard, then_event};
+ghost use Rattle.rdm_responder.specs.StandsFor.{StandsFor};
+ghost use Rattle.rdm_script.specs.BusRun.{class_of, request_of, is_reply, heard_as, is_reserved, refusal_of, first_refusal, IsBusRun, IsExchange, start, sent_in};
+ghost use Rattle.rdm_script.specs.declared.running.RunError.TheVariants.{OutOfMemory};
+
+use crate::command::{Action, Command};
+use crate::event::{Event, Heard};
+use crate::reading::DEVICE;
+use crate::script::Step;
+use rdm_frame::{Body, Frame, Uid, decode, encode};
+use rdm_responder::{NewError, Responder};
+use std::alloc::{AllocError, AllocFailed, Global};
+use thiserror::Error;
+
+/// The controller that plays a script.
+const CONTROLLER: Uid = Uid {
+    maker: 0x7FF0,
+    device: 0x0000_0002,
+};
+
+/// For how many results of slow commands the responder has room.
+const QUEUE_SIZE: u16 = 8;
+
+/// The parameter ID of QUEUED_MESSAGE (E1.20 section 10.3.1).
+const QUEUED_MESSAGE: u16 = 0x0020;
+
+/// The parameter ID of STATUS_MESSAGES (E1.20 section 10.3.2).
+const STATUS_MESSAGES: u16 = 0x0030;
+
+/// The port ID of every request (E1.20 section 6.2.7).
+const PORT: u8 = 1;
+
+/// Why a script can't be played to its end.
+#[derive(Clone, Copy, Debug, PartialEq, Eq, Error)]
+pub enum RunError {
+    /// Memory was wanted and refused.
+    #[error("out of memory")]
+    OutOfMemory,
+    /// A command names a parameter that only the controller itself may ask for.
+    #[error("reserved")]
+    Reserved,
+    /// A command has more data than a frame can carry.
+    #[error("too long")]
+    TooLong,
+}
+
+impl From<AllocError> for RunError {
+    ghost from_gives = { λ _ e. e ≡ OutOfMemory };
+
+    fn from(_e: AllocError) -> RunError {
+        RunError::OutOfMemory
+    }
+}
+
+impl<T: Drop> From<AllocFailed<T>> for RunError {
+    ghost from_gives = { λ _ e. e ≡ OutOfMemory };
+
+    fn from(_e: AllocFailed<T>) -> RunError {
+        RunError::OutOfMemory
+    }
+}
+
+/// Plays the steps on a responder that has just been switched on, and gives what happened.
+pub fn run(alloc: Global, steps: &[Step]) -> Result<Vec<Event>, RunError>
+    // One event for each step, as a run of the bus has them.
+    ensures ok { IfOk result (λ events. IsBusRun start 0 steps.now events.items) }
+    // A step is refused only where it is the first that must be.
+    ensures err { IfErr result (λ e. e ≢ OutOfMemory → first_refusal steps.now ≡ Some e) }
+{
+    let mut responder = new_responder(alloc)?;
+    let mut events = Vec::new(alloc);
+    let mut tn = 0u8;
+    for step in steps {
+        let Step::Ask(command) = step;
+        events.push(exchange(&mut responder, tn, command)?)?;
+        tn = tn.wrapping_add(1);
+    }
+    Ok(events)
+}
+
+/// The device of the script, just switched on.
+fn new_responder(alloc: Global) -> Result<Responder, RunError>
+    ensures ok { IfOk result (λ responder. StandsFor responder start) }
+    ensures err { IfErr result (λ e. e ≡ OutOfMemory) }
+{
+    match Responder::new(alloc, DEVICE, QUEUE_SIZE) {
+        Ok(responder) => Ok(responder),
+        Err(NewError::OutOfMemory) => Err(RunError::OutOfMemory),
+        // The UID addresses one device, and the size is one that a responder takes.
+        Err(NewError::BadSize | NewError::BadUid) => unreachable!(),
+    }
+}
+
+/// Sends one command, and hears the reply.
+fn exchange(responder: &mut Responder, tn: u8, command: &Command) -> Result<Event, RunError>
+    ensures ok { (h : History) → StandsFor responder.old h → IfOk result (λ event.
+        IsExchange h tn command.now event × StandsFor responder.new (then_event h (BytesHeard (sent_in event)))) }
+    ensures err { IfErr result (λ e. refusal_of command.now ≡ Some e) }
+{
+    let sent = encode(&request_of(tn, command)?);
+    let reply = responder.step(sent.as_slice());
+    let heard = match &reply {
+        Some(bytes) => Some(heard_as(tn, command, bytes.as_slice())),
+        None => None,
+    };
+    Ok(Event::Bus { sent, reply, heard })
+}
+
+/// The request of a command in a transaction, unless it may not be sent.
+#[tactic(auto, unfolding(crate::specs::BusRun::refusal_of))]
+fn request_of(tn: u8, command: &Command) -> Result<Frame, RunError>
+    ensures ok { IfOk result (λ frame. (refusal_of command.now ≡ None) × (frame ≡ request_of tn command.now)) }
+    ensures err { IfErr result (λ e. refusal_of command.now ≡ Some e) }
+{
+    if command.pid == QUEUED_MESSAGE || command.pid == STATUS_MESSAGES {
+        return Err(RunError::Reserved);
+    }
+    let Some(body) = Body::from_slice(command.load.as_slice()) else {
+        return Err(RunError::TooLong);
+    };
+    Ok(Frame {
+        dst: command.dst,
+        src: CONTROLLER,
+        tn,
+        port: PORT,
+        count: 0,
+        sub: command.sub,
+        class: class_of(command.action),
+        pid: command.pid,
+        body,
+    })
+}
+
+/// What the controller takes bytes for that it hears after its command.
+#[tactic(auto, unfolding(crate::specs::BusRun::heard_as))]
+pub(crate) fn heard_as(tn: u8, command: &Command, bytes: &[u8]) -> Heard
+    ensures { result ≡ heard_as tn command.now bytes.now }
+{
+    match decode(bytes) {
+        Ok(frame) if is_reply(tn, command, &frame) => Heard::Reply,
+        _ => Heard::Ignored,
+    }
+}
+
+/// Whether a frame is the reply to the command.
+fn is_reply(tn: u8, command: &Command, frame: &Frame) -> bool
+    ensures { result ≡ is_reply tn command.now frame.now }
+{
+    frame.src == DEVICE
+        && frame.dst == CONTROLLER
+        && frame.tn == tn
+        && frame.class == class_of(command.action) + 1
+        && frame.pid == command.pid
+        && frame.sub == command.sub
+}
+
+/// The command class of a request (E1.20 table A-1).
+fn class_of(action: Action) -> u8
+    ensures class { result ≡ class_of action }
+    ensures small { result ≤ 0x30 }
+{
+    match action {
+        Action::Disc => 0x10,
+        Action::Get => 0x20,
+        Action::Set => 0x30,
+    }
+}

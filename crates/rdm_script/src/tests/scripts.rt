@@ -1,0 +1,274 @@
+//! Scripts, and what they print.
+
+use super::{FIRST_SCRIPT, FIRST_TRACE, played};
+use crate::command::{Action, Command};
+use crate::event::Heard;
+use crate::parsing::ScriptError;
+use crate::program::ProgramError;
+use crate::reading::DEVICE;
+use crate::running::{RunError, heard_as};
+use rdm_frame::Load;
+use std::alloc::{AllocError, Global};
+use std::test::Fail;
+
+/// Scripts beside what they print.
+const PLAYED: [(&str, &str); 7] = [
+    ("", "end\n"),
+    (FIRST_SCRIPT, FIRST_TRACE),
+    // A broadcast is obeyed and not answered.
+    (
+        "set all 0000 1000 01
+get all 0000 1000 -
+get dev 0000 1000 -
+",
+        "send CC0119FFFFFFFFFFFF7FF000000002000100000030100001010894
+reply none
+heard nothing
+send CC0118FFFFFFFFFFFF7FF0000000020101000000201000000882
+reply none
+heard nothing
+send CC01187FF0000000017FF00000000202010000002010000003F9
+reply CC01197FF0000000027FF0000000010200000000211000010103FC
+heard reply
+end
+",
+    ),
+    // Data out of range, and a GET with data.
+    (
+        "set dev 0000 1000 02
+get dev 0000 1000 00
+",
+        "send CC01197FF0000000017FF00000000200010000003010000102040B
+reply CC011A7FF0000000027FF00000000100020000003110000200060413
+heard reply
+send CC01197FF0000000017FF0000000020101000000201000010003FA
+reply CC011A7FF0000000027FF000000001010200000021100002000103FF
+heard reply
+end
+",
+    ),
+    // There are no sub-devices.
+    (
+        "set dev FFFF 1000 01\n",
+        "send CC01197FF0000000017FF000000002000100FFFF30100001010608
+reply CC011A7FF0000000027FF000000001000200FFFF3110000200090614
+heard reply
+end
+",
+    ),
+    // No such parameter.
+    (
+        "get dev 0000 0015 -\n",
+        "send CC01187FF0000000017FF00000000200010000002000150003FC
+reply CC011A7FF0000000027FF00000000100020000002100150200000402
+heard reply
+end
+",
+    ),
+    // The devices of a manufacturer, another device, and a UID in lower case.
+    (
+        "set maker 0000 1000 01
+get 1234:56789abc 0000 1000 -
+get 7ff0:00000001 0000 1000 -
+",
+        "send CC01197FF0FFFFFFFF7FF000000002000100000030100001010805
+reply none
+heard nothing
+send CC0118123456789ABC7FF00000000201010000002010000004F2
+reply none
+heard nothing
+send CC01187FF0000000017FF00000000202010000002010000003F9
+reply CC01197FF0000000027FF0000000010200000000211000010103FC
+heard reply
+end
+",
+    ),
+];
+
+#[test]
+fn prints_traces(rt: HostRuntime) -> Result<(), Fail> {
+    for (script, trace) in PLAYED {
+        let (outcome, written) = played(rt.alloc(), script.as_bytes());
+        assert_eq!(rt; outcome, Ok(()), "{script}");
+        assert_eq!(rt; written.as_slice(), trace.as_bytes(), "{script}");
+    }
+    Ok(())
+}
+
+/// Other ways to write the first script.
+const SPELLINGS: [&str; 7] = [
+    "get dev 0000 1000 -",
+    "get dev 0000 1000 -\r\n",
+    "\tget\tdev \t 0000\t1000 -\t\n",
+    "   get dev 0000 1000 -   \n",
+    "get 7FF0:00000001 0000 1000 -\n",
+    "# a comment\n\n \t\n  # another one\n#get dev\nget dev 0000 1000 -\n\n",
+    "\r\n#\r\nget dev 0000 1000 -\r\n",
+];
+
+#[test]
+fn reads_other_spellings(rt: HostRuntime) -> Result<(), Fail> {
+    for script in SPELLINGS {
+        let (outcome, written) = played(rt.alloc(), script.as_bytes());
+        assert_eq!(rt; outcome, Ok(()), "{script:?}");
+        assert_eq!(rt; written.as_slice(), FIRST_TRACE.as_bytes(), "{script:?}");
+    }
+    Ok(())
+}
+
+/// Lines that no script has.
+const FAULTY: [&str; 36] = [
+    "foo",
+    "get",
+    "get dev 0000 1000",
+    "get dev 0000 1000 - -",
+    "get dev 0000 1000 0",
+    "get dev 0000 1000 012",
+    "get dev 0000 1000 0g",
+    "get dev 0000 1000 --",
+    "get dev 0000 1000 -00",
+    "get dev 0000 1000 0x00",
+    "get dev 000 1000 -",
+    "get dev 00000 1000 -",
+    "get dev 0000 100 -",
+    "get dev 0000 10000 -",
+    "get dev 0000 100G -",
+    "get dev -000 1000 -",
+    "get device 0000 1000 -",
+    "get DEV 0000 1000 -",
+    "get 7FF0 0000 1000 -",
+    "get 7FF0:0000001 0000 1000 -",
+    "get 7FF0:000000001 0000 1000 -",
+    "get 7FF0-00000001 0000 1000 -",
+    "get 7FF00:0000001 0000 1000 -",
+    "GET dev 0000 1000 -",
+    "get dev 0000 1000 - # no comment",
+    "get dev 0000 1000 -\rget",
+    // An LF is missing, so that nothing takes the carriage return away.
+    "get dev 0000 1000 -\r",
+    "disc dev 0000 0002 -",
+    "setup 0 8 advisory",
+    "collect",
+    "draw",
+    "settle 100",
+    "panel 1",
+    "get dev 0000 1000 - lost-request",
+    "get dev 0000 1000 - lost-reply",
+    "get dev 0000 1000 - bad-request 2 1",
+];
+
+#[test]
+fn refuses_faulty_lines(rt: HostRuntime) -> Result<(), Fail> {
+    for line in FAULTY {
+        let (outcome, written) = played(rt.alloc(), line.as_bytes());
+        let fault = ProgramError::Script(ScriptError::Line(1));
+        assert_eq!(rt; outcome, Err(fault), "{line:?}");
+        assert!(rt; written.is_empty(), "{line:?}");
+    }
+    Ok(())
+}
+
+#[test]
+fn counts_every_line(rt: HostRuntime) -> Result<(), Fail> {
+    let cases = [
+        ("get dev 0000 1000 -\nfoo\n", 2),
+        ("# a comment\n\nget dev 0000 1000 -\r\n\t\nfoo\nfoo\n", 5),
+        ("\n\n\nfoo", 4),
+    ];
+    for (script, number) in cases {
+        let (outcome, _) = played(rt.alloc(), script.as_bytes());
+        let fault = ProgramError::Script(ScriptError::Line(number));
+        assert_eq!(rt; outcome, Err(fault), "{script:?}");
+    }
+    Ok(())
+}
+
+/// A script of one command with so many bytes of data.
+fn command_with(alloc: Global, front: &str, count: usize) -> Result<String, AllocError> {
+    let mut script = String::from_str(alloc, front)?;
+    for _ in 0..count {
+        script.push_str("a5")?;
+    }
+    Ok(script)
+}
+
+#[test]
+fn refuses_commands_in_order(rt: HostRuntime) -> Result<(), Fail> {
+    let reserved = Err(ProgramError::Run(RunError::Reserved));
+    let too_long = Err(ProgramError::Run(RunError::TooLong));
+    let faulty = Err(ProgramError::Script(ScriptError::Line(1)));
+    let cases = [
+        ("get dev 0000 1000 ", 231, Ok(())),
+        ("get dev 0000 1000 ", 232, too_long),
+        ("get dev 0000 1000 ", 255, too_long),
+        ("get dev 0000 1000 ", 256, faulty),
+        ("get dev 0000 0020 ", 1, reserved),
+        ("set dev 0000 0030 ", 232, reserved),
+        (
+            "get dev 0000 1000 -\nget dev 0000 1000 -\nget dev 0000 0020 ",
+            1,
+            reserved,
+        ),
+    ];
+    for (front, count, expected) in cases {
+        let script = command_with(rt.alloc(), front, count)?;
+        let (outcome, written) = played(rt.alloc(), script.as_bytes());
+        assert_eq!(rt; outcome, expected, "{front:?} {count}");
+        assert_eq!(rt; written.is_empty(), expected.is_err(), "{front:?} {count}");
+    }
+    Ok(())
+}
+
+#[test]
+fn reads_up_to_the_longest_script(rt: HostRuntime) -> Result<(), Fail> {
+    let mut script = vec![in rt.alloc(); b'#'; 65_536]?;
+    let (outcome, written) = played(rt.alloc(), &script);
+    assert_eq!(rt; outcome, Ok(()));
+    assert_eq!(rt; written.as_slice(), b"end\n".as_slice());
+    script.push(b'#')?;
+    let (outcome, written) = played(rt.alloc(), &script);
+    assert_eq!(rt; outcome, Err(ProgramError::Script(ScriptError::TooLong)));
+    assert!(rt; written.is_empty());
+    Ok(())
+}
+
+#[test]
+fn names_each_fault(rt: HostRuntime) -> Result<(), Fail> {
+    let cases = [
+        (ProgramError::Script(ScriptError::Line(12)), 1, "line 12"),
+        (
+            ProgramError::Script(ScriptError::TooLong),
+            1,
+            "script too long",
+        ),
+        (ProgramError::Memory, 2, "out of memory"),
+        (ProgramError::Run(RunError::Reserved), 3, "run reserved"),
+        (ProgramError::Run(RunError::TooLong), 3, "run too long"),
+        (ProgramError::Read, 4, "read"),
+        (ProgramError::Write, 4, "write"),
+    ];
+    for (fault, status, words) in cases {
+        assert_eq!(rt; fault.status(), status, "{words}");
+        let text = format!(in rt.alloc(); "{fault}")?;
+        assert_eq!(rt; text.as_str(), words);
+    }
+    Ok(())
+}
+
+#[test]
+fn ignores_the_reply_of_another_transaction(rt: HostRuntime) {
+    let command = Command {
+        dst: DEVICE,
+        action: Action::Get,
+        sub: 0,
+        pid: 0x1000,
+        load: Load::new(),
+    };
+    let reply = [
+        0xCC, 0x01, 0x19, 0x7F, 0xF0, 0x00, 0x00, 0x00, 0x02, 0x7F, 0xF0, 0x00, 0x00, 0x00, 0x01,
+        0x00, 0x00, 0x00, 0x00, 0x00, 0x21, 0x10, 0x00, 0x01, 0x00, 0x03, 0xF9,
+    ];
+    assert_eq!(rt; heard_as(0, &command, &reply), Heard::Reply);
+    assert_eq!(rt; heard_as(1, &command, &reply), Heard::Ignored);
+    assert_eq!(rt; heard_as(0, &command, &reply[..26]), Heard::Ignored);
+}
