@@ -1,0 +1,16 @@
+//! The responder as a benchmark hears it: frames that are heard over and over, and what the replies come to.
+//!
+//! `rdm_bench_run` is called from C (`bench/driver.c`). What it answers hangs on every byte of every reply, so that no
+//! compiler can leave the work out.
+#![tactic(auto)]
+
+mod export;
+mod packed;
+mod replay;
+mod tally;
+
+pub use export::rdm_bench_run;
+pub use tally::Tally;
+
+#[cfg(test)]
+mod tests;
