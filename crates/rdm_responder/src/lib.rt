@@ -8,6 +8,8 @@ mod device;
 mod reply;
 mod responder;
 mod run;
+#[cfg(test)]
+mod tests;
 mod verdict;
 
 pub use responder::{NewError, Responder};
