@@ -8,6 +8,7 @@ use Rattle.rdm_frame.specs.Reading.{frame_in}
 use Rattle.rdm_responder.specs.History as history
 use Rattle.rdm_responder.specs.History.{History, empty_history, then_event}
 use Rattle.rdm_responder.specs.Rules.{reply_of}
+use Rattle.rdm_script.specs.Parties.{device, controller}
 use Rattle.rdm_script.specs.declared.command.Action.{Action}
 use Rattle.rdm_script.specs.declared.command.Action.TheVariants.{Disc, Get, Set}
 use Rattle.rdm_script.specs.declared.command.Command.{Command}
@@ -19,13 +20,6 @@ use Rattle.rdm_script.specs.declared.event.Event.{Event}
 use Rattle.rdm_script.specs.declared.event.Event.TheVariants.{Bus}
 use Rattle.rdm_script.specs.declared.running.RunError.{RunError}
 use Rattle.rdm_script.specs.declared.running.RunError.TheVariants.{Reserved, TooLong}
-
--- who takes part: the device 7FF0:00000001 and the controller 7FF0:00000002
-abbrev pub device : Uid
-device = record { maker = 0x7FF0; device = 0x00000001 }
-
-abbrev pub controller : Uid
-controller = record { maker = 0x7FF0; device = 0x00000002 }
 
 -- The command classes of the requests. Table A-1.
 abbrev pub class_of : Action → ℕ

@@ -14,6 +14,7 @@ use Rattle.rdm_script.specs.declared.reading.Line.{Line}
 use Rattle.rdm_script.specs.declared.reading.Line.TheVariants.{Skipped, Says, Faulty}
 use Rattle.rdm_script.specs.declared.parsing.ScriptError.{ScriptError}
 use Rattle.rdm_script.specs.declared.parsing.ScriptError.TheVariants as errors
+use Rattle.rdm_script.specs.Parties.{device, all_devices, all_of_maker}
 use Rattle.rdm_script.specs.Digits.{◌>>=◌, bytes_in, number_in}
 
 -- ---- a command, word by word
@@ -31,9 +32,9 @@ uid_in word = do
 -- the device of the script, every device, every device of its manufacturer, or a UID
 unfoldable pub destination_in : List ℕ → Option Uid
 destination_in word =
-    if bytes_eq word (codes "dev") then Some (record { maker = 0x7FF0; device = 0x00000001 })
-    else (if bytes_eq word (codes "all") then Some (record { maker = 0xFFFF; device = 0xFFFFFFFF })
-    else (if bytes_eq word (codes "maker") then Some (record { maker = 0x7FF0; device = 0xFFFFFFFF })
+    if bytes_eq word (codes "dev") then Some device
+    else (if bytes_eq word (codes "all") then Some all_devices
+    else (if bytes_eq word (codes "maker") then Some all_of_maker
     else uid_in word))
 
 -- a hyphen for no data, or the digits of at most 255 bytes

@@ -1,5 +1,7 @@
 pub mod BusRun
 pub mod Digits
 pub mod Grammar
+pub mod Parties
 pub mod Program
+pub mod Spelling
 pub mod TraceText

@@ -35,6 +35,14 @@ IsFailure Memory input = Unit {0}
 IsFailure (Run e) input = IsStopped input e × (e ≢ run.OutOfMemory)
 IsFailure Write input = Unit {0}
 
+-- the exit status of a program that ends so
+abbrev pub status_of : ProgramError → ℕ
+status_of (Script e) = 1
+status_of Memory = 2
+status_of (Run e) = 3
+status_of Read = 4
+status_of Write = 4
+
 -- how each fault of the script and of the run is told
 abbrev pub fault_of_script : ScriptError → ProgramError
 fault_of_script script.OutOfMemory = Memory

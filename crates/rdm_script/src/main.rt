@@ -7,7 +7,9 @@
 mod command;
 mod digits;
 mod event;
+mod laws;
 mod parsing;
+mod parties;
 mod program;
 mod reading;
 mod running;

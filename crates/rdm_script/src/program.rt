@@ -2,7 +2,7 @@
 
 ghost use Rattle.std.specs.Prelude.{◌≡◌, ◌≢◌, ◌≤◌, ℕ, List, length, take, OnOk, OnErr, ◌⊎◌, IfOk, IfErr, IfSome, MatchResult};
 ghost use Rattle.std.specs.Io.KnownBytes.{Keeps, Appends, Consumes, IsAtEnd, ReadConsumes};
-ghost use Rattle.rdm_script.specs.Program.{IsTraceOf, IsFailure, fault_of_script, fault_of_run};
+ghost use Rattle.rdm_script.specs.Program.{IsTraceOf, IsFailure, status_of, fault_of_script, fault_of_run};
 ghost use Rattle.rdm_script.specs.declared.program.ProgramError.TheVariants.{Memory, Read as ReadFault, Write as WriteFault};
 
 use crate::parsing::{MOST_BYTES, ScriptError, parse};
@@ -40,7 +40,9 @@ pub enum ProgramError {
 
 impl ProgramError {
     /// The exit status of a program that ends so.
-    pub fn status(self) -> u8 {
+    pub fn status(self) -> u8
+        ensures { result ≡ status_of self }
+    {
         match self {
             ProgramError::Script(_) => 1,
             ProgramError::Memory => 2,

@@ -7,6 +7,7 @@ ghost use Rattle.rdm_script.specs.Grammar.{action_in, uid_in, destination_in, lo
 
 use crate::command::{Action, Command};
 use crate::digits::{bytes_in, long_in, word_in};
+use crate::parties::{ALL_DEVICES, ALL_OF_MAKER, DEVICE};
 use crate::script::Step;
 use rdm_frame::{Load, Uid};
 
@@ -20,24 +21,6 @@ pub enum Line {
     /// It is no line of a script.
     Faulty,
 }
-
-/// The device of a script.
-pub(crate) const DEVICE: Uid = Uid {
-    maker: 0x7FF0,
-    device: 0x0000_0001,
-};
-
-/// All devices (E1.20 section 6.2.4).
-const ALL_DEVICES: Uid = Uid {
-    maker: 0xFFFF,
-    device: Uid::EVERY_DEVICE,
-};
-
-/// All devices of the manufacturer of the script's device.
-const ALL_OF_MAKER: Uid = Uid {
-    maker: DEVICE.maker,
-    device: Uid::EVERY_DEVICE,
-};
 
 /// What the words of a line say.
 #[tactic(auto, unfolding(crate::specs::Grammar::line_in))]

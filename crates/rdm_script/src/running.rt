@@ -9,18 +9,12 @@ ghost use Rattle.rdm_script.specs.declared.running.RunError.TheVariants.{OutOfMe
 
 use crate::command::{Action, Command};
 use crate::event::{Event, Heard};
-use crate::reading::DEVICE;
+use crate::parties::{CONTROLLER, DEVICE};
 use crate::script::Step;
-use rdm_frame::{Body, Frame, Uid, decode, encode};
+use rdm_frame::{Body, Frame, decode, encode};
 use rdm_responder::{NewError, Responder};
 use std::alloc::{AllocError, AllocFailed, Global};
 use thiserror::Error;
-
-/// The controller that plays a script.
-const CONTROLLER: Uid = Uid {
-    maker: 0x7FF0,
-    device: 0x0000_0002,
-};
 
 /// For how many results of slow commands the responder has room.
 const QUEUE_SIZE: u16 = 8;

@@ -4,15 +4,15 @@ use super::{FIRST_SCRIPT, FIRST_TRACE, played};
 use crate::command::{Action, Command};
 use crate::event::Heard;
 use crate::parsing::ScriptError;
+use crate::parties::DEVICE;
 use crate::program::ProgramError;
-use crate::reading::DEVICE;
 use crate::running::{RunError, heard_as};
 use rdm_frame::Load;
 use std::alloc::{AllocError, Global};
 use std::test::Fail;
 
 /// Scripts beside what they print.
-const PLAYED: [(&str, &str); 7] = [
+const PLAYED: [(&str, &str); 8] = [
     ("", "end\n"),
     (FIRST_SCRIPT, FIRST_TRACE),
     // A broadcast is obeyed and not answered.
@@ -43,6 +43,27 @@ reply CC011A7FF0000000027FF00000000100020000003110000200060413
 heard reply
 send CC01197FF0000000017FF0000000020101000000201000010003FA
 reply CC011A7FF0000000027FF000000001010200000021100002000103FF
+heard reply
+end
+",
+    ),
+    // The example of the manual.
+    (
+        "# switch identifying on, at every device: nobody answers a broadcast
+set all 0000 1000 01
+# ask the device: it is on
+get dev 0000 1000 -
+# 02 isn't a value of IDENTIFY_DEVICE
+set dev 0000 1000 02
+",
+        "send CC0119FFFFFFFFFFFF7FF000000002000100000030100001010894
+reply none
+heard nothing
+send CC01187FF0000000017FF00000000201010000002010000003F8
+reply CC01197FF0000000027FF0000000010100000000211000010103FB
+heard reply
+send CC01197FF0000000017FF00000000202010000003010000102040D
+reply CC011A7FF0000000027FF00000000102020000003110000200060415
 heard reply
 end
 ",
