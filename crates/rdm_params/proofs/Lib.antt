@@ -1,4 +1,9 @@
+pub mod ListSteps
 pub mod Maps
 pub mod OwnKeys
 pub mod Places
 pub mod ReadBack
+pub mod Sensors
+pub mod SubSteps
+pub mod Supported
+pub mod Words

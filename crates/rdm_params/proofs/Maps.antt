@@ -1,12 +1,8 @@
--- Laws of lookup and store.
-use Rattle.std.proofs.Common.{◌≡◌, List, [], ◌∷◌, ◌++◌, refl, ap, ◌∙◌, cond}
-use Rattle.rdm_params.specs.Map.{Entry, has_key, store, store_all}
+-- Laws of lookup and update.
+use Rattle.std.proofs.Common.{◌≡◌, ℕ, List, [], ◌∷◌, ◌++◌, refl, ap}
+use Rattle.rdm_params.specs.Map.{Entry, entry, update}
 
-store_append : (new : Entry) (xs ys : List Entry) → store new (xs ++ ys) ≡ store new xs ++ store new ys
-store_append new [] ys = refl
-store_append new (x ∷ xs) ys = ap (λ (es : List Entry). cond (has_key new.pid new.index x) new x ∷ es) (store_append new xs ys)
-
--- a write to a map in two parts is a write to both
-pub store_all_append : (news xs ys : List Entry) → store_all news (xs ++ ys) ≡ store_all news xs ++ store_all news ys
-store_all_append [] xs ys = refl
-store_all_append (new ∷ news) xs ys = ap (store_all news) (store_append new xs ys) ∙ store_all_append news (store new xs) (store new ys)
+-- an update of a map in two parts is an update of both
+pub update_append : (f : Entry → List ℕ) (xs ys : List Entry) → update f (xs ++ ys) ≡ update f xs ++ update f ys
+update_append f [] ys = refl
+update_append f (x ∷ xs) ys = ap (λ (es : List Entry). entry x.pid x.index (f x) ∷ es) (update_append f xs ys)

@@ -2,76 +2,91 @@
 use Rattle.std.proofs.Common.{◌≡◌, ℕ, zero, suc, ◌-◌, ◌==◌, ◌&&◌, ◌||◌, Bool, true, false, cond, List, [], ◌∷◌, map, Option, Some, None, Result, Ok, Err, refl, sym, subst, ◌∙◌}
 use Rattle.std.specs.Prelude.{slice_index_or, slice_set}
 use Rattle.std.specs.List.{list_any, AllByRecursion}
-use Rattle.std.proofs.lemmas.Bool.{eqb-true}
+use Rattle.std.proofs.lemmas.Bool.{eqb-true, eqb-false, ne_eqb}
 use Rattle.rdm_params.specs.declared.kind.Verb.TheVariants.{Set}
 use Rattle.rdm_params.specs.declared.nack.Nack.{Nack}
 use Rattle.rdm_params.specs.declared.value.Value.{Value}
+use Rattle.rdm_params.specs.Changes.{stored_at, set_back, sensor_change, reset, record_present}
 use Rattle.rdm_params.specs.Commands.{command_of, accepted, after_set, after_accepted, carried_out, written, root_spot, sub_spot, is_all_call}
-use Rattle.rdm_params.specs.Forms.{Form, byte, word, long, preset, has_form}
+use Rattle.rdm_params.specs.Forms.{Form, byte, word, long, preset, label, has_form}
 use Rattle.rdm_params.specs.Laws.{keys_written, SameAt, ChangesItsKeys}
-use Rattle.rdm_params.specs.Map.{Entry, entry, has_key, lookup, store, store_all}
+use Rattle.rdm_params.specs.Map.{Entry, has_key, lookup, update}
 use Rattle.rdm_params.specs.Parameters.{Parameters}
+use Rattle.rdm_params.specs.Replies.{factory_pids}
 use Rattle.rdm_params.specs.Spot.{Spot}
 use Rattle.rdm_params.specs.Table.{Row, table, row_of, row_in, command_in}
-use Rattle.rdm_params.specs.Uses.{is_slow, writes}
-use Rattle.rdm_params.specs.Values.{bytes_of}
+use Rattle.rdm_params.specs.Uses.{is_slow, change}
+use Rattle.rdm_params.specs.Values.{bytes_of, byte_or_0}
 
--- ---- writes and lookups
+-- ---- changes and lookups
 
 both_true : (a b : Bool) → (a && b) ≡ true → (a ≡ true) × (b ≡ true)
 both_true true true h = (refl, refl)
 both_true true false h = absurd cc
 both_true false b h = absurd cc
 
--- entries of one key have every key alike
-alike : (p q i j key index : ℕ) → ((p == q) && (i == j)) ≡ true → ((p == key) && (i == index)) ≡ ((q == key) && (j == index))
-alike p q i j key index h =
-    let parts = both_true (p == q) (i == j) h in
-    rw (eqb-true p q parts.0, eqb-true i j parts.1) refl
+-- an entry of this PID keeps its bytes
+abbrev Keeps : ℕ → (Entry → List ℕ) → Type 0
+Keeps key f = (e : Entry) → e.pid ≡ key → f e ≡ e.bytes
 
-kept_at : (new e : Entry) (key index : ℕ) (rest rest' : List ℕ) (same : Bool) → has_key new.pid new.index e ≡ same → has_key key index new ≡ false → rest' ≡ rest → cond (has_key key index (cond same new e)) (cond same new e).bytes rest' ≡ cond (has_key key index e) e.bytes rest
-kept_at new e key index rest rest' true h apart r = rw (alike e.pid new.pid e.index new.index key index h, apart) r
-kept_at new e key index rest rest' false h apart r = rw r refl
+kept_at : (key index : ℕ) (f : Entry → List ℕ) (e : Entry) (rest rest' : List ℕ) → Keeps key f → rest' ≡ rest → (here : Bool) → has_key key index e ≡ here → cond here (f e) rest' ≡ cond here e.bytes rest
+kept_at key index f e rest rest' keeps r true h = keeps e (eqb-true e.pid key (both_true (e.pid == key) (e.index == index) h).0)
+kept_at key index f e rest rest' keeps r false h = r
 
-lookup-store : (new : Entry) (es : List Entry) (key index : ℕ) → has_key key index new ≡ false → lookup (store new es) key index ≡ lookup es key index
-lookup-store new [] key index apart = refl
-lookup-store new (e ∷ es) key index apart = kept_at new e key index (lookup es key index) (lookup (store new es) key index) (has_key new.pid new.index e) refl apart (lookup-store new es key index apart)
+lookup-update : (key index : ℕ) (f : Entry → List ℕ) (es : List Entry) → Keeps key f → lookup (update f es) key index ≡ lookup es key index
+lookup-update key index f [] keeps = refl
+lookup-update key index f (e ∷ es) keeps = kept_at key index f e (lookup es key index) (lookup (update f es) key index) keeps (lookup-update key index f es keeps) (has_key key index e) refl
 
--- none of these entries has that key
-abbrev Avoids : ℕ → ℕ → List Entry → Type 0
-Avoids key index news = AllByRecursion (λ e. has_key key index e ≡ false) news
-
-lookup-store_all : (news es : List Entry) (key index : ℕ) → Avoids key index news → lookup (store_all news es) key index ≡ lookup es key index
-lookup-store_all [] es key index apart = refl
-lookup-store_all (new ∷ news) es key index apart = lookup-store_all news (store new es) key index apart.1 ∙ lookup-store new es key index apart.0
-
--- ---- what the rows write
+-- ---- what the rows change
 
 abbrev IsApart : ℕ → ℕ → Type 0
 IsApart pid key = list_any (λ k. k == key) (keys_written pid) ≡ false
 
 -- the SET of a row writes its own keys
 abbrev OnlyItsKeys : Row → Type 0
-OnlyItsKeys r = (spot : Spot) (v : Value) (key index : ℕ) → IsApart r.pid key → Avoids key index (writes (command_in (Some r) Set) spot v)
+OnlyItsKeys r = (spot : Spot) (v : Value) (key : ℕ) → IsApart r.pid key → Keeps key (change (command_in (Some r) Set) spot v)
 
-not_either : (a b : Bool) → (a || b) ≡ false → a ≡ false
+not_either : (a b : Bool) → (a || b) ≡ false → (a ≡ false) × (b ≡ false)
 not_either true b h = absurd cc
-not_either false b h = refl
+not_either false b h = (refl, h)
 
-takes_only : (has : Bool) (pid key index : ℕ) (bytes : List ℕ) → IsApart pid key → Avoids key index (cond has (entry pid 0 bytes ∷ []) [])
-takes_only true pid key index bytes apart = (rw (not_either (pid == key) false apart) refl, tt)
-takes_only false pid key index bytes apart = tt
+-- a key that isn't this PID
+apart_test : (pid key n : ℕ) → (pid == key) ≡ false → n ≡ key → (n == pid) ≡ false
+apart_test pid key n apart e = ne_eqb n pid (λ (same : n ≡ pid). eqb-false pid key apart (sym same ∙ e))
 
-stores : (pid : ℕ) (form : Form) (spot : Spot) (v : Value) (key index : ℕ) → IsApart pid key → Avoids key index (cond (has_form form v) (entry pid 0 (bytes_of v) ∷ []) [])
-stores pid form spot v key index apart = takes_only (has_form form v) pid key index (bytes_of v) apart
+no_change : (a b c : Bool) (x y : List ℕ) → a ≡ false → cond ((a && b) && c) x y ≡ y
+no_change true b c x y e = absurd cc
+no_change false b c x y e = refl
 
-stores_none : (pid : ℕ) (spot : Spot) (v : Value) (key index : ℕ) → IsApart pid key → Unit {0}
-stores_none pid spot v key index apart = tt
+stores_only : (pid key : ℕ) (form : Form) (spot : Spot) (v : Value) → (pid == key) ≡ false → Keeps key (stored_at pid form spot v)
+stores_only pid key form spot v apart e at = no_change (e.pid == pid) (e.index == 0) (has_form form v) (bytes_of v) e.bytes (apart_test pid key e.pid apart at)
+
+stores : (pid : ℕ) (form : Form) (spot : Spot) (v : Value) (key : ℕ) → ((pid == key) || false) ≡ false → Keeps key (stored_at pid form spot v)
+stores pid form spot v key apart = stores_only pid key form spot v (not_either (pid == key) false apart).0
+
+senses : (made : List ℕ → List ℕ) (spot : Spot) (v : Value) (key : ℕ) → ((0x0201 == key) || false) ≡ false → Keeps key (sensor_change made (byte_or_0 v))
+senses made spot v key apart e at = rw (apart_test 0x0201 key e.pid (not_either (0x0201 == key) false apart).0 at) refl
+
+and_either : (a b c : Bool) → a ≡ false → c ≡ false → ((a && b) || c) ≡ false
+and_either true b c e f = absurd cc
+and_either false b c e f = f
+
+none_of : (pids : List ℕ) (key : ℕ) (e : Entry) → list_any (λ k. k == key) pids ≡ false → e.pid ≡ key → list_any (λ pid. has_key pid 0 e) pids ≡ false
+none_of [] key e apart at = refl
+none_of (pid ∷ pids) key e apart at =
+    let parts = not_either (pid == key) (list_any (λ k. k == key) pids) apart in
+    and_either (e.pid == pid) (e.index == 0) (list_any (λ pid. has_key pid 0 e) pids) (apart_test pid key e.pid parts.0 at) (none_of pids key e parts.1 at)
+
+sets_back : (spot : Spot) (v : Value) (key : ℕ) → list_any (λ k. k == key) factory_pids ≡ false → Keeps key (set_back spot v)
+sets_back spot v key apart e at = rw (none_of factory_pids key e apart at) refl
+
+idle : (pid : ℕ) (spot : Spot) (v : Value) (key : ℕ) → IsApart pid key → Keeps key (λ e. e.bytes)
+idle pid spot v key apart e at = refl
 
 rows_only : AllByRecursion OnlyItsKeys table
 unfolding table
 rows_only =
-    (stores 0x00B0 word, (stores_none 0x00C1, (stores 0x00F0 word, (stores 0x0400 long, (stores 0x0401 long, (stores 0x0402 long, (stores_none 0x0403, (stores 0x0404 byte, (stores 0x0405 long, (stores 0x0500 byte, (stores 0x0501 byte, (stores 0x0600 byte, (stores 0x0601 byte, (stores 0x0602 byte, (stores 0x1000 byte, (stores_none 0x1010, (stores_none 0x1020, (stores 0x1031 preset, tt))))))))))))))))))
+    (idle 0x0031, (idle 0x0050, (idle 0x0060, (idle 0x0080, (idle 0x0081, (stores 0x0082 label, (sets_back, (idle 0x00A0, (stores 0x00B0 word, (idle 0x00C0, (idle 0x00C1, (idle 0x00C2, (stores 0x00E0 byte, (idle 0x00E1, (stores 0x00F0 word, (idle 0x0120, (idle 0x0121, (idle 0x0122, (idle 0x0200, (senses reset, (senses record_present, (stores 0x0400 long, (stores 0x0401 long, (stores 0x0402 long, (idle 0x0403, (stores 0x0404 byte, (stores 0x0405 long, (stores 0x0500 byte, (stores 0x0501 byte, (stores 0x0600 byte, (stores 0x0601 byte, (stores 0x0602 byte, (stores 0x1000 byte, (idle 0x1010, (idle 0x1020, (idle 0x1021, (stores 0x1031 preset, tt)))))))))))))))))))))))))))))))))))))
 
 abbrev some : Row → Option Row
 some r = Some r
@@ -87,20 +102,20 @@ found : (rows : List Row) (pid : ℕ) (r : Row) → AllByRecursion OnlyItsKeys r
 found [] pid r all e = absurd cc
 found (x ∷ xs) pid r all e = found_at x pid r (row_in xs pid) all.0 (found xs pid r all.1) (x.pid == pid) refl e
 
-row_writes : (pid : ℕ) (row : Option Row) → row_in table pid ≡ row → (spot : Spot) (v : Value) (key index : ℕ) → IsApart pid key → Avoids key index (writes (command_in row Set) spot v)
-row_writes pid None e spot v key index apart = tt
-row_writes pid (Some r) e spot v key index apart =
+row_changes : (pid : ℕ) (row : Option Row) → row_in table pid ≡ row → (spot : Spot) (v : Value) (key : ℕ) → IsApart pid key → Keeps key (change (command_in row Set) spot v)
+row_changes pid None e spot v key apart = λ e at. refl
+row_changes pid (Some r) e spot v key apart =
     let only = found table pid r rows_only e in
-    only.0 spot v key index (subst (λ (n : ℕ). IsApart n key) (sym only.1) apart)
+    only.0 spot v key (subst (λ (n : ℕ). IsApart n key) (sym only.1) apart)
 
-command_writes : (pid : ℕ) (spot : Spot) (v : Value) (key index : ℕ) → IsApart pid key → Avoids key index (writes (command_of pid Set) spot v)
+command_changes : (pid : ℕ) (spot : Spot) (v : Value) (key : ℕ) → IsApart pid key → Keeps key (change (command_of pid Set) spot v)
 unfolding row_of
-command_writes pid spot v key index apart = row_writes pid (row_in table pid) refl spot v key index apart
+command_changes pid spot v key apart = row_changes pid (row_in table pid) refl spot v key apart
 
 -- ---- the values after a SET
 
 written_keeps : (pid : ℕ) (v : Value) (spot : Spot) (key index : ℕ) → IsApart pid key → lookup (written (command_of pid Set) v spot) key index ≡ lookup spot.entries key index
-written_keeps pid v spot key index apart = lookup-store_all (writes (command_of pid Set) spot v) spot.entries key index (command_writes pid spot v key index apart)
+written_keeps pid v spot key index apart = lookup-update key index (change (command_of pid Set) spot v) spot.entries (command_changes pid spot v key apart)
 
 map_keeps : (f : List Entry → List Entry) (key index : ℕ) → ((es : List Entry) → lookup (f es) key index ≡ lookup es key index) → (subs : List (List Entry)) (k : ℕ) → lookup (slice_index_or (map f subs) k []) key index ≡ lookup (slice_index_or subs k []) key index
 map_keeps f key index same [] k = refl

@@ -1,11 +1,12 @@
 -- What is written of a value is read back as that value.
-use Rattle.std.proofs.Common.{◌≡◌, ℕ, Option, Some, None, Ok, refl, ap}
+use Rattle.std.proofs.Common.{◌≡◌, ℕ, Option, Some, None, Ok, length, refl, ap}
 use Rattle.std.specs.Prelude.{IsTrue}
+use Rattle.std.proofs.lemmas.Bool.{le-leb}
 use Rattle.std.proofs.lemmas.Nat.{from_be_bytes-to_be_bytes_2, from_be_bytes-to_be_bytes_4}
 use Rattle.rdm_params.specs.declared.value.Value.{Value}
-use Rattle.rdm_params.specs.declared.value.Value.TheVariants.{Nothing, Byte, Word, Long, Preset}
+use Rattle.rdm_params.specs.declared.value.Value.TheVariants.{Nothing, Byte, Word, Long, Preset, Label}
 use Rattle.rdm_params.specs.Commands.{command_of}
-use Rattle.rdm_params.specs.Forms.{Form, nothing, byte, word, long, preset, has_form, read_as}
+use Rattle.rdm_params.specs.Forms.{Form, nothing, byte, word, long, preset, label, has_form, read_as}
 use Rattle.rdm_params.specs.Laws.{FitsSlots, HasFormOf, ReadsBack}
 use Rattle.rdm_params.specs.Table.{Command}
 use Rattle.rdm_params.specs.Uses.{read}
@@ -17,6 +18,7 @@ form_again byte (Byte n) h fits = refl
 form_again word (Word n) h fits = ap (λ (m : ℕ). Ok (Word m)) (from_be_bytes-to_be_bytes_2 n fits)
 form_again long (Long n) h fits = ap (λ (m : ℕ). Ok (Long m)) (from_be_bytes-to_be_bytes_4 n fits)
 form_again preset (Preset mode level) h fits = ap (λ (m : ℕ). Ok (Preset m level)) (from_be_bytes-to_be_bytes_2 mode fits.0)
+form_again label (Label text) h fits = rw (le-leb (length text) 32 fits) refl
 form_again _ _ h fits = absurd cc
 
 command_again : (command : Option Command) (v : Value) → HasFormOf command v → FitsSlots v → read command (bytes_of v) ≡ Ok v

@@ -1,29 +1,34 @@
 -- What GET and SET commands answer, and which values they leave. E1.20 sections 6.3, 9 and 10.
-use Rattle.std.specs.Prelude.{ℕ, ◌-◌, Bool, true, false, ◌==◌, ◌&&◌, not, List, [], ◌∷◌, map, Option, Result, Ok, Err, is_ok, slice_get, slice_index_or, slice_set, option_to_list, unwrap_or, if◌then◌else◌}
+use Rattle.std.specs.Prelude.{ℕ, ◌-◌, Bool, true, false, ◌==◌, ◌&&◌, not, List, [], ◌∷◌, map, Option, Result, Ok, Err, is_ok, is_some, slice_get, slice_index_or, slice_set, option_to_list, unwrap_or, if◌then◌else◌}
 use Rattle.std.specs.List.{list_all}
+use Rattle.std.specs.Option.{option_map_or}
 use Rattle.rdm_params.specs.declared.kind.Kind.{Kind}
 use Rattle.rdm_params.specs.declared.kind.Verb.{Verb}
 use Rattle.rdm_params.specs.declared.kind.Verb.TheVariants.{Get, Set}
 use Rattle.rdm_params.specs.declared.nack.Nack.{Nack}
 use Rattle.rdm_params.specs.declared.nack.Nack.TheVariants.{DataOutOfRange, SubDeviceOutOfRange}
+use Rattle.rdm_params.specs.declared.profile.Profile.{Profile}
 use Rattle.rdm_params.specs.declared.value.Value.{Value}
 use Rattle.rdm_params.specs.declared.verdict.Verdict.{Verdict}
 use Rattle.rdm_params.specs.declared.verdict.Verdict.TheVariants.{Reply, Start, Refuse}
 use Rattle.rdm_params.specs.declared.verdict.Work.{Work}
 use Rattle.rdm_params.specs.Kinds.{pid_of}
-use Rattle.rdm_params.specs.Map.{Entry, store_all}
+use Rattle.rdm_params.specs.Map.{Entry, update}
 use Rattle.rdm_params.specs.Parameters.{Parameters}
 use Rattle.rdm_params.specs.Spot.{Spot}
 use Rattle.rdm_params.specs.Table.{Command, row_of, command_in}
-use Rattle.rdm_params.specs.Uses.{access, read, is_slow, in_range_of, writes, reply}
+use Rattle.rdm_params.specs.Uses.{access, read, is_slow, in_range_of, change, reply}
 use Rattle.rdm_params.specs.Values.{byte_in}
 
 -- the root, and a sub-device that keeps these values
 abbrev pub root_spot : Parameters → Spot
 root_spot p = record { profile = p.profile; unit = p.profile.root; is_root = true; entries = p.root }
 
+abbrev pub profile_sub_spot : Profile → List Entry → Spot
+profile_sub_spot profile entries = record { profile = profile; unit = profile.sub; is_root = false; entries = entries }
+
 abbrev pub sub_spot : Parameters → List Entry → Spot
-sub_spot p entries = record { profile = p.profile; unit = p.profile.sub; is_root = false; entries = entries }
+sub_spot p entries = profile_sub_spot p.profile entries
 
 -- whether a command is a SET of every sub-device. Section 9.
 abbrev pub is_all_call : ℕ → Verb → Bool
@@ -50,8 +55,7 @@ abbrev pub check : Bool → Nack → Result (Unit {0}) Nack
 check holds nack = if holds then Ok tt else Err nack
 
 abbrev pub is_some_device : List Spot → Bool
-is_some_device [] = false
-is_some_device (spot ∷ spots) = true
+is_some_device spots = is_some (slice_get spots 0)
 
 -- The value that a command hands in, or why it is refused: it addresses no device, the device has no such
 -- parameter or the parameter no such command, the data has another length, it is out of range at a device that is
@@ -74,8 +78,7 @@ in_range p sub kind verb value =
 
 -- the reply of a device; all that are addressed give the same
 abbrev pub reply_at : Option Command → List Spot → Value → List ℕ
-reply_at command [] value = []
-reply_at command (spot ∷ spots) value = reply command spot value
+reply_at command spots value = option_map_or (λ spot. reply command spot value) (slice_get spots 0) []
 
 -- the job that a slow command starts
 abbrev pub work : ℕ → ℕ → Verb → Value → Work
@@ -88,7 +91,7 @@ verdict p sub pid verb (Ok value) = if is_slow (command_of pid verb) then Start 
 
 -- the values of a device after a command that is carried out there
 abbrev pub written : Option Command → Value → Spot → List Entry
-written command value spot = store_all (writes command spot value) spot.entries
+written command value spot = update (change command spot value) spot.entries
 
 -- the values after a SET that is carried out at the devices that it addresses
 abbrev pub carried_out : Parameters → ℕ → Option Command → Value → Parameters

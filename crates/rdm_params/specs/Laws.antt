@@ -1,13 +1,14 @@
 -- Laws of the table, for every value, command and device.
-use Rattle.std.specs.Prelude.{◌≡◌, ℕ, ◌^◌, ◌<◌, ◌==◌, false, List, [], ◌∷◌, Option, Some, None, Ok, IsTrue, slice_index_or}
+use Rattle.std.specs.Prelude.{◌≡◌, ℕ, ◌^◌, ◌<◌, ◌≤◌, ◌==◌, false, List, [], ◌∷◌, length, Option, Some, None, Ok, IsTrue, slice_index_or, if◌then◌else◌}
 use Rattle.std.specs.List.{list_any}
 use Rattle.rdm_params.specs.declared.kind.Verb.{Verb}
 use Rattle.rdm_params.specs.declared.value.Value.{Value}
-use Rattle.rdm_params.specs.declared.value.Value.TheVariants.{Byte, Word, Long, Preset}
+use Rattle.rdm_params.specs.declared.value.Value.TheVariants.{Byte, Word, Long, Preset, Label}
 use Rattle.rdm_params.specs.Commands.{command_of, after_set}
 use Rattle.rdm_params.specs.Forms.{has_form}
 use Rattle.rdm_params.specs.Map.{lookup}
 use Rattle.rdm_params.specs.Parameters.{Parameters}
+use Rattle.rdm_params.specs.Replies.{factory_pids}
 use Rattle.rdm_params.specs.Table.{Command}
 use Rattle.rdm_params.specs.Uses.{read}
 use Rattle.rdm_params.specs.Values.{bytes_of}
@@ -18,6 +19,7 @@ FitsSlots (Byte n) = n < 2 ^ 8
 FitsSlots (Word n) = n < 2 ^ 16
 FitsSlots (Long n) = n < 2 ^ 32
 FitsSlots (Preset mode level) = (mode < 2 ^ 16) × (level < 2 ^ 8)
+FitsSlots (Label text) = length text ≤ 32
 FitsSlots _ = Unit {0}
 
 -- a value has the form that the command takes
@@ -29,9 +31,10 @@ HasFormOf (Some c) v = IsTrue (has_form c.form v)
 abbrev pub ReadsBack : Type 0
 ReadsBack = (pid : ℕ) (verb : Verb) (v : Value) → HasFormOf (command_of pid verb) v → FitsSlots v → read (command_of pid verb) (bytes_of v) ≡ Ok v
 
--- the PIDs of the keys that a SET of a parameter writes: its own
+-- The PIDs of the keys that a SET of a parameter may write: its own, but for FACTORY_DEFAULTS, which sets ten
+-- parameters back, and RECORD_SENSORS, which writes the sensors' values.
 abbrev pub keys_written : ℕ → List ℕ
-keys_written pid = pid ∷ []
+keys_written pid = if pid == 0x0090 then factory_pids else (if pid == 0x0202 then 0x0201 ∷ [] else pid ∷ [])
 
 -- the values at this key are the same at the root and at every sub-device
 pub record SameAt (pid index : ℕ) (old new : Parameters) : Type 0 where

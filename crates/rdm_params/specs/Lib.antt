@@ -1,3 +1,4 @@
+pub mod Changes
 pub mod Commands
 pub mod Demo
 pub mod Forms

@@ -19,12 +19,7 @@ abbrev pub lookup : List Entry → ℕ → ℕ → List ℕ
 lookup [] pid index = []
 lookup (e ∷ es) pid index = if has_key pid index e then e.bytes else lookup es pid index
 
--- the map in which the entry of that key is the new one
-abbrev pub store : Entry → List Entry → List Entry
-store new [] = []
-store new (e ∷ es) = (if has_key new.pid new.index e then new else e) ∷ store new es
-
--- the map after several writes, in order
-abbrev pub store_all : List Entry → List Entry → List Entry
-store_all [] es = es
-store_all (new ∷ news) es = store_all news (store new es)
+-- the map in which each entry has the bytes that it becomes; no key comes or goes
+abbrev pub update : (Entry → List ℕ) → List Entry → List Entry
+update becomes [] = []
+update becomes (e ∷ es) = entry e.pid e.index (becomes e) ∷ update becomes es

@@ -1,5 +1,5 @@
 -- The ranges of the data of commands.
-use Rattle.std.specs.Prelude.{ℕ, Bool, false, ◌==◌, ◌&&◌, ◌||◌, not, nat_lt, nat_le}
+use Rattle.std.specs.Prelude.{ℕ, Bool, false, ◌==◌, ◌&&◌, ◌||◌, not, nat_lt, nat_le, length}
 use Rattle.std.specs.Option.{option_map_or}
 use Rattle.std.specs.List.{list_any}
 use Rattle.rdm_params.specs.declared.value.Value.{Value}
@@ -11,7 +11,7 @@ use Rattle.rdm_params.specs.Forms.{Form, has_form}
 abbrev pub Range : Type 0
 Range = Spot → Value → Bool
 
--- the test of a number, or of a preset and its level, where the value is one
+-- the test of a number, where the value is one
 abbrev for_byte : (ℕ → Bool) → Value → Bool
 for_byte test v = option_map_or test (byte_in v) false
 
@@ -26,19 +26,41 @@ any form spot v = has_form form v
 abbrev pub below : ℕ → Form → Range
 below n form spot v = for_byte (λ b. nat_lt b n) v
 
+-- a status ID of the profile
+abbrev pub a_status : Form → Range
+a_status form spot v = for_word (λ id. list_any (λ t. t.id == id) spot.profile.status_texts.items) v
+
 -- a language of the profile
 abbrev pub a_language : Form → Range
 a_language form spot v = for_word (λ code. list_any (λ l. l == code) spot.profile.languages.items) v
+
+-- a personality of the device, numbered from 1
+abbrev pub a_personality : Form → Range
+a_personality form spot v = for_byte (λ n. nat_le 1 n && nat_le n (length spot.unit.personalities.items)) v
 
 -- a start address, at a device that uses slots
 abbrev pub a_start : Form → Range
 a_start form spot v = for_word (λ n. nat_le 1 n && nat_le n 512 && not (footprint spot == 0)) v
 
+-- a slot that the current personality uses
+abbrev pub a_slot : Form → Range
+a_slot form spot v = for_word (λ n. nat_lt n (footprint spot)) v
+
+-- a sensor, and a sensor or, where there is one, FF for all
+abbrev pub a_sensor : Form → Range
+a_sensor form spot v = for_byte (λ n. nat_lt n (length spot.profile.sensors.items)) v
+
+abbrev pub sensors : Form → Range
+sensors form spot v = for_byte (λ n. nat_lt n (length spot.profile.sensors.items) || ((n == 0xFF) && nat_lt 0 (length spot.profile.sensors.items))) v
+
 -- off, standby, on without or with full brightness
 abbrev pub a_power_state : Form → Range
 a_power_state form spot v = for_byte (λ b. (b == 0) || (b == 1) || (b == 2) || (b == 0xFF)) v
 
--- off, all tests, or a test of the profile
+-- a test of the profile, and off, all tests, or a test of the profile
+abbrev pub a_test : Form → Range
+a_test form spot v = for_byte (λ b. list_any (λ t. t.number == b) spot.profile.tests.items) v
+
 abbrev pub a_self_test : Form → Range
 a_self_test form spot v = for_byte (λ b. (b == 0) || (b == 0xFF) || list_any (λ t. t.number == b) spot.profile.tests.items) v
 

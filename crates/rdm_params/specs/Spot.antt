@@ -1,6 +1,6 @@
 -- What the ranges and replies of one device depend on.
-use Rattle.std.specs.Prelude.{ℕ, ◌-◌, Bool, List, ◌++◌, slice_get, slice_index, unwrap_or, is_some}
-use Rattle.std.specs.Option.{option_map, option_copied}
+use Rattle.std.specs.Prelude.{ℕ, ◌-◌, Bool, List, ◌++◌, slice_get, slice_index, is_some}
+use Rattle.std.specs.Option.{option_map_or, option_copied}
 use Rattle.rdm_params.specs.declared.profile.Profile.{Profile}
 use Rattle.rdm_params.specs.declared.profile.Unit.{Unit as DeviceUnit}
 use Rattle.rdm_params.specs.declared.place.Place.{Place}
@@ -18,6 +18,10 @@ pub record Spot : Type 0 where
 abbrev pub spot_of : Place → Spot
 spot_of p = record { profile = p.profile.now; unit = p.unit.now; is_root = is_some p.own; entries = common_entries p.common.now ++ own_if (option_copied p.own) }
 
--- how many slots the current personality has; they are numbered from 1
+-- the number of the current personality, from 1
+abbrev pub personality : Spot → ℕ
+personality spot = slice_index (lookup spot.entries 0x00E0 0) 0
+
+-- how many slots the current personality uses
 abbrev pub footprint : Spot → ℕ
-footprint spot = unwrap_or (option_map (λ p. p.footprint) (slice_get spot.unit.personalities.items (slice_index (lookup spot.entries 0x00E0 0) 0 - 1))) 0
+footprint spot = option_map_or (λ m. m.footprint) (slice_get spot.unit.personalities.items (personality spot - 1)) 0

@@ -1,22 +1,25 @@
 -- The table of parameters, one line a row. E1.20 section 10 and table A-3.
-use Rattle.std.specs.Prelude.{ℕ, Bool, true, false, ◌==◌, List, [], ◌∷◌, ◌++◌, Option, Some, None, find, if◌then◌else◌}
+use Rattle.std.specs.Prelude.{ℕ, Bool, true, false, ◌==◌, ◌&&◌, ◌||◌, not, List, [], ◌∷◌, ◌++◌, Option, Some, None, find, filter, flat_map}
+use Rattle.std.specs.List.{list_any}
 use Rattle.rdm_params.specs.declared.kind.Verb.{Verb}
 use Rattle.rdm_params.specs.declared.kind.Verb.TheVariants.{Get, Set}
 use Rattle.rdm_params.specs.declared.value.Value.{Value}
-use Rattle.rdm_params.specs.Map.{Entry, entry, lookup}
-use Rattle.rdm_params.specs.Values.{long_slots, bytes_of}
+use Rattle.rdm_params.specs.Changes.{Change, unchanged, stored_at, set_back, sensors_reset, sensors_recorded}
+use Rattle.rdm_params.specs.Forms.{Form, nothing, byte, word, long, preset, label}
+use Rattle.rdm_params.specs.Map.{lookup}
+use Rattle.rdm_params.specs.Ranges.{Range, any, below, a_status, a_language, a_personality, a_start, a_slot, a_sensor, sensors, a_power_state, a_test, a_self_test, a_preset}
+use Rattle.rdm_params.specs.Replies.{status_text, device_info, at_factory_defaults, languages, personality_of_all, personality_described, start_address, used_slots, slot_infos, slot_described, slot_defaults, sensor_described, sensor_measured, self_test_runs, self_test_described}
 use Rattle.rdm_params.specs.Spot.{Spot}
-use Rattle.rdm_params.specs.Forms.{Form, nothing, byte, word, long, preset, has_form}
-use Rattle.rdm_params.specs.Ranges.{Range, any, below, a_language, a_start, a_power_state, a_self_test, a_preset}
-use Rattle.rdm_params.specs.Replies.{start_address, self_test_runs}
+use Rattle.rdm_params.specs.Values.{word_slots, long_slots}
 
--- A command of a row: the form of its data, the range of it, whether it is slow, the entries that it writes, and
--- the data of its reply. A slow command starts a job, and writes and replies nothing itself.
+-- A command of a row: the form of its data, the range of it, whether it is slow, what it makes of the entries of a
+-- device, and the data of its reply, which is of the device afterwards. A slow command starts a job, and changes and
+-- replies nothing itself.
 pub record Command : Type 0 where
   pub form : Form
   pub range : Range
   pub slow : Bool
-  pub writes : Spot → Value → List Entry
+  pub change : Change
   pub reply : Spot → Value → List ℕ
 
 -- A row: the PID, whether the parameter is at the root alone, and its two commands.
@@ -39,30 +42,69 @@ root = true
 abbrev pub none : Option Command
 none = None
 
--- a GET without data, which replies what the device shows, and one that replies what is stored at a key
+-- a GET that is asked with data, one without, and one that shows what is stored at a key
+abbrev pub asks : Form → (Form → Range) → (Spot → Value → List ℕ) → Option Command
+asks form range reply = Some (record { form = form; range = range form; slow = false; change = unchanged; reply = reply })
+
 abbrev pub reads : (Spot → List ℕ) → Option Command
-reads shown = Some (record { form = nothing; range = any nothing; slow = false; writes = λ spot v. []; reply = λ spot v. shown spot })
+reads shown = asks nothing any (λ spot v. shown spot)
 
 abbrev pub stored : ℕ → Option Command
 stored pid = reads (λ spot. lookup spot.entries pid 0)
 
--- a SET that stores its data at a key, and one that starts a job
-abbrev pub takes : ℕ → Form → (Form → Range) → Option Command
-takes pid form range = Some (record { form = form; range = range form; slow = false; writes = λ spot v. if has_form form v then entry pid 0 (bytes_of v) ∷ [] else []; reply = λ spot v. [] })
+-- a SET with a change and a reply, and one that stores its data at a key
+abbrev pub sets : Form → (Form → Range) → Change → (Spot → Value → List ℕ) → Option Command
+sets form range change reply = Some (record { form = form; range = range form; slow = false; change = change; reply = reply })
 
+abbrev pub takes : ℕ → Form → (Form → Range) → Option Command
+takes pid form range = sets form range (stored_at pid form) (λ spot v. [])
+
+-- a command that starts a job
 abbrev pub slow : (Form → Range) → Option Command
-slow range = Some (record { form = byte; range = range byte; slow = true; writes = λ spot v. []; reply = λ spot v. [] })
+slow range = Some (record { form = byte; range = range byte; slow = true; change = unchanged; reply = λ spot v. [] })
+
+-- Status: section 10.3
+abbrev pub status : List Row
+status = row 0x0031 root (asks word a_status status_text) none ∷ []
+
+-- Product information: sections 10.5.1 to 10.5.6
+abbrev pub information : List Row
+information =
+    row 0x0060 both (reads device_info) none
+    ∷ row 0x0080 both (reads (λ spot. spot.unit.model_text)) none
+    ∷ row 0x0081 both (reads (λ spot. spot.unit.maker_text)) none
+    ∷ row 0x0082 both (stored 0x0082) (takes 0x0082 label any)
+    ∷ row 0x0090 root (reads at_factory_defaults) (sets nothing any set_back (λ spot v. []))
+    ∷ []
 
 -- Language and software: sections 10.5.7 to 10.5.11
 abbrev pub software : List Row
 software =
-    row 0x00B0 root (stored 0x00B0) (takes 0x00B0 word a_language)
+    row 0x00A0 root (reads languages) none
+    ∷ row 0x00B0 root (stored 0x00B0) (takes 0x00B0 word a_language)
+    ∷ row 0x00C0 both (reads (λ spot. spot.unit.software_text)) none
     ∷ row 0x00C1 root (reads (λ spot. long_slots spot.profile.boot)) none
+    ∷ row 0x00C2 root (reads (λ spot. spot.profile.boot_text)) none
     ∷ []
 
 -- DMX512 setup: section 10.6
 abbrev pub dmx : List Row
-dmx = row 0x00F0 both (reads start_address) (takes 0x00F0 word a_start) ∷ []
+dmx =
+    row 0x00E0 both (reads personality_of_all) (takes 0x00E0 byte a_personality)
+    ∷ row 0x00E1 both (asks byte a_personality personality_described) none
+    ∷ row 0x00F0 both (reads start_address) (takes 0x00F0 word a_start)
+    ∷ row 0x0120 root (reads (λ spot. slot_infos 0 (used_slots spot))) none
+    ∷ row 0x0121 root (asks word a_slot slot_described) none
+    ∷ row 0x0122 root (reads (λ spot. slot_defaults 0 (used_slots spot))) none
+    ∷ []
+
+-- Sensors: section 10.7
+abbrev pub sensing : List Row
+sensing =
+    row 0x0200 root (asks byte a_sensor sensor_described) none
+    ∷ row 0x0201 root (slow a_sensor) (sets byte sensors sensors_reset sensor_measured)
+    ∷ row 0x0202 root none (sets byte sensors sensors_recorded (λ spot v. []))
+    ∷ []
 
 -- Power and lamp: section 10.8
 abbrev pub usage : List Row
@@ -91,11 +133,28 @@ control =
     row 0x1000 both (stored 0x1000) (takes 0x1000 byte (below 2))
     ∷ row 0x1010 both (stored 0x1010) (slow a_power_state)
     ∷ row 0x1020 root (reads self_test_runs) (slow a_self_test)
+    ∷ row 0x1021 root (asks byte a_test self_test_described) none
     ∷ row 0x1031 root (stored 0x1031) (takes 0x1031 preset a_preset)
     ∷ []
 
+-- The PIDs that SUPPORTED_PARAMETERS leaves out, since every device has them. Section 10.4.1.
+abbrev pub is_required : ℕ → Bool
+is_required pid = list_any (λ required. pid == required) (0x0060 ∷ 0x00C0 ∷ 0x00F0 ∷ 0x1000 ∷ [])
+
+-- what SUPPORTED_PARAMETERS lists of these rows, at the root or at a sub-device
+abbrev pub listed : Bool → List Row → List ℕ
+listed is_root rows = flat_map (λ r. word_slots r.pid) (filter (λ r. (is_root || not r.root_only) && not (is_required r.pid)) rows)
+
+-- the PIDs that a device supports, beside those that every device does. Section 10.4.1.
+unfoldable pub supported : Spot → List ℕ
+supported spot = listed spot.is_root (status ++ information ++ software ++ dmx ++ sensing ++ usage ++ display ++ control)
+
+-- Product information with SUPPORTED_PARAMETERS: section 10.4.1
+abbrev pub product : List Row
+product = row 0x0050 both (reads supported) none ∷ information
+
 unfoldable pub table : List Row
-table = software ++ dmx ++ usage ++ display ++ control
+table = status ++ product ++ software ++ dmx ++ sensing ++ usage ++ display ++ control
 
 -- the row of a PID
 abbrev pub row_in : List Row → ℕ → Option Row

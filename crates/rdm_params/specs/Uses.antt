@@ -4,7 +4,7 @@ use Rattle.rdm_params.specs.declared.kind.Verb.{Verb}
 use Rattle.rdm_params.specs.declared.nack.Nack.{Nack}
 use Rattle.rdm_params.specs.declared.nack.Nack.TheVariants.{FormatError, UnknownPid, UnsupportedCommandClass}
 use Rattle.rdm_params.specs.declared.value.Value.{Value}
-use Rattle.rdm_params.specs.Map.{Entry}
+use Rattle.rdm_params.specs.Changes.{Change}
 use Rattle.rdm_params.specs.Spot.{Spot}
 use Rattle.rdm_params.specs.Forms.{read_as}
 use Rattle.rdm_params.specs.Table.{Row, Command, command_in}
@@ -29,10 +29,10 @@ abbrev pub in_range_of : Option Command → Spot → Value → Bool
 in_range_of None spot v = false
 in_range_of (Some c) spot v = c.range spot v
 
--- the entries that the command writes
-abbrev pub writes : Option Command → Spot → Value → List Entry
-writes None spot v = []
-writes (Some c) spot v = c.writes spot v
+-- what the command makes of the entries of the device
+abbrev pub change : Option Command → Change
+change None spot v e = e.bytes
+change (Some c) spot v e = c.change spot v e
 
 -- the data of the reply
 abbrev pub reply : Option Command → Spot → Value → List ℕ

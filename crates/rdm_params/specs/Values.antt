@@ -1,5 +1,5 @@
 -- Values of parameters, and the bytes that stand for them. E1.20 section 6.2.10.
-use Rattle.std.specs.Prelude.{ℕ, ℤ, List, [], ◌∷◌, ◌++◌, Bool, true, false, Option, Some, None}
+use Rattle.std.specs.Prelude.{ℕ, ℤ, List, [], ◌∷◌, ◌++◌, Bool, true, false, Option, Some, None, unwrap_or}
 use Rattle.std.specs.Int.{w16, w32, to_be_bytes, cast_unsigned}
 use Rattle.rdm_params.specs.declared.value.Value.{Value}
 use Rattle.rdm_params.specs.declared.value.Value.TheVariants.{Nothing, Byte, Word, Long, Pair, Label, Preset, Named, SlotName, Mode, Reading, Sensor, Info, Block}
@@ -59,3 +59,14 @@ long_in _ = None
 abbrev pub preset_in : Value → Option (ℕ × ℕ)
 preset_in (Preset mode level) = Some (mode, level)
 preset_in _ = None
+
+abbrev pub label_in : Value → Option (List ℕ)
+label_in (Label text) = Some text
+label_in _ = None
+
+-- the 8-bit or the 16-bit number of a value, or 0 where it is none
+abbrev pub byte_or_0 : Value → ℕ
+byte_or_0 v = unwrap_or (byte_in v) 0
+
+abbrev pub word_or_0 : Value → ℕ
+word_or_0 v = unwrap_or (word_in v) 0

@@ -1,11 +1,15 @@
-//! A root device, and the commands to it.
+//! A root device with its sub-devices, and the commands to them.
 
-ghost use Rattle.std.specs.Prelude.{◌≡◌, ◌↔◌, ◌≤◌, ◌<◌, IfOk, IfErr, OnOk, IsTrue};
-ghost use Rattle.rdm_params.specs.Commands.{accepted, got, answer_to_set, after_set, in_range, verdict, root_spot, addressed, is_some_device};
+ghost use Rattle.std.specs.Prelude.{◌≡◌, ◌↔◌, ◌≤◌, ◌<◌, IfOk, IfErr, slice_get};
+ghost use Rattle.std.specs.List.{list_all};
+ghost use Rattle.std.specs.Option.{option_map};
+ghost use Rattle.rdm_params.specs.declared.kind.Verb.TheVariants.{Set};
+ghost use Rattle.rdm_params.specs.Commands.{accepted, got, answer_to_set, after_set, in_range, verdict, addressed, command_of, carried_out, is_all_call, sub_spot};
 ghost use Rattle.rdm_params.specs.Kinds.{pid_of};
 ghost use Rattle.rdm_params.specs.Parameters.{parameters_of};
 ghost use Rattle.rdm_params.specs.Profiles.{IsGoodProfile};
 ghost use Rattle.rdm_params.specs.Spot.{spot_of};
+ghost use Rattle.rdm_params.specs.Uses.{in_range_of};
 
 use crate::checks::is_good;
 use crate::place::Place;
@@ -14,7 +18,9 @@ use crate::replying::reply_to;
 use crate::rights::{check_access, starts_job};
 use crate::state::{Common, Own};
 use crate::storing::{store_common, store_own};
+use crate::subs::{all_in_range, start_each, store_at, store_each};
 use crate::{Kind, Nack, Profile, Value, Verb, Verdict, Work, kind_of, read_value, write_value};
+use rdm_frame::Body;
 use std::alloc::Global;
 use std::marker::Model;
 use thiserror::Error;
@@ -33,12 +39,15 @@ pub enum NewError {
     BadProfile,
 }
 
-/// A root device and the values of its parameters. A contract sees the profile, and the values by keys.
+/// A root device with its sub-devices, and the values of their parameters.
+///
+/// A contract sees the profile, and the values of each device by keys.
 #[derive(Debug, Drop)]
 pub struct Devices {
     profile: Profile,
     root: Common,
     own: Own,
+    subs: Vec<Common>,
 }
 
 impl Model for Devices {
@@ -46,22 +55,29 @@ impl Model for Devices {
 
     ghost Value = { Parameters };
 
-    ghost use Rattle.std.specs.Prelude.{[], ◌++◌};
+    ghost use Rattle.std.specs.Prelude.{◌++◌, map};
     ghost use Rattle.rdm_params.specs.State.{common_entries, own_entries};
 
-    ghost view = { λ d. record { profile = d.profile; root = common_entries d.root ++ own_entries d.own; subs = [] } };
+    ghost view = { λ d. record { profile = d.profile; root = common_entries d.root ++ own_entries d.own; subs = map common_entries d.subs.items } };
 }
 
+/// The greatest number of sub-devices (E1.20 section 9).
+const MAX_SUBS: u16 = 512;
+
+/// The sub-device number that stands for all of them in a SET (section 9).
+const ALL_CALL: u16 = 0xFFFF;
+
 impl Devices {
-    /// A device as its profile says, with the values that it starts with.
+    /// The devices of a profile, with the values that they start with.
+    ///
+    /// It is `TooManySubs` over 512 sub-devices, else `BadProfile` where the profile breaks a rule.
     #[tactic(auto, unfolding(crate::specs::Parameters::parameters_of))]
     pub fn new(alloc: Global, profile: Profile) -> Result<Devices, NewError>
         ensures ok { IfOk result (λ devices. devices ≡ parameters_of profile) }
-        ensures too_many { (result ≡ Err NewError.TooManySubs) ↔ (0 < profile.subs) }
-        ensures bad { (result ≡ Err NewError.BadProfile) ↔ ((profile.subs ≤ 0) × ¬ IsGoodProfile profile) }
+        ensures too_many { (result ≡ Err NewError.TooManySubs) ↔ (512 < profile.subs) }
+        ensures bad { (result ≡ Err NewError.BadProfile) ↔ ((profile.subs ≤ 512) × ¬ IsGoodProfile profile) }
     {
-        let _ = alloc;
-        if profile.subs > 0 {
+        if profile.subs > MAX_SUBS {
             return Err(NewError::TooManySubs);
         }
         if !is_good(&profile) {
@@ -69,7 +85,15 @@ impl Devices {
         }
         let root = Common::at_start(&profile.root);
         let own = Own::at_start(&profile);
-        Ok(Devices { profile, root, own })
+        let Ok(subs) = start_each(alloc, &profile.sub, profile.subs) else {
+            return Err(NewError::OutOfMemory);
+        };
+        Ok(Devices {
+            profile,
+            root,
+            own,
+            subs,
+        })
     }
 
     /// What a GET answers: the value, the job that it starts, or the first reason to refuse it.
@@ -84,7 +108,10 @@ impl Devices {
     }
 
     /// What a SET answers. One that is refused, or that starts a job, changes nothing.
-    #[tactic(auto, unfolding(crate::specs::Commands::answer_to_set, crate::specs::Commands::after_set), using(crate::proofs::Maps::store_all_append))]
+    ///
+    /// With sub-device 65535 it is for every sub-device and not for the root, and is refused unless all of them can
+    /// take it.
+    #[tactic(auto, unfolding(crate::specs::Commands::answer_to_set, crate::specs::Commands::after_set))]
     pub fn set(&mut self, sub: u16, pid: u16, data: &[u8]) -> Verdict
         ensures answer { result ≡ answer_to_set self.old sub pid data.now }
         ensures after { self.new ≡ after_set self.old sub pid data.now }
@@ -92,8 +119,7 @@ impl Devices {
         match self.accept(sub, pid, Verb::Set, data) {
             Ok((kind, value)) => {
                 if !starts_job(kind, Verb::Set) {
-                    store_common(kind, &value, &mut self.root);
-                    store_own(kind, &value, &mut self.own);
+                    self.carry_out(sub, kind, &value);
                 }
                 self.verdict(sub, pid, Verb::Set, kind, &value)
             }
@@ -101,73 +127,129 @@ impl Devices {
         }
     }
 
-    /// Whether a value is in the range of a command at the device. It isn't where there is no such device, parameter
-    /// or command, or where the value has another form.
+    /// Whether a value is in the range of a command at each device that it is for. It isn't where there is no such
+    /// device, parameter or command, or where the value has another form.
     #[tactic(auto, unfolding(crate::specs::Commands::in_range))]
     pub fn in_range(&self, sub: u16, kind: Kind, verb: Verb, value: &Value) -> bool
         ensures { result ≡ in_range self.now sub kind verb value.now }
     {
-        self.addresses(sub, verb)
-            && check_access(kind, true, verb).is_ok()
-            && is_in_range(kind, verb, &self.root_place(), value)
+        self.first_place(sub, verb).is_some()
+            && check_access(kind, sub == 0, verb).is_ok()
+            && self.is_in_range_at(sub, kind, verb, value)
     }
 
     /// The parameter that a command names and the value that it hands in, or the first reason to refuse it.
     #[tactic(auto, unfolding(crate::specs::Commands::accepted))]
     fn accept(&self, sub: u16, pid: u16, verb: Verb, data: &[u8]) -> Result<(Kind, Value), Nack>
         ensures ok { IfOk result (λ a. (pid_of a.0 ≡ pid) × (accepted self.now sub pid verb data.now ≡ Ok a.1)) }
-        ensures place { OnOk result (sub ≡ 0) }
         ensures err { IfErr result (λ nack. accepted self.now sub pid verb data.now ≡ Err nack) }
     {
-        if !self.addresses(sub, verb) {
+        if self.first_place(sub, verb).is_none() {
             return Err(Nack::SubDeviceOutOfRange);
         }
         let kind = kind_of(pid).ok_or(Nack::UnknownPid)?;
-        check_access(kind, true, verb)?;
+        check_access(kind, sub == 0, verb)?;
         let value = read_value(kind, verb, data)?;
-        if !is_in_range(kind, verb, &self.root_place(), &value) {
+        if !self.is_in_range_at(sub, kind, verb, &value) {
             return Err(Nack::DataOutOfRange);
+        }
+        if is_all_call(sub, verb) && starts_job(kind, verb) {
+            return Err(Nack::SubDeviceOutOfRange);
         }
         Ok((kind, value))
     }
 
-    /// Whether a command addresses a device that there is.
-    #[tactic(auto, using(crate::proofs::Places::addressed_at_root))]
-    fn addresses(&self, sub: u16, verb: Verb) -> bool
-        ensures found { result ≡ is_some_device (addressed self.now sub verb) }
-        ensures root { IsTrue result ↔ (sub ≡ 0) }
+    /// Whether a value is in range at each device that a command is for.
+    #[tactic(auto)]
+    fn is_in_range_at(&self, sub: u16, kind: Kind, verb: Verb, value: &Value) -> bool
+        ensures { result ≡ list_all (λ spot. in_range_of (command_of (pid_of kind) verb) spot value.now) (addressed self.now sub verb) }
     {
-        let _ = &self.root;
-        sub == 0
+        if is_all_call(sub, verb) {
+            return all_in_range(&self.profile, kind, verb, &self.subs, value);
+        }
+        match self.first_place(sub, verb) {
+            Some(place) => is_in_range(kind, verb, &place, value),
+            None => true,
+        }
     }
 
     /// What an accepted command answers.
     fn verdict(&self, sub: u16, pid: u16, verb: Verb, kind: Kind, value: &Value) -> Verdict
-        requires place { sub ≡ 0 }
-        requires named { pid_of kind ≡ pid }
+        requires { pid_of kind ≡ pid }
         ensures { result ≡ verdict self.now sub pid verb (Ok value.now) }
     {
         if starts_job(kind, verb) {
-            Verdict::Start(Work {
+            return Verdict::Start(Work {
                 sub,
                 pid,
                 verb,
                 arg: value.byte().unwrap_or(0),
-            })
-        } else {
-            Verdict::Reply(write_value(&reply_to(kind, verb, &self.root_place(), value)))
+            });
+        }
+        match self.first_place(sub, verb) {
+            Some(place) => Verdict::Reply(write_value(&reply_to(kind, verb, &place, value))),
+            None => Verdict::Reply(Body::new()),
         }
     }
 
-    /// The root.
-    fn root_place(&self) -> Place<'_>
-        ensures { spot_of result ≡ root_spot self.now }
+    /// Carries out a SET at the devices that it is for.
+    #[tactic(auto, using(crate::proofs::Maps::update_append))]
+    fn carry_out(&mut self, sub: u16, kind: Kind, value: &Value)
+        ensures { self.new ≡ carried_out self.old sub (command_of (pid_of kind) Set) value.now }
     {
-        Place {
-            profile: &self.profile,
-            unit: &self.profile.root,
-            common: &self.root,
-            own: Some(&self.own),
+        let profile = &self.profile;
+        if sub == 0 {
+            store_common(kind, value, profile, &mut self.root);
+            store_own(kind, value, profile, &mut self.own);
+        } else if sub == ALL_CALL {
+            store_each(kind, value, profile, &mut self.subs);
+        } else {
+            store_at(kind, value, profile, &mut self.subs, sub as usize - 1);
         }
+    }
+
+    /// The first device that a command is for, if there is one.
+    #[tactic(auto, unfolding(crate::specs::State::common_entries), using(crate::proofs::Places::first_of_subs, crate::proofs::Places::first_of_one))]
+    fn first_place(&self, sub: u16, verb: Verb) -> Option<Place<'_>>
+        ensures { option_map spot_of result ≡ slice_get (addressed self.now sub verb) 0 }
+    {
+        if sub == 0 {
+            return Some(Place {
+                profile: &self.profile,
+                unit: &self.profile.root,
+                common: &self.root,
+                own: Some(&self.own),
+            });
+        }
+        if is_all_call(sub, verb) {
+            return self.sub_place(0);
+        }
+        self.sub_place(sub as usize - 1)
+    }
+
+    /// The sub-device at this place, from 0, if there is one.
+    #[tactic(auto, unfolding(crate::specs::State::common_entries), using(crate::proofs::Places::at_place))]
+    fn sub_place(&self, index: usize) -> Option<Place<'_>>
+        ensures { option_map spot_of result ≡ option_map (sub_spot self.now) (slice_get self.now.subs index) }
+    {
+        match self.subs.get(index) {
+            Some(common) => Some(Place {
+                profile: &self.profile,
+                unit: &self.profile.sub,
+                common,
+                own: None,
+            }),
+            None => None,
+        }
+    }
+}
+
+/// Whether a command is a SET of every sub-device.
+fn is_all_call(sub: u16, verb: Verb) -> bool
+    ensures { result ≡ is_all_call sub verb }
+{
+    match verb {
+        Verb::Get => false,
+        Verb::Set => sub == ALL_CALL,
     }
 }

@@ -1,9 +1,10 @@
 //! The forms that the data of a command can have.
 
 ghost use Rattle.std.specs.Prelude.{◌≡◌};
-ghost use Rattle.rdm_params.specs.Forms.{nothing, byte, word, long, preset, read_as};
+ghost use Rattle.rdm_params.specs.Forms.{nothing, byte, word, long, preset, label, read_as};
 
 use crate::{Nack, Value};
+use rdm_frame::Text;
 
 /// No data.
 pub(crate) fn nothing(data: &[u8]) -> Result<Value, Nack>
@@ -55,5 +56,15 @@ pub(crate) fn preset(data: &[u8]) -> Result<Value, Nack>
             level: *level,
         }),
         _ => Err(Nack::FormatError),
+    }
+}
+
+/// A text of at most 32 bytes.
+pub(crate) fn label(data: &[u8]) -> Result<Value, Nack>
+    ensures { result ≡ read_as label data.now }
+{
+    match Text::from_slice(data) {
+        Some(text) => Ok(Value::Label(text)),
+        None => Err(Nack::FormatError),
     }
 }

@@ -7,12 +7,48 @@ ghost use Rattle.rdm_params.specs.Table.{row_of};
 /// A parameter of the table, in the order of the PIDs.
 #[derive(Clone, Copy, Debug, PartialEq, Eq)]
 pub enum Kind {
-    /// LANGUAGE (E1.20 section 10.5.8).
+    /// STATUS_ID_DESCRIPTION (E1.20 section 10.3.3).
+    StatusIdDescription,
+    /// SUPPORTED_PARAMETERS (section 10.4.1).
+    SupportedParameters,
+    /// DEVICE_INFO (section 10.5.1).
+    DeviceInfo,
+    /// DEVICE_MODEL_DESCRIPTION (section 10.5.3).
+    DeviceModelDescription,
+    /// MANUFACTURER_LABEL (section 10.5.4).
+    ManufacturerLabel,
+    /// DEVICE_LABEL (section 10.5.5).
+    DeviceLabel,
+    /// FACTORY_DEFAULTS (section 10.5.6).
+    FactoryDefaults,
+    /// LANGUAGE_CAPABILITIES (section 10.5.7).
+    LanguageCapabilities,
+    /// LANGUAGE (section 10.5.8).
     Language,
+    /// SOFTWARE_VERSION_LABEL (section 10.5.9).
+    SoftwareVersionLabel,
     /// BOOT_SOFTWARE_VERSION_ID (section 10.5.10).
     BootSoftwareVersionId,
+    /// BOOT_SOFTWARE_VERSION_LABEL (section 10.5.11).
+    BootSoftwareVersionLabel,
+    /// DMX_PERSONALITY (section 10.6.1).
+    DmxPersonality,
+    /// DMX_PERSONALITY_DESCRIPTION (section 10.6.2).
+    DmxPersonalityDescription,
     /// DMX_START_ADDRESS (section 10.6.3).
     DmxStartAddress,
+    /// SLOT_INFO (section 10.6.4).
+    SlotInfo,
+    /// SLOT_DESCRIPTION (section 10.6.5).
+    SlotDescription,
+    /// DEFAULT_SLOT_VALUE (section 10.6.6).
+    DefaultSlotValue,
+    /// SENSOR_DEFINITION (section 10.7.1).
+    SensorDefinition,
+    /// SENSOR_VALUE (section 10.7.2).
+    SensorValue,
+    /// RECORD_SENSORS (section 10.7.3).
+    RecordSensors,
     /// DEVICE_HOURS (section 10.8.1).
     DeviceHours,
     /// LAMP_HOURS (section 10.8.2).
@@ -41,6 +77,8 @@ pub enum Kind {
     PowerState,
     /// PERFORM_SELFTEST (section 10.11).
     PerformSelfTest,
+    /// SELF_TEST_DESCRIPTION (section 10.11).
+    SelfTestDescription,
     /// PRESET_PLAYBACK (section 10.11).
     PresetPlayback,
 }
@@ -61,9 +99,27 @@ pub fn kind_of(pid: u16) -> Option<Kind>
     ensures known { IsSome result ↔ IsSome (row_of pid) }
 {
     Some(match pid {
+        0x0031 => Kind::StatusIdDescription,
+        0x0050 => Kind::SupportedParameters,
+        0x0060 => Kind::DeviceInfo,
+        0x0080 => Kind::DeviceModelDescription,
+        0x0081 => Kind::ManufacturerLabel,
+        0x0082 => Kind::DeviceLabel,
+        0x0090 => Kind::FactoryDefaults,
+        0x00A0 => Kind::LanguageCapabilities,
         0x00B0 => Kind::Language,
+        0x00C0 => Kind::SoftwareVersionLabel,
         0x00C1 => Kind::BootSoftwareVersionId,
+        0x00C2 => Kind::BootSoftwareVersionLabel,
+        0x00E0 => Kind::DmxPersonality,
+        0x00E1 => Kind::DmxPersonalityDescription,
         0x00F0 => Kind::DmxStartAddress,
+        0x0120 => Kind::SlotInfo,
+        0x0121 => Kind::SlotDescription,
+        0x0122 => Kind::DefaultSlotValue,
+        0x0200 => Kind::SensorDefinition,
+        0x0201 => Kind::SensorValue,
+        0x0202 => Kind::RecordSensors,
         0x0400 => Kind::DeviceHours,
         0x0401 => Kind::LampHours,
         0x0402 => Kind::LampStrikes,
@@ -78,6 +134,7 @@ pub fn kind_of(pid: u16) -> Option<Kind>
         0x1000 => Kind::IdentifyDevice,
         0x1010 => Kind::PowerState,
         0x1020 => Kind::PerformSelfTest,
+        0x1021 => Kind::SelfTestDescription,
         0x1031 => Kind::PresetPlayback,
         _ => return None,
     })

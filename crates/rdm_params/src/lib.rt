@@ -6,6 +6,7 @@
 #![tactic(auto)]
 
 mod blank;
+mod changes;
 mod checks;
 mod demo;
 mod devices;
@@ -13,6 +14,7 @@ mod footprint;
 mod form;
 mod kind;
 mod laws;
+mod lists;
 mod nack;
 mod place;
 mod profile;
@@ -24,6 +26,8 @@ mod replying;
 mod rights;
 mod state;
 mod storing;
+mod subs;
+mod supporting;
 mod table;
 mod value;
 mod verdict;

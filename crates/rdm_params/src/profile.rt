@@ -1,5 +1,7 @@
 //! What a device is made with: its texts, personalities, slots, sensors and tests.
 
+ghost use Rattle.std.specs.Prelude.{◌≡◌};
+
 use arrayvec::ArrayVec;
 use rdm_frame::Text;
 
@@ -46,6 +48,25 @@ pub struct SensorDef {
     pub support: u8,
     /// What the sensor is called.
     pub name: Text,
+}
+
+impl SensorDef {
+    /// The same definition again.
+    pub(crate) fn copy(&self) -> SensorDef
+        ensures { result ≡ self.now }
+    {
+        SensorDef {
+            kind: self.kind,
+            unit: self.unit,
+            prefix: self.prefix,
+            low: self.low,
+            high: self.high,
+            normal_low: self.normal_low,
+            normal_high: self.normal_high,
+            support: self.support,
+            name: self.name.copy(),
+        }
+    }
 }
 
 /// A self test that the device can perform (section 10.11).

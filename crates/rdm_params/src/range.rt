@@ -3,12 +3,12 @@
 ghost use Rattle.std.specs.Prelude.{◌≡◌, ◌==◌};
 ghost use Rattle.std.specs.List.{list_any};
 ghost use Rattle.rdm_params.specs.Forms.{byte, word, preset};
-ghost use Rattle.rdm_params.specs.Ranges.{below, a_language, a_start, a_power_state, a_self_test, a_preset};
+ghost use Rattle.rdm_params.specs.Ranges.{below, a_status, a_language, a_personality, a_start, a_slot, a_sensor, sensors, a_power_state, a_test, a_self_test, a_preset};
 ghost use Rattle.rdm_params.specs.Spot.{spot_of};
 
 use crate::footprint::footprint;
 use crate::place::Place;
-use crate::{SelfTest, Value};
+use crate::{SelfTest, StatusText, Value};
 
 /// An 8-bit number below a limit.
 pub(crate) fn below(place: &Place<'_>, value: &Value, limit: u8) -> bool
@@ -20,12 +20,39 @@ pub(crate) fn below(place: &Place<'_>, value: &Value, limit: u8) -> bool
     }
 }
 
+/// A status ID of the profile.
+pub(crate) fn a_status(place: &Place<'_>, value: &Value) -> bool
+    ensures { result ≡ a_status word (spot_of place.now) value.now }
+{
+    match value.word() {
+        Some(id) => has_status(place.profile.status_texts.as_slice(), id),
+        None => false,
+    }
+}
+
+/// Whether one of the texts has this status ID.
+fn has_status(texts: &[StatusText], id: u16) -> bool
+    ensures { result ≡ list_any (λ t. t.id == id) texts.now }
+{
+    texts.iter().any(|t| t.id == id)
+}
+
 /// A language of the profile.
 pub(crate) fn a_language(place: &Place<'_>, value: &Value) -> bool
     ensures { result ≡ a_language word (spot_of place.now) value.now }
 {
     match value.word() {
         Some(code) => place.profile.languages.as_slice().contains(&code),
+        None => false,
+    }
+}
+
+/// A personality of the device, numbered from 1.
+pub(crate) fn a_personality(place: &Place<'_>, value: &Value) -> bool
+    ensures { result ≡ a_personality byte (spot_of place.now) value.now }
+{
+    match value.byte() {
+        Some(number) => 1 <= number && number as usize <= place.unit.personalities.len(),
         None => false,
     }
 }
@@ -40,12 +67,55 @@ pub(crate) fn a_start(place: &Place<'_>, value: &Value) -> bool
     }
 }
 
+/// A slot that the current personality uses.
+pub(crate) fn a_slot(place: &Place<'_>, value: &Value) -> bool
+    ensures { result ≡ a_slot word (spot_of place.now) value.now }
+{
+    match value.word() {
+        Some(offset) => offset < footprint(place),
+        None => false,
+    }
+}
+
+/// A sensor.
+pub(crate) fn a_sensor(place: &Place<'_>, value: &Value) -> bool
+    ensures { result ≡ a_sensor byte (spot_of place.now) value.now }
+{
+    match value.byte() {
+        Some(number) => (number as usize) < place.profile.sensors.len(),
+        None => false,
+    }
+}
+
+/// A sensor or, where there is one, FF for all.
+pub(crate) fn sensors(place: &Place<'_>, value: &Value) -> bool
+    ensures { result ≡ sensors byte (spot_of place.now) value.now }
+{
+    match value.byte() {
+        Some(number) => {
+            let count = place.profile.sensors.len();
+            (number as usize) < count || (number == 0xFF && 0 < count)
+        }
+        None => false,
+    }
+}
+
 /// Off, standby, on without or with full brightness.
 pub(crate) fn a_power_state(place: &Place<'_>, value: &Value) -> bool
     ensures { result ≡ a_power_state byte (spot_of place.now) value.now }
 {
     match value.byte() {
         Some(state) => state == 0 || state == 1 || state == 2 || state == 0xFF,
+        None => false,
+    }
+}
+
+/// A test of the profile.
+pub(crate) fn a_test(place: &Place<'_>, value: &Value) -> bool
+    ensures { result ≡ a_test byte (spot_of place.now) value.now }
+{
+    match value.byte() {
+        Some(test) => has_test(place.profile.tests.as_slice(), test),
         None => false,
     }
 }

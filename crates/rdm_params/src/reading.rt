@@ -2,14 +2,14 @@
 
 ghost use Rattle.std.specs.Prelude.{◌≡◌};
 ghost use Rattle.rdm_params.specs.Kinds.{pid_of};
-ghost use Rattle.rdm_params.specs.Table.{row_of, row_in, command_in, software, dmx, usage, display, control};
+ghost use Rattle.rdm_params.specs.Table.{row_of, row_in, command_in, status, product, software, dmx, sensing, usage, display, control};
 ghost use Rattle.rdm_params.specs.Uses.{read};
 
 use crate::table::{kinds, rows};
 use crate::{Kind, Nack, Value, Verb, form};
 
 macro_rules! read_rows {
-    (($kind:ident $verb:ident $data:ident) $(($name:ident $pid:literal $at:ident $get:tt $set:tt))*) => {
+    (($kind:ident $verb:ident $data:ident) $(($name:ident $pid:tt $at:ident $get:tt $set:tt))*) => {
         match $kind {
             $(Kind::$name => match $verb {
                 Verb::Get => read_command!($get $data),
@@ -23,8 +23,7 @@ macro_rules! read_rows {
 macro_rules! read_command {
     (none $data:ident) => { Err(Nack::FormatError) };
     ((reads $source:tt) $data:ident) => { form::nothing($data) };
-    ((takes $form:ident $range:tt $field:tt) $data:ident) => { form::$form($data) };
-    ((slow $form:ident $range:tt) $data:ident) => { form::$form($data) };
+    (($command:ident $form:ident $($rest:tt)*) $data:ident) => { form::$form($data) };
 }
 
 /// The value that the data of a command says.
@@ -35,12 +34,27 @@ pub fn read_value(kind: Kind, verb: Verb, data: &[u8]) -> Result<Value, Nack>
     ensures { result ≡ read (command_in (row_of (pid_of kind)) verb) data.now }
 {
     match kind {
+        rows!(status, kinds!()) => read_status(kind, verb, data),
+        rows!(product, kinds!()) => read_product(kind, verb, data),
         rows!(software, kinds!()) => read_software(kind, verb, data),
         rows!(dmx, kinds!()) => read_dmx(kind, verb, data),
+        rows!(sensing, kinds!()) => read_sensing(kind, verb, data),
         rows!(usage, kinds!()) => read_usage(kind, verb, data),
         rows!(display, kinds!()) => read_display(kind, verb, data),
         rows!(control, kinds!()) => read_control(kind, verb, data),
     }
+}
+
+fn read_status(kind: Kind, verb: Verb, data: &[u8]) -> Result<Value, Nack>
+    ensures { result ≡ read (command_in (row_in status (pid_of kind)) verb) data.now }
+{
+    rows!(status, read_rows!(kind verb data))
+}
+
+fn read_product(kind: Kind, verb: Verb, data: &[u8]) -> Result<Value, Nack>
+    ensures { result ≡ read (command_in (row_in product (pid_of kind)) verb) data.now }
+{
+    rows!(product, read_rows!(kind verb data))
 }
 
 fn read_software(kind: Kind, verb: Verb, data: &[u8]) -> Result<Value, Nack>
@@ -53,6 +67,12 @@ fn read_dmx(kind: Kind, verb: Verb, data: &[u8]) -> Result<Value, Nack>
     ensures { result ≡ read (command_in (row_in dmx (pid_of kind)) verb) data.now }
 {
     rows!(dmx, read_rows!(kind verb data))
+}
+
+fn read_sensing(kind: Kind, verb: Verb, data: &[u8]) -> Result<Value, Nack>
+    ensures { result ≡ read (command_in (row_in sensing (pid_of kind)) verb) data.now }
+{
+    rows!(sensing, read_rows!(kind verb data))
 }
 
 fn read_usage(kind: Kind, verb: Verb, data: &[u8]) -> Result<Value, Nack>

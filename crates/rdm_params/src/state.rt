@@ -2,11 +2,14 @@
 
 ghost use Rattle.std.specs.Prelude.{◌≡◌};
 
-use crate::{Profile, Unit};
+use crate::{Profile, SensorDef, Unit};
+use arrayvec::ArrayVec;
+use rdm_frame::Text;
 
 /// What every device keeps.
 #[derive(Debug, Drop)]
 pub(crate) struct Common {
+    pub label: Text,
     /// The number of the current personality, from 1.
     pub personality: u8,
     pub start: u16,
@@ -28,6 +31,7 @@ impl Common {
         ensures { common_entries result ≡ common_at_start unit.now }
     {
         Common {
+            label: unit.label.copy(),
             personality: 1,
             start: unit.start,
             lamp_hours: 0,
@@ -38,6 +42,15 @@ impl Common {
             power_state: 0xFF,
         }
     }
+}
+
+/// What a sensor measured.
+#[derive(Clone, Copy, Debug, Default)]
+pub(crate) struct Measured {
+    pub present: i16,
+    pub lowest: i16,
+    pub highest: i16,
+    pub recorded: i16,
 }
 
 /// What the root device keeps beside it.
@@ -55,11 +68,13 @@ pub(crate) struct Own {
     pub self_test: u8,
     /// The preset and its level.
     pub preset: (u16, u8),
+    /// What each sensor measured.
+    pub sensors: ArrayVec<Measured, 8>,
 }
 
 impl Own {
-    ghost use Rattle.rdm_params.specs.Parameters.{own_at_start};
-    ghost use Rattle.rdm_params.specs.State.{own_entries};
+    ghost use Rattle.rdm_params.specs.Parameters.{own_at_start, sensors_at_start};
+    ghost use Rattle.rdm_params.specs.State.{own_entries, sensor_entries};
 
     /// What the root starts with.
     #[tactic(auto, unfolding(crate::specs::State::own_entries, crate::specs::Parameters::own_at_start))]
@@ -77,6 +92,24 @@ impl Own {
             pan_tilt_swap: 0,
             self_test: 0,
             preset: (0, 0),
+            sensors: Own::sensors_at_start(&profile.sensors),
         }
+    }
+
+    /// What each sensor starts with.
+    #[tactic(auto, using(crate::proofs::ListSteps::replicate_push, crate::proofs::Sensors::sensors_start))]
+    fn sensors_at_start(sensors: &ArrayVec<SensorDef, 8>) -> ArrayVec<Measured, 8>
+        ensures { sensor_entries 0 result.items ≡ sensors_at_start 0 sensors.now.items }
+    {
+        let mut measured = ArrayVec::new();
+        for _ in 0..sensors.len() {
+            measured.push(Measured {
+                present: 0,
+                lowest: 0,
+                highest: 0,
+                recorded: 0,
+            });
+        }
+        measured
     }
 }

@@ -3,146 +3,201 @@
 ghost use Rattle.std.specs.Prelude.{◌≡◌};
 ghost use Rattle.rdm_params.specs.declared.kind.Verb.TheVariants.{Set};
 ghost use Rattle.rdm_params.specs.Kinds.{pid_of};
-ghost use Rattle.rdm_params.specs.Map.{store_all};
+ghost use Rattle.rdm_params.specs.Map.{update};
 ghost use Rattle.rdm_params.specs.Spot.{Spot};
 ghost use Rattle.rdm_params.specs.State.{common_entries, own_entries};
-ghost use Rattle.rdm_params.specs.Table.{row_of, row_in, command_in, software, dmx, usage, display, control};
-ghost use Rattle.rdm_params.specs.Uses.{writes};
+ghost use Rattle.rdm_params.specs.Table.{row_of, row_in, command_in, status, product, software, dmx, sensing, usage, display, control};
+ghost use Rattle.rdm_params.specs.Uses.{change};
 
 use crate::state::{Common, Own};
 use crate::table::{kinds, rows};
-use crate::{Kind, Value};
+use crate::{Kind, Profile, Value, changes};
 
 macro_rules! common_rows {
-    (($kind:ident $value:ident $common:ident) $(($name:ident $pid:literal $at:ident $get:tt $set:tt))*) => {
+    (($kind:ident $value:ident $profile:ident $common:ident) $(($name:ident $pid:tt $at:ident $get:tt $set:tt))*) => {
         match $kind {
-            $(Kind::$name => write_common!($set $value $common),)*
+            $(Kind::$name => write_common!($set $value $profile $common),)*
             _ => {}
         }
     };
 }
 
 macro_rules! write_common {
-    ((takes $form:ident $range:tt (common $field:ident)) $value:ident $common:ident) => {
+    ((takes $form:ident $range:tt (common $field:ident)) $value:ident $profile:ident $common:ident) => {
         if let Some(written) = $value.$form() {
             $common.$field = written;
         }
     };
-    ($command:tt $value:ident $common:ident) => { {} };
+    ((sets $form:ident $range:tt (none $own:ident) $reply:ident) $value:ident $profile:ident $common:ident) => { {} };
+    ((sets $form:ident $range:tt ($change:ident $own:ident) $reply:ident) $value:ident $profile:ident $common:ident) => {
+        changes::$change($profile, $common)
+    };
+    ($command:tt $value:ident $profile:ident $common:ident) => { {} };
 }
 
 macro_rules! own_rows {
-    (($kind:ident $value:ident $own:ident) $(($name:ident $pid:literal $at:ident $get:tt $set:tt))*) => {
+    (($kind:ident $value:ident $profile:ident $own:ident) $(($name:ident $pid:tt $at:ident $get:tt $set:tt))*) => {
         match $kind {
-            $(Kind::$name => write_own!($set $value $own),)*
+            $(Kind::$name => write_own!($set $value $profile $own),)*
             _ => {}
         }
     };
 }
 
 macro_rules! write_own {
-    ((takes $form:ident $range:tt (own $field:ident)) $value:ident $own:ident) => {
+    ((takes $form:ident $range:tt (own $field:ident)) $value:ident $profile:ident $own:ident) => {
         if let Some(written) = $value.$form() {
             $own.$field = written;
         }
     };
-    ($command:tt $value:ident $own:ident) => { {} };
+    ((sets $form:ident $range:tt ($common:ident $change:ident) $reply:ident) $value:ident $profile:ident $own:ident) => {
+        changes::$change($profile, $value, $own)
+    };
+    ($command:tt $value:ident $profile:ident $own:ident) => { {} };
 }
 
 /// Writes what a SET writes of the values that every device keeps.
 #[tactic(auto, unfolding(crate::specs::Table::row_of, crate::specs::Table::table))]
-pub(crate) fn store_common(kind: Kind, value: &Value, common: &mut Common)
-    ensures { (spot : Spot) → common_entries common.new ≡ store_all (writes (command_in (row_of (pid_of kind)) Set) spot value.now) (common_entries common.old) }
+pub(crate) fn store_common(kind: Kind, value: &Value, profile: &Profile, common: &mut Common)
+    ensures { (spot : Spot) → spot.profile ≡ profile.now → common_entries common.new ≡ update (change (command_in (row_of (pid_of kind)) Set) spot value.now) (common_entries common.old) }
 {
     match kind {
-        rows!(software, kinds!()) => software_common(kind, value, common),
-        rows!(dmx, kinds!()) => dmx_common(kind, value, common),
-        rows!(usage, kinds!()) => usage_common(kind, value, common),
-        rows!(display, kinds!()) => display_common(kind, value, common),
-        rows!(control, kinds!()) => control_common(kind, value, common),
+        rows!(status, kinds!()) => status_common(kind, value, profile, common),
+        rows!(product, kinds!()) => product_common(kind, value, profile, common),
+        rows!(software, kinds!()) => software_common(kind, value, profile, common),
+        rows!(dmx, kinds!()) => dmx_common(kind, value, profile, common),
+        rows!(sensing, kinds!()) => sensing_common(kind, value, profile, common),
+        rows!(usage, kinds!()) => usage_common(kind, value, profile, common),
+        rows!(display, kinds!()) => display_common(kind, value, profile, common),
+        rows!(control, kinds!()) => control_common(kind, value, profile, common),
     }
 }
 
 #[tactic(auto, unfolding(crate::specs::State::common_entries))]
-fn software_common(kind: Kind, value: &Value, common: &mut Common)
-    ensures { (spot : Spot) → common_entries common.new ≡ store_all (writes (command_in (row_in software (pid_of kind)) Set) spot value.now) (common_entries common.old) }
+fn status_common(kind: Kind, value: &Value, profile: &Profile, common: &mut Common)
+    ensures { (spot : Spot) → spot.profile ≡ profile.now → common_entries common.new ≡ update (change (command_in (row_in status (pid_of kind)) Set) spot value.now) (common_entries common.old) }
 {
-    rows!(software, common_rows!(kind value common))
+    rows!(status, common_rows!(kind value profile common))
 }
 
 #[tactic(auto, unfolding(crate::specs::State::common_entries))]
-fn dmx_common(kind: Kind, value: &Value, common: &mut Common)
-    ensures { (spot : Spot) → common_entries common.new ≡ store_all (writes (command_in (row_in dmx (pid_of kind)) Set) spot value.now) (common_entries common.old) }
+fn product_common(kind: Kind, value: &Value, profile: &Profile, common: &mut Common)
+    ensures { (spot : Spot) → spot.profile ≡ profile.now → common_entries common.new ≡ update (change (command_in (row_in product (pid_of kind)) Set) spot value.now) (common_entries common.old) }
 {
-    rows!(dmx, common_rows!(kind value common))
+    rows!(product, common_rows!(kind value profile common))
 }
 
 #[tactic(auto, unfolding(crate::specs::State::common_entries))]
-fn usage_common(kind: Kind, value: &Value, common: &mut Common)
-    ensures { (spot : Spot) → common_entries common.new ≡ store_all (writes (command_in (row_in usage (pid_of kind)) Set) spot value.now) (common_entries common.old) }
+fn software_common(kind: Kind, value: &Value, profile: &Profile, common: &mut Common)
+    ensures { (spot : Spot) → spot.profile ≡ profile.now → common_entries common.new ≡ update (change (command_in (row_in software (pid_of kind)) Set) spot value.now) (common_entries common.old) }
 {
-    rows!(usage, common_rows!(kind value common))
+    rows!(software, common_rows!(kind value profile common))
 }
 
 #[tactic(auto, unfolding(crate::specs::State::common_entries))]
-fn display_common(kind: Kind, value: &Value, common: &mut Common)
-    ensures { (spot : Spot) → common_entries common.new ≡ store_all (writes (command_in (row_in display (pid_of kind)) Set) spot value.now) (common_entries common.old) }
+fn dmx_common(kind: Kind, value: &Value, profile: &Profile, common: &mut Common)
+    ensures { (spot : Spot) → spot.profile ≡ profile.now → common_entries common.new ≡ update (change (command_in (row_in dmx (pid_of kind)) Set) spot value.now) (common_entries common.old) }
 {
-    rows!(display, common_rows!(kind value common))
+    rows!(dmx, common_rows!(kind value profile common))
 }
 
 #[tactic(auto, unfolding(crate::specs::State::common_entries))]
-fn control_common(kind: Kind, value: &Value, common: &mut Common)
-    ensures { (spot : Spot) → common_entries common.new ≡ store_all (writes (command_in (row_in control (pid_of kind)) Set) spot value.now) (common_entries common.old) }
+fn sensing_common(kind: Kind, value: &Value, profile: &Profile, common: &mut Common)
+    ensures { (spot : Spot) → spot.profile ≡ profile.now → common_entries common.new ≡ update (change (command_in (row_in sensing (pid_of kind)) Set) spot value.now) (common_entries common.old) }
 {
-    rows!(control, common_rows!(kind value common))
+    rows!(sensing, common_rows!(kind value profile common))
+}
+
+#[tactic(auto, unfolding(crate::specs::State::common_entries))]
+fn usage_common(kind: Kind, value: &Value, profile: &Profile, common: &mut Common)
+    ensures { (spot : Spot) → spot.profile ≡ profile.now → common_entries common.new ≡ update (change (command_in (row_in usage (pid_of kind)) Set) spot value.now) (common_entries common.old) }
+{
+    rows!(usage, common_rows!(kind value profile common))
+}
+
+#[tactic(auto, unfolding(crate::specs::State::common_entries))]
+fn display_common(kind: Kind, value: &Value, profile: &Profile, common: &mut Common)
+    ensures { (spot : Spot) → spot.profile ≡ profile.now → common_entries common.new ≡ update (change (command_in (row_in display (pid_of kind)) Set) spot value.now) (common_entries common.old) }
+{
+    rows!(display, common_rows!(kind value profile common))
+}
+
+#[tactic(auto, unfolding(crate::specs::State::common_entries))]
+fn control_common(kind: Kind, value: &Value, profile: &Profile, common: &mut Common)
+    ensures { (spot : Spot) → spot.profile ≡ profile.now → common_entries common.new ≡ update (change (command_in (row_in control (pid_of kind)) Set) spot value.now) (common_entries common.old) }
+{
+    rows!(control, common_rows!(kind value profile common))
 }
 
 /// Writes what a SET writes of the values that the root alone keeps.
 #[tactic(auto, unfolding(crate::specs::Table::row_of, crate::specs::Table::table))]
-pub(crate) fn store_own(kind: Kind, value: &Value, own: &mut Own)
-    ensures { (spot : Spot) → own_entries own.new ≡ store_all (writes (command_in (row_of (pid_of kind)) Set) spot value.now) (own_entries own.old) }
+pub(crate) fn store_own(kind: Kind, value: &Value, profile: &Profile, own: &mut Own)
+    ensures { (spot : Spot) → spot.profile ≡ profile.now → own_entries own.new ≡ update (change (command_in (row_of (pid_of kind)) Set) spot value.now) (own_entries own.old) }
 {
     match kind {
-        rows!(software, kinds!()) => software_own(kind, value, own),
-        rows!(dmx, kinds!()) => dmx_own(kind, value, own),
-        rows!(usage, kinds!()) => usage_own(kind, value, own),
-        rows!(display, kinds!()) => display_own(kind, value, own),
-        rows!(control, kinds!()) => control_own(kind, value, own),
+        rows!(status, kinds!()) => status_own(kind, value, profile, own),
+        rows!(product, kinds!()) => product_own(kind, value, profile, own),
+        rows!(software, kinds!()) => software_own(kind, value, profile, own),
+        rows!(dmx, kinds!()) => dmx_own(kind, value, profile, own),
+        rows!(sensing, kinds!()) => sensing_own(kind, value, profile, own),
+        rows!(usage, kinds!()) => usage_own(kind, value, profile, own),
+        rows!(display, kinds!()) => display_own(kind, value, profile, own),
+        rows!(control, kinds!()) => control_own(kind, value, profile, own),
     }
 }
 
-#[tactic(auto, unfolding(crate::specs::State::own_entries))]
-fn software_own(kind: Kind, value: &Value, own: &mut Own)
-    ensures { (spot : Spot) → own_entries own.new ≡ store_all (writes (command_in (row_in software (pid_of kind)) Set) spot value.now) (own_entries own.old) }
+#[tactic(auto, unfolding(crate::specs::State::own_entries), using(crate::proofs::Sensors::sensors_stay))]
+fn status_own(kind: Kind, value: &Value, profile: &Profile, own: &mut Own)
+    ensures { (spot : Spot) → spot.profile ≡ profile.now → own_entries own.new ≡ update (change (command_in (row_in status (pid_of kind)) Set) spot value.now) (own_entries own.old) }
 {
-    rows!(software, own_rows!(kind value own))
+    rows!(status, own_rows!(kind value profile own))
 }
 
-#[tactic(auto, unfolding(crate::specs::State::own_entries))]
-fn dmx_own(kind: Kind, value: &Value, own: &mut Own)
-    ensures { (spot : Spot) → own_entries own.new ≡ store_all (writes (command_in (row_in dmx (pid_of kind)) Set) spot value.now) (own_entries own.old) }
+#[tactic(auto, unfolding(crate::specs::State::own_entries), using(crate::proofs::Sensors::sensors_stay))]
+fn product_own(kind: Kind, value: &Value, profile: &Profile, own: &mut Own)
+    ensures { (spot : Spot) → spot.profile ≡ profile.now → own_entries own.new ≡ update (change (command_in (row_in product (pid_of kind)) Set) spot value.now) (own_entries own.old) }
 {
-    rows!(dmx, own_rows!(kind value own))
+    rows!(product, own_rows!(kind value profile own))
 }
 
-#[tactic(auto, unfolding(crate::specs::State::own_entries))]
-fn usage_own(kind: Kind, value: &Value, own: &mut Own)
-    ensures { (spot : Spot) → own_entries own.new ≡ store_all (writes (command_in (row_in usage (pid_of kind)) Set) spot value.now) (own_entries own.old) }
+#[tactic(auto, unfolding(crate::specs::State::own_entries), using(crate::proofs::Sensors::sensors_stay))]
+fn software_own(kind: Kind, value: &Value, profile: &Profile, own: &mut Own)
+    ensures { (spot : Spot) → spot.profile ≡ profile.now → own_entries own.new ≡ update (change (command_in (row_in software (pid_of kind)) Set) spot value.now) (own_entries own.old) }
 {
-    rows!(usage, own_rows!(kind value own))
+    rows!(software, own_rows!(kind value profile own))
 }
 
-#[tactic(auto, unfolding(crate::specs::State::own_entries))]
-fn display_own(kind: Kind, value: &Value, own: &mut Own)
-    ensures { (spot : Spot) → own_entries own.new ≡ store_all (writes (command_in (row_in display (pid_of kind)) Set) spot value.now) (own_entries own.old) }
+#[tactic(auto, unfolding(crate::specs::State::own_entries), using(crate::proofs::Sensors::sensors_stay))]
+fn dmx_own(kind: Kind, value: &Value, profile: &Profile, own: &mut Own)
+    ensures { (spot : Spot) → spot.profile ≡ profile.now → own_entries own.new ≡ update (change (command_in (row_in dmx (pid_of kind)) Set) spot value.now) (own_entries own.old) }
 {
-    rows!(display, own_rows!(kind value own))
+    rows!(dmx, own_rows!(kind value profile own))
 }
 
-#[tactic(auto, unfolding(crate::specs::State::own_entries))]
-fn control_own(kind: Kind, value: &Value, own: &mut Own)
-    ensures { (spot : Spot) → own_entries own.new ≡ store_all (writes (command_in (row_in control (pid_of kind)) Set) spot value.now) (own_entries own.old) }
+#[tactic(auto, unfolding(crate::specs::State::own_entries), using(crate::proofs::Sensors::sensors_stay))]
+fn sensing_own(kind: Kind, value: &Value, profile: &Profile, own: &mut Own)
+    ensures { (spot : Spot) → spot.profile ≡ profile.now → own_entries own.new ≡ update (change (command_in (row_in sensing (pid_of kind)) Set) spot value.now) (own_entries own.old) }
 {
-    rows!(control, own_rows!(kind value own))
+    rows!(sensing, own_rows!(kind value profile own))
+}
+
+#[tactic(auto, unfolding(crate::specs::State::own_entries), using(crate::proofs::Sensors::sensors_stay))]
+fn usage_own(kind: Kind, value: &Value, profile: &Profile, own: &mut Own)
+    ensures { (spot : Spot) → spot.profile ≡ profile.now → own_entries own.new ≡ update (change (command_in (row_in usage (pid_of kind)) Set) spot value.now) (own_entries own.old) }
+{
+    rows!(usage, own_rows!(kind value profile own))
+}
+
+#[tactic(auto, unfolding(crate::specs::State::own_entries), using(crate::proofs::Sensors::sensors_stay))]
+fn display_own(kind: Kind, value: &Value, profile: &Profile, own: &mut Own)
+    ensures { (spot : Spot) → spot.profile ≡ profile.now → own_entries own.new ≡ update (change (command_in (row_in display (pid_of kind)) Set) spot value.now) (own_entries own.old) }
+{
+    rows!(display, own_rows!(kind value profile own))
+}
+
+#[tactic(auto, unfolding(crate::specs::State::own_entries), using(crate::proofs::Sensors::sensors_stay))]
+fn control_own(kind: Kind, value: &Value, profile: &Profile, own: &mut Own)
+    ensures { (spot : Spot) → spot.profile ≡ profile.now → own_entries own.new ≡ update (change (command_in (row_in control (pid_of kind)) Set) spot value.now) (own_entries own.old) }
+{
+    rows!(control, own_rows!(kind value profile own))
 }

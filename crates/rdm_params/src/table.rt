@@ -1,23 +1,56 @@
 //! The table of parameters, one line a row, in the order of the PIDs.
 //!
-//! A row names its `Kind`, its PID, where it is (`both`: the root and every sub-device; `root`: the root alone),
-//! its GET and its SET. `rows!(group, use! (arguments))` hands the rows of a group to the macro of one use.
+//! A row names its `Kind`, its PID, where it is (`both`: the root and every sub-device; `root`: the root alone), its
+//! GET and its SET. `rows!(group, use! (arguments))` hands the rows of a group to the macro of one use.
 //!
-//! - GET: `none`, or `(reads SOURCE)`. A source is a field of a device, of the root's own values or of the
-//!   profile, with the form of the value, or `computed` by a function of that name.
-//! - SET: `none`, `(takes FORM (RANGE) FIELD)`, which writes that field, or `(slow FORM (RANGE))`, which starts a
-//!   job.
+//! - GET: `none`; `(reads SOURCE)`; `(asks FORM (RANGE) REPLY)`, which hands in data; `(slow FORM (RANGE))`, which
+//!   starts a job. A source is a field of the device's values, of its unit, of the root's own values or of the
+//!   profile, with the form of the value, or `computed` by a function of `replies`.
+//! - SET: `none`; `(takes FORM (RANGE) FIELD)`, which writes that field; `(sets FORM (RANGE) (COMMON OWN) REPLY)`,
+//!   which changes a device by these functions of `changes`; `(slow FORM (RANGE))`.
+//!
+//! The last two groups are the forms of values, with their fields.
 
 macro_rules! rows {
+    (status, $use:ident! $args:tt) => {
+        $use! { $args
+            (StatusIdDescription 0x0031 root (asks word (a_status) status_text) none)
+        }
+    };
+    (product, $use:ident! $args:tt) => {
+        $use! { $args
+            (SupportedParameters 0x0050 both (reads (computed supported)) none)
+            (DeviceInfo 0x0060 both (reads (computed device_info)) none)
+            (DeviceModelDescription 0x0080 both (reads (unit text model_text)) none)
+            (ManufacturerLabel 0x0081 both (reads (unit text maker_text)) none)
+            (DeviceLabel 0x0082 both (reads (common text label)) (takes label (any) (common label)))
+            (FactoryDefaults 0x0090 root (reads (computed at_factory_defaults)) (sets nothing (any) (common_set_back own_set_back) none))
+        }
+    };
     (software, $use:ident! $args:tt) => {
         $use! { $args
+            (LanguageCapabilities 0x00A0 root (reads (computed languages)) none)
             (Language 0x00B0 root (reads (own word language)) (takes word (a_language) (own language)))
+            (SoftwareVersionLabel 0x00C0 both (reads (unit text software_text)) none)
             (BootSoftwareVersionId 0x00C1 root (reads (profile long boot)) none)
+            (BootSoftwareVersionLabel 0x00C2 root (reads (profile text boot_text)) none)
         }
     };
     (dmx, $use:ident! $args:tt) => {
         $use! { $args
+            (DmxPersonality 0x00E0 both (reads (computed personality_of_all)) (takes byte (a_personality) (common personality)))
+            (DmxPersonalityDescription 0x00E1 both (asks byte (a_personality) personality_described) none)
             (DmxStartAddress 0x00F0 both (reads (computed start_address)) (takes word (a_start) (common start)))
+            (SlotInfo 0x0120 root (reads (computed slot_infos)) none)
+            (SlotDescription 0x0121 root (asks word (a_slot) slot_described) none)
+            (DefaultSlotValue 0x0122 root (reads (computed slot_defaults)) none)
+        }
+    };
+    (sensing, $use:ident! $args:tt) => {
+        $use! { $args
+            (SensorDefinition 0x0200 root (asks byte (a_sensor) sensor_described) none)
+            (SensorValue 0x0201 root (slow byte (a_sensor)) (sets byte (sensors) (none sensors_reset) sensor_measured))
+            (RecordSensors 0x0202 root none (sets byte (sensors) (none sensors_recorded) none))
         }
     };
     (usage, $use:ident! $args:tt) => {
@@ -44,6 +77,7 @@ macro_rules! rows {
             (IdentifyDevice 0x1000 both (reads (common byte identify)) (takes byte (below 2) (common identify)))
             (PowerState 0x1010 both (reads (common byte power_state)) (slow byte (a_power_state)))
             (PerformSelfTest 0x1020 root (reads (computed self_test_runs)) (slow byte (a_self_test)))
+            (SelfTestDescription 0x1021 root (asks byte (a_test) self_test_described) none)
             (PresetPlayback 0x1031 root (reads (own preset preset)) (takes preset (a_preset) (own preset)))
         }
     };
@@ -72,7 +106,7 @@ macro_rules! rows {
 }
 
 macro_rules! kinds {
-    (() $(($kind:ident $pid:literal $at:ident $get:tt $set:tt))*) => { $(Kind::$kind)|* };
+    (() $(($kind:ident $pid:tt $at:ident $get:tt $set:tt))*) => { $(Kind::$kind)|* };
 }
 
 pub(crate) use kinds;

@@ -2,7 +2,7 @@
 
 ghost use Rattle.std.specs.Prelude.{◌≡◌};
 ghost use Rattle.rdm_params.specs.Forms.{nothing, has_form};
-ghost use Rattle.rdm_params.specs.Values.{bytes_of, byte_in, word_in, long_in, preset_in};
+ghost use Rattle.rdm_params.specs.Values.{bytes_of, byte_in, word_in, long_in, preset_in, label_in};
 
 use crate::SensorDef;
 use rdm_frame::{Body, Text};
@@ -143,6 +143,16 @@ impl Value {
     {
         match self {
             Value::Preset { mode, level } => Some((*mode, *level)),
+            _ => None,
+        }
+    }
+
+    /// The text, if the value is one.
+    pub(crate) fn label(&self) -> Option<Text>
+        ensures { result ≡ label_in self.now }
+    {
+        match self {
+            Value::Label(text) => Some(text.copy()),
             _ => None,
         }
     }

@@ -37,9 +37,7 @@ macro_rules! write_field {
 }
 
 macro_rules! forms {
-    (() $(($name:ident $(($($part:ident $form:ident),*))? $({$($field:ident $shape:ident),*})?))*) => {
-        $(Value::$name $(($($part),*))? $({$($field),*})?)|*
-    };
+    (() $(($name:ident $($fields:tt)?))*) => { $(Value::$name { .. })|* };
 }
 
 /// The bytes that stand for a value: its fields in their order, numbers most significant byte first.
@@ -47,14 +45,8 @@ pub fn write_value(value: &Value) -> Body
     ensures { result ≡ bytes_of value.now }
 {
     match value {
-        Value::Preset { .. }
-        | Value::Named { .. }
-        | Value::SlotName { .. }
-        | Value::Mode { .. }
-        | Value::Reading { .. }
-        | Value::Sensor { .. }
-        | Value::Info { .. } => write_fields(value),
-        _ => write_plain(value),
+        rows!(plain, forms!()) => write_plain(value),
+        rows!(fields, forms!()) => write_fields(value),
     }
 }
 
