@@ -1,3 +1,4 @@
 pub mod FrameText
 pub mod Reading
 pub mod UidNumber
+pub mod Discovery

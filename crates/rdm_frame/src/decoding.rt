@@ -109,8 +109,8 @@ fn word_at(bytes: &[u8], slot: usize) -> u16
     u16::from_be_bytes([bytes[slot], bytes[slot + 1]])
 }
 
-/// The UID at a slot.
-fn uid_at(bytes: &[u8], slot: usize) -> Uid
+/// The UID at a slot, of which it takes six (E1.20 sections 6.2.4 and 6.2.5).
+pub fn uid_at(bytes: &[u8], slot: usize) -> Uid
     requires { slot + 6 ≤ length bytes.now }
     ensures { result ≡ uid_at bytes.now slot }
 {

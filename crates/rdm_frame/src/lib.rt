@@ -6,6 +6,7 @@
 
 mod bytes;
 mod decoding;
+mod discovery;
 mod encoding;
 mod frame;
 mod laws;
@@ -14,8 +15,12 @@ mod tests;
 mod uid;
 
 pub use bytes::{Body, Bytes, Load, Text, Wire};
-pub use decoding::{FrameError, decode};
+pub use decoding::{FrameError, decode, uid_at};
+pub use discovery::disc_reply;
 pub use encoding::encode;
 pub use frame::Frame;
-pub use laws::{text_belongs_to_one_frame, text_has_its_slots, uids_are_ordered_by_number};
+pub use laws::{
+    branch_reply_belongs_to_one_uid, coded_byte_is_read_back, text_belongs_to_one_frame,
+    text_has_its_slots, uids_are_ordered_by_number,
+};
 pub use uid::Uid;

@@ -14,6 +14,8 @@ pub struct Uid {
 }
 
 impl Uid {
+    ghost use Rattle.rdm_frame.specs.UidNumber.{uid_number};
+
     /// The device ID that addresses every device.
     pub const EVERY_DEVICE: u32 = 0xFFFF_FFFF;
 
@@ -22,5 +24,12 @@ impl Uid {
         ensures { IsTrue result ↔ (self.now.device ≡ 0xFFFF_FFFF) }
     {
         self.device == Uid::EVERY_DEVICE
+    }
+
+    /// The UID as a 48-bit number, by which UIDs are ordered.
+    pub fn number(&self) -> u64
+        ensures { result ≡ uid_number self.now }
+    {
+        u64::from(self.maker) * (1 << 32) + u64::from(self.device)
     }
 }
