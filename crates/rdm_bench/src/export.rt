@@ -12,6 +12,7 @@ use crate::Tally;
 use crate::packed::unpack;
 use crate::replay::replay;
 use rdm_frame::Uid;
+use rdm_params::Profile;
 use rdm_responder::{NewError, Responder};
 use std::alloc::Global;
 
@@ -28,7 +29,7 @@ const QUEUE_SIZE: u16 = 8;
 /// the bytes of all replies come to.
 ///
 /// The frames stand one after another, each behind its length in two bytes, the most significant first. It is false,
-/// and `tally` stays as it was, where memory is refused.
+/// and `tally` stays as it was, where memory is refused or there are more than 512 sub-devices.
 #[unsafe(no_mangle)]
 pub extern "C" fn rdm_bench_run(
     alloc: Global,
@@ -61,8 +62,8 @@ fn run(alloc: Global, subs: u16, bytes: &[u8], rounds: u32) -> Option<Tally>
 }
 
 /// The responder that hears the frames.
-fn responder_with(alloc: Global, _subs: u16) -> Result<Responder, NewError>
-    ensures { IfOk result (λ responder. StandsFor responder (empty_history (bench_setup _subs))) }
+fn responder_with(alloc: Global, subs: u16) -> Result<Responder, NewError>
+    ensures { IfOk result (λ responder. StandsFor responder (empty_history (bench_setup subs))) }
 {
-    Responder::new(alloc, DEVICE, QUEUE_SIZE)
+    Responder::new(alloc, DEVICE, Profile::demo(subs), QUEUE_SIZE)
 }

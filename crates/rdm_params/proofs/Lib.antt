@@ -7,3 +7,4 @@ pub mod Sensors
 pub mod SubSteps
 pub mod Supported
 pub mod Words
+pub mod DemoLemmas

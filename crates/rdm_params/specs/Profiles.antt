@@ -20,3 +20,7 @@ pub record IsGoodProfile (p : Profile) : Type 0 where
   pub tests_differ : AllPairs (λ s t. s.number ≢ t.number) p.tests.items
   pub statuses_differ : AllPairs (λ s t. s.id ≢ t.id) p.status_texts.items
   pub presets : p.presets < 65535
+
+-- It is good, and has no more sub-devices than there can be.
+abbrev pub CanBeMade : Profile → Type 0
+CanBeMade p = (p.subs ≤ 512) × IsGoodProfile p

@@ -1,6 +1,7 @@
 //! The profile of a demonstration device.
 
 ghost use Rattle.std.specs.Prelude.{◌≡◌, ◌≤◌, length};
+ghost use Rattle.rdm_params.specs.Profiles.{CanBeMade};
 ghost use Rattle.rdm_params.specs.Demo.{demo, demo_root, demo_sub, demo_sensor, demo_slots, demo_sensors, demo_tests, demo_statuses};
 
 use crate::{Personality, Profile, SelfTest, SensorDef, Slot, StatusText, Unit};
@@ -9,26 +10,33 @@ use rdm_frame::Text;
 
 impl Profile {
     /// A moving head with two personalities and two sensors, and cells as its sub-devices.
-    #[tactic(auto, unfolding(crate::specs::Demo::demo))]
     pub fn demo(subs: u16) -> Profile
-        ensures { result ≡ demo subs }
+        ensures profile { result ≡ demo subs }
+        ensures made { subs ≤ 512 → CanBeMade result }
     {
-        let mut languages = ArrayVec::new();
-        languages.push(u16::from_be_bytes(*b"en"));
-        languages.push(u16::from_be_bytes(*b"de"));
-        Profile {
-            root: root(),
-            sub: sub(),
-            subs,
-            boot: 1,
-            boot_text: text(b"Boot 1.0"),
-            languages,
-            slots: slots(),
-            sensors: sensors(),
-            tests: tests(),
-            status_texts: status_texts(),
-            presets: 4,
-        }
+        moving_head(subs)
+    }
+}
+
+#[tactic(auto, unfolding(crate::specs::Demo::demo))]
+fn moving_head(subs: u16) -> Profile
+    ensures { result ≡ demo subs }
+{
+    let mut languages = ArrayVec::new();
+    languages.push(u16::from_be_bytes(*b"en"));
+    languages.push(u16::from_be_bytes(*b"de"));
+    Profile {
+        root: root(),
+        sub: sub(),
+        subs,
+        boot: 1,
+        boot_text: text(b"Boot 1.0"),
+        languages,
+        slots: slots(),
+        sensors: sensors(),
+        tests: tests(),
+        status_texts: status_texts(),
+        presets: 4,
     }
 }
 

@@ -1,6 +1,6 @@
 //! A root device with its sub-devices, and the commands to them.
 
-ghost use Rattle.std.specs.Prelude.{◌≡◌, ◌↔◌, ◌≤◌, ◌<◌, IfOk, IfErr, slice_get};
+ghost use Rattle.std.specs.Prelude.{length, ◌≡◌, ◌↔◌, ◌≤◌, ◌<◌, IfOk, IfErr, slice_get};
 ghost use Rattle.std.specs.List.{list_all};
 ghost use Rattle.std.specs.Option.{option_map};
 ghost use Rattle.rdm_params.specs.declared.kind.Verb.TheVariants.{Set};
@@ -94,6 +94,13 @@ impl Devices {
             own,
             subs,
         })
+    }
+
+    /// How many sub-devices there are (E1.20 section 9).
+    pub fn sub_devices(&self) -> usize
+        ensures { result ≡ length self.now.subs }
+    {
+        self.subs.len()
     }
 
     /// What a GET answers: the value, the job that it starts, or the first reason to refuse it.

@@ -1,10 +1,12 @@
 -- What happens to a responder, from the moment that it is switched on.
 use Rattle.std.specs.Prelude.{ℕ, List, [], ◌∷◌, ◌++◌}
 use Rattle.rdm_frame.specs.declared.uid.Uid.{Uid}
+use Rattle.rdm_params.specs.declared.profile.Profile.{Profile}
 
--- What a responder is set up with: its UID, and how many results of slow commands it has room for.
+-- What a responder is set up with: its UID, what it is, and how many results of slow commands it has room for.
 pub record Setup : Type 0 where
   pub uid : Uid
+  pub profile : Profile
   pub queue_size : ℕ
 
 -- Something that happens: bytes are heard on the bus.

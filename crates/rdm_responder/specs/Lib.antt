@@ -1,4 +1,3 @@
-pub mod Table
 pub mod History
 pub mod Rules
 pub mod StandsFor

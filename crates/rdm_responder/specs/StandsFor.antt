@@ -1,22 +1,28 @@
 -- When a responder's state is what a history comes to.
-use Rattle.std.specs.Prelude.{◌≡◌, ℕ}
+use Rattle.std.specs.Prelude.{◌≡◌, ℕ, ◌≤◌, Bool}
 use Rattle.rdm_frame.specs.declared.uid.Uid.{Uid}
-use Rattle.rdm_responder.specs.Table.{Parameters}
+use Rattle.rdm_params.specs.Parameters.{Parameters}
 use Rattle.rdm_responder.specs.History.{History}
-use Rattle.rdm_responder.specs.Rules.{Account, account_of}
+use Rattle.rdm_responder.specs.Rules.{Account, account_of, is_muted}
 
 -- What a contract sees of a responder.
 pub record State : Type 0 where
   pub uid : Uid
   pub queue_size : ℕ
   pub parameters : Parameters
+  pub muted : Bool
 
--- The state has the setup and the values of the account.
+-- The state has the setup and the values of the account, and is muted where its last muting is a mute.
 pub record Shows (state : State) (account : Account) : Type 0 where
   pub uid : state.uid ≡ account.setup.uid
   pub queue_size : state.queue_size ≡ account.setup.queue_size
   pub parameters : state.parameters ≡ account.parameters
+  pub muted : state.muted ≡ is_muted account.mutings
 
 -- The responder is in the state that this history leads to.
 abbrev pub StandsFor : State → History → Type 0
 StandsFor state h = Shows state (account_of h)
+
+-- how many results of slow commands there may be room for
+abbrev pub IsQueueSize : ℕ → Type 0
+IsQueueSize n = (1 ≤ n) × (n ≤ 255)

@@ -4,13 +4,11 @@
 //! `specs/Rules.antt`, and what a responder has to do with a history in `specs/StandsFor.antt`.
 #![tactic(auto)]
 
-mod device;
 mod reply;
 mod responder;
 mod run;
-#[cfg(test)]
-mod tests;
-mod verdict;
 
 pub use responder::{NewError, Responder};
-pub use verdict::{Nack, Verdict};
+
+#[cfg(test)]
+mod tests;

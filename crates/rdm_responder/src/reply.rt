@@ -1,10 +1,12 @@
 //! The response to a request.
 
 ghost use Rattle.std.specs.Prelude.{◌≡◌, ◌<◌, ◌+◌};
-ghost use Rattle.rdm_responder.specs.Rules.{response_to, response_data, response_type};
+ghost use Rattle.std.specs.Int.{w16, to_be_bytes};
+ghost use Rattle.rdm_params.specs.Nacks.{nack_code};
+ghost use Rattle.rdm_responder.specs.Rules.{answer_with, response_to, response_data, response_type};
 
-use crate::Verdict;
-use rdm_frame::{Body, Frame, Uid};
+use rdm_frame::{Body, Frame, Uid, Wire, encode};
+use rdm_params::{Nack, Verdict};
 
 /// The response type ACK (E1.20 section 6.3.1).
 const ACK: u8 = 0;
@@ -12,8 +14,20 @@ const ACK: u8 = 0;
 /// The response type NACK_REASON (E1.20 section 6.3.4).
 const NACK_REASON: u8 = 2;
 
+/// The bytes of the response to a request, unless it was for more than one device: that is never answered.
+#[tactic(auto, unfolding(crate::specs::Rules::answer_with))]
+pub(crate) fn answer_with(own: Uid, request: &Frame, verdict: Verdict) -> Option<Wire>
+    requires { request.now.class < 255 }
+    ensures { result ≡ answer_with own request.now verdict }
+{
+    if request.dst.is_broadcast() {
+        return None;
+    }
+    Some(encode(&response_to(own, request, verdict)))
+}
+
 /// The response to a request, from the device with this UID.
-pub(crate) fn response_to(own: Uid, request: &Frame, verdict: Verdict) -> Frame
+fn response_to(own: Uid, request: &Frame, verdict: Verdict) -> Frame
     requires { request.now.class < 255 }
     ensures { result ≡ response_to own request.now verdict }
 {
@@ -35,7 +49,7 @@ fn response_type(verdict: &Verdict) -> u8
 {
     match verdict {
         Verdict::Reply(_) => ACK,
-        Verdict::Refuse(_) => NACK_REASON,
+        Verdict::Start(_) | Verdict::Refuse(_) => NACK_REASON,
     }
 }
 
@@ -44,10 +58,17 @@ fn response_data(verdict: Verdict) -> Body
 {
     match verdict {
         Verdict::Reply(slots) => slots,
-        Verdict::Refuse(nack) => {
-            let mut reason = Body::new();
-            reason.append(&nack.code().to_be_bytes());
-            reason
-        }
+        // No slow command finds room for its result.
+        Verdict::Start(_) => reason(Nack::BufferFull),
+        Verdict::Refuse(nack) => reason(nack),
     }
+}
+
+/// The reason of a refusal, as parameter data.
+fn reason(nack: Nack) -> Body
+    ensures { result ≡ to_be_bytes w16 (nack_code nack) }
+{
+    let mut reason = Body::new();
+    reason.append(&nack.code().to_be_bytes());
+    reason
 }

@@ -2,24 +2,18 @@
 
 ghost use Rattle.std.specs.Prelude.{◌≡◌, ◌↔◌, ◌<◌, ◌≤◌, ◌≢◌, ℕ, IsTrue, IfOk, IsErrOf, Option, None};
 ghost use Rattle.rdm_responder.specs.History.{History, Heard, empty_history, then_event};
-ghost use Rattle.rdm_responder.specs.Rules.{Account, is_addressed, request_of, answer_to, parameters_after, reply_of};
-ghost use Rattle.rdm_responder.specs.StandsFor.{State, Shows, StandsFor};
+ghost use Rattle.rdm_responder.specs.Rules.{reply_of};
+ghost use Rattle.rdm_responder.specs.StandsFor.{StandsFor, IsQueueSize};
+ghost use Rattle.rdm_params.specs.Parameters.{parameters_of};
+ghost use Rattle.rdm_params.specs.Profiles.{CanBeMade};
 
-use crate::device::Device;
-use crate::reply::response_to;
-use rdm_frame::{Frame, Uid, Wire, decode, encode};
+mod answers;
+
+use rdm_frame::{Uid, Wire, decode};
+use rdm_params::{Devices, Profile};
 use std::alloc::Global;
 use std::marker::Model;
 use thiserror::Error;
-
-/// The command class GET_COMMAND (E1.20 table A-1).
-const GET: u8 = 0x20;
-
-/// The command class SET_COMMAND (E1.20 table A-1).
-const SET: u8 = 0x30;
-
-/// The manufacturer ID of the broadcast to all devices (E1.20 section 6.2.4).
-const EVERY_MAKER: u16 = 0xFFFF;
 
 /// The greatest number of results of slow commands that a responder may be given room for.
 const GREATEST_QUEUE: u16 = 255;
@@ -30,6 +24,9 @@ pub enum NewError {
     /// Memory was refused.
     #[error("out of memory")]
     OutOfMemory,
+    /// The profile breaks a rule, or has too many sub-devices.
+    #[error("bad profile")]
+    BadProfile,
     /// The size of the queue isn't 1 to 255.
     #[error("bad queue size")]
     BadSize,
@@ -43,7 +40,8 @@ pub enum NewError {
 pub struct Responder {
     uid: Uid,
     queue_size: u16,
-    device: Device,
+    devices: Devices,
+    muted: bool,
 }
 
 impl Model for Responder {
@@ -51,16 +49,20 @@ impl Model for Responder {
 
     ghost Value = { State };
 
-    ghost view = { λ r. record { uid = r.uid; queue_size = r.queue_size; parameters = r.device } };
+    ghost view = { λ r. record { uid = r.uid; queue_size = r.queue_size; parameters = r.devices; muted = r.muted } };
 }
 
 impl Responder {
-    /// A responder with this UID, whose parameters have their initial values, with room for `queue_size` results of
-    /// slow commands.
-    pub fn new(_alloc: Global, uid: Uid, queue_size: u16) -> Result<Self, NewError>
-        ensures stands { IfOk result (λ r. StandsFor r (empty_history (record { uid = uid; queue_size = queue_size }))) }
+    /// A responder with this UID, whose parameters have the initial values of the profile, with room for
+    /// `queue_size` results of slow commands.
+    ///
+    /// A UID that addresses more than one device is refused first, then a size that isn't 1 to 255, then a profile
+    /// that breaks a rule or has too many sub-devices, and last comes want of memory.
+    pub fn new(alloc: Global, uid: Uid, profile: Profile, queue_size: u16) -> Result<Self, NewError>
+        ensures stands { IfOk result (λ r. StandsFor r (empty_history (record { uid = uid; profile = profile; queue_size = queue_size }))) }
         ensures bad_uid { IsErrOf result NewError.BadUid ↔ (uid.device ≡ 0xFFFFFFFF) }
-        ensures bad_size { IsErrOf result NewError.BadSize ↔ ((uid.device ≢ 0xFFFFFFFF) × ¬ ((1 ≤ queue_size) × (queue_size ≤ 255))) }
+        ensures bad_size { IsErrOf result NewError.BadSize ↔ ((uid.device ≢ 0xFFFFFFFF) × ¬ IsQueueSize queue_size) }
+        ensures bad_profile { IsErrOf result NewError.BadProfile ↔ ((uid.device ≢ 0xFFFFFFFF) × IsQueueSize queue_size × ¬ CanBeMade profile) }
     {
         if uid.is_broadcast() {
             return Err(NewError::BadUid);
@@ -68,10 +70,12 @@ impl Responder {
         if queue_size == 0 || queue_size > GREATEST_QUEUE {
             return Err(NewError::BadSize);
         }
+        let devices = devices_of(alloc, profile)?;
         Ok(Responder {
             uid,
             queue_size,
-            device: Device::new(),
+            devices,
+            muted: false,
         })
     }
 
@@ -83,36 +87,19 @@ impl Responder {
         let request = decode(bytes).ok()?;
         self.answer(&request)
     }
+}
 
-    /// What is answered to a frame.
-    fn answer(&mut self, request: &Frame) -> Option<Wire>
-        ensures answer { (a : Account) → Shows self.old a → result ≡ answer_to a (request_of a.setup.uid request.now) }
-        ensures after { self.new ≡ record self.old { parameters = parameters_after self.old.parameters (request_of self.old.uid request.now) } }
-    {
-        if !self.is_addressed(request.dst) {
-            return None;
+/// The devices of a profile, with its initial values.
+fn devices_of(alloc: Global, profile: Profile) -> Result<Devices, NewError>
+    ensures ok { IfOk result (λ devices. devices ≡ parameters_of profile) }
+    ensures bad_profile { (result ≡ Err NewError.BadProfile) ↔ (¬ CanBeMade profile) }
+    ensures others { (result ≢ Err NewError.BadUid) × (result ≢ Err NewError.BadSize) }
+{
+    match Devices::new(alloc, profile) {
+        Ok(devices) => Ok(devices),
+        Err(rdm_params::NewError::OutOfMemory) => Err(NewError::OutOfMemory),
+        Err(rdm_params::NewError::TooManySubs | rdm_params::NewError::BadProfile) => {
+            Err(NewError::BadProfile)
         }
-        let broadcast = request.dst.is_broadcast();
-        let slots = request.body.as_slice();
-        let verdict = match request.class {
-            GET if broadcast => return None,
-            GET => self.device.get(request.sub, request.pid, slots),
-            SET => self.device.set(request.sub, request.pid, slots),
-            _ => return None,
-        };
-        if broadcast {
-            return None;
-        }
-        Some(encode(&response_to(self.uid, request, verdict)))
-    }
-
-    /// Whether a destination is this device, or all devices, or all of this manufacturer.
-    fn is_addressed(&self, destination: Uid) -> bool
-        ensures { result ≡ is_addressed self.now.uid destination }
-    {
-        let own = self.uid;
-        destination == own
-            || destination.is_broadcast()
-                && (destination.maker == EVERY_MAKER || destination.maker == own.maker)
     }
 }

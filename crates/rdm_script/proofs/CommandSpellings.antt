@@ -184,12 +184,16 @@ action_read text a e =
     elim (chosen (bytes_eq text (codes "get")) (Some Get) _ (Some a) e) [
       | inl h ↦ subst (λ (x : Action). SpellsAction text x) (same_Some Get a h.1) ((bytes_eq-Decides text (codes "get")).0 h.0)
       | inr h ↦
-          let g = guarded (bytes_eq text (codes "set")) (Some Set) a h.1 in
-          subst (λ (x : Action). SpellsAction text x) (same_Some Set a g.1) ((bytes_eq-Decides text (codes "set")).0 g.0)
+          elim (chosen (bytes_eq text (codes "set")) (Some Set) _ (Some a) h.1) [
+            | inl k ↦ subst (λ (x : Action). SpellsAction text x) (same_Some Set a k.1) ((bytes_eq-Decides text (codes "set")).0 k.0)
+            | inr k ↦
+                let g = guarded (bytes_eq text (codes "disc")) (Some Disc) a k.1 in
+                subst (λ (x : Action). SpellsAction text x) (same_Some Disc a g.1) ((bytes_eq-Decides text (codes "disc")).0 g.0)
+          ]
     ]
 
 action_again : (text : List ℕ) (a : Action) → SpellsAction text a → action_in text ≡ Some a
-action_again text Disc s = absurd s
+action_again text Disc s = rw s refl
 action_again text Get s = rw s refl
 action_again text Set s = rw s refl
 

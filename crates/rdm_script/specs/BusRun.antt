@@ -5,6 +5,7 @@ use Rattle.rdm_frame.specs.declared.uid.Uid.{Uid}
 use Rattle.rdm_frame.specs.declared.frame.Frame.{Frame}
 use Rattle.rdm_frame.specs.FrameText.{frame_text}
 use Rattle.rdm_frame.specs.Reading.{frame_in}
+use Rattle.rdm_params.specs.Demo.{demo}
 use Rattle.rdm_responder.specs.History as history
 use Rattle.rdm_responder.specs.History.{History, empty_history, then_event}
 use Rattle.rdm_responder.specs.Rules.{reply_of}
@@ -69,20 +70,29 @@ pub record IsExchange (h : History) (tn : ℕ) (c : Command) (event : Event) : T
   pub replied : reply_in event ≡ reply_of h (sent_in event)
   pub taken : heard_in event ≡ option_map (heard_as tn c) (reply_in event)
 
+-- what happens at a step
+abbrev pub IsPlayed : History → ℕ → Step → Event → Type 0
+IsPlayed h tn (Ask c) event = IsExchange h tn c event
+
 -- A run from a history and a first transaction number: each step has its event, and the transaction numbers count up
 -- modulo 256.
 abbrev pub IsBusRun : History → ℕ → List Step → List Event → Type 0
 IsBusRun h tn [] [] = Unit {0}
-IsBusRun h tn (Ask c ∷ steps) (event ∷ events) =
-    IsExchange h tn c event × IsBusRun (then_event h (history.Heard (sent_in event))) ((tn + 1) % 256) steps events
+IsBusRun h tn (step ∷ steps) (event ∷ events) =
+    IsPlayed h tn step event × IsBusRun (then_event h (history.Heard (sent_in event))) ((tn + 1) % 256) steps events
 IsBusRun h tn [] (event ∷ events) = ⊥
 IsBusRun h tn (step ∷ steps) [] = ⊥
 
--- a device that has just been switched on, with room for 8 results of slow commands
+-- a device of the demo profile, without sub-devices, that has just been switched on, with room for 8 results of slow
+-- commands
 abbrev pub start : History
-start = empty_history (record { uid = device; queue_size = 8 })
+start = empty_history (record { uid = device; profile = demo 0; queue_size = 8 })
+
+-- why a step can't be played
+abbrev pub refusal_in : Step → Option RunError
+refusal_in (Ask c) = refusal_of c
 
 -- why steps can't be played: the first command that isn't sent
 abbrev pub first_refusal : List Step → Option RunError
 first_refusal [] = None
-first_refusal (Ask c ∷ steps) = option_or (refusal_of c) (first_refusal steps)
+first_refusal (step ∷ steps) = option_or (refusal_in step) (first_refusal steps)

@@ -6,7 +6,7 @@ use Rattle.std.specs.Str.Lines.{strip_carriage_return as without_return}
 use Rattle.std.specs.List.{slice_split, flat_map}
 use Rattle.rdm_frame.specs.declared.uid.Uid.{Uid}
 use Rattle.rdm_script.specs.declared.command.Action.{Action}
-use Rattle.rdm_script.specs.declared.command.Action.TheVariants.{Get, Set}
+use Rattle.rdm_script.specs.declared.command.Action.TheVariants.{Disc, Get, Set}
 use Rattle.rdm_script.specs.declared.command.Command.{Command}
 use Rattle.rdm_script.specs.declared.script.Step.{Step}
 use Rattle.rdm_script.specs.declared.script.Step.TheVariants.{Ask}
@@ -20,7 +20,11 @@ use Rattle.rdm_script.specs.Digits.{◌>>=◌, bytes_in, number_in}
 -- ---- a command, word by word
 
 abbrev pub action_in : List ℕ → Option Action
-action_in word = if bytes_eq word (codes "get") then Some Get else (if bytes_eq word (codes "set") then Some Set else None)
+action_in word =
+    if bytes_eq word (codes "get") then Some Get
+    else (if bytes_eq word (codes "set") then Some Set
+    else (if bytes_eq word (codes "disc") then Some Disc
+    else None))
 
 -- a UID as E1.20 writes it: four digits, a colon, eight digits
 unfoldable pub uid_in : List ℕ → Option Uid

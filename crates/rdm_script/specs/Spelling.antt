@@ -42,9 +42,9 @@ SpellsDestination text u =
 abbrev pub SpellsLoad : List ℕ → List ℕ → Type 0
 SpellsLoad text load = ((text ≡ codes "-") × (load ≡ [])) ⊎ ((length load ≤ 255) × SpellsBytes text load)
 
--- The word says what a command does. No word says a discovery command.
+-- The word says what a command does.
 abbrev pub SpellsAction : List ℕ → Action → Type 0
-SpellsAction text Disc = ⊥
+SpellsAction text Disc = text ≡ codes "disc"
 SpellsAction text Get = text ≡ codes "get"
 SpellsAction text Set = text ≡ codes "set"
 

@@ -61,6 +61,8 @@ fn action_in(word: &[u8]) -> Option<Action>
         Some(Action::Get)
     } else if word == b"set".as_slice() {
         Some(Action::Set)
+    } else if word == b"disc".as_slice() {
+        Some(Action::Disc)
     } else {
         None
     }

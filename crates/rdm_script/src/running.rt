@@ -1,10 +1,10 @@
 //! A run: a private controller sends the commands of a script to a responder, one at a time.
 
-ghost use Rattle.std.specs.Prelude.{◌≡◌, ◌≢◌, ◌≤◌, ℕ, Option, None, length, IfOk, IfErr, OnErr};
+ghost use Rattle.std.specs.Prelude.{◌≡◌, ◌≢◌, ◌≤◌, ℕ, Option, None, length, IfOk, IfErr, OnOk, OnErr};
 ghost use Rattle.rdm_frame.specs.FrameText.{frame_text};
 ghost use Rattle.rdm_responder.specs.History.{History, Heard as BytesHeard, then_event};
 ghost use Rattle.rdm_responder.specs.StandsFor.{StandsFor};
-ghost use Rattle.rdm_script.specs.BusRun.{class_of, request_of, is_reply, heard_as, is_reserved, refusal_of, first_refusal, IsBusRun, IsExchange, start, sent_in};
+ghost use Rattle.rdm_script.specs.BusRun.{class_of, request_of, is_reply, heard_as, is_reserved, refusal_of, refusal_in, first_refusal, IsBusRun, IsPlayed, IsExchange, start, sent_in};
 ghost use Rattle.rdm_script.specs.declared.running.RunError.TheVariants.{OutOfMemory};
 
 use crate::command::{Action, Command};
@@ -12,6 +12,7 @@ use crate::event::{Event, Heard};
 use crate::parties::{CONTROLLER, DEVICE};
 use crate::script::Step;
 use rdm_frame::{Body, Frame, decode, encode};
+use rdm_params::Profile;
 use rdm_responder::{NewError, Responder};
 use std::alloc::{AllocError, AllocFailed, Global};
 use thiserror::Error;
@@ -69,8 +70,7 @@ pub fn run(alloc: Global, steps: &[Step]) -> Result<Vec<Event>, RunError>
     let mut events = Vec::new(alloc);
     let mut tn = 0u8;
     for step in steps {
-        let Step::Ask(command) = step;
-        events.push(exchange(&mut responder, tn, command)?)?;
+        events.push(play_step(&mut responder, tn, step)?)?;
         tn = tn.wrapping_add(1);
     }
     Ok(events)
@@ -81,11 +81,23 @@ fn new_responder(alloc: Global) -> Result<Responder, RunError>
     ensures ok { IfOk result (λ responder. StandsFor responder start) }
     ensures err { IfErr result (λ e. e ≡ OutOfMemory) }
 {
-    match Responder::new(alloc, DEVICE, QUEUE_SIZE) {
+    match Responder::new(alloc, DEVICE, Profile::demo(0), QUEUE_SIZE) {
         Ok(responder) => Ok(responder),
         Err(NewError::OutOfMemory) => Err(RunError::OutOfMemory),
-        // The UID addresses one device, and the size is one that a responder takes.
-        Err(NewError::BadSize | NewError::BadUid) => unreachable!(),
+        // The UID addresses one device, and size and profile are such as a responder takes.
+        Err(NewError::BadProfile | NewError::BadSize | NewError::BadUid) => unreachable!(),
+    }
+}
+
+/// Plays one step.
+fn play_step(responder: &mut Responder, tn: u8, step: &Step) -> Result<Event, RunError>
+    ensures ok { (h : History) → StandsFor responder.old h → IfOk result (λ event.
+        IsPlayed h tn step.now event × StandsFor responder.new (then_event h (BytesHeard (sent_in event)))) }
+    ensures allowed { OnOk result (refusal_in step.now ≡ None) }
+    ensures err { IfErr result (λ e. refusal_in step.now ≡ Some e) }
+{
+    match step {
+        Step::Ask(command) => exchange(responder, tn, command),
     }
 }
 
@@ -93,6 +105,7 @@ fn new_responder(alloc: Global) -> Result<Responder, RunError>
 fn exchange(responder: &mut Responder, tn: u8, command: &Command) -> Result<Event, RunError>
     ensures ok { (h : History) → StandsFor responder.old h → IfOk result (λ event.
         IsExchange h tn command.now event × StandsFor responder.new (then_event h (BytesHeard (sent_in event)))) }
+    ensures allowed { OnOk result (refusal_of command.now ≡ None) }
     ensures err { IfErr result (λ e. refusal_of command.now ≡ Some e) }
 {
     let sent = encode(&request_of(tn, command)?);

@@ -77,6 +77,24 @@ heard reply
 end
 ",
     ),
+    // A search, whose answer is no frame, and a mute, after which there is none.
+    (
+        "disc all 0000 0001 7FF0000000017FF000000001
+disc dev 0000 0002 -
+disc all 0000 0001 7FF0000000017FF000000001
+",
+        "send CC0124FFFFFFFFFFFF7FF00000000200010000001000010C7FF0000000017FF0000000010B5A
+reply FEFEFEFEFEFEFEAAFF7FFAF5AA55AA55AA55AB55AF57EA7F
+heard ignored
+send CC01187FF0000000017FF00000000201010000001000020003DA
+reply CC011A7FF0000000027FF000000001010000000011000202000003DE
+heard reply
+send CC0124FFFFFFFFFFFF7FF00000000202010000001000010C7FF0000000017FF0000000010B5C
+reply none
+heard nothing
+end
+",
+    ),
     // No such parameter.
     (
         "get dev 0000 0015 -\n",
@@ -138,7 +156,7 @@ fn reads_other_spellings(rt: HostRuntime) -> Result<(), Fail> {
 }
 
 /// Lines that no script has.
-const FAULTY: [&str; 36] = [
+const FAULTY: [&str; 37] = [
     "foo",
     "get",
     "get dev 0000 1000",
@@ -167,7 +185,8 @@ const FAULTY: [&str; 36] = [
     "get dev 0000 1000 -\rget",
     // An LF is missing, so that nothing takes the carriage return away.
     "get dev 0000 1000 -\r",
-    "disc dev 0000 0002 -",
+    "DISC dev 0000 0002 -",
+    "disc dev 0000 0002",
     "setup 0 8 advisory",
     "collect",
     "draw",

@@ -7,7 +7,7 @@ use Rattle.rdm_responder.proofs.responder.Responder.step.Goals as goal
 pub returns-in_err-request-clause-stands : goal.returns-in_err-request-clause-stands
 returns-in_err-request-clause-stands c h stands =
     let read : None ≡ frame_in c.args.bytes.now = c.in_err-request.ensures.value ∙ c.decode.ensures.value in
-    stands_for_then c.args.self.now _ h c.args.bytes.now None stands read refl
+    stands_for_then _ h c.args.bytes.now None read stands
 
 pub returns-clause-reply : goal.returns-clause-reply
 returns-clause-reply c h stands =
@@ -17,4 +17,4 @@ returns-clause-reply c h stands =
 pub returns-clause-stands : goal.returns-clause-stands
 returns-clause-stands c h stands =
     let read : Some c.in_ok-request.request ≡ frame_in c.args.bytes.now = c.in_ok-request.ensures.value ∙ c.decode.ensures.value in
-    stands_for_then c.args.self.now _ h c.args.bytes.now (Some c.in_ok-request.request) stands read c.answer.ensures.after
+    stands_for_then _ h c.args.bytes.now (Some c.in_ok-request.request) read (c.answer.ensures.after (account_of h) stands)
