@@ -12,7 +12,7 @@ use std::alloc::{AllocError, Global};
 use std::test::Fail;
 
 /// Scripts beside what they print.
-const PLAYED: [(&str, &str); 8] = [
+const PLAYED: [(&str, &str); 9] = [
     ("", "end\n"),
     (FIRST_SCRIPT, FIRST_TRACE),
     // A broadcast is obeyed and not answered.
