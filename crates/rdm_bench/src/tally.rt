@@ -3,6 +3,8 @@
 ghost use Rattle.std.specs.Prelude.{◌≡◌, ◌≤◌, ◌++◌, ℕ, List, [], length, sum};
 ghost use Rattle.rdm_bench.specs.Tally.{tally_of};
 
+use rdm_frame::sum_of;
+
 /// How many bytes of replies there were, and their sum. Both numbers wrap at 64 bits.
 #[repr(C)]
 #[derive(Clone, Copy, Debug, PartialEq, Eq)]
@@ -30,12 +32,4 @@ impl Tally {
         self.bytes = self.bytes.wrapping_add(reply.len() as u64);
         self.total = self.total.wrapping_add(u64::from(sum_of(reply)));
     }
-}
-
-/// The sum of the bytes of one reply.
-fn sum_of(reply: &[u8]) -> u32
-    requires { length reply.now ≤ 257 }
-    ensures { result ≡ sum reply.now }
-{
-    reply.iter().map(|byte| u32::from(*byte)).sum()
 }

@@ -1,7 +1,7 @@
 -- A coded byte is read back, so an answer to DISC_UNIQUE_BRANCH belongs to one UID.
 use Rattle.std.proofs.Common.{◌≡◌, ℕ, ◌+◌, ◌∷◌, [], List, min, max, refl, sym, ap, ◌∙◌, arith}
 use Rattle.std.specs.Prelude.{bit_and, bit_or, slice_index}
-use Rattle.std.specs.Int.{w16, w32, bit_at, to_be_bytes, from_be_bytes}
+use Rattle.std.specs.Int.{w16, w32, bit_at, from_be_bytes}
 use Rattle.std.proofs.lemmas.Nat.Bits.{bit_at_and, bit_at_or, bit_at-zero, same_from_bits}
 use Rattle.std.proofs.lemmas.Nat.{from_be_bytes-to_be_bytes_2, from_be_bytes-to_be_bytes_4}
 use Rattle.rdm_frame.specs.declared.uid.Uid.{Uid}

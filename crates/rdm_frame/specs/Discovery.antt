@@ -1,5 +1,5 @@
 -- The answer to DISC_UNIQUE_BRANCH. E1.20 section 7.5.
-use Rattle.std.specs.Prelude.{ℕ, ◌%◌, List, [], ◌∷◌, ◌++◌, sum, replicate, bit_or, bit_and}
+use Rattle.std.specs.Prelude.{ℕ, ◌%◌, List, [], ◌∷◌, ◌++◌, sum, bit_or, bit_and}
 use Rattle.std.specs.List.{flat_map}
 use Rattle.std.specs.Int.{w16, to_be_bytes}
 use Rattle.rdm_frame.specs.declared.uid.Uid.{Uid}

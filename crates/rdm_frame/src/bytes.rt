@@ -69,6 +69,13 @@ impl<const N: usize> Bytes<N> {
         twin
     }
 
+    /// Takes all bytes away.
+    pub fn clear(&mut self)
+        ensures { self.new ≡ [] }
+    {
+        self.items.clear();
+    }
+
     /// Puts these bytes at the end. There must be room.
     pub fn append(&mut self, bytes: &[u8])
         requires { length self.old + length bytes.now ≤ N }

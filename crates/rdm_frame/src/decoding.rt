@@ -6,7 +6,7 @@ ghost use Rattle.rdm_frame.specs.FrameText.{frame_text, IsFrame};
 ghost use Rattle.rdm_frame.specs.Reading.{frame_of, frame_in, word_at, uid_at, PassesAll, IsFirstFault};
 
 use crate::encoding::{HEAD_SLOTS, START_CODE, SUB_START_CODE, checksum_of};
-use crate::{Body, Frame, Uid};
+use crate::{Frame, FrameView, Uid};
 use thiserror::Error;
 
 /// How many bytes a frame without parameter data has: the header and the checksum.
@@ -39,6 +39,25 @@ pub enum FrameError {
 ///
 /// It is `Ok` exactly on the text of a frame. Else the error names the first of the six tests that fails.
 pub fn decode(bytes: &[u8]) -> Result<Frame, FrameError>
+    // What is read is spelled so.
+    ensures ok { IfOk result (λ f. IsFrame f × (bytes.now ≡ frame_text f)) }
+    // What is spelled so is read.
+    ensures only { (f : Frame) → IsFrame f → bytes.now ≡ frame_text f → result ≡ Ok f }
+    // The one frame, as the layers above cite it.
+    ensures value { result_ok result ≡ frame_in bytes.now }
+    // Each error comes exactly where the tests before its own pass, and its own fails.
+    ensures fault { (e : FrameError) → (result ≡ Err e) ↔ IsFirstFault e bytes.now }
+{
+    match decode_view(bytes) {
+        Ok(frame) => Ok(frame.to_frame()),
+        Err(e) => Err(e),
+    }
+}
+
+/// The frame that the bytes are the text of, with its parameter data where they lie.
+///
+/// It is `Ok` exactly on the text of a frame. Else the error names the first of the six tests that fails.
+pub fn decode_view(bytes: &[u8]) -> Result<FrameView<'_>, FrameError>
     // What is read is spelled so.
     ensures ok { IfOk result (λ f. IsFrame f × (bytes.now ≡ frame_text f)) }
     // What is spelled so is read.
@@ -81,14 +100,13 @@ fn test(bytes: &[u8]) -> Result<(), FrameError>
 
 /// What the slots say. The tests have passed, so that they are a frame's.
 #[tactic(auto, unfolding(crate::specs::Reading::frame_of))]
-fn read(bytes: &[u8]) -> Frame
+fn read(bytes: &[u8]) -> FrameView<'_>
     requires { PassesAll bytes.now }
     ensures { result ≡ frame_of bytes.now }
 {
     let end = HEAD_SLOTS + bytes[23] as usize;
-    let mut body = Body::new();
-    body.append(&bytes[HEAD_SLOTS..end]);
-    Frame {
+    let body = &bytes[HEAD_SLOTS..end];
+    FrameView {
         dst: uid_at(bytes, 3),
         src: uid_at(bytes, 9),
         tn: bytes[15],

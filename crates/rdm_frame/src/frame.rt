@@ -1,6 +1,6 @@
 //! What a frame says.
 
-use crate::{Body, Uid};
+use crate::{Body, FrameView, Uid};
 
 /// A request or a response, without its text (E1.20 section 6.2).
 #[derive(Debug, Drop, PartialEq, Eq)]
@@ -23,4 +23,25 @@ pub struct Frame {
     pub pid: u16,
     /// The parameter data (section 6.2.10).
     pub body: Body,
+}
+
+impl Frame {
+    ghost use Rattle.std.specs.Prelude.{◌≡◌};
+
+    /// The frame, with its parameter data where they lie.
+    pub fn view(&self) -> FrameView<'_>
+        ensures { result ≡ self.now }
+    {
+        FrameView {
+            dst: self.dst,
+            src: self.src,
+            tn: self.tn,
+            port: self.port,
+            count: self.count,
+            sub: self.sub,
+            class: self.class,
+            pid: self.pid,
+            body: self.body.as_slice(),
+        }
+    }
 }

@@ -1,6 +1,9 @@
 ghost use Rattle.std.specs.Prelude.{◌<◌};
 
-use crate::{Body, Frame, FrameError, Load, Text, Uid, Wire, decode, encode};
+use crate::{
+    Body, Frame, FrameError, Load, Text, Uid, Wire, decode, decode_view, encode, encode_into,
+    sum_of,
+};
 use std::test::Fail;
 
 const DEVICE: Uid = Uid {
@@ -90,8 +93,28 @@ fn frames_and_their_texts(rt: HostRuntime) -> Result<(), Fail> {
     ] {
         assert_eq!(rt; encode(&frame).as_slice(), text);
         assert_eq!(rt; decode(text)?, frame);
+        let mut wire = Wire::from_slice(&[0xFF; 257]).ok_or("too long")?;
+        encode_into(&frame.view(), &mut wire);
+        assert_eq!(rt; wire.as_slice(), text);
+        assert_eq!(rt; decode_view(text)?.to_frame(), frame);
     }
     Ok(())
+}
+
+#[test]
+fn slots_are_summed(rt: HostRuntime) {
+    let greatest = [0xFF; 257];
+    for (slots, sum) in [
+        (&REQUEST[..0], 0),
+        (&REQUEST[..1], 0xCC),
+        (&REQUEST[..7], 0x0254),
+        (&REQUEST[..8], 0x0254),
+        (&REQUEST[..24], 0x03F7),
+        (&REQUEST[..25], 0x03FA),
+        (greatest.as_slice(), 0xFFFF),
+    ] {
+        assert_eq!(rt; sum_of(slots), sum, "{slots:?}");
+    }
 }
 
 #[test]
@@ -143,12 +166,14 @@ fn each_kind_of_bytes_has_its_bound(rt: HostRuntime) {
 }
 
 #[test]
-fn a_copy_has_the_same_bytes(rt: HostRuntime) {
+fn bytes_are_copied_and_cleared(rt: HostRuntime) {
     let mut text = Text::new();
     text.append(b"Fix");
     text.append(b"ture");
     assert_eq!(rt; text.copy().as_slice(), b"Fixture".as_slice());
     assert_eq!(rt; text.copy(), text);
+    text.clear();
+    assert_eq!(rt; text, Text::new());
 }
 
 #[test]

@@ -1,5 +1,5 @@
 -- The demo profile keeps the rules of a profile.
-use Rattle.std.proofs.Common.{◌≡◌, ◌≢◌, ℕ, ◌<◌, ◌≤◌, List, [], ◌∷◌, All, length, arith, lit<, lit≤}
+use Rattle.std.proofs.Common.{◌≢◌, ℕ, ◌<◌, ◌≤◌, [], ◌∷◌, length, arith, lit<, lit≤}
 use Rattle.std.specs.List.{AllPairs}
 use Rattle.std.proofs.lemmas.List.Elements.{All-from_recursion}
 use Rattle.std.proofs.lemmas.List.Kept.{AllPairs-cons}
@@ -7,7 +7,7 @@ use Rattle.rdm_params.specs.declared.profile.Personality.{Personality}
 use Rattle.rdm_params.specs.declared.profile.SelfTest.{SelfTest}
 use Rattle.rdm_params.specs.declared.profile.StatusText.{StatusText}
 use Rattle.rdm_params.specs.Demo.{demo, demo_root, demo_sub, demo_slots, demo_tests, demo_statuses}
-use Rattle.rdm_params.specs.Profiles.{IsGoodUnit, IsGoodProfile, CanBeMade}
+use Rattle.rdm_params.specs.Profiles.{CanBeMade}
 
 none_differ : {X : Type 0} (R : X → X → Type 0) → AllPairs R []
 none_differ R i j d lt within = absurd (omega arith)

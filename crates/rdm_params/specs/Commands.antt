@@ -57,16 +57,25 @@ check holds nack = if holds then Ok tt else Err nack
 abbrev pub is_some_device : List Spot → Bool
 is_some_device spots = is_some (slice_get spots 0)
 
--- The value that a command hands in, or why it is refused: it addresses no device, the device has no such
--- parameter or the parameter no such command, the data has another length, it is out of range at a device that is
--- addressed, or it would start jobs at all sub-devices at once.
+-- it addresses a device, and the device has the parameter and the parameter the command
+abbrev pub known : Parameters → ℕ → ℕ → Verb → Result (Unit {0}) Nack
+known p sub pid verb = do
+  exists ← check (is_some_device (addressed p sub verb)) SubDeviceOutOfRange
+  access (row_of pid) (sub == 0) verb
+
+-- the value is in range at each device that is addressed, and starts no jobs at all sub-devices at once
+abbrev pub suits : Parameters → ℕ → ℕ → Verb → Value → Result (Unit {0}) Nack
+suits p sub pid verb value = do
+  in_range ← check (list_all (λ spot. in_range_of (command_of pid verb) spot value) (addressed p sub verb)) DataOutOfRange
+  check (not (is_all_call sub verb && is_slow (command_of pid verb))) SubDeviceOutOfRange
+
+-- The value that a command hands in, or the first reason to refuse it. The length of the data is looked at after the
+-- parameter and before the range.
 unfoldable pub accepted : Parameters → ℕ → ℕ → Verb → List ℕ → Result Value Nack
 accepted p sub pid verb bytes = do
-  exists ← check (is_some_device (addressed p sub verb)) SubDeviceOutOfRange
-  known ← access (row_of pid) (sub == 0) verb
+  known ← known p sub pid verb
   value ← read (command_of pid verb) bytes
-  in_range ← check (list_all (λ spot. in_range_of (command_of pid verb) spot value) (addressed p sub verb)) DataOutOfRange
-  alone ← check (not (is_all_call sub verb && is_slow (command_of pid verb))) SubDeviceOutOfRange
+  suits ← suits p sub pid verb value
   Ok value
 
 -- Whether a value is in the range of a command at each device that it addresses; it is not where there is none, or

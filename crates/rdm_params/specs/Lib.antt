@@ -15,3 +15,5 @@ pub mod State
 pub mod Table
 pub mod Uses
 pub mod Values
+pub mod Handed
+pub mod Verdicts

@@ -8,8 +8,9 @@ ghost use Rattle.rdm_params.specs.Map.{entry, update};
 ghost use Rattle.rdm_params.specs.Spot.{Spot};
 ghost use Rattle.rdm_params.specs.State.{common_entries, own_entries, sensor_entries, measured_slots};
 
+use crate::Profile;
+use crate::argument::Argument;
 use crate::state::{Common, Measured, Own};
-use crate::{Profile, Value};
 use arrayvec::ArrayVec;
 
 /// Sets back what FACTORY_DEFAULTS sets back of the values that every device keeps.
@@ -25,7 +26,7 @@ pub(crate) fn common_set_back(profile: &Profile, common: &mut Common)
 
 /// Sets back what FACTORY_DEFAULTS sets back of the values that the root alone keeps.
 #[tactic(auto, unfolding(crate::specs::State::own_entries, crate::specs::Parameters::common_at_start, crate::specs::Parameters::own_at_start), using(crate::proofs::Sensors::sensors_stay))]
-pub(crate) fn own_set_back(profile: &Profile, value: &Value, own: &mut Own)
+pub(crate) fn own_set_back(profile: &Profile, value: &Argument<'_>, own: &mut Own)
     ensures { (spot : Spot) → spot.profile ≡ profile.now → own_entries own.new ≡ update (set_back spot value.now) (own_entries own.old) }
 {
     let _ = value;
@@ -39,7 +40,7 @@ pub(crate) fn own_set_back(profile: &Profile, value: &Value, own: &mut Own)
 
 /// Makes the lowest, the highest and the recorded value of the named sensors the present one.
 #[tactic(auto, unfolding(crate::specs::State::own_entries))]
-pub(crate) fn sensors_reset(profile: &Profile, value: &Value, own: &mut Own)
+pub(crate) fn sensors_reset(profile: &Profile, value: &Argument<'_>, own: &mut Own)
     ensures { (spot : Spot) → spot.profile ≡ profile.now → own_entries own.new ≡ update (sensors_reset spot value.now) (own_entries own.old) }
 {
     own.sensors = changed(own.sensors.as_slice(), value.byte().unwrap_or(0), true);
@@ -47,7 +48,7 @@ pub(crate) fn sensors_reset(profile: &Profile, value: &Value, own: &mut Own)
 
 /// Makes the recorded value of the named sensors the present one.
 #[tactic(auto, unfolding(crate::specs::State::own_entries))]
-pub(crate) fn sensors_recorded(profile: &Profile, value: &Value, own: &mut Own)
+pub(crate) fn sensors_recorded(profile: &Profile, value: &Argument<'_>, own: &mut Own)
     ensures { (spot : Spot) → spot.profile ≡ profile.now → own_entries own.new ≡ update (sensors_recorded spot value.now) (own_entries own.old) }
 {
     own.sensors = changed(own.sensors.as_slice(), value.byte().unwrap_or(0), false);

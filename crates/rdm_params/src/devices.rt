@@ -1,25 +1,29 @@
 //! A root device with its sub-devices, and the commands to them.
 
-ghost use Rattle.std.specs.Prelude.{length, ◌≡◌, ◌↔◌, ◌≤◌, ◌<◌, IfOk, IfErr, slice_get};
+ghost use Rattle.std.specs.Prelude.{[], length, ◌≡◌, ◌↔◌, ◌≤◌, ◌<◌, IfOk, IfErr, slice_get};
 ghost use Rattle.std.specs.List.{list_all};
 ghost use Rattle.std.specs.Option.{option_map};
 ghost use Rattle.rdm_params.specs.declared.kind.Verb.TheVariants.{Set};
-ghost use Rattle.rdm_params.specs.Commands.{accepted, got, answer_to_set, after_set, in_range, verdict, addressed, command_of, carried_out, is_all_call, sub_spot};
+ghost use Rattle.rdm_params.specs.declared.verdict.Verdict.TheVariants.{Refuse};
+ghost use Rattle.rdm_params.specs.Commands.{known, suits, got, answer_to_set, after_set, in_range, verdict, addressed, command_of, carried_out, is_all_call, sub_spot};
 ghost use Rattle.rdm_params.specs.Kinds.{pid_of};
 ghost use Rattle.rdm_params.specs.Parameters.{parameters_of};
 ghost use Rattle.rdm_params.specs.Profiles.{IsGoodProfile};
 ghost use Rattle.rdm_params.specs.Spot.{spot_of};
+ghost use Rattle.rdm_params.specs.Verdicts.{verdict_with};
 ghost use Rattle.rdm_params.specs.Uses.{in_range_of};
 
+use crate::argument::Argument;
 use crate::checks::is_good;
 use crate::place::Place;
 use crate::ranges::is_in_range;
-use crate::replying::reply_to;
+use crate::reading::read_argument;
+use crate::replying::reply_into;
 use crate::rights::{check_access, starts_job};
 use crate::state::{Common, Own};
 use crate::storing::{store_common, store_own};
 use crate::subs::{all_in_range, start_each, store_at, store_each};
-use crate::{Kind, Nack, Profile, Value, Verb, Verdict, Work, kind_of, read_value, write_value};
+use crate::{Answer, Kind, Nack, Profile, Value, Verb, Verdict, Work, kind_of};
 use rdm_frame::Body;
 use std::alloc::Global;
 use std::marker::Model;
@@ -104,13 +108,22 @@ impl Devices {
     }
 
     /// What a GET answers: the value, the job that it starts, or the first reason to refuse it.
-    #[tactic(auto, unfolding(crate::specs::Commands::got))]
     pub fn get(&self, sub: u16, pid: u16, data: &[u8]) -> Verdict
         ensures { result ≡ got self.now sub pid data.now }
     {
-        match self.accept(sub, pid, Verb::Get, data) {
-            Ok((kind, value)) => self.verdict(sub, pid, Verb::Get, kind, &value),
-            Err(nack) => Verdict::Refuse(nack),
+        let mut body = Body::new();
+        let answer = self.get_into(sub, pid, data, &mut body);
+        answer.with(body)
+    }
+
+    /// What a GET answers, as `get`, with the data of the reply in `body`. What stood there before is gone.
+    pub fn get_into(&self, sub: u16, pid: u16, data: &[u8], body: &mut Body) -> Answer
+        ensures { verdict_with result body.new ≡ got self.now sub pid data.now }
+    {
+        body.clear();
+        match self.try_get(sub, pid, data, body) {
+            Ok(answer) => answer,
+            Err(nack) => Answer::Refused(nack),
         }
     }
 
@@ -118,19 +131,24 @@ impl Devices {
     ///
     /// With sub-device 65535 it is for every sub-device and not for the root, and is refused unless all of them can
     /// take it.
-    #[tactic(auto, unfolding(crate::specs::Commands::answer_to_set, crate::specs::Commands::after_set))]
     pub fn set(&mut self, sub: u16, pid: u16, data: &[u8]) -> Verdict
         ensures answer { result ≡ answer_to_set self.old sub pid data.now }
         ensures after { self.new ≡ after_set self.old sub pid data.now }
     {
-        match self.accept(sub, pid, Verb::Set, data) {
-            Ok((kind, value)) => {
-                if !starts_job(kind, Verb::Set) {
-                    self.carry_out(sub, kind, &value);
-                }
-                self.verdict(sub, pid, Verb::Set, kind, &value)
-            }
-            Err(nack) => Verdict::Refuse(nack),
+        let mut body = Body::new();
+        let answer = self.set_into(sub, pid, data, &mut body);
+        answer.with(body)
+    }
+
+    /// What a SET answers, as `set`, with the data of the reply in `body`. What stood there before is gone.
+    pub fn set_into(&mut self, sub: u16, pid: u16, data: &[u8], body: &mut Body) -> Answer
+        ensures answer { verdict_with result body.new ≡ answer_to_set self.old sub pid data.now }
+        ensures after { self.new ≡ after_set self.old sub pid data.now }
+    {
+        body.clear();
+        match self.try_set(sub, pid, data, body) {
+            Ok(answer) => answer,
+            Err(nack) => Answer::Refused(nack),
         }
     }
 
@@ -142,33 +160,73 @@ impl Devices {
     {
         self.first_place(sub, verb).is_some()
             && check_access(kind, sub == 0, verb).is_ok()
-            && self.is_in_range_at(sub, kind, verb, value)
+            && self.is_in_range_at(sub, kind, verb, &Argument::of(value))
     }
 
-    /// The parameter that a command names and the value that it hands in, or the first reason to refuse it.
-    #[tactic(auto, unfolding(crate::specs::Commands::accepted))]
-    fn accept(&self, sub: u16, pid: u16, verb: Verb, data: &[u8]) -> Result<(Kind, Value), Nack>
-        ensures ok { IfOk result (λ a. (pid_of a.0 ≡ pid) × (accepted self.now sub pid verb data.now ≡ Ok a.1)) }
-        ensures err { IfErr result (λ nack. accepted self.now sub pid verb data.now ≡ Err nack) }
+    /// What a GET answers, or the first reason to refuse it.
+    // This and its steps are inlined, since a call would hand the argument on through memory.
+    #[inline(always)]
+    #[tactic(auto, unfolding(crate::specs::Commands::got, crate::specs::Commands::accepted))]
+    fn try_get(&self, sub: u16, pid: u16, data: &[u8], body: &mut Body) -> Result<Answer, Nack>
+        requires { body.old ≡ [] }
+        ensures ok { IfOk result (λ answer. verdict_with answer body.new ≡ got self.now sub pid data.now) }
+        ensures err { IfErr result (λ nack. got self.now sub pid data.now ≡ Refuse nack) }
+    {
+        let kind = self.known(sub, pid, Verb::Get)?;
+        let value = read_argument(kind, Verb::Get, data)?;
+        self.suits(sub, kind, Verb::Get, &value)?;
+        Ok(self.answer(sub, pid, Verb::Get, kind, &value, body))
+    }
+
+    /// What a SET answers, or the first reason to refuse it.
+    #[inline(always)]
+    #[tactic(auto, unfolding(crate::specs::Commands::answer_to_set, crate::specs::Commands::after_set, crate::specs::Commands::accepted))]
+    fn try_set(&mut self, sub: u16, pid: u16, data: &[u8], body: &mut Body) -> Result<Answer, Nack>
+        requires { body.old ≡ [] }
+        ensures ok { IfOk result (λ answer. verdict_with answer body.new ≡ answer_to_set self.old sub pid data.now) }
+        ensures err { IfErr result (λ nack. answer_to_set self.old sub pid data.now ≡ Refuse nack) }
+        ensures after { self.new ≡ after_set self.old sub pid data.now }
+    {
+        let kind = self.known(sub, pid, Verb::Set)?;
+        let value = read_argument(kind, Verb::Set, data)?;
+        self.suits(sub, kind, Verb::Set, &value)?;
+        if !starts_job(kind, Verb::Set) {
+            self.carry_out(sub, kind, &value);
+        }
+        Ok(self.answer(sub, pid, Verb::Set, kind, &value, body))
+    }
+
+    /// The parameter that a command names, at a device that there is and that has the command.
+    #[inline(always)]
+    fn known(&self, sub: u16, pid: u16, verb: Verb) -> Result<Kind, Nack>
+        ensures ok { IfOk result (λ kind. (pid_of kind ≡ pid) × (known self.now sub pid verb ≡ Ok tt)) }
+        ensures err { IfErr result (λ nack. known self.now sub pid verb ≡ Err nack) }
     {
         if self.first_place(sub, verb).is_none() {
             return Err(Nack::SubDeviceOutOfRange);
         }
         let kind = kind_of(pid).ok_or(Nack::UnknownPid)?;
         check_access(kind, sub == 0, verb)?;
-        let value = read_value(kind, verb, data)?;
-        if !self.is_in_range_at(sub, kind, verb, &value) {
+        Ok(kind)
+    }
+
+    /// Whether a command can be carried out with this value, or the first reason why not.
+    #[inline(always)]
+    fn suits(&self, sub: u16, kind: Kind, verb: Verb, value: &Argument<'_>) -> Result<(), Nack>
+        ensures { result ≡ suits self.now sub (pid_of kind) verb value.now }
+    {
+        if !self.is_in_range_at(sub, kind, verb, value) {
             return Err(Nack::DataOutOfRange);
         }
         if is_all_call(sub, verb) && starts_job(kind, verb) {
             return Err(Nack::SubDeviceOutOfRange);
         }
-        Ok((kind, value))
+        Ok(())
     }
 
     /// Whether a value is in range at each device that a command is for.
     #[tactic(auto)]
-    fn is_in_range_at(&self, sub: u16, kind: Kind, verb: Verb, value: &Value) -> bool
+    fn is_in_range_at(&self, sub: u16, kind: Kind, verb: Verb, value: &Argument<'_>) -> bool
         ensures { result ≡ list_all (λ spot. in_range_of (command_of (pid_of kind) verb) spot value.now) (addressed self.now sub verb) }
     {
         if is_all_call(sub, verb) {
@@ -181,27 +239,37 @@ impl Devices {
     }
 
     /// What an accepted command answers.
-    fn verdict(&self, sub: u16, pid: u16, verb: Verb, kind: Kind, value: &Value) -> Verdict
-        requires { pid_of kind ≡ pid }
-        ensures { result ≡ verdict self.now sub pid verb (Ok value.now) }
+    #[inline(always)]
+    fn answer(
+        &self,
+        sub: u16,
+        pid: u16,
+        verb: Verb,
+        kind: Kind,
+        value: &Argument<'_>,
+        body: &mut Body,
+    ) -> Answer
+        requires named { pid_of kind ≡ pid }
+        requires empty { body.old ≡ [] }
+        ensures { verdict_with result body.new ≡ verdict self.now sub pid verb (Ok value.now) }
     {
         if starts_job(kind, verb) {
-            return Verdict::Start(Work {
+            return Answer::Starts(Work {
                 sub,
                 pid,
                 verb,
                 arg: value.byte().unwrap_or(0),
             });
         }
-        match self.first_place(sub, verb) {
-            Some(place) => Verdict::Reply(write_value(&reply_to(kind, verb, &place, value))),
-            None => Verdict::Reply(Body::new()),
+        if let Some(place) = self.first_place(sub, verb) {
+            reply_into(kind, verb, &place, value, body);
         }
+        Answer::Done
     }
 
     /// Carries out a SET at the devices that it is for.
     #[tactic(auto, using(crate::proofs::Maps::update_append))]
-    fn carry_out(&mut self, sub: u16, kind: Kind, value: &Value)
+    fn carry_out(&mut self, sub: u16, kind: Kind, value: &Argument<'_>)
         ensures { self.new ≡ carried_out self.old sub (command_of (pid_of kind) Set) value.now }
     {
         let profile = &self.profile;

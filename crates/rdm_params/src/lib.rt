@@ -5,9 +5,11 @@
 //! commands take, what they answer, and which values they write.
 #![tactic(auto)]
 
+mod argument;
 mod blank;
 mod changes;
 mod checks;
+mod copying;
 mod demo;
 mod devices;
 mod footprint;
@@ -40,7 +42,7 @@ pub use nack::Nack;
 pub use profile::{Personality, Profile, SelfTest, SensorDef, Slot, StatusText, Unit};
 pub use reading::read_value;
 pub use value::Value;
-pub use verdict::{Verdict, Work};
+pub use verdict::{Answer, Verdict, Work};
 pub use writing::write_value;
 
 #[cfg(test)]

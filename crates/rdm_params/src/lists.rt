@@ -1,74 +1,74 @@
 //! Replies that are lists.
 
-ghost use Rattle.std.specs.Prelude.{◌≡◌, ◌≤◌, take, length, flat_map};
+ghost use Rattle.std.specs.Prelude.{◌≡◌, ◌≤◌, [], take, length, flat_map};
 ghost use Rattle.rdm_params.specs.Replies.{languages, used_slots, slot_infos, slot_defaults};
 ghost use Rattle.rdm_params.specs.Spot.{spot_of};
-ghost use Rattle.rdm_params.specs.Values.{bytes_of, word_slots};
+ghost use Rattle.rdm_params.specs.Values.{word_slots};
 
+use crate::Slot;
 use crate::footprint::footprint;
 use crate::place::Place;
-use crate::{Slot, Value};
 use rdm_frame::Body;
 
 /// The codes of the languages.
-pub(crate) fn languages(place: &Place<'_>) -> Value
-    ensures { bytes_of result ≡ languages (spot_of place.now) }
+pub(crate) fn languages(place: &Place<'_>, body: &mut Body)
+    requires { body.old ≡ [] }
+    ensures { body.new ≡ languages (spot_of place.now) }
 {
-    Value::Block(codes_of(place.profile.languages.as_slice()))
+    write_codes(place.profile.languages.as_slice(), body);
 }
 
 #[tactic(auto, using(crate::proofs::ListSteps::codes_step, std::proofs::lemmas::Grind::common_steps))]
-fn codes_of(languages: &[u16]) -> Body
-    requires { length languages.now ≤ 8 }
-    ensures { result ≡ flat_map word_slots languages.now }
+fn write_codes(languages: &[u16], list: &mut Body)
+    requires few { length languages.now ≤ 8 }
+    requires empty { list.old ≡ [] }
+    ensures { list.new ≡ flat_map word_slots languages.now }
 {
-    let mut list = Body::new();
     for i in 0..languages.len() {
         list.append(&languages[i].to_be_bytes());
     }
-    list
 }
 
 /// Of each slot that the current personality uses: the offset, the type and the label ID.
-pub(crate) fn slot_infos(place: &Place<'_>) -> Value
-    ensures { bytes_of result ≡ slot_infos 0 (used_slots (spot_of place.now)) }
+pub(crate) fn slot_infos(place: &Place<'_>, body: &mut Body)
+    requires { body.old ≡ [] }
+    ensures { body.new ≡ slot_infos 0 (used_slots (spot_of place.now)) }
 {
-    Value::Block(infos_of(used(place.profile.slots.as_slice(), footprint(place))))
+    write_infos(used(place.profile.slots.as_slice(), footprint(place)), body);
 }
 
 #[tactic(auto, using(crate::proofs::ListSteps::infos_step, std::proofs::lemmas::Grind::common_steps))]
-fn infos_of(slots: &[Slot]) -> Body
-    requires { length slots.now ≤ 46 }
-    ensures { result ≡ slot_infos 0 slots.now }
+fn write_infos(slots: &[Slot], list: &mut Body)
+    requires few { length slots.now ≤ 46 }
+    requires empty { list.old ≡ [] }
+    ensures { list.new ≡ slot_infos 0 slots.now }
 {
-    let mut list = Body::new();
     for i in 0..slots.len() {
         let slot = &slots[i];
         list.append(&(i as u16).to_be_bytes());
         list.append(&[slot.kind]);
         list.append(&slot.label.to_be_bytes());
     }
-    list
 }
 
 /// Of each slot that the current personality uses: the offset and the value when none is received.
-pub(crate) fn slot_defaults(place: &Place<'_>) -> Value
-    ensures { bytes_of result ≡ slot_defaults 0 (used_slots (spot_of place.now)) }
+pub(crate) fn slot_defaults(place: &Place<'_>, body: &mut Body)
+    requires { body.old ≡ [] }
+    ensures { body.new ≡ slot_defaults 0 (used_slots (spot_of place.now)) }
 {
-    Value::Block(defaults_of(used(place.profile.slots.as_slice(), footprint(place))))
+    write_defaults(used(place.profile.slots.as_slice(), footprint(place)), body);
 }
 
 #[tactic(auto, using(crate::proofs::ListSteps::defaults_step, std::proofs::lemmas::Grind::common_steps))]
-fn defaults_of(slots: &[Slot]) -> Body
-    requires { length slots.now ≤ 46 }
-    ensures { result ≡ slot_defaults 0 slots.now }
+fn write_defaults(slots: &[Slot], list: &mut Body)
+    requires few { length slots.now ≤ 46 }
+    requires empty { list.old ≡ [] }
+    ensures { list.new ≡ slot_defaults 0 slots.now }
 {
-    let mut list = Body::new();
     for i in 0..slots.len() {
         list.append(&(i as u16).to_be_bytes());
         list.append(&[slots[i].value]);
     }
-    list
 }
 
 /// As many slots as there are, up to the count.

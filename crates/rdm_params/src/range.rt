@@ -6,12 +6,13 @@ ghost use Rattle.rdm_params.specs.Forms.{byte, word, preset};
 ghost use Rattle.rdm_params.specs.Ranges.{below, a_status, a_language, a_personality, a_start, a_slot, a_sensor, sensors, a_power_state, a_test, a_self_test, a_preset};
 ghost use Rattle.rdm_params.specs.Spot.{spot_of};
 
+use crate::argument::Argument;
 use crate::footprint::footprint;
 use crate::place::Place;
-use crate::{SelfTest, StatusText, Value};
+use crate::{SelfTest, StatusText};
 
 /// An 8-bit number below a limit.
-pub(crate) fn below(place: &Place<'_>, value: &Value, limit: u8) -> bool
+pub(crate) fn below(place: &Place<'_>, value: &Argument<'_>, limit: u8) -> bool
     ensures { result ≡ below limit byte (spot_of place.now) value.now }
 {
     match value.byte() {
@@ -21,7 +22,7 @@ pub(crate) fn below(place: &Place<'_>, value: &Value, limit: u8) -> bool
 }
 
 /// A status ID of the profile.
-pub(crate) fn a_status(place: &Place<'_>, value: &Value) -> bool
+pub(crate) fn a_status(place: &Place<'_>, value: &Argument<'_>) -> bool
     ensures { result ≡ a_status word (spot_of place.now) value.now }
 {
     match value.word() {
@@ -38,7 +39,7 @@ fn has_status(texts: &[StatusText], id: u16) -> bool
 }
 
 /// A language of the profile.
-pub(crate) fn a_language(place: &Place<'_>, value: &Value) -> bool
+pub(crate) fn a_language(place: &Place<'_>, value: &Argument<'_>) -> bool
     ensures { result ≡ a_language word (spot_of place.now) value.now }
 {
     match value.word() {
@@ -48,7 +49,7 @@ pub(crate) fn a_language(place: &Place<'_>, value: &Value) -> bool
 }
 
 /// A personality of the device, numbered from 1.
-pub(crate) fn a_personality(place: &Place<'_>, value: &Value) -> bool
+pub(crate) fn a_personality(place: &Place<'_>, value: &Argument<'_>) -> bool
     ensures { result ≡ a_personality byte (spot_of place.now) value.now }
 {
     match value.byte() {
@@ -58,7 +59,7 @@ pub(crate) fn a_personality(place: &Place<'_>, value: &Value) -> bool
 }
 
 /// A start address, at a device that uses slots.
-pub(crate) fn a_start(place: &Place<'_>, value: &Value) -> bool
+pub(crate) fn a_start(place: &Place<'_>, value: &Argument<'_>) -> bool
     ensures { result ≡ a_start word (spot_of place.now) value.now }
 {
     match value.word() {
@@ -68,7 +69,7 @@ pub(crate) fn a_start(place: &Place<'_>, value: &Value) -> bool
 }
 
 /// A slot that the current personality uses.
-pub(crate) fn a_slot(place: &Place<'_>, value: &Value) -> bool
+pub(crate) fn a_slot(place: &Place<'_>, value: &Argument<'_>) -> bool
     ensures { result ≡ a_slot word (spot_of place.now) value.now }
 {
     match value.word() {
@@ -78,7 +79,7 @@ pub(crate) fn a_slot(place: &Place<'_>, value: &Value) -> bool
 }
 
 /// A sensor.
-pub(crate) fn a_sensor(place: &Place<'_>, value: &Value) -> bool
+pub(crate) fn a_sensor(place: &Place<'_>, value: &Argument<'_>) -> bool
     ensures { result ≡ a_sensor byte (spot_of place.now) value.now }
 {
     match value.byte() {
@@ -88,7 +89,7 @@ pub(crate) fn a_sensor(place: &Place<'_>, value: &Value) -> bool
 }
 
 /// A sensor or, where there is one, FF for all.
-pub(crate) fn sensors(place: &Place<'_>, value: &Value) -> bool
+pub(crate) fn sensors(place: &Place<'_>, value: &Argument<'_>) -> bool
     ensures { result ≡ sensors byte (spot_of place.now) value.now }
 {
     match value.byte() {
@@ -101,7 +102,7 @@ pub(crate) fn sensors(place: &Place<'_>, value: &Value) -> bool
 }
 
 /// Off, standby, on without or with full brightness.
-pub(crate) fn a_power_state(place: &Place<'_>, value: &Value) -> bool
+pub(crate) fn a_power_state(place: &Place<'_>, value: &Argument<'_>) -> bool
     ensures { result ≡ a_power_state byte (spot_of place.now) value.now }
 {
     match value.byte() {
@@ -111,7 +112,7 @@ pub(crate) fn a_power_state(place: &Place<'_>, value: &Value) -> bool
 }
 
 /// A test of the profile.
-pub(crate) fn a_test(place: &Place<'_>, value: &Value) -> bool
+pub(crate) fn a_test(place: &Place<'_>, value: &Argument<'_>) -> bool
     ensures { result ≡ a_test byte (spot_of place.now) value.now }
 {
     match value.byte() {
@@ -121,7 +122,7 @@ pub(crate) fn a_test(place: &Place<'_>, value: &Value) -> bool
 }
 
 /// Off, all tests, or a test of the profile.
-pub(crate) fn a_self_test(place: &Place<'_>, value: &Value) -> bool
+pub(crate) fn a_self_test(place: &Place<'_>, value: &Argument<'_>) -> bool
     ensures { result ≡ a_self_test byte (spot_of place.now) value.now }
 {
     match value.byte() {
@@ -138,7 +139,7 @@ fn has_test(tests: &[SelfTest], number: u8) -> bool
 }
 
 /// Off, a preset of the profile, or all presets, at any level.
-pub(crate) fn a_preset(place: &Place<'_>, value: &Value) -> bool
+pub(crate) fn a_preset(place: &Place<'_>, value: &Argument<'_>) -> bool
     ensures { result ≡ a_preset preset (spot_of place.now) value.now }
 {
     match value.preset() {

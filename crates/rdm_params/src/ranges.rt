@@ -6,9 +6,10 @@ ghost use Rattle.rdm_params.specs.Spot.{spot_of};
 ghost use Rattle.rdm_params.specs.Table.{row_of, row_in, command_in, status, product, software, dmx, sensing, usage, display, control};
 ghost use Rattle.rdm_params.specs.Uses.{in_range_of};
 
+use crate::argument::Argument;
 use crate::place::Place;
 use crate::table::{kinds, rows};
-use crate::{Kind, Value, Verb, range};
+use crate::{Kind, Verb, range};
 
 macro_rules! range_rows {
     (($kind:ident $verb:ident $place:ident $value:ident) $(($name:ident $pid:tt $at:ident $get:tt $set:tt))*) => {
@@ -34,7 +35,7 @@ macro_rules! range_command {
 
 /// Whether the value is in range at the device.
 #[tactic(auto, unfolding(crate::specs::Table::row_of, crate::specs::Table::table))]
-pub(crate) fn is_in_range(kind: Kind, verb: Verb, place: &Place<'_>, value: &Value) -> bool
+pub(crate) fn is_in_range(kind: Kind, verb: Verb, place: &Place<'_>, value: &Argument<'_>) -> bool
     ensures { result ≡ in_range_of (command_in (row_of (pid_of kind)) verb) (spot_of place.now) value.now }
 {
     match kind {
@@ -49,49 +50,49 @@ pub(crate) fn is_in_range(kind: Kind, verb: Verb, place: &Place<'_>, value: &Val
     }
 }
 
-fn status_range(kind: Kind, verb: Verb, place: &Place<'_>, value: &Value) -> bool
+fn status_range(kind: Kind, verb: Verb, place: &Place<'_>, value: &Argument<'_>) -> bool
     ensures { result ≡ in_range_of (command_in (row_in status (pid_of kind)) verb) (spot_of place.now) value.now }
 {
     rows!(status, range_rows!(kind verb place value))
 }
 
-fn product_range(kind: Kind, verb: Verb, place: &Place<'_>, value: &Value) -> bool
+fn product_range(kind: Kind, verb: Verb, place: &Place<'_>, value: &Argument<'_>) -> bool
     ensures { result ≡ in_range_of (command_in (row_in product (pid_of kind)) verb) (spot_of place.now) value.now }
 {
     rows!(product, range_rows!(kind verb place value))
 }
 
-fn software_range(kind: Kind, verb: Verb, place: &Place<'_>, value: &Value) -> bool
+fn software_range(kind: Kind, verb: Verb, place: &Place<'_>, value: &Argument<'_>) -> bool
     ensures { result ≡ in_range_of (command_in (row_in software (pid_of kind)) verb) (spot_of place.now) value.now }
 {
     rows!(software, range_rows!(kind verb place value))
 }
 
-fn dmx_range(kind: Kind, verb: Verb, place: &Place<'_>, value: &Value) -> bool
+fn dmx_range(kind: Kind, verb: Verb, place: &Place<'_>, value: &Argument<'_>) -> bool
     ensures { result ≡ in_range_of (command_in (row_in dmx (pid_of kind)) verb) (spot_of place.now) value.now }
 {
     rows!(dmx, range_rows!(kind verb place value))
 }
 
-fn sensing_range(kind: Kind, verb: Verb, place: &Place<'_>, value: &Value) -> bool
+fn sensing_range(kind: Kind, verb: Verb, place: &Place<'_>, value: &Argument<'_>) -> bool
     ensures { result ≡ in_range_of (command_in (row_in sensing (pid_of kind)) verb) (spot_of place.now) value.now }
 {
     rows!(sensing, range_rows!(kind verb place value))
 }
 
-fn usage_range(kind: Kind, verb: Verb, place: &Place<'_>, value: &Value) -> bool
+fn usage_range(kind: Kind, verb: Verb, place: &Place<'_>, value: &Argument<'_>) -> bool
     ensures { result ≡ in_range_of (command_in (row_in usage (pid_of kind)) verb) (spot_of place.now) value.now }
 {
     rows!(usage, range_rows!(kind verb place value))
 }
 
-fn display_range(kind: Kind, verb: Verb, place: &Place<'_>, value: &Value) -> bool
+fn display_range(kind: Kind, verb: Verb, place: &Place<'_>, value: &Argument<'_>) -> bool
     ensures { result ≡ in_range_of (command_in (row_in display (pid_of kind)) verb) (spot_of place.now) value.now }
 {
     rows!(display, range_rows!(kind verb place value))
 }
 
-fn control_range(kind: Kind, verb: Verb, place: &Place<'_>, value: &Value) -> bool
+fn control_range(kind: Kind, verb: Verb, place: &Place<'_>, value: &Argument<'_>) -> bool
     ensures { result ≡ in_range_of (command_in (row_in control (pid_of kind)) verb) (spot_of place.now) value.now }
 {
     rows!(control, range_rows!(kind verb place value))

@@ -5,6 +5,7 @@ ghost use Rattle.rdm_params.specs.Kinds.{pid_of};
 ghost use Rattle.rdm_params.specs.Table.{row_of, row_in, command_in, status, product, software, dmx, sensing, usage, display, control};
 ghost use Rattle.rdm_params.specs.Uses.{read};
 
+use crate::argument::Argument;
 use crate::table::{kinds, rows};
 use crate::{Kind, Nack, Value, Verb, form};
 
@@ -29,8 +30,19 @@ macro_rules! read_command {
 /// The value that the data of a command says.
 ///
 /// It is `FormatError` where the data hasn't the length of the command, and where the parameter has no such command.
-#[tactic(auto, unfolding(crate::specs::Table::row_of, crate::specs::Table::table))]
 pub fn read_value(kind: Kind, verb: Verb, data: &[u8]) -> Result<Value, Nack>
+    ensures { result ≡ read (command_in (row_of (pid_of kind)) verb) data.now }
+{
+    match read_argument(kind, verb, data) {
+        Ok(argument) => Ok(argument.to_value()),
+        Err(nack) => Err(nack),
+    }
+}
+
+/// What the data of a command hands in.
+#[tactic(auto, unfolding(crate::specs::Table::row_of, crate::specs::Table::table))]
+#[inline(always)]
+pub(crate) fn read_argument(kind: Kind, verb: Verb, data: &[u8]) -> Result<Argument<'_>, Nack>
     ensures { result ≡ read (command_in (row_of (pid_of kind)) verb) data.now }
 {
     match kind {
@@ -45,49 +57,57 @@ pub fn read_value(kind: Kind, verb: Verb, data: &[u8]) -> Result<Value, Nack>
     }
 }
 
-fn read_status(kind: Kind, verb: Verb, data: &[u8]) -> Result<Value, Nack>
+#[inline(always)]
+fn read_status(kind: Kind, verb: Verb, data: &[u8]) -> Result<Argument<'_>, Nack>
     ensures { result ≡ read (command_in (row_in status (pid_of kind)) verb) data.now }
 {
     rows!(status, read_rows!(kind verb data))
 }
 
-fn read_product(kind: Kind, verb: Verb, data: &[u8]) -> Result<Value, Nack>
+#[inline(always)]
+fn read_product(kind: Kind, verb: Verb, data: &[u8]) -> Result<Argument<'_>, Nack>
     ensures { result ≡ read (command_in (row_in product (pid_of kind)) verb) data.now }
 {
     rows!(product, read_rows!(kind verb data))
 }
 
-fn read_software(kind: Kind, verb: Verb, data: &[u8]) -> Result<Value, Nack>
+#[inline(always)]
+fn read_software(kind: Kind, verb: Verb, data: &[u8]) -> Result<Argument<'_>, Nack>
     ensures { result ≡ read (command_in (row_in software (pid_of kind)) verb) data.now }
 {
     rows!(software, read_rows!(kind verb data))
 }
 
-fn read_dmx(kind: Kind, verb: Verb, data: &[u8]) -> Result<Value, Nack>
+#[inline(always)]
+fn read_dmx(kind: Kind, verb: Verb, data: &[u8]) -> Result<Argument<'_>, Nack>
     ensures { result ≡ read (command_in (row_in dmx (pid_of kind)) verb) data.now }
 {
     rows!(dmx, read_rows!(kind verb data))
 }
 
-fn read_sensing(kind: Kind, verb: Verb, data: &[u8]) -> Result<Value, Nack>
+#[inline(always)]
+fn read_sensing(kind: Kind, verb: Verb, data: &[u8]) -> Result<Argument<'_>, Nack>
     ensures { result ≡ read (command_in (row_in sensing (pid_of kind)) verb) data.now }
 {
     rows!(sensing, read_rows!(kind verb data))
 }
 
-fn read_usage(kind: Kind, verb: Verb, data: &[u8]) -> Result<Value, Nack>
+#[inline(always)]
+fn read_usage(kind: Kind, verb: Verb, data: &[u8]) -> Result<Argument<'_>, Nack>
     ensures { result ≡ read (command_in (row_in usage (pid_of kind)) verb) data.now }
 {
     rows!(usage, read_rows!(kind verb data))
 }
 
-fn read_display(kind: Kind, verb: Verb, data: &[u8]) -> Result<Value, Nack>
+#[inline(always)]
+fn read_display(kind: Kind, verb: Verb, data: &[u8]) -> Result<Argument<'_>, Nack>
     ensures { result ≡ read (command_in (row_in display (pid_of kind)) verb) data.now }
 {
     rows!(display, read_rows!(kind verb data))
 }
 
-fn read_control(kind: Kind, verb: Verb, data: &[u8]) -> Result<Value, Nack>
+#[inline(always)]
+fn read_control(kind: Kind, verb: Verb, data: &[u8]) -> Result<Argument<'_>, Nack>
     ensures { result ≡ read (command_in (row_in control (pid_of kind)) verb) data.now }
 {
     rows!(control, read_rows!(kind verb data))

@@ -1,34 +1,37 @@
 //! Replies that aren't what is stored at a key.
 
-ghost use Rattle.std.specs.Prelude.{◌≡◌, ◌==◌, ◌∷◌, ◌++◌, find, bytes_eq, slice_get};
+ghost use Rattle.std.specs.Prelude.{◌≡◌, ◌==◌, [], ◌∷◌, ◌++◌, find, bytes_eq, slice_get, length, is_some, if◌then◌else◌};
 ghost use Rattle.std.specs.List.{list_all};
 ghost use Rattle.std.specs.Option.{option_copied};
 ghost use Rattle.std.specs.Int.{w16, from_be_bytes};
-ghost use Rattle.rdm_params.specs.Replies.{status_text, factory_pids, device_info, info, at_factory_defaults, personality_of_all, personality_described, start_address, slot_described, sensor_described, sensor_measured, self_test_runs, self_test_described};
+ghost use Rattle.rdm_params.specs.Replies.{status_text, factory_pids, device_info, at_factory_defaults, personality_of_all, personality_described, start_address, slot_described, sensor_described, sensor_measured, self_test_runs, self_test_described};
 ghost use Rattle.rdm_params.specs.Map.{lookup};
 ghost use Rattle.rdm_params.specs.Parameters.{root_at_start};
 ghost use Rattle.rdm_params.specs.Spot.{spot_of};
 ghost use Rattle.rdm_params.specs.State.{common_entries, own_entries, sensor_entries, measured_slots};
-ghost use Rattle.rdm_params.specs.Table.{supported};
 ghost use Rattle.rdm_params.specs.Values.{bytes_of, word_slots};
 
+use crate::argument::Argument;
 use crate::footprint::footprint;
 pub(crate) use crate::lists::{languages, slot_defaults, slot_infos};
 use crate::place::Place;
 use crate::state::{Common, Measured, Own};
-use crate::supporting::supported_pids;
+pub(crate) use crate::supporting::supported;
+use crate::writing::write_into;
 use crate::{Profile, SelfTest, StatusText, Value};
+use rdm_frame::Body;
+
+/// The version of the protocol: 1.0 (E1.20 section 10.5.1).
+const PROTOCOL_VERSION: u16 = 0x0100;
 
 /// The meaning of a status ID.
-pub(crate) fn status_text(place: &Place<'_>, value: &Value) -> Value
-    ensures { bytes_of result ≡ status_text (spot_of place.now) value.now }
+pub(crate) fn status_text(place: &Place<'_>, value: &Argument<'_>, body: &mut Body)
+    requires { body.old ≡ [] }
+    ensures { body.new ≡ status_text (spot_of place.now) value.now }
 {
-    match status_of(
-        place.profile.status_texts.as_slice(),
-        value.word().unwrap_or(0),
-    ) {
-        Some(status) => Value::Label(status.text.copy()),
-        None => Value::Nothing,
+    let texts = place.profile.status_texts.as_slice();
+    if let Some(status) = status_of(texts, value.word().unwrap_or(0)) {
+        body.append(status.text.as_slice());
     }
 }
 
@@ -38,50 +41,45 @@ fn status_of(texts: &[StatusText], id: u16) -> Option<&StatusText>
     texts.iter().find(|t| t.id == id)
 }
 
-/// The PIDs that the device supports.
-pub(crate) fn supported(place: &Place<'_>) -> Value
-    ensures { bytes_of result ≡ supported (spot_of place.now) }
-{
-    Value::Block(supported_pids(place))
-}
-
 /// What the device is.
-pub(crate) fn device_info(place: &Place<'_>) -> Value
-    ensures { bytes_of result ≡ device_info (spot_of place.now) }
+#[tactic(auto, unfolding(crate::specs::State::common_entries))]
+pub(crate) fn device_info(place: &Place<'_>, body: &mut Body)
+    requires { body.old ≡ [] }
+    ensures { body.new ≡ device_info (spot_of place.now) }
 {
-    info_of(place)
+    let unit = place.unit;
+    // It is empty already. Here the compiler sees that, and looks for room no more.
+    body.clear();
+    body.append(&PROTOCOL_VERSION.to_be_bytes());
+    body.append(&unit.model.to_be_bytes());
+    body.append(&unit.category.to_be_bytes());
+    body.append(&unit.software.to_be_bytes());
+    body.append(&footprint(place).to_be_bytes());
+    body.append(&[place.common.personality, unit.personalities.len() as u8]);
+    body.append(&start_number(place).to_be_bytes());
+    body.append(&place.profile.subs.to_be_bytes());
+    body.append(&[sensor_count(place)]);
 }
 
-#[tactic(auto, unfolding(crate::specs::State::common_entries))]
-fn info_of(place: &Place<'_>) -> Value
-    ensures { result ≡ info (spot_of place.now) }
+/// How many sensors the device has: only the root has any.
+fn sensor_count(place: &Place<'_>) -> u8
+    ensures { result ≡ if is_some place.now.own then length place.now.profile.now.sensors.items else 0 }
 {
-    let sensors = match place.own {
+    match place.own {
         Some(_) => place.profile.sensors.len() as u8,
         None => 0,
-    };
-    Value::Info {
-        protocol: 0x0100,
-        model: place.unit.model,
-        category: place.unit.category,
-        software: place.unit.software,
-        footprint: footprint(place),
-        personality: place.common.personality,
-        personalities: place.unit.personalities.len() as u8,
-        start: start_number(place),
-        subs: place.profile.subs,
-        sensors,
     }
 }
 
 /// 1 where each parameter that FACTORY_DEFAULTS sets back has the value that it starts with, else 0.
 #[tactic(auto, unfolding(crate::specs::State::common_entries, crate::specs::State::own_entries, crate::specs::Parameters::common_at_start, crate::specs::Parameters::own_at_start), using(crate::proofs::Words::never))]
-pub(crate) fn at_factory_defaults(place: &Place<'_>) -> Value
-    ensures { bytes_of result ≡ at_factory_defaults (spot_of place.now) }
+pub(crate) fn at_factory_defaults(place: &Place<'_>, body: &mut Body)
+    requires { body.old ≡ [] }
+    ensures { body.new ≡ at_factory_defaults (spot_of place.now) }
 {
     match place.own {
-        Some(own) if is_set_back(place.profile, place.common, own) => Value::Byte(1),
-        _ => Value::Byte(0),
+        Some(own) if is_set_back(place.profile, place.common, own) => body.append(&[1]),
+        _ => body.append(&[0]),
     }
 }
 
@@ -113,39 +111,36 @@ fn same(stored: &[u8], first: &[u8]) -> bool
 
 /// The current personality, and how many there are.
 #[tactic(auto, unfolding(crate::specs::State::common_entries))]
-pub(crate) fn personality_of_all(place: &Place<'_>) -> Value
-    ensures { bytes_of result ≡ personality_of_all (spot_of place.now) }
+pub(crate) fn personality_of_all(place: &Place<'_>, body: &mut Body)
+    requires { body.old ≡ [] }
+    ensures { body.new ≡ personality_of_all (spot_of place.now) }
 {
-    Value::Pair(
+    body.append(&[
         place.common.personality,
         place.unit.personalities.len() as u8,
-    )
+    ]);
 }
 
 /// What a personality uses and is called.
-pub(crate) fn personality_described(place: &Place<'_>, value: &Value) -> Value
-    ensures { bytes_of result ≡ personality_described (spot_of place.now) value.now }
+pub(crate) fn personality_described(place: &Place<'_>, value: &Argument<'_>, body: &mut Body)
+    requires { body.old ≡ [] }
+    ensures { body.new ≡ personality_described (spot_of place.now) value.now }
 {
     let number = value.byte().unwrap_or(0);
-    match place
-        .unit
-        .personalities
-        .get((number as usize).saturating_sub(1))
-    {
-        Some(personality) => Value::Mode {
-            number,
-            footprint: personality.footprint,
-            name: personality.name.copy(),
-        },
-        None => Value::Nothing,
+    let index = (number as usize).saturating_sub(1);
+    if let Some(personality) = place.unit.personalities.get(index) {
+        body.append(&[number]);
+        body.append(&personality.footprint.to_be_bytes());
+        body.append(personality.name.as_slice());
     }
 }
 
 /// The DMX512 start address, or FFFF where the device uses no slots.
-pub(crate) fn start_address(place: &Place<'_>) -> Value
-    ensures { bytes_of result ≡ start_address (spot_of place.now) }
+pub(crate) fn start_address(place: &Place<'_>, body: &mut Body)
+    requires { body.old ≡ [] }
+    ensures { body.new ≡ start_address (spot_of place.now) }
 {
-    Value::Word(shown_start(place))
+    body.append(&shown_start(place).to_be_bytes());
 }
 
 #[tactic(auto, unfolding(crate::specs::State::common_entries))]
@@ -167,52 +162,51 @@ fn start_number(place: &Place<'_>) -> u16
 }
 
 /// What a slot is called.
-pub(crate) fn slot_described(place: &Place<'_>, value: &Value) -> Value
-    ensures { bytes_of result ≡ slot_described (spot_of place.now) value.now }
+pub(crate) fn slot_described(place: &Place<'_>, value: &Argument<'_>, body: &mut Body)
+    requires { body.old ≡ [] }
+    ensures { body.new ≡ slot_described (spot_of place.now) value.now }
 {
     let offset = value.word().unwrap_or(0);
-    match place.profile.slots.get(offset as usize) {
-        Some(slot) => Value::SlotName {
-            offset,
-            name: slot.name.copy(),
-        },
-        None => Value::Nothing,
+    if let Some(slot) = place.profile.slots.get(offset as usize) {
+        body.append(&offset.to_be_bytes());
+        body.append(slot.name.as_slice());
     }
 }
 
 /// What a sensor measures.
-pub(crate) fn sensor_described(place: &Place<'_>, value: &Value) -> Value
-    ensures { bytes_of result ≡ sensor_described (spot_of place.now) value.now }
+pub(crate) fn sensor_described(place: &Place<'_>, value: &Argument<'_>, body: &mut Body)
+    requires { body.old ≡ [] }
+    ensures { body.new ≡ sensor_described (spot_of place.now) value.now }
 {
     let number = value.byte().unwrap_or(0);
-    match place.profile.sensors.get(number as usize) {
-        Some(sensor) => Value::Sensor {
-            number,
-            def: sensor.copy(),
-        },
-        None => Value::Nothing,
+    if let Some(sensor) = place.profile.sensors.get(number as usize) {
+        let def = sensor.copy();
+        write_into(&Value::Sensor { number, def }, body);
     }
 }
 
 /// What a sensor measured, or FF and eight 00 for all sensors.
 #[tactic(auto, unfolding(crate::specs::State::common_entries, crate::specs::State::own_entries))]
-pub(crate) fn sensor_measured(place: &Place<'_>, value: &Value) -> Value
-    ensures { bytes_of result ≡ sensor_measured (spot_of place.now) value.now }
+pub(crate) fn sensor_measured(place: &Place<'_>, value: &Argument<'_>, body: &mut Body)
+    requires { body.old ≡ [] }
+    ensures { body.new ≡ sensor_measured (spot_of place.now) value.now }
 {
     let number = value.byte().unwrap_or(0);
     if number == 0xFF {
-        return Value::Reading {
-            number,
-            present: 0,
-            lowest: 0,
-            highest: 0,
-            recorded: 0,
-        };
+        body.append(&[0xFF, 0, 0, 0, 0, 0, 0, 0, 0]);
+        return;
     }
     match place.own {
-        Some(own) => reading_of(own.sensors.as_slice(), number),
-        None => Value::Byte(number),
+        Some(own) => write_reading(own.sensors.as_slice(), number, body),
+        None => body.append(&[number]),
     }
+}
+
+fn write_reading(sensors: &[Measured], number: u8, body: &mut Body)
+    requires { body.old ≡ [] }
+    ensures { body.new ≡ number ∷ lookup (sensor_entries 0 sensors.now) 0x0201 number }
+{
+    write_into(&reading_of(sensors, number), body);
 }
 
 fn reading_of(sensors: &[Measured], number: u8) -> Value
@@ -244,26 +238,25 @@ fn reading(number: u8, measured: Measured) -> Value
 
 /// 1 where the self test that was last switched on isn't off, else 0.
 #[tactic(auto, unfolding(crate::specs::State::common_entries, crate::specs::State::own_entries))]
-pub(crate) fn self_test_runs(place: &Place<'_>) -> Value
-    ensures { bytes_of result ≡ self_test_runs (spot_of place.now) }
+pub(crate) fn self_test_runs(place: &Place<'_>, body: &mut Body)
+    requires { body.old ≡ [] }
+    ensures { body.new ≡ self_test_runs (spot_of place.now) }
 {
     match place.own {
-        Some(own) if own.self_test != 0 => Value::Byte(1),
-        _ => Value::Byte(0),
+        Some(own) if own.self_test != 0 => body.append(&[1]),
+        _ => body.append(&[0]),
     }
 }
 
 /// What a self test is called.
-pub(crate) fn self_test_described(place: &Place<'_>, value: &Value) -> Value
-    ensures { bytes_of result ≡ self_test_described (spot_of place.now) value.now }
+pub(crate) fn self_test_described(place: &Place<'_>, value: &Argument<'_>, body: &mut Body)
+    requires { body.old ≡ [] }
+    ensures { body.new ≡ self_test_described (spot_of place.now) value.now }
 {
     let number = value.byte().unwrap_or(0);
-    match test_of(place.profile.tests.as_slice(), number) {
-        Some(test) => Value::Named {
-            number,
-            name: test.name.copy(),
-        },
-        None => Value::Nothing,
+    if let Some(test) = test_of(place.profile.tests.as_slice(), number) {
+        body.append(&[number]);
+        body.append(test.name.as_slice());
     }
 }
 

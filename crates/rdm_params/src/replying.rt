@@ -1,126 +1,146 @@
 //! What a command answers.
 
-ghost use Rattle.std.specs.Prelude.{◌≡◌};
+ghost use Rattle.std.specs.Prelude.{◌≡◌, []};
 ghost use Rattle.rdm_params.specs.Kinds.{pid_of};
 ghost use Rattle.rdm_params.specs.Spot.{spot_of};
 ghost use Rattle.rdm_params.specs.Table.{row_of, row_in, command_in, status, product, software, dmx, sensing, usage, display, control};
 ghost use Rattle.rdm_params.specs.Uses.{reply};
-ghost use Rattle.rdm_params.specs.Values.{bytes_of};
 
+use crate::argument::Argument;
 use crate::place::Place;
 use crate::table::{kinds, rows};
-use crate::{Kind, Value, Verb, replies};
+use crate::{Kind, Verb, replies};
+use rdm_frame::Body;
 
 macro_rules! reply_rows {
-    (($kind:ident $verb:ident $place:ident $value:ident) $(($name:ident $pid:tt $at:ident $get:tt $set:tt))*) => {
+    (($kind:ident $verb:ident $place:ident $value:ident $body:ident) $(($name:ident $pid:tt $at:ident $get:tt $set:tt))*) => {
         match $kind {
             $(Kind::$name => match $verb {
-                Verb::Get => reply_command!($get $place $value),
-                Verb::Set => reply_command!($set $place $value),
+                Verb::Get => reply_command!($get $place $value $body),
+                Verb::Set => reply_command!($set $place $value $body),
             },)*
-            _ => Value::Nothing,
+            _ => {}
         }
     };
 }
 
 macro_rules! reply_command {
-    ((reads $source:tt) $place:ident $value:ident) => { source!($source $place) };
-    ((asks $form:ident $range:tt $reply:ident) $place:ident $value:ident) => { replies::$reply($place, $value) };
-    ((sets $form:ident $range:tt $change:tt none) $place:ident $value:ident) => { Value::Nothing };
-    ((sets $form:ident $range:tt $change:tt $reply:ident) $place:ident $value:ident) => {
-        replies::$reply($place, $value)
+    ((reads $source:tt) $place:ident $value:ident $body:ident) => { source!($source $place $body) };
+    ((asks $form:ident $range:tt $reply:ident) $place:ident $value:ident $body:ident) => {
+        replies::$reply($place, $value, $body)
     };
-    ($command:tt $place:ident $value:ident) => { Value::Nothing };
+    ((sets $form:ident $range:tt $change:tt none) $place:ident $value:ident $body:ident) => { {} };
+    ((sets $form:ident $range:tt $change:tt $reply:ident) $place:ident $value:ident $body:ident) => {
+        replies::$reply($place, $value, $body)
+    };
+    ($command:tt $place:ident $value:ident $body:ident) => { {} };
 }
 
 macro_rules! source {
-    ((computed $reply:ident) $place:ident) => { replies::$reply($place) };
-    ((own $form:ident $field:ident) $place:ident) => {
-        match $place.own {
-            Some(own) => typed!($form (own.$field)),
-            None => Value::Nothing,
+    ((computed $reply:ident) $place:ident $body:ident) => { replies::$reply($place, $body) };
+    ((own $form:ident $field:ident) $place:ident $body:ident) => {
+        if let Some(own) = $place.own {
+            typed!($form $body (own.$field))
         }
     };
-    (($part:ident $form:ident $field:ident) $place:ident) => { typed!($form ($place.$part.$field)) };
+    (($part:ident $form:ident $field:ident) $place:ident $body:ident) => { typed!($form $body ($place.$part.$field)) };
 }
 
 macro_rules! typed {
-    (byte ($field:expr)) => { Value::Byte($field) };
-    (word ($field:expr)) => { Value::Word($field) };
-    (long ($field:expr)) => { Value::Long($field) };
-    (preset ($field:expr)) => { Value::Preset { mode: $field.0, level: $field.1 } };
-    (text ($field:expr)) => { Value::Label($field.copy()) };
+    (byte $body:ident ($field:expr)) => { $body.append(&[$field]) };
+    (word $body:ident ($field:expr)) => { $body.append(&$field.to_be_bytes()) };
+    (long $body:ident ($field:expr)) => { $body.append(&$field.to_be_bytes()) };
+    (preset $body:ident ($field:expr)) => {{
+        $body.append(&$field.0.to_be_bytes());
+        $body.append(&[$field.1])
+    }};
+    (text $body:ident ($field:expr)) => { $body.append($field.as_slice()) };
 }
 
-/// What a command answers at a device, which has carried it out.
+/// Writes what a command answers at a device, which has carried it out, where nothing is yet.
 #[tactic(auto, unfolding(crate::specs::Table::row_of, crate::specs::Table::table))]
-pub(crate) fn reply_to(kind: Kind, verb: Verb, place: &Place<'_>, value: &Value) -> Value
-    ensures { bytes_of result ≡ reply (command_in (row_of (pid_of kind)) verb) (spot_of place.now) value.now }
+pub(crate) fn reply_into(
+    kind: Kind,
+    verb: Verb,
+    place: &Place<'_>,
+    value: &Argument<'_>,
+    body: &mut Body,
+)
+    requires { body.old ≡ [] }
+    ensures { body.new ≡ reply (command_in (row_of (pid_of kind)) verb) (spot_of place.now) value.now }
 {
     match kind {
-        rows!(status, kinds!()) => status_reply(kind, verb, place, value),
-        rows!(product, kinds!()) => product_reply(kind, verb, place, value),
-        rows!(software, kinds!()) => software_reply(kind, verb, place, value),
-        rows!(dmx, kinds!()) => dmx_reply(kind, verb, place, value),
-        rows!(sensing, kinds!()) => sensing_reply(kind, verb, place, value),
-        rows!(usage, kinds!()) => usage_reply(kind, verb, place, value),
-        rows!(display, kinds!()) => display_reply(kind, verb, place, value),
-        rows!(control, kinds!()) => control_reply(kind, verb, place, value),
+        rows!(status, kinds!()) => status_reply(kind, verb, place, value, body),
+        rows!(product, kinds!()) => product_reply(kind, verb, place, value, body),
+        rows!(software, kinds!()) => software_reply(kind, verb, place, value, body),
+        rows!(dmx, kinds!()) => dmx_reply(kind, verb, place, value, body),
+        rows!(sensing, kinds!()) => sensing_reply(kind, verb, place, value, body),
+        rows!(usage, kinds!()) => usage_reply(kind, verb, place, value, body),
+        rows!(display, kinds!()) => display_reply(kind, verb, place, value, body),
+        rows!(control, kinds!()) => control_reply(kind, verb, place, value, body),
     }
 }
 
 #[tactic(auto, unfolding(crate::specs::State::common_entries, crate::specs::State::own_entries))]
-fn status_reply(kind: Kind, verb: Verb, place: &Place<'_>, value: &Value) -> Value
-    ensures { bytes_of result ≡ reply (command_in (row_in status (pid_of kind)) verb) (spot_of place.now) value.now }
+fn status_reply(kind: Kind, verb: Verb, place: &Place<'_>, value: &Argument<'_>, body: &mut Body)
+    requires { body.old ≡ [] }
+    ensures { body.new ≡ reply (command_in (row_in status (pid_of kind)) verb) (spot_of place.now) value.now }
 {
-    rows!(status, reply_rows!(kind verb place value))
+    rows!(status, reply_rows!(kind verb place value body))
 }
 
 #[tactic(auto, unfolding(crate::specs::State::common_entries, crate::specs::State::own_entries))]
-fn product_reply(kind: Kind, verb: Verb, place: &Place<'_>, value: &Value) -> Value
-    ensures { bytes_of result ≡ reply (command_in (row_in product (pid_of kind)) verb) (spot_of place.now) value.now }
+fn product_reply(kind: Kind, verb: Verb, place: &Place<'_>, value: &Argument<'_>, body: &mut Body)
+    requires { body.old ≡ [] }
+    ensures { body.new ≡ reply (command_in (row_in product (pid_of kind)) verb) (spot_of place.now) value.now }
 {
-    rows!(product, reply_rows!(kind verb place value))
+    rows!(product, reply_rows!(kind verb place value body))
 }
 
 #[tactic(auto, unfolding(crate::specs::State::common_entries, crate::specs::State::own_entries))]
-fn software_reply(kind: Kind, verb: Verb, place: &Place<'_>, value: &Value) -> Value
-    ensures { bytes_of result ≡ reply (command_in (row_in software (pid_of kind)) verb) (spot_of place.now) value.now }
+fn software_reply(kind: Kind, verb: Verb, place: &Place<'_>, value: &Argument<'_>, body: &mut Body)
+    requires { body.old ≡ [] }
+    ensures { body.new ≡ reply (command_in (row_in software (pid_of kind)) verb) (spot_of place.now) value.now }
 {
-    rows!(software, reply_rows!(kind verb place value))
+    rows!(software, reply_rows!(kind verb place value body))
 }
 
 #[tactic(auto, unfolding(crate::specs::State::common_entries, crate::specs::State::own_entries))]
-fn dmx_reply(kind: Kind, verb: Verb, place: &Place<'_>, value: &Value) -> Value
-    ensures { bytes_of result ≡ reply (command_in (row_in dmx (pid_of kind)) verb) (spot_of place.now) value.now }
+fn dmx_reply(kind: Kind, verb: Verb, place: &Place<'_>, value: &Argument<'_>, body: &mut Body)
+    requires { body.old ≡ [] }
+    ensures { body.new ≡ reply (command_in (row_in dmx (pid_of kind)) verb) (spot_of place.now) value.now }
 {
-    rows!(dmx, reply_rows!(kind verb place value))
+    rows!(dmx, reply_rows!(kind verb place value body))
 }
 
 #[tactic(auto, unfolding(crate::specs::State::common_entries, crate::specs::State::own_entries))]
-fn sensing_reply(kind: Kind, verb: Verb, place: &Place<'_>, value: &Value) -> Value
-    ensures { bytes_of result ≡ reply (command_in (row_in sensing (pid_of kind)) verb) (spot_of place.now) value.now }
+fn sensing_reply(kind: Kind, verb: Verb, place: &Place<'_>, value: &Argument<'_>, body: &mut Body)
+    requires { body.old ≡ [] }
+    ensures { body.new ≡ reply (command_in (row_in sensing (pid_of kind)) verb) (spot_of place.now) value.now }
 {
-    rows!(sensing, reply_rows!(kind verb place value))
+    rows!(sensing, reply_rows!(kind verb place value body))
 }
 
 #[tactic(auto, unfolding(crate::specs::State::common_entries, crate::specs::State::own_entries))]
-fn usage_reply(kind: Kind, verb: Verb, place: &Place<'_>, value: &Value) -> Value
-    ensures { bytes_of result ≡ reply (command_in (row_in usage (pid_of kind)) verb) (spot_of place.now) value.now }
+fn usage_reply(kind: Kind, verb: Verb, place: &Place<'_>, value: &Argument<'_>, body: &mut Body)
+    requires { body.old ≡ [] }
+    ensures { body.new ≡ reply (command_in (row_in usage (pid_of kind)) verb) (spot_of place.now) value.now }
 {
-    rows!(usage, reply_rows!(kind verb place value))
+    rows!(usage, reply_rows!(kind verb place value body))
 }
 
 #[tactic(auto, unfolding(crate::specs::State::common_entries, crate::specs::State::own_entries))]
-fn display_reply(kind: Kind, verb: Verb, place: &Place<'_>, value: &Value) -> Value
-    ensures { bytes_of result ≡ reply (command_in (row_in display (pid_of kind)) verb) (spot_of place.now) value.now }
+fn display_reply(kind: Kind, verb: Verb, place: &Place<'_>, value: &Argument<'_>, body: &mut Body)
+    requires { body.old ≡ [] }
+    ensures { body.new ≡ reply (command_in (row_in display (pid_of kind)) verb) (spot_of place.now) value.now }
 {
-    rows!(display, reply_rows!(kind verb place value))
+    rows!(display, reply_rows!(kind verb place value body))
 }
 
 #[tactic(auto, unfolding(crate::specs::State::common_entries, crate::specs::State::own_entries))]
-fn control_reply(kind: Kind, verb: Verb, place: &Place<'_>, value: &Value) -> Value
-    ensures { bytes_of result ≡ reply (command_in (row_in control (pid_of kind)) verb) (spot_of place.now) value.now }
+fn control_reply(kind: Kind, verb: Verb, place: &Place<'_>, value: &Argument<'_>, body: &mut Body)
+    requires { body.old ≡ [] }
+    ensures { body.new ≡ reply (command_in (row_in control (pid_of kind)) verb) (spot_of place.now) value.now }
 {
-    rows!(control, reply_rows!(kind verb place value))
+    rows!(control, reply_rows!(kind verb place value body))
 }

@@ -9,9 +9,10 @@ ghost use Rattle.rdm_params.specs.State.{common_entries, own_entries};
 ghost use Rattle.rdm_params.specs.Table.{row_of, row_in, command_in, status, product, software, dmx, sensing, usage, display, control};
 ghost use Rattle.rdm_params.specs.Uses.{change};
 
+use crate::argument::Argument;
 use crate::state::{Common, Own};
 use crate::table::{kinds, rows};
-use crate::{Kind, Profile, Value, changes};
+use crate::{Kind, Profile, changes};
 
 macro_rules! common_rows {
     (($kind:ident $value:ident $profile:ident $common:ident) $(($name:ident $pid:tt $at:ident $get:tt $set:tt))*) => {
@@ -58,7 +59,7 @@ macro_rules! write_own {
 
 /// Writes what a SET writes of the values that every device keeps.
 #[tactic(auto, unfolding(crate::specs::Table::row_of, crate::specs::Table::table))]
-pub(crate) fn store_common(kind: Kind, value: &Value, profile: &Profile, common: &mut Common)
+pub(crate) fn store_common(kind: Kind, value: &Argument<'_>, profile: &Profile, common: &mut Common)
     ensures { (spot : Spot) → spot.profile ≡ profile.now → common_entries common.new ≡ update (change (command_in (row_of (pid_of kind)) Set) spot value.now) (common_entries common.old) }
 {
     match kind {
@@ -74,56 +75,56 @@ pub(crate) fn store_common(kind: Kind, value: &Value, profile: &Profile, common:
 }
 
 #[tactic(auto, unfolding(crate::specs::State::common_entries))]
-fn status_common(kind: Kind, value: &Value, profile: &Profile, common: &mut Common)
+fn status_common(kind: Kind, value: &Argument<'_>, profile: &Profile, common: &mut Common)
     ensures { (spot : Spot) → spot.profile ≡ profile.now → common_entries common.new ≡ update (change (command_in (row_in status (pid_of kind)) Set) spot value.now) (common_entries common.old) }
 {
     rows!(status, common_rows!(kind value profile common))
 }
 
 #[tactic(auto, unfolding(crate::specs::State::common_entries))]
-fn product_common(kind: Kind, value: &Value, profile: &Profile, common: &mut Common)
+fn product_common(kind: Kind, value: &Argument<'_>, profile: &Profile, common: &mut Common)
     ensures { (spot : Spot) → spot.profile ≡ profile.now → common_entries common.new ≡ update (change (command_in (row_in product (pid_of kind)) Set) spot value.now) (common_entries common.old) }
 {
     rows!(product, common_rows!(kind value profile common))
 }
 
 #[tactic(auto, unfolding(crate::specs::State::common_entries))]
-fn software_common(kind: Kind, value: &Value, profile: &Profile, common: &mut Common)
+fn software_common(kind: Kind, value: &Argument<'_>, profile: &Profile, common: &mut Common)
     ensures { (spot : Spot) → spot.profile ≡ profile.now → common_entries common.new ≡ update (change (command_in (row_in software (pid_of kind)) Set) spot value.now) (common_entries common.old) }
 {
     rows!(software, common_rows!(kind value profile common))
 }
 
 #[tactic(auto, unfolding(crate::specs::State::common_entries))]
-fn dmx_common(kind: Kind, value: &Value, profile: &Profile, common: &mut Common)
+fn dmx_common(kind: Kind, value: &Argument<'_>, profile: &Profile, common: &mut Common)
     ensures { (spot : Spot) → spot.profile ≡ profile.now → common_entries common.new ≡ update (change (command_in (row_in dmx (pid_of kind)) Set) spot value.now) (common_entries common.old) }
 {
     rows!(dmx, common_rows!(kind value profile common))
 }
 
 #[tactic(auto, unfolding(crate::specs::State::common_entries))]
-fn sensing_common(kind: Kind, value: &Value, profile: &Profile, common: &mut Common)
+fn sensing_common(kind: Kind, value: &Argument<'_>, profile: &Profile, common: &mut Common)
     ensures { (spot : Spot) → spot.profile ≡ profile.now → common_entries common.new ≡ update (change (command_in (row_in sensing (pid_of kind)) Set) spot value.now) (common_entries common.old) }
 {
     rows!(sensing, common_rows!(kind value profile common))
 }
 
 #[tactic(auto, unfolding(crate::specs::State::common_entries))]
-fn usage_common(kind: Kind, value: &Value, profile: &Profile, common: &mut Common)
+fn usage_common(kind: Kind, value: &Argument<'_>, profile: &Profile, common: &mut Common)
     ensures { (spot : Spot) → spot.profile ≡ profile.now → common_entries common.new ≡ update (change (command_in (row_in usage (pid_of kind)) Set) spot value.now) (common_entries common.old) }
 {
     rows!(usage, common_rows!(kind value profile common))
 }
 
 #[tactic(auto, unfolding(crate::specs::State::common_entries))]
-fn display_common(kind: Kind, value: &Value, profile: &Profile, common: &mut Common)
+fn display_common(kind: Kind, value: &Argument<'_>, profile: &Profile, common: &mut Common)
     ensures { (spot : Spot) → spot.profile ≡ profile.now → common_entries common.new ≡ update (change (command_in (row_in display (pid_of kind)) Set) spot value.now) (common_entries common.old) }
 {
     rows!(display, common_rows!(kind value profile common))
 }
 
 #[tactic(auto, unfolding(crate::specs::State::common_entries))]
-fn control_common(kind: Kind, value: &Value, profile: &Profile, common: &mut Common)
+fn control_common(kind: Kind, value: &Argument<'_>, profile: &Profile, common: &mut Common)
     ensures { (spot : Spot) → spot.profile ≡ profile.now → common_entries common.new ≡ update (change (command_in (row_in control (pid_of kind)) Set) spot value.now) (common_entries common.old) }
 {
     rows!(control, common_rows!(kind value profile common))
@@ -131,7 +132,7 @@ fn control_common(kind: Kind, value: &Value, profile: &Profile, common: &mut Com
 
 /// Writes what a SET writes of the values that the root alone keeps.
 #[tactic(auto, unfolding(crate::specs::Table::row_of, crate::specs::Table::table))]
-pub(crate) fn store_own(kind: Kind, value: &Value, profile: &Profile, own: &mut Own)
+pub(crate) fn store_own(kind: Kind, value: &Argument<'_>, profile: &Profile, own: &mut Own)
     ensures { (spot : Spot) → spot.profile ≡ profile.now → own_entries own.new ≡ update (change (command_in (row_of (pid_of kind)) Set) spot value.now) (own_entries own.old) }
 {
     match kind {
@@ -147,56 +148,56 @@ pub(crate) fn store_own(kind: Kind, value: &Value, profile: &Profile, own: &mut 
 }
 
 #[tactic(auto, unfolding(crate::specs::State::own_entries), using(crate::proofs::Sensors::sensors_stay))]
-fn status_own(kind: Kind, value: &Value, profile: &Profile, own: &mut Own)
+fn status_own(kind: Kind, value: &Argument<'_>, profile: &Profile, own: &mut Own)
     ensures { (spot : Spot) → spot.profile ≡ profile.now → own_entries own.new ≡ update (change (command_in (row_in status (pid_of kind)) Set) spot value.now) (own_entries own.old) }
 {
     rows!(status, own_rows!(kind value profile own))
 }
 
 #[tactic(auto, unfolding(crate::specs::State::own_entries), using(crate::proofs::Sensors::sensors_stay))]
-fn product_own(kind: Kind, value: &Value, profile: &Profile, own: &mut Own)
+fn product_own(kind: Kind, value: &Argument<'_>, profile: &Profile, own: &mut Own)
     ensures { (spot : Spot) → spot.profile ≡ profile.now → own_entries own.new ≡ update (change (command_in (row_in product (pid_of kind)) Set) spot value.now) (own_entries own.old) }
 {
     rows!(product, own_rows!(kind value profile own))
 }
 
 #[tactic(auto, unfolding(crate::specs::State::own_entries), using(crate::proofs::Sensors::sensors_stay))]
-fn software_own(kind: Kind, value: &Value, profile: &Profile, own: &mut Own)
+fn software_own(kind: Kind, value: &Argument<'_>, profile: &Profile, own: &mut Own)
     ensures { (spot : Spot) → spot.profile ≡ profile.now → own_entries own.new ≡ update (change (command_in (row_in software (pid_of kind)) Set) spot value.now) (own_entries own.old) }
 {
     rows!(software, own_rows!(kind value profile own))
 }
 
 #[tactic(auto, unfolding(crate::specs::State::own_entries), using(crate::proofs::Sensors::sensors_stay))]
-fn dmx_own(kind: Kind, value: &Value, profile: &Profile, own: &mut Own)
+fn dmx_own(kind: Kind, value: &Argument<'_>, profile: &Profile, own: &mut Own)
     ensures { (spot : Spot) → spot.profile ≡ profile.now → own_entries own.new ≡ update (change (command_in (row_in dmx (pid_of kind)) Set) spot value.now) (own_entries own.old) }
 {
     rows!(dmx, own_rows!(kind value profile own))
 }
 
 #[tactic(auto, unfolding(crate::specs::State::own_entries), using(crate::proofs::Sensors::sensors_stay))]
-fn sensing_own(kind: Kind, value: &Value, profile: &Profile, own: &mut Own)
+fn sensing_own(kind: Kind, value: &Argument<'_>, profile: &Profile, own: &mut Own)
     ensures { (spot : Spot) → spot.profile ≡ profile.now → own_entries own.new ≡ update (change (command_in (row_in sensing (pid_of kind)) Set) spot value.now) (own_entries own.old) }
 {
     rows!(sensing, own_rows!(kind value profile own))
 }
 
 #[tactic(auto, unfolding(crate::specs::State::own_entries), using(crate::proofs::Sensors::sensors_stay))]
-fn usage_own(kind: Kind, value: &Value, profile: &Profile, own: &mut Own)
+fn usage_own(kind: Kind, value: &Argument<'_>, profile: &Profile, own: &mut Own)
     ensures { (spot : Spot) → spot.profile ≡ profile.now → own_entries own.new ≡ update (change (command_in (row_in usage (pid_of kind)) Set) spot value.now) (own_entries own.old) }
 {
     rows!(usage, own_rows!(kind value profile own))
 }
 
 #[tactic(auto, unfolding(crate::specs::State::own_entries), using(crate::proofs::Sensors::sensors_stay))]
-fn display_own(kind: Kind, value: &Value, profile: &Profile, own: &mut Own)
+fn display_own(kind: Kind, value: &Argument<'_>, profile: &Profile, own: &mut Own)
     ensures { (spot : Spot) → spot.profile ≡ profile.now → own_entries own.new ≡ update (change (command_in (row_in display (pid_of kind)) Set) spot value.now) (own_entries own.old) }
 {
     rows!(display, own_rows!(kind value profile own))
 }
 
 #[tactic(auto, unfolding(crate::specs::State::own_entries), using(crate::proofs::Sensors::sensors_stay))]
-fn control_own(kind: Kind, value: &Value, profile: &Profile, own: &mut Own)
+fn control_own(kind: Kind, value: &Argument<'_>, profile: &Profile, own: &mut Own)
     ensures { (spot : Spot) → spot.profile ≡ profile.now → own_entries own.new ≡ update (change (command_in (row_in control (pid_of kind)) Set) spot value.now) (own_entries own.old) }
 {
     rows!(control, own_rows!(kind value profile own))

@@ -9,11 +9,12 @@ ghost use Rattle.rdm_params.specs.Parameters.{common_at_start};
 ghost use Rattle.rdm_params.specs.State.{common_entries};
 ghost use Rattle.rdm_params.specs.Uses.{in_range_of};
 
+use crate::argument::Argument;
 use crate::place::Place;
 use crate::ranges::is_in_range;
 use crate::state::Common;
 use crate::storing::store_common;
-use crate::{Kind, Profile, Unit, Value, Verb};
+use crate::{Kind, Profile, Unit, Verb};
 use std::alloc::{AllocError, Global};
 
 /// As many sub-devices, with the values that they start with.
@@ -33,7 +34,7 @@ pub(crate) fn all_in_range<'a>(
     kind: Kind,
     verb: Verb,
     subs: &'a [Common],
-    value: &Value,
+    value: &Argument<'_>,
 ) -> bool
     ensures { result ≡ list_all (λ spot. in_range_of (command_of (pid_of kind) verb) spot value.now) (map (profile_sub_spot profile.now) (map common_entries subs.now)) }
 {
@@ -52,7 +53,7 @@ pub(crate) fn all_in_range<'a>(
 }
 
 /// Carries out a SET at every sub-device.
-pub(crate) fn store_each(kind: Kind, value: &Value, profile: &Profile, subs: &mut [Common])
+pub(crate) fn store_each(kind: Kind, value: &Argument<'_>, profile: &Profile, subs: &mut [Common])
     ensures { map common_entries subs.new ≡ map (λ entries. written (command_of (pid_of kind) Set) value.now (profile_sub_spot profile.now entries)) (map common_entries subs.old) }
 {
     for i in 0..subs.len() {
@@ -63,7 +64,7 @@ pub(crate) fn store_each(kind: Kind, value: &Value, profile: &Profile, subs: &mu
 /// Carries out a SET at one sub-device, if there is one at this place.
 pub(crate) fn store_at(
     kind: Kind,
-    value: &Value,
+    value: &Argument<'_>,
     profile: &Profile,
     subs: &mut [Common],
     index: usize,

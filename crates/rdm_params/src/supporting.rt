@@ -1,6 +1,6 @@
 //! The list of supported parameters.
 
-ghost use Rattle.std.specs.Prelude.{◌≡◌, ◌≤◌, ◌+◌, ◌++◌, length};
+ghost use Rattle.std.specs.Prelude.{◌≡◌, ◌≤◌, ◌+◌, [], ◌++◌, length};
 ghost use Rattle.rdm_params.specs.Spot.{spot_of};
 ghost use Rattle.rdm_params.specs.Table.{supported, listed, status, information, software, dmx, sensing, usage, display, control};
 
@@ -35,20 +35,21 @@ macro_rules! list_row {
 
 /// The PIDs that the device supports, in their order, beside those that every device does.
 #[tactic(auto, unfolding(crate::specs::Table::supported), using(crate::proofs::Supported::listed_append))]
-pub(crate) fn supported_pids(place: &Place<'_>) -> Body
-    ensures { result ≡ supported (spot_of place.now) }
+pub(crate) fn supported(place: &Place<'_>, list: &mut Body)
+    requires { list.old ≡ [] }
+    ensures { list.new ≡ supported (spot_of place.now) }
 {
     let is_root = place.own.is_some();
-    let mut list = Body::new();
-    list_status(is_root, &mut list);
-    list_product(is_root, &mut list);
-    list_software(is_root, &mut list);
-    list_dmx(is_root, &mut list);
-    list_sensing(is_root, &mut list);
-    list_usage(is_root, &mut list);
-    list_display(is_root, &mut list);
-    list_control(is_root, &mut list);
-    list
+    // It is empty already. Here the compiler sees that, and looks for room no more.
+    list.clear();
+    list_status(is_root, list);
+    list_product(is_root, list);
+    list_software(is_root, list);
+    list_dmx(is_root, list);
+    list_sensing(is_root, list);
+    list_usage(is_root, list);
+    list_display(is_root, list);
+    list_control(is_root, list);
 }
 
 fn list_status(is_root: bool, list: &mut Body)

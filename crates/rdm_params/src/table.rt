@@ -109,5 +109,10 @@ macro_rules! kinds {
     (() $(($kind:ident $pid:tt $at:ident $get:tt $set:tt))*) => { $(Kind::$kind)|* };
 }
 
+macro_rules! forms {
+    (() $(($name:ident $($fields:tt)?))*) => { $(Value::$name { .. })|* };
+}
+
+pub(crate) use forms;
 pub(crate) use kinds;
 pub(crate) use rows;

@@ -1,5 +1,8 @@
 //! What becomes of a command.
 
+ghost use Rattle.std.specs.Prelude.{◌≡◌};
+ghost use Rattle.rdm_params.specs.Verdicts.{verdict_with};
+
 use crate::{Nack, Verb};
 use rdm_frame::Body;
 
@@ -12,6 +15,30 @@ pub enum Verdict {
     Start(Work),
     /// It is refused, and nothing changes (section 6.3.4).
     Refuse(Nack),
+}
+
+/// What a command answers, without the data of a reply, which stand beside it.
+#[derive(Clone, Copy, Debug, PartialEq, Eq)]
+pub enum Answer {
+    /// It is carried out, and the data of the reply stand beside this (E1.20 section 6.3.1).
+    Done,
+    /// It starts this job, and nothing has changed yet (section 6.3.3).
+    Starts(Work),
+    /// It is refused, and nothing changes (section 6.3.4).
+    Refused(Nack),
+}
+
+impl Answer {
+    /// What the command answers, with the data of the reply.
+    pub fn with(self, body: Body) -> Verdict
+        ensures { result ≡ verdict_with self body }
+    {
+        match self {
+            Answer::Done => Verdict::Reply(body),
+            Answer::Starts(work) => Verdict::Start(work),
+            Answer::Refused(nack) => Verdict::Refuse(nack),
+        }
+    }
 }
 
 /// A slow command that was accepted.

@@ -1,23 +1,21 @@
 //! From a value to the bytes that stand for it.
 
-ghost use Rattle.std.specs.Prelude.{◌≡◌, IsTrue, IsFalse};
+ghost use Rattle.std.specs.Prelude.{◌≡◌, [], IsTrue, IsFalse};
 ghost use Rattle.rdm_params.specs.Values.{bytes_of, is_plain};
 
 use crate::Value;
-use crate::table::rows;
+use crate::table::{forms, rows};
 use rdm_frame::Body;
 
 macro_rules! write_rows {
-    (($value:ident) $(($name:ident $(($($part:ident $form:ident),*))? $({$($field:ident $shape:ident),*})?))*) => {{
-        let mut body = Body::new();
+    (($value:ident $body:ident) $(($name:ident $(($($part:ident $form:ident),*))? $({$($field:ident $shape:ident),*})?))*) => {{
         match $value {
             $(Value::$name $(($($part),*))? $({$($field),*})? => {
-                $($(write_field!(body $part $form);)*)?
-                $($(write_field!(body $field $shape);)*)?
+                $($(write_field!($body $part $form);)*)?
+                $($(write_field!($body $field $shape);)*)?
             })*
             _ => unreachable!(),
         }
-        body
     }};
 }
 
@@ -36,30 +34,38 @@ macro_rules! write_field {
     };
 }
 
-macro_rules! forms {
-    (() $(($name:ident $($fields:tt)?))*) => { $(Value::$name { .. })|* };
-}
-
 /// The bytes that stand for a value: its fields in their order, numbers most significant byte first.
 pub fn write_value(value: &Value) -> Body
     ensures { result ≡ bytes_of value.now }
 {
+    let mut body = Body::new();
+    write_into(value, &mut body);
+    body
+}
+
+/// Writes the bytes that stand for a value, where none are yet.
+pub(crate) fn write_into(value: &Value, body: &mut Body)
+    requires { body.old ≡ [] }
+    ensures { body.new ≡ bytes_of value.now }
+{
     match value {
-        rows!(plain, forms!()) => write_plain(value),
-        rows!(fields, forms!()) => write_fields(value),
+        rows!(plain, forms!()) => write_plain(value, body),
+        rows!(fields, forms!()) => write_fields(value, body),
     }
 }
 
-fn write_plain(value: &Value) -> Body
-    requires { IsTrue (is_plain value.now) }
-    ensures { result ≡ bytes_of value.now }
+fn write_plain(value: &Value, body: &mut Body)
+    requires empty { body.old ≡ [] }
+    requires plain { IsTrue (is_plain value.now) }
+    ensures { body.new ≡ bytes_of value.now }
 {
-    rows!(plain, write_rows!(value))
+    rows!(plain, write_rows!(value body))
 }
 
-fn write_fields(value: &Value) -> Body
-    requires { IsFalse (is_plain value.now) }
-    ensures { result ≡ bytes_of value.now }
+fn write_fields(value: &Value, body: &mut Body)
+    requires empty { body.old ≡ [] }
+    requires fields { IsFalse (is_plain value.now) }
+    ensures { body.new ≡ bytes_of value.now }
 {
-    rows!(fields, write_rows!(value))
+    rows!(fields, write_rows!(value body))
 }

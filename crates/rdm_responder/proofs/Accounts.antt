@@ -1,5 +1,5 @@
 -- What a history comes to, one event after another.
-use Rattle.std.proofs.Common.{◌≡◌, ◌-◌, ℕ, Bool, false, List, [], ◌∷◌, ◌++◌, length, Option, refl, ap, subst, arith}
+use Rattle.std.proofs.Common.{◌≡◌, ℕ, List, Option, refl, subst}
 use Rattle.std.proofs.lemmas.List.Sums.{fold_push}
 use Rattle.rdm_frame.specs.declared.frame.Frame.{Frame}
 use Rattle.rdm_frame.specs.Reading.{frame_in}

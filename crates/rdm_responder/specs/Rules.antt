@@ -98,6 +98,11 @@ response_to own f verdict = record { dst = f.src; src = own; tn = f.tn; port = r
 unfoldable pub answer_with : Uid → Frame → Verdict → Option (List ℕ)
 answer_with own f verdict = if is_broadcast f.dst then None else Some (frame_text (response_to own f verdict))
 
+-- these bytes, where there is an answer
+abbrev pub answered : Bool → List ℕ → Option (List ℕ)
+answered true bytes = Some bytes
+answered false bytes = None
+
 -- The control field tells whether there are sub-devices. Section 7.6.
 abbrev pub control_field : Parameters → List ℕ
 control_field p = to_be_bytes w16 (if length p.subs == 0 then 0 else 0x0002)

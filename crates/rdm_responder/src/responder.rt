@@ -2,14 +2,14 @@
 
 ghost use Rattle.std.specs.Prelude.{◌≡◌, ◌↔◌, ◌<◌, ◌≤◌, ◌≢◌, ℕ, IsTrue, IfOk, IsErrOf, Option, None};
 ghost use Rattle.rdm_responder.specs.History.{History, Heard, empty_history, then_event};
-ghost use Rattle.rdm_responder.specs.Rules.{reply_of};
+ghost use Rattle.rdm_responder.specs.Rules.{answered, reply_of};
 ghost use Rattle.rdm_responder.specs.StandsFor.{StandsFor, IsQueueSize};
 ghost use Rattle.rdm_params.specs.Parameters.{parameters_of};
 ghost use Rattle.rdm_params.specs.Profiles.{CanBeMade};
 
 mod answers;
 
-use rdm_frame::{Uid, Wire, decode};
+use rdm_frame::{Uid, Wire, decode_view};
 use rdm_params::{Devices, Profile};
 use std::alloc::Global;
 use std::marker::Model;
@@ -84,8 +84,23 @@ impl Responder {
         ensures reply { (h : History) → StandsFor self.old h → result ≡ reply_of h bytes.now }
         ensures stands { (h : History) → StandsFor self.old h → StandsFor self.new (then_event h (Heard bytes.now)) }
     {
-        let request = decode(bytes).ok()?;
-        self.answer(&request)
+        let mut wire = Wire::new();
+        if !self.step_into(bytes, &mut wire) {
+            return None;
+        }
+        Some(wire)
+    }
+
+    /// Hears bytes as `step` does, and says whether there is a reply, whose bytes stand in `wire` then. Where one
+    /// `wire` takes all replies, none is blanked or copied on its way.
+    pub fn step_into(&mut self, bytes: &[u8], wire: &mut Wire) -> bool
+        ensures reply { (h : History) → StandsFor self.old h → answered result wire.new ≡ reply_of h bytes.now }
+        ensures stands { (h : History) → StandsFor self.old h → StandsFor self.new (then_event h (Heard bytes.now)) }
+    {
+        match decode_view(bytes) {
+            Ok(request) => self.answer(&request, wire),
+            Err(_) => false,
+        }
     }
 }
 

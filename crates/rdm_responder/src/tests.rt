@@ -127,9 +127,11 @@ fn responder(alloc: Global, subs: u16) -> Result<Responder, NewError> {
     Responder::new(alloc, DEVICE, Profile::demo(subs), 8)
 }
 
-/// Plays a run of exchanges on a new responder.
+/// Plays a run of exchanges on a new responder, and on another that puts all its replies in one place.
 fn plays(rt: &impl Abort, alloc: Global, subs: u16, run: &[Exchange]) -> Result<(), Fail> {
+    let mut other = responder(alloc, subs)?;
     let mut responder = responder(alloc, subs)?;
+    let mut wire = Wire::new();
     for (request, answer) in run {
         let heard = framed(*request);
         let expected = match answer {
@@ -137,6 +139,14 @@ fn plays(rt: &impl Abort, alloc: Global, subs: u16, run: &[Exchange]) -> Result<
             Answer::Reply(text) => Some(reply(text)),
             Answer::Bytes(text) => Some(printed(text)),
         };
+        assert_eq!(rt;
+            other.step_into(heard.as_slice(), &mut wire),
+            expected.is_some(),
+            "{request:?}"
+        );
+        if let Some(bytes) = &expected {
+            assert_eq!(rt; &wire, bytes, "{request:?}");
+        }
         assert_eq!(rt; responder.step(heard.as_slice()), expected, "{request:?}");
     }
     Ok(())

@@ -1,7 +1,32 @@
 //! Sub-devices, all-call, and the greatest profile.
 
 use super::*;
-use rdm_frame::Text;
+use rdm_frame::{Body, Text};
+
+#[test]
+fn a_reply_takes_the_place_of_the_last(rt: HostRuntime) -> Result<(), Fail> {
+    let mut devices = demo(&rt)?;
+    let mut body = Body::from_slice(b"Fixture").ok_or("too long")?;
+    assert_eq!(rt; devices.set_into(0, 0x1000, &[1], &mut body), Answer::Done);
+    assert_eq!(rt; body, Body::new());
+    assert_eq!(rt; devices.get_into(0, 0x1000, &[], &mut body), Answer::Done);
+    assert_eq!(rt; body.as_slice(), [1].as_slice());
+    let refused = devices.get_into(0, 0x1000, &[1], &mut body);
+    assert_eq!(rt; refused, Answer::Refused(Nack::FormatError));
+    let work = Work {
+        sub: 0,
+        pid: 0x0403,
+        verb: Verb::Set,
+        arg: 1,
+    };
+    assert_eq!(rt;
+        devices.set_into(0, 0x0403, &[1], &mut body),
+        Answer::Starts(work)
+    );
+    let verdict = Answer::Done.with(Body::from_slice(b"Fixture").ok_or("too long")?);
+    assert!(rt; is_reply(&verdict, b"Fixture"));
+    Ok(())
+}
 
 #[test]
 fn each_device_has_its_own_values(rt: HostRuntime) -> Result<(), Fail> {

@@ -3,7 +3,7 @@ use Rattle.std.proofs.lemmas.Result.{err_from_is_err_and}
 use Rattle.rdm_frame.specs.declared.frame.Frame.{Frame}
 use Rattle.rdm_frame.specs.Reading.{PassesAll, IsFirstFault, frame_of}
 use Rattle.rdm_frame.proofs.Texts.{few_slots, frame_fits, text_again, frame_again, text_passes, not_faulty, some_in, none_in}
-use Rattle.rdm_frame.proofs.decoding.decode.Goals as goal
+use Rattle.rdm_frame.proofs.decoding.decode_view.Goals as goal
 
 pub returns-in_err-test-clause-only : goal.returns-in_err-test-clause-only
 returns-in_err-test-clause-only c f fits e =
