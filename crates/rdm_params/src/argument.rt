@@ -1,11 +1,12 @@
 //! What a command hands in.
 
-ghost use Rattle.std.specs.Prelude.{◌≡◌, ◌≤◌, length};
+ghost use Rattle.std.specs.Prelude.{◌≡◌};
 ghost use Rattle.rdm_params.specs.Forms.{nothing, has_form};
 ghost use Rattle.rdm_params.specs.Values.{byte_in, word_in, long_in, preset_in, label_in};
 
 use crate::Value;
 use crate::copying::copy_of;
+use crate::value::text;
 use rdm_frame::Text;
 use std::marker::Model;
 
@@ -69,7 +70,7 @@ impl<'a> Argument<'a> {
                 mode: *mode,
                 level: *level,
             },
-            Handed::Label(text) => Value::Label(text_of(text)),
+            Handed::Label(bytes) => Value::Label(text(bytes)),
             Handed::Any(value) => copy_of(value),
         }
     }
@@ -134,19 +135,9 @@ impl<'a> Argument<'a> {
         ensures { result ≡ label_in self.now }
     {
         match &self.handed {
-            Handed::Label(text) => Some(text_of(text)),
+            Handed::Label(bytes) => Some(text(bytes)),
             Handed::Any(value) => value.label(),
             _ => None,
         }
     }
-}
-
-/// The text of these bytes.
-fn text_of(bytes: &[u8]) -> Text
-    requires { length bytes.now ≤ 32 }
-    ensures { result ≡ bytes.now }
-{
-    let mut text = Text::new();
-    text.append(bytes);
-    text
 }

@@ -4,9 +4,9 @@ ghost use Rattle.std.specs.Prelude.{◌≡◌, ◌≤◌, length};
 ghost use Rattle.rdm_params.specs.Profiles.{CanBeMade};
 ghost use Rattle.rdm_params.specs.Demo.{demo, demo_root, demo_sub, demo_sensor, demo_slots, demo_sensors, demo_tests, demo_statuses};
 
+use crate::value::text;
 use crate::{Personality, Profile, SelfTest, SensorDef, Slot, StatusText, Unit};
 use arrayvec::ArrayVec;
-use rdm_frame::Text;
 
 impl Profile {
     /// A moving head with two personalities and two sensors, and cells as its sub-devices.
@@ -171,13 +171,4 @@ fn slot(kind: u8, label: u16, value: u8, name: &[u8]) -> Slot
         value,
         name: text(name),
     }
-}
-
-fn text(bytes: &[u8]) -> Text
-    requires { length bytes.now ≤ 32 }
-    ensures { result ≡ bytes.now }
-{
-    let mut text = Text::new();
-    text.append(bytes);
-    text
 }

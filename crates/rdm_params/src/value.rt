@@ -1,6 +1,6 @@
 //! The values of parameters, and the bytes that stand for them.
 
-ghost use Rattle.std.specs.Prelude.{◌≡◌};
+ghost use Rattle.std.specs.Prelude.{◌≡◌, ◌≤◌, length};
 ghost use Rattle.rdm_params.specs.Forms.{nothing, has_form};
 ghost use Rattle.rdm_params.specs.Values.{bytes_of, byte_in, word_in, long_in, preset_in, label_in};
 
@@ -156,4 +156,14 @@ impl Value {
             _ => None,
         }
     }
+}
+
+/// The text of these bytes.
+pub(crate) fn text(bytes: &[u8]) -> Text
+    requires { length bytes.now ≤ 32 }
+    ensures { result ≡ bytes.now }
+{
+    let mut text = Text::new();
+    text.append(bytes);
+    text
 }
