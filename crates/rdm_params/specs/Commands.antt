@@ -11,7 +11,7 @@ use Rattle.rdm_params.specs.declared.profile.Profile.{Profile}
 use Rattle.rdm_params.specs.declared.value.Value.{Value}
 use Rattle.rdm_params.specs.declared.verdict.Verdict.{Verdict}
 use Rattle.rdm_params.specs.declared.verdict.Verdict.TheVariants.{Reply, Start, Refuse}
-use Rattle.rdm_params.specs.declared.verdict.Work.{Work}
+use Rattle.rdm_params.specs.declared.slow.work.Work.{Work}
 use Rattle.rdm_params.specs.Kinds.{pid_of}
 use Rattle.rdm_params.specs.Map.{Entry, update}
 use Rattle.rdm_params.specs.Parameters.{Parameters}

@@ -17,3 +17,4 @@ pub mod Uses
 pub mod Values
 pub mod Handed
 pub mod Verdicts
+pub mod Slow

@@ -26,6 +26,7 @@ mod reading;
 mod replies;
 mod replying;
 mod rights;
+mod slow;
 mod state;
 mod storing;
 mod subs;
@@ -41,8 +42,9 @@ pub use laws::{set_changes_its_own_keys, written_value_is_read_back};
 pub use nack::Nack;
 pub use profile::{Personality, Profile, SelfTest, SensorDef, Slot, StatusText, Unit};
 pub use reading::read_value;
+pub use slow::{Ask, Entry, Message, Outcome, Severity, Work};
 pub use value::Value;
-pub use verdict::{Answer, Verdict, Work};
+pub use verdict::{Answer, Verdict};
 pub use writing::write_value;
 
 #[cfg(test)]

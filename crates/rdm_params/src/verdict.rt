@@ -3,7 +3,7 @@
 ghost use Rattle.std.specs.Prelude.{◌≡◌};
 ghost use Rattle.rdm_params.specs.Verdicts.{verdict_with};
 
-use crate::{Nack, Verb};
+use crate::{Nack, Work};
 use rdm_frame::Body;
 
 /// What a command answers.
@@ -39,17 +39,4 @@ impl Answer {
             Answer::Refused(nack) => Verdict::Refuse(nack),
         }
     }
-}
-
-/// A slow command that was accepted.
-#[derive(Clone, Copy, Debug, PartialEq, Eq)]
-pub struct Work {
-    /// The sub-device, or 0 for the root.
-    pub sub: u16,
-    /// The PID.
-    pub pid: u16,
-    /// The command.
-    pub verb: Verb,
-    /// The byte that was handed in.
-    pub arg: u8,
 }
