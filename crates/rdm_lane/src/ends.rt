@@ -1,0 +1,98 @@
+//! The making of a lane.
+
+ghost use Rattle.std.specs.Prelude.{◌≡◌, ◌↔◌, ◌≤◌, IfOk, IsTrue};
+ghost use Rattle.rdm_lane.specs.Ends.{new_posts, IsNewLane, IsBadSize};
+
+use crate::line::{Line, MOST_POSTS};
+use crate::{Post, Take};
+use std::alloc::{AllocError, Global};
+use std::sync::{Arc, Mutex};
+use thiserror::Error;
+
+/// Why a lane can't be made, or why nothing is taken from it.
+#[derive(Clone, Copy, Debug, PartialEq, Eq, Error)]
+pub enum LaneError {
+    /// Memory was wanted and refused.
+    #[error("out of memory")]
+    OutOfMemory,
+    /// The capacity isn't 1 to 2,048, the number of posts isn't 1 to 3, or the limit is 0.
+    #[error("bad size")]
+    BadSize,
+}
+
+/// The ends of a lane. Each may be moved to a thread of its own.
+#[derive(Debug, Drop)]
+pub struct Ends<T> {
+    /// The end that takes.
+    pub take: Take<T>,
+    /// The ends that put: post p is producer p.
+    pub posts: Vec<Post<T>>,
+}
+
+/// How many items and marks may wait in any lane.
+const MOST_WAITING: usize = 2_048;
+
+/// A lane where `capacity` items and marks may wait, with so many posts, each of which may put `limit` items.
+///
+/// It is `BadSize` where the capacity isn't 1 to 2,048, the number of posts isn't 1 to 3, or the limit is 0, else
+/// `OutOfMemory` where memory is refused.
+pub fn lane<T: Copy + Send>(
+    alloc: Global,
+    capacity: usize,
+    posts: u32,
+    limit: u32,
+) -> Result<Ends<T>, LaneError>
+    ensures ends { IfOk result (λ ends. IsNewLane posts limit ends.take ends.posts.items) }
+    ensures bad { (result ≡ Err LaneError.BadSize) ↔ IsBadSize capacity posts limit }
+{
+    if is_bad_size(capacity, posts, limit) {
+        return Err(LaneError::BadSize);
+    }
+    let Ok(ends) = ends_of(alloc, capacity, posts, limit) else {
+        return Err(LaneError::OutOfMemory);
+    };
+    Ok(ends)
+}
+
+/// Whether no lane has such a size.
+fn is_bad_size(capacity: usize, posts: u32, limit: u32) -> bool
+    ensures { IsTrue result ↔ IsBadSize capacity posts limit }
+{
+    !(1..=MOST_WAITING).contains(&capacity)
+        || !(1..=MOST_POSTS).contains(&(posts as usize))
+        || limit == 0
+}
+
+/// The ends of a new lane.
+fn ends_of<T: Copy + Send>(
+    alloc: Global,
+    capacity: usize,
+    posts: u32,
+    limit: u32,
+) -> Result<Ends<T>, AllocError>
+    requires { posts ≤ 3 }
+    ensures { IfOk result (λ ends. IsNewLane posts limit ends.take ends.posts.items) }
+{
+    let line = Arc::new(alloc, Mutex::new(Line::new(alloc, capacity)?))?;
+    let made = posts_of(alloc, &line, posts, limit)?;
+    let take = Take::new(alloc, line, posts);
+    Ok(Ends { take, posts: made })
+}
+
+/// The posts of a new lane.
+fn posts_of<T: Copy + Send>(
+    alloc: Global,
+    line: &Arc<Mutex<Line<T>>>,
+    posts: u32,
+    limit: u32,
+) -> Result<Vec<Post<T>>, AllocError>
+    requires { posts ≤ 3 }
+    ensures { IfOk result (λ made. made.items ≡ new_posts limit posts) }
+{
+    let mut made = Vec::with_capacity(alloc, posts as usize)?;
+    for producer in 0..posts {
+        let line = Arc::try_clone(line)?;
+        made.push(Post::new(alloc, line, producer, limit))?;
+    }
+    Ok(made)
+}

@@ -1,0 +1,84 @@
+//! A lane of two posts with room for two, turn by turn, on one thread.
+
+use super::*;
+use PutError::{Full, Spent};
+use Taken::{Empty, Item, Mark};
+
+const X: u32 = 0x58;
+
+const Y: u32 = 0x59;
+
+const Z: u32 = 0x5A;
+
+const W: u32 = 0x57;
+
+const FIRST: Taken<u32> = Item {
+    producer: 0,
+    number: 0,
+    item: X,
+};
+
+const OTHER: Taken<u32> = Item {
+    producer: 1,
+    number: 0,
+    item: Z,
+};
+
+const SECOND: Taken<u32> = Item {
+    producer: 0,
+    number: 1,
+    item: Y,
+};
+
+const MARK_0: Taken<u32> = Mark { producer: 0 };
+
+const MARK_1: Taken<u32> = Mark { producer: 1 };
+
+#[test]
+fn two_posts_take_turns(rt: HostRuntime) -> Result<(), Fail> {
+    let Ends { mut take, posts } = lane::<u32>(rt.alloc(), 2, 2, 2)?;
+    let (mut zero, one) = two_posts(posts)?;
+    let one = fills(&rt, &mut zero, one)?;
+    gives(&rt, &mut take, &[FIRST]);
+    let one = closed(&rt, one)?;
+    gives(&rt, &mut take, &[OTHER]);
+    assert_eq!(rt; zero.put(&rt, Y), Ok(1));
+    gives(&rt, &mut take, &[MARK_1, SECOND]);
+    assert_eq!(rt; zero.put(&rt, W), Err(Spent(W)));
+    gives(&rt, &mut take, &[Empty]);
+    let zero = closed(&rt, zero)?;
+    gives(&rt, &mut take, &[MARK_0, Taken::Closed, Taken::Closed]);
+    settles(&rt, take, zero, one)
+}
+
+/// Post 0 and post 1 fill the lane, and the lane refuses a further item and a mark.
+fn fills<R: Wait + Abort>(
+    rt: &R,
+    zero: &mut Post<u32>,
+    mut one: Post<u32>,
+) -> Result<Post<u32>, Fail> {
+    assert_eq!(rt; zero.put(rt, X), Ok(0));
+    assert_eq!(rt; one.put(rt, Z), Ok(0));
+    assert_eq!(rt; zero.put(rt, Y), Err(Full(Y)));
+    Ok(one.close(rt).err().ok_or("room for a mark")?)
+}
+
+/// The lists of the ends are those of the turns above.
+fn settles<R: Wait + Abort + Alloc<A = Global>>(
+    rt: &R,
+    take: Take<u32>,
+    zero: ClosedPost<u32>,
+    one: ClosedPost<u32>,
+) -> Result<(), Fail> {
+    let posts = Vec::from_array(rt.alloc(), [one, zero])?;
+    let settled = settle_up(rt, take, posts)?;
+    assert_eq!(rt;
+        settled.taken(),
+        [FIRST, OTHER, MARK_1, SECOND, MARK_0].as_slice()
+    );
+    assert_eq!(rt; settled.posted(0), [X, Y].as_slice());
+    assert_eq!(rt; settled.posted(1), [Z].as_slice());
+    assert!(rt; settled.posted(2).is_empty());
+    assert!(rt; settled.posted(3).is_empty());
+    Ok(())
+}
