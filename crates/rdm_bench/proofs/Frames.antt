@@ -1,9 +1,12 @@
 -- Byte strings in one, taken off one by one.
-use Rattle.std.proofs.Common.{◌≡◌, ℕ, suc, ◌<◌, ◌^◌, true, false, List, [], ◌∷◌, ◌++◌, length, Bor, sym, ◌∙◌, arith, append_assoc}
+use Rattle.std.proofs.Common.{◌≡◌, ℕ, suc, ◌<◌, ◌^◌, true, false, List, [], ◌∷◌, ◌++◌, length, map, Bor, sym, ◌∙◌, arith, append_assoc}
 use Rattle.std.specs.Int.{w16, to_be_bytes}
 use Rattle.std.proofs.lemmas.List.{map_push, append-nil}
-use Rattle.rdm_bench.specs.Replay.{packed, ArePackable}
-use Rattle.rdm_bench.proofs.Runs.{bytes_of}
+use Rattle.rdm_bench.specs.Packed.{packed, ArePackable}
+
+-- the byte strings behind the references
+abbrev pub bytes_of : List (Bor (List ℕ)) → List (List ℕ)
+bytes_of frames = map (λ frame. frame.now) frames
 
 -- these are found, and those are still packed
 abbrev pub IsUnpackedTo : List (List ℕ) → List (Bor (List ℕ)) → List ℕ → Type 0

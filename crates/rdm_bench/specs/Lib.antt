@@ -1,2 +1,6 @@
+pub mod Faults
 pub mod Tally
+pub mod Reports
+pub mod Packed
 pub mod Replay
+pub mod Replayed

@@ -1,24 +1,70 @@
--- Frames that are heard over and over.
-use Rattle.std.specs.Prelude.{ℕ, zero, suc, ◌<◌, ◌^◌, List, [], ◌∷◌, ◌++◌, length, All}
-use Rattle.std.specs.Int.{w16, to_be_bytes}
-use Rattle.rdm_params.specs.Demo.{demo}
-use Rattle.rdm_responder.specs.History.{Setup}
+-- Frames that a responder hears, the jobs that they start, and the bytes of its replies.
+use Rattle.std.specs.Prelude.{◌≡◌, ℕ, zero, suc, List, [], ◌++◌, Option, Some, None, filter_map, flat_map, unwrap_or}
+use Rattle.rdm_params.specs.Device.Demo.{demo}
+use Rattle.rdm_outbox.specs.declared.job.Job.{Job}
+use Rattle.rdm_responder.specs.declared.report.Report.{Report}
+use Rattle.rdm_responder.specs.declared.run.Input.{Input}
+use Rattle.rdm_responder.specs.declared.run.Input.TheVariants as input
+use Rattle.rdm_responder.specs.declared.run.Output.{Output}
+use Rattle.rdm_responder.specs.declared.run.Output.TheVariants as output
+use Rattle.rdm_responder.specs.History.{Setup, History, empty_history}
+use Rattle.rdm_responder.specs.Runs.{IsRun}
+use Rattle.rdm_bench.specs.declared.reports.Reports.{Reports}
+use Rattle.rdm_bench.specs.declared.tally.Tally.{Tally}
+use Rattle.rdm_bench.specs.Reports.{reports_with, reports_of}
+use Rattle.rdm_bench.specs.Tally.{tally_of}
 
--- Byte strings in one: each behind its length, which is two bytes, the most significant first.
-abbrev pub packed : List (List ℕ) → List ℕ
-packed [] = []
-packed (frame ∷ others) = to_be_bytes w16 (length frame) ++ frame ++ packed others
-
--- each length fits its two bytes
-abbrev pub ArePackable : List (List ℕ) → Type 0
-ArePackable frames = All (λ frame. length frame < 2 ^ 16) frames
+-- The device that hears them: its UID is 7FF0:00000001, it is the demo fixture with so many sub-devices, and it has room
+-- for 255 results of slow commands.
+abbrev pub bench_setup : ℕ → Setup
+bench_setup subs = record { uid = record { maker = 0x7FF0; device = 1 }; profile = demo subs; queue_size = 255 }
 
 -- these, that many times over
 abbrev pub repeated : ℕ → List (List ℕ) → List (List ℕ)
 repeated zero frames = []
 repeated (suc rounds) frames = repeated rounds frames ++ frames
 
--- The device that hears them: its UID is 7FF0:00000001, it is the demo fixture with so many sub-devices, and it has room
--- for 8 results of slow commands.
-abbrev pub bench_setup : ℕ → Setup
-bench_setup subs = record { uid = record { maker = 0x7FF0; device = 1 }; profile = demo subs; queue_size = 8 }
+-- the bytes that are heard, where some are
+abbrev pub heard : Input → Option (List ℕ)
+heard (input.Heard bytes) = Some bytes.now
+heard (input.Reported report) = None
+
+-- the report that is handed in, where one is
+abbrev pub reported : Input → Option Report
+reported (input.Heard bytes) = None
+reported (input.Reported report) = Some report
+
+-- the job that started, where one did
+abbrev pub started : Output → Option Job
+started (output.Answered reply job) = job
+started _ = None
+
+-- the bytes of the reply, if there is one
+abbrev pub reply_bytes : Output → List ℕ
+reply_bytes (output.Answered reply job) = unwrap_or reply []
+reply_bytes _ = []
+
+-- What there is in a run, in order of time: the byte strings that are heard, the reports that are handed in, the jobs
+-- that start, and the bytes of all replies.
+pub record IsRunOf (start end : History) (frames : List (List ℕ)) (reports : List Report) (jobs : List Job) (replies : List ℕ) : Type 0 where
+  pub inputs : List Input
+  pub outputs : List Output
+  pub run : IsRun start inputs outputs end
+  pub all_heard : filter_map heard inputs ≡ frames
+  pub all_reported : filter_map reported inputs ≡ reports
+  pub all_started : filter_map started outputs ≡ jobs
+  pub all_replied : flat_map reply_bytes outputs ≡ replies
+
+-- A replay from a history to the one at its end: a run over these frames, in which each job that starts is reported so,
+-- and the bytes of all replies come to this tally.
+pub record IsReplay (start : History) (reports : Reports) (frames : List (List ℕ)) (tally : Tally) (end : History) : Type 0 where
+  pub jobs : List Job
+  pub replies : List ℕ
+  pub run : IsRunOf start end frames (reports_of reports jobs) jobs replies
+  pub comes_to : tally ≡ tally_of replies
+
+-- It is the tally of a replay on the device with so many sub-devices, whose jobs are reported as this code says.
+abbrev pub AnswersReplay : ℕ → ℕ → List (List ℕ) → Tally → Type 0
+AnswersReplay subs code frames tally =
+    (reports : Reports) × (end : History) × (reports_with code ≡ Some reports)
+    × IsReplay (empty_history (bench_setup subs)) reports frames tally end

@@ -1,20 +1,18 @@
 //! What C calls.
 
-ghost use Rattle.std.specs.Prelude.{◌≡◌, ℕ, List, IfOk, IfSome};
-ghost use Rattle.std.specs.Bool.{OnTrue, OnFalse};
-ghost use Rattle.rdm_responder.specs.History.{empty_history};
-ghost use Rattle.rdm_responder.specs.Rules.{replies_of};
+ghost use Rattle.std.specs.Prelude.{◌≡◌, ◌≢◌, ◌↔◌, ◌<◌, ◌≤◌, ◌++◌, ℕ, List, IfOk};
+ghost use Rattle.rdm_responder.specs.History.{History, empty_history};
 ghost use Rattle.rdm_responder.specs.StandsFor.{StandsFor};
-ghost use Rattle.rdm_bench.specs.Replay.{packed, repeated, ArePackable, bench_setup};
-ghost use Rattle.rdm_bench.specs.Tally.{reply_bytes, tally_of};
+ghost use Rattle.rdm_bench.specs.Packed.{packed, ArePackable};
+ghost use Rattle.rdm_bench.specs.Replay.{repeated, bench_setup, IsReplay, AnswersReplay};
 
-use crate::Tally;
 use crate::packed::unpack;
-use crate::replay::replay;
+use crate::replay::Replay;
+use crate::{Fault, Reports, Tally};
 use rdm_frame::Uid;
 use rdm_params::Profile;
 use rdm_responder::{NewError, Responder};
-use std::alloc::Global;
+use std::alloc::{AllocError, Global};
 
 /// The UID of the device that hears the frames.
 const DEVICE: Uid = Uid {
@@ -23,47 +21,98 @@ const DEVICE: Uid = Uid {
 };
 
 /// How many results of slow commands it has room for.
-const QUEUE_SIZE: u16 = 8;
+const QUEUE_SIZE: u16 = 255;
 
-/// Makes a responder with that many sub-devices, lets it hear the frames `rounds` times over, and sets `tally` to what
-/// the bytes of all replies come to.
+/// How many sub-devices there can be.
+const MOST_SUBS: u16 = 512;
+
+/// Makes a responder with that many sub-devices, lets it hear the frames of `preface` once and those of `bytes` `rounds`
+/// times over, and sets `tally` to what the bytes of all replies come to. Each job that starts is reported at once, as
+/// the code `reports` says: 0 not at all, 1 as done, 2 as failed with an advisory, 3 as failed with an error.
 ///
-/// The frames stand one after another, each behind its length in two bytes, the most significant first. It is false,
-/// and `tally` stays as it was, where memory is refused or there are more than 512 sub-devices.
+/// Frames stand one after another, each behind its length in two bytes, the most significant first. The answer is 0
+/// where they were heard. Else `tally` stays as it was: it is 2 where there are more than 512 sub-devices, 3 where no
+/// reports have the code, and 1 where memory is refused.
 #[unsafe(no_mangle)]
 pub extern "C" fn rdm_bench_run(
     alloc: Global,
     subs: u16,
+    preface: &[u8],
     bytes: &[u8],
     rounds: u32,
+    reports: u8,
     tally: &mut Tally,
-) -> bool
-    ensures ran { OnTrue result ((frames : List (List ℕ)) → ArePackable frames → bytes.now ≡ packed frames →
-        tally.new ≡ tally_of (reply_bytes (replies_of (empty_history (bench_setup subs)) (repeated rounds frames)))) }
-    ensures refused { OnFalse result (tally.new ≡ tally.old) }
+) -> u8
+    ensures ran { result ≡ 0 → (before frames : List (List ℕ)) → ArePackable before → ArePackable frames →
+        preface.now ≡ packed before → bytes.now ≡ packed frames →
+        AnswersReplay subs reports (before ++ repeated rounds frames) tally.new }
+    ensures refused { result ≢ 0 → tally.new ≡ tally.old }
+    ensures codes { result ≤ 3 }
+    ensures too_many { (result ≡ 2) ↔ (512 < subs) }
+    ensures unknown { (result ≡ 3) ↔ ((subs ≤ 512) × (3 < reports)) }
 {
-    match run(alloc, subs, bytes, rounds) {
-        Some(outcome) => {
+    match run(alloc, subs, preface, bytes, rounds, reports) {
+        Ok(outcome) => {
             *tally = outcome;
-            true
+            0
         }
-        None => false,
+        Err(fault) => fault.code(),
     }
 }
 
-/// What the bytes of the replies come to, unless memory is refused.
-fn run(alloc: Global, subs: u16, bytes: &[u8], rounds: u32) -> Option<Tally>
-    ensures { IfSome result (λ tally. (frames : List (List ℕ)) → ArePackable frames → bytes.now ≡ packed frames →
-        tally ≡ tally_of (reply_bytes (replies_of (empty_history (bench_setup subs)) (repeated rounds frames)))) }
+/// What the bytes of the replies come to.
+fn run(
+    alloc: Global,
+    subs: u16,
+    preface: &[u8],
+    bytes: &[u8],
+    rounds: u32,
+    reports: u8,
+) -> Result<Tally, Fault>
+    ensures ok { IfOk result (λ tally. (before frames : List (List ℕ)) → ArePackable before → ArePackable frames →
+        preface.now ≡ packed before → bytes.now ≡ packed frames →
+        AnswersReplay subs reports (before ++ repeated rounds frames) tally) }
+    ensures too_many { (result ≡ Err Fault.TooManySubs) ↔ (512 < subs) }
+    ensures unknown { (result ≡ Err Fault.UnknownReports) ↔ ((subs ≤ 512) × (3 < reports)) }
 {
-    let mut responder = responder_with(alloc, subs).ok()?;
-    let frames = unpack(alloc, bytes).ok()?;
-    Some(replay(&mut responder, &frames, rounds))
+    if subs > MOST_SUBS {
+        return Err(Fault::TooManySubs);
+    }
+    let Some(reports) = Reports::with_code(reports) else {
+        return Err(Fault::UnknownReports);
+    };
+    replayed(alloc, subs, preface, bytes, rounds, reports).map_err(|_| Fault::OutOfMemory)
 }
 
-/// The responder that hears the frames.
-fn responder_with(alloc: Global, subs: u16) -> Result<Responder, NewError>
+/// What the bytes of the replies come to, unless memory is refused.
+fn replayed(
+    alloc: Global,
+    subs: u16,
+    preface: &[u8],
+    bytes: &[u8],
+    rounds: u32,
+    reports: Reports,
+) -> Result<Tally, AllocError>
+    requires { subs ≤ 512 }
+    ensures { IfOk result (λ tally. (before frames : List (List ℕ)) → ArePackable before → ArePackable frames →
+        preface.now ≡ packed before → bytes.now ≡ packed frames →
+        (end : History) × IsReplay (empty_history (bench_setup subs)) reports (before ++ repeated rounds frames) tally end) }
+{
+    let mut replay = Replay::new(responder_with(alloc, subs)?, reports);
+    replay.hear_rounds(&unpack(alloc, preface)?, 1);
+    replay.hear_rounds(&unpack(alloc, bytes)?, rounds);
+    Ok(replay.tally())
+}
+
+/// The responder that hears the frames, just switched on.
+fn responder_with(alloc: Global, subs: u16) -> Result<Responder, AllocError>
+    requires { subs ≤ 512 }
     ensures { IfOk result (λ responder. StandsFor responder (empty_history (bench_setup subs))) }
 {
-    Responder::new(alloc, DEVICE, Profile::demo(subs), QUEUE_SIZE)
+    match Responder::new(alloc, DEVICE, Profile::demo(subs), QUEUE_SIZE) {
+        Ok(responder) => Ok(responder),
+        Err(NewError::OutOfMemory) => Err(AllocError),
+        // The UID addresses one device, and size and profile are such as a responder takes.
+        Err(NewError::BadProfile | NewError::BadSize | NewError::BadUid) => unreachable!(),
+    }
 }

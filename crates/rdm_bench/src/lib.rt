@@ -1,15 +1,20 @@
-//! The responder as a benchmark hears it: frames that are heard over and over, and what the replies come to.
+//! The responder as a benchmark hears it: frames that are heard over and over, the reports of the jobs that they start,
+//! and what the replies come to.
 //!
 //! `rdm_bench_run` is called from C (`bench/driver.c`). What it answers hangs on every byte of every reply, so that no
 //! compiler can leave the work out.
 #![tactic(auto)]
 
 mod export;
+mod fault;
 mod packed;
 mod replay;
+mod reports;
 mod tally;
 
 pub use export::rdm_bench_run;
+pub use fault::Fault;
+pub use reports::Reports;
 pub use tally::Tally;
 
 #[cfg(test)]

@@ -2,7 +2,7 @@
 
 ghost use Rattle.std.specs.Prelude.{◌≡◌, ◌<◌, ◌^◌, ◌++◌, ℕ, List, [], map, length, IfOk, IfSome, IsNone, IsSomeAnd};
 ghost use Rattle.std.specs.Int.{w16, to_be_bytes};
-ghost use Rattle.rdm_bench.specs.Replay.{packed, ArePackable};
+ghost use Rattle.rdm_bench.specs.Packed.{packed, ArePackable};
 
 use std::alloc::{AllocError, Global};
 

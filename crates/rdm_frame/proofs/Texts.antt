@@ -1,17 +1,19 @@
 -- A frame's text is read back as that frame, and bytes that pass the six tests are the text of what they say.
-use Rattle.std.proofs.Common.{◌≡◌, ℕ, zero, suc, ◌+◌, ◌-◌, ◌%◌, ◌^◌, ◌<◌, ◌≤◌, true, false, List, [], ◌∷◌, ◌++◌, length, get_or, take, drop, Some, None, refl, sym, ap, ◌∙◌, arith, append_assoc, inl, inr, ◌&&◌, Bool, cond}
+use Rattle.std.proofs.Common.{◌≡◌, ℕ, zero, suc, ◌+◌, ◌-◌, ◌%◌, ◌^◌, ◌<◌, ◌≤◌, true, false, List, [], ◌∷◌, ◌++◌, length, get_or, take, drop, Some, None, refl, sym, ap, ◌∙◌, arith, append_assoc, inl, inr, Bool, cond}
 use Rattle.std.specs.Prelude.{sum, slice_index, slice_range}
 use Rattle.std.specs.Int.{w16, w32, to_be_bytes, from_be_bytes}
 use Rattle.std.proofs.Math.Seq.{drop-cons, take-add}
 use Rattle.std.proofs.lemmas.List.{take_at, drop_at, take_all, take-append-drop, length-append, length-take, length-drop, get_or-drop, get_or-take, get_or_past}
 use Rattle.std.proofs.lemmas.Nat.{be_bytes_2, be_bytes_4, from_be_bytes-to_be_bytes_2, from_be_bytes-to_be_bytes_4}
-use Rattle.std.proofs.lemmas.Bool.{cases_lt, eqb-true, eq-eqb}
+use Rattle.std.specs.Str.{bytes_eq}
+use Rattle.std.proofs.lemmas.Bool.{cases_lt}
+use Rattle.std.proofs.lemmas.Slice.Eq.{bytes_eq-Decides}
 use Rattle.rdm_frame.specs.declared.uid.Uid.{Uid}
 use Rattle.rdm_frame.specs.declared.frame.Frame.{Frame}
 use Rattle.rdm_frame.specs.declared.decoding.FrameError.{FrameError}
 use Rattle.rdm_frame.specs.declared.decoding.FrameError.TheVariants.{Short, Start, SubStart, Length, Pdl, Checksum}
 use Rattle.rdm_frame.specs.FrameText.{head_slots, with_checksum, frame_text, IsUid, IsFrame, HasSlots}
-use Rattle.rdm_frame.specs.Reading.{word_at, long_at, frame_of, bytes_eq, frame_in, summed_slots, Passes, PassesBefore, IsFirstFault, PassesAll}
+use Rattle.rdm_frame.specs.Reading.{word_at, long_at, frame_of, frame_in, summed_slots, Passes, PassesBefore, IsFirstFault, PassesAll}
 
 abbrev pub IsBytes : List ℕ → Type 0
 IsBytes t = (i : ℕ) → slice_index t i < 256
@@ -162,27 +164,6 @@ text_passes f fits =
 pub few_slots : (t : List ℕ) → PassesAll t → slice_index t 2 < 256 → slice_index t 23 ≤ 231
 few_slots t ok byte = omega (arith, ok.0.4)
 
-bytes_eq-refl : (a : List ℕ) → bytes_eq a a ≡ true
-bytes_eq-refl [] = refl
-bytes_eq-refl (x ∷ xs) = rw (eq-eqb x x refl) (bytes_eq-refl xs)
-
-bytes_eq-same : (a b : List ℕ) → a ≡ b → bytes_eq a b ≡ true
-bytes_eq-same a b e = rw (← e) (bytes_eq-refl a)
-
-both : (a b : Bool) → (a && b) ≡ true → (a ≡ true) × (b ≡ true)
-both true b e = (refl, e)
-both false b e = absurd cc
-
-bytes_eq-true : (a b : List ℕ) → bytes_eq a b ≡ true → a ≡ b
-bytes_eq-true [] [] e = refl
-bytes_eq-true [] (y ∷ ys) e = absurd cc
-bytes_eq-true (x ∷ xs) [] e = absurd cc
-bytes_eq-true (x ∷ xs) (y ∷ ys) e =
-    let parts = both _ _ e in
-    let first : x ≡ y = eqb-true x y parts.0 in
-    let others : xs ≡ ys = bytes_eq-true xs ys parts.1 in
-    rw (first, others) refl
-
 pub not_faulty : (e : FrameError) (t : List ℕ) → PassesAll t → IsFirstFault e t → ⊥
 not_faulty Short t ok h = h.1 ok.0.0
 not_faulty Start t ok h = h.1 ok.0.1
@@ -196,7 +177,7 @@ some_at t f b e = rw e refl
 
 pub some_in : (t : List ℕ) → IsBytes t → PassesAll t → frame_in t ≡ Some (frame_of t)
 unfolding frame_in
-some_in t fits ok = some_at t (frame_of t) (bytes_eq t (frame_text (frame_of t))) (bytes_eq-same _ _ (sym (text_again t fits ok)))
+some_in t fits ok = some_at t (frame_of t) (bytes_eq t (frame_text (frame_of t))) ((bytes_eq-Decides t (frame_text (frame_of t))).1 (sym (text_again t fits ok)))
 
 -- the message length leaves no room for more parameter data
 few_of_text : (t : List ℕ) → IsBytes t → t ≡ frame_text (frame_of t) → slice_index t 23 ≤ 231
@@ -215,7 +196,7 @@ none_at f false h = refl
 
 pub none_in : (t : List ℕ) → IsBytes t → (PassesAll t → ⊥) → None ≡ frame_in t
 unfolding frame_in
-none_in t fits fails = none_at (frame_of t) (bytes_eq t (frame_text (frame_of t))) (λ e. fails (passes_of_text t fits (bytes_eq-true _ _ e)))
+none_in t fits fails = none_at (frame_of t) (bytes_eq t (frame_text (frame_of t))) (λ e. fails (passes_of_text t fits ((bytes_eq-Decides t (frame_text (frame_of t))).0 e)))
 
 -- ---- the laws
 

@@ -12,7 +12,9 @@ uid_slots u = to_be_bytes w16 u.maker ++ to_be_bytes w32 u.device
 -- length, destination, source, transaction number, port ID or response type, message count, sub-device, command
 -- class, PID and parameter data length. Sections 6.2.1 to 6.2.10.
 unfoldable pub head_slots : Frame → List ℕ
-head_slots f = 0xCC ∷ 0x01 ∷ (24 + length f.body) ∷ [] ++ uid_slots f.dst ++ uid_slots f.src ++ f.tn ∷ f.port ∷ f.count ∷ [] ++ to_be_bytes w16 f.sub ++ f.class ∷ [] ++ to_be_bytes w16 f.pid ++ length f.body ∷ []
+head_slots f =
+    0xCC ∷ 0x01 ∷ (24 + length f.body) ∷ [] ++ uid_slots f.dst ++ uid_slots f.src ++ f.tn ∷ f.port ∷ f.count ∷ []
+    ++ to_be_bytes w16 f.sub ++ f.class ∷ [] ++ to_be_bytes w16 f.pid ++ length f.body ∷ []
 
 -- slots, and behind them the two of the checksum: their sum modulo 65536. Section 6.2.11.
 abbrev pub with_checksum : List ℕ → List ℕ
@@ -56,4 +58,5 @@ pub record HasSlots (f : Frame) (text : List ℕ) : Type 0 where
   pub parameter_id : slice_range text 21 23 ≡ to_be_bytes w16 f.pid
   pub parameter_data_length : slice_index text 23 ≡ length f.body
   pub parameter_data : slice_range text 24 (24 + length f.body) ≡ f.body
-  pub checksum : slice_range text (24 + length f.body) (26 + length f.body) ≡ to_be_bytes w16 (sum (take (24 + length f.body) text) % 65536)
+  pub checksum :
+      slice_range text (24 + length f.body) (26 + length f.body) ≡ to_be_bytes w16 (sum (take (24 + length f.body) text) % 65536)

@@ -1,32 +1,38 @@
 -- What frame a byte list is the text of, and which of the six tests it fails first. E1.20 section 6.2.
-use Rattle.std.specs.Prelude.{◌≡◌, ℕ, ◌+◌, ◌-◌, ◌%◌, ◌≤◌, Bool, true, false, ◌&&◌, ◌==◌, List, [], ◌∷◌, length, take, drop, sum, slice_index, Option, Some, None, if◌then◌else◌}
+use Rattle.std.specs.Prelude.{◌≡◌, ℕ, ◌+◌, ◌-◌, ◌%◌, ◌≤◌, List, length, take, drop, sum, slice_index, Option, Some, None, if◌then◌else◌}
 use Rattle.std.specs.Int.{w16, w32, from_be_bytes}
+use Rattle.std.specs.Str.{bytes_eq}
 use Rattle.rdm_frame.specs.declared.uid.Uid.{Uid}
 use Rattle.rdm_frame.specs.declared.frame.Frame.{Frame}
 use Rattle.rdm_frame.specs.declared.decoding.FrameError.{FrameError}
 use Rattle.rdm_frame.specs.declared.decoding.FrameError.TheVariants.{Short, Start, SubStart, Length, Pdl, Checksum}
 use Rattle.rdm_frame.specs.FrameText.{frame_text}
 
--- the 16-bit and the 32-bit number at a slot, most significant byte first
+-- the 16-bit number at a slot, most significant byte first
 abbrev pub word_at : List ℕ → ℕ → ℕ
 word_at t i = from_be_bytes w16 (take 2 (drop i t))
 
+-- the 32-bit number at a slot, most significant byte first
 abbrev pub long_at : List ℕ → ℕ → ℕ
 long_at t i = from_be_bytes w32 (take 4 (drop i t))
 
+-- the UID at a slot. Sections 6.2.4 and 6.2.5.
 abbrev pub uid_at : List ℕ → ℕ → Uid
 uid_at t i = record { maker = word_at t i; device = long_at t (i + 2) }
 
 -- what the slots say, if they are a frame's
 unfoldable pub frame_of : List ℕ → Frame
-frame_of t = record { dst = uid_at t 3; src = uid_at t 9; tn = slice_index t 15; port = slice_index t 16; count = slice_index t 17; sub = word_at t 18; class = slice_index t 20; pid = word_at t 21; body = take (slice_index t 23) (drop 24 t) }
-
--- whether two byte lists are the same
-abbrev pub bytes_eq : List ℕ → List ℕ → Bool
-bytes_eq [] [] = true
-bytes_eq [] (y ∷ ys) = false
-bytes_eq (x ∷ xs) [] = false
-bytes_eq (x ∷ xs) (y ∷ ys) = (x == y) && bytes_eq xs ys
+frame_of t = record {
+  dst = uid_at t 3;
+  src = uid_at t 9;
+  tn = slice_index t 15;
+  port = slice_index t 16;
+  count = slice_index t 17;
+  sub = word_at t 18;
+  class = slice_index t 20;
+  pid = word_at t 21;
+  body = take (slice_index t 23) (drop 24 t);
+}
 
 -- The one frame that these bytes are the text of, if there is one.
 unfoldable pub frame_in : List ℕ → Option Frame

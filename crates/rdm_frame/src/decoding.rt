@@ -5,7 +5,8 @@ ghost use Rattle.std.specs.Result.{result_ok};
 ghost use Rattle.rdm_frame.specs.FrameText.{frame_text, IsFrame};
 ghost use Rattle.rdm_frame.specs.Reading.{frame_of, frame_in, word_at, uid_at, PassesAll, IsFirstFault};
 
-use crate::encoding::{HEAD_SLOTS, START_CODE, SUB_START_CODE, checksum_of};
+use crate::encoding::{HEAD_SLOTS, checksum_of};
+use crate::standard::{START_CODE, SUB_START_CODE};
 use crate::{Frame, FrameView, Uid};
 use thiserror::Error;
 
@@ -15,23 +16,23 @@ const SHORTEST: usize = 26;
 /// Why bytes are no frame: the first of six tests, in this order, that they fail (E1.20 section 6.2).
 #[derive(Clone, Copy, Debug, PartialEq, Eq, Error)]
 pub enum FrameError {
-    /// There are fewer than 26 bytes.
-    #[error("fewer bytes than the shortest frame has")]
+    /// There are fewer than 26 bytes: a header of 24 slots and a checksum of two.
+    #[error("fewer bytes than the shortest frame")]
     Short,
-    /// Slot 0 isn't the START code of RDM.
-    #[error("another START code")]
+    /// Slot 0 isn't the START code of RDM, 0xCC (section 6.2.1).
+    #[error("wrong START code")]
     Start,
-    /// Slot 1 isn't the sub-START code of a message.
-    #[error("another sub-START code")]
+    /// Slot 1 isn't the sub-START code of a message, 0x01 (section 6.2.2).
+    #[error("wrong sub-START code")]
     SubStart,
-    /// Slot 2, the message length, is under 24, or isn't two less than the number of bytes.
-    #[error("the message length isn't that of the bytes")]
+    /// Slot 2, the message length, is under 24, or isn't two less than the number of bytes (section 6.2.3).
+    #[error("the message length doesn't match the number of bytes")]
     Length,
-    /// The parameter data length isn't what the message length leaves for it.
-    #[error("the parameter data length isn't that of the message")]
+    /// Slot 23, the parameter data length, isn't what the message length leaves for it (section 6.2.10).
+    #[error("the parameter data length doesn't match the message length")]
     Pdl,
-    /// The last two slots aren't the sum of the others.
-    #[error("another checksum")]
+    /// The last two slots, the checksum, aren't the sum of the others modulo 65536 (section 6.2.11).
+    #[error("wrong checksum")]
     Checksum,
 }
 

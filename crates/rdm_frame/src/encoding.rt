@@ -3,13 +3,8 @@
 ghost use Rattle.std.specs.Prelude.{[], ◌≡◌, ◌+◌, ◌%◌, ◌≤◌, length, sum};
 ghost use Rattle.rdm_frame.specs.FrameText.{frame_text, head_slots};
 
+use crate::standard::{START_CODE, SUB_START_CODE};
 use crate::{Frame, FrameView, Wire};
-
-/// The START code of every frame (E1.20 section 6.2.1).
-pub(crate) const START_CODE: u8 = 0xCC;
-
-/// The sub-START code of every frame (section 6.2.2).
-pub(crate) const SUB_START_CODE: u8 = 0x01;
 
 /// How many slots stand before the parameter data.
 pub(crate) const HEAD_SLOTS: usize = 24;
@@ -24,6 +19,8 @@ pub fn encode(frame: &Frame) -> Wire
 }
 
 /// Writes the text of a frame. What stood there before is gone.
+// Inlined, with `write_head`: where the compiler sees the list cleared, no append tests for room, and each field of the
+// header is stored as one number.
 #[inline(always)]
 #[tactic(auto, unfolding(crate::specs::FrameText::frame_text))]
 pub fn encode_into(frame: &FrameView<'_>, wire: &mut Wire)
@@ -37,6 +34,7 @@ pub fn encode_into(frame: &FrameView<'_>, wire: &mut Wire)
 }
 
 /// Writes the slots before the parameter data, where nothing is yet.
+// Inlined, as `encode_into` says.
 #[inline(always)]
 #[tactic(auto, unfolding(crate::specs::FrameText::head_slots))]
 fn write_head(frame: &FrameView<'_>, wire: &mut Wire)
@@ -82,6 +80,8 @@ pub fn sum_of(slots: &[u8]) -> u32
     total + sum_of_part(rest)
 }
 
+/// The sum of some of the slots.
+// Inlined: the compiler sums eight slots, of which it sees that there are eight, by one instruction.
 #[inline(always)]
 fn sum_of_part(slots: &[u8]) -> u32
     requires { length slots.now ≤ 257 }

@@ -12,17 +12,18 @@ pub struct FrameView<'a> {
     pub src: Uid,
     /// The transaction number (section 6.2.6).
     pub tn: u8,
-    /// The port ID in a request, the response type in a response (section 6.2.7).
+    /// The port ID in a request, the response type in a response (section 6.2.7; the response types are those of
+    /// [`standard`](crate::standard)).
     pub port: u8,
-    /// The message count (section 6.2.8).
+    /// The message count: how many messages wait in the responder, at most 255; 0 in a request (section 6.2.8).
     pub count: u8,
-    /// The sub-device (section 6.2.9).
+    /// The sub-device: 0 for the root device, 0xFFFF for all sub-devices (section 6.2.9).
     pub sub: u16,
-    /// The command class (section 6.2.10).
+    /// The command class (section 6.2.10, table A-1).
     pub class: u8,
-    /// The parameter ID (section 6.2.10).
+    /// The parameter ID, PID (section 6.2.10, table A-3).
     pub pid: u16,
-    /// The parameter data (section 6.2.10): at most 231 slots.
+    /// The parameter data, at most 231 slots (section 6.2.10).
     pub body: &'a [u8],
 }
 
@@ -32,7 +33,17 @@ impl<'a> Model for FrameView<'a> {
 
     ghost Value = { TheFrame };
 
-    ghost view = { λ f. record { dst = f.dst; src = f.src; tn = f.tn; port = f.port; count = f.count; sub = f.sub; class = f.class; pid = f.pid; body = f.body.now } };
+    ghost view = { λ f. record {
+      dst = f.dst;
+      src = f.src;
+      tn = f.tn;
+      port = f.port;
+      count = f.count;
+      sub = f.sub;
+      class = f.class;
+      pid = f.pid;
+      body = f.body.now;
+    } };
 
     ghost invariant = { λ f. length f.body.now ≤ 231 };
 }

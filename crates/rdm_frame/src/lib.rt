@@ -6,14 +6,17 @@
 
 mod bytes;
 mod decoding;
+pub mod digits;
 mod discovery;
 mod encoding;
 mod frame;
 mod frame_view;
 mod laws;
+pub mod standard;
 #[cfg(test)]
 mod tests;
 mod uid;
+mod uid_text;
 
 pub use bytes::{Body, Bytes, Load, Text, Wire};
 pub use decoding::{FrameError, decode, decode_view, uid_at};
@@ -22,7 +25,10 @@ pub use encoding::{encode, encode_into, sum_of};
 pub use frame::Frame;
 pub use frame_view::FrameView;
 pub use laws::{
-    branch_reply_belongs_to_one_uid, coded_byte_is_read_back, text_belongs_to_one_frame,
-    text_has_its_slots, uids_are_ordered_by_number,
+    branch_reply_belongs_to_one_uid, bytes_are_equal_by_value, coded_byte_is_read_back,
+    frame_errors_are_equal_by_value, frames_are_equal_by_value, printed_bytes_are_read_back,
+    text_belongs_to_one_frame, text_has_its_slots, uids_are_equal_by_value,
+    uids_are_ordered_by_number, written_uid_is_read_back,
 };
 pub use uid::Uid;
+pub use uid_text::UidError;

@@ -1,8 +1,8 @@
-ghost use Rattle.std.specs.Prelude.{◌<◌};
+ghost use Rattle.std.specs.Prelude.{◌<◌, ◌≤◌};
 
 use crate::{
-    Body, Frame, FrameError, Load, Text, Uid, Wire, decode, decode_view, encode, encode_into,
-    sum_of,
+    Body, Bytes, Frame, FrameError, Text, Uid, UidError, Wire, decode, decode_view, disc_reply,
+    encode, encode_into, sum_of, uid_at,
 };
 use std::test::Fail;
 
@@ -16,16 +16,39 @@ const CONTROLLER: Uid = Uid {
     device: 2,
 };
 
-const EVERYONE: Uid = Uid {
-    maker: 0xFFFF,
-    device: 0xFFFF_FFFF,
-};
-
 /// The controller asks the device whether it identifies itself.
 const REQUEST: [u8; 26] = [
     0xCC, 0x01, 0x18, 0x7F, 0xF0, 0x00, 0x00, 0x00, 0x01, 0x7F, 0xF0, 0x00, 0x00, 0x00, 0x02, 0x00,
     0x01, 0x00, 0x00, 0x00, 0x20, 0x10, 0x00, 0x00, 0x03, 0xF7,
 ];
+
+/// The device answers that it doesn't.
+const ANSWER: [u8; 27] = [
+    0xCC, 0x01, 0x19, 0x7F, 0xF0, 0x00, 0x00, 0x00, 0x02, 0x7F, 0xF0, 0x00, 0x00, 0x00, 0x01, 0x00,
+    0x00, 0x00, 0x00, 0x00, 0x21, 0x10, 0x00, 0x01, 0x00, 0x03, 0xF9,
+];
+
+/// The device refuses a SET whose data are out of range.
+const OUT_OF_RANGE: [u8; 28] = [
+    0xCC, 0x01, 0x1A, 0x7F, 0xF0, 0x00, 0x00, 0x00, 0x02, 0x7F, 0xF0, 0x00, 0x00, 0x00, 0x01, 0x00,
+    0x02, 0x00, 0x00, 0x00, 0x31, 0x10, 0x00, 0x02, 0x00, 0x06, 0x04, 0x13,
+];
+
+/// The device refuses a GET with data.
+const BAD_FORM: [u8; 28] = [
+    0xCC, 0x01, 0x1A, 0x7F, 0xF0, 0x00, 0x00, 0x00, 0x02, 0x7F, 0xF0, 0x00, 0x00, 0x00, 0x01, 0x01,
+    0x02, 0x00, 0x00, 0x00, 0x21, 0x10, 0x00, 0x02, 0x00, 0x01, 0x03, 0xFF,
+];
+
+/// The controller tells all devices to identify themselves.
+const BROADCAST: [u8; 27] = [
+    0xCC, 0x01, 0x19, 0xFF, 0xFF, 0xFF, 0xFF, 0xFF, 0xFF, 0x7F, 0xF0, 0x00, 0x00, 0x00, 0x02, 0x00,
+    0x01, 0x00, 0x00, 0x00, 0x30, 0x10, 0x00, 0x01, 0x01, 0x08, 0x94,
+];
+
+fn uid(maker: u16, device: u32) -> Uid {
+    Uid { maker, device }
+}
 
 /// That request, with another byte at one slot.
 fn altered(slot: usize, byte: u8) -> [u8; 26]
@@ -53,46 +76,50 @@ fn identify(dst: Uid, src: Uid, tn: u8, port: u8, class: u8, data: &[u8]) -> Res
 
 #[test]
 fn frames_and_their_texts(rt: HostRuntime) -> Result<(), Fail> {
-    let answer = [
-        0xCC, 0x01, 0x19, 0x7F, 0xF0, 0x00, 0x00, 0x00, 0x02, 0x7F, 0xF0, 0x00, 0x00, 0x00, 0x01,
-        0x00, 0x00, 0x00, 0x00, 0x00, 0x21, 0x10, 0x00, 0x01, 0x00, 0x03, 0xF9,
-    ];
-    let out_of_range = [
-        0xCC, 0x01, 0x1A, 0x7F, 0xF0, 0x00, 0x00, 0x00, 0x02, 0x7F, 0xF0, 0x00, 0x00, 0x00, 0x01,
-        0x00, 0x02, 0x00, 0x00, 0x00, 0x31, 0x10, 0x00, 0x02, 0x00, 0x06, 0x04, 0x13,
-    ];
-    let bad_form = [
-        0xCC, 0x01, 0x1A, 0x7F, 0xF0, 0x00, 0x00, 0x00, 0x02, 0x7F, 0xF0, 0x00, 0x00, 0x00, 0x01,
-        0x01, 0x02, 0x00, 0x00, 0x00, 0x21, 0x10, 0x00, 0x02, 0x00, 0x01, 0x03, 0xFF,
-    ];
-    let broadcast = [
-        0xCC, 0x01, 0x19, 0xFF, 0xFF, 0xFF, 0xFF, 0xFF, 0xFF, 0x7F, 0xF0, 0x00, 0x00, 0x00, 0x02,
-        0x00, 0x01, 0x00, 0x00, 0x00, 0x30, 0x10, 0x00, 0x01, 0x01, 0x08, 0x94,
-    ];
-    for (text, frame) in [
+    for (text, dst, src, tn, port, class, data) in [
         (
             REQUEST.as_slice(),
-            identify(DEVICE, CONTROLLER, 0, 1, 0x20, &[])?,
+            DEVICE,
+            CONTROLLER,
+            0,
+            1,
+            0x20,
+            b"".as_slice(),
+        ),
+        (ANSWER.as_slice(), CONTROLLER, DEVICE, 0, 0, 0x21, &[0x00]),
+        (
+            OUT_OF_RANGE.as_slice(),
+            CONTROLLER,
+            DEVICE,
+            0,
+            2,
+            0x31,
+            &[0x00, 0x06],
         ),
         (
-            answer.as_slice(),
-            identify(CONTROLLER, DEVICE, 0, 0, 0x21, &[0x00])?,
+            BAD_FORM.as_slice(),
+            CONTROLLER,
+            DEVICE,
+            1,
+            2,
+            0x21,
+            &[0x00, 0x01],
         ),
         (
-            out_of_range.as_slice(),
-            identify(CONTROLLER, DEVICE, 0, 2, 0x31, &[0x00, 0x06])?,
-        ),
-        (
-            bad_form.as_slice(),
-            identify(CONTROLLER, DEVICE, 1, 2, 0x21, &[0x00, 0x01])?,
-        ),
-        (
-            broadcast.as_slice(),
-            identify(EVERYONE, CONTROLLER, 0, 1, 0x30, &[0x01])?,
+            BROADCAST.as_slice(),
+            Uid::ALL,
+            CONTROLLER,
+            0,
+            1,
+            0x30,
+            &[0x01],
         ),
     ] {
+        let frame = identify(dst, src, tn, port, class, data)?;
         assert_eq!(rt; encode(&frame).as_slice(), text);
-        assert_eq!(rt; decode(text)?, frame);
+        let read = decode(text)?;
+        assert_eq!(rt; read.body.as_slice(), frame.body.as_slice());
+        assert_eq!(rt; read, frame);
         let mut wire = Wire::from_slice(&[0xFF; 257]).ok_or("too long")?;
         encode_into(&frame.view(), &mut wire);
         assert_eq!(rt; wire.as_slice(), text);
@@ -135,33 +162,24 @@ fn refusals_in_their_order(rt: HostRuntime) {
     }
 }
 
+/// Whether a list of this kind takes as many bytes.
+fn takes<const N: usize>(count: usize) -> bool
+    requires within { count ≤ 258 }
+    requires small { N ≤ 257 }
+{
+    let bytes = [0x41; 258];
+    Bytes::<N>::from_slice(&bytes[..count]).is_some()
+}
+
 #[test]
 fn each_kind_of_bytes_has_its_bound(rt: HostRuntime) {
-    let bytes = [0x41; 258];
     for (kind, fits, over) in [
-        (
-            "Body",
-            Body::from_slice(&bytes[..231]).is_some(),
-            Body::from_slice(&bytes[..232]).is_some(),
-        ),
-        (
-            "Wire",
-            Wire::from_slice(&bytes[..257]).is_some(),
-            Wire::from_slice(&bytes[..258]).is_some(),
-        ),
-        (
-            "Load",
-            Load::from_slice(&bytes[..255]).is_some(),
-            Load::from_slice(&bytes[..256]).is_some(),
-        ),
-        (
-            "Text",
-            Text::from_slice(&bytes[..32]).is_some(),
-            Text::from_slice(&bytes[..33]).is_some(),
-        ),
+        ("Body", takes::<231>(231), takes::<231>(232)),
+        ("Wire", takes::<257>(257), takes::<257>(258)),
+        ("Load", takes::<255>(255), takes::<255>(256)),
+        ("Text", takes::<32>(32), takes::<32>(33)),
     ] {
-        assert!(rt; fits, "{kind}");
-        assert!(rt; !over, "{kind}");
+        assert!(rt; fits && !over, "{kind}");
     }
 }
 
@@ -171,54 +189,111 @@ fn bytes_are_copied_and_cleared(rt: HostRuntime) {
     text.append(b"Fix");
     text.append(b"ture");
     assert_eq!(rt; text.copy().as_slice(), b"Fixture".as_slice());
-    assert_eq!(rt; text.copy(), text);
     text.clear();
-    assert_eq!(rt; text, Text::new());
+    assert_eq!(rt; text.as_slice(), b"".as_slice());
+}
+
+#[test]
+fn different_values_differ(rt: HostRuntime) -> Result<(), Fail> {
+    let label = Text::from_slice(b"Fixture").ok_or("too long")?;
+    for other in [b"".as_slice(), b"Fixtur", b"Fixturf", b"Fixture "] {
+        let other = Text::from_slice(other).ok_or("too long")?;
+        assert!(rt; label != other, "{other:?}");
+    }
+    let frame = decode(&REQUEST)?;
+    for slot in 3..23 {
+        let mut text = altered(slot, REQUEST[slot].wrapping_add(1));
+        text[25] = text[25].wrapping_add(1);
+        assert!(rt; decode(&text)? != frame, "slot {slot}");
+    }
+    let with_data = identify(DEVICE, CONTROLLER, 0, 1, 0x20, &[0x00])?;
+    assert!(rt; with_data != frame);
+    Ok(())
 }
 
 #[test]
 fn uids_stand_in_the_order_of_their_numbers(rt: HostRuntime) {
     let uids = [
-        (
-            Uid {
-                maker: 0,
-                device: 0xFFFF_FFFF,
-            },
-            0x0000_FFFF_FFFF_u64,
-            true,
-        ),
-        (
-            Uid {
-                maker: 1,
-                device: 0,
-            },
-            0x0001_0000_0000,
-            false,
-        ),
+        (uid(0, 0xFFFF_FFFF), 0x0000_FFFF_FFFF, true),
+        (uid(1, 0), 0x0001_0000_0000, false),
         (DEVICE, 0x7FF0_0000_0001, false),
         (CONTROLLER, 0x7FF0_0000_0002, false),
-        (
-            Uid {
-                maker: 0x7FF0,
-                device: 0xFFFF_FFFF,
-            },
-            0x7FF0_FFFF_FFFF,
-            true,
-        ),
-        (
-            Uid {
-                maker: 0xFFFF,
-                device: 1,
-            },
-            0xFFFF_0000_0001,
-            false,
-        ),
-        (EVERYONE, 0xFFFF_FFFF_FFFF, true),
+        (Uid::all_of(0x7FF0), 0x7FF0_FFFF_FFFF, true),
+        (uid(0xFFFF, 1), 0xFFFF_0000_0001, false),
+        (Uid::ALL, 0xFFFF_FFFF_FFFF, true),
     ];
     for (uid, number, broadcast) in &uids {
-        assert_eq!(rt; uid.is_broadcast(), *broadcast, "{uid:?}");
+        assert_eq!(rt; uid.number(), *number, "{uid}");
+        assert_eq!(rt; uid.is_broadcast(), *broadcast, "{uid}");
         for (other, bound, _) in &uids {
-            assert_eq!(rt; uid.cmp(other), number.cmp(bound), "{uid:?} and {other:?}");
+            assert_eq!(rt; uid.cmp(other), number.cmp(bound), "{uid} and {other}");
         }
+    }
+}
+
+#[test]
+fn devices_are_addressed_by_uid_and_by_broadcast(rt: HostRuntime) {
+    for (destination, addressed) in [
+        (DEVICE, true),
+        (Uid::ALL, true),
+        (Uid::all_of(0x7FF0), true),
+        (CONTROLLER, false),
+        (uid(0x7FF1, 1), false),
+        (Uid::all_of(0x7FF1), false),
+        (uid(0xFFFF, 1), false),
+    ] {
+        assert_eq!(rt; destination.addresses(DEVICE), addressed, "{destination}");
+    }
+}
+
+#[test]
+fn uids_are_read_from_slots_and_texts(rt: HostRuntime) -> Result<(), Fail> {
+    assert_eq!(rt; uid_at(&REQUEST, 3), DEVICE);
+    assert_eq!(rt; uid_at(&REQUEST, 9), CONTROLLER);
+    for (text, uid) in [
+        ("7FF0:00000001", DEVICE),
+        ("FFFF:FFFFFFFF", Uid::ALL),
+        ("09AF:0123ABCD", uid(0x09AF, 0x0123_ABCD)),
+    ] {
+        assert_eq!(rt; uid.text().as_slice(), text.as_bytes());
+        assert_eq!(rt; format!(in rt.alloc(); "{uid}")?.as_str(), text);
+        assert_eq!(rt; text.parse::<Uid>()?, uid);
+    }
+    assert_eq!(rt;
+        Uid::from_text(b"09af:0123aBcD"),
+        Some(uid(0x09AF, 0x0123_ABCD))
+    );
+    for text in [
+        "",
+        "7FF0:0000001",
+        "7FF0:000000001",
+        "7FF0-00000001",
+        "7FG0:00000001",
+        "+FF0:00000001",
+    ] {
+        assert_eq!(rt; text.parse::<Uid>(), Err(UidError), "{text}");
+    }
+    Ok(())
+}
+
+#[test]
+fn discovery_answers(rt: HostRuntime) {
+    for (uid, answer) in [
+        (
+            DEVICE,
+            [
+                0xFE, 0xFE, 0xFE, 0xFE, 0xFE, 0xFE, 0xFE, 0xAA, 0xFF, 0x7F, 0xFA, 0xF5, 0xAA, 0x55,
+                0xAA, 0x55, 0xAA, 0x55, 0xAB, 0x55, 0xAF, 0x57, 0xEA, 0x7F,
+            ],
+        ),
+        (
+            uid(0x1234, 0x5678_9ABC),
+            [
+                0xFE, 0xFE, 0xFE, 0xFE, 0xFE, 0xFE, 0xFE, 0xAA, 0xBA, 0x57, 0xBE, 0x75, 0xFE, 0x57,
+                0xFA, 0x7D, 0xBA, 0xDF, 0xBE, 0xFD, 0xAA, 0x5D, 0xEE, 0x75,
+            ],
+        ),
+    ] {
+        assert_eq!(rt; disc_reply(uid).as_slice(), answer.as_slice(), "{uid}");
     }
 }

@@ -6,8 +6,8 @@ use Rattle.std.proofs.lemmas.List.Kept.{AllPairs-cons}
 use Rattle.rdm_params.specs.declared.profile.Personality.{Personality}
 use Rattle.rdm_params.specs.declared.profile.SelfTest.{SelfTest}
 use Rattle.rdm_params.specs.declared.profile.StatusText.{StatusText}
-use Rattle.rdm_params.specs.Demo.{demo, demo_root, demo_sub, demo_slots, demo_tests, demo_statuses}
-use Rattle.rdm_params.specs.Profiles.{CanBeMade}
+use Rattle.rdm_params.specs.Device.Demo.{demo, demo_root, demo_sub, demo_slots, demo_tests, demo_statuses}
+use Rattle.rdm_params.specs.Device.Profiles.{CanBeMade}
 
 none_differ : {X : Type 0} (R : X → X → Type 0) → AllPairs R []
 none_differ R i j d lt within = absurd (omega arith)

@@ -4,8 +4,8 @@ use Rattle.std.specs.Prelude.{flat_map}
 use Rattle.std.proofs.lemmas.List.{at_drop_more}
 use Rattle.std.proofs.lemmas.List.Concat.{flat_map-cons}
 use Rattle.rdm_params.specs.declared.profile.Slot.{Slot}
-use Rattle.rdm_params.specs.Replies.{slot_infos, slot_defaults}
-use Rattle.rdm_params.specs.Values.{word_slots}
+use Rattle.rdm_params.specs.Table.Replies.{slot_infos, slot_defaults}
+use Rattle.rdm_params.specs.Device.Values.{word_slots}
 
 pub codes_step : (list : List ℕ) (i : ℕ) (codes : List ℕ) (total : List ℕ) → i < length codes → list ++ flat_map word_slots (drop i codes) ≡ total → (list ++ word_slots (get_or codes i 0)) ++ flat_map word_slots (drop (i + 1) codes) ≡ total
 codes_step list i codes total lt so_far =

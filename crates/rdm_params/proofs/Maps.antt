@@ -1,6 +1,6 @@
 -- Laws of lookup and update.
 use Rattle.std.proofs.Common.{◌≡◌, ℕ, List, [], ◌∷◌, ◌++◌, refl, ap}
-use Rattle.rdm_params.specs.Map.{Entry, entry, update}
+use Rattle.rdm_params.specs.Device.Map.{Entry, entry, update}
 
 -- an update of a map in two parts is an update of both
 pub update_append : (f : Entry → List ℕ) (xs ys : List Entry) → update f (xs ++ ys) ≡ update f xs ++ update f ys

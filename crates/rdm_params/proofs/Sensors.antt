@@ -4,12 +4,12 @@ use Rattle.std.specs.Prelude.{slice_get}
 use Rattle.std.specs.Option.{option_map_or}
 use Rattle.std.proofs.lemmas.List.{take_more, length-take}
 use Rattle.std.proofs.lemmas.Bool.{eq-eqb, ne_eqb}
-use Rattle.rdm_params.specs.declared.state.Measured.{Measured}
+use Rattle.rdm_params.specs.declared.device.state.Measured.{Measured}
 use Rattle.rdm_params.proofs.Maps.{update_append}
 use Rattle.rdm_params.specs.declared.profile.SensorDef.{SensorDef}
-use Rattle.rdm_params.specs.Parameters.{sensors_at_start}
-use Rattle.rdm_params.specs.Map.{Entry, entry, lookup, update}
-use Rattle.rdm_params.specs.State.{sensor_entries, measured_slots}
+use Rattle.rdm_params.specs.Device.Parameters.{sensors_at_start}
+use Rattle.rdm_params.specs.Device.Map.{Entry, entry, lookup, update}
+use Rattle.rdm_params.specs.Views.State.{sensor_entries, measured_slots}
 
 -- a change that leaves the bytes of every sensor leaves their entries
 pub sensors_stay : (f : Entry → List ℕ) (n : ℕ) (ms : List Measured) → ((i : ℕ) (bytes : List ℕ) → f (entry 0x0201 i bytes) ≡ bytes) → update f (sensor_entries n ms) ≡ sensor_entries n ms

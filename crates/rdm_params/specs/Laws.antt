@@ -1,17 +1,17 @@
 -- Laws of the table, for every value, command and device.
-use Rattle.std.specs.Prelude.{◌≡◌, ℕ, ◌^◌, ◌<◌, ◌≤◌, ◌==◌, false, List, [], ◌∷◌, length, Option, Some, None, Ok, IsTrue, slice_index_or, if◌then◌else◌}
+use Rattle.std.specs.Prelude.{◌≡◌, ◌≢◌, ℕ, suc, ◌^◌, ◌<◌, ◌≤◌, ◌==◌, false, List, [], ◌∷◌, length, Option, Some, None, Ok, IsTrue, slice_index_or, if◌then◌else◌}
 use Rattle.std.specs.List.{list_any}
 use Rattle.rdm_params.specs.declared.kind.Verb.{Verb}
 use Rattle.rdm_params.specs.declared.value.Value.{Value}
 use Rattle.rdm_params.specs.declared.value.Value.TheVariants.{Byte, Word, Long, Preset, Label}
-use Rattle.rdm_params.specs.Commands.{command_of, after_set}
-use Rattle.rdm_params.specs.Forms.{has_form}
-use Rattle.rdm_params.specs.Map.{lookup}
-use Rattle.rdm_params.specs.Parameters.{Parameters}
-use Rattle.rdm_params.specs.Replies.{factory_pids}
-use Rattle.rdm_params.specs.Table.{Command}
-use Rattle.rdm_params.specs.Uses.{read}
-use Rattle.rdm_params.specs.Values.{bytes_of}
+use Rattle.rdm_params.specs.Commands.Commands.{command_of, after_set}
+use Rattle.rdm_params.specs.Table.Forms.{has_form}
+use Rattle.rdm_params.specs.Device.Map.{lookup}
+use Rattle.rdm_params.specs.Device.Parameters.{Parameters}
+use Rattle.rdm_params.specs.Table.Replies.{factory_pids}
+use Rattle.rdm_params.specs.Table.Rows.{Command}
+use Rattle.rdm_params.specs.Table.Uses.{read}
+use Rattle.rdm_params.specs.Device.Values.{bytes_of}
 
 -- the numbers of a value that a command can hand in fit their slots
 abbrev pub FitsSlots : Value → Type 0
@@ -29,18 +29,34 @@ HasFormOf (Some c) v = IsTrue (has_form c.form v)
 
 -- What is written of a value of a command's form is read back as that value.
 abbrev pub ReadsBack : Type 0
-ReadsBack = (pid : ℕ) (verb : Verb) (v : Value) → HasFormOf (command_of pid verb) v → FitsSlots v → read (command_of pid verb) (bytes_of v) ≡ Ok v
+ReadsBack =
+    (pid : ℕ) (verb : Verb) (v : Value)
+    → HasFormOf (command_of pid verb) v → FitsSlots v → read (command_of pid verb) (bytes_of v) ≡ Ok v
 
 -- The PIDs of the keys that a SET of a parameter may write: its own, but for FACTORY_DEFAULTS, which sets ten
 -- parameters back, and RECORD_SENSORS, which writes the sensors' values.
 abbrev pub keys_written : ℕ → List ℕ
 keys_written pid = if pid == 0x0090 then factory_pids else (if pid == 0x0202 then 0x0201 ∷ [] else pid ∷ [])
 
--- the values at this key are the same at the root and at every sub-device
+-- the values at this key are the same at the root and at every sub-device, of which the first is number 1
 pub record SameAt (pid index : ℕ) (old new : Parameters) : Type 0 where
   pub root : lookup new.root pid index ≡ lookup old.root pid index
   pub subs : (k : ℕ) → lookup (slice_index_or new.subs k []) pid index ≡ lookup (slice_index_or old.subs k []) pid index
 
--- A SET changes no value but at the keys of its parameter.
+-- A SET changes no value but at the keys of its parameter, at any device.
 abbrev pub ChangesItsKeys : Type 0
-ChangesItsKeys = (p : Parameters) (sub pid : ℕ) (bytes : List ℕ) (key index : ℕ) → list_any (λ k. k == key) (keys_written pid) ≡ false → SameAt key index p (after_set p sub pid bytes)
+ChangesItsKeys =
+    (p : Parameters) (sub pid : ℕ) (bytes : List ℕ) (key index : ℕ)
+    → list_any (λ k. k == key) (keys_written pid) ≡ false → SameAt key index p (after_set p sub pid bytes)
+
+-- The profile is the same, there are as many sub-devices, and the devices that a SET doesn't address keep all their
+-- values.
+pub record IsSameBut (sub : ℕ) (old new : Parameters) : Type 0 where
+  pub profile : new.profile ≡ old.profile
+  pub count : length new.subs ≡ length old.subs
+  pub root : sub ≢ 0 → new.root ≡ old.root
+  pub subs : (k : ℕ) → sub ≢ suc k → sub ≢ 0xFFFF → slice_index_or new.subs k [] ≡ slice_index_or old.subs k []
+
+-- A SET changes nothing but the values of the devices that it addresses.
+abbrev pub LeavesTheRest : Type 0
+LeavesTheRest = (p : Parameters) (sub pid : ℕ) (bytes : List ℕ) → IsSameBut sub p (after_set p sub pid bytes)

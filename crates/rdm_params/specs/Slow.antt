@@ -1,1 +1,6 @@
+pub mod Asks
+pub mod Commit
+pub mod Laws
+pub mod Outcome
 pub mod Severities
+pub mod Work

@@ -1,30 +1,36 @@
 //! A root device with its sub-devices, and the commands to them.
 
-ghost use Rattle.std.specs.Prelude.{[], length, ◌≡◌, ◌↔◌, ◌≤◌, ◌<◌, IfOk, IfErr, slice_get};
+mod sub_devices;
+
+ghost use Rattle.std.specs.Prelude.{[], length, ◌≡◌, ◌≢◌, ◌↔◌, ◌≤◌, ◌<◌, IfOk, IfErr, slice_get};
 ghost use Rattle.std.specs.List.{list_all};
 ghost use Rattle.std.specs.Option.{option_map};
 ghost use Rattle.rdm_params.specs.declared.kind.Verb.TheVariants.{Set};
 ghost use Rattle.rdm_params.specs.declared.verdict.Verdict.TheVariants.{Refuse};
-ghost use Rattle.rdm_params.specs.Commands.{known, suits, got, answer_to_set, after_set, in_range, verdict, addressed, command_of, carried_out, is_all_call, sub_spot};
-ghost use Rattle.rdm_params.specs.Kinds.{pid_of};
-ghost use Rattle.rdm_params.specs.Parameters.{parameters_of};
-ghost use Rattle.rdm_params.specs.Profiles.{IsGoodProfile};
-ghost use Rattle.rdm_params.specs.Spot.{spot_of};
-ghost use Rattle.rdm_params.specs.Verdicts.{verdict_with};
-ghost use Rattle.rdm_params.specs.Uses.{in_range_of};
+ghost use Rattle.rdm_params.specs.Commands.Commands.{known, suits, got, answer_to_set, after_set, in_range, verdict, addressed, command_of, carried_out, is_all_call, sub_spot};
+ghost use Rattle.rdm_params.specs.Table.Kinds.{pid_of};
+ghost use Rattle.rdm_params.specs.Device.Parameters.{parameters_of};
+ghost use Rattle.rdm_params.specs.Device.Profiles.{IsGoodProfile};
+ghost use Rattle.rdm_params.specs.Views.Verdicts.{verdict_with};
+ghost use Rattle.rdm_params.specs.Table.Uses.{in_range_of};
 
-use crate::argument::Argument;
-use crate::checks::is_good;
-use crate::place::Place;
-use crate::ranges::is_in_range;
-use crate::reading::read_argument;
-use crate::replying::reply_into;
-use crate::rights::{check_access, starts_job};
-use crate::state::{Common, Own};
-use crate::storing::{store_common, store_own};
-use crate::subs::{all_in_range, start_each, store_at, store_each};
-use crate::{Answer, Kind, Nack, Profile, Value, Verb, Verdict, Work, kind_of};
+mod commit;
+
+use crate::device::Place;
+use crate::device::state::{Common, Own};
+use crate::devices::sub_devices::{all_in_range, start_each, store_at, store_each};
+use crate::profile::checks::is_good;
+use crate::slow::Way;
+use crate::table::access::check_access;
+use crate::table::range::is_in_range;
+use crate::table::read::read_argument;
+use crate::table::reply::reply_into;
+use crate::table::store::{store_common, store_own};
+use crate::table::way::{starts_job, way_of};
+use crate::value::argument::Argument;
+use crate::{Answer, Ask, Kind, Nack, Profile, Value, Verb, Verdict, Work, kind_of};
 use rdm_frame::Body;
+use rdm_frame::standard::SUB_DEVICE_ALL_CALL;
 use std::alloc::Global;
 use std::marker::Model;
 use thiserror::Error;
@@ -55,12 +61,12 @@ pub struct Devices {
 }
 
 impl Model for Devices {
-    ghost use Rattle.rdm_params.specs.Parameters.{Parameters};
+    ghost use Rattle.rdm_params.specs.Device.Parameters.{Parameters};
 
     ghost Value = { Parameters };
 
     ghost use Rattle.std.specs.Prelude.{◌++◌, map};
-    ghost use Rattle.rdm_params.specs.State.{common_entries, own_entries};
+    ghost use Rattle.rdm_params.specs.Views.State.{common_entries, own_entries};
 
     ghost view = { λ d. record { profile = d.profile; root = common_entries d.root ++ own_entries d.own; subs = map common_entries d.subs.items } };
 }
@@ -68,14 +74,11 @@ impl Model for Devices {
 /// The greatest number of sub-devices (E1.20 section 9).
 const MAX_SUBS: u16 = 512;
 
-/// The sub-device number that stands for all of them in a SET (section 9).
-const ALL_CALL: u16 = 0xFFFF;
-
 impl Devices {
     /// The devices of a profile, with the values that they start with.
     ///
     /// It is `TooManySubs` over 512 sub-devices, else `BadProfile` where the profile breaks a rule.
-    #[tactic(auto, unfolding(crate::specs::Parameters::parameters_of))]
+    #[tactic(auto, unfolding(crate::specs::Device::Parameters::parameters_of))]
     pub fn new(alloc: Global, profile: Profile) -> Result<Devices, NewError>
         ensures ok { IfOk result (λ devices. devices ≡ parameters_of profile) }
         ensures too_many { (result ≡ Err NewError.TooManySubs) ↔ (512 < profile.subs) }
@@ -116,9 +119,11 @@ impl Devices {
         answer.with(body)
     }
 
-    /// What a GET answers, as `get`, with the data of the reply in `body`. What stood there before is gone.
+    /// What a GET answers, as `get`, with the data of the reply in `body`, and none where it isn't `Done`. What stood
+    /// there before is gone.
     pub fn get_into(&self, sub: u16, pid: u16, data: &[u8], body: &mut Body) -> Answer
-        ensures { verdict_with result body.new ≡ got self.now sub pid data.now }
+        ensures answer { verdict_with result body.new ≡ got self.now sub pid data.now }
+        ensures empty { result ≢ Answer.Done → body.new ≡ [] }
     {
         body.clear();
         match self.try_get(sub, pid, data, body) {
@@ -140,9 +145,11 @@ impl Devices {
         answer.with(body)
     }
 
-    /// What a SET answers, as `set`, with the data of the reply in `body`. What stood there before is gone.
+    /// What a SET answers, as `set`, with the data of the reply in `body`, and none where it isn't `Done`. What stood
+    /// there before is gone.
     pub fn set_into(&mut self, sub: u16, pid: u16, data: &[u8], body: &mut Body) -> Answer
         ensures answer { verdict_with result body.new ≡ answer_to_set self.old sub pid data.now }
+        ensures empty { result ≢ Answer.Done → body.new ≡ [] }
         ensures after { self.new ≡ after_set self.old sub pid data.now }
     {
         body.clear();
@@ -154,37 +161,42 @@ impl Devices {
 
     /// Whether a value is in the range of a command at each device that it is for. It isn't where there is no such
     /// device, parameter or command, or where the value has another form.
-    #[tactic(auto, unfolding(crate::specs::Commands::in_range))]
+    #[tactic(auto, unfolding(crate::specs::Commands::Commands::in_range), using(crate::proofs::OtherForms::never_in_range))]
     pub fn in_range(&self, sub: u16, kind: Kind, verb: Verb, value: &Value) -> bool
         ensures { result ≡ in_range self.now sub kind verb value.now }
     {
+        let Some(argument) = Argument::of(value) else {
+            return false;
+        };
         self.first_place(sub, verb).is_some()
             && check_access(kind, sub == 0, verb).is_ok()
-            && self.is_in_range_at(sub, kind, verb, &Argument::of(value))
+            && self.is_in_range_at(sub, kind, verb, &argument)
     }
 
     /// What a GET answers, or the first reason to refuse it.
     // This and its steps are inlined, since a call would hand the argument on through memory.
     #[inline(always)]
-    #[tactic(auto, unfolding(crate::specs::Commands::got, crate::specs::Commands::accepted))]
+    #[tactic(auto, unfolding(crate::specs::Commands::Commands::got, crate::specs::Commands::Commands::accepted))]
     fn try_get(&self, sub: u16, pid: u16, data: &[u8], body: &mut Body) -> Result<Answer, Nack>
         requires { body.old ≡ [] }
         ensures ok { IfOk result (λ answer. verdict_with answer body.new ≡ got self.now sub pid data.now) }
         ensures err { IfErr result (λ nack. got self.now sub pid data.now ≡ Refuse nack) }
+        ensures empty { result ≢ Ok Answer.Done → body.new ≡ [] }
     {
         let kind = self.known(sub, pid, Verb::Get)?;
         let value = read_argument(kind, Verb::Get, data)?;
         self.suits(sub, kind, Verb::Get, &value)?;
-        Ok(self.answer(sub, pid, Verb::Get, kind, &value, body))
+        Ok(self.answer(sub, kind, Verb::Get, &value, body))
     }
 
     /// What a SET answers, or the first reason to refuse it.
     #[inline(always)]
-    #[tactic(auto, unfolding(crate::specs::Commands::answer_to_set, crate::specs::Commands::after_set, crate::specs::Commands::accepted))]
+    #[tactic(auto, unfolding(crate::specs::Commands::Commands::answer_to_set, crate::specs::Commands::Commands::after_set, crate::specs::Commands::Commands::accepted))]
     fn try_set(&mut self, sub: u16, pid: u16, data: &[u8], body: &mut Body) -> Result<Answer, Nack>
         requires { body.old ≡ [] }
         ensures ok { IfOk result (λ answer. verdict_with answer body.new ≡ answer_to_set self.old sub pid data.now) }
         ensures err { IfErr result (λ nack. answer_to_set self.old sub pid data.now ≡ Refuse nack) }
+        ensures empty { result ≢ Ok Answer.Done → body.new ≡ [] }
         ensures after { self.new ≡ after_set self.old sub pid data.now }
     {
         let kind = self.known(sub, pid, Verb::Set)?;
@@ -193,7 +205,7 @@ impl Devices {
         if !starts_job(kind, Verb::Set) {
             self.carry_out(sub, kind, &value);
         }
-        Ok(self.answer(sub, pid, Verb::Set, kind, &value, body))
+        Ok(self.answer(sub, kind, Verb::Set, &value, body))
     }
 
     /// The parameter that a command names, at a device that there is and that has the command.
@@ -243,28 +255,32 @@ impl Devices {
     fn answer(
         &self,
         sub: u16,
-        pid: u16,
-        verb: Verb,
         kind: Kind,
+        verb: Verb,
         value: &Argument<'_>,
         body: &mut Body,
     ) -> Answer
-        requires named { pid_of kind ≡ pid }
-        requires empty { body.old ≡ [] }
-        ensures { verdict_with result body.new ≡ verdict self.now sub pid verb (Ok value.now) }
+        requires { body.old ≡ [] }
+        ensures answer { verdict_with result body.new ≡ verdict self.now sub (pid_of kind) verb (Ok value.now) }
+        ensures empty { result ≢ Answer.Done → body.new ≡ [] }
     {
-        if starts_job(kind, verb) {
-            return Answer::Starts(Work {
+        let arg = value.byte().unwrap_or(0);
+        match way_of(kind, verb) {
+            Way::AtOnce => {
+                if let Some(place) = self.first_place(sub, verb) {
+                    reply_into(kind, verb, &place, value, body);
+                }
+                Answer::Done
+            }
+            Way::ByJob { .. } => Answer::Starts(Work {
                 sub,
-                pid,
+                pid: kind.pid(),
                 verb,
-                arg: value.byte().unwrap_or(0),
-            });
+                arg,
+            }),
+            Way::FromQueue => Answer::Queues(Ask::of(arg)),
+            Way::FromStatus => Answer::Statuses(Ask::of(arg)),
         }
-        if let Some(place) = self.first_place(sub, verb) {
-            reply_into(kind, verb, &place, value, body);
-        }
-        Answer::Done
     }
 
     /// Carries out a SET at the devices that it is for.
@@ -276,7 +292,7 @@ impl Devices {
         if sub == 0 {
             store_common(kind, value, profile, &mut self.root);
             store_own(kind, value, profile, &mut self.own);
-        } else if sub == ALL_CALL {
+        } else if sub == SUB_DEVICE_ALL_CALL {
             store_each(kind, value, profile, &mut self.subs);
         } else {
             store_at(kind, value, profile, &mut self.subs, sub as usize - 1);
@@ -284,9 +300,9 @@ impl Devices {
     }
 
     /// The first device that a command is for, if there is one.
-    #[tactic(auto, unfolding(crate::specs::State::common_entries), using(crate::proofs::Places::first_of_subs, crate::proofs::Places::first_of_one))]
+    #[tactic(auto, unfolding(crate::specs::Views::State::common_entries), using(crate::proofs::Places::first_of_subs, crate::proofs::Places::first_of_one))]
     fn first_place(&self, sub: u16, verb: Verb) -> Option<Place<'_>>
-        ensures { option_map spot_of result ≡ slice_get (addressed self.now sub verb) 0 }
+        ensures { result ≡ slice_get (addressed self.now sub verb) 0 }
     {
         if sub == 0 {
             return Some(Place {
@@ -303,9 +319,9 @@ impl Devices {
     }
 
     /// The sub-device at this place, from 0, if there is one.
-    #[tactic(auto, unfolding(crate::specs::State::common_entries), using(crate::proofs::Places::at_place))]
+    #[tactic(auto, unfolding(crate::specs::Views::State::common_entries), using(crate::proofs::Places::at_place))]
     fn sub_place(&self, index: usize) -> Option<Place<'_>>
-        ensures { option_map spot_of result ≡ option_map (sub_spot self.now) (slice_get self.now.subs index) }
+        ensures { result ≡ option_map (sub_spot self.now) (slice_get self.now.subs index) }
     {
         match self.subs.get(index) {
             Some(common) => Some(Place {
@@ -325,6 +341,6 @@ fn is_all_call(sub: u16, verb: Verb) -> bool
 {
     match verb {
         Verb::Get => false,
-        Verb::Set => sub == ALL_CALL,
+        Verb::Set => sub == SUB_DEVICE_ALL_CALL,
     }
 }

@@ -1,13 +1,79 @@
 //! Laws of the table, over every value, command and device. Each is the contract of a call that does nothing.
 
-ghost use Rattle.rdm_params.specs.Laws.{ReadsBack, ChangesItsKeys};
+ghost use Rattle.std.specs.Prelude.{◌≡◌, ◌↔◌, IsTrue};
+ghost use Rattle.rdm_params.specs.Laws.{ReadsBack, ChangesItsKeys, LeavesTheRest};
+
+use crate::{
+    Answer, Ask, Entry, Kind, Message, Nack, NewError, Outcome, Severity, Verb, Verdict, Work,
+};
 
 /// What `write_value` writes of a value that has the form of a command, `read_value` reads back for that command.
 pub fn written_value_is_read_back()
     ensures { ReadsBack }
 {}
 
-/// A SET changes no value but those at the keys of its parameter, at the root and at every sub-device.
+/// A SET changes no value but those at the keys of its parameter, at the devices that it addresses.
 pub fn set_changes_its_own_keys()
-    ensures { ChangesItsKeys }
+    ensures keys { ChangesItsKeys }
+    ensures rest { LeavesTheRest }
+{}
+
+/// Two values of `Work` are equal by `==` exactly where they are the same.
+pub fn works_are_equal_by_value()
+    ensures { (a b : Work) → IsTrue (⟦<Work as PartialEq>⟧.eq a b) ↔ (a ≡ b) }
+{}
+
+/// Two values of `Entry` are equal by `==` exactly where they are the same.
+pub fn entries_are_equal_by_value()
+    ensures { (a b : Entry) → IsTrue (⟦<Entry as PartialEq>⟧.eq a b) ↔ (a ≡ b) }
+{}
+
+/// Two values of `Message` are equal by `==` exactly where they are the same.
+pub fn messages_are_equal_by_value()
+    ensures { (a b : Message) → IsTrue (⟦<Message as PartialEq>⟧.eq a b) ↔ (a ≡ b) }
+{}
+
+/// Two values of `Outcome` are equal by `==` exactly where they are the same.
+pub fn outcomes_are_equal_by_value()
+    ensures { (a b : Outcome) → IsTrue (⟦<Outcome as PartialEq>⟧.eq a b) ↔ (a ≡ b) }
+{}
+
+/// Two values of `Nack` are equal by `==` exactly where they are the same.
+pub fn nacks_are_equal_by_value()
+    ensures { (a b : Nack) → IsTrue (⟦<Nack as PartialEq>⟧.eq a b) ↔ (a ≡ b) }
+{}
+
+/// Two values of `Verb` are equal by `==` exactly where they are the same.
+pub fn verbs_are_equal_by_value()
+    ensures { (a b : Verb) → IsTrue (⟦<Verb as PartialEq>⟧.eq a b) ↔ (a ≡ b) }
+{}
+
+/// Two values of `Kind` are equal by `==` exactly where they are the same.
+pub fn kinds_are_equal_by_value()
+    ensures { (a b : Kind) → IsTrue (⟦<Kind as PartialEq>⟧.eq a b) ↔ (a ≡ b) }
+{}
+
+/// Two values of `Severity` are equal by `==` exactly where they are the same.
+pub fn severities_are_equal_by_value()
+    ensures { (a b : Severity) → IsTrue (⟦<Severity as PartialEq>⟧.eq a b) ↔ (a ≡ b) }
+{}
+
+/// Two values of `Ask` are equal by `==` exactly where they are the same.
+pub fn asks_are_equal_by_value()
+    ensures { (a b : Ask) → IsTrue (⟦<Ask as PartialEq>⟧.eq a b) ↔ (a ≡ b) }
+{}
+
+/// Two values of `NewError` are equal by `==` exactly where they are the same.
+pub fn new_errors_are_equal_by_value()
+    ensures { (a b : NewError) → IsTrue (⟦<NewError as PartialEq>⟧.eq a b) ↔ (a ≡ b) }
+{}
+
+/// Two values of `Answer` are equal by `==` exactly where they are the same.
+pub fn answers_are_equal_by_value()
+    ensures { (a b : Answer) → IsTrue (⟦<Answer as PartialEq>⟧.eq a b) ↔ (a ≡ b) }
+{}
+
+/// Two values of `Verdict` are equal by `==` exactly where they are the same.
+pub fn verdicts_are_equal_by_value()
+    ensures { (a b : Verdict) → IsTrue (⟦<Verdict as PartialEq>⟧.eq a b) ↔ (a ≡ b) }
 {}

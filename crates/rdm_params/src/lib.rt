@@ -1,51 +1,42 @@
 //! The parameters of an RDM device (ANSI E1.20-2010, section 10): the table of them, and the values that a root
-//! device keeps.
+//! device and its sub-devices keep.
 //!
 //! `Devices` answers GET and SET commands by the table. Each row says where a parameter is, which data its
-//! commands take, what they answer, and which values they write.
+//! commands take, in which way and with what they are answered, and which values they write. A slow command starts a
+//! job, and `Devices::commit` carries it out when the job has ended.
 #![tactic(auto)]
 
-mod argument;
-mod blank;
-mod changes;
-mod checks;
-mod copying;
-mod demo;
+mod columns;
+mod device;
 mod devices;
-mod footprint;
-mod form;
 mod kind;
 mod laws;
-mod lists;
 mod nack;
-mod place;
 mod profile;
-mod range;
-mod ranges;
-mod reading;
-mod replies;
-mod replying;
-mod rights;
 mod slow;
-mod state;
-mod storing;
-mod subs;
-mod supporting;
 mod table;
 mod value;
 mod verdict;
-mod writing;
 
 pub use devices::{Devices, NewError};
 pub use kind::{Kind, Verb, kind_of};
-pub use laws::{set_changes_its_own_keys, written_value_is_read_back};
+pub use laws::{
+    answers_are_equal_by_value, asks_are_equal_by_value, entries_are_equal_by_value,
+    kinds_are_equal_by_value, messages_are_equal_by_value, nacks_are_equal_by_value,
+    new_errors_are_equal_by_value, outcomes_are_equal_by_value, set_changes_its_own_keys,
+    severities_are_equal_by_value, verbs_are_equal_by_value, verdicts_are_equal_by_value,
+    works_are_equal_by_value, written_value_is_read_back,
+};
 pub use nack::Nack;
 pub use profile::{Personality, Profile, SelfTest, SensorDef, Slot, StatusText, Unit};
-pub use reading::read_value;
-pub use slow::{Ask, Entry, Message, Outcome, Severity, Work};
+pub use slow::{
+    Ask, Entry, Message, Outcome, Severity, Work, estimate_of, fits, slow_command_stays_accepted,
+    started_work_is_its_command, two_commands_fetch, worker_of,
+};
+pub use table::read::read_value;
 pub use value::Value;
+pub use value::writing::write_value;
 pub use verdict::{Answer, Verdict};
-pub use writing::write_value;
 
 #[cfg(test)]
 mod tests;

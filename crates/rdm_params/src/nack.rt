@@ -1,7 +1,7 @@
 //! Why a command is refused.
 
 ghost use Rattle.std.specs.Prelude.{◌≡◌};
-ghost use Rattle.rdm_params.specs.Nacks.{nack_code};
+ghost use Rattle.rdm_params.specs.Commands.Nacks.{nack_code};
 
 /// The reason of a NACK (E1.20 section 6.3.4 and table A-17).
 #[derive(Clone, Copy, Debug, PartialEq, Eq)]

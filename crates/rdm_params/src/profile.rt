@@ -1,12 +1,16 @@
 //! What a device is made with: its texts, personalities, slots, sensors and tests.
 
+mod blank;
+pub(crate) mod checks;
+mod demo;
+
 ghost use Rattle.std.specs.Prelude.{◌≡◌};
 
 use arrayvec::ArrayVec;
 use rdm_frame::Text;
 
 /// One way in which a device uses its DMX512 slots (E1.20 section 10.6.1).
-#[derive(Debug, Drop)]
+#[derive(Debug, Drop, PartialEq, Eq)]
 pub struct Personality {
     /// How many slots it uses.
     pub footprint: u16,
@@ -15,7 +19,7 @@ pub struct Personality {
 }
 
 /// What a DMX512 slot is for (sections 10.6.4 to 10.6.6).
-#[derive(Debug, Drop)]
+#[derive(Debug, Drop, PartialEq, Eq)]
 pub struct Slot {
     /// The slot type.
     pub kind: u8,
@@ -28,7 +32,7 @@ pub struct Slot {
 }
 
 /// What a sensor measures (section 10.7.1).
-#[derive(Debug, Drop)]
+#[derive(Debug, Drop, PartialEq, Eq)]
 pub struct SensorDef {
     /// The sensor type.
     pub kind: u8,
@@ -70,7 +74,7 @@ impl SensorDef {
 }
 
 /// A self test that the device can perform (section 10.11).
-#[derive(Debug, Drop)]
+#[derive(Debug, Drop, PartialEq, Eq)]
 pub struct SelfTest {
     /// The number of the test: neither 0 nor 255.
     pub number: u8,
@@ -79,7 +83,7 @@ pub struct SelfTest {
 }
 
 /// What a status ID means (section 10.3.3).
-#[derive(Debug, Drop)]
+#[derive(Debug, Drop, PartialEq, Eq)]
 pub struct StatusText {
     /// The status ID.
     pub id: u16,
@@ -88,7 +92,7 @@ pub struct StatusText {
 }
 
 /// What the root device and a sub-device each have (section 9).
-#[derive(Debug, Drop)]
+#[derive(Debug, Drop, PartialEq, Eq)]
 pub struct Unit {
     /// The model ID (section 10.5.1).
     pub model: u16,
@@ -111,7 +115,7 @@ pub struct Unit {
 }
 
 /// What a root device and its sub-devices are made with.
-#[derive(Debug, Drop)]
+#[derive(Debug, Drop, PartialEq, Eq)]
 pub struct Profile {
     /// The root device.
     pub root: Unit,

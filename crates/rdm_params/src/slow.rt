@@ -1,13 +1,17 @@
 //! Slow commands: what a job does, how it ends, and the message that tells of it.
 
 mod ask;
+mod laws;
 mod message;
 mod outcome;
 mod status;
+mod way;
 mod work;
 
 pub use ask::Ask;
+pub use laws::{slow_command_stays_accepted, started_work_is_its_command, two_commands_fetch};
 pub use message::Message;
-pub use outcome::Outcome;
+pub use outcome::{Outcome, fits};
 pub use status::{Entry, Severity};
-pub use work::Work;
+pub(crate) use way::Way;
+pub use work::{Work, estimate_of, worker_of};

@@ -3,17 +3,30 @@
 //! A row names its `Kind`, its PID, where it is (`both`: the root and every sub-device; `root`: the root alone), its
 //! GET and its SET. `rows!(group, use! (arguments))` hands the rows of a group to the macro of one use.
 //!
-//! - GET: `none`; `(reads SOURCE)`; `(asks FORM (RANGE) REPLY)`, which hands in data; `(slow FORM (RANGE))`, which
-//!   starts a job. A source is a field of the device's values, of its unit, of the root's own values or of the
-//!   profile, with the form of the value, or `computed` by a function of `replies`.
+//! - GET: `none`; `(reads SOURCE)`; `(asks FORM (RANGE) REPLY)`, which hands in data;
+//!   `(measures FORM (RANGE) WORKER ESTIMATE REPLY)`, which a job of that worker carries out, with an estimate in
+//!   tenths of a second; `(fetches FORM (RANGE) WAY)`, which is answered from what waits for the controller. A source
+//!   is a field of the device's values, of its unit, of the root's own values or of the profile, with the form of the
+//!   value, or `computed` by a function of `replies`.
 //! - SET: `none`; `(takes FORM (RANGE) FIELD)`, which writes that field; `(sets FORM (RANGE) (COMMON OWN) REPLY)`,
-//!   which changes a device by these functions of `changes`; `(slow FORM (RANGE))`.
+//!   which changes a device by these functions of `changes`; `(starts FORM (RANGE) WORKER ESTIMATE FIELD)`, which
+//!   writes that field at the end of a job of that worker.
 //!
 //! The last two groups are the forms of values, with their fields.
+
+pub(crate) mod access;
+pub(crate) mod list;
+pub(crate) mod range;
+pub(crate) mod read;
+pub(crate) mod reply;
+pub(crate) mod store;
+pub(crate) mod way;
 
 macro_rules! rows {
     (status, $use:ident! $args:tt) => {
         $use! { $args
+            (QueuedMessage 0x0020 root (fetches byte (a_message_type) FromQueue) none)
+            (StatusMessages 0x0030 root (fetches byte (below 5) FromStatus) none)
             (StatusIdDescription 0x0031 root (asks word (a_status) status_text) none)
         }
     };
@@ -49,7 +62,7 @@ macro_rules! rows {
     (sensing, $use:ident! $args:tt) => {
         $use! { $args
             (SensorDefinition 0x0200 root (asks byte (a_sensor) sensor_described) none)
-            (SensorValue 0x0201 root (slow byte (a_sensor)) (sets byte (sensors) (none sensors_reset) sensor_measured))
+            (SensorValue 0x0201 root (measures byte (a_sensor) 1 5 sensor_measured) (sets byte (sensors) (none sensors_reset) sensor_measured))
             (RecordSensors 0x0202 root none (sets byte (sensors) (none sensors_recorded) none))
         }
     };
@@ -58,7 +71,7 @@ macro_rules! rows {
             (DeviceHours 0x0400 root (reads (own long device_hours)) (takes long (any) (own device_hours)))
             (LampHours 0x0401 both (reads (common long lamp_hours)) (takes long (any) (common lamp_hours)))
             (LampStrikes 0x0402 both (reads (common long lamp_strikes)) (takes long (any) (common lamp_strikes)))
-            (LampState 0x0403 both (reads (common byte lamp_state)) (slow byte (below 4)))
+            (LampState 0x0403 both (reads (common byte lamp_state)) (starts byte (below 4) 0 50 (common lamp_state)))
             (LampOnMode 0x0404 both (reads (common byte lamp_on_mode)) (takes byte (below 4) (common lamp_on_mode)))
             (DevicePowerCycles 0x0405 root (reads (own long power_cycles)) (takes long (any) (own power_cycles)))
         }
@@ -75,8 +88,8 @@ macro_rules! rows {
     (control, $use:ident! $args:tt) => {
         $use! { $args
             (IdentifyDevice 0x1000 both (reads (common byte identify)) (takes byte (below 2) (common identify)))
-            (PowerState 0x1010 both (reads (common byte power_state)) (slow byte (a_power_state)))
-            (PerformSelfTest 0x1020 root (reads (computed self_test_runs)) (slow byte (a_self_test)))
+            (PowerState 0x1010 both (reads (common byte power_state)) (starts byte (a_power_state) 0 20 (common power_state)))
+            (PerformSelfTest 0x1020 root (reads (computed self_test_runs)) (starts byte (a_self_test) 1 100 (own self_test)))
             (SelfTestDescription 0x1021 root (asks byte (a_test) self_test_described) none)
             (PresetPlayback 0x1031 root (reads (own preset preset)) (takes preset (a_preset) (own preset)))
         }

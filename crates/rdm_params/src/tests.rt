@@ -2,6 +2,7 @@
 //! out by hand.
 
 use super::*;
+use rdm_frame::{Body, Text};
 use std::process::Abort;
 use std::test::Fail;
 
@@ -9,7 +10,14 @@ mod devices;
 mod profiles;
 mod rows;
 mod scalars;
+mod slow;
 mod values;
+
+/// A PID, the data of a command, and the data of its reply.
+type Replied<'a> = (u16, &'a [u8], &'a [u8]);
+
+/// A PID and the data of a command that is refused.
+type Refused<'a> = (u16, &'a [u8]);
 
 fn demo(rt: &HostRuntime) -> Result<Devices, Fail> {
     made(rt, Profile::demo(0))
@@ -23,37 +31,51 @@ fn made(rt: &HostRuntime, profile: Profile) -> Result<Devices, Fail> {
     )
 }
 
-fn is_reply(verdict: &Verdict, want: &[u8]) -> bool {
-    match verdict {
-        Verdict::Reply(body) => body.as_slice() == want,
-        _ => false,
+fn text(bytes: &[u8]) -> Result<Text, Fail> {
+    Ok(Text::from_slice(bytes).ok_or("a short text")?)
+}
+
+fn reply(bytes: &[u8]) -> Result<Verdict, Fail> {
+    Ok(Verdict::Reply(Body::from_slice(bytes).ok_or("a short list")?))
+}
+
+fn gets(rt: &impl Abort, devices: &Devices, sub: u16, cases: &[Replied<'_>]) -> Result<(), Fail> {
+    for (pid, data, want) in cases {
+        let verdict = devices.get(sub, *pid, data);
+        assert_eq!(rt; verdict, reply(want)?, "GET {pid:04X} {data:?}");
+    }
+    Ok(())
+}
+
+fn sets(
+    rt: &impl Abort,
+    devices: &mut Devices,
+    sub: u16,
+    cases: &[Replied<'_>],
+) -> Result<(), Fail> {
+    for (pid, data, want) in cases {
+        let verdict = devices.set(sub, *pid, data);
+        assert_eq!(rt; verdict, reply(want)?, "SET {pid:04X} {data:?}");
+    }
+    Ok(())
+}
+
+fn refuses_gets(rt: &impl Abort, devices: &Devices, sub: u16, want: Nack, cases: &[Refused<'_>]) {
+    for (pid, data) in cases {
+        let verdict = devices.get(sub, *pid, data);
+        assert_eq!(rt; verdict, Verdict::Refuse(want), "GET {pid:04X} {data:?}");
     }
 }
 
-fn is_refused(verdict: &Verdict, want: Nack) -> bool {
-    match verdict {
-        Verdict::Refuse(nack) => *nack == want,
-        _ => false,
+fn refuses_sets(
+    rt: &impl Abort,
+    devices: &mut Devices,
+    sub: u16,
+    want: Nack,
+    cases: &[Refused<'_>],
+) {
+    for (pid, data) in cases {
+        let verdict = devices.set(sub, *pid, data);
+        assert_eq!(rt; verdict, Verdict::Refuse(want), "SET {pid:04X} {data:?}");
     }
-}
-
-fn shows(rt: &impl Abort, devices: &Devices, pid: u16, want: &[u8]) {
-    let verdict = devices.get(0, pid, &[]);
-    assert!(rt; is_reply(&verdict, want), "GET {pid:04X} gives {verdict:?}");
-}
-
-fn takes(rt: &impl Abort, devices: &mut Devices, pid: u16, data: &[u8]) {
-    let verdict = devices.set(0, pid, data);
-    assert!(rt;
-        is_reply(&verdict, &[]),
-        "SET {pid:04X} of {data:?} gives {verdict:?}"
-    );
-}
-
-fn refuses(rt: &impl Abort, devices: &mut Devices, pid: u16, data: &[u8], want: Nack) {
-    let verdict = devices.set(0, pid, data);
-    assert!(rt;
-        is_refused(&verdict, want),
-        "SET {pid:04X} of {data:?} gives {verdict:?}"
-    );
 }

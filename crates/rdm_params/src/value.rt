@@ -1,14 +1,15 @@
 //! The values of parameters, and the bytes that stand for them.
 
+pub(crate) mod argument;
+pub(crate) mod writing;
+
 ghost use Rattle.std.specs.Prelude.{◌≡◌, ◌≤◌, length};
-ghost use Rattle.rdm_params.specs.Forms.{nothing, has_form};
-ghost use Rattle.rdm_params.specs.Values.{bytes_of, byte_in, word_in, long_in, preset_in, label_in};
 
 use crate::SensorDef;
 use rdm_frame::{Body, Text};
 
 /// What the parameter data of a command or of a reply says (E1.20 section 6.2.10).
-#[derive(Debug, Drop)]
+#[derive(Debug, Drop, PartialEq, Eq)]
 pub enum Value {
     /// No data.
     Nothing,
@@ -97,65 +98,6 @@ pub enum Value {
     },
     /// A list, as its bytes.
     Block(Body),
-}
-
-impl Value {
-    /// Whether the value has no data.
-    pub(crate) fn is_nothing(&self) -> bool
-        ensures { result ≡ has_form nothing self.now }
-    {
-        matches!(self, Value::Nothing)
-    }
-
-    /// The 8-bit number, if the value is one.
-    pub(crate) fn byte(&self) -> Option<u8>
-        ensures { result ≡ byte_in self.now }
-    {
-        match self {
-            Value::Byte(number) => Some(*number),
-            _ => None,
-        }
-    }
-
-    /// The 16-bit number, if the value is one.
-    pub(crate) fn word(&self) -> Option<u16>
-        ensures { result ≡ word_in self.now }
-    {
-        match self {
-            Value::Word(number) => Some(*number),
-            _ => None,
-        }
-    }
-
-    /// The 32-bit number, if the value is one.
-    pub(crate) fn long(&self) -> Option<u32>
-        ensures { result ≡ long_in self.now }
-    {
-        match self {
-            Value::Long(number) => Some(*number),
-            _ => None,
-        }
-    }
-
-    /// The preset and its level, if the value is one.
-    pub(crate) fn preset(&self) -> Option<(u16, u8)>
-        ensures { result ≡ preset_in self.now }
-    {
-        match self {
-            Value::Preset { mode, level } => Some((*mode, *level)),
-            _ => None,
-        }
-    }
-
-    /// The text, if the value is one.
-    pub(crate) fn label(&self) -> Option<Text>
-        ensures { result ≡ label_in self.now }
-    {
-        match self {
-            Value::Label(text) => Some(text.copy()),
-            _ => None,
-        }
-    }
 }
 
 /// The text of these bytes.

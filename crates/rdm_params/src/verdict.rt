@@ -1,18 +1,22 @@
 //! What becomes of a command.
 
 ghost use Rattle.std.specs.Prelude.{◌≡◌};
-ghost use Rattle.rdm_params.specs.Verdicts.{verdict_with};
+ghost use Rattle.rdm_params.specs.Views.Verdicts.{verdict_with};
 
-use crate::{Nack, Work};
+use crate::{Ask, Nack, Work};
 use rdm_frame::Body;
 
 /// What a command answers.
-#[derive(Debug, Drop)]
+#[derive(Debug, Drop, PartialEq, Eq)]
 pub enum Verdict {
     /// It is carried out, and this is the data of the reply (E1.20 section 6.3.1).
     Reply(Body),
     /// It starts this job, and nothing has changed yet (section 6.3.3).
     Start(Work),
+    /// It asks for the next message that waits, or for the last one again (section 10.3.1).
+    Queue(Ask),
+    /// It asks for status entries, or for the last message again (section 10.3.2).
+    Status(Ask),
     /// It is refused, and nothing changes (section 6.3.4).
     Refuse(Nack),
 }
@@ -24,6 +28,10 @@ pub enum Answer {
     Done,
     /// It starts this job, and nothing has changed yet (section 6.3.3).
     Starts(Work),
+    /// It asks for the next message that waits, or for the last one again (section 10.3.1).
+    Queues(Ask),
+    /// It asks for status entries, or for the last message again (section 10.3.2).
+    Statuses(Ask),
     /// It is refused, and nothing changes (section 6.3.4).
     Refused(Nack),
 }
@@ -36,6 +44,8 @@ impl Answer {
         match self {
             Answer::Done => Verdict::Reply(body),
             Answer::Starts(work) => Verdict::Start(work),
+            Answer::Queues(ask) => Verdict::Queue(ask),
+            Answer::Statuses(ask) => Verdict::Status(ask),
             Answer::Refused(nack) => Verdict::Refuse(nack),
         }
     }

@@ -1,2 +1,4 @@
 pub mod Accounts
+pub mod Arrivals
+pub mod Lawfulness
 pub mod Runs

@@ -2,6 +2,7 @@
 use Rattle.std.specs.Prelude.{ℕ, List, [], ◌∷◌, ◌++◌}
 use Rattle.rdm_frame.specs.declared.uid.Uid.{Uid}
 use Rattle.rdm_params.specs.declared.profile.Profile.{Profile}
+use Rattle.rdm_responder.specs.declared.report.Report.{Report}
 
 -- What a responder is set up with: its UID, what it is, and how many results of slow commands it has room for.
 pub record Setup : Type 0 where
@@ -9,9 +10,10 @@ pub record Setup : Type 0 where
   pub profile : Profile
   pub queue_size : ℕ
 
--- Something that happens: bytes are heard on the bus.
+-- Something that happens: bytes are heard on the bus, or the report of a job arrives.
 pub data Event : Type 0 where
   Heard : List ℕ → Event
+  Arrived : Report → Event
 
 -- A setup, and what happened since, in order of time.
 pub record History : Type 0 where
@@ -25,8 +27,3 @@ empty_history setup = record { setup = setup; events = [] }
 -- and then this happens
 abbrev pub then_event : History → Event → History
 then_event h event = record h { events = h.events ++ event ∷ [] }
-
--- and then these byte strings are heard, one after another
-abbrev pub then_heard : History → List (List ℕ) → History
-then_heard h [] = h
-then_heard h (bytes ∷ others) = then_heard (then_event h (Heard bytes)) others

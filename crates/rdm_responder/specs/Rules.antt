@@ -1,102 +1,120 @@
--- The reply rules: what is answered to the bytes that are heard, after any history. The first rule that applies decides.
-use Rattle.std.specs.Prelude.{ℕ, ◌+◌, ◌-◌, Bool, true, false, List, [], ◌∷◌, ◌++◌, length, fold, slice_index_or, Option, Some, None, ◌==◌, ◌&&◌, ◌||◌, not, nat_le, if◌then◌else◌}
+-- The reply rules: what is answered to the bytes that are heard, after any history, and the job that starts.
+use Rattle.std.specs.Prelude.{ℕ, ◌+◌, ◌-◌, Bool, true, false, List, [], ◌∷◌, ◌++◌, length, fold, slice_index_or, min, Option, Some, None, ◌==◌, ◌&&◌, not, nat_le, if◌then◌else◌}
 use Rattle.std.specs.Int.{w16, to_be_bytes}
+use Rattle.std.specs.Result.{result_ok}
 use Rattle.rdm_frame.specs.declared.uid.Uid.{Uid}
 use Rattle.rdm_frame.specs.declared.frame.Frame.{Frame}
+use Rattle.rdm_frame.specs.Addressing.{is_broadcast}
 use Rattle.rdm_frame.specs.FrameText.{frame_text}
 use Rattle.rdm_frame.specs.UidNumber.{uid_number}
-use Rattle.rdm_frame.specs.Reading.{frame_in, uid_at}
+use Rattle.rdm_frame.specs.Reading.{frame_in}
 use Rattle.rdm_frame.specs.Discovery.{branch_reply}
+use Rattle.rdm_params.specs.declared.nack.Nack.{Nack}
 use Rattle.rdm_params.specs.declared.nack.Nack.TheVariants.{BufferFull}
+use Rattle.rdm_params.specs.declared.slow.message.Message.{Message}
+use Rattle.rdm_params.specs.declared.slow.outcome.Outcome.{Outcome}
+use Rattle.rdm_params.specs.declared.slow.outcome.Outcome.TheVariants.{Failed}
+use Rattle.rdm_params.specs.declared.slow.work.Work.{Work}
 use Rattle.rdm_params.specs.declared.verdict.Verdict.{Verdict}
-use Rattle.rdm_params.specs.declared.verdict.Verdict.TheVariants.{Reply, Start, Refuse}
-use Rattle.rdm_params.specs.Commands.{got, answer_to_set, after_set}
-use Rattle.rdm_params.specs.Nacks.{nack_code}
-use Rattle.rdm_params.specs.Parameters.{Parameters, parameters_of}
-use Rattle.rdm_responder.specs.History.{Setup, Event, Heard, History, then_event}
+use Rattle.rdm_params.specs.declared.verdict.Verdict.TheVariants.{Reply, Start, Queue, Status, Refuse}
+use Rattle.rdm_params.specs.Commands.Commands.{got, answer_to_set, after_set}
+use Rattle.rdm_params.specs.Commands.Nacks.{nack_code}
+use Rattle.rdm_params.specs.Device.Parameters.{Parameters, parameters_of}
+use Rattle.rdm_params.specs.Slow.Work.{worker_of, estimate_of}
+use Rattle.rdm_params.specs.Slow.Commit.{after_commit, committed}
+use Rattle.rdm_outbox.specs.declared.job.Job.{Job}
+use Rattle.rdm_outbox.specs.Account as outbox
+use Rattle.rdm_outbox.specs.Jobs.{has_room, reserved, after_reserve, after_arrive, waiting_of}
+use Rattle.rdm_outbox.specs.Messages.{dispensed, after_dispense, status_dispensed, after_status}
+use Rattle.rdm_outbox.specs.Statuses.{after_note}
+use Rattle.rdm_responder.specs.declared.report.Report.{Report}
+use Rattle.rdm_responder.specs.History.{Setup, Event, Heard, Arrived, History}
+use Rattle.rdm_responder.specs.Requests.{Request, Ignored, Branch, Muting, Get, Set, request_in}
 
--- What a history comes to: the setup, the values of the parameters, and each mute (true) and un-mute (false) that was
--- carried out, in order of time.
+-- What a history comes to: the setup, the values of the parameters, each mute (true) and un-mute (false) that was
+-- carried out, in order of time, and the account of jobs and messages.
 pub record Account : Type 0 where
   pub setup : Setup
   pub parameters : Parameters
   pub mutings : List Bool
+  pub outbox : outbox.Account
 
 -- The device is muted where the last of them is a mute. It starts unmuted. Section 7.6.
 abbrev pub is_muted : List Bool → Bool
 is_muted mutings = slice_index_or mutings (length mutings - 1) false
 
--- ---- which requests are taken up
+-- ---- what a command comes to
 
--- A UID that addresses more than one device. Section 6.2.4.
-abbrev pub is_broadcast : Uid → Bool
-is_broadcast u = u.device == 0xFFFFFFFF
+-- What a response says, beside whom it is for: its response type, command class, sub-device, PID and data.
+pub record Response : Type 0 where
+  pub port : ℕ
+  pub class : ℕ
+  pub sub : ℕ
+  pub pid : ℕ
+  pub body : List ℕ
 
--- The device with its own UID is addressed by that UID, by the broadcast to all devices, and by the broadcast to the
--- devices of its manufacturer. Section 6.2.4.
-abbrev pub is_addressed : Uid → Uid → Bool
-is_addressed own dst =
-    ((dst.maker == own.maker) && (dst.device == own.device)) || (is_broadcast dst && ((dst.maker == 0xFFFF) || (dst.maker == own.maker)))
+-- A response to the request itself, of its sub-device and PID, and of its command class plus 1. Section 6.2.
+abbrev pub own_response : Frame → ℕ → List ℕ → Response
+own_response f port bytes = record { port = port; class = f.class + 1; sub = f.sub; pid = f.pid; body = bytes }
 
--- What is taken up of what was heard. A branch is from a lower UID to an upper one; a muting is a mute (true) or an
--- un-mute (false).
-pub data Request : Type 0 where
-  Ignored : Request
-  Branch : Uid → Uid → Request
-  Muting : Bool → Frame → Request
-  Get : Frame → Request
-  Set : Frame → Request
+-- ACK with data. Section 6.3.1.
+abbrev pub ack : Frame → List ℕ → Response
+ack f bytes = own_response f 0 bytes
 
--- The discovery commands, which are for the root alone: DISC_UNIQUE_BRANCH with two UIDs, DISC_MUTE and DISC_UN_MUTE
--- without data. Sections 7.5 and 7.6.
-unfoldable pub discovery_of : Frame → Request
-discovery_of f =
-    if f.sub == 0 then
-    if (f.pid == 0x0001) && (length f.body == 12) then Branch (uid_at f.body 0) (uid_at f.body 6)
-    else if (f.pid == 0x0002) && (length f.body == 0) then Muting true f
-    else if (f.pid == 0x0003) && (length f.body == 0) then Muting false f else Ignored
-    else Ignored
+-- ACK_TIMER with the estimate, in tenths of a second. Section 6.3.3.
+abbrev pub ack_timer : Frame → ℕ → Response
+ack_timer f estimate = own_response f 1 (to_be_bytes w16 estimate)
 
--- a GET to more than one device is ignored
-abbrev pub get_of : Frame → Request
-get_of f = if is_broadcast f.dst then Ignored else Get f
+-- NACK_REASON with the reason. Section 6.3.4.
+abbrev pub nack_reason : Frame → Nack → Response
+nack_reason f nack = own_response f 2 (to_be_bytes w16 (nack_code nack))
 
--- The first five rules, of which the first that applies decides: what is no frame is ignored, so is a frame for
--- another device, a command class that is no request's, and a GET to more than one device. Table A-1.
-abbrev pub request_of : Uid → Frame → Request
-request_of own f =
-    if is_addressed own f.dst then
-    if f.class == 0x10 then discovery_of f
-    else if f.class == 0x20 then get_of f
-    else if f.class == 0x30 then Set f else Ignored
-    else Ignored
+-- ACK with a message: its command class, its PID and its sub-device. Sections 10.3.1 and 10.3.2.
+abbrev pub ack_message : Message → Response
+ack_message m = record { port = 0; class = m.class; sub = m.sub; pid = m.pid; body = m.body }
 
-abbrev pub request_in : Uid → Option Frame → Request
-request_in own None = Ignored
-request_in own (Some f) = request_of own f
+-- Rules 6 to 11 are those of the table, and refuse or give the way in which a command is answered. Rule 12: a slow
+-- command for which there is no room is refused. Rule 13: else the command is carried out.
+abbrev pub response_of : outbox.Account → Frame → Verdict → Response
+response_of b f (Refuse nack) = nack_reason f nack
+response_of b f (Start work) = if has_room b work then ack_timer f (estimate_of work) else nack_reason f BufferFull
+response_of b f (Queue ask) = ack_message (dispensed b ask)
+response_of b f (Status ask) = ack_message (status_dispensed b ask)
+response_of b f (Reply bytes) = ack f bytes
+
+-- the job that starts
+abbrev pub started_by : outbox.Account → Verdict → Option Job
+started_by b (Start work) = result_ok (reserved b work)
+started_by b _ = None
+
+-- the account of jobs and messages afterwards
+abbrev pub outbox_after : outbox.Account → Verdict → outbox.Account
+outbox_after b (Start work) = after_reserve b work
+outbox_after b (Queue ask) = after_dispense b ask
+outbox_after b (Status ask) = after_status b ask
+outbox_after b _ = b
+
+-- ---- what a request changes
+
+abbrev pub account_with : Account → Request → Account
+account_with a Ignored = a
+account_with a (Branch lower upper) = a
+account_with a (Muting muted f) = record a { mutings = a.mutings ++ muted ∷ [] }
+account_with a (Get f) = record a { outbox = outbox_after a.outbox (got a.parameters f.sub f.pid f.body) }
+account_with a (Set f) = record a { parameters = after_set a.parameters f.sub f.pid f.body; outbox = outbox_after a.outbox (answer_to_set a.parameters f.sub f.pid f.body) }
 
 -- ---- what is answered
 
--- ACK is 0 and NACK_REASON is 2. No slow command finds room for its result. Sections 6.3.1 and 6.3.4, table A-2.
-abbrev pub response_type : Verdict → ℕ
-response_type (Reply slots) = 0
-response_type (Start work) = 2
-response_type (Refuse nack) = 2
+-- The message count tells how many messages wait, and 255 where there are more. Section 6.2.8.
+abbrev pub message_count : outbox.Account → ℕ
+message_count b = min 255 (length (waiting_of b))
 
--- a refusal carries its reason
-abbrev pub response_data : Verdict → List ℕ
-response_data (Reply slots) = slots
-response_data (Start work) = to_be_bytes w16 (nack_code BufferFull)
-response_data (Refuse nack) = to_be_bytes w16 (nack_code nack)
-
--- The response to a request: back to its source, with its transaction number, sub-device and parameter ID, and its
--- command class plus 1. No message waits. Section 6.2.
-abbrev pub response_to : Uid → Frame → Verdict → Frame
-response_to own f verdict = record { dst = f.src; src = own; tn = f.tn; port = response_type verdict; count = 0; sub = f.sub; class = f.class + 1; pid = f.pid; body = response_data verdict }
-
--- The bytes of the response, unless the request was for more than one device: that is never answered.
-unfoldable pub answer_with : Uid → Frame → Verdict → Option (List ℕ)
-answer_with own f verdict = if is_broadcast f.dst then None else Some (frame_text (response_to own f verdict))
+-- The bytes of a response, back to the source of the request and with its transaction number, unless the request was
+-- for more than one device: that is never answered. Section 6.2.
+unfoldable pub answer_with : Uid → Frame → ℕ → Response → Option (List ℕ)
+answer_with own f count r =
+    if is_broadcast f.dst then None
+    else Some (frame_text (record { dst = f.src; src = own; tn = f.tn; port = r.port; count = count; sub = r.sub; class = r.class; pid = r.pid; body = r.body }))
 
 -- these bytes, where there is an answer
 abbrev pub answered : Bool → List ℕ → Option (List ℕ)
@@ -111,43 +129,64 @@ control_field p = to_be_bytes w16 (if length p.subs == 0 then 0 else 0x0002)
 abbrev pub is_between : Uid → Uid → Uid → Bool
 is_between lower own upper = nat_le (uid_number lower) (uid_number own) && nat_le (uid_number own) (uid_number upper)
 
--- The bytes of the answer.
+-- The bytes of the response to a GET or a SET that comes to this. The messages are counted after it was carried out.
+abbrev pub reply_with : Uid → outbox.Account → Frame → Verdict → Option (List ℕ)
+reply_with own b f verdict = answer_with own f (message_count (outbox_after b verdict)) (response_of b f verdict)
+
+-- The bytes of the answer. In discovery no messages are counted.
 abbrev pub answer_to : Account → Request → Option (List ℕ)
 answer_to a Ignored = None
 answer_to a (Branch lower upper) =
     if not (is_muted a.mutings) && is_between lower a.setup.uid upper then Some (branch_reply a.setup.uid) else None
-answer_to a (Muting muted f) = answer_with a.setup.uid f (Reply (control_field a.parameters))
-answer_to a (Get f) = answer_with a.setup.uid f (got a.parameters f.sub f.pid f.body)
-answer_to a (Set f) = answer_with a.setup.uid f (answer_to_set a.parameters f.sub f.pid f.body)
+answer_to a (Muting muted f) = answer_with a.setup.uid f 0 (ack f (control_field a.parameters))
+answer_to a (Get f) = reply_with a.setup.uid a.outbox f (got a.parameters f.sub f.pid f.body)
+answer_to a (Set f) = reply_with a.setup.uid a.outbox f (answer_to_set a.parameters f.sub f.pid f.body)
 
--- the answer to bytes that are the text of this frame, or of none
+-- the job that starts
+abbrev pub job_with : Account → Request → Option Job
+job_with a (Get f) = started_by a.outbox (got a.parameters f.sub f.pid f.body)
+job_with a (Set f) = started_by a.outbox (answer_to_set a.parameters f.sub f.pid f.body)
+job_with a _ = None
+
+-- the answer to bytes that are the text of this frame, or of none, and the job that they start
 abbrev pub reply_to : Account → Option Frame → Option (List ℕ)
 reply_to a found = answer_to a (request_in a.setup.uid found)
 
+abbrev pub job_to : Account → Option Frame → Option Job
+job_to a found = job_with a (request_in a.setup.uid found)
+
 -- ---- what a history comes to
 
--- what a request changes
-abbrev pub account_with : Account → Request → Account
-account_with a Ignored = a
-account_with a (Branch lower upper) = a
-account_with a (Muting muted f) = record a { mutings = a.mutings ++ muted ∷ [] }
-account_with a (Get f) = a
-account_with a (Set f) = record a { parameters = after_set a.parameters f.sub f.pid f.body }
+-- a failed job leaves a status entry. Section 10.3.2.
+abbrev pub after_outcome : outbox.Account → Work → Outcome → outbox.Account
+after_outcome b work (Failed severity id v1 v2) = after_note b (record { sub = work.sub; severity = severity; id = id; v1 = v1; v2 = v2 })
+after_outcome b work _ = b
+
+-- The report of a job makes of the parameters what the table says, ends the job, queues its message, and notes what
+-- failed.
+abbrev pub account_after_report : Account → Report → Account
+account_after_report a r = record a {
+  parameters = after_commit a.parameters r.job.work r.outcome;
+  outbox = after_outcome (after_arrive a.outbox (worker_of r.job.work) (committed a.parameters r.job.work r.outcome)) r.job.work r.outcome;
+}
 
 abbrev pub account_after : Account → Event → Account
 account_after a (Heard bytes) = account_with a (request_in a.setup.uid (frame_in bytes))
+account_after a (Arrived report) = account_after_report a report
+
+-- how many jobs a worker can be given: their numbers have 32 bits
+abbrev pub most_jobs : ℕ
+most_jobs = 4294967295
 
 abbrev pub account_before : Setup → Account
-account_before setup = record { setup = setup; parameters = parameters_of setup.profile; mutings = [] }
+account_before setup = record { setup = setup; parameters = parameters_of setup.profile; mutings = []; outbox = outbox.account_before setup.queue_size most_jobs }
 
 unfoldable pub account_of : History → Account
 account_of h = fold account_after (account_before h.setup) h.events
 
--- The reply rules: the answer to these bytes, where this history came before.
+-- The reply rules: the answer to these bytes, where this history came before, and the job that they start.
 abbrev pub reply_of : History → List ℕ → Option (List ℕ)
 reply_of h bytes = reply_to (account_of h) (frame_in bytes)
 
--- the replies to byte strings that are heard one after another, each after those before it
-abbrev pub replies_of : History → List (List ℕ) → List (Option (List ℕ))
-replies_of h [] = []
-replies_of h (bytes ∷ others) = reply_of h bytes ∷ replies_of (then_event h (Heard bytes)) others
+abbrev pub job_of : History → List ℕ → Option Job
+job_of h bytes = job_to (account_of h) (frame_in bytes)

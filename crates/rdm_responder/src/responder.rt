@@ -1,22 +1,37 @@
 //! The responder.
 
-ghost use Rattle.std.specs.Prelude.{◌≡◌, ◌↔◌, ◌<◌, ◌≤◌, ◌≢◌, ℕ, IsTrue, IfOk, IsErrOf, Option, None};
-ghost use Rattle.rdm_responder.specs.History.{History, Heard, empty_history, then_event};
-ghost use Rattle.rdm_responder.specs.Rules.{answered, reply_of};
-ghost use Rattle.rdm_responder.specs.StandsFor.{StandsFor, IsQueueSize};
-ghost use Rattle.rdm_params.specs.Parameters.{parameters_of};
-ghost use Rattle.rdm_params.specs.Profiles.{CanBeMade};
+ghost use Rattle.std.specs.Prelude.{◌≡◌, ◌↔◌, ◌<◌, ◌≤◌, ◌≢◌, ℕ, IsTrue, IsOk, IfOk, OnOk, OnErr, IfErr, IsErrOf, Option, None, Some, true, slice_get, length, nat_lt};
+ghost use Rattle.std.specs.Bool.{OnFalse};
+ghost use Rattle.rdm_outbox.specs.Account.{Account as OutboxAccount};
+ghost use Rattle.rdm_outbox.specs.Jobs.{outstanding_count, waiting_of};
+ghost use Rattle.rdm_outbox.specs.Shows.{Shows as OutboxShows};
+ghost use Rattle.rdm_outbox.specs.State.{jobs_at};
+ghost use Rattle.rdm_params.specs.Device.Parameters.{parameters_of};
+ghost use Rattle.rdm_params.specs.Device.Profiles.{CanBeMade};
+ghost use Rattle.rdm_params.specs.Slow.Outcome.{fits};
+ghost use Rattle.rdm_params.specs.Slow.Work.{worker_of};
+ghost use Rattle.rdm_responder.specs.History.{History, Heard, Arrived, empty_history, then_event};
+ghost use Rattle.rdm_responder.specs.Lawful.{IsLawful, MayArrive};
+ghost use Rattle.rdm_responder.specs.Rules.{Account, account_of, account_after_report, after_outcome, answered, reply_of, job_of};
+ghost use Rattle.rdm_responder.specs.Runs.{IsArrival, outbox_of};
+ghost use Rattle.rdm_responder.specs.StandsFor.{Shows, StandsFor, IsQueueSize};
 
-mod answers;
+mod rules;
 
+use crate::report::{Arrival, Astray, Report};
+use crate::response::Stepped;
 use rdm_frame::{Uid, Wire, decode_view};
-use rdm_params::{Devices, Profile};
+use rdm_outbox::{Job, Outbox};
+use rdm_params::{Devices, Entry, Message, Outcome, Profile, Work, fits, worker_of};
 use std::alloc::Global;
 use std::marker::Model;
 use thiserror::Error;
 
 /// The greatest number of results of slow commands that a responder may be given room for.
 const GREATEST_QUEUE: u16 = 255;
+
+/// How many jobs each worker can be given: their numbers have 32 bits.
+const MOST_JOBS: u32 = u32::MAX;
 
 /// Why a responder can't be made, tested from the last to the first.
 #[derive(Clone, Copy, Debug, PartialEq, Eq, Error)]
@@ -39,9 +54,9 @@ pub enum NewError {
 #[derive(Debug, Drop)]
 pub struct Responder {
     uid: Uid,
-    queue_size: u16,
     devices: Devices,
     muted: bool,
+    outbox: Outbox,
 }
 
 impl Model for Responder {
@@ -49,7 +64,7 @@ impl Model for Responder {
 
     ghost Value = { State };
 
-    ghost view = { λ r. record { uid = r.uid; queue_size = r.queue_size; parameters = r.devices; muted = r.muted } };
+    ghost view = { λ r. record { uid = r.uid; parameters = r.devices; muted = r.muted; outbox = r.outbox } };
 }
 
 impl Responder {
@@ -71,36 +86,144 @@ impl Responder {
             return Err(NewError::BadSize);
         }
         let devices = devices_of(alloc, profile)?;
+        let Ok(outbox) = Outbox::new(alloc, queue_size, MOST_JOBS) else {
+            return Err(NewError::OutOfMemory);
+        };
         Ok(Responder {
             uid,
-            queue_size,
             devices,
             muted: false,
+            outbox,
         })
     }
 
-    /// Hears bytes, and gives the bytes of the reply, if there is one.
-    pub fn step(&mut self, bytes: &[u8]) -> Option<Wire>
-        ensures reply { (h : History) → StandsFor self.old h → result ≡ reply_of h bytes.now }
+    /// Hears bytes, and gives the bytes of the reply, if there is one, and the job that they start, if they do.
+    pub fn step(&mut self, bytes: &[u8]) -> (Option<Wire>, Option<Job>)
+        ensures reply { (h : History) → StandsFor self.old h → result.0 ≡ reply_of h bytes.now }
+        ensures job { (h : History) → StandsFor self.old h → result.1 ≡ job_of h bytes.now }
         ensures stands { (h : History) → StandsFor self.old h → StandsFor self.new (then_event h (Heard bytes.now)) }
     {
         let mut wire = Wire::new();
-        if !self.step_into(bytes, &mut wire) {
-            return None;
+        let stepped = self.step_into(bytes, &mut wire);
+        if stepped.replied {
+            (Some(wire), stepped.job)
+        } else {
+            (None, stepped.job)
         }
-        Some(wire)
     }
 
-    /// Hears bytes as `step` does, and says whether there is a reply, whose bytes stand in `wire` then. Where one
-    /// `wire` takes all replies, none is blanked or copied on its way.
-    pub fn step_into(&mut self, bytes: &[u8], wire: &mut Wire) -> bool
-        ensures reply { (h : History) → StandsFor self.old h → answered result wire.new ≡ reply_of h bytes.now }
+    /// Hears bytes as `step` does, and says whether there is a reply, and which job started. The bytes of the reply stand
+    /// in `wire`, which stays as it was where there is none. Where one `wire` takes all replies, none is blanked or
+    /// copied on its way.
+    pub fn step_into(&mut self, bytes: &[u8], wire: &mut Wire) -> Stepped
+        ensures reply { (h : History) → StandsFor self.old h → answered result.replied wire.new ≡ reply_of h bytes.now }
+        ensures silent { OnFalse result.replied (wire.new ≡ wire.old) }
+        ensures job { (h : History) → StandsFor self.old h → result.job ≡ job_of h bytes.now }
         ensures stands { (h : History) → StandsFor self.old h → StandsFor self.new (then_event h (Heard bytes.now)) }
     {
         match decode_view(bytes) {
             Ok(request) => self.answer(&request, wire),
-            Err(_) => false,
+            Err(_) => Stepped::silent(),
         }
+    }
+
+    /// Takes the report of a job: what it did is written into the parameters, and its message waits for the controller.
+    ///
+    /// It is `Astray`, and nothing changes, unless the report is of the oldest outstanding job of its worker, number and
+    /// work alike, and its outcome fits that work.
+    pub fn arrive(&mut self, report: Report) -> Result<Arrival, Astray>
+        ensures lawful { (h : History) → IsLawful h → StandsFor self.old h → (IsOk result ↔ IsLawful (then_event h (Arrived report))) }
+        ensures arrival { IfOk result (λ arrival. (h : History) → StandsFor self.old h → IsArrival h report arrival) }
+        ensures stands { OnOk result ((h : History) → StandsFor self.old h → StandsFor self.new (then_event h (Arrived report))) }
+        ensures astray { IfErr result (λ astray. (astray.report ≡ report) × ((h : History) → StandsFor self.old h → ¬ MayArrive (account_of h) report)) }
+        ensures same { OnErr result (self.new ≡ self.old) }
+    {
+        if !self.awaits(&report) {
+            return Err(Astray { report });
+        }
+        let work = report.job.work;
+        let message = self.devices.commit(&work, report.outcome);
+        self.outbox.arrive(worker_of(&work), copy_of(&message));
+        let kept = note_failure(&mut self.outbox, &work, report.outcome);
+        Ok(Arrival { message, kept })
+    }
+
+    /// The devices, as the firmware of a fixture looks at them: the values of their parameters as they are now.
+    pub fn devices(&self) -> &Devices
+        ensures { (h : History) → StandsFor self.now h → result.now ≡ (account_of h).parameters }
+    {
+        &self.devices
+    }
+
+    /// How many messages wait for the controller.
+    pub fn waiting(&self) -> usize
+        ensures { (h : History) → StandsFor self.now h → result ≡ length (waiting_of (outbox_of h)) }
+    {
+        self.outbox.waiting()
+    }
+
+    /// How many jobs are outstanding.
+    pub fn outstanding(&self) -> usize
+        ensures { (h : History) → StandsFor self.now h → result ≡ outstanding_count (outbox_of h) }
+    {
+        self.outbox.outstanding()
+    }
+
+    /// Whether a report may arrive now.
+    fn awaits(&self, report: &Report) -> bool
+        ensures oldest { result ≡ true → slice_get (jobs_at self.now.outbox (worker_of report.now.job.work)) 0 ≡ Some report.now.job }
+        ensures fits { result ≡ true → fits report.now.job.work report.now.outcome ≡ true }
+        ensures account { (a : Account) → Shows self.now a → ((result ≡ true) ↔ MayArrive a report.now) }
+    {
+        let Some(job) = self.outbox.oldest(worker_of(&report.job.work)) else {
+            return false;
+        };
+        if !is_same(job, &report.job) {
+            return false;
+        }
+        fits(&report.job.work, &report.outcome)
+    }
+}
+
+/// Whether two jobs are one, number and work alike.
+fn is_same(job: &Job, other: &Job) -> bool
+    ensures { (result ≡ true) ↔ (job.now ≡ other.now) }
+{
+    *job == *other
+}
+
+/// Notes a status entry where a job of this work failed, and says whether it was kept.
+fn note_failure(outbox: &mut Outbox, work: &Work, outcome: Outcome) -> bool
+    ensures kept { (b : OutboxAccount) → OutboxShows outbox.old b →
+        result ≡ nat_lt (length b.noted) (length (after_outcome b work.now outcome).noted) }
+    ensures shows { (b : OutboxAccount) → OutboxShows outbox.old b → OutboxShows outbox.new (after_outcome b work.now outcome) }
+{
+    match outcome {
+        Outcome::Failed {
+            severity,
+            id,
+            v1,
+            v2,
+        } => outbox.note(Entry {
+            sub: work.sub,
+            severity,
+            id,
+            v1,
+            v2,
+        }),
+        Outcome::Done | Outcome::Reading(_) => false,
+    }
+}
+
+/// The same message again.
+fn copy_of(message: &Message) -> Message
+    ensures { result ≡ message.now }
+{
+    Message {
+        class: message.class,
+        pid: message.pid,
+        sub: message.sub,
+        body: message.body.copy(),
     }
 }
 

@@ -1,34 +1,69 @@
-//! A whole run: byte strings that are heard one after another.
+//! A whole run: byte strings that are heard and reports that are handed in, one after another.
 
-ghost use Rattle.std.specs.Prelude.{◌≡◌, map, IfOk, OnOk, OnErr};
-ghost use Rattle.rdm_responder.specs.History.{History, then_heard};
-ghost use Rattle.rdm_responder.specs.Rules.{replies_of};
+ghost use Rattle.std.specs.Prelude.{◌≡◌, [], ◌∷◌, IfOk, OnErr};
+ghost use Rattle.rdm_responder.specs.History.{History};
+ghost use Rattle.rdm_responder.specs.Runs.{IsRun};
 ghost use Rattle.rdm_responder.specs.StandsFor.{StandsFor};
 
-use crate::Responder;
+use crate::{Arrival, Astray, Report, Responder};
 use rdm_frame::Wire;
+use rdm_outbox::Job;
 use std::alloc::{AllocError, Global};
 
+/// What a responder is given in a run.
+#[derive(Clone, Copy, Debug)]
+pub enum Input<'a> {
+    /// These bytes are heard.
+    Heard(&'a [u8]),
+    /// This report is handed in.
+    Reported(Report),
+}
+
+/// What a responder answers in a run.
+#[derive(Debug, Drop, PartialEq, Eq)]
+pub enum Output {
+    /// To bytes that were heard: the bytes of the reply, if there is one, and the job that started, if one did.
+    Answered(Option<Wire>, Option<Job>),
+    /// To a report that arrived.
+    Arrived(Arrival),
+    /// To a report that may not arrive: it comes back.
+    HandedBack(Astray),
+}
+
 impl Responder {
-    /// Hears these byte strings one after another, and gives the answer to each.
+    /// Takes these inputs one after another, and gives the output of each.
     ///
-    /// Memory for the answers is taken first, so that where it is refused nothing was heard.
+    /// Memory for the outputs is taken first, so that where it is refused nothing was heard and nothing arrived.
     pub fn step_all(
         &mut self,
         alloc: Global,
-        heard: &[&[u8]],
-    ) -> Result<Vec<Option<Wire>>, AllocError>
-        // Each answer is that of the reply rules after all that was heard before.
-        ensures replies { IfOk result (λ answers. (h : History) → StandsFor self.old h →
-            answers.items ≡ replies_of h (map (λ bytes. bytes.now) heard.now)) }
-        ensures stands { OnOk result ((h : History) → StandsFor self.old h →
-            StandsFor self.new (then_heard h (map (λ bytes. bytes.now) heard.now))) }
+        inputs: &[Input<'_>],
+    ) -> Result<Vec<Output>, AllocError>
+        // Each output is that of the rules after all inputs before it.
+        ensures ok { IfOk result (λ outputs. (h : History) → StandsFor self.old h →
+            (end : History) × StandsFor self.new end × IsRun h inputs.now outputs.items end) }
         ensures err { OnErr result (self.new ≡ self.old) }
     {
-        let mut answers = Vec::with_capacity(alloc, heard.len())?;
-        for bytes in heard {
-            answers.push_reserved(self.step(bytes));
+        let mut outputs = Vec::with_capacity(alloc, inputs.len())?;
+        for input in inputs {
+            outputs.push_reserved(self.take(*input));
         }
-        Ok(answers)
+        Ok(outputs)
+    }
+
+    /// Takes one input.
+    fn take(&mut self, input: Input<'_>) -> Output
+        ensures { (h : History) → StandsFor self.old h → (end : History) × StandsFor self.new end × IsRun h (input.entry ∷ []) (result ∷ []) end }
+    {
+        match input {
+            Input::Heard(bytes) => {
+                let (reply, job) = self.step(bytes);
+                Output::Answered(reply, job)
+            }
+            Input::Reported(report) => match self.arrive(report) {
+                Ok(arrival) => Output::Arrived(arrival),
+                Err(astray) => Output::HandedBack(astray),
+            },
+        }
     }
 }

@@ -5,8 +5,10 @@
 mod discovery;
 mod identify;
 mod parameters;
+mod slow;
 
-use crate::{NewError, Responder};
+use crate::{NewError, Responder, Stepped};
+use rdm_frame::standard::{DISCOVERY_COMMAND as DISCOVERY, GET_COMMAND as GET, SET_COMMAND as SET};
 use rdm_frame::{Body, Frame, Uid, Wire, encode};
 use rdm_params::Profile;
 use std::alloc::Global;
@@ -22,12 +24,6 @@ const CONTROLLER: Uid = Uid {
     maker: 0x7FF0,
     device: 2,
 };
-
-const DISCOVERY: u8 = 0x10;
-
-const GET: u8 = 0x20;
-
-const SET: u8 = 0x30;
 
 /// What a request of the controller says.
 #[derive(Clone, Copy, Debug)]
@@ -65,16 +61,10 @@ fn to_device(tn: u8, class: u8, sub: u16, pid: u16, slots: &'static [u8]) -> Req
     }
 }
 
-/// The broadcast to all devices of a manufacturer, or with FFFF to all devices.
-fn every_device_of(maker: u16) -> Uid {
-    Uid {
-        maker,
-        device: Uid::EVERY_DEVICE,
-    }
-}
-
 /// The bytes of a request.
-fn framed(request: Request) -> Wire {
+fn framed(rt: &impl Abort, request: Request) -> Wire {
+    let body = Body::from_slice(request.slots);
+    assert!(rt; body.is_some(), "{request:?} fits no frame");
     encode(&Frame {
         dst: request.dst,
         src: CONTROLLER,
@@ -84,12 +74,12 @@ fn framed(request: Request) -> Wire {
         sub: request.sub,
         class: request.class,
         pid: request.pid,
-        body: Body::from_slice(request.slots).unwrap_or(Body::new()),
+        body: body.unwrap_or(Body::new()),
     })
 }
 
 /// The bytes that hexadecimal digits print. Blanks between them are for the eye.
-fn printed(text: &str) -> Wire {
+fn printed(rt: &impl Abort, text: &str) -> Wire {
     let mut bytes = Wire::new();
     let mut upper = None;
     for digit in text.chars().filter_map(|c| c.to_digit(16)) {
@@ -98,63 +88,83 @@ fn printed(text: &str) -> Wire {
             continue;
         };
         upper = None;
-        append(&mut bytes, &[((high << 4 | digit) & 0xFF) as u8]);
+        append(rt, &mut bytes, &[((high << 4 | digit) & 0xFF) as u8]);
     }
+    assert_eq!(rt; upper, None, "{text}");
     bytes
 }
 
-/// Puts bytes at the end, where there is room.
-fn append(wire: &mut Wire, bytes: &[u8]) {
-    if wire.as_slice().len() + bytes.len() <= 257 {
+/// Puts bytes at the end.
+fn append(rt: &impl Abort, wire: &mut Wire, bytes: &[u8]) {
+    let fits = wire.as_slice().len() + bytes.len() <= 257;
+    assert!(rt; fits, "{bytes:?} are too many");
+    if fits {
         wire.append(bytes);
     }
 }
 
 /// A reply of the device to the controller, of which the text prints the slots from the transaction number on.
-fn reply(text: &str) -> Wire {
-    let tail = printed(text);
+fn reply(rt: &impl Abort, text: &str) -> Wire {
+    let tail = printed(rt, text);
     let slots = (tail.as_slice().len() & 0xFF) as u8;
-    let mut wire = printed("CC01");
+    let mut wire = printed(rt, "CC01");
     // The message length counts all slots but the checksum: 15 before the printed ones.
-    append(&mut wire, &[slots.wrapping_add(13)]);
-    append(&mut wire, printed("7FF000000002 7FF000000001").as_slice());
-    append(&mut wire, tail.as_slice());
+    append(rt, &mut wire, &[slots.wrapping_add(13)]);
+    append(
+        rt,
+        &mut wire,
+        printed(rt, "7FF000000002 7FF000000001").as_slice(),
+    );
+    append(rt, &mut wire, tail.as_slice());
     wire
 }
 
-/// A responder of the demo fixture with so many sub-devices.
-fn responder(alloc: Global, subs: u16) -> Result<Responder, NewError> {
-    Responder::new(alloc, DEVICE, Profile::demo(subs), 8)
+/// The bytes of an answer, if there are any.
+fn expected(rt: &impl Abort, answer: Answer) -> Option<Wire> {
+    match answer {
+        Answer::Silence => None,
+        Answer::Reply(text) => Some(reply(rt, text)),
+        Answer::Bytes(text) => Some(printed(rt, text)),
+    }
 }
 
-/// Plays a run of exchanges on a new responder, and on another that puts all its replies in one place.
+/// A responder of the demo fixture with so many sub-devices, and room for so many results of slow commands.
+fn responder_with(alloc: Global, subs: u16, queue_size: u16) -> Result<Responder, NewError> {
+    Responder::new(alloc, DEVICE, Profile::demo(subs), queue_size)
+}
+
+/// Plays a run of exchanges on a new responder, and on another that puts all its replies in one place. No job starts.
 fn plays(rt: &impl Abort, alloc: Global, subs: u16, run: &[Exchange]) -> Result<(), Fail> {
-    let mut other = responder(alloc, subs)?;
-    let mut responder = responder(alloc, subs)?;
+    let mut other = responder_with(alloc, subs, 8)?;
+    let mut responder = responder_with(alloc, subs, 8)?;
     let mut wire = Wire::new();
     for (request, answer) in run {
-        let heard = framed(*request);
-        let expected = match answer {
-            Answer::Silence => None,
-            Answer::Reply(text) => Some(reply(text)),
-            Answer::Bytes(text) => Some(printed(text)),
+        let heard = framed(rt, *request);
+        let expected = expected(rt, *answer);
+        let stepped = Stepped {
+            replied: expected.is_some(),
+            job: None,
         };
         assert_eq!(rt;
             other.step_into(heard.as_slice(), &mut wire),
-            expected.is_some(),
+            stepped,
             "{request:?}"
         );
         if let Some(bytes) = &expected {
-            assert_eq!(rt; &wire, bytes, "{request:?}");
+            assert_eq!(rt; wire.as_slice(), bytes.as_slice(), "{request:?}");
         }
-        assert_eq!(rt; responder.step(heard.as_slice()), expected, "{request:?}");
+        assert_eq!(rt;
+            responder.step(heard.as_slice()),
+            (expected, None),
+            "{request:?}"
+        );
     }
     Ok(())
 }
 
 #[test]
 fn a_responder_is_made_or_refused(rt: HostRuntime) {
-    let broadcast = every_device_of(0x7FF0);
+    let broadcast = Uid::all_of(0x7FF0);
     for (uid, queue_size, refusal) in [
         (DEVICE, 1, None),
         (DEVICE, 8, None),

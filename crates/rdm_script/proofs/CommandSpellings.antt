@@ -1,8 +1,9 @@
 -- A line says exactly the command that its words spell.
-use Rattle.std.proofs.Common.{◌≡◌, ℕ, zero, suc, ◌*◌, ◌/◌, ◌%◌, ◌^◌, ◌<◌, Bool, true, false, cond, eqb, leb, List, [], ◌∷◌, ◌++◌, length, get_or, take, drop, map, Option, Some, None, ◌⊎◌, inl, inr, refl, sym, ap, subst, ◌∙◌, arith}
+use Rattle.std.proofs.Common.{◌≡◌, ◌≢◌, All, ℕ, zero, suc, ◌*◌, ◌/◌, ◌%◌, ◌^◌, ◌<◌, Bool, true, false, cond, eqb, leb, List, [], ◌∷◌, ◌++◌, length, get_or, take, drop, map, Option, Some, None, ◌⊎◌, inl, inr, refl, sym, ap, subst, ◌∙◌, arith}
 use Rattle.std.specs.Prelude.{option_map, codes}
 use Rattle.std.specs.Str.{bytes_eq}
-use Rattle.std.specs.List.{AllByRecursion}
+use Rattle.std.specs.List.{AllByRecursion, flat_map}
+use Rattle.std.proofs.lemmas.List.Elements.{All-nil, All-cons, All-head, All-tail}
 use Rattle.std.specs.Int.{w16, w32, to_be_bytes, from_be_bytes}
 use Rattle.std.proofs.Math.Seq.{drop-cons}
 use Rattle.std.proofs.lemmas.Bool.{eqb-true, leb-true, le-leb}
@@ -15,13 +16,15 @@ use Rattle.rdm_frame.specs.declared.uid.Uid.{Uid}
 use Rattle.rdm_script.specs.declared.command.Action.{Action}
 use Rattle.rdm_script.specs.declared.command.Action.TheVariants.{Disc, Get, Set}
 use Rattle.rdm_script.specs.declared.command.Command.{Command}
+use Rattle.rdm_script.specs.declared.script.Step.{Step}
+use Rattle.rdm_script.specs.declared.grammar.line.Line.{Line}
 use Rattle.rdm_script.specs.declared.script.Step.TheVariants.{Ask}
-use Rattle.rdm_script.specs.declared.reading.Line.TheVariants.{Skipped, Says, Faulty}
+use Rattle.rdm_script.specs.declared.grammar.line.Line.TheVariants.{Skipped, Says, Faulty}
 use Rattle.rdm_script.specs.Digits.{◌>>=◌, bytes_in, number_in}
 use Rattle.rdm_script.specs.TraceText.{digit, digits}
 use Rattle.rdm_script.specs.Parties.{device, all_devices, all_of_maker}
-use Rattle.rdm_script.specs.Grammar.{action_in, uid_in, destination_in, load_in, command_in, word, is_skipped, line_with, line_in}
-use Rattle.rdm_script.specs.Spelling.{upper, SpellsBytes, SpellsNumber, SpellsUid, SpellsDestination, SpellsLoad, SpellsAction, SpellsCommand}
+use Rattle.rdm_script.specs.Grammar.{action_in, uid_in, destination_in, load_in, command_in, word, is_skipped, line_with, line_in, words_of, lines_of, said_by, steps_of_line, IsRead}
+use Rattle.rdm_script.specs.Spelling.{upper, SpellsBytes, SpellsNumber, SpellsUid, SpellsDestination, SpellsLoad, SpellsAction, SpellsCommand, SpellSteps, IsScript}
 use Rattle.rdm_script.proofs.Spellings.{bytes_read, bytes_again}
 
 abbrev IsByte : ℕ → Type 0
@@ -249,3 +252,84 @@ unfolding line_in
 line_again words c skipped s =
     let said = command_again (word words 0) (word words 1) (word words 2) (word words 3) (word words 4) c (record { action = s.action; destination = s.destination; sub = s.sub; pid = s.pid; load = s.load }) in
     rw (skipped, s.five, said) refl
+
+-- ---- a script
+
+not_skipped : (o : Option Command) → line_with o ≡ Skipped → ⊥
+not_skipped None e = cc
+not_skipped (Some c) e = cc
+
+skipped_said : (words : List (List ℕ)) → line_in words ≡ Skipped → is_skipped words ≡ true
+unfolding line_in
+skipped_said words e =
+    let said = command_in (word words 0) (word words 1) (word words 2) (word words 3) (word words 4) in
+    elim (chosen (is_skipped words) Skipped _ Skipped e) [
+      | inl h ↦ h.0
+      | inr h ↦
+          elim (chosen (eqb (length words) 5) (line_with said) Faulty Skipped h.1) [
+            | inl k ↦ absurd (not_skipped said k.1)
+            | inr k ↦ let never : Faulty ≡ Skipped = k.1 in absurd cc
+          ]
+    ]
+
+-- what a line that isn't faulty says
+abbrev SaysSome : List (List ℕ) → Type 0
+SaysSome words = ((is_skipped words ≡ true) × (line_in words ≡ Skipped)) ⊎ ((is_skipped words ≡ false) × (c : Command) × (line_in words ≡ Says (Ask c)) × SpellsCommand words c)
+
+cases_of : (words : List (List ℕ)) (said : Line) → line_in words ≡ said → said ≢ Faulty → SaysSome words
+cases_of words Skipped e sound = inl (skipped_said words e, e)
+cases_of words (Says (Ask c)) e sound = let s = line_read words c e in inr (s.0, c, e, s.1)
+cases_of words Faulty e sound = absurd (sound refl)
+
+line_cases : (words : List (List ℕ)) → line_in words ≢ Faulty → SaysSome words
+line_cases words sound = cases_of words (line_in words) refl sound
+
+said_skipped : (words : List (List ℕ)) → is_skipped words ≡ true → line_in words ≡ Skipped
+unfolding line_in
+said_skipped words h = rw h refl
+
+-- the reader's steps are those that the lines spell
+steps_spelled : (lines : List (List ℕ)) → All (λ line. line ≢ Faulty) (said_by lines) → SpellSteps (map words_of lines) (flat_map steps_of_line (said_by lines))
+steps_spelled [] sound = refl
+steps_spelled (line ∷ more) sound =
+    let head = All-head (λ (l : Line). l ≢ Faulty) (line_in (words_of line)) (said_by more) sound in
+    let behind = steps_spelled more (All-tail (λ (l : Line). l ≢ Faulty) (line_in (words_of line)) (said_by more) sound) in
+    let whole = flat_map-cons steps_of_line (line_in (words_of line)) (said_by more) in
+    elim (line_cases (words_of line) head) [
+      | inl h ↦
+          let same : flat_map steps_of_line (said_by (line ∷ more)) ≡ flat_map steps_of_line (said_by more) = whole ∙ ap (λ (l : Line). steps_of_line l ++ flat_map steps_of_line (said_by more)) h.1 in
+          inl (h.0, subst (λ (ss : List Step). SpellSteps (map words_of more) ss) (sym same) behind)
+      | inr h ↦
+          let same : flat_map steps_of_line (said_by (line ∷ more)) ≡ Ask h.1 ∷ flat_map steps_of_line (said_by more) = whole ∙ ap (λ (l : Line). steps_of_line l ++ flat_map steps_of_line (said_by more)) h.2 in
+          inr (h.0, h.1, flat_map steps_of_line (said_by more), same, h.3, behind)
+    ]
+
+-- the steps that lines spell are the reader's
+steps_read : (lines : List (List ℕ)) (steps : List Step) → SpellSteps (map words_of lines) steps → All (λ line. line ≢ Faulty) (said_by lines) × (steps ≡ flat_map steps_of_line (said_by lines))
+steps_read [] steps h = (All-nil (λ (l : Line). l ≢ Faulty), h)
+steps_read (line ∷ more) steps (inl h) =
+    let said = said_skipped (words_of line) h.0 in
+    let behind = steps_read more steps h.1 in
+    let whole = flat_map-cons steps_of_line (line_in (words_of line)) (said_by more) in (
+      All-cons (λ (l : Line). l ≢ Faulty) (line_in (words_of line)) (said_by more) (λ e. let never : Skipped ≡ Faulty = sym said ∙ e in absurd cc) behind.0,
+      behind.1 ∙ sym (whole ∙ ap (λ (l : Line). steps_of_line l ++ flat_map steps_of_line (said_by more)) said),
+    )
+steps_read (line ∷ more) steps (inr (out, c, rest, is, spelled, others)) =
+    let said = line_again (words_of line) c out spelled in
+    let behind = steps_read more rest others in
+    let whole = flat_map-cons steps_of_line (line_in (words_of line)) (said_by more) in (
+      All-cons (λ (l : Line). l ≢ Faulty) (line_in (words_of line)) (said_by more) (λ e. let never : Says (Ask c) ≡ Faulty = sym said ∙ e in absurd cc) behind.0,
+      is ∙ ap (λ (ss : List Step). Ask c ∷ ss) behind.1 ∙ sym (whole ∙ ap (λ (l : Line). steps_of_line l ++ flat_map steps_of_line (said_by more)) said),
+    )
+
+-- what is read is a script, and a script is read
+pub script_spelled : (text : List ℕ) (steps : List Step) → IsRead text steps → IsScript text steps
+script_spelled text steps r = record {
+  within = r.within;
+  says = subst (λ (ss : List Step). SpellSteps (map words_of (lines_of text)) ss) (sym r.says.in_order) (steps_spelled (lines_of text) r.says.faultless);
+}
+
+pub script_read : (text : List ℕ) (steps : List Step) → IsScript text steps → IsRead text steps
+script_read text steps s =
+    let both = steps_read (lines_of text) steps s.says in
+    record { within = s.within; says = record { faultless = both.0; in_order = both.1 } }

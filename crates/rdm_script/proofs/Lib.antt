@@ -1,6 +1,8 @@
 pub mod CommandSpellings
 pub mod DigitLemmas
 pub mod Lines
+pub mod Pieces
 pub mod Runs
 pub mod Spellings
-pub mod Streams
+pub mod StreamLemmas
+pub mod Words

@@ -1,17 +1,16 @@
 -- Lines of a text one after the other, and what they say.
-use Rattle.std.proofs.Common.{◌≡◌, ◌≢◌, ℕ, ◌+◌, ◌-◌, ◌<◌, ◌≤◌, ◌==◌, Bool, true, false, not, cond, List, [], ◌∷◌, ◌++◌, length, get_or, take, drop, map, filter, position, All, Some, None, refl, sym, ap, subst, ◌∙◌, arith, append_assoc, Bor}
-use Rattle.std.specs.List.{slice_split, position_or_len}
+use Rattle.std.proofs.Common.{◌≡◌, ◌≢◌, ℕ, suc, ◌+◌, ◌-◌, ◌<◌, ◌≤◌, ◌==◌, Bool, List, [], ◌∷◌, ◌++◌, length, get_or, take, drop, position, Some, None, refl, sym, ap, subst, ◌∙◌, arith, add-one, count_by}
+use Rattle.std.specs.List.{slice_split}
 use Rattle.std.specs.Str.Lines.{strip_carriage_return as without_return}
-use Rattle.std.proofs.lemmas.Bool.{ltb-true, ltb-false}
-use Rattle.std.proofs.lemmas.Option.{cond_some}
-use Rattle.std.proofs.lemmas.List.Sums.{prefix_len_passes}
-use Rattle.std.proofs.lemmas.List.Splits.{slice_split_first, slice_split_none, length-slice_split}
+use Rattle.std.proofs.lemmas.List.Splits.{length-slice_split}
 use Rattle.std.proofs.lemmas.Option.{slice_get-get_or}
-use Rattle.std.proofs.lemmas.List.{take_more, flat_map_more, map_push, get_or-map, length-map, append-nil}
-use Rattle.std.proofs.lemmas.List.Elements.{All-more, filter-append}
+use Rattle.std.proofs.Math.Seq.{drop-cons}
+use Rattle.std.proofs.lemmas.List.{take_more, flat_map_more, get_or-map, length-map, length-drop, take_all}
+use Rattle.std.proofs.lemmas.List.Elements.{All-more}
 use Rattle.rdm_script.specs.declared.script.Step.{Step}
-use Rattle.rdm_script.specs.declared.reading.Line.{Line}
-use Rattle.rdm_script.specs.declared.reading.Line.TheVariants.{Faulty}
+use Rattle.rdm_script.specs.declared.grammar.line.Line.{Line}
+use Rattle.rdm_script.specs.declared.grammar.line.Line.TheVariants.{Faulty}
+use Rattle.rdm_script.proofs.Pieces.{pieces_more, pieces_last}
 use Rattle.rdm_script.specs.Grammar.{line_in, words_of, said_by, lines_of, without_returns, steps_of_line, AreSteps, IsFirstFaulty}
 
 abbrev is_lf : ℕ → Bool
@@ -21,30 +20,21 @@ returns_first : (line : List ℕ) (more : List (List ℕ)) → 0 < length more �
 returns_first line [] h = absurd (omega arith)
 returns_first line (next ∷ more) h = refl
 
+length-without_returns : (lines : List (List ℕ)) → length (without_returns lines) ≡ length lines
+length-without_returns [] = refl
+length-without_returns (last ∷ []) = refl
+length-without_returns (line ∷ next ∷ more) = ap suc (length-without_returns (next ∷ more))
+
 -- the first line of a text with an LF, and the lines behind it
-pub lines_of_more : (text : List ℕ) (end : ℕ) → position (λ b. b == 10) text ≡ Some end → lines_of text ≡ without_return (take end text) ∷ lines_of (drop (end + 1) text)
+lines_of_more : (text : List ℕ) (end : ℕ) → position (λ b. b == 10) text ≡ Some end → lines_of text ≡ without_return (take end text) ∷ lines_of (drop (end + 1) text)
 unfolding lines_of
 lines_of_more text end h =
-    let at = cond_some _ (position_or_len is_lf text) end h in
-    let lt : position_or_len is_lf text < length text = ltb-true _ _ at.0 in
-    let parts : slice_split is_lf text ≡ take end text ∷ slice_split is_lf (drop (end + 1) text) = subst (λ (n : ℕ). slice_split is_lf text ≡ take n text ∷ slice_split is_lf (drop (n + 1) text)) at.1 (slice_split_first is_lf text 0 lt) in
-    ap without_returns parts ∙ returns_first (take end text) (slice_split is_lf (drop (end + 1) text)) (omega (arith, length-slice_split is_lf (drop (end + 1) text)))
-
-not_lf : (b : Bool) → not b ≡ true → b ≡ false
-not_lf true h = sym h
-not_lf false h = refl
-
-no_position : (b : Bool) (n : ℕ) → cond b (Some n) None ≡ None → b ≡ false
-no_position true n h = absurd cc
-no_position false n h = refl
+    ap without_returns (pieces_more is_lf text end h) ∙ returns_first (take end text) (slice_split is_lf (drop (end + 1) text)) (omega (arith, length-slice_split is_lf (drop (end + 1) text)))
 
 -- a text without an LF is one line
-pub lines_of_last : (text : List ℕ) → position (λ b. b == 10) text ≡ None → lines_of text ≡ text ∷ []
+lines_of_last : (text : List ℕ) → position (λ b. b == 10) text ≡ None → lines_of text ≡ text ∷ []
 unfolding lines_of
-lines_of_last text h =
-    let past : length text ≤ position_or_len is_lf text = ltb-false _ _ (no_position _ (position_or_len is_lf text) h) in
-    let each : All (λ b. is_lf b ≡ false) text = λ k d lt. not_lf (is_lf (get_or text k d)) (prefix_len_passes (λ b. not (is_lf b)) text k d (omega arith)) in
-    ap without_returns (slice_split_none is_lf text each)
+lines_of_last text h = ap without_returns (pieces_last is_lf text h)
 
 -- one line more, which isn't faulty
 pub steps_more : (said : List Line) (i : ℕ) (steps : List Step) (line : Line) → i < length said → get_or said i line ≡ line → line ≢ Faulty → AreSteps (take i said) steps → AreSteps (take (i + 1) said) (steps ++ steps_of_line line)
@@ -64,42 +54,74 @@ fault_at said i steps lt at before =
       front = rw (← back) before.faultless;
     }
 
--- a line is read off the rest of the text
-pub lines_go_on : (before : List (Bor (List ℕ))) (line : Bor (List ℕ)) (rest after text : List ℕ) (end : ℕ) → position (λ b. b == 10) rest ≡ Some end → line.now ≡ without_return (take end rest) → after ≡ drop (end + 1) rest → map (λ x. x.now) before ++ lines_of rest ≡ lines_of text → map (λ x. x.now) (before ++ line ∷ []) ++ lines_of after ≡ lines_of text
-lines_go_on before line rest after text end h is_line is_after so_far =
-    let one : lines_of rest ≡ line.now ∷ lines_of after = rw (is_line, is_after) (lines_of_more rest end h) in
-    rw map_push (append_assoc (map (λ (x : Bor (List ℕ)). x.now) before) (line.now ∷ []) (lines_of after) ∙ ap (λ (ys : List (List ℕ)). map (λ (x : Bor (List ℕ)). x.now) before ++ ys) (sym one) ∙ so_far)
-
--- the rest of the text is the last line
-pub lines_end : (before : List (Bor (List ℕ))) (rest : Bor (List ℕ)) (text : List ℕ) → position (λ b. b == 10) rest.now ≡ None → map (λ x. x.now) before ++ lines_of rest.now ≡ lines_of text → map (λ x. x.now) (before ++ rest ∷ []) ≡ lines_of text
-lines_end before rest text h so_far = rw map_push (ap (λ (ys : List (List ℕ)). map (λ (x : Bor (List ℕ)). x.now) before ++ ys) (sym (lines_of_last rest.now h)) ∙ so_far)
+-- what the list of the rest says of the whole list
+rest_at : {A : Type 0} (i : ℕ) (whole : List A) (d x : A) (xs : List A) → x ∷ xs ≡ drop i whole → (i < length whole) × (get_or whole i d ≡ x) × (xs ≡ drop (i + 1) whole)
+rest_at i whole d x xs e =
+    let some : 0 < length (drop i whole) = rw (← e) (omega arith) in
+    let lt : i < length whole = omega (arith, length-drop i whole) in
+    let parts : drop i whole ≡ get_or whole i d ∷ drop (i + 1) whole = rw add-one (drop-cons whole i d lt) in
+    let both : x ∷ xs ≡ get_or whole i d ∷ drop (i + 1) whole = e ∙ parts in
+    let one : get_or whole i d ≡ x = cc in
+    let more : xs ≡ drop (i + 1) whole = cc in
+    (lt, one, more)
 
 -- what the line at an index says
-pub said_at : (lines : List (Bor (List ℕ))) (i : ℕ) (d : Bor (List ℕ)) (e : Line) → i < length lines → (i < length (said_by (map (λ x. x.now) lines))) × (get_or (said_by (map (λ x. x.now) lines)) i e ≡ line_in (words_of (get_or lines i d).now))
-said_at lines i d e lt =
-    let within : i < length (map (λ (x : Bor (List ℕ)). x.now) lines) = rw length-map lt in
-    (rw (length-map, length-map) lt, get_or-map (λ (line : List ℕ). line_in (words_of line)) (map (λ (x : Bor (List ℕ)). x.now) lines) i d.now e within ∙ ap (λ (line : List ℕ). line_in (words_of line)) (get_or-map (λ (x : Bor (List ℕ)). x.now) lines i d d.now lt))
+pub said_at : (lines : List (List ℕ)) (i : ℕ) (line : List ℕ) (e : Line) → i < length lines → get_or lines i line ≡ line → (i < length (said_by lines)) × (get_or (said_by lines) i e ≡ line_in (words_of line))
+said_at lines i line e lt at =
+    (rw length-map lt, get_or-map (λ (l : List ℕ). line_in (words_of l)) lines i line e lt ∙ ap (λ (l : List ℕ). line_in (words_of l)) at)
 
-abbrev is_word : List ℕ → Bool
-is_word word = not (length word == 0)
+pub line_count_is : (text : List ℕ) → length (lines_of text) ≡ count_by (λ b. b == 10) text + 1
+unfolding lines_of
+line_count_is text = length-without_returns (slice_split is_lf text) ∙ length-slice_split is_lf text
 
-piece_more : (pieces : List (Bor (List ℕ))) (i : ℕ) (d : Bor (List ℕ)) → i < length pieces → filter is_word (take (i + 1) (map (λ x. x.now) pieces)) ≡ filter is_word (take i (map (λ x. x.now) pieces)) ++ filter is_word ((get_or pieces i d).now ∷ [])
-piece_more pieces i d lt =
-    let all = map (λ (x : Bor (List ℕ)). x.now) pieces in
-    let within : i < length all = rw length-map lt in
-    let at : get_or all i d.now ≡ (get_or pieces i d).now = get_or-map (λ (x : Bor (List ℕ)). x.now) pieces i d d.now lt in
-    ap (filter is_word) (take_more all i d.now within) ∙ filter-append is_word (take i all) (get_or all i d.now ∷ []) ∙ ap (λ (w : List ℕ). filter is_word (take i all) ++ filter is_word (w ∷ [])) at
+-- a line is read off the rest of the text
+pub line_read : (text rest after : List ℕ) (i end : ℕ) (line : List ℕ) → position (λ b. b == 10) rest ≡ Some end → line ≡ without_return (take end rest) → after ≡ drop (end + 1) rest → lines_of rest ≡ drop i (lines_of text)
+    → (i < length (lines_of text)) × (get_or (lines_of text) i line ≡ line) × (lines_of after ≡ drop (i + 1) (lines_of text))
+line_read text rest after i end line h is_line is_after so_far =
+    let one : line ∷ lines_of after ≡ drop i (lines_of text) = rw (is_line, is_after) (sym (lines_of_more rest end h) ∙ so_far) in
+    rest_at i (lines_of text) line line (lines_of after) one
 
--- a piece is a word
-pub piece_kept : (words pieces : List (Bor (List ℕ))) (i : ℕ) (d : Bor (List ℕ)) → i < length pieces → false ≡ (length (get_or pieces i d).now == 0)
-    → map (λ x. x.now) words ≡ filter is_word (take i (map (λ x. x.now) pieces)) → map (λ x. x.now) (words ++ get_or pieces i d ∷ []) ≡ filter is_word (take (i + 1) (map (λ x. x.now) pieces))
-piece_kept words pieces i d lt full so_far =
-    let one : filter is_word ((get_or pieces i d).now ∷ []) ≡ (get_or pieces i d).now ∷ [] = rw (← full) refl in
-    rw (map_push, so_far) (sym (piece_more pieces i d lt ∙ ap (λ (ws : List (List ℕ)). filter is_word (take i (map (λ (x : Bor (List ℕ)). x.now) pieces)) ++ ws) one))
+-- the rest of the text is the last line
+pub last_read : (text rest : List ℕ) (i : ℕ) → position (λ b. b == 10) rest ≡ None → lines_of rest ≡ drop i (lines_of text)
+    → (i < length (lines_of text)) × (get_or (lines_of text) i rest ≡ rest) × ([] ≡ drop (i + 1) (lines_of text))
+last_read text rest i h so_far =
+    let one : rest ∷ [] ≡ drop i (lines_of text) = sym (lines_of_last rest h) ∙ so_far in
+    rest_at i (lines_of text) rest rest [] one
 
--- a piece is empty
-pub piece_left : (words pieces : List (Bor (List ℕ))) (i : ℕ) (d : Bor (List ℕ)) → i < length pieces → true ≡ (length (get_or pieces i d).now == 0)
-    → map (λ x. x.now) words ≡ filter is_word (take i (map (λ x. x.now) pieces)) → map (λ x. x.now) words ≡ filter is_word (take (i + 1) (map (λ x. x.now) pieces))
-piece_left words pieces i d lt empty so_far =
-    let none : filter is_word ((get_or pieces i d).now ∷ []) ≡ [] = rw (← empty) refl in
-    so_far ∙ sym (piece_more pieces i d lt ∙ ap (λ (ws : List (List ℕ)). filter is_word (take i (map (λ (x : Bor (List ℕ)). x.now) pieces)) ++ ws) none ∙ append-nil (filter is_word (take i (map (λ (x : Bor (List ℕ)). x.now) pieces))))
+-- what is known where a line is at hand: its place, and that the lines before it say the steps so far
+pub record AtLine (text line : List ℕ) (i : ℕ) (steps : List Step) : Type 0 where
+  pub lt : i < length (lines_of text)
+  pub is : get_or (lines_of text) i line ≡ line
+  pub front : AreSteps (take i (said_by (lines_of text))) steps
+
+pub at_line : (text rest : List ℕ) (i end : ℕ) (line : List ℕ) (steps : List Step) → position (λ b. b == 10) rest ≡ Some end → line ≡ without_return (take end rest) → lines_of rest ≡ drop i (lines_of text)
+    → AreSteps (take i (said_by (lines_of text))) steps → AtLine text line i steps
+at_line text rest i end line steps h is_line so_far front =
+    let read = line_read text rest (drop (end + 1) rest) i end line h is_line refl so_far in
+    record { lt = read.0; is = read.1; front = front }
+
+pub at_last : (text rest : List ℕ) (i : ℕ) (steps : List Step) → position (λ b. b == 10) rest ≡ None → lines_of rest ≡ drop i (lines_of text)
+    → AreSteps (take i (said_by (lines_of text))) steps → AtLine text rest i steps
+at_last text rest i steps h so_far front =
+    let read = last_read text rest i h so_far in
+    record { lt = read.0; is = read.1; front = front }
+
+-- the line says something else than a fault
+pub line_passes : (text line : List ℕ) (i : ℕ) (steps : List Step) → AtLine text line i steps → line_in (words_of line) ≢ Faulty → AreSteps (take (i + 1) (said_by (lines_of text))) (steps ++ steps_of_line (line_in (words_of line)))
+line_passes text line i steps here sound =
+    let said = said_at (lines_of text) i line (line_in (words_of line)) here.lt here.is in
+    steps_more (said_by (lines_of text)) i steps (line_in (words_of line)) said.0 said.1 sound here.front
+
+-- the line is faulty
+pub line_fails : (text line : List ℕ) (i : ℕ) (steps : List Step) → AtLine text line i steps → line_in (words_of line) ≡ Faulty → IsFirstFaulty (said_by (lines_of text)) (i + 1)
+line_fails text line i steps here faulty =
+    let said = said_at (lines_of text) i line Faulty here.lt here.is in
+    fault_at (said_by (lines_of text)) i steps said.0 (said.1 ∙ faulty) here.front
+
+-- the last line says something else than a fault
+pub last_passes : (text rest : List ℕ) (i : ℕ) (steps : List Step) → position (λ b. b == 10) rest ≡ None → lines_of rest ≡ drop i (lines_of text)
+    → AtLine text rest i steps → line_in (words_of rest) ≢ Faulty → AreSteps (said_by (lines_of text)) (steps ++ steps_of_line (line_in (words_of rest)))
+last_passes text rest i steps h so_far here sound =
+    let none : [] ≡ drop (i + 1) (lines_of text) = (last_read text rest i h so_far).2 in
+    let past : length (said_by (lines_of text)) ≤ i + 1 = rw length-map (omega (arith, length-drop (i + 1) (lines_of text), ap length none)) in
+    subst (λ (said : List Line). AreSteps said (steps ++ steps_of_line (line_in (words_of rest)))) (take_all (i + 1) (said_by (lines_of text)) past) (line_passes text rest i steps here sound)

@@ -5,7 +5,7 @@ use Rattle.std.proofs.Math.Seq.{drop-cons}
 use Rattle.std.proofs.lemmas.List.{drop_all, append-nil}
 use Rattle.rdm_responder.specs.History.{History, Heard, then_event}
 use Rattle.rdm_script.specs.declared.script.Step.{Step}
-use Rattle.rdm_script.specs.declared.running.RunError.{RunError}
+use Rattle.rdm_script.specs.declared.controller.RunError.{RunError}
 use Rattle.rdm_script.specs.declared.event.Event.{Event}
 use Rattle.rdm_script.specs.BusRun.{IsBusRun, IsPlayed, sent_in, refusal_in, first_refusal}
 

@@ -5,10 +5,11 @@ use Rattle.rdm_frame.specs.declared.uid.Uid.{Uid}
 use Rattle.rdm_frame.specs.declared.frame.Frame.{Frame}
 use Rattle.rdm_frame.specs.FrameText.{frame_text}
 use Rattle.rdm_frame.specs.Reading.{frame_in}
-use Rattle.rdm_params.specs.Demo.{demo}
+use Rattle.rdm_params.specs.Device.Demo.{demo}
+use Rattle.rdm_outbox.specs.declared.job.Job.{Job}
 use Rattle.rdm_responder.specs.History as history
 use Rattle.rdm_responder.specs.History.{History, empty_history, then_event}
-use Rattle.rdm_responder.specs.Rules.{reply_of}
+use Rattle.rdm_responder.specs.Rules.{reply_of, job_of}
 use Rattle.rdm_script.specs.Parties.{device, controller}
 use Rattle.rdm_script.specs.declared.command.Action.{Action}
 use Rattle.rdm_script.specs.declared.command.Action.TheVariants.{Disc, Get, Set}
@@ -19,8 +20,10 @@ use Rattle.rdm_script.specs.declared.event.Heard.{Heard}
 use Rattle.rdm_script.specs.declared.event.Heard.TheVariants.{Reply, Ignored}
 use Rattle.rdm_script.specs.declared.event.Event.{Event}
 use Rattle.rdm_script.specs.declared.event.Event.TheVariants.{Bus}
-use Rattle.rdm_script.specs.declared.running.RunError.{RunError}
-use Rattle.rdm_script.specs.declared.running.RunError.TheVariants.{Reserved, TooLong}
+use Rattle.rdm_script.specs.declared.controller.RunError.{RunError}
+use Rattle.rdm_script.specs.declared.controller.RunError.TheVariants.{Reserved, TooLong}
+use Rattle.rdm_script.specs.declared.controller.Refusal.{Refusal}
+use Rattle.rdm_script.specs.declared.controller.Refusal.TheVariants as refused
 
 -- The command classes of the requests. Table A-1.
 abbrev pub class_of : Action → ℕ
@@ -30,7 +33,17 @@ class_of Set = 0x30
 
 -- The request of a command, in the transaction with this number, from port 1. Section 6.2.
 abbrev pub request_of : ℕ → Command → Frame
-request_of tn c = record { dst = c.dst; src = controller; tn = tn; port = 1; count = 0; sub = c.sub; class = class_of c.action; pid = c.pid; body = c.load }
+request_of tn c = record {
+  dst = c.dst;
+  src = controller;
+  tn = tn;
+  port = 1;
+  count = 0;
+  sub = c.sub;
+  class = class_of c.action;
+  pid = c.pid;
+  body = c.load;
+}
 
 abbrev pub same_uid : Uid → Uid → Bool
 same_uid u v = (u.maker == v.maker) && (u.device == v.device)
@@ -38,7 +51,9 @@ same_uid u v = (u.maker == v.maker) && (u.device == v.device)
 -- The frame is the reply to the command: from the device to the controller, in the same transaction, of the command's
 -- class plus 1, with its parameter ID and sub-device. Any response type will do.
 abbrev pub is_reply : ℕ → Command → Frame → Bool
-is_reply tn c f = same_uid f.src device && same_uid f.dst controller && (f.tn == tn) && (f.class == class_of c.action + 1) && (f.pid == c.pid) && (f.sub == c.sub)
+is_reply tn c f =
+    same_uid f.src device && same_uid f.dst controller && (f.tn == tn)
+    && (f.class == class_of c.action + 1) && (f.pid == c.pid) && (f.sub == c.sub)
 
 -- what the controller takes bytes for: the reply to its command, or something else
 unfoldable pub heard_as : ℕ → Command → List ℕ → Heard
@@ -52,22 +67,31 @@ is_reserved pid = (pid == 0x0020) || (pid == 0x0030)
 unfoldable pub refusal_of : Command → Option RunError
 refusal_of c = if is_reserved c.pid then Some Reserved else (if nat_lt 231 (length c.load) then Some TooLong else None)
 
--- the bytes that were sent, the bytes of the reply, and what the controller took them for
+-- how the code's reason is told
+abbrev pub fault_of_refusal : Refusal → RunError
+fault_of_refusal refused.Reserved = Reserved
+fault_of_refusal refused.TooLong = TooLong
+
+-- the bytes that were sent, the bytes of the reply, the job that started, and what the controller took the reply for
 abbrev pub sent_in : Event → List ℕ
-sent_in (Bus sent reply heard) = sent
+sent_in (Bus sent reply job heard) = sent
 
 abbrev pub reply_in : Event → Option (List ℕ)
-reply_in (Bus sent reply heard) = reply
+reply_in (Bus sent reply job heard) = reply
+
+abbrev pub job_in : Event → Option Job
+job_in (Bus sent reply job heard) = job
 
 abbrev pub heard_in : Event → Option Heard
-heard_in (Bus sent reply heard) = heard
+heard_in (Bus sent reply job heard) = heard
 
--- A command is sent after this history in this transaction. The device replies by the reply rules, and the controller
--- hears the reply, if there is one.
+-- A command is sent after this history in this transaction. The device replies and starts a job by the reply rules, and
+-- the controller hears the reply, if there is one.
 pub record IsExchange (h : History) (tn : ℕ) (c : Command) (event : Event) : Type 0 where
   pub allowed : refusal_of c ≡ None
   pub request : sent_in event ≡ frame_text (request_of tn c)
   pub replied : reply_in event ≡ reply_of h (sent_in event)
+  pub started : job_in event ≡ job_of h (sent_in event)
   pub taken : heard_in event ≡ option_map (heard_as tn c) (reply_in event)
 
 -- what happens at a step

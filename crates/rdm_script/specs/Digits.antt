@@ -11,7 +11,11 @@ within low n high = nat_le low n && nat_le n high
 
 -- the value of a digit: `0` to `9`, `A` to `F` or `a` to `f`
 abbrev pub digit_value : ℕ → Option ℕ
-digit_value b = if within 48 b 57 then Some (b - 48) else (if within 65 b 70 then Some (b - 65 + 10) else (if within 97 b 102 then Some (b - 97 + 10) else None))
+digit_value b =
+    if within 48 b 57 then Some (b - 48)
+    else (if within 65 b 70 then Some (b - 65 + 10)
+    else (if within 97 b 102 then Some (b - 97 + 10)
+    else None))
 
 -- the byte that two digits spell, the higher first
 unfoldable pub byte_in : ℕ → ℕ → Option ℕ

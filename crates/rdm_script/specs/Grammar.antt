@@ -1,4 +1,4 @@
--- What a script says, by lines and words.
+-- How a script is read, by lines and words: the reader's view of what Spelling.antt defines.
 use Rattle.std.specs.Prelude.{◌≡◌, ◌≢◌, ℕ, ◌-◌, ◌<◌, ◌≤◌, Bool, not, ◌||◌, ◌==◌, if◌then◌else◌, List, [], ◌∷◌, length, take, drop, filter, map, slice_index, slice_index_or, slice_get, Option, Some, None, nat_le, All, codes}
 use Rattle.std.specs.Int.{w16, w32}
 use Rattle.std.specs.Str.{bytes_eq}
@@ -10,10 +10,10 @@ use Rattle.rdm_script.specs.declared.command.Action.TheVariants.{Disc, Get, Set}
 use Rattle.rdm_script.specs.declared.command.Command.{Command}
 use Rattle.rdm_script.specs.declared.script.Step.{Step}
 use Rattle.rdm_script.specs.declared.script.Step.TheVariants.{Ask}
-use Rattle.rdm_script.specs.declared.reading.Line.{Line}
-use Rattle.rdm_script.specs.declared.reading.Line.TheVariants.{Skipped, Says, Faulty}
-use Rattle.rdm_script.specs.declared.parsing.ScriptError.{ScriptError}
-use Rattle.rdm_script.specs.declared.parsing.ScriptError.TheVariants as errors
+use Rattle.rdm_script.specs.declared.grammar.line.Line.{Line}
+use Rattle.rdm_script.specs.declared.grammar.line.Line.TheVariants.{Skipped, Says, Faulty}
+use Rattle.rdm_script.specs.declared.grammar.parsing.ScriptError.{ScriptError}
+use Rattle.rdm_script.specs.declared.grammar.parsing.ScriptError.TheVariants as errors
 use Rattle.rdm_script.specs.Parties.{device, all_devices, all_of_maker}
 use Rattle.rdm_script.specs.Digits.{◌>>=◌, bytes_in, number_in}
 
@@ -61,8 +61,12 @@ command_in action dst sub pid load = do
 abbrev pub is_blank : ℕ → Bool
 is_blank b = b == 32 || b == 9
 
+-- what stands between blanks is a word, unless it is empty
+abbrev pub is_word : List ℕ → Bool
+is_word piece = not (length piece == 0)
+
 abbrev pub words_of : List ℕ → List (List ℕ)
-words_of line = filter (λ word. not (length word == 0)) (slice_split is_blank line)
+words_of line = filter is_word (slice_split is_blank line)
 
 abbrev pub word : List (List ℕ) → ℕ → List ℕ
 word words i = slice_index_or words i []
@@ -120,8 +124,8 @@ RefusesLines errors.OutOfMemory said = Unit {0}
 RefusesLines errors.TooLong said = ⊥
 RefusesLines (errors.Line number) said = IsFirstFaulty said number
 
--- The text is a script of these steps.
-pub record IsScript (text : List ℕ) (steps : List Step) : Type 0 where
+-- The reader's view of a script of these steps: no line is read as faulty, and they are what is read.
+pub record IsRead (text : List ℕ) (steps : List Step) : Type 0 where
   pub within : length text ≤ 65536
   pub says : AreSteps (said_by (lines_of text)) steps
 

@@ -1,5 +1,6 @@
 pub mod BusRun
 pub mod Digits
+pub mod ErrorLine
 pub mod Grammar
 pub mod Parties
 pub mod Program

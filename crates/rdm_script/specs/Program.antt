@@ -1,14 +1,16 @@
 -- What the program makes of its input.
-use Rattle.std.specs.Prelude.{◌≡◌, ◌≢◌, ℕ, List, Some}
+use Rattle.std.specs.Prelude.{◌≡◌, ◌≢◌, ℕ, List, take, Option, Some, IfSome, Result, Ok, Err, ⊤}
+use Rattle.std.specs.Io.KnownBytes.{Keeps, Appends}
 use Rattle.rdm_script.specs.declared.script.Step.{Step}
 use Rattle.rdm_script.specs.declared.event.Event.{Event}
-use Rattle.rdm_script.specs.declared.parsing.ScriptError.{ScriptError}
-use Rattle.rdm_script.specs.declared.parsing.ScriptError.TheVariants as script
-use Rattle.rdm_script.specs.declared.running.RunError.{RunError}
-use Rattle.rdm_script.specs.declared.running.RunError.TheVariants as run
+use Rattle.rdm_script.specs.declared.grammar.parsing.ScriptError.{ScriptError}
+use Rattle.rdm_script.specs.declared.grammar.parsing.ScriptError.TheVariants as script
+use Rattle.rdm_script.specs.declared.controller.RunError.{RunError}
+use Rattle.rdm_script.specs.declared.controller.RunError.TheVariants as run
 use Rattle.rdm_script.specs.declared.program.ProgramError.{ProgramError}
 use Rattle.rdm_script.specs.declared.program.ProgramError.TheVariants.{Read, Script, Memory, Run, Write}
-use Rattle.rdm_script.specs.Grammar.{IsScript, Refuses}
+use Rattle.rdm_script.specs.Grammar.{Refuses}
+use Rattle.rdm_script.specs.Spelling.{IsScript}
 use Rattle.rdm_script.specs.BusRun.{IsBusRun, start, first_refusal}
 use Rattle.rdm_script.specs.TraceText.{trace_text}
 
@@ -35,13 +37,27 @@ IsFailure Memory input = Unit {0}
 IsFailure (Run e) input = IsStopped input e × (e ≢ run.OutOfMemory)
 IsFailure Write input = Unit {0}
 
--- the exit status of a program that ends so
+-- What a failure leaves on the output: nothing, but where the writer failed a front of the text.
+abbrev pub Leaves : ProgramError → Option (List ℕ) → Option (List ℕ) → Option (List ℕ) → Type 0
+Leaves Read input old new = Keeps old new
+Leaves (Script e) input old new = Keeps old new
+Leaves Memory input old new = Keeps old new
+Leaves (Run e) input old new = Keeps old new
+Leaves Write input old new =
+    IfSome input (λ bytes. (text : List ℕ) × (count : ℕ) × IsTraceOf bytes text × Appends old new (take count text))
+
+-- the exit status of a program that fails so
 abbrev pub status_of : ProgramError → ℕ
 status_of (Script e) = 1
 status_of Memory = 2
 status_of (Run e) = 3
 status_of Read = 4
 status_of Write = 4
+
+-- the exit status of a program that ends so
+abbrev pub outcome_status : Result ⊤ ProgramError → ℕ
+outcome_status (Ok done) = 0
+outcome_status (Err e) = status_of e
 
 -- how each fault of the script and of the run is told
 abbrev pub fault_of_script : ScriptError → ProgramError

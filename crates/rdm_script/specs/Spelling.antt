@@ -1,6 +1,6 @@
--- How commands are spelled: what the words of a line have to be. What stands for bytes is what a trace prints of them,
--- but for the case of its digits.
-use Rattle.std.specs.Prelude.{◌≡◌, ℕ, ◌-◌, ◌<◌, ◌≤◌, ◌^◌, ◌⊎◌, List, [], ◌∷◌, ◌++◌, length, map, if◌then◌else◌, codes}
+-- What a script is: how its lines spell commands, word by word. Bytes are spelled as a trace prints them, with digits of
+-- either case.
+use Rattle.std.specs.Prelude.{◌≡◌, true, false, ℕ, ◌-◌, ◌<◌, ◌≤◌, ◌^◌, ◌⊎◌, List, [], ◌∷◌, ◌++◌, length, map, if◌then◌else◌, codes}
 use Rattle.std.specs.List.{AllByRecursion}
 use Rattle.std.specs.Int.{Width, w16, w32, byte_len, to_be_bytes}
 use Rattle.rdm_frame.specs.declared.uid.Uid.{Uid}
@@ -10,7 +10,9 @@ use Rattle.rdm_script.specs.declared.command.Command.{Command}
 use Rattle.rdm_script.specs.Digits.{within}
 use Rattle.rdm_script.specs.TraceText.{digits}
 use Rattle.rdm_script.specs.Parties.{device, all_devices, all_of_maker}
-use Rattle.rdm_script.specs.Grammar.{word}
+use Rattle.rdm_script.specs.declared.script.Step.{Step}
+use Rattle.rdm_script.specs.declared.script.Step.TheVariants.{Ask}
+use Rattle.rdm_script.specs.Grammar.{word, is_skipped, words_of, lines_of}
 
 -- a letter in upper case, and what is no letter as it is
 abbrev pub upper : ℕ → ℕ
@@ -36,7 +38,9 @@ pub record SpellsUid (text : List ℕ) (u : Uid) : Type 0 where
 -- The word says whom a command is for: by a name, or by a UID.
 abbrev pub SpellsDestination : List ℕ → Uid → Type 0
 SpellsDestination text u =
-    ((text ≡ codes "dev") × (u ≡ device)) ⊎ (((text ≡ codes "all") × (u ≡ all_devices)) ⊎ (((text ≡ codes "maker") × (u ≡ all_of_maker)) ⊎ SpellsUid text u))
+    ((text ≡ codes "dev") × (u ≡ device)) ⊎
+    (((text ≡ codes "all") × (u ≡ all_devices)) ⊎
+    (((text ≡ codes "maker") × (u ≡ all_of_maker)) ⊎ SpellsUid text u))
 
 -- The word is the data of a command: a hyphen for none, or at most 255 bytes.
 abbrev pub SpellsLoad : List ℕ → List ℕ → Type 0
@@ -56,3 +60,16 @@ pub record SpellsCommand (words : List (List ℕ)) (c : Command) : Type 0 where
   pub sub : SpellsNumber w16 (word words 2) c.sub
   pub pid : SpellsNumber w16 (word words 3) c.pid
   pub load : SpellsLoad (word words 4) c.load
+
+-- What the lines of a script say, each taken by its words: a line without words or a comment says nothing, and every
+-- other one says the command that its words spell.
+abbrev pub SpellSteps : List (List (List ℕ)) → List Step → Type 0
+SpellSteps [] steps = steps ≡ []
+SpellSteps (words ∷ more) steps =
+    ((is_skipped words ≡ true) × SpellSteps more steps) ⊎
+    ((is_skipped words ≡ false) × (c : Command) × (rest : List Step) × (steps ≡ Ask c ∷ rest) × SpellsCommand words c × SpellSteps more rest)
+
+-- The text is a script of these steps: it has at most 65,536 bytes, and its lines say them in order.
+pub record IsScript (text : List ℕ) (steps : List Step) : Type 0 where
+  pub within : length text ≤ 65536
+  pub says : SpellSteps (map words_of (lines_of text)) steps

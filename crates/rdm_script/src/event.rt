@@ -1,6 +1,7 @@
 //! What happens when a script is played.
 
 use rdm_frame::Wire;
+use rdm_outbox::Job;
 
 /// What the controller takes the bytes of an answer for.
 #[derive(Clone, Copy, Debug, PartialEq, Eq)]
@@ -20,6 +21,8 @@ pub enum Event {
         sent: Wire,
         /// The bytes of the reply, if there was one.
         reply: Option<Wire>,
+        /// The job that the request started, if it started one.
+        job: Option<Job>,
         /// What the controller took the reply for; `None` where no bytes reached it.
         heard: Option<Heard>,
     },

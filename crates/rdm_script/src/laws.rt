@@ -2,13 +2,13 @@
 
 ghost use Rattle.std.specs.Prelude.{◌≡◌, ◌↔◌, ℕ, List, Some, false};
 ghost use Rattle.rdm_script.specs.Digits.{bytes_in};
-ghost use Rattle.rdm_script.specs.Spelling.{SpellsBytes, SpellsCommand};
-ghost use Rattle.rdm_script.specs.Grammar.{is_skipped, line_in, IsScript, Refuses};
+ghost use Rattle.rdm_script.specs.Spelling.{SpellsBytes, SpellsCommand, IsScript};
+ghost use Rattle.rdm_script.specs.Grammar.{is_skipped, line_in, Refuses};
 ghost use Rattle.rdm_script.specs.declared.command.Command.{Command};
-ghost use Rattle.rdm_script.specs.declared.reading.Line.TheVariants.{Says};
+ghost use Rattle.rdm_script.specs.declared.grammar.line.Line.TheVariants.{Says};
 ghost use Rattle.rdm_script.specs.declared.script.Step.TheVariants.{Ask};
-ghost use Rattle.rdm_script.specs.declared.parsing.ScriptError.{ScriptError as Refusal};
-ghost use Rattle.rdm_script.specs.declared.parsing.ScriptError.TheVariants.{OutOfMemory};
+ghost use Rattle.rdm_script.specs.declared.grammar.parsing.ScriptError.{ScriptError as Refusal};
+ghost use Rattle.rdm_script.specs.declared.grammar.parsing.ScriptError.TheVariants.{OutOfMemory};
 ghost use Rattle.rdm_script.specs.declared.script.Step.{Step as TheStep};
 
 /// No byte list is two scripts.

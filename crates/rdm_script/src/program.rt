@@ -1,42 +1,52 @@
 //! From a reader to a writer: the script that is read is played, and its trace is written.
 
-ghost use Rattle.std.specs.Prelude.{◌≡◌, ◌≢◌, ◌≤◌, ℕ, List, length, take, OnOk, OnErr, ◌⊎◌, IfOk, IfErr, IfSome, MatchResult};
-ghost use Rattle.std.specs.Io.KnownBytes.{Keeps, Appends, Consumes, IsAtEnd, ReadConsumes};
+ghost use Rattle.std.specs.Prelude.{◌≡◌, ◌≢◌, ℕ, List, take, OnOk, IfOk, IfErr, IfSome};
+ghost use Rattle.std.specs.Io.KnownBytes.{Keeps, Appends, IsAtEnd};
 ghost use Rattle.rdm_script.specs.Program.{IsTraceOf, IsFailure, status_of, fault_of_script, fault_of_run};
 ghost use Rattle.rdm_script.specs.declared.program.ProgramError.TheVariants.{Memory, Read as ReadFault, Write as WriteFault};
 
-use crate::parsing::{MOST_BYTES, ScriptError, parse};
-use crate::running::{RunError, run};
+use crate::controller::{RunError, run};
+use crate::grammar::{ScriptError, parse};
+use crate::streams::{read_input, write_text};
 use crate::trace::trace_text;
 use std::alloc::{AllocError, Global};
+use std::error::Error;
+use std::fmt;
 use std::io::{Read, Write};
-use thiserror::Error;
-
-/// How many bytes are read at most: one more than a script may have.
-const MOST_READ: usize = MOST_BYTES + 1;
-
-/// How many bytes are read at once.
-const PIECE: usize = 1024;
 
 /// Why the program couldn't do its work.
-#[derive(Clone, Copy, Debug, PartialEq, Eq, Error)]
+#[derive(Clone, Copy, Debug, PartialEq, Eq)]
 pub enum ProgramError {
     /// The reader failed.
-    #[error("read")]
     Read,
     /// What was read is no script. It is never want of memory.
-    #[error("{0}")]
     Script(ScriptError),
     /// Memory was wanted and refused.
-    #[error("out of memory")]
     Memory,
     /// The script can't be played to its end. It is never want of memory.
-    #[error("run {0}")]
     Run(RunError),
     /// The writer failed, or took no byte.
-    #[error("write")]
     Write,
 }
+
+impl fmt::Display for ProgramError {
+    ghost use Rattle.std.specs.Prelude.{Some};
+    ghost use Rattle.rdm_script.specs.ErrorLine.{error_words};
+
+    ghost output = { λ e. Some (error_words e) };
+
+    fn fmt<W: fmt::Write>(&self, f: &mut fmt::Formatter<W>) -> fmt::Result {
+        match self {
+            ProgramError::Read => f.write_str("read"),
+            ProgramError::Script(fault) => write!(f, "{fault}"),
+            ProgramError::Memory => f.write_str("out of memory"),
+            ProgramError::Run(fault) => write!(f, "run {fault}"),
+            ProgramError::Write => f.write_str("write"),
+        }
+    }
+}
+
+impl Error for ProgramError {}
 
 impl ProgramError {
     /// The exit status of a program that ends so.
@@ -117,64 +127,4 @@ fn play(alloc: Global, input: &[u8]) -> Result<Vec<u8>, ProgramError>
     let script = parse(alloc, input)?;
     let events = run(alloc, &script.steps)?;
     Ok(trace_text(alloc, &events)?)
-}
-
-/// All that a reader gives, or the first 65,537 bytes of it.
-fn read_input<R: Read>(alloc: Global, reader: &mut R) -> Result<Vec<u8>, ProgramError>
-    ensures bytes { IfOk result (λ input. Consumes (R.remaining reader.old) (R.remaining reader.new) input.items) }
-    ensures end { IfOk result (λ input. length input.items ≤ 65536 → IsAtEnd (R.remaining reader.new)) }
-    ensures err { IfErr result (λ e. (e ≡ ReadFault) ⊎ (e ≡ Memory)) }
-{
-    let mut input = Vec::new(alloc);
-    let mut piece = [0u8; PIECE];
-    while input.len() < MOST_READ {
-        let room = PIECE.min(MOST_READ - input.len());
-        let count = read_some(reader, &mut piece[..room])?;
-        if count == 0 {
-            break;
-        }
-        input.extend_from_slice(&piece[..count])?;
-    }
-    Ok(input)
-}
-
-/// One read. A read that fails is a fault.
-fn read_some<R: Read>(reader: &mut R, piece: &mut [u8]) -> Result<usize, ProgramError>
-    ensures bytes { ReadConsumes (R.remaining reader.old) (R.remaining reader.new) result piece.new }
-    ensures within { IfOk result (λ count. count ≤ length piece.new) }
-    ensures err { IfErr result (λ e. e ≡ ReadFault) }
-{
-    match reader.read(piece) {
-        Ok(count) => Ok(count),
-        Err(_) => Err(ProgramError::Read),
-    }
-}
-
-/// Writes the whole text, in as many writes as the writer wants.
-fn write_text<W: Write>(writer: &mut W, text: &[u8]) -> Result<(), ProgramError>
-    ensures ok { OnOk result (Appends (W.contents writer.old) (W.contents writer.new) text.now) }
-    ensures front { OnErr result ((count : ℕ) × Appends (W.contents writer.old) (W.contents writer.new) (take count text.now)) }
-    ensures err { IfErr result (λ e. e ≡ WriteFault) }
-{
-    let mut written = 0;
-    while written < text.len() {
-        let count = write_some(writer, &text[written..])?;
-        if count == 0 {
-            return Err(ProgramError::Write);
-        }
-        written += count;
-    }
-    Ok(())
-}
-
-/// One write. A write that fails is a fault.
-fn write_some<W: Write>(writer: &mut W, bytes: &[u8]) -> Result<usize, ProgramError>
-    ensures bytes { MatchResult result
-        (λ count. (count ≤ length bytes.now) × Appends (W.contents writer.old) (W.contents writer.new) (take count bytes.now))
-        (λ e. (e ≡ WriteFault) × Keeps (W.contents writer.old) (W.contents writer.new)) }
-{
-    match writer.write(bytes) {
-        Ok(count) => Ok(count),
-        Err(_) => Err(ProgramError::Write),
-    }
 }

@@ -1,5 +1,8 @@
 //! What no contract says: that scripts print what they should, and that the words of each fault are right.
 
+mod endings;
+mod examples;
+mod large;
 mod scripts;
 mod streams;
 

@@ -1,6 +1,10 @@
 //! How a job ends.
 
-use crate::Severity;
+ghost use Rattle.std.specs.Prelude.{◌≡◌};
+ghost use Rattle.rdm_params.specs.Slow.Outcome.{fits};
+
+use crate::slow::work::is_slow;
+use crate::{Severity, Verb, Work};
 
 /// How a job ended.
 #[derive(Clone, Copy, Debug, PartialEq, Eq)]
@@ -20,4 +24,18 @@ pub enum Outcome {
         /// The second value that the text names.
         v2: u16,
     },
+}
+
+/// Whether a job of this work can end so: a slow SET with `Done`, a GET of a sensor with `Reading`, and each with
+/// `Failed`. It is false where the work is no slow command.
+pub fn fits(work: &Work, outcome: &Outcome) -> bool
+    ensures { result ≡ fits work.now outcome.now }
+{
+    is_slow(work)
+        && matches!(
+            (work.verb, outcome),
+            (Verb::Set, Outcome::Done)
+                | (Verb::Get, Outcome::Reading(_))
+                | (_, Outcome::Failed { .. })
+        )
 }

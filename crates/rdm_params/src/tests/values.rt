@@ -1,45 +1,64 @@
 //! Values, kinds and codes.
 
 use super::*;
-use rdm_frame::{Body, Text};
 
 #[test]
 fn codes_and_kinds(rt: HostRuntime) {
-    assert_eq!(rt; Nack::UnknownPid.code(), 0);
-    assert_eq!(rt; Nack::FormatError.code(), 1);
-    assert_eq!(rt; Nack::UnsupportedCommandClass.code(), 5);
-    assert_eq!(rt; Nack::DataOutOfRange.code(), 6);
-    assert_eq!(rt; Nack::BufferFull.code(), 7);
-    assert_eq!(rt; Nack::SubDeviceOutOfRange.code(), 9);
+    let codes = [
+        (Nack::UnknownPid, 0),
+        (Nack::FormatError, 1),
+        (Nack::UnsupportedCommandClass, 5),
+        (Nack::DataOutOfRange, 6),
+        (Nack::BufferFull, 7),
+        (Nack::SubDeviceOutOfRange, 9),
+    ];
+    for (nack, code) in codes {
+        assert_eq!(rt; nack.code(), code);
+    }
     assert_eq!(rt; kind_of(0x1000), Some(Kind::IdentifyDevice));
     assert_eq!(rt; kind_of(0x1001), None);
+    assert_eq!(rt; Kind::DmxStartAddress.pid(), 0x00F0);
+    assert_eq!(rt; Kind::DmxStartAddress.name(), "DMX_START_ADDRESS");
+    assert_eq!(rt; Kind::PerformSelfTest.name(), "PERFORM_SELFTEST");
 }
 
 #[test]
-fn values_are_read_and_written(rt: HostRuntime) -> Result<(), Fail> {
-    let devices = demo(&rt)?;
-    let value = read_value(Kind::DmxStartAddress, Verb::Set, &[2, 1])
-        .ok()
-        .ok_or("two slots")?;
-    assert!(rt; matches!(value, Value::Word(513)));
-    assert_eq!(rt; write_value(&value).as_slice(), [2, 1].as_slice());
-    assert!(rt; !devices.in_range(0, Kind::DmxStartAddress, Verb::Set, &value));
-    assert!(rt; devices.in_range(0, Kind::DmxStartAddress, Verb::Set, &Value::Word(512)));
-    assert!(rt; !devices.in_range(0, Kind::DmxStartAddress, Verb::Set, &Value::Byte(1)));
-    assert!(rt; devices.in_range(0, Kind::DmxStartAddress, Verb::Get, &Value::Nothing));
-    assert!(rt; !devices.in_range(1, Kind::DmxStartAddress, Verb::Get, &Value::Nothing));
-    assert!(rt; !devices.in_range(0, Kind::BootSoftwareVersionId, Verb::Set, &Value::Nothing));
-    assert!(rt;
-        matches!(
-            read_value(Kind::BootSoftwareVersionId, Verb::Set, &[]),
-            Err(Nack::FormatError)
-        )
-    );
-    Ok(())
+fn values_are_read_and_written(rt: HostRuntime) {
+    let value = read_value(Kind::DmxStartAddress, Verb::Set, &[2, 1]);
+    assert!(rt; matches!(&value, Ok(Value::Word(513))), "{value:?}");
+    let written = write_value(&Value::Word(513));
+    assert_eq!(rt; written.as_slice(), [2, 1].as_slice());
+    let none = read_value(Kind::BootSoftwareVersionId, Verb::Set, &[]);
+    assert_eq!(rt; none.err(), Some(Nack::FormatError));
 }
 
-fn text(bytes: &[u8]) -> Result<Text, Fail> {
-    Ok(Text::from_slice(bytes).ok_or("a short text")?)
+#[test]
+fn a_range_is_asked_for_without_a_command(rt: HostRuntime) -> Result<(), Fail> {
+    let devices = demo(&rt)?;
+    let start = Kind::DmxStartAddress;
+    let cases = [
+        (0, start, Verb::Set, Value::Word(512), true),
+        (0, start, Verb::Set, Value::Word(513), false),
+        (0, start, Verb::Set, Value::Byte(1), false),
+        (0, start, Verb::Set, Value::Pair(1, 2), false),
+        (0, start, Verb::Get, Value::Nothing, true),
+        (1, start, Verb::Get, Value::Nothing, false),
+        (
+            0,
+            Kind::BootSoftwareVersionId,
+            Verb::Set,
+            Value::Nothing,
+            false,
+        ),
+    ];
+    for (sub, kind, verb, value, want) in &cases {
+        assert_eq!(rt;
+            devices.in_range(*sub, *kind, *verb, value),
+            *want,
+            "{value:?}"
+        );
+    }
+    Ok(())
 }
 
 #[test]

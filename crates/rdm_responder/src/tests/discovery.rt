@@ -1,15 +1,9 @@
 //! Replies of discovery (E1.20 section 7).
 
-use super::{
-    Answer, DISCOVERY, Exchange, Request, every_device_of, framed, plays, printed, to_device,
-};
+use super::{Answer, DISCOVERY, Exchange, Request, framed, plays, printed, to_device};
+use rdm_frame::Uid;
+use rdm_frame::standard::{DISC_MUTE, DISC_UN_MUTE, DISC_UNIQUE_BRANCH};
 use std::test::Fail;
-
-const DISC_UNIQUE_BRANCH: u16 = 0x0001;
-
-const DISC_MUTE: u16 = 0x0002;
-
-const DISC_UN_MUTE: u16 = 0x0003;
 
 /// Bounds of a branch: a lower and an upper UID. The device alone; from below it and to above it; below it; above it;
 /// and bounds that are crossed.
@@ -29,7 +23,7 @@ const BRANCH: Answer = Answer::Bytes("FEFEFEFEFEFEFEAA FF7FFAF5AA55AA55AA55AB55 
 /// A search of all devices.
 fn branch(slots: &'static [u8]) -> Request {
     Request {
-        dst: every_device_of(0xFFFF),
+        dst: Uid::ALL,
         ..to_device(0, DISCOVERY, 0, DISC_UNIQUE_BRANCH, slots)
     }
 }
@@ -37,9 +31,10 @@ fn branch(slots: &'static [u8]) -> Request {
 #[test]
 fn a_branch_has_the_printed_bytes(rt: HostRuntime) {
     let request = printed(
+        &rt,
         "CC0124 FFFFFFFFFFFF 7FF000000002 00 01 00 0000 10 0001 0C 7FF000000001 7FF000000001 0B5A",
     );
-    assert_eq!(rt; framed(branch(&OWN)), request);
+    assert_eq!(rt; framed(&rt, branch(&OWN)), request);
 }
 
 #[test]
@@ -66,7 +61,7 @@ fn discovery_has_the_printed_answers(rt: HostRuntime) -> Result<(), Fail> {
         &[
             (
                 Request {
-                    dst: every_device_of(0xFFFF),
+                    dst: Uid::ALL,
                     ..mute
                 },
                 silence,
@@ -74,7 +69,7 @@ fn discovery_has_the_printed_answers(rt: HostRuntime) -> Result<(), Fail> {
             (branch(&OWN), silence),
             (
                 Request {
-                    dst: every_device_of(0x7FF0),
+                    dst: Uid::all_of(0x7FF0),
                     ..un_mute
                 },
                 silence,
@@ -82,7 +77,7 @@ fn discovery_has_the_printed_answers(rt: HostRuntime) -> Result<(), Fail> {
             (branch(&OWN), BRANCH),
             (
                 Request {
-                    dst: every_device_of(0x7FF0),
+                    dst: Uid::all_of(0x7FF0),
                     ..mute
                 },
                 silence,

@@ -1,23 +1,34 @@
 //! Requests and replies of IDENTIFY_DEVICE.
 
 use super::{
-    Answer, DISCOVERY, Exchange, GET, Request, SET, every_device_of, framed, plays, printed, reply,
-    responder, to_device,
+    Answer, DISCOVERY, Exchange, GET, Request, SET, framed, plays, printed, reply, responder_with,
+    to_device,
 };
+use crate::{Input, Output};
+use rdm_frame::Uid;
 use std::test::Fail;
 
 const IDENTIFY_DEVICE: u16 = 0x1000;
 
 #[test]
 fn requests_have_the_printed_bytes(rt: HostRuntime) {
-    let get = printed("CC0118 7FF000000001 7FF000000002 00 01 00 0000 20 1000 00 03F7");
-    assert_eq!(rt; framed(to_device(0, GET, 0, IDENTIFY_DEVICE, &[])), get);
-    let set = printed("CC0119 FFFFFFFFFFFF 7FF000000002 00 01 00 0000 30 1000 01 01 0894");
+    let get = printed(
+        &rt,
+        "CC0118 7FF000000001 7FF000000002 00 01 00 0000 20 1000 00 03F7",
+    );
+    assert_eq!(rt;
+        framed(&rt, to_device(0, GET, 0, IDENTIFY_DEVICE, &[])),
+        get
+    );
+    let set = printed(
+        &rt,
+        "CC0119 FFFFFFFFFFFF 7FF000000002 00 01 00 0000 30 1000 01 01 0894",
+    );
     let all = Request {
-        dst: every_device_of(0xFFFF),
+        dst: Uid::ALL,
         ..to_device(0, SET, 0, IDENTIFY_DEVICE, &[1])
     };
-    assert_eq!(rt; framed(all), set);
+    assert_eq!(rt; framed(&rt, all), set);
 }
 
 #[test]
@@ -33,7 +44,7 @@ fn requests_have_the_printed_answers(rt: HostRuntime) -> Result<(), Fail> {
     let get = to_device(0, GET, 0, IDENTIFY_DEVICE, &[]);
     let get_later = to_device(2, GET, 0, IDENTIFY_DEVICE, &[]);
     let set = to_device(0, SET, 0, IDENTIFY_DEVICE, &[1]);
-    let [all, own, other] = [0xFFFF, 0x7FF0, 0x7FF1].map(every_device_of);
+    let [all, own, other] = [0xFFFF, 0x7FF0, 0x7FF1].map(Uid::all_of);
     let runs: &[&[Exchange]] = &[
         &[(get, off)],
         &[(Request { sub: 0xFFFF, ..set }, no_sub)],
@@ -85,21 +96,35 @@ fn requests_have_the_printed_answers(rt: HostRuntime) -> Result<(), Fail> {
 
 #[test]
 fn an_altered_request_has_no_answer(rt: HostRuntime) -> Result<(), Fail> {
-    let altered = printed("CC0119 7FF000000001 7FF000000002 00 01 00 0000 20 1000 00 03F7");
-    assert_eq!(rt; responder(rt.alloc(), 0)?.step(altered.as_slice()), None);
+    let altered = printed(
+        &rt,
+        "CC0119 7FF000000001 7FF000000002 00 01 00 0000 20 1000 00 03F7",
+    );
+    assert_eq!(rt;
+        responder_with(rt.alloc(), 0, 8)?.step(altered.as_slice()),
+        (None, None)
+    );
     Ok(())
 }
 
 #[test]
 fn a_whole_run_is_answered_in_order(rt: HostRuntime) -> Result<(), Fail> {
-    let set = framed(Request {
-        dst: every_device_of(0xFFFF),
-        ..to_device(0, SET, 0, IDENTIFY_DEVICE, &[1])
-    });
-    let get = framed(to_device(2, GET, 0, IDENTIFY_DEVICE, &[]));
-    let on = reply("02 00 00 0000 21 1000 01 01 03FC");
-    let mut responder = responder(rt.alloc(), 0)?;
-    let answers = responder.step_all(rt.alloc(), &[set.as_slice(), get.as_slice()])?;
-    assert_eq!(rt; answers.as_slice(), [None, Some(on)].as_slice());
+    let set = framed(
+        &rt,
+        Request {
+            dst: Uid::ALL,
+            ..to_device(0, SET, 0, IDENTIFY_DEVICE, &[1])
+        },
+    );
+    let get = framed(&rt, to_device(2, GET, 0, IDENTIFY_DEVICE, &[]));
+    let on = reply(&rt, "02 00 00 0000 21 1000 01 01 03FC");
+    let mut responder = responder_with(rt.alloc(), 0, 8)?;
+    let inputs = [Input::Heard(set.as_slice()), Input::Heard(get.as_slice())];
+    let outputs = responder.step_all(rt.alloc(), &inputs)?;
+    let expected = [
+        Output::Answered(None, None),
+        Output::Answered(Some(on), None),
+    ];
+    assert_eq!(rt; outputs.as_slice(), expected.as_slice());
     Ok(())
 }

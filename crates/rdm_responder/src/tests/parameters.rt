@@ -34,14 +34,10 @@ fn scalar_parameters_have_the_printed_answers(rt: HostRuntime) -> Result<(), Fai
                 Answer::Reply("04 00 00 0000 21 00F0 02 0200 04E1"),
             ),
         ],
-        // A parameter that can't be set, a slow command, and a preset that there isn't.
+        // A parameter that can't be set, and a preset that there isn't.
         &[(
             to_device(0, SET, 0, 0x00C1, &[]),
             Answer::Reply("00 02 00 0000 31 00C1 02 0005 04C3"),
-        )],
-        &[(
-            to_device(0, SET, 0, 0x0403, &[1]),
-            Answer::Reply("00 02 00 0000 31 0403 02 0007 040B"),
         )],
         &[(
             to_device(0, SET, 0, 0x1031, &[0, 5, 0x80]),
@@ -99,11 +95,6 @@ fn texts_lists_and_sensors_have_the_printed_answers(rt: HostRuntime) -> Result<(
         &[(
             to_device(0, SET, 0, 0x0201, &[0xFF]),
             Answer::Reply("00 00 00 0000 31 0201 09 FF 0000 0000 0000 0000 050B"),
-        )],
-        // A GET of a sensor's value is slow.
-        &[(
-            to_device(0, GET, 0, 0x0201, &[0]),
-            Answer::Reply("00 02 00 0000 21 0201 02 0007 03F7"),
         )],
     ];
     for run in runs {

@@ -2,17 +2,17 @@
 
 use super::{FIRST_SCRIPT, FIRST_TRACE, played};
 use crate::command::{Action, Command};
+use crate::controller::{RunError, heard_as};
 use crate::event::Heard;
-use crate::parsing::ScriptError;
+use crate::grammar::ScriptError;
 use crate::parties::DEVICE;
 use crate::program::ProgramError;
-use crate::running::{RunError, heard_as};
 use rdm_frame::Load;
 use std::alloc::{AllocError, Global};
 use std::test::Fail;
 
 /// Scripts beside what they print.
-const PLAYED: [(&str, &str); 9] = [
+const PLAYED: [(&str, &str); 10] = [
     ("", "end\n"),
     (FIRST_SCRIPT, FIRST_TRACE),
     // A broadcast is obeyed and not answered.
@@ -64,6 +64,16 @@ reply CC01197FF0000000027FF0000000010100000000211000010103FB
 heard reply
 send CC01197FF0000000017FF00000000202010000003010000102040D
 reply CC011A7FF0000000027FF00000000102020000003110000200060415
+heard reply
+end
+",
+    ),
+    // A slow command starts a job.
+    (
+        "set dev 0000 0403 01\n",
+        "send CC01197FF0000000017FF000000002000100000030040301010401
+reply CC011A7FF0000000027FF00000000100010000003104030200320435
+job 0 0
 heard reply
 end
 ",
@@ -269,29 +279,6 @@ fn reads_up_to_the_longest_script(rt: HostRuntime) -> Result<(), Fail> {
     let (outcome, written) = played(rt.alloc(), &script);
     assert_eq!(rt; outcome, Err(ProgramError::Script(ScriptError::TooLong)));
     assert!(rt; written.is_empty());
-    Ok(())
-}
-
-#[test]
-fn names_each_fault(rt: HostRuntime) -> Result<(), Fail> {
-    let cases = [
-        (ProgramError::Script(ScriptError::Line(12)), 1, "line 12"),
-        (
-            ProgramError::Script(ScriptError::TooLong),
-            1,
-            "script too long",
-        ),
-        (ProgramError::Memory, 2, "out of memory"),
-        (ProgramError::Run(RunError::Reserved), 3, "run reserved"),
-        (ProgramError::Run(RunError::TooLong), 3, "run too long"),
-        (ProgramError::Read, 4, "read"),
-        (ProgramError::Write, 4, "write"),
-    ];
-    for (fault, status, words) in cases {
-        assert_eq!(rt; fault.status(), status, "{words}");
-        let text = format!(in rt.alloc(); "{fault}")?;
-        assert_eq!(rt; text.as_str(), words);
-    }
     Ok(())
 }
 

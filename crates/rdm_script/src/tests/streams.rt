@@ -1,33 +1,38 @@
 //! Readers and writers that take their time, that fail, and that never end.
 
 use super::{FIRST_SCRIPT, FIRST_TRACE};
-use crate::parsing::ScriptError;
+use crate::grammar::ScriptError;
 use crate::program::{ProgramError, run_script};
 use std::alloc::Global;
 use std::io;
 use std::io::{Read, Write};
 use std::test::Fail;
 
-/// A reader that gives one byte a call, and may fail after some.
+/// A reader that gives the first script byte by byte, then nothing, and then starts over. One call may fail.
 #[derive(Drop)]
-struct Drip<'a> {
-    text: &'a [u8],
+struct Drip {
+    calls: usize,
     given: usize,
-    fails_after: Option<usize>,
+    fails_at: Option<usize>,
 }
 
-impl Read for Drip<'_> {
+impl Read for Drip {
     fn read(&mut self, buf: &mut [u8]) -> io::Result<usize> {
-        if self.fails_after == Some(self.given) {
-            return Err(io::Error::from(io::ErrorKind::BrokenPipe));
+        let call = self.calls;
+        self.calls = call.saturating_add(1);
+        if self.fails_at == Some(call) {
+            return Err(io::Error::from(io::ErrorKind::Interrupted));
         }
-        match (self.text.get(self.given), buf.first_mut()) {
+        match (FIRST_SCRIPT.as_bytes().get(self.given), buf.first_mut()) {
             (Some(byte), Some(place)) => {
                 *place = *byte;
                 self.given = self.given.saturating_add(1);
                 Ok(1)
             }
-            _ => Ok(0),
+            _ => {
+                self.given = 0;
+                Ok(0)
+            }
         }
     }
 }
@@ -48,8 +53,8 @@ impl Read for Endless {
 
 /// A writer that takes so many bytes a call, and may fail after some.
 #[derive(Drop)]
-struct Sink {
-    taken: Vec<u8>,
+pub(super) struct Sink {
+    pub(super) taken: Vec<u8>,
     most: usize,
     fails_after: Option<usize>,
 }
@@ -73,15 +78,15 @@ impl Write for Sink {
     }
 }
 
-fn dripping(fails_after: Option<usize>) -> Drip<'static> {
+fn dripping(fails_at: Option<usize>) -> Drip {
     Drip {
-        text: FIRST_SCRIPT.as_bytes(),
+        calls: 0,
         given: 0,
-        fails_after,
+        fails_at,
     }
 }
 
-fn taking(alloc: Global, most: usize, fails_after: Option<usize>) -> Sink {
+pub(super) fn taking(alloc: Global, most: usize, fails_after: Option<usize>) -> Sink {
     Sink {
         taken: Vec::new(alloc),
         most,
@@ -91,20 +96,26 @@ fn taking(alloc: Global, most: usize, fails_after: Option<usize>) -> Sink {
 
 #[test]
 fn works_a_byte_at_a_time(rt: HostRuntime) -> Result<(), Fail> {
+    let mut reader = dripping(None);
     let mut writer = taking(rt.alloc(), 1, None);
-    let outcome = run_script(rt.alloc(), &mut dripping(None), &mut writer);
+    let outcome = run_script(rt.alloc(), &mut reader, &mut writer);
     assert_eq!(rt; outcome, Ok(()));
     assert_eq!(rt; writer.taken.as_slice(), FIRST_TRACE.as_bytes());
+    // A read that gives nothing is the end: there is none behind it.
+    assert_eq!(rt; reader.calls, FIRST_SCRIPT.len() + 1);
     Ok(())
 }
 
 #[test]
 fn tells_a_reader_that_fails(rt: HostRuntime) -> Result<(), Fail> {
-    for count in 0..=FIRST_SCRIPT.len() {
+    for call in 0..=FIRST_SCRIPT.len() {
+        let mut reader = dripping(Some(call));
         let mut writer = taking(rt.alloc(), 64, None);
-        let outcome = run_script(rt.alloc(), &mut dripping(Some(count)), &mut writer);
-        assert_eq!(rt; outcome, Err(ProgramError::Read), "after {count}");
-        assert!(rt; writer.taken.is_empty(), "after {count}");
+        let outcome = run_script(rt.alloc(), &mut reader, &mut writer);
+        assert_eq!(rt; outcome, Err(ProgramError::Read), "call {call}");
+        // What failed isn't tried again.
+        assert_eq!(rt; reader.calls, call + 1, "call {call}");
+        assert!(rt; writer.taken.is_empty(), "call {call}");
     }
     Ok(())
 }

@@ -1,5 +1,5 @@
 use Rattle.std.proofs.Common.{◌≡◌, ℕ, List, length}
-use Rattle.rdm_bench.specs.Replay.{packed, ArePackable}
+use Rattle.rdm_bench.specs.Packed.{packed, ArePackable}
 use Rattle.rdm_bench.proofs.Frames.{IsUnpackedTo}
 use Rattle.rdm_bench.proofs.packed.unpack.Given as goal
 

@@ -4,4 +4,4 @@ use Rattle.rdm_responder.proofs.responder.Responder.new.Goals as goal
 
 pub returns-clause-stands : goal.returns-clause-stands
 returns-clause-stands c =
-    stands_for_empty _ _ (record { uid = refl; queue_size = refl; parameters = c.in_ok-devices.ensures.ok; muted = refl })
+    stands_for_empty _ _ (record { uid = refl; parameters = c.in_ok-devices.ensures.ok; muted = refl; outbox = c.in-Ok.ensures.shows })

@@ -1,0 +1,50 @@
+//! Numbers of the standard (ANSI E1.20-2010) that frames carry and every layer names.
+
+/// The START code, slot 0 of every frame (section 6.2.1).
+pub const START_CODE: u8 = 0xCC;
+
+/// The sub-START code, slot 1 of every frame (section 6.2.2).
+pub const SUB_START_CODE: u8 = 0x01;
+
+/// The command class of a discovery request (table A-1).
+pub const DISCOVERY_COMMAND: u8 = 0x10;
+
+/// The command class of the response to a discovery request (table A-1).
+pub const DISCOVERY_COMMAND_RESPONSE: u8 = 0x11;
+
+/// The command class of a GET (table A-1).
+pub const GET_COMMAND: u8 = 0x20;
+
+/// The command class of the response to a GET (table A-1).
+pub const GET_COMMAND_RESPONSE: u8 = 0x21;
+
+/// The command class of a SET (table A-1).
+pub const SET_COMMAND: u8 = 0x30;
+
+/// The command class of the response to a SET (table A-1).
+pub const SET_COMMAND_RESPONSE: u8 = 0x31;
+
+/// The response type of a request that was carried out; its data are the reply's (table A-2, section 6.3.1).
+pub const ACK: u8 = 0x00;
+
+/// The response type of a request whose result comes later; its data are an estimate of 16 bits, in tenths of a
+/// second (table A-2, section 6.3.3).
+pub const ACK_TIMER: u8 = 0x01;
+
+/// The response type of a refused request; its data are a reason of 16 bits (table A-2, section 6.3.4).
+pub const NACK_REASON: u8 = 0x02;
+
+/// The parameter ID of the search for unmuted devices between two UIDs (section 7.5).
+pub const DISC_UNIQUE_BRANCH: u16 = 0x0001;
+
+/// The parameter ID that mutes a device (section 7.6).
+pub const DISC_MUTE: u16 = 0x0002;
+
+/// The parameter ID that un-mutes a device (section 7.6).
+pub const DISC_UN_MUTE: u16 = 0x0003;
+
+/// The sub-device number of the root device (section 9).
+pub const ROOT_DEVICE: u16 = 0x0000;
+
+/// The sub-device number by which a SET is for every sub-device at once (section 9).
+pub const SUB_DEVICE_ALL_CALL: u16 = 0xFFFF;

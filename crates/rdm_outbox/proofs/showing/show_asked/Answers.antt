@@ -1,0 +1,24 @@
+use Rattle.std.proofs.Common.{arith, sym, take}
+use Rattle.rdm_outbox.proofs.Entries.{said_shown, left_shown, room_shown, said_kept, left_kept, left_whole}
+use Rattle.rdm_outbox.proofs.showing.show_asked.Goals as goal
+use Rattle.rdm_outbox.proofs.showing.show_asked.Goals.{then-is_shown, else-is_shown}
+
+pub loop-at-preserved : goal.loop-at-preserved
+loop-at-preserved c =
+    elim c.if-is_shown.branch [
+      | then-is_shown w ↦ rw (w.body-is, w.room-is, w.entries-is, w.kept-is) (record {
+        said = rw w.append_entry.ensures (said_shown c.loop-at.body c.loop-at.room c.args.ask c.loop-at.entries c.loop-at.at _ _ (omega arith) (sym w.if-is_shown.ensures) c.loop-at.invariant.said);
+        left = left_shown (take c.loop-at.kept c.loop-at.entries) c.loop-at.room c.args.ask c.loop-at.entries c.loop-at.at _ _ (omega arith) (sym w.if-is_shown.ensures) c.loop-at.invariant.left;
+        room = rw w.append_entry.ensures (room_shown c.loop-at.body c.loop-at.room c.args.ask _ c.args.most (sym w.if-is_shown.ensures) c.loop-at.invariant.room);
+        kept = omega arith;
+      })
+      | else-is_shown w ↦ rw (w.body-is, w.room-is, w.entries-is, w.kept-is) (record {
+        said = said_kept c.loop-at.body c.loop-at.room c.args.ask c.loop-at.entries c.loop-at.kept c.loop-at.at _ _ c.loop-at.invariant.kept (omega arith) (sym w.if-is_shown.ensures) c.loop-at.invariant.said;
+        left = left_kept c.loop-at.room c.args.ask c.loop-at.entries c.loop-at.kept c.loop-at.at _ _ c.loop-at.invariant.kept (omega arith) (sym w.if-is_shown.ensures) c.loop-at.invariant.left;
+        room = c.loop-at.invariant.room;
+        kept = omega arith;
+      })
+    ]
+
+pub returns-clause-left : goal.returns-clause-left
+returns-clause-left c = left_whole (take c.loop-at.kept c.loop-at.entries) c.loop-at.room c.args.ask c.loop-at.entries c.loop-at.at _ (omega arith) c.loop-at.invariant.left

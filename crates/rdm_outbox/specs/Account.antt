@@ -1,0 +1,29 @@
+-- What has happened to an outbox since it was made: lists that only grow, and a count. E1.20 sections 10.3.1 and 10.3.2.
+use Rattle.std.specs.Prelude.{ℕ, Bool, List, []}
+use Rattle.rdm_params.specs.declared.slow.message.Message.{Message}
+use Rattle.rdm_params.specs.declared.slow.status.Entry.{Entry}
+use Rattle.rdm_outbox.specs.declared.job.Job.{Job}
+
+-- a status entry that was noted, and whether a status message has shown it
+pub record Noted : Type 0 where
+  pub entry : Entry
+  pub shown : Bool
+
+-- The greatest number of jobs and messages together, and of jobs for each worker; the jobs that were accepted; the
+-- workers whose jobs have ended, one for each; the messages that arrived, and how many of them were given to the
+-- controller; the status entries; and the answers to QUEUED_MESSAGE and STATUS_MESSAGES, repeats left out. All of them in
+-- order of time.
+pub record Account : Type 0 where
+  pub q : ℕ
+  pub jobs : ℕ
+  pub accepted : List Job
+  pub ended : List ℕ
+  pub arrived : List Message
+  pub given : ℕ
+  pub noted : List Noted
+  pub answers : List Message
+
+-- the account of an outbox that was just made
+abbrev pub account_before : ℕ → ℕ → Account
+account_before q jobs =
+    record { q = q; jobs = jobs; accepted = []; ended = []; arrived = []; given = 0; noted = []; answers = [] }

@@ -1,0 +1,7 @@
+pub mod Account
+pub mod Jobs
+pub mod Memory
+pub mod Messages
+pub mod Shows
+pub mod State
+pub mod Statuses

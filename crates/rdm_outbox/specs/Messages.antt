@@ -1,0 +1,50 @@
+-- The next message and the last one: what QUEUED_MESSAGE and STATUS_MESSAGES are answered. E1.20 sections 10.3.1 and
+-- 10.3.2.
+use Rattle.std.specs.Prelude.{◌+◌, Bool, true, false, List, [], ◌∷◌, ◌++◌, length, nat_lt, unwrap_or, if◌then◌else◌}
+use Rattle.std.specs.List.{slice_get}
+use Rattle.rdm_params.specs.declared.slow.ask.Ask.{Ask}
+use Rattle.rdm_params.specs.declared.slow.ask.Ask.TheVariants.{None, Last, Advisory, Warning, Error}
+use Rattle.rdm_params.specs.declared.slow.message.Message.{Message}
+use Rattle.rdm_outbox.specs.Account.{Account}
+use Rattle.rdm_outbox.specs.Statuses.{status_message, status_now, after_status_now}
+
+-- whether the last message is asked for again, which is STATUS_GET_LAST_MESSAGE of table A-4
+abbrev pub is_last : Ask → Bool
+is_last None = false
+is_last Last = true
+is_last Advisory = false
+is_last Warning = false
+is_last Error = false
+
+-- the last of these messages, or the first argument where there is none
+abbrev pub last_or : Message → List Message → Message
+last_or m [] = m
+last_or m (x ∷ xs) = last_or x xs
+
+-- The last message: the last answer that was no repeat. Before the first it is the empty status message.
+abbrev pub last_of : Account → Message
+last_of a = last_or (status_message []) a.answers
+
+-- The next message: the first that waits, which is the one after those that were given. Where none waits, it is the
+-- status message.
+abbrev pub next_of : Account → Ask → Message
+next_of a ask = unwrap_or (slice_get a.arrived a.given) (status_now a ask)
+
+abbrev pub after_next : Account → Ask → Account
+after_next a ask =
+    if nat_lt a.given (length a.arrived) then record a { given = a.given + 1; answers = a.answers ++ next_of a ask ∷ [] }
+    else after_status_now a ask
+
+-- the answer to QUEUED_MESSAGE, and the account after it
+abbrev pub dispensed : Account → Ask → Message
+dispensed a ask = if is_last ask then last_of a else next_of a ask
+
+abbrev pub after_dispense : Account → Ask → Account
+after_dispense a ask = if is_last ask then a else after_next a ask
+
+-- the answer to STATUS_MESSAGES, and the account after it
+abbrev pub status_dispensed : Account → Ask → Message
+status_dispensed a ask = if is_last ask then last_of a else status_now a ask
+
+abbrev pub after_status : Account → Ask → Account
+after_status a ask = if is_last ask then a else after_status_now a ask

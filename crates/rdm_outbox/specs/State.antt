@@ -1,0 +1,34 @@
+-- What a contract sees of an outbox.
+use Rattle.std.specs.Prelude.{ℕ, ◌+◌, ◌≤◌, ◌==◌, List, [], length, if◌then◌else◌}
+use Rattle.rdm_params.specs.declared.slow.message.Message.{Message}
+use Rattle.rdm_params.specs.declared.slow.status.Entry.{Entry}
+use Rattle.rdm_outbox.specs.declared.job.Job.{Job}
+
+-- Its two bounds; of the first and the second worker the outstanding jobs, and how many it was given; the messages that
+-- wait; the entries that weren't shown; and the last message.
+pub record State : Type 0 where
+  pub q : ℕ
+  pub jobs : ℕ
+  pub first : List Job
+  pub second : List Job
+  pub first_given : ℕ
+  pub second_given : ℕ
+  pub queue : List Message
+  pub unshown : List Entry
+  pub last : Message
+
+-- the outstanding jobs of a worker, of which there are two
+abbrev pub jobs_at : State → ℕ → List Job
+jobs_at s worker = if worker == 0 then s.first else (if worker == 1 then s.second else [])
+
+-- How far the lists and counts of an outbox go: for each outstanding job there is room for its message.
+pub record HasRoom (s : State) : Type 0 where
+  pub most : s.q ≤ 255
+  pub room : length s.first + length s.second + length s.queue ≤ s.q
+  pub first_given : s.first_given ≤ s.jobs
+  pub second_given : s.second_given ≤ s.jobs
+  pub unshown : length s.unshown ≤ 1024
+
+-- how many jobs and messages there may be room for, and jobs for each worker
+abbrev pub IsOutboxSize : ℕ → ℕ → Type 0
+IsOutboxSize q jobs = (1 ≤ q) × (q ≤ 255) × (1 ≤ jobs)

@@ -1,0 +1,14 @@
+//! Why an outbox can't be made.
+
+use thiserror::Error;
+
+/// Why an outbox can't be made, tested from the last to the first.
+#[derive(Clone, Copy, Debug, PartialEq, Eq, Error)]
+pub enum NewError {
+    /// Memory was refused.
+    #[error("out of memory")]
+    OutOfMemory,
+    /// The number of jobs and messages isn't 1 to 255, or no worker may be given a job.
+    #[error("bad outbox size")]
+    BadSize,
+}

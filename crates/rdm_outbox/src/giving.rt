@@ -1,0 +1,35 @@
+//! The jobs of one worker.
+
+ghost use Rattle.std.specs.Prelude.{◌≡◌, ◌<◌, ◌+◌, [], ◌∷◌, ◌++◌, length, nat_lt, Ok, Err, if◌then◌else◌};
+ghost use Rattle.circular_buffer.specs.Buffer.{buffer};
+ghost use Rattle.rdm_outbox.specs.Jobs.{numbered};
+
+use crate::room::put;
+use crate::{Full, Job};
+use circular_buffer::HeapCircularBuffer;
+use rdm_params::Work;
+
+/// Gives a worker a further job, unless it was given `jobs` already. There must be room for it.
+pub(crate) fn give(
+    outstanding: &mut HeapCircularBuffer<Job>,
+    given: &mut u32,
+    jobs: u32,
+    work: Work,
+) -> Result<Job, Full>
+    requires { length outstanding.old.items < outstanding.old.capacity }
+    ensures answer { result ≡ (if nat_lt given.old jobs then Ok (numbered given.old work) else Err Full.NoRoom) }
+    ensures outstanding { outstanding.new ≡ (if nat_lt given.old jobs
+        then buffer (outstanding.old.items ++ numbered given.old work ∷ []) outstanding.old.capacity else outstanding.old) }
+    ensures given { given.new ≡ (if nat_lt given.old jobs then given.old + 1 else given.old) }
+{
+    if *given >= jobs {
+        return Err(Full::NoRoom);
+    }
+    let job = Job {
+        number: *given,
+        work,
+    };
+    put(outstanding, job);
+    *given += 1;
+    Ok(job)
+}

@@ -1,0 +1,24 @@
+//! What an RDM device keeps for its controller (ANSI E1.20-2010, section 10.3): the jobs that slow commands became, the
+//! messages that tell of their ends, the status entries, and the message that was given last.
+//!
+//! `Outbox` answers QUEUED_MESSAGE and STATUS_MESSAGES. What it has to answer is told by an account of all that happened
+//! to it, over lists that only grow, in `specs/`.
+#![tactic(auto)]
+
+mod dispensed;
+mod error;
+mod giving;
+mod job;
+mod laws;
+mod outbox;
+mod room;
+mod showing;
+
+pub use dispensed::Dispensed;
+pub use error::NewError;
+pub use job::{Full, Job};
+pub use laws::jobs_are_equal_by_value;
+pub use outbox::Outbox;
+
+#[cfg(test)]
+mod tests;

@@ -1,0 +1,281 @@
+//! The outbox.
+
+ghost use Rattle.std.specs.Prelude.{◌≡◌, ◌↔◌, ◌<◌, ◌≤◌, ◌+◌, not, length, min, IfOk, IfSome, MatchOption, Err, slice_get, option_copied};
+ghost use Rattle.circular_buffer.specs.Buffer.{buffer};
+ghost use Rattle.rdm_outbox.specs.Account.{Account, account_before};
+ghost use Rattle.rdm_outbox.specs.Jobs.{outstanding_of, outstanding_count, waiting_of, reserved, after_reserve, after_arrive};
+ghost use Rattle.rdm_outbox.specs.Messages.{is_last, last_of, next_of, after_next, dispensed, after_dispense, status_dispensed, after_status};
+ghost use Rattle.rdm_outbox.specs.Shows.{Shows};
+ghost use Rattle.rdm_outbox.specs.State.{IsOutboxSize, jobs_at};
+ghost use Rattle.rdm_outbox.specs.Statuses.{can_note, after_note, status_now, after_status_now};
+
+use crate::giving::give;
+use crate::room::{drop_first, put};
+use crate::showing::{empty_status, is_last, show_status};
+use crate::{Dispensed, Full, Job, NewError};
+use circular_buffer::HeapCircularBuffer;
+use rdm_params::{Ask, Entry, Message, Work, worker_of};
+use std::alloc::Global;
+use std::marker::Model;
+
+/// The greatest number of jobs and messages that an outbox may have room for.
+const MOST_WAITING: u16 = 255;
+
+/// How many status entries are kept that weren't shown.
+const MOST_ENTRIES: usize = 1024;
+
+/// What waits for a controller: the jobs of two workers, the messages that tell of their ends, and status entries.
+#[derive(Debug, Drop)]
+pub struct Outbox {
+    q: u16,
+    jobs: u32,
+    first: HeapCircularBuffer<Job>,
+    second: HeapCircularBuffer<Job>,
+    first_given: u32,
+    second_given: u32,
+    queue: HeapCircularBuffer<Message>,
+    unshown: Vec<Entry>,
+    last: Message,
+}
+
+impl Model for Outbox {
+    ghost use Rattle.rdm_outbox.specs.State.{State};
+
+    ghost Value = { State };
+
+    ghost use Rattle.rdm_outbox.specs.Memory.{seen, FitsItsMemory};
+
+    ghost view = { seen };
+
+    ghost invariant = { FitsItsMemory };
+}
+
+impl Outbox {
+    /// An empty outbox with room for `q` jobs and messages together, whose workers may each be given `jobs` jobs.
+    ///
+    /// A `q` that isn't 1 to 255, or no jobs, is refused first, and then comes want of memory. No later call takes
+    /// memory.
+    pub fn new(alloc: Global, q: u16, jobs: u32) -> Result<Self, NewError>
+        ensures shows { IfOk result (λ outbox. Shows outbox (account_before q jobs)) }
+        ensures bad_size { (result ≡ Err NewError.BadSize) ↔ (¬ IsOutboxSize q jobs) }
+    {
+        if q == 0 || q > MOST_WAITING || jobs == 0 {
+            return Err(NewError::BadSize);
+        }
+        let Ok(first) = HeapCircularBuffer::with_capacity(alloc, usize::from(q)) else {
+            return Err(NewError::OutOfMemory);
+        };
+        let Ok(second) = HeapCircularBuffer::with_capacity(alloc, usize::from(q)) else {
+            return Err(NewError::OutOfMemory);
+        };
+        let Ok(queue) = HeapCircularBuffer::with_capacity(alloc, usize::from(q)) else {
+            return Err(NewError::OutOfMemory);
+        };
+        let Ok(unshown) = Vec::with_capacity(alloc, MOST_ENTRIES) else {
+            return Err(NewError::OutOfMemory);
+        };
+        Ok(Outbox {
+            q,
+            jobs,
+            first,
+            second,
+            first_given: 0,
+            second_given: 0,
+            queue,
+            unshown,
+            last: empty_status(),
+        })
+    }
+
+    /// How many messages wait.
+    pub fn waiting(&self) -> usize
+        ensures queue { result ≡ length self.now.queue }
+        ensures account { (a : Account) → Shows self.now a → result ≡ length (waiting_of a) }
+    {
+        self.queue.len()
+    }
+
+    /// How many jobs are outstanding.
+    pub fn outstanding(&self) -> usize
+        ensures jobs { result ≡ length self.now.first + length self.now.second }
+        ensures account { (a : Account) → Shows self.now a → result ≡ outstanding_count a }
+    {
+        self.first.len() + self.second.len()
+    }
+
+    /// The message count of a response (E1.20 section 6.2.8): how many messages wait, and 255 where more do.
+    pub fn count(&self) -> u8
+        ensures { (a : Account) → Shows self.now a → result ≡ min 255 (length (waiting_of a)) }
+    {
+        u8::try_from(self.waiting()).unwrap_or(u8::MAX)
+    }
+
+    /// The messages that wait, the first of them at the front.
+    pub fn waiting_ring(&self) -> &HeapCircularBuffer<Message>
+        ensures queue { result.now ≡ buffer self.now.queue self.now.q }
+        ensures account { (a : Account) → Shows self.now a → result.now ≡ buffer (waiting_of a) a.q }
+    {
+        &self.queue
+    }
+
+    /// The outstanding jobs of a worker, the oldest of them at the front. There are workers 0 and 1.
+    pub fn job_ring(&self, worker: u8) -> Option<&HeapCircularBuffer<Job>>
+        ensures jobs { MatchOption result (2 ≤ worker) (λ ring. (worker < 2) ×
+            (ring.now ≡ buffer (jobs_at self.now worker) self.now.q)) }
+        ensures account { (a : Account) → Shows self.now a →
+            IfSome result (λ ring. ring.now ≡ buffer (outstanding_of a worker) a.q) }
+    {
+        match worker {
+            0 => Some(&self.first),
+            1 => Some(&self.second),
+            _ => None,
+        }
+    }
+
+    /// Accepts a job, and gives it its number, or refuses it where there is no room.
+    pub fn reserve(&mut self, work: Work) -> Result<Job, Full>
+        ensures answer { (a : Account) → Shows self.old a → result ≡ reserved a work }
+        ensures shows { (a : Account) → Shows self.old a → Shows self.new (after_reserve a work) }
+    {
+        if self.outstanding() + self.waiting() >= usize::from(self.q) {
+            return Err(Full::NoRoom);
+        }
+        if worker_of(&work) == 0 {
+            give(&mut self.first, &mut self.first_given, self.jobs, work)
+        } else {
+            give(&mut self.second, &mut self.second_given, self.jobs, work)
+        }
+    }
+
+    /// The oldest outstanding job of a worker. There are workers 0 and 1.
+    pub fn oldest(&self, worker: u8) -> Option<&Job>
+        ensures job { option_copied result ≡ slice_get (jobs_at self.now worker) 0 }
+        ensures account { (a : Account) → Shows self.now a → worker < 2 →
+            option_copied result ≡ slice_get (outstanding_of a worker) 0 }
+    {
+        match worker {
+            0 => self.first.front(),
+            1 => self.second.front(),
+            _ => None,
+        }
+    }
+
+    /// Ends the oldest job of a worker, which must have one, with the message that tells of it.
+    pub fn arrive(&mut self, worker: u8, message: Message)
+        requires { 0 < length (jobs_at self.old worker) }
+        ensures shows { (a : Account) → Shows self.old a → Shows self.new (after_arrive a worker message) }
+    {
+        // The job kept the room for its message.
+        put(&mut self.queue, message);
+        if worker == 0 {
+            drop_first(&mut self.first);
+        } else {
+            drop_first(&mut self.second);
+        }
+    }
+
+    /// Keeps a status entry, unless 1,024 are kept, and says whether it did.
+    pub fn note(&mut self, entry: Entry) -> bool
+        ensures answer { (a : Account) → Shows self.old a → result ≡ can_note a }
+        ensures shows { (a : Account) → Shows self.old a → Shows self.new (after_note a entry) }
+    {
+        if self.unshown.len() >= MOST_ENTRIES {
+            return false;
+        }
+        self.unshown.push_reserved(entry);
+        true
+    }
+
+    /// Answers QUEUED_MESSAGE: the next message leaves the queue, unless the last one is asked for again.
+    pub fn dispense(&mut self, ask: Ask) -> Dispensed
+        ensures message { (a : Account) → Shows self.old a → result.message ≡ dispensed a ask }
+        ensures fresh { result.fresh ≡ not (is_last ask) }
+        ensures shows { (a : Account) → Shows self.old a → Shows self.new (after_dispense a ask) }
+    {
+        let fresh = self.answer(ask);
+        Dispensed {
+            message: copy_of(self.last()),
+            fresh,
+        }
+    }
+
+    /// Answers STATUS_MESSAGES, by the status message, unless the last message is asked for again.
+    pub fn status(&mut self, ask: Ask) -> Dispensed
+        ensures message { (a : Account) → Shows self.old a → result.message ≡ status_dispensed a ask }
+        ensures fresh { result.fresh ≡ not (is_last ask) }
+        ensures shows { (a : Account) → Shows self.old a → Shows self.new (after_status a ask) }
+    {
+        let fresh = self.answer_status(ask);
+        Dispensed {
+            message: copy_of(self.last()),
+            fresh,
+        }
+    }
+
+    /// Answers QUEUED_MESSAGE as `dispense` does, without a copy: `last` lends the message then. The result is whether it
+    /// is fresh.
+    pub fn answer(&mut self, ask: Ask) -> bool
+        ensures message { (a : Account) → Shows self.old a → self.new.last ≡ dispensed a ask }
+        ensures fresh { result ≡ not (is_last ask) }
+        ensures shows { (a : Account) → Shows self.old a → Shows self.new (after_dispense a ask) }
+    {
+        if is_last(ask) {
+            return false;
+        }
+        self.take_next(ask);
+        true
+    }
+
+    /// Answers STATUS_MESSAGES as `status` does, without a copy: `last` lends the message then. The result is whether it
+    /// is fresh.
+    pub fn answer_status(&mut self, ask: Ask) -> bool
+        ensures message { (a : Account) → Shows self.old a → self.new.last ≡ status_dispensed a ask }
+        ensures fresh { result ≡ not (is_last ask) }
+        ensures shows { (a : Account) → Shows self.old a → Shows self.new (after_status a ask) }
+    {
+        if is_last(ask) {
+            return false;
+        }
+        self.take_status(ask);
+        true
+    }
+
+    /// The last message: the one that was given last, or the empty status message.
+    pub fn last(&self) -> &Message
+        ensures last { result.now ≡ self.now.last }
+        ensures account { (a : Account) → Shows self.now a → result.now ≡ last_of a }
+    {
+        &self.last
+    }
+
+    /// Makes the next message the last one.
+    fn take_next(&mut self, ask: Ask)
+        ensures message { (a : Account) → Shows self.old a → self.new.last ≡ next_of a ask }
+        ensures shows { (a : Account) → Shows self.old a → Shows self.new (after_next a ask) }
+    {
+        match self.queue.pop_front() {
+            Some(message) => self.last = message,
+            None => show_status(&mut self.unshown, ask, &mut self.last),
+        }
+    }
+
+    /// Makes the status message of a status type the last message.
+    fn take_status(&mut self, ask: Ask)
+        ensures message { (a : Account) → Shows self.old a → self.new.last ≡ status_now a ask }
+        ensures shows { (a : Account) → Shows self.old a → Shows self.new (after_status_now a ask) }
+    {
+        show_status(&mut self.unshown, ask, &mut self.last);
+    }
+}
+
+/// The same message again.
+fn copy_of(message: &Message) -> Message
+    ensures { result ≡ message.now }
+{
+    Message {
+        class: message.class,
+        pid: message.pid,
+        sub: message.sub,
+        body: message.body.copy(),
+    }
+}

@@ -1,0 +1,131 @@
+-- What is accepted as a slow command is accepted whatever the values are.
+use Rattle.std.proofs.Common.{◌≡◌, ℕ, zero, suc, ◌-◌, ◌==◌, ◌&&◌, not, Bool, true, false, cond, List, [], ◌∷◌, length, map, replicate, Option, Some, None, Result, Ok, Err, refl, sym, ap, ◌∙◌}
+use Rattle.std.specs.Prelude.{slice_get, slice_set, slice_index_or, option_to_list}
+use Rattle.std.specs.List.{list_all}
+use Rattle.std.proofs.lemmas.List.{length-map, length-set}
+use Rattle.rdm_params.specs.declared.kind.Verb.{Verb}
+use Rattle.rdm_params.specs.declared.kind.Verb.TheVariants.{Set}
+use Rattle.rdm_params.specs.declared.nack.Nack.{Nack}
+use Rattle.rdm_params.specs.declared.nack.Nack.TheVariants.{DataOutOfRange, SubDeviceOutOfRange}
+use Rattle.rdm_params.specs.declared.profile.Profile.{Profile}
+use Rattle.rdm_params.specs.declared.slow.outcome.Outcome.TheVariants.{Done, Reading, Failed}
+use Rattle.rdm_params.specs.declared.slow.way.Way.{Way}
+use Rattle.rdm_params.specs.declared.slow.way.Way.TheVariants.{AtOnce, ByJob, FromQueue, FromStatus}
+use Rattle.rdm_params.specs.declared.value.Value.{Value}
+use Rattle.rdm_params.specs.declared.value.Value.TheVariants.{Byte}
+use Rattle.rdm_params.specs.Commands.Commands.{command_of, accepted, after_set, after_accepted, carried_out, written, addressed, root_spot, sub_spot, is_all_call, is_some_device, known, suits, check, ◌>>=◌}
+use Rattle.rdm_params.specs.Device.Map.{Entry}
+use Rattle.rdm_params.specs.Device.Parameters.{Parameters}
+use Rattle.rdm_params.specs.Slow.Commit.{after_commit}
+use Rattle.rdm_params.specs.Slow.Laws.{SameDevices, StaysAccepted, SetKeepsDevices, CommitKeepsDevices}
+use Rattle.rdm_params.specs.Device.Spot.{Spot}
+use Rattle.rdm_params.specs.Table.Rows.{Command, row_of}
+use Rattle.rdm_params.specs.Table.Uses.{access, read, is_by_job, is_slow, in_range_of}
+use Rattle.rdm_params.proofs.RowFacts.{FactsOfWay, Facts, ByProfile, facts_of}
+
+-- ---- ranges that look at the profile alone
+
+profile_decides_in : (pid : ℕ) (verb : Verb) (c : Command) (way : Way) → FactsOfWay pid verb c way → is_by_job way ≡ true → ByProfile c
+profile_decides_in pid verb c AtOnce facts slow = absurd cc
+profile_decides_in pid verb c (ByJob worker estimate) facts slow = facts.0
+profile_decides_in pid verb c FromQueue facts slow = absurd cc
+profile_decides_in pid verb c FromStatus facts slow = absurd cc
+
+profile_decides : (pid : ℕ) (verb : Verb) (o : Option Command) → Facts pid verb o → is_slow o ≡ true → (s t : Spot) (v : Value) → s.profile ≡ t.profile → in_range_of o s v ≡ in_range_of o t v
+profile_decides pid verb None facts slow s t v same = absurd cc
+profile_decides pid verb (Some c) facts slow s t v same = profile_decides_in pid verb c c.way facts slow s t v same
+
+-- ---- the devices that are addressed
+
+abbrev profiles : List Spot → List Profile
+profiles spots = map (λ (s : Spot). s.profile) spots
+
+profiles_of_subs : (p : Parameters) (subs : List (List Entry)) → profiles (map (sub_spot p) subs) ≡ replicate (length subs) p.profile
+profiles_of_subs p [] = refl
+profiles_of_subs p (es ∷ subs) = ap (λ (ps : List Profile). p.profile ∷ ps) (profiles_of_subs p subs)
+
+subs_alike : (p q : Parameters) (xs ys : List (List Entry)) → q.profile ≡ p.profile → length ys ≡ length xs → profiles (map (sub_spot q) ys) ≡ profiles (map (sub_spot p) xs)
+subs_alike p q xs ys same many =
+    profiles_of_subs q ys ∙ ap (λ (n : ℕ). replicate n q.profile) many ∙ ap (replicate (length xs)) same ∙ sym (profiles_of_subs p xs)
+
+one_alike : (xs ys : List (List Entry)) (i : ℕ) → length ys ≡ length xs → length (option_to_list (slice_get ys i)) ≡ length (option_to_list (slice_get xs i))
+one_alike [] [] i e = refl
+one_alike [] (y ∷ ys) i e = absurd cc
+one_alike (x ∷ xs) [] i e = absurd cc
+one_alike (x ∷ xs) (y ∷ ys) zero e = refl
+one_alike (x ∷ xs) (y ∷ ys) (suc i) e = one_alike xs ys i cc
+
+alike_at : (p q : Parameters) (i : ℕ) → SameDevices p q → (at_root all : Bool) → profiles (cond at_root (root_spot q ∷ []) (cond all (map (sub_spot q) q.subs) (map (sub_spot q) (option_to_list (slice_get q.subs i))))) ≡ profiles (cond at_root (root_spot p ∷ []) (cond all (map (sub_spot p) p.subs) (map (sub_spot p) (option_to_list (slice_get p.subs i)))))
+alike_at p q i same true all = ap (λ (profile : Profile). profile ∷ []) same.profile
+alike_at p q i same false true = subs_alike p q p.subs q.subs same.profile same.subs
+alike_at p q i same false false = subs_alike p q (option_to_list (slice_get p.subs i)) (option_to_list (slice_get q.subs i)) same.profile (one_alike p.subs q.subs i same.subs)
+
+alike : (p q : Parameters) (sub : ℕ) (verb : Verb) → SameDevices p q → profiles (addressed q sub verb) ≡ profiles (addressed p sub verb)
+alike p q sub verb same = alike_at p q (sub - 1) same (sub == 0) (is_all_call sub verb)
+
+some_alike : (xs ys : List Spot) → profiles ys ≡ profiles xs → is_some_device ys ≡ is_some_device xs
+some_alike [] [] e = refl
+some_alike [] (y ∷ ys) e = absurd cc
+some_alike (x ∷ xs) [] e = absurd cc
+some_alike (x ∷ xs) (y ∷ ys) e = refl
+
+head_of : (a b : Profile) (ps qs : List Profile) → a ∷ ps ≡ b ∷ qs → a ≡ b
+head_of a b ps qs e = cc
+
+tail_of : (a b : Profile) (ps qs : List Profile) → a ∷ ps ≡ b ∷ qs → ps ≡ qs
+tail_of a b ps qs e = cc
+
+all_alike : (f : Spot → Bool) → ((s t : Spot) → s.profile ≡ t.profile → f s ≡ f t) → (xs ys : List Spot) → profiles ys ≡ profiles xs → list_all f ys ≡ list_all f xs
+all_alike f same [] [] e = refl
+all_alike f same [] (y ∷ ys) e = absurd cc
+all_alike f same (x ∷ xs) [] e = absurd cc
+all_alike f same (x ∷ xs) (y ∷ ys) e =
+    rw (same y x (head_of y.profile x.profile (profiles ys) (profiles xs) e), all_alike f same xs ys (tail_of y.profile x.profile (profiles ys) (profiles xs) e)) refl
+
+-- ---- acceptance
+
+then_same : {A B : Type 0} (r : Result A Nack) (f g : A → Result B Nack) → ((x : A) → f x ≡ g x) → (r >>= f) ≡ (r >>= g)
+then_same (Ok x) f g same = same x
+then_same (Err nack) f g same = refl
+
+known_alike : (p q : Parameters) (sub pid : ℕ) (verb : Verb) → SameDevices p q → known q sub pid verb ≡ known p sub pid verb
+known_alike p q sub pid verb same =
+    ap (λ (here : Bool). check here SubDeviceOutOfRange >>= (λ u. access (row_of pid) (sub == 0) verb)) (some_alike (addressed p sub verb) (addressed q sub verb) (alike p q sub verb same))
+
+suits_alike : (p q : Parameters) (sub pid : ℕ) (verb : Verb) (v : Value) → SameDevices p q → is_slow (command_of pid verb) ≡ true → suits q sub pid verb v ≡ suits p sub pid verb v
+suits_alike p q sub pid verb v same slow =
+    ap (λ (within : Bool). check within DataOutOfRange >>= (λ u. check (not (is_all_call sub verb && is_slow (command_of pid verb))) SubDeviceOutOfRange)) (all_alike (λ spot. in_range_of (command_of pid verb) spot v) (λ s t e. profile_decides pid verb (command_of pid verb) (facts_of pid verb) slow s t v e) (addressed p sub verb) (addressed q sub verb) (alike p q sub verb same))
+
+pub stays_accepted : StaysAccepted
+unfolding accepted
+stays_accepted p q sub pid verb bytes same slow =
+    let rest : Parameters → Unit {0} → Result Value Nack = λ d u. read (command_of pid verb) bytes >>= (λ value. suits d sub pid verb value >>= (λ w. Ok value)) in
+    ap (λ (r : Result (Unit {0}) Nack). r >>= rest q) (known_alike p q sub pid verb same) ∙ then_same (known p sub pid verb) (rest q) (rest p) (λ u. then_same (read (command_of pid verb) bytes) _ _ (λ value. ap (λ (r : Result (Unit {0}) Nack). r >>= (λ w. Ok value)) (suits_alike p q sub pid verb value same slow)))
+
+-- ---- the devices after a SET and after the end of a job
+
+carried_at : (p : Parameters) (sub : ℕ) (command : Option Command) (v : Value) (at_root all : Bool) → SameDevices p (cond at_root (record p { root = written command v (root_spot p) }) (cond all (record p { subs = map (λ entries. written command v (sub_spot p entries)) p.subs }) (record p { subs = slice_set p.subs (sub - 1) (written command v (sub_spot p (slice_index_or p.subs (sub - 1) []))) })))
+carried_at p sub command v true all = record { profile = refl; subs = refl }
+carried_at p sub command v false true = record { profile = refl; subs = length-map p.subs (λ entries. written command v (sub_spot p entries)) }
+carried_at p sub command v false false = record { profile = refl; subs = length-set p.subs (sub - 1) _ }
+
+carried_keeps : (p : Parameters) (sub : ℕ) (command : Option Command) (v : Value) → SameDevices p (carried_out p sub command v)
+carried_keeps p sub command v = carried_at p sub command v (sub == 0) (is_all_call sub Set)
+
+unless_slow : (p new : Parameters) (slow : Bool) → SameDevices p new → SameDevices p (cond slow p new)
+unless_slow p new true same = record { profile = refl; subs = refl }
+unless_slow p new false same = same
+
+after_keeps : (p : Parameters) (sub pid : ℕ) (value : Result Value Nack) → SameDevices p (after_accepted p sub pid value)
+after_keeps p sub pid (Err nack) = record { profile = refl; subs = refl }
+after_keeps p sub pid (Ok v) = unless_slow p (carried_out p sub (command_of pid Set) v) (is_slow (command_of pid Set)) (carried_keeps p sub (command_of pid Set) v)
+
+pub set_keeps_devices : SetKeepsDevices
+unfolding after_set
+set_keeps_devices p sub pid bytes = after_keeps p sub pid (accepted p sub pid Set bytes)
+
+pub commit_keeps_devices : CommitKeepsDevices
+unfolding after_commit
+commit_keeps_devices p w Done = carried_keeps p w.sub (command_of w.pid Set) (Byte w.arg)
+commit_keeps_devices p w (Reading v) = record { profile = refl; subs = refl }
+commit_keeps_devices p w (Failed severity id v1 v2) = record { profile = refl; subs = refl }

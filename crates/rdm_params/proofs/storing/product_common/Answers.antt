@@ -1,4 +1,0 @@
-use Rattle.rdm_params.proofs.storing.product_common.Goals as goal
-
-pub returns-in-FactoryDefaults : goal.returns-in-FactoryDefaults
-returns-in-FactoryDefaults c = rw c.in-FactoryDefaults.is (λ spot e. c.common_set_back.ensures spot c.args.value.now e)

@@ -1,0 +1,145 @@
+-- What GET and SET commands answer, and which values they leave. E1.20 sections 6.3, 9 and 10.
+use Rattle.std.specs.Prelude.{ℕ, ◌-◌, Bool, true, false, ◌==◌, ◌&&◌, not, List, [], ◌∷◌, map, Option, Result, Ok, Err, is_ok, is_some, slice_get, slice_index_or, slice_set, option_to_list, if◌then◌else◌}
+use Rattle.std.specs.List.{list_all}
+use Rattle.std.specs.Option.{option_map_or}
+use Rattle.rdm_params.specs.declared.kind.Kind.{Kind}
+use Rattle.rdm_params.specs.declared.kind.Verb.{Verb}
+use Rattle.rdm_params.specs.declared.kind.Verb.TheVariants.{Get, Set}
+use Rattle.rdm_params.specs.declared.nack.Nack.{Nack}
+use Rattle.rdm_params.specs.declared.nack.Nack.TheVariants.{DataOutOfRange, SubDeviceOutOfRange}
+use Rattle.rdm_params.specs.declared.profile.Profile.{Profile}
+use Rattle.rdm_params.specs.declared.value.Value.{Value}
+use Rattle.rdm_params.specs.declared.verdict.Verdict.{Verdict}
+use Rattle.rdm_params.specs.declared.verdict.Verdict.TheVariants.{Reply, Start, Queue, Status, Refuse}
+use Rattle.rdm_params.specs.declared.slow.ask.Ask.{Ask}
+use Rattle.rdm_params.specs.declared.slow.way.Way.{Way}
+use Rattle.rdm_params.specs.declared.slow.way.Way.TheVariants.{AtOnce, ByJob, FromQueue, FromStatus}
+use Rattle.rdm_params.specs.declared.slow.work.Work.{Work}
+use Rattle.rdm_params.specs.Table.Kinds.{pid_of}
+use Rattle.rdm_params.specs.Device.Map.{Entry, update}
+use Rattle.rdm_params.specs.Device.Parameters.{Parameters}
+use Rattle.rdm_params.specs.Device.Spot.{Spot}
+use Rattle.rdm_params.specs.Table.Rows.{Command, row_of, command_in}
+use Rattle.rdm_params.specs.Table.Uses.{access, read, way_of, is_slow, in_range_of, change, reply}
+use Rattle.rdm_params.specs.Slow.Asks.{ask_of}
+use Rattle.rdm_params.specs.Device.Values.{byte_or_0}
+
+-- the root
+abbrev pub root_spot : Parameters → Spot
+root_spot p = record { profile = p.profile; unit = p.profile.root; is_root = true; entries = p.root }
+
+-- a sub-device of the profile that keeps these values
+abbrev pub profile_sub_spot : Profile → List Entry → Spot
+profile_sub_spot profile entries = record { profile = profile; unit = profile.sub; is_root = false; entries = entries }
+
+-- a sub-device that keeps these values
+abbrev pub sub_spot : Parameters → List Entry → Spot
+sub_spot p entries = profile_sub_spot p.profile entries
+
+-- whether a command is a SET of every sub-device. Section 9.
+abbrev pub is_all_call : ℕ → Verb → Bool
+is_all_call sub Get = false
+is_all_call sub Set = sub == 0xFFFF
+
+-- the devices that a command addresses: 0 is the root, and the sub-devices are numbered from 1
+abbrev pub addressed : Parameters → ℕ → Verb → List Spot
+addressed p sub verb =
+    if sub == 0 then root_spot p ∷ []
+    else (if is_all_call sub verb then map (sub_spot p) p.subs else map (sub_spot p) (option_to_list (slice_get p.subs (sub - 1))))
+
+-- what the table has for a PID
+abbrev pub command_of : ℕ → Verb → Option Command
+command_of pid verb = command_in (row_of pid) verb
+
+-- steps of which the first that fails decides
+infixl 10 ◌>>=◌
+abbrev pub ◌>>=◌ : {A B : Type 0} → Result A Nack → (A → Result B Nack) → Result B Nack
+(Ok x) >>= f = f x
+(Err nack) >>= f = Err nack
+
+-- it is refused unless this holds
+abbrev pub check : Bool → Nack → Result (Unit {0}) Nack
+check holds nack = if holds then Ok tt else Err nack
+
+-- whether there is a device
+abbrev pub is_some_device : List Spot → Bool
+is_some_device spots = is_some (slice_get spots 0)
+
+-- Reply rule 6: there is a device that the command addresses. Rules 7 and 8: the device has the parameter, and the
+-- parameter the command.
+abbrev pub known : Parameters → ℕ → ℕ → Verb → Result (Unit {0}) Nack
+known p sub pid verb = do
+  exists ← check (is_some_device (addressed p sub verb)) SubDeviceOutOfRange
+  access (row_of pid) (sub == 0) verb
+
+-- Rule 10: the value is in range at each device that is addressed. Rule 11: it starts no jobs at all sub-devices at once.
+abbrev pub suits : Parameters → ℕ → ℕ → Verb → Value → Result (Unit {0}) Nack
+suits p sub pid verb value = do
+  in_range ← check (list_all (λ spot. in_range_of (command_of pid verb) spot value) (addressed p sub verb)) DataOutOfRange
+  check (not (is_all_call sub verb && is_slow (command_of pid verb))) SubDeviceOutOfRange
+
+-- Rules 6 to 11: the value that a command hands in, or the first reason to refuse it. Rule 9, between the parameter and the
+-- range, is that the data have the length of the command.
+unfoldable pub accepted : Parameters → ℕ → ℕ → Verb → List ℕ → Result Value Nack
+accepted p sub pid verb bytes = do
+  found ← known p sub pid verb
+  value ← read (command_of pid verb) bytes
+  fits ← suits p sub pid verb value
+  Ok value
+
+-- Whether a value is in the range of a command at each device that it addresses; it is not where there is none, or
+-- where these have no such parameter or command.
+unfoldable pub in_range : Parameters → ℕ → Kind → Verb → Value → Bool
+in_range p sub kind verb value =
+    is_some_device (addressed p sub verb) && is_ok (access (row_of (pid_of kind)) (sub == 0) verb)
+    && list_all (λ spot. in_range_of (command_of (pid_of kind) verb) spot value) (addressed p sub verb)
+
+-- the reply of a device; all that are addressed give the same
+abbrev pub reply_at : Option Command → List Spot → Value → List ℕ
+reply_at command spots value = option_map_or (λ spot. reply command spot value) (slice_get spots 0) []
+
+-- the job that a slow command starts
+abbrev pub work : ℕ → ℕ → Verb → Value → Work
+work sub pid verb value = record { sub = sub; pid = pid; verb = verb; arg = byte_or_0 value }
+
+-- what is answered in this way: these bytes at once, this job, or what a controller asks for
+abbrev pub answered : Way → List ℕ → Work → Ask → Verdict
+answered AtOnce bytes job ask = Reply bytes
+answered (ByJob worker estimate) bytes job ask = Start job
+answered FromQueue bytes job ask = Queue ask
+answered FromStatus bytes job ask = Status ask
+
+-- what a command answers that leaves these values
+abbrev pub verdict : Parameters → ℕ → ℕ → Verb → Result Value Nack → Verdict
+verdict p sub pid verb (Err nack) = Refuse nack
+verdict p sub pid verb (Ok value) =
+    let command = command_of pid verb in
+    answered (way_of command) (reply_at command (addressed p sub verb) value) (work sub pid verb value) (ask_of (byte_or_0 value))
+
+-- the values of a device after a command that is carried out there
+abbrev pub written : Option Command → Value → Spot → List Entry
+written command value spot = update (change command spot value) spot.entries
+
+-- the values after a SET that is carried out at the devices that it addresses
+abbrev pub carried_out : Parameters → ℕ → Option Command → Value → Parameters
+carried_out p sub command value =
+    if sub == 0 then record p { root = written command value (root_spot p) }
+    else (if is_all_call sub Set then record p { subs = map (λ entries. written command value (sub_spot p entries)) p.subs }
+    else record p { subs = slice_set p.subs (sub - 1) (written command value (sub_spot p (slice_index_or p.subs (sub - 1) []))) })
+
+-- the values after a SET that is accepted with this value, or refused
+abbrev pub after_accepted : Parameters → ℕ → ℕ → Result Value Nack → Parameters
+after_accepted p sub pid (Err nack) = p
+after_accepted p sub pid (Ok value) = if is_slow (command_of pid Set) then p else carried_out p sub (command_of pid Set) value
+
+-- What a GET answers.
+unfoldable pub got : Parameters → ℕ → ℕ → List ℕ → Verdict
+got p sub pid bytes = verdict p sub pid Get (accepted p sub pid Get bytes)
+
+-- The values after a SET; a refused one and one that starts a job leave them.
+unfoldable pub after_set : Parameters → ℕ → ℕ → List ℕ → Parameters
+after_set p sub pid bytes = after_accepted p sub pid (accepted p sub pid Set bytes)
+
+-- What a SET answers.
+unfoldable pub answer_to_set : Parameters → ℕ → ℕ → List ℕ → Verdict
+answer_to_set p sub pid bytes = verdict (after_set p sub pid bytes) sub pid Set (accepted p sub pid Set bytes)

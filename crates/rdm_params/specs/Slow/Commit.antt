@@ -1,0 +1,58 @@
+-- What the end of a job makes of the values, and the message that tells of it. E1.20 sections 6.3.3 and 10.3.1.
+use Rattle.std.specs.Prelude.{ℕ, ℤ, List, [], ◌++◌, take, drop, if◌then◌else◌}
+use Rattle.std.specs.Int.{w16, from_be_bytes, cast_signed, int_min, int_max}
+use Rattle.rdm_params.specs.declared.kind.Verb.TheVariants.{Get, Set}
+use Rattle.rdm_params.specs.declared.slow.message.Message.{Message}
+use Rattle.rdm_params.specs.declared.slow.outcome.Outcome.{Outcome}
+use Rattle.rdm_params.specs.declared.slow.outcome.Outcome.TheVariants.{Done, Reading, Failed}
+use Rattle.rdm_params.specs.declared.slow.work.Work.{Work}
+use Rattle.rdm_params.specs.declared.value.Value.TheVariants.{Byte}
+use Rattle.rdm_params.specs.Commands.Commands.{command_of, carried_out, addressed, reply_at}
+use Rattle.rdm_params.specs.Device.Map.{Entry, has_key, update}
+use Rattle.rdm_params.specs.Device.Parameters.{Parameters}
+use Rattle.rdm_params.specs.Device.Values.{signed_slots}
+
+-- the signed number that 16 bits say
+abbrev pub signed_in : List ℕ → ℤ
+signed_in bytes = cast_signed w16 (from_be_bytes w16 bytes)
+
+-- What a sensor shows after it has measured v: v is present, the lowest and the highest value take it in, and the
+-- recorded value stays. Section 10.7.2.
+unfoldable pub measured : ℤ → List ℕ → List ℕ
+measured v bytes =
+    signed_slots v
+    ++ signed_slots (int_min (signed_in (take 2 (drop 2 bytes))) v)
+    ++ signed_slots (int_max (signed_in (take 2 (drop 4 bytes))) v)
+    ++ drop 6 bytes
+
+-- the sensor of this number has measured v
+abbrev pub measured_by : ℕ → ℤ → Entry → List ℕ
+measured_by number v e = if has_key 0x0201 number e then measured v e.bytes else e.bytes
+
+-- The values after the end of a job: what is done is carried out as the SET, a sensor shows what it has measured, and
+-- where the job failed nothing changes.
+unfoldable pub after_commit : Parameters → Work → Outcome → Parameters
+after_commit p w Done = carried_out p w.sub (command_of w.pid Set) (Byte w.arg)
+after_commit p w (Reading v) = record p { root = update (measured_by w.arg v) p.root }
+after_commit p w (Failed severity id v1 v2) = p
+
+-- what a GET of the parameter reads, a slow one too
+abbrev pub shown : Parameters → Work → List ℕ
+shown p w = reply_at (command_of w.pid Get) (addressed p w.sub Get) (Byte w.arg)
+
+-- the responses to the SET and to the GET of a work, the second with the data that it reads from these values
+abbrev pub set_response : Work → Message
+set_response w = record { class = 0x31; pid = w.pid; sub = w.sub; body = [] }
+
+abbrev pub get_response : Parameters → Work → Message
+get_response p w = record { class = 0x21; pid = w.pid; sub = w.sub; body = shown p w }
+
+-- the message that devices with these values queue at the end of a job
+abbrev pub message_of : Parameters → Work → Outcome → Message
+message_of p w Done = set_response w
+message_of p w (Reading v) = get_response p w
+message_of p w (Failed severity id v1 v2) = get_response p w
+
+-- The message at the end of a job, of the values afterwards.
+unfoldable pub committed : Parameters → Work → Outcome → Message
+committed p w outcome = message_of (after_commit p w outcome) w outcome

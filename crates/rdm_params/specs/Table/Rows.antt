@@ -1,0 +1,205 @@
+-- The table of parameters, one line a row. E1.20 section 10 and table A-3.
+use Rattle.std.specs.Prelude.{ℕ, Bool, true, false, ◌==◌, ◌&&◌, ◌||◌, not, List, [], ◌∷◌, ◌++◌, Option, Some, None, find, filter, flat_map}
+use Rattle.std.specs.List.{list_any}
+use Rattle.rdm_params.specs.declared.kind.Verb.{Verb}
+use Rattle.rdm_params.specs.declared.kind.Verb.TheVariants.{Get, Set}
+use Rattle.rdm_params.specs.declared.slow.way.Way.{Way}
+use Rattle.rdm_params.specs.declared.slow.way.Way.TheVariants.{AtOnce, ByJob, FromQueue, FromStatus}
+use Rattle.rdm_params.specs.declared.value.Value.{Value}
+use Rattle.rdm_params.specs.Table.Changes.{Change, unchanged, stored_at, set_back, sensors_reset, sensors_recorded}
+use Rattle.rdm_params.specs.Table.Forms.{Form, nothing, byte, word, long, preset, label}
+use Rattle.rdm_params.specs.Device.Map.{lookup}
+use Rattle.rdm_params.specs.Table.Ranges.{Range, any, below, a_message_type, a_status, a_language, a_personality, a_start, a_slot, a_sensor, sensors, a_power_state, a_test, a_self_test, a_preset}
+use Rattle.rdm_params.specs.Table.Replies.{status_text, device_info, at_factory_defaults, languages, personality_of_all, personality_described, start_address, used_slots, slot_infos, slot_described, slot_defaults, sensor_described, sensor_measured, self_test_runs, self_test_described}
+use Rattle.rdm_params.specs.Device.Spot.{Spot}
+use Rattle.rdm_params.specs.Device.Values.{word_slots, long_slots}
+
+-- A command of a row: the form of its data, the range of it, the way in which it is answered, what it makes of the
+-- entries of a device, and the data of its reply, which is of the device afterwards. Where a job carries it out, the
+-- change and the reply are those at the end of the job.
+pub record Command : Type 0 where
+  pub form : Form
+  pub range : Range
+  pub way : Way
+  pub change : Change
+  pub reply : Spot → Value → List ℕ
+
+-- A row: the PID, whether the parameter is at the root alone, and its two commands.
+pub record Row : Type 0 where
+  pub pid : ℕ
+  pub root_only : Bool
+  pub get : Option Command
+  pub set : Option Command
+
+-- What a row has for a GET or a SET, by its PID.
+abbrev pub Cell : Type 0
+Cell = ℕ → Option Command
+
+-- the row of a parameter: its PID, where it is, its GET and its SET
+abbrev pub row : ℕ → Bool → Cell → Cell → Row
+row pid root_only get set = record { pid = pid; root_only = root_only; get = get pid; set = set pid }
+
+-- at the root and at every sub-device
+abbrev pub both : Bool
+both = false
+
+-- at the root alone
+abbrev pub root : Bool
+root = true
+
+-- no such command
+abbrev pub none : Cell
+none pid = None
+
+-- a GET that is asked with data
+abbrev pub asks : Form → (Form → Range) → (Spot → Value → List ℕ) → Cell
+asks form range reply pid = Some (record { form = form; range = range form; way = AtOnce; change = unchanged; reply = reply })
+
+-- a GET without data
+abbrev pub reads : (Spot → List ℕ) → Cell
+reads shown = asks nothing any (λ spot v. shown spot)
+
+-- a GET that shows what is kept at the key of its PID
+abbrev pub stored : Cell
+stored pid = reads (λ spot. lookup spot.entries pid 0) pid
+
+-- a SET with a change and a reply
+abbrev pub sets : Form → (Form → Range) → Change → (Spot → Value → List ℕ) → Cell
+sets form range change reply pid = Some (record { form = form; range = range form; way = AtOnce; change = change; reply = reply })
+
+-- a SET that keeps its data at the key of its PID
+abbrev pub takes : Form → (Form → Range) → Cell
+takes form range pid = sets form range (stored_at pid form) (λ spot v. []) pid
+
+-- a SET by a job of a worker, with an estimate in tenths of a second, which keeps its data at the key of its PID
+abbrev pub starts : ℕ → ℕ → (Form → Range) → Cell
+starts worker estimate range pid =
+    Some (record { form = byte; range = range byte; way = ByJob worker estimate; change = stored_at pid byte; reply = λ spot v. [] })
+
+-- a GET by a job of a worker, with an estimate in tenths of a second, which shows what it has measured
+abbrev pub measures : ℕ → ℕ → (Form → Range) → (Spot → Value → List ℕ) → Cell
+measures worker estimate range reply pid =
+    Some (record { form = byte; range = range byte; way = ByJob worker estimate; change = unchanged; reply = reply })
+
+-- a GET that is answered from what waits for the controller
+abbrev pub fetches : Way → (Form → Range) → Cell
+fetches way range pid = Some (record { form = byte; range = range byte; way = way; change = unchanged; reply = λ spot v. [] })
+
+-- a row that shows and takes what is kept at the key of its PID
+abbrev pub kept : ℕ → Bool → Form → (Form → Range) → Row
+kept pid root_only form range = row pid root_only stored (takes form range)
+
+-- Status: section 10.3
+abbrev pub status : List Row
+status =
+    row 0x0020 root (fetches FromQueue a_message_type) none  -- QUEUED_MESSAGE
+    ∷ row 0x0030 root (fetches FromStatus (below 5)) none  -- STATUS_MESSAGES
+    ∷ row 0x0031 root (asks word a_status status_text) none  -- STATUS_ID_DESCRIPTION
+    ∷ []
+
+-- Product information: sections 10.5.1 to 10.5.6
+abbrev pub information : List Row
+information =
+    row 0x0060 both (reads device_info) none  -- DEVICE_INFO
+    ∷ row 0x0080 both (reads (λ spot. spot.unit.model_text)) none  -- DEVICE_MODEL_DESCRIPTION
+    ∷ row 0x0081 both (reads (λ spot. spot.unit.maker_text)) none  -- MANUFACTURER_LABEL
+    ∷ kept 0x0082 both label any  -- DEVICE_LABEL
+    ∷ row 0x0090 root (reads at_factory_defaults) (sets nothing any set_back (λ spot v. []))  -- FACTORY_DEFAULTS
+    ∷ []
+
+-- Language and software: sections 10.5.7 to 10.5.11
+abbrev pub software : List Row
+software =
+    row 0x00A0 root (reads languages) none  -- LANGUAGE_CAPABILITIES
+    ∷ kept 0x00B0 root word a_language  -- LANGUAGE
+    ∷ row 0x00C0 both (reads (λ spot. spot.unit.software_text)) none  -- SOFTWARE_VERSION_LABEL
+    ∷ row 0x00C1 root (reads (λ spot. long_slots spot.profile.boot)) none  -- BOOT_SOFTWARE_VERSION_ID
+    ∷ row 0x00C2 root (reads (λ spot. spot.profile.boot_text)) none  -- BOOT_SOFTWARE_VERSION_LABEL
+    ∷ []
+
+-- DMX512 setup: section 10.6
+abbrev pub dmx : List Row
+dmx =
+    row 0x00E0 both (reads personality_of_all) (takes byte a_personality)  -- DMX_PERSONALITY
+    ∷ row 0x00E1 both (asks byte a_personality personality_described) none  -- DMX_PERSONALITY_DESCRIPTION
+    ∷ row 0x00F0 both (reads start_address) (takes word a_start)  -- DMX_START_ADDRESS
+    ∷ row 0x0120 root (reads (λ spot. slot_infos 0 (used_slots spot))) none  -- SLOT_INFO
+    ∷ row 0x0121 root (asks word a_slot slot_described) none  -- SLOT_DESCRIPTION
+    ∷ row 0x0122 root (reads (λ spot. slot_defaults 0 (used_slots spot))) none  -- DEFAULT_SLOT_VALUE
+    ∷ []
+
+-- Sensors: section 10.7
+abbrev pub sensing : List Row
+sensing =
+    row 0x0200 root (asks byte a_sensor sensor_described) none  -- SENSOR_DEFINITION
+    ∷ row 0x0201 root (measures 1 5 a_sensor sensor_measured) (sets byte sensors sensors_reset sensor_measured)  -- SENSOR_VALUE
+    ∷ row 0x0202 root none (sets byte sensors sensors_recorded (λ spot v. []))  -- RECORD_SENSORS
+    ∷ []
+
+-- Power and lamp: section 10.8
+abbrev pub usage : List Row
+usage =
+    kept 0x0400 root long any  -- DEVICE_HOURS
+    ∷ kept 0x0401 both long any  -- LAMP_HOURS
+    ∷ kept 0x0402 both long any  -- LAMP_STRIKES
+    ∷ row 0x0403 both stored (starts 0 50 (below 4))  -- LAMP_STATE
+    ∷ kept 0x0404 both byte (below 4)  -- LAMP_ON_MODE
+    ∷ kept 0x0405 root long any  -- DEVICE_POWER_CYCLES
+    ∷ []
+
+-- Display and configuration: sections 10.9 and 10.10
+abbrev pub display : List Row
+display =
+    kept 0x0500 root byte (below 3)  -- DISPLAY_INVERT
+    ∷ kept 0x0501 root byte any  -- DISPLAY_LEVEL
+    ∷ kept 0x0600 root byte (below 2)  -- PAN_INVERT
+    ∷ kept 0x0601 root byte (below 2)  -- TILT_INVERT
+    ∷ kept 0x0602 root byte (below 2)  -- PAN_TILT_SWAP
+    ∷ []
+
+-- Control: section 10.11
+abbrev pub control : List Row
+control =
+    kept 0x1000 both byte (below 2)  -- IDENTIFY_DEVICE
+    ∷ row 0x1010 both stored (starts 0 20 a_power_state)  -- POWER_STATE
+    ∷ row 0x1020 root (reads self_test_runs) (starts 1 100 a_self_test)  -- PERFORM_SELFTEST
+    ∷ row 0x1021 root (asks byte a_test self_test_described) none  -- SELF_TEST_DESCRIPTION
+    ∷ kept 0x1031 root preset a_preset  -- PRESET_PLAYBACK
+    ∷ []
+
+-- The PIDs that SUPPORTED_PARAMETERS leaves out, since every device has them. Section 10.4.1.
+abbrev pub is_required : ℕ → Bool
+is_required pid = list_any (λ required. pid == required) (0x0060 ∷ 0x00C0 ∷ 0x00F0 ∷ 0x1000 ∷ [])
+
+-- what SUPPORTED_PARAMETERS lists of these rows, at the root or at a sub-device
+abbrev pub listed : Bool → List Row → List ℕ
+listed is_root rows = flat_map (λ r. word_slots r.pid) (filter (λ r. (is_root || not r.root_only) && not (is_required r.pid)) rows)
+
+-- the PIDs that a device supports, beside those that every device does. Section 10.4.1.
+unfoldable pub supported : Spot → List ℕ
+supported spot = listed spot.is_root (status ++ information ++ software ++ dmx ++ sensing ++ usage ++ display ++ control)
+
+-- Product information with SUPPORTED_PARAMETERS: section 10.4.1
+abbrev pub product : List Row
+product =
+    row 0x0050 both (reads supported) none  -- SUPPORTED_PARAMETERS
+    ∷ information
+
+-- every row, in the order of the PIDs
+unfoldable pub table : List Row
+table = status ++ product ++ software ++ dmx ++ sensing ++ usage ++ display ++ control
+
+-- the first of these rows that has the PID
+abbrev pub row_in : List Row → ℕ → Option Row
+row_in rows pid = find (λ r. r.pid == pid) rows
+
+-- the row of a PID in the table
+unfoldable pub row_of : ℕ → Option Row
+unfolding table
+row_of pid = row_in table pid
+
+-- what a row has for a GET or a SET
+abbrev pub command_in : Option Row → Verb → Option Command
+command_in None verb = None
+command_in (Some r) Get = r.get
+command_in (Some r) Set = r.set

@@ -1,0 +1,53 @@
+-- What a row says of a command, also where there is no such row or command.
+use Rattle.std.specs.Prelude.{ℕ, Bool, true, false, List, [], Option, Some, None, Result, Ok, Err, if◌then◌else◌, is_some}
+use Rattle.rdm_params.specs.declared.kind.Verb.{Verb}
+use Rattle.rdm_params.specs.declared.nack.Nack.{Nack}
+use Rattle.rdm_params.specs.declared.nack.Nack.TheVariants.{FormatError, UnknownPid, UnsupportedCommandClass}
+use Rattle.rdm_params.specs.declared.slow.way.Way.{Way}
+use Rattle.rdm_params.specs.declared.slow.way.Way.TheVariants.{AtOnce, ByJob}
+use Rattle.rdm_params.specs.declared.value.Value.{Value}
+use Rattle.rdm_params.specs.Table.Changes.{Change}
+use Rattle.rdm_params.specs.Device.Spot.{Spot}
+use Rattle.rdm_params.specs.Table.Forms.{read_as}
+use Rattle.rdm_params.specs.Table.Rows.{Row, Command, command_in}
+
+-- whether the device has the parameter, and the parameter the command
+abbrev pub access : Option Row → Bool → Verb → Result (Unit {0}) Nack
+access None is_root verb = Err UnknownPid
+access (Some r) false verb =
+    if r.root_only then Err UnknownPid
+    else (if is_some (command_in (Some r) verb) then Ok tt else Err UnsupportedCommandClass)
+access (Some r) true verb = if is_some (command_in (Some r) verb) then Ok tt else Err UnsupportedCommandClass
+
+-- the value that the data says
+abbrev pub read : Option Command → List ℕ → Result Value Nack
+read None bytes = Err FormatError
+read (Some c) bytes = read_as c.form bytes
+
+-- the way in which the command is answered
+abbrev pub way_of : Option Command → Way
+way_of None = AtOnce
+way_of (Some c) = c.way
+
+abbrev pub is_by_job : Way → Bool
+is_by_job (ByJob worker estimate) = true
+is_by_job _ = false
+
+-- whether the command is slow: a job carries it out
+abbrev pub is_slow : Option Command → Bool
+is_slow command = is_by_job (way_of command)
+
+-- whether the value is in range at the device
+abbrev pub in_range_of : Option Command → Spot → Value → Bool
+in_range_of None spot v = false
+in_range_of (Some c) spot v = c.range spot v
+
+-- what the command makes of the entries of the device
+abbrev pub change : Option Command → Change
+change None spot v e = e.bytes
+change (Some c) spot v e = c.change spot v e
+
+-- the data of the reply
+abbrev pub reply : Option Command → Spot → Value → List ℕ
+reply None spot v = []
+reply (Some c) spot v = c.reply spot v

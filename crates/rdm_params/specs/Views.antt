@@ -1,0 +1,4 @@
+pub mod Handed
+pub mod Plain
+pub mod State
+pub mod Verdicts

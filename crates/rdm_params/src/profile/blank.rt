@@ -1,0 +1,70 @@
+//! The blanks that fill the unused places of a list: every number is 0, and every text empty.
+
+ghost use Rattle.std.specs.Prelude.{◌≡◌, [], pos};
+
+use crate::{Personality, SelfTest, SensorDef, Slot, StatusText};
+use rdm_frame::Text;
+
+impl Default for Personality {
+    ghost is_default = { λ blank. blank ≡ record { footprint = 0; name = [] } };
+
+    fn default() -> Personality {
+        Personality {
+            footprint: 0,
+            name: Text::new(),
+        }
+    }
+}
+
+impl Default for Slot {
+    ghost is_default = { λ blank. blank ≡ record { kind = 0; label = 0; value = 0; name = [] } };
+
+    fn default() -> Slot {
+        Slot {
+            kind: 0,
+            label: 0,
+            value: 0,
+            name: Text::new(),
+        }
+    }
+}
+
+impl Default for SensorDef {
+    ghost is_default = { λ blank. blank ≡ record { kind = 0; unit = 0; prefix = 0; low = pos 0; high = pos 0; normal_low = pos 0; normal_high = pos 0; support = 0; name = [] } };
+
+    fn default() -> SensorDef {
+        SensorDef {
+            kind: 0,
+            unit: 0,
+            prefix: 0,
+            low: 0,
+            high: 0,
+            normal_low: 0,
+            normal_high: 0,
+            support: 0,
+            name: Text::new(),
+        }
+    }
+}
+
+impl Default for SelfTest {
+    ghost is_default = { λ blank. blank ≡ record { number = 0; name = [] } };
+
+    fn default() -> SelfTest {
+        SelfTest {
+            number: 0,
+            name: Text::new(),
+        }
+    }
+}
+
+impl Default for StatusText {
+    ghost is_default = { λ blank. blank ≡ record { id = 0; text = [] } };
+
+    fn default() -> StatusText {
+        StatusText {
+            id: 0,
+            text: Text::new(),
+        }
+    }
+}

@@ -1,0 +1,15 @@
+//! What rdm_play does where a line is faulty: it ends with status 1, and writes nothing to standard output.
+#![tactic(auto)]
+
+use rdm_script::run_program;
+use std::io;
+use std::process::ExitCode;
+
+fn main(rt: HostRuntime) -> ExitCode {
+    run_program(
+        rt.alloc(),
+        &mut rt.reader(),
+        &mut io::writer(&rt),
+        &mut rt.stderr(),
+    )
+}

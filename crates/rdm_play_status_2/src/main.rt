@@ -1,0 +1,16 @@
+//! What rdm_play does where memory is refused: it ends with status 2, and writes nothing to standard output.
+#![tactic(auto)]
+
+use rdm_script::{ProgramError, report};
+use std::alloc::Global;
+use std::process::ExitCode;
+
+fn main(rt: HostRuntime) -> ExitCode {
+    report(&mut rt.stderr(), take_too_much(rt.alloc()))
+}
+
+/// Asks for more memory than there is.
+fn take_too_much(alloc: Global) -> Result<(), ProgramError> {
+    let _room: Vec<u8> = Vec::with_capacity(alloc, usize::MAX)?;
+    Ok(())
+}

@@ -1,0 +1,84 @@
+-- The report of a job, and what it makes of an account.
+use Rattle.std.proofs.Common.{◌≡◌, ℕ, ◌<◌, Bool, true, false, cond, List, [], ◌∷◌, length, Option, Some, None, refl, sym, ap, subst, ◌∙◌, arith}
+use Rattle.std.specs.Prelude.{slice_get, nat_lt}
+use Rattle.rdm_params.specs.declared.slow.message.Message.{Message}
+use Rattle.rdm_params.specs.declared.slow.outcome.Outcome.{Outcome}
+use Rattle.rdm_params.specs.declared.slow.outcome.Outcome.TheVariants.{Done, Reading, Failed}
+use Rattle.rdm_params.specs.declared.slow.work.Work.{Work}
+use Rattle.rdm_params.specs.Device.Parameters.{Parameters}
+use Rattle.rdm_params.specs.Slow.Commit.{after_commit, committed}
+use Rattle.rdm_params.specs.Slow.Outcome.{fits}
+use Rattle.rdm_params.specs.Slow.Work.{worker_of}
+use Rattle.rdm_outbox.specs.declared.job.Job.{Job}
+use Rattle.rdm_outbox.specs.Account as outbox
+use Rattle.rdm_outbox.specs.Jobs.{outstanding_of, after_arrive}
+use Rattle.rdm_outbox.specs.Shows as outbox_state
+use Rattle.rdm_outbox.specs.Statuses.{can_note}
+use Rattle.rdm_responder.specs.declared.report.Report.{Report}
+use Rattle.rdm_responder.specs.declared.report.Arrival.{Arrival}
+use Rattle.rdm_responder.specs.History.{Arrived, History, then_event}
+use Rattle.rdm_responder.specs.Lawful.{MayArrive}
+use Rattle.rdm_responder.specs.Rules.{Account, account_of, account_after_report, after_outcome}
+use Rattle.rdm_responder.specs.Runs.{IsArrival, outbox_of}
+use Rattle.rdm_responder.specs.StandsFor.{State, Shows}
+use Rattle.rdm_responder.proofs.Accounts.{account_of-then}
+
+-- ---- which report may arrive
+
+abbrev some : Job → Option Job
+some j = Some j
+
+some_is : (i j : Job) → some i ≡ some j → i ≡ j
+some_is i j e = cc
+
+no_job : (j : Job) → None ≡ some j → ⊥
+no_job j e = cc
+
+pub oldest_arrives : (a : Account) (r : Report) (w : ℕ) (job : Job) → w ≡ worker_of r.job.work → some job ≡ slice_get (outstanding_of a.outbox w) 0 → job ≡ r.job → fits r.job.work r.outcome ≡ true → MayArrive a r
+oldest_arrives a r w job e oldest same fit =
+    record { oldest = ap (λ (n : ℕ). slice_get (outstanding_of a.outbox n) 0) (sym e) ∙ sym oldest ∙ ap some same; fits = fit }
+
+pub is_oldest : (a : Account) (r : Report) (w : ℕ) (job : Job) → w ≡ worker_of r.job.work → some job ≡ slice_get (outstanding_of a.outbox w) 0 → MayArrive a r → job ≡ r.job
+is_oldest a r w job e oldest may =
+    some_is job r.job (oldest ∙ ap (λ (n : ℕ). slice_get (outstanding_of a.outbox n) 0) e ∙ may.oldest)
+
+pub none_arrives : (a : Account) (r : Report) (w : ℕ) → w ≡ worker_of r.job.work → None ≡ slice_get (outstanding_of a.outbox w) 0 → MayArrive a r → ⊥
+none_arrives a r w e none may =
+    no_job r.job (none ∙ ap (λ (n : ℕ). slice_get (outstanding_of a.outbox n) 0) e ∙ may.oldest)
+
+pub some_outstanding : (jobs : List Job) (job : Job) → slice_get jobs 0 ≡ some job → 0 < length jobs
+some_outstanding [] job e = absurd (no_job job e)
+some_outstanding (j ∷ js) job e = omega arith
+
+-- ---- what it makes of the account
+
+pub outbox_after_report : (a : Account) (r : Report) (p : Parameters) (w : ℕ) (m : Message) → p ≡ a.parameters → w ≡ worker_of r.job.work → m ≡ committed p r.job.work r.outcome → after_outcome (after_arrive a.outbox w m) r.job.work r.outcome ≡ (account_after_report a r).outbox
+outbox_after_report a r p w m e worker message = rw (worker, message, e) refl
+
+pub shows_report : (old new : State) (a : Account) (r : Report) (w : ℕ) (m : Message) → Shows old a → w ≡ worker_of r.job.work → m ≡ committed old.parameters r.job.work r.outcome → new.uid ≡ old.uid → new.parameters ≡ after_commit old.parameters r.job.work r.outcome → new.muted ≡ old.muted → outbox_state.Shows new.outbox (after_outcome (after_arrive a.outbox w m) r.job.work r.outcome) → Shows new (account_after_report a r)
+shows_report old new a r w m shows worker message uid parameters muted outbox = record {
+  uid = uid ∙ shows.uid;
+  parameters = parameters ∙ ap (λ (p : Parameters). after_commit p r.job.work r.outcome) shows.parameters;
+  muted = muted ∙ shows.muted;
+  outbox = subst (outbox_state.Shows new.outbox) (outbox_after_report a r old.parameters w m shows.parameters worker message) outbox;
+}
+
+noting_keeps : (b : outbox.Account) (noted : List outbox.Noted) (room : Bool) → (cond room (record b { noted = noted }) b).arrived ≡ b.arrived
+noting_keeps b noted true = refl
+noting_keeps b noted false = refl
+
+keeps_arrived : (b : outbox.Account) (work : Work) (outcome : Outcome) → (after_outcome b work outcome).arrived ≡ b.arrived
+keeps_arrived b work Done = refl
+keeps_arrived b work (Reading v) = refl
+keeps_arrived b work (Failed severity id v1 v2) = noting_keeps b _ (can_note b)
+
+pub is_arrival : (h : History) (r : Report) (arrival : Arrival) (p : Parameters) (w : ℕ) → MayArrive (account_of h) r → p ≡ (account_of h).parameters → w ≡ worker_of r.job.work → arrival.message ≡ committed p r.job.work r.outcome → arrival.kept ≡ nat_lt (length (outbox_of h).noted) (length (after_outcome (after_arrive (outbox_of h) w arrival.message) r.job.work r.outcome).noted) → IsArrival h r arrival
+is_arrival h r arrival p w may e worker message kept =
+    let a = account_of h in
+    let after : after_outcome (after_arrive a.outbox w arrival.message) r.job.work r.outcome ≡ outbox_of (then_event h (Arrived r)) =
+    outbox_after_report a r p w arrival.message e worker message ∙ ap (λ (b : Account). b.outbox) (sym (account_of-then h (Arrived r))) in
+    record {
+      may = may;
+      message = ap (λ (b : outbox.Account). b.arrived) (sym after) ∙ keeps_arrived (after_arrive a.outbox w arrival.message) r.job.work r.outcome;
+      kept = kept ∙ ap (λ (b : outbox.Account). nat_lt (length (outbox_of h).noted) (length b.noted)) after;
+    }

@@ -1,0 +1,31 @@
+//! The report of a job, and what becomes of it.
+
+use rdm_outbox::Job;
+use rdm_params::{Message, Outcome};
+use thiserror::Error;
+
+/// What a worker reports: a job, and how it ended.
+#[derive(Clone, Copy, Debug, PartialEq, Eq)]
+pub struct Report {
+    /// The job, as the responder gave it out.
+    pub job: Job,
+    /// How it ended.
+    pub outcome: Outcome,
+}
+
+/// What a report became.
+#[derive(Debug, Drop, PartialEq, Eq)]
+pub struct Arrival {
+    /// The message that waits for the controller now (E1.20 section 10.3.1).
+    pub message: Message,
+    /// Whether a status entry was noted (section 10.3.2). It is where the job failed and there was room for the entry.
+    pub kept: bool,
+}
+
+/// A report that isn't of the oldest outstanding job of its worker, or whose outcome doesn't fit the job.
+#[derive(Clone, Copy, Debug, PartialEq, Eq, Error)]
+#[error("astray")]
+pub struct Astray {
+    /// The report.
+    pub report: Report,
+}

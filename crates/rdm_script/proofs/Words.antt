@@ -1,0 +1,71 @@
+-- Words of a line, one after the other.
+use Rattle.std.proofs.Common.{false, eqb, ◌≡◌, ℕ, ◌+◌, ◌≤◌, ◌==◌, true, false, List, [], ◌∷◌, ◌++◌, length, take, drop, map, filter, position, Some, None, refl, sym, ap, ◌∙◌, arith, append_assoc, Bor}
+use Rattle.std.specs.List.{slice_split}
+use Rattle.std.proofs.lemmas.List.{map_push, length-map, take-append-le, take_all, append-nil}
+use Rattle.std.proofs.lemmas.Bool.Decides.{nat_tests}
+use Rattle.std.proofs.lemmas.List.Elements.{filter-append}
+use Rattle.rdm_script.proofs.Pieces.{pieces_more, pieces_last}
+use Rattle.rdm_script.specs.Grammar.{is_blank, is_word, words_of, line_in}
+
+-- the bytes of borrowed words
+abbrev pub bytes_of : List (Bor (List ℕ)) → List (List ℕ)
+bytes_of words = map (λ word. word.now) words
+
+-- the first piece of a line, where it is a word, and the words behind it
+words_more : (line : List ℕ) (end : ℕ) → position is_blank line ≡ Some end → words_of line ≡ filter is_word (take end line ∷ []) ++ words_of (drop (end + 1) line)
+words_more line end h = ap (filter is_word) (pieces_more is_blank line end h) ∙ filter-append is_word (take end line ∷ []) (slice_split is_blank (drop (end + 1) line))
+
+words_last : (line : List ℕ) → position is_blank line ≡ None → words_of line ≡ filter is_word (line ∷ [])
+words_last line h = ap (filter is_word) (pieces_last is_blank line h)
+
+word_is : (piece : List ℕ) → (length piece == 0) ≡ false → filter is_word (piece ∷ []) ≡ piece ∷ []
+word_is piece h = rw h refl
+
+no_word : (piece : List ℕ) → (length piece == 0) ≡ true → filter is_word (piece ∷ []) ≡ []
+no_word piece h = rw h refl
+
+full : (front xs ys : List (List ℕ)) → 6 ≤ length front → take 6 (front ++ xs) ≡ take 6 (front ++ ys)
+full front xs ys h = take-append-le 6 front xs h ∙ sym (take-append-le 6 front ys h)
+
+-- a piece that is kept, and one that isn't
+pub kept : (words : List (Bor (List ℕ))) (piece : Bor (List ℕ)) → (length piece.now == 0) ≡ false → (rest : List (List ℕ))
+    → take 6 (bytes_of (words ++ piece ∷ []) ++ rest) ≡ take 6 (bytes_of words ++ (filter is_word (piece.now ∷ []) ++ rest))
+kept words piece some rest =
+    rw (map_push, word_is piece.now some) (ap (take 6) (append_assoc (bytes_of words) (piece.now ∷ []) rest))
+
+pub left_empty : (words : List (Bor (List ℕ))) (piece : List ℕ) → (length piece == 0) ≡ true → (rest : List (List ℕ))
+    → take 6 (bytes_of words ++ rest) ≡ take 6 (bytes_of words ++ (filter is_word (piece ∷ []) ++ rest))
+left_empty words piece none rest = rw (no_word piece none) refl
+
+pub left_full : (words : List (Bor (List ℕ))) (piece : List ℕ) → 6 ≤ length words → (rest : List (List ℕ))
+    → take 6 (bytes_of words ++ rest) ≡ take 6 (bytes_of words ++ (filter is_word (piece ∷ []) ++ rest))
+left_full words piece past rest = full (bytes_of words) rest (filter is_word (piece ∷ []) ++ rest) (rw length-map past)
+
+-- the words of a line that were read so far, and those of the rest
+pub words_go_on : (before after : List (Bor (List ℕ))) (line rest more : List ℕ) (end : ℕ) → position is_blank rest ≡ Some end → more ≡ drop (end + 1) rest
+    → ((xs : List (List ℕ)) → take 6 (bytes_of after ++ xs) ≡ take 6 (bytes_of before ++ (filter is_word (take end rest ∷ []) ++ xs)))
+    → take 6 (bytes_of before ++ words_of rest) ≡ take 6 (words_of line) → take 6 (bytes_of after ++ words_of more) ≡ take 6 (words_of line)
+words_go_on before after line rest more end h is_more keeps so_far =
+    rw is_more (keeps (words_of (drop (end + 1) rest)) ∙ ap (λ (ws : List (List ℕ)). take 6 (bytes_of before ++ ws)) (sym (words_more rest end h)) ∙ so_far)
+
+pub words_end : (before after : List (Bor (List ℕ))) (line rest : List ℕ) → position is_blank rest ≡ None → length after ≤ 6
+    → ((xs : List (List ℕ)) → take 6 (bytes_of after ++ xs) ≡ take 6 (bytes_of before ++ (filter is_word (rest ∷ []) ++ xs)))
+    → take 6 (bytes_of before ++ words_of rest) ≡ take 6 (words_of line) → bytes_of after ≡ take 6 (words_of line)
+words_end before after line rest h small keeps so_far =
+    let whole : take 6 (bytes_of after ++ []) ≡ bytes_of after = rw append-nil (take_all 6 (bytes_of after) (rw length-map small)) in
+    let last : filter is_word (rest ∷ []) ++ [] ≡ words_of rest = append-nil (filter is_word (rest ∷ [])) ∙ sym (words_last rest h) in
+    sym whole ∙ keeps [] ∙ ap (λ (ws : List (List ℕ)). take 6 (bytes_of before ++ ws)) last ∙ so_far
+
+-- six words tell what the whole line says
+pub line_in_front : (words : List (List ℕ)) → line_in (take 6 words) ≡ line_in words
+unfolding line_in
+line_in_front [] = refl
+line_in_front (a ∷ []) = refl
+line_in_front (a ∷ b ∷ []) = refl
+line_in_front (a ∷ b ∷ c ∷ []) = refl
+line_in_front (a ∷ b ∷ c ∷ d ∷ []) = refl
+line_in_front (a ∷ b ∷ c ∷ d ∷ e ∷ []) = refl
+line_in_front (a ∷ b ∷ c ∷ d ∷ e ∷ f ∷ more) =
+    let some : eqb (length (a ∷ b ∷ c ∷ d ∷ e ∷ f ∷ more)) 0 ≡ false = grind (arith, nat_tests) in
+    let many : eqb (length (a ∷ b ∷ c ∷ d ∷ e ∷ f ∷ more)) 5 ≡ false = grind (arith, nat_tests) in
+    rw (some, many) refl

@@ -1,0 +1,14 @@
+use Rattle.std.proofs.Common.{◌≡◌, ◌≤◌, ◌++◌, length, take}
+use Rattle.rdm_script.specs.Grammar.{words_of}
+use Rattle.rdm_script.proofs.Words.{bytes_of}
+use Rattle.rdm_script.proofs.grammar.words.words_of.Given as goal
+
+abbrev pub invariant-loop-end : goal.invariant-loop-end
+invariant-loop-end l = record {
+  front : take 6 (bytes_of l.words.items ++ words_of l.rest) ≡ take 6 (words_of l.line);
+  within : length l.words.items ≤ 6;
+  room : length l.rest ≤ length l.line;
+}
+
+abbrev pub decreases-loop-end : goal.decreases-loop-end
+decreases-loop-end l = length l.rest

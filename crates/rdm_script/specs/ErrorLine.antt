@@ -1,0 +1,32 @@
+-- The line by which the program tells an error on standard error.
+use Rattle.std.specs.Prelude.{ℕ, List, [], ◌∷◌, ◌++◌, codes, decimal}
+use Rattle.rdm_script.specs.declared.grammar.parsing.ScriptError.{ScriptError}
+use Rattle.rdm_script.specs.declared.grammar.parsing.ScriptError.TheVariants as script
+use Rattle.rdm_script.specs.declared.controller.RunError.{RunError}
+use Rattle.rdm_script.specs.declared.controller.RunError.TheVariants as run
+use Rattle.rdm_script.specs.declared.program.ProgramError.{ProgramError}
+use Rattle.rdm_script.specs.declared.program.ProgramError.TheVariants.{Read, Script, Memory, Run, Write}
+
+-- the words of a fault of the script
+abbrev pub script_words : ScriptError → List ℕ
+script_words script.OutOfMemory = codes "out of memory"
+script_words script.TooLong = codes "script too long"
+script_words (script.Line number) = codes "line " ++ decimal number
+
+-- the words of a fault of the run
+abbrev pub run_words : RunError → List ℕ
+run_words run.OutOfMemory = codes "out of memory"
+run_words run.Reserved = codes "reserved"
+run_words run.TooLong = codes "too long"
+
+-- the words of an error
+abbrev pub error_words : ProgramError → List ℕ
+error_words Read = codes "read"
+error_words (Script e) = script_words e
+error_words Memory = codes "out of memory"
+error_words (Run e) = codes "run " ++ run_words e
+error_words Write = codes "write"
+
+-- The line that tells an error: `error: `, its words, and LF.
+abbrev pub error_line : ProgramError → List ℕ
+error_line e = codes "error: " ++ error_words e ++ 10 ∷ []

@@ -1,0 +1,57 @@
+//! How a program over `run_script` ends: its exit status, and its line on standard error.
+
+ghost use Rattle.std.specs.Prelude.{◌≡◌, ◌≢◌, ℕ, List, OnOk, IfSome};
+ghost use Rattle.std.specs.Io.KnownBytes.{Keeps, Appends, IsAtEnd};
+ghost use Rattle.std.specs.Process.{exit_status};
+ghost use Rattle.rdm_script.specs.ErrorLine.{error_line};
+ghost use Rattle.rdm_script.specs.Program.{IsTraceOf, IsFailure, Leaves, status_of, outcome_status};
+ghost use Rattle.rdm_script.specs.declared.program.ProgramError.{ProgramError as TheError};
+
+use crate::program::{ProgramError, run_script};
+use std::alloc::Global;
+use std::io;
+use std::io::{Read, Write};
+use std::process::ExitCode;
+
+/// Plays the script that is read and writes its trace, as `run_script` does. Where that fails, the line of the error
+/// is written to `errors`. The exit status is 0, or that of the error.
+pub fn run_program<R: Read, W: Write, E: Write>(
+    alloc: Global,
+    reader: &mut R,
+    writer: &mut W,
+    errors: &mut E,
+) -> ExitCode
+    // Status 0: the whole input was read, its trace was written, and no error line.
+    ensures done { exit_status result ≡ 0 → IfSome (R.remaining reader.old) (λ input. (text : List ℕ) ×
+        IsTraceOf input text × Appends (W.contents writer.old) (W.contents writer.new) text) }
+    ensures whole { exit_status result ≡ 0 → IsAtEnd (R.remaining reader.new) }
+    ensures silent { exit_status result ≡ 0 → Keeps (E.contents errors.old) (E.contents errors.new) }
+    // Every other status is that of an error which has its cause in the input, and no byte of its line goes to the output.
+    ensures failed { exit_status result ≢ 0 → (e : TheError) × (exit_status result ≡ status_of e) ×
+        IfSome (R.remaining reader.old) (IsFailure e) ×
+        Leaves e (R.remaining reader.old) (W.contents writer.old) (W.contents writer.new) }
+{
+    report(errors, run_script(alloc, reader, writer))
+}
+
+/// Tells how a program ended: where it failed, the line of the error is written to `errors`. Gives the exit status.
+pub fn report<W: Write>(errors: &mut W, outcome: Result<(), ProgramError>) -> ExitCode
+    ensures status { exit_status result ≡ outcome_status outcome }
+    ensures silent { OnOk outcome (Keeps (W.contents errors.old) (W.contents errors.new)) }
+{
+    match outcome {
+        Ok(()) => ExitCode::SUCCESS,
+        Err(error) => {
+            // Nobody is left to be told where the line can't be written.
+            let _ = write_error_line(errors, error);
+            ExitCode::from(error.status())
+        }
+    }
+}
+
+/// Writes the line that tells an error: `error: `, its words, and LF.
+pub fn write_error_line<W: Write>(writer: &mut W, error: ProgramError) -> io::Result<()>
+    ensures { OnOk result (Appends (W.contents writer.old) (W.contents writer.new) (error_line error)) }
+{
+    writeln!(writer, "error: {error}")
+}

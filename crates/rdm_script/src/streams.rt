@@ -1,0 +1,91 @@
+//! Readers and writers: all that a reader gives, and a text written whole.
+
+ghost use Rattle.std.specs.Prelude.{◌≡◌, ◌≤◌, ℕ, [], length, take, vec_capacity, OnOk, OnErr, ◌⊎◌, IfOk, IfErr, MatchResult};
+ghost use Rattle.std.specs.Io.KnownBytes.{Keeps, Appends, Consumes, IsAtEnd, ReadConsumes};
+ghost use Rattle.rdm_script.specs.declared.program.ProgramError.TheVariants.{Memory, Read as ReadFault, Write as WriteFault};
+
+use crate::grammar::MOST_BYTES;
+use crate::program::ProgramError;
+use crate::trace::put_all;
+use std::alloc::Global;
+use std::io::{Read, Write};
+
+/// How many bytes are read at most: one more than a script may have.
+const MOST_READ: usize = MOST_BYTES + 1;
+
+/// How many bytes are read at once.
+const PIECE: usize = 1024;
+
+/// All that a reader gives, or the first 65,537 bytes of it.
+///
+/// Memory for so many bytes is taken first.
+pub(crate) fn read_input<R: Read>(alloc: Global, reader: &mut R) -> Result<Vec<u8>, ProgramError>
+    ensures bytes { IfOk result (λ input. Consumes (R.remaining reader.old) (R.remaining reader.new) input.items) }
+    ensures end { IfOk result (λ input. length input.items ≤ 65536 → IsAtEnd (R.remaining reader.new)) }
+    ensures err { IfErr result (λ e. (e ≡ ReadFault) ⊎ (e ≡ Memory)) }
+{
+    let mut input = Vec::with_capacity(alloc, MOST_READ)?;
+    read_all(reader, &mut input)?;
+    Ok(input)
+}
+
+/// Puts all that a reader gives, or the first 65,537 bytes of it, into a list that has room for them.
+fn read_all<R: Read>(reader: &mut R, input: &mut Vec<u8>) -> Result<(), ProgramError>
+    requires none { input.old.items ≡ [] }
+    requires room { 65537 ≤ vec_capacity input.old }
+    ensures bytes { OnOk result (Consumes (R.remaining reader.old) (R.remaining reader.new) input.new.items) }
+    ensures end { OnOk result (length input.new.items ≤ 65536 → IsAtEnd (R.remaining reader.new)) }
+    ensures err { IfErr result (λ e. e ≡ ReadFault) }
+{
+    let mut piece = [0u8; PIECE];
+    while input.len() < MOST_READ {
+        let room = PIECE.min(MOST_READ - input.len());
+        let count = read_some(reader, &mut piece[..room])?;
+        if count == 0 {
+            break;
+        }
+        put_all(input, &piece[..count]);
+    }
+    Ok(())
+}
+
+/// One read. A read that fails is a fault.
+fn read_some<R: Read>(reader: &mut R, piece: &mut [u8]) -> Result<usize, ProgramError>
+    ensures bytes { ReadConsumes (R.remaining reader.old) (R.remaining reader.new) result piece.new }
+    ensures within { IfOk result (λ count. count ≤ length piece.new) }
+    ensures err { IfErr result (λ e. e ≡ ReadFault) }
+{
+    match reader.read(piece) {
+        Ok(count) => Ok(count),
+        Err(_) => Err(ProgramError::Read),
+    }
+}
+
+/// Writes the whole text, in as many writes as the writer wants.
+pub(crate) fn write_text<W: Write>(writer: &mut W, text: &[u8]) -> Result<(), ProgramError>
+    ensures ok { OnOk result (Appends (W.contents writer.old) (W.contents writer.new) text.now) }
+    ensures front { OnErr result ((count : ℕ) × Appends (W.contents writer.old) (W.contents writer.new) (take count text.now)) }
+    ensures err { IfErr result (λ e. e ≡ WriteFault) }
+{
+    let mut written = 0;
+    while written < text.len() {
+        let count = write_some(writer, &text[written..])?;
+        if count == 0 {
+            return Err(ProgramError::Write);
+        }
+        written += count;
+    }
+    Ok(())
+}
+
+/// One write. A write that fails is a fault.
+fn write_some<W: Write>(writer: &mut W, bytes: &[u8]) -> Result<usize, ProgramError>
+    ensures bytes { MatchResult result
+        (λ count. (count ≤ length bytes.now) × Appends (W.contents writer.old) (W.contents writer.new) (take count bytes.now))
+        (λ e. (e ≡ WriteFault) × Keeps (W.contents writer.old) (W.contents writer.new)) }
+{
+    match writer.write(bytes) {
+        Ok(count) => Ok(count),
+        Err(_) => Err(ProgramError::Write),
+    }
+}
