@@ -1,0 +1,10 @@
+pub mod Alterations
+pub mod BusRuns
+pub mod Devices
+pub mod Joining
+pub mod Kept
+pub mod PollingRuns
+pub mod Queues
+pub mod ReadBack
+pub mod Refusals
+pub mod Systems

@@ -1,0 +1,23 @@
+-- The trace is one event longer, and both recording laws hold of it, as of every run of the bus.
+use Rattle.std.proofs.Common.{List, [], ◌∷◌, ◌++◌, sym, ap, subst, ◌∙◌}
+use Rattle.rdm_bus.specs.declared.event.Event.{Event}
+use Rattle.rdm_bus.specs.BusLaws.{recorded}
+use Rattle.rdm_bus.specs.BusRun.{after_all}
+use Rattle.rdm_bus.specs.Systems.{IsTrace}
+use Rattle.rdm_bus.proofs.Systems.{trace_more}
+use Rattle.rdm_bus.proofs.system.System.play.Goals as goal
+
+pub returns-clause-trace : goal.returns-clause-trace
+returns-clause-trace c start steps trace =
+    let before = subst (IsTrace start steps) (sym c.self.view_is) trace in
+    let pushed = c.push_reserved.ensures.items ∙ ap (λ (es : List Event). es ++ c.in_ok-event.event ∷ []) c.reserve.ensures.items in
+    let at = after_all start c.self.inside.trace.items in
+    let messages = recorded c.self.inside.trace.items in
+    trace_more start steps _ _ c.args.step.now c.in_ok-event.event before pushed
+    (c.in_ok-event.ensures.played at messages before.stands)
+    (c.in_ok-event.ensures.stands at messages before.stands)
+    (c.in_ok-event.ensures.altered at messages before.stands)
+
+pub returns-clause-laws : goal.returns-clause-laws
+returns-clause-laws c start steps trace =
+    c.bus_recording_laws_hold.ensures start (steps ++ c.args.step.now ∷ []) _ (returns-clause-trace c start steps trace).run

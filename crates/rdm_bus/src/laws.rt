@@ -1,0 +1,53 @@
+//! Laws of the bus, over every value. Each is the contract of a call that does nothing.
+
+ghost use Rattle.rdm_bus.specs.Devices.{dequeues_again, forgets_empty_status, BreaksPrefixLaw, RightDeviceIsPolled};
+ghost use Rattle.rdm_bus.specs.Faults.{AlteredIsNoFrame};
+ghost use Rattle.rdm_bus.specs.BusLaws.{BusLawsHold};
+ghost use Rattle.rdm_bus.specs.Polling.{LawsHold};
+ghost use Rattle.rdm_bus.specs.Recording.{JoinsFromTheFront, SkippingIsRefused, RecordingNothingIsRefused, RepeatingAnOlderOneIsRefused};
+
+use rdm_params::two_commands_fetch;
+
+/// A frame with one slot raised by 1 to 255 is no frame: nobody on the bus takes it for one.
+#[tactic(auto, using(crate::proofs::Alterations::altered_is_no_frame))]
+pub fn altered_frame_is_no_frame()
+    ensures { AlteredIsNoFrame }
+{}
+
+/// Joining takes the first of two equal neighbours away and leaves all else, from the front.
+#[tactic(auto, using(crate::proofs::Joining::joins_from_the_front))]
+pub fn joining_goes_from_the_front()
+    ensures { JoinsFromTheFront }
+{}
+
+/// What a collector recorded, with equal neighbours joined, is what the device dispensed, joined likewise, but for one
+/// message at most; and no message that was given is missing from it, but for the last at most. Nothing is missing where
+/// the last poll is answered (E1.20 section 10.3.1).
+#[tactic(auto, using(crate::proofs::PollingRuns::laws_hold))]
+pub fn recording_laws_hold()
+    ensures { LawsHold }
+{}
+
+/// What the prefix law rules out: a controller that asks for the next message after a loss, or a device that gives it;
+/// a controller that records nothing; and a device that doesn't repeat its last answer.
+pub fn recording_laws_rule_out()
+    ensures skipping { SkippingIsRefused }
+    ensures recording_nothing { RecordingNothingIsRefused }
+    ensures repeating_an_older_one { RepeatingAnOlderOneIsRefused }
+{}
+
+/// Both recording laws hold of every run of the bus, from every history of the device: whichever commands, polls and arrivals
+/// there are, whichever requests and replies are lost or altered, and however many in a row.
+pub fn bus_recording_laws_hold()
+    ensures { BusLawsHold }
+{
+    two_commands_fetch();
+}
+
+/// A device whose last message takes a new one from the queue breaks the prefix law, and so does one that doesn't keep an
+/// empty status message as its last one. The runs of the device of the standard are among those of which the laws hold.
+pub fn wrong_devices_break_the_prefix_law()
+    ensures dequeues_again { BreaksPrefixLaw dequeues_again }
+    ensures forgets_empty_status { BreaksPrefixLaw forgets_empty_status }
+    ensures right { RightDeviceIsPolled }
+{}

@@ -1,0 +1,30 @@
+//! The controller's side of Remote Device Management (ANSI E1.20-2010), and the bus.
+//!
+//! A `Collector` sends one request at a time to one device. By `poll` it fetches the messages that wait there, and
+//! records them; by `ask` it sends the commands of its user. A `Fault` is what goes wrong with one transaction.
+#![tactic(auto)]
+
+mod collector;
+mod command;
+mod event;
+mod fault;
+mod laws;
+mod message;
+mod ranges;
+mod system;
+#[cfg(test)]
+mod tests;
+mod transaction;
+mod want;
+
+pub use collector::{AskError, Collector, PollError};
+pub use command::{Action, Command};
+pub use event::{Event, Step};
+pub use fault::Fault;
+pub use laws::{
+    altered_frame_is_no_frame, bus_recording_laws_hold, joining_goes_from_the_front,
+    recording_laws_hold, recording_laws_rule_out, wrong_devices_break_the_prefix_law,
+};
+pub use system::{PlayError, System};
+pub use transaction::Heard;
+pub use want::Want;

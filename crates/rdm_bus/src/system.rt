@@ -1,0 +1,237 @@
+//! A device and a controller on one bus.
+
+ghost use Rattle.std.specs.Prelude.{◌≡◌, ◌≢◌, ◌↔◌, ◌<◌, ◌++◌, ◌∷◌, [], ℕ, List, Some, None, length, IfOk, OnOk, OnErr, IfSome, IfErr, IsErrOf, slice_index};
+ghost use Rattle.std.specs.Option.{option_map, option_map_or};
+ghost use Rattle.rdm_params.specs.declared.slow.message.Message.{Message};
+ghost use Rattle.rdm_responder.specs.History.{History};
+ghost use Rattle.rdm_responder.specs.Lawful.{MayArrive};
+ghost use Rattle.rdm_responder.specs.Rules.{account_of};
+ghost use Rattle.rdm_responder.specs.StandsFor.{StandsFor};
+ghost use Rattle.rdm_bus.specs.Collecting.{heard_in, after_hearing};
+ghost use Rattle.rdm_bus.specs.Faults.{reply_heard};
+ghost use Rattle.rdm_bus.specs.BusLaws.{BusLaws, recorded_by};
+ghost use Rattle.rdm_bus.specs.BusRun.{Start, after, after_reply, history_after, reply_in, transaction, raise_of, fault_of, IsFault, IsPlayed, IsAlteredInVain};
+ghost use Rattle.rdm_bus.specs.Systems.{Stands, IsTrace, IsAstray, refusal_in, start_of};
+
+use crate::collector::{Collector, MOST_DATA, PollError};
+use crate::command::is_reserved;
+use crate::event::{Event, Step};
+use crate::fault::Fault;
+use crate::laws::bus_recording_laws_hold;
+use crate::ranges::are_bytes;
+use crate::transaction::Heard;
+use rdm_frame::Wire;
+use rdm_params::Message;
+use rdm_responder::Responder;
+use std::alloc::Global;
+use std::marker::Model;
+use thiserror::Error;
+
+/// Why a step isn't played. The first two are tested first, in this order.
+#[derive(Clone, Copy, Debug, PartialEq, Eq, Error)]
+pub enum PlayError {
+    /// There is no memory for the event or for the answer to a poll.
+    #[error("out of memory")]
+    OutOfMemory,
+    /// A command asks for QUEUED_MESSAGE or STATUS_MESSAGES, which the controller keeps for itself.
+    #[error("reserved")]
+    Reserved,
+    /// A command has more data than a frame can carry.
+    #[error("too long")]
+    TooLong,
+    /// A report isn't of the oldest outstanding job of its worker, or its outcome doesn't fit the job. It comes after want
+    /// of memory.
+    #[error("astray")]
+    Astray,
+}
+
+/// A responder and a collector on one bus, and what has happened there.
+#[derive(Debug, Drop)]
+pub struct System {
+    responder: Responder,
+    collector: Collector,
+    trace: Vec<Event>,
+}
+
+impl Model for System {
+    ghost use Rattle.std.specs.Prelude.{◌≡◌, None};
+    ghost use Rattle.rdm_bus.specs.Systems.{Played};
+
+    ghost Value = { Played };
+
+    ghost view = { λ s. record { responder = s.responder; collector = s.collector; trace = s.trace.items } };
+
+    // Each transaction is over before the next step.
+    ghost invariant = { λ s. s.collector.transaction ≡ None };
+}
+
+impl System {
+    /// A system of this responder and of this collector, which has no open transaction and has recorded nothing. Nothing has
+    /// happened yet. A collector that collects from another device finds none.
+    pub fn new(alloc: Global, responder: Responder, collector: Collector) -> Self
+        requires idle { collector.transaction ≡ None }
+        requires nothing_recorded { collector.recorded ≡ [] }
+        ensures { (h : History) → StandsFor responder h → IsTrace (start_of h collector) [] result }
+    {
+        System {
+            responder,
+            collector,
+            trace: Vec::new(alloc),
+        }
+    }
+
+    /// Plays a step: the controller sends a command or a poll, and the device and then the controller hear what comes of it,
+    /// or the report of a job arrives at the device.
+    ///
+    /// A command for QUEUED_MESSAGE or STATUS_MESSAGES is refused first, then one with more than 231 bytes of data. Then
+    /// memory is taken. A report that may not arrive is `Astray` at last. Where a step is refused, nothing changes.
+    pub fn play(&mut self, step: &Step) -> Result<(), PlayError>
+        requires { raise_of (fault_of step.now) ≢ Some 0 }
+        ensures trace { OnOk result ((start : Start) (steps : List Step) →
+            IsTrace start steps self.old → IsTrace start (steps ++ step.now ∷ []) self.new) }
+        ensures laws { OnOk result ((start : Start) (steps : List Step) →
+            IsTrace start steps self.old → BusLaws start self.new.trace) }
+        ensures reserved { IsErrOf result PlayError.Reserved ↔ (refusal_in step.now ≡ Some PlayError.Reserved) }
+        ensures too_long { IsErrOf result PlayError.TooLong ↔ (refusal_in step.now ≡ Some PlayError.TooLong) }
+        ensures astray { IsErrOf result PlayError.Astray → IsAstray self.old.responder step.now }
+        ensures err { OnErr result (self.new ≡ self.old) }
+    {
+        // The trace is a run of the bus, and the laws hold of every run.
+        bus_recording_laws_hold();
+        if let Some(refusal) = refusal_in(step) {
+            return Err(refusal);
+        }
+        if self.trace.reserve(1).is_err() {
+            return Err(PlayError::OutOfMemory);
+        }
+        let event = happen(&mut self.responder, &mut self.collector, step)?;
+        self.trace.push_reserved(event);
+        Ok(())
+    }
+
+    /// What has happened, in order.
+    pub fn trace(&self) -> &[Event]
+        ensures { result.now ≡ self.now.trace }
+    {
+        self.trace.as_slice()
+    }
+
+    /// The messages that the collector has recorded, in order.
+    pub fn recorded(&self) -> &[Message]
+        ensures { result.now ≡ self.now.collector.recorded }
+    {
+        self.collector.recorded()
+    }
+
+    /// The device.
+    pub fn responder(&self) -> &Responder
+        ensures { result.now ≡ self.now.responder }
+    {
+        &self.responder
+    }
+}
+
+/// Why a step is never played, if so.
+fn refusal_in(step: &Step) -> Option<PlayError>
+    ensures { result ≡ refusal_in step.now }
+{
+    match step {
+        Step::Ask(command, _) if is_reserved(command.pid) => Some(PlayError::Reserved),
+        Step::Ask(command, _) if command.load.as_slice().len() > MOST_DATA => {
+            Some(PlayError::TooLong)
+        }
+        Step::Ask(_, _) | Step::Collect(_) | Step::Arrive(_) => None,
+    }
+}
+
+/// Plays a step on a responder and a collector, and gives the event. It is refused where a poll finds no memory for its
+/// answer, and where a report is astray.
+fn happen(
+    responder: &mut Responder,
+    collector: &mut Collector,
+    step: &Step,
+) -> Result<Event, PlayError>
+    requires idle { collector.now.transaction ≡ None }
+    requires not_refused { refusal_in step.now ≡ None }
+    requires fault { raise_of (fault_of step.now) ≢ Some 0 }
+    ensures played { IfOk result (λ event. (s : Start) (messages : List Message) →
+        Stands responder.old collector.old s messages → IsPlayed s step.now event) }
+    ensures stands { IfOk result (λ event. (s : Start) (messages : List Message) →
+        Stands responder.old collector.old s messages →
+        Stands responder.new collector.new (after s event) (messages ++ recorded_by event)) }
+    ensures altered { IfOk result (λ event. (s : Start) (messages : List Message) →
+        Stands responder.old collector.old s messages → IsAlteredInVain event) }
+    ensures idle { collector.new.transaction ≡ None }
+    ensures refused { IfErr result (λ e. (e ≢ PlayError.Reserved) × (e ≢ PlayError.TooLong)) }
+    ensures astray { IsErrOf result PlayError.Astray → IsAstray responder.old step.now }
+    ensures err { OnErr result ((responder.new ≡ responder.old) × (collector.new ≡ collector.old)) }
+{
+    match step {
+        Step::Ask(command, fault) => match collector.ask(command) {
+            Ok(sent) => Ok(carry(responder, collector, sent, false, *fault)),
+            // No transaction is open, and the step isn't refused.
+            Err(_) => unreachable!(),
+        },
+        Step::Collect(fault) => match collector.poll() {
+            Ok(sent) => Ok(carry(responder, collector, sent, true, *fault)),
+            Err(PollError::OutOfMemory) => Err(PlayError::OutOfMemory),
+            // No transaction is open.
+            Err(PollError::Busy) => unreachable!(),
+        },
+        Step::Arrive(report) => match responder.arrive(*report) {
+            Ok(arrival) => Ok(Event::Arrived {
+                report: *report,
+                message: arrival.message,
+                kept: arrival.kept,
+            }),
+            Err(_) => Err(PlayError::Astray),
+        },
+    }
+}
+
+/// Carries a request to the device and its reply to the collector, each as the fault leaves it, and ends the transaction.
+fn carry(
+    responder: &mut Responder,
+    collector: &mut Collector,
+    sent: Wire,
+    poll: bool,
+    fault: Fault,
+) -> Event
+    ensures event { (h : History) → StandsFor responder.old h → result ≡ transaction h collector.old poll fault sent }
+    ensures responder { (h : History) → StandsFor responder.old h → StandsFor responder.new (history_after h result) }
+    ensures collector { collector.new ≡ after_reply collector.old fault (reply_in result) }
+    ensures fault { raise_of fault ≢ Some 0 → IsFault fault }
+    ensures slots { IfSome (reply_in result) (λ slots. (i : ℕ) → slice_index slots i < 256) }
+{
+    // A slot is raised by less than 256.
+    let _ = fault.raise();
+    let (reply, job) = match fault.request_heard(&sent) {
+        Some(bytes) => responder.step(bytes.as_slice()),
+        None => (None, None),
+    };
+    let heard = match &reply {
+        Some(bytes) => {
+            are_bytes(bytes.as_slice());
+            hear(collector, fault, bytes)
+        }
+        None => None,
+    };
+    collector.over();
+    Event::Bus {
+        sent,
+        poll,
+        fault,
+        reply,
+        job,
+        heard,
+    }
+}
+
+/// Lets the collector hear what the fault leaves of a reply.
+fn hear(collector: &mut Collector, fault: Fault, reply: &Wire) -> Option<Heard>
+    ensures heard { result ≡ option_map (heard_in collector.old) (reply_heard fault reply.now) }
+    ensures collector { collector.new ≡ option_map_or (after_hearing collector.old) (reply_heard fault reply.now) collector.old }
+{
+    let bytes = fault.reply_heard(reply)?;
+    Some(collector.hear(bytes.as_slice()))
+}
