@@ -194,7 +194,7 @@ impl Outbox {
     {
         let fresh = self.answer(ask);
         Dispensed {
-            message: copy_of(self.last()),
+            message: self.last().copy(),
             fresh,
         }
     }
@@ -207,7 +207,7 @@ impl Outbox {
     {
         let fresh = self.answer_status(ask);
         Dispensed {
-            message: copy_of(self.last()),
+            message: self.last().copy(),
             fresh,
         }
     }
@@ -265,17 +265,5 @@ impl Outbox {
         ensures shows { (a : Account) → Shows self.old a → Shows self.new (after_status_now a ask) }
     {
         show_status(&mut self.unshown, ask, &mut self.last);
-    }
-}
-
-/// The same message again.
-fn copy_of(message: &Message) -> Message
-    ensures { result ≡ message.now }
-{
-    Message {
-        class: message.class,
-        pid: message.pid,
-        sub: message.sub,
-        body: message.body.copy(),
     }
 }

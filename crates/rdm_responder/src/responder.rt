@@ -143,7 +143,7 @@ impl Responder {
         }
         let work = report.job.work;
         let message = self.devices.commit(&work, report.outcome);
-        self.outbox.arrive(worker_of(&work), copy_of(&message));
+        self.outbox.arrive(worker_of(&work), message.copy());
         let kept = note_failure(&mut self.outbox, &work, report.outcome);
         Ok(Arrival { message, kept })
     }
@@ -212,18 +212,6 @@ fn note_failure(outbox: &mut Outbox, work: &Work, outcome: Outcome) -> bool
             v2,
         }),
         Outcome::Done | Outcome::Reading(_) => false,
-    }
-}
-
-/// The same message again.
-fn copy_of(message: &Message) -> Message
-    ensures { result ≡ message.now }
-{
-    Message {
-        class: message.class,
-        pid: message.pid,
-        sub: message.sub,
-        body: message.body.copy(),
     }
 }
 

@@ -1,5 +1,7 @@
 //! What a controller collects.
 
+ghost use Rattle.std.specs.Prelude.{◌≡◌};
+
 use rdm_frame::Body;
 
 /// A message that waits for a controller, or that answers QUEUED_MESSAGE or STATUS_MESSAGES (E1.20 section 10.3.1).
@@ -13,4 +15,18 @@ pub struct Message {
     pub sub: u16,
     /// The parameter data: at most 231 slots.
     pub body: Body,
+}
+
+impl Message {
+    /// The same message again.
+    pub fn copy(&self) -> Self
+        ensures { result ≡ self.now }
+    {
+        Message {
+            class: self.class,
+            pid: self.pid,
+            sub: self.sub,
+            body: self.body.copy(),
+        }
+    }
 }

@@ -7,7 +7,7 @@ use super::{
 use crate::{Report, Responder};
 use rdm_frame::{Body, Frame, Uid, Wire, encode};
 use rdm_outbox::Job;
-use rdm_params::{Outcome, Profile, Severity};
+use rdm_params::{Kind, Outcome, Profile, Severity, Verdict};
 use std::alloc::Global;
 use std::process::Abort;
 use std::test::Fail;
@@ -338,6 +338,7 @@ fn a_lamp_is_struck(rt: HostRuntime) -> Result<(), Fail> {
     let queued_message = printed(&rt, ASK);
     let in_five_seconds = printed(&rt, LATER);
     let lamp_is_on = printed(&rt, IT_IS_ON);
+    let one = Body::from_slice(&[0, 1]).ok_or("two bytes")?;
 
     // The example of README.md, as it stands there.
     let mut responder = Responder::new(rt.alloc(), DEVICE, Profile::demo(0), 8)?;
@@ -351,5 +352,8 @@ fn a_lamp_is_struck(rt: HostRuntime) -> Result<(), Fail> {
     // The controller asks for what waits, and gets the response to its SET.
     let (reply, _) = responder.step(queued_message.as_slice());
     assert_eq!(rt; reply, Some(lamp_is_on));
+    // The firmware reads where its DMX512 slots begin: at the address that the profile starts with, 1.
+    let address = responder.devices().get(0, Kind::DmxStartAddress.pid(), &[]);
+    assert_eq!(rt; address, Verdict::Reply(one));
     Ok(())
 }

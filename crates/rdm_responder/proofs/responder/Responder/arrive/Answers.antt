@@ -36,19 +36,19 @@ returns-clause-arrival c h stands =
     let b = (account_of h).outbox in
     let r = c.args.report in
     let shows = subst (λ (s : State). outbox_state.Shows s.outbox b) (sym c.self.view_is) stands.outbox in
-    let kept = c.note_failure-kept.ensures.kept (after_arrive b c.worker_of.result c.copy_of.result) (c.arrive.ensures.shows b shows) in
+    let kept = c.note_failure-kept.ensures.kept (after_arrive b c.worker_of.result c.copy.result) (c.arrive.ensures.shows b shows) in
     is_arrival h r _ c.self.inside.devices c.worker_of.result ((c.awaits.ensures.account (account_of h) stands).0 c.if-not-awaits.false)
     (ap (λ (s : State). s.parameters) c.self.view_is ∙ stands.parameters) c.worker_of.ensures.worker c.commit-message.ensures.message
-    (kept ∙ ap (λ (m : Message). nat_lt (length b.noted) (length (after_outcome (after_arrive b c.worker_of.result m) r.job.work r.outcome).noted)) c.copy_of.ensures)
+    (kept ∙ ap (λ (m : Message). nat_lt (length b.noted) (length (after_outcome (after_arrive b c.worker_of.result m) r.job.work r.outcome).noted)) c.copy.ensures)
 
 pub returns-clause-stands : goal.returns-clause-stands
 returns-clause-stands c h stands =
     let b = (account_of h).outbox in
     let r = c.args.report in
     let shows = subst (λ (s : State). outbox_state.Shows s.outbox b) (sym c.self.view_is) stands.outbox in
-    let message = c.copy_of.ensures ∙ c.commit-message.ensures.message ∙ ap (λ (s : State). committed s.parameters r.job.work r.outcome) c.self.view_is in
+    let message = c.copy.ensures ∙ c.commit-message.ensures.message ∙ ap (λ (s : State). committed s.parameters r.job.work r.outcome) c.self.view_is in
     let after = c.commit-message.ensures.after ∙ ap (λ (s : State). after_commit s.parameters r.job.work r.outcome) c.self.view_is in
     stands_for_event _ h (Arrived r)
-    (shows_report c.args.self.now _ (account_of h) r c.worker_of.result c.copy_of.result stands c.worker_of.ensures.worker message
+    (shows_report c.args.self.now _ (account_of h) r c.worker_of.result c.copy.result stands c.worker_of.ensures.worker message
     (ap (λ (s : State). s.uid) c.self.view_is) after (ap (λ (s : State). s.muted) c.self.view_is)
-    (c.note_failure-kept.ensures.shows (after_arrive b c.worker_of.result c.copy_of.result) (c.arrive.ensures.shows b shows)))
+    (c.note_failure-kept.ensures.shows (after_arrive b c.worker_of.result c.copy.result) (c.arrive.ensures.shows b shows)))
