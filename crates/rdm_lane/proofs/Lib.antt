@@ -1,7 +1,8 @@
-pub mod Histories
 pub mod Marks
-pub mod Moves
 pub mod Next
-pub mod Agreeing
 pub mod ThreeSentences
-pub mod Due
+pub mod Entries
+pub mod Moves
+pub mod Steps
+pub mod Settles
+pub mod TheEnds

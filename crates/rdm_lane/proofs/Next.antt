@@ -2,24 +2,25 @@
 use Rattle.std.proofs.Common.{◌≡◌, ℕ, ◌<◌, ◌≤◌, ◌||◌, Bool, true, false, List, [], ◌∷◌, ◌++◌, refl, sym, ◌∙◌, ap, slice_index_or, arith}
 use Rattle.rdm_lane.specs.declared.taken.Taken.{Taken}
 use Rattle.rdm_lane.specs.declared.taken.Taken.TheVariants.{Item, Mark, Empty, Closed}
-use Rattle.rdm_lane.specs.Ends.{TakeState, with_taken, IsNext, IsOver}
-use Rattle.rdm_lane.specs.History.{is_entry}
+use Rattle.rdm_lane.specs.Ends.{TakeState, with_taken, IsNext}
+use Rattle.rdm_lane.specs.Rule.{FollowsIn}
 use Rattle.rdm_lane.specs.Lane.{has_mark, marks_in}
 use Rattle.rdm_lane.proofs.Marks.{has_mark-append, flag-mark}
 
 module _ {T : Type 0} where
-  -- an item or a mark comes only where not all marks were taken
-  pub next : (s : TakeState T) (e : Taken T) → is_entry e ≡ true → ¬ IsOver s → IsNext s e
-  next s (Item p n x) entry more = more
-  next s (Mark p) entry more = more
-  next s Empty entry more = more
-  next s Closed entry more = absurd cc
+  -- what the rule tells of an entry is what an answer tells
+  pub next : (s : TakeState T) (e : Taken T) → FollowsIn s.posts s.taken e → IsNext s e
+  next s (Item p n x) follows = follows
+  next s (Mark p) follows = follows
+  next s Empty follows = absurd follows
+  next s Closed follows = absurd follows
 
-  pub taken_entry : (ts : List (Taken T)) (e : Taken T) → is_entry e ≡ true → with_taken ts e ≡ ts ++ e ∷ []
-  taken_entry ts (Item p n x) entry = refl
-  taken_entry ts (Mark p) entry = refl
-  taken_entry ts Empty entry = cc
-  taken_entry ts Closed entry = cc
+  -- it is an item or a mark
+  pub taken_entry : (posts : ℕ) (ts : List (Taken T)) (e : Taken T) → FollowsIn posts ts e → with_taken ts e ≡ ts ++ e ∷ []
+  taken_entry posts ts (Item p n x) follows = refl
+  taken_entry posts ts (Mark p) follows = refl
+  taken_entry posts ts Empty follows = absurd follows
+  taken_entry posts ts Closed follows = absurd follows
 
   -- the flags after one more
   pub marks-after : (ts : List (Taken T)) (e : Taken T) (marks : List Bool) → marks ≡ marks_in ts → (slice_index_or marks 0 false || has_mark 0 (e ∷ [])) ∷ (slice_index_or marks 1 false || has_mark 1 (e ∷ [])) ∷ (slice_index_or marks 2 false || has_mark 2 (e ∷ [])) ∷ [] ≡ marks_in (ts ++ e ∷ [])

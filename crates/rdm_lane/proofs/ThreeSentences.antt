@@ -82,8 +82,12 @@ module _ {T : Type 0} where
       let as_many : length (front ++ e ∷ after) ≡ length front = ap length (all ∙ sym same) in
       absurd (omega arith)
 
+  -- what stands before another of p is unmarked
+  pub unfollowed : (p : ℕ) (xs : List T) (front after : List (Taken T)) (e : Taken T) → front ++ e ∷ after ≡ put_closed p xs → list_any is_mark front ≡ false
+  unfollowed p xs front after e all = before_more p xs front after e all (front_of p 0 xs front (e ∷ after) all)
+
   pub ends_at_its_mark : (p : ℕ) (taken : List (Taken T)) (xs : List T) → IsPrefix (of p taken) (put_closed p xs) → EndsAtItsMark p taken
   ends_at_its_mark p taken xs (rest, same) before after e parts own =
       let split : of p taken ≡ of p before ++ e ∷ of p after = ap (of p) parts ∙ filter-append (is_from p) before (e ∷ after) ∙ ap (λ b. of p before ++ cond b (e ∷ of p after) (of p after)) own in
       let all : of p before ++ e ∷ (of p after ++ rest) ≡ put_closed p xs = sym (append_assoc (of p before) (e ∷ of p after) rest) ∙ ap (λ l. l ++ rest) (sym split) ∙ same in
-      before_more p xs (of p before) (of p after ++ rest) e all (front_of p 0 xs (of p before) (e ∷ (of p after ++ rest)) all)
+      unfollowed p xs (of p before) (of p after ++ rest) e all

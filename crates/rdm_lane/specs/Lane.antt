@@ -44,7 +44,11 @@ module _ {T : Type 0} where
   numbered p n [] = []
   numbered p n (x ∷ xs) = Item p n x ∷ numbered p (n + 1) xs
 
-  -- what a closed post p has put: its items, numbered from 0, and its mark
+  -- what an open post p has put: its items, numbered from 0
+  abbrev pub put_open : ℕ → List T → List (Taken T)
+  put_open p xs = numbered p 0 xs
+
+  -- what a closed post p has put: its items and then its mark
   abbrev pub put_closed : ℕ → List T → List (Taken T)
   put_closed p xs = numbered p 0 xs ++ Mark p ∷ []
 

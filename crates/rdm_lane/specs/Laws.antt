@@ -1,8 +1,7 @@
--- Where the lane law comes from, and what follows from it for each producer, in three sentences.
+-- What follows from the lane law for each producer, in three sentences.
 use Rattle.std.specs.Prelude.{◌≡◌, ℕ, ◌<◌, true, false, List, [], ◌∷◌, ◌++◌, filter, slice_index_or}
 use Rattle.rdm_lane.specs.declared.taken.Taken.{Taken}
 use Rattle.rdm_lane.specs.Lane.{is_from, of, is_item, items_from, numbered, has_mark, IsPrefix, LaneLaw}
-use Rattle.rdm_lane.specs.Settling.{HasLegalHistory}
 
 module _ {T : Type 0} where
   -- the items of p that were taken are a prefix of its list, numbered from 0
@@ -24,8 +23,3 @@ module _ {T : Type 0} where
   OfEachPost Sentence =
       (posts : ℕ) (taken : List (Taken T)) (posted : List (List T)) → LaneLaw posts taken posted
       → (p : ℕ) → p < posts → Sentence p taken (slice_index_or posted p [])
-
--- lists that a legal history has keep the lane law
-abbrev pub LegalIsLawful : Type 0 → Type 0
-LegalIsLawful T =
-    (posts : ℕ) (taken : List (Taken T)) (posted : List (List T)) → HasLegalHistory posts taken posted → LaneLaw posts taken posted

@@ -1,6 +1,5 @@
 pub mod Lane
-pub mod History
-pub mod Line
+pub mod Rule
 pub mod Ends
 pub mod Settling
 pub mod Laws

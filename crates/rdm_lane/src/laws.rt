@@ -1,11 +1,6 @@
 //! Laws of a lane, over all lists. Each is the contract of a call that does nothing.
 
-ghost use Rattle.rdm_lane.specs.Laws.{LegalIsLawful, OfEachPost, TakesAPrefix, EndsAtItsMark, IsWholeAtItsMark};
-
-/// Lists that a legal history has keep the lane law.
-pub fn settled_lane_keeps_the_lane_law<T>()
-    ensures { LegalIsLawful T }
-{}
+ghost use Rattle.rdm_lane.specs.Laws.{OfEachPost, TakesAPrefix, EndsAtItsMark, IsWholeAtItsMark};
 
 /// The items of a producer that were taken are a prefix of those that it put, numbered from 0.
 pub fn items_taken_are_a_prefix<T>()

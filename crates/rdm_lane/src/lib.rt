@@ -1,16 +1,15 @@
 //! A lane: an ordered queue between threads that can be closed.
 //!
 //! One to three posts put items into a lane, and one end takes them, each on a thread of its own. A post numbers its
-//! items from 0 and closes with a mark. Each end keeps the list of what it has put or taken, and when all are done
-//! `settle_up` compares these lists with the history that was kept under the lane's lock: where it is Ok, nothing was
-//! lost, doubled or turned round.
+//! items from 0 and closes with a mark. Under the lane is a queue without a lock, and a rule that each step of an end
+//! keeps. Each end has the list of what it has put or taken, and when all are done `settle_up` gives these lists: by the
+//! rule nothing was lost, doubled or turned round.
 #![tactic(auto)]
 
-mod comparing;
 mod ends;
 mod laws;
-mod line;
 mod post;
+mod rule;
 mod settling;
 mod take;
 mod taken;
@@ -19,8 +18,7 @@ mod tests;
 
 pub use ends::{Ends, LaneError, lane};
 pub use laws::{
-    items_taken_are_a_prefix, nothing_follows_the_mark, settled_lane_keeps_the_lane_law,
-    whole_list_is_taken_at_the_mark,
+    items_taken_are_a_prefix, nothing_follows_the_mark, whole_list_is_taken_at_the_mark,
 };
 pub use post::{ClosedPost, Post, PutError};
 pub use settling::{SettleError, Settled, settle_up};

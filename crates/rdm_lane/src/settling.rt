@@ -1,11 +1,12 @@
-//! The settling of a lane: whether the lists of its ends are its history.
+//! The settling of a lane: what its ends have put and taken, once they are done.
 
-ghost use Rattle.std.specs.Prelude.{[], ℕ, ◌≡◌, ◌<◌, ◌≤◌, true, length, All, IfOk, Some, None, slice_index_or, slice_set};
+ghost use Rattle.std.specs.Prelude.{[], ◌≡◌, IfOk, IsOk, slice_index_or};
+ghost use Rattle.rdm_lane.specs.Ends.{AreEnds};
 ghost use Rattle.rdm_lane.specs.Lane.{LaneLaw};
-ghost use Rattle.rdm_lane.specs.Settling.{EqualIsSame, HasLegalHistory, HasLists, HasNoOthers, ArePostsOf, IsPostOf, posted_in};
+ghost use Rattle.rdm_lane.specs.Settling.{HasLists, HasNoOthers};
 
-use crate::comparing::{all_below, puts_are, takes_are};
-use crate::line::{Entry, Line, MOST_POSTS};
+use crate::ends::MOST_POSTS;
+use crate::rule::{Gathers, Tells};
 use crate::{ClosedPost, Take, Taken};
 use std::marker::Model;
 use std::sync::Wait;
@@ -14,15 +15,15 @@ use thiserror::Error;
 /// Why a lane can't be settled.
 #[derive(Clone, Copy, Debug, PartialEq, Eq, Error)]
 pub enum SettleError {
-    /// A post is missing, or the lists aren't the lane's history. An end of another lane is noticed only so.
-    #[error("the lists are not the lane's history")]
+    /// The lists aren't those of one lane. It is never answered: the contract of `settle_up` says so.
+    #[error("the lists are not those of one lane")]
     Mismatch,
 }
 
 /// The lists of a lane whose ends are done.
 ///
 /// A contract sees the list of what was taken, and the lists of what each post put.
-#[derive(Debug, Drop)]
+#[derive(Drop)]
 pub struct Settled<T> {
     taken: Vec<Taken<T>>,
     lists: Lists<T>,
@@ -58,90 +59,27 @@ impl<T> Settled<T> {
     }
 }
 
-/// Settles a lane whose posts are closed: compares the lists of its ends with the history that was kept under its lock.
+/// Settles a lane whose posts are closed: gives the lists of its ends.
 ///
-/// It is `Mismatch` where a post is missing, or where the history contradicts a list; the ends are then given up. The
-/// `==` of the items must be the equality of their values, since items are compared. No memory is taken.
-pub fn settle_up<T: Copy + Send + Eq, R: Wait>(
-    rt: &R,
+/// It is always Ok, since it takes the lane's ends, each once. No memory is taken, and no two lists are compared.
+pub fn settle_up<T: Copy + Send, R: Wait>(
+    _rt: &R,
     take: Take<T>,
     posts: Vec<ClosedPost<T>>,
 ) -> Result<Settled<T>, SettleError>
-    requires { EqualIsSame T.eq }
+    requires { AreEnds take posts.items }
+    ensures ok { IsOk result }
     ensures law { IfOk result (λ s. LaneLaw take.posts s.taken s.posted) }
-    ensures history { IfOk result (λ s. HasLegalHistory take.posts s.taken s.posted) }
     ensures others { IfOk result (λ s. HasNoOthers take.posts s.taken s.posted) }
     ensures lists { IfOk result (λ s. (s.taken ≡ take.taken) × HasLists s.posted posts.items) }
 {
-    let lists = gather(posts)?;
-    let (line, count, taken) = take.into_parts();
-    if !line.lock(rt).agrees(count, taken.as_slice(), &lists) {
-        return Err(SettleError::Mismatch);
-    }
-    Ok(Settled { taken, lists })
-}
-
-/// The lists of closed posts, each at the number of its producer, where no two have one number.
-#[tactic(auto, using(crate::proofs::Agreeing::placed_is_posted))]
-fn gather<T: Copy>(posts: Vec<ClosedPost<T>>) -> Result<Lists<T>, SettleError>
-    ensures { IfOk result (λ lists. HasLists (posted_in lists) posts.items) }
-{
+    let (line, mut pass, taken) = take.into_parts();
     let mut lists = [None, None, None];
     for post in posts {
-        let (producer, items) = post.into_parts();
-        if lists[producer as usize].is_some() {
-            return Err(SettleError::Mismatch);
-        }
+        let (theirs, producer, items) = post.into_parts();
+        line.absorb::<Gathers>(&mut pass, theirs);
         lists[producer as usize] = Some(items);
     }
-    Ok(lists)
-}
-
-impl<T: Copy + Eq> Line<T> {
-    /// Whether the history has exactly the entries of the ends: these takes, and of each of the first `posts` producers
-    /// the items of its list and then its close.
-    fn agrees(&self, posts: u32, taken: &[Taken<T>], lists: &Lists<T>) -> bool
-        requires equal { EqualIsSame T.eq }
-        requires three { posts ≤ 3 }
-        ensures legal { result ≡ true → HasLegalHistory posts taken.now (posted_in lists.now) }
-        ensures others { result ≡ true → HasNoOthers posts taken.now (posted_in lists.now) }
-    {
-        let history = self.history();
-        if !takes_are(history, taken) {
-            return false;
-        }
-        if !posts_are(history, posts, lists) {
-            return false;
-        }
-        all_below(history, posts)
-    }
-}
-
-/// Whether each list is that of a post of the lane, and no post is without a list.
-fn posts_are<T: Copy + Eq>(history: &[Entry<T>], posts: u32, lists: &Lists<T>) -> bool
-    requires { EqualIsSame T.eq }
-    ensures { result ≡ true → ArePostsOf history.now posts lists.now }
-{
-    for producer in 0..MOST_POSTS {
-        if !is_post(history, posts, producer as u32, &lists[producer]) {
-            return false;
-        }
-    }
-    true
-}
-
-/// Whether a list is that of a post of the lane, or missing where there is no such post.
-fn is_post<T: Copy + Eq>(
-    history: &[Entry<T>],
-    posts: u32,
-    producer: u32,
-    list: &Option<Vec<T>>,
-) -> bool
-    requires { EqualIsSame T.eq }
-    ensures { result ≡ true → IsPostOf history.now posts producer list.now }
-{
-    match list {
-        None => posts <= producer,
-        Some(items) => producer < posts && puts_are(history, producer, items),
-    }
+    line.learn_as::<Tells>(&mut pass);
+    Ok(Settled { taken, lists })
 }

@@ -1,22 +1,28 @@
 //! The taking end of a lane.
 
 ghost use Rattle.std.specs.Prelude.{[], ◌∷◌, ◌++◌, ℕ, List, true, false, ◌≡◌, ◌↔◌, ◌<◌, ◌≤◌, IsTrue, IfOk, IfErr, slice_index_or};
+ghost use Rattle.std.specs.Arc.{arc_value};
+ghost use Rattle.crossbeam_queue.specs.Passes.{view as known, IsPassOf};
 ghost use Rattle.rdm_lane.specs.declared.taken.Taken.{Taken as TheTaken};
-ghost use Rattle.rdm_lane.specs.Ends.{take_state, took, IsNext, IsOver};
+ghost use Rattle.rdm_lane.specs.Ends.{take_state, took, IsNext, IsOver, IsSameTake};
 ghost use Rattle.rdm_lane.specs.Lane.{has_mark, marks_in};
+ghost use Rattle.rdm_lane.specs.Rule.{taker};
 
-use crate::line::{Line, MOST_POSTS};
+use crate::ends::MOST_POSTS;
+use crate::rule::{Line, Takes, View};
 use crate::{LaneError, Taken};
+use crossbeam_queue::Pass;
 use std::alloc::Global;
 use std::marker::Model;
-use std::sync::{Arc, Mutex, Wait};
+use std::sync::{Arc, Wait};
 
 /// The end that takes. It may be moved to another thread.
 ///
-/// A contract sees how many posts there are, and the list of the items and marks that it has taken.
-#[derive(Debug, Drop)]
+/// A contract sees its lane, how many posts there are, and the list of the items and marks that it has taken.
+#[derive(Drop)]
 pub struct Take<T> {
-    line: Arc<Mutex<Line<T>>>,
+    line: Arc<Line<T>>,
+    pass: Pass<Taken<T>, View<T>>,
     posts: u32,
     taken: Vec<Taken<T>>,
     /// Of which posts the mark was taken.
@@ -24,25 +30,36 @@ pub struct Take<T> {
 }
 
 impl<T> Model for Take<T> {
-    ghost use Rattle.std.specs.Prelude.{◌≡◌, ◌≤◌};
+    ghost use Rattle.std.specs.Prelude.{[], ◌≡◌, ◌≤◌};
+    ghost use Rattle.std.specs.Arc.{arc_value};
+    ghost use Rattle.crossbeam_queue.specs.Passes.{view as known, IsPassOf};
     ghost use Rattle.rdm_lane.specs.Ends.{TakeState, take_state};
     ghost use Rattle.rdm_lane.specs.Lane.{marks_in};
+    ghost use Rattle.rdm_lane.specs.Rule.{taker};
 
     ghost Value = { TakeState T };
 
-    ghost view = { λ t. take_state t.posts t.taken.items };
+    ghost view = { λ t. take_state t.pass.table_id t.posts t.taken.items };
 
-    ghost invariant = { λ t. (t.posts ≤ 3) × (t.marks ≡ marks_in t.taken.items) };
+    ghost invariant = { λ t. IsPassOf (arc_value t.line) t.pass × (known t.pass ≡ taker t.posts t.taken.items [])
+        × (t.posts ≤ 3) × (t.marks ≡ marks_in t.taken.items) };
 }
 
 impl<T> Take<T> {
     /// An end that has taken nothing.
-    pub(crate) fn new(alloc: Global, line: Arc<Mutex<Line<T>>>, posts: u32) -> Take<T>
-        requires { posts ≤ 3 }
-        ensures { result ≡ take_state posts [] }
+    pub(crate) fn new(
+        alloc: Global,
+        line: Arc<Line<T>>,
+        pass: Pass<Taken<T>, View<T>>,
+        posts: u32,
+    ) -> Take<T>
+        requires three { posts ≤ 3 }
+        requires pass { IsPassOf (arc_value line) pass × (known pass ≡ taker posts [] []) }
+        ensures { result ≡ take_state pass.table_id posts [] }
     {
         Take {
             line,
+            pass,
             posts,
             taken: Vec::new(alloc),
             marks: [false; MOST_POSTS],
@@ -59,6 +76,7 @@ impl<T: Copy + Send> Take<T> {
         ensures answer { IfOk result (λ e. (self.new ≡ took self.old e) × IsNext self.old e) }
         ensures over { IsOver self.old → result ≡ Ok Taken.Closed }
         ensures memory { IfErr result (λ e. (e ≡ LaneError.OutOfMemory) × (self.new ≡ self.old)) }
+        ensures same { IsSameTake self.old self.new }
     {
         if self.is_over() {
             return Ok(Taken::Closed);
@@ -66,14 +84,13 @@ impl<T: Copy + Send> Take<T> {
         let Ok(()) = self.taken.reserve(1) else {
             return Err(LaneError::OutOfMemory);
         };
-        match self.line.lock(rt).take() {
-            Ok(Some(entry)) => {
+        match self.line.pop_as::<Takes, R>(rt, &mut self.pass) {
+            Some(entry) => {
                 self.marks = with_mark(self.marks, &entry);
                 self.taken.push_reserved(entry);
                 Ok(entry)
             }
-            Ok(None) => Ok(Taken::Empty),
-            Err(_) => Err(LaneError::OutOfMemory),
+            None => Ok(Taken::Empty),
         }
     }
 
@@ -84,19 +101,20 @@ impl<T: Copy + Send> Take<T> {
         all_marked(self.posts, &self.marks)
     }
 
-    /// What it shares with the posts, how many posts there are, and the list of what was taken.
-    pub(crate) fn into_parts(self) -> (Arc<Mutex<Line<T>>>, u32, Vec<Taken<T>>)
-        ensures posts { result.1 ≡ self.posts }
-        ensures three { result.1 ≤ 3 }
+    /// What it shares with the posts, its pass, and the list of what was taken.
+    pub(crate) fn into_parts(self) -> (Arc<Line<T>>, Pass<Taken<T>, View<T>>, Vec<Taken<T>>)
+        ensures queue { IsPassOf (arc_value result.0) result.1 × (result.1.table_id ≡ self.lane) }
+        ensures known { known result.1 ≡ taker self.posts self.taken [] }
         ensures taken { result.2.items ≡ self.taken }
     {
         let Take {
             line,
-            posts,
+            pass,
+            posts: _,
             taken,
             marks: _,
         } = self;
-        (line, posts, taken)
+        (line, pass, taken)
     }
 }
 

@@ -1,22 +1,39 @@
 //! A lane between three threads.
 
+ghost use Rattle.std.specs.Prelude.{◌≡◌, IfOk, IfSome};
+ghost use Rattle.rdm_lane.specs.Ends.{IsSamePost, IsSameTake};
+
 use super::*;
 use std::alloc::AllocError;
+use std::snapshot::Snapshot;
 use std::thread;
+use std::thread::Promise;
 
 /// How many items each post puts.
 const ITEMS: u32 = 1_000;
 
+/// What a thread gives back is the post that it was given, closed.
+#[derive(Drop)]
+struct SamePost(Snapshot<Post<u32>>);
+
+impl Promise<Option<ClosedPost<u32>>> for SamePost {
+    ghost use Rattle.std.specs.Prelude.{IfSome};
+    ghost use Rattle.rdm_lane.specs.Ends.{IsSamePost};
+
+    ghost kept_by = { λ promise back. IfSome back (λ closed. IsSamePost promise.0.value closed) };
+}
+
 #[test]
 fn each_list_arrives_whole(rt: HostRuntime) -> Result<(), Fail> {
-    let Ends { mut take, posts } = lane::<u32>(rt.alloc(), 2_048, 2, ITEMS)?;
-    let (zero, one) = two_posts(posts)?;
-    let low = thread::spawn(&rt, move || puts_from(&rt, zero, 0))?;
-    let high = thread::spawn(&rt, move || puts_from(&rt, one, ITEMS))?;
+    let (mut take, zero, one) = lane_of_two(rt.alloc(), 2_048, ITEMS)?;
+    let same = SamePost(Snapshot::of(&zero));
+    let low = thread::spawn_with(&rt, same, move || puts_from(&rt, zero, 0))?;
+    let same = SamePost(Snapshot::of(&one));
+    let high = thread::spawn_with(&rt, same, move || puts_from(&rt, one, ITEMS))?;
     let zero = low.join(&rt).ok_or("post 0 was refused")?;
     let one = high.join(&rt).ok_or("post 1 was refused")?;
     takes_all(&rt, &mut take)?;
-    let settled = settle_up(&rt, take, Vec::from_array(rt.alloc(), [zero, one])?)?;
+    let settled = settled_of_two(&rt, rt.alloc(), take, zero, one)?;
     for (producer, first) in [(0, 0), (1, ITEMS)] {
         let list = items_from(&rt, &settled, producer)?;
         assert_eq!(rt; list.len(), ITEMS as usize);
@@ -28,7 +45,9 @@ fn each_list_arrives_whole(rt: HostRuntime) -> Result<(), Fail> {
 }
 
 /// Puts 1,000 numbers, and closes the post. None where the lane refuses one of them.
-fn puts_from(rt: &impl Wait, mut post: Post<u32>, first: u32) -> Option<ClosedPost<u32>> {
+fn puts_from(rt: &impl Wait, mut post: Post<u32>, first: u32) -> Option<ClosedPost<u32>>
+    ensures { IfSome result (λ closed. IsSamePost post closed) }
+{
     for number in 0..ITEMS {
         post.put(rt, first.checked_add(number)?).ok()?;
     }
@@ -36,7 +55,9 @@ fn puts_from(rt: &impl Wait, mut post: Post<u32>, first: u32) -> Option<ClosedPo
 }
 
 /// Takes until the lane is closed, which it is after 2,000 items and two marks.
-fn takes_all(rt: &(impl Wait + Abort), take: &mut Take<u32>) -> Result<(), LaneError> {
+fn takes_all(rt: &(impl Wait + Abort), take: &mut Take<u32>) -> Result<(), LaneError>
+    ensures { IfOk result (λ _. IsSameTake take.old take.new) }
+{
     for _ in 0..2 * ITEMS + 2 {
         let answer = take.take(rt)?;
         assert!(rt; !matches!(answer, Taken::Empty | Taken::Closed));

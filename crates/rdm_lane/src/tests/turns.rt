@@ -1,5 +1,8 @@
 //! A lane of two posts with room for two, turn by turn, on one thread.
 
+ghost use Rattle.std.specs.Prelude.{◌≡◌, IfOk};
+ghost use Rattle.rdm_lane.specs.Ends.{IsSamePost};
+
 use super::*;
 use PutError::{Full, Spent};
 use Taken::{Empty, Item, Mark};
@@ -36,19 +39,20 @@ const MARK_1: Taken<u32> = Mark { producer: 1 };
 
 #[test]
 fn two_posts_take_turns(rt: HostRuntime) -> Result<(), Fail> {
-    let Ends { mut take, posts } = lane::<u32>(rt.alloc(), 2, 2, 2)?;
-    let (mut zero, one) = two_posts(posts)?;
+    let (mut take, mut zero, one) = lane_of_two(rt.alloc(), 2, 2)?;
     let one = fills(&rt, &mut zero, one)?;
     gives(&rt, &mut take, &[FIRST]);
     let one = closed(&rt, one)?;
     gives(&rt, &mut take, &[OTHER]);
-    assert_eq!(rt; zero.put(&rt, Y), Ok(1));
+    puts_its_second(&rt, &mut zero);
     gives(&rt, &mut take, &[MARK_1, SECOND]);
-    assert_eq!(rt; zero.put(&rt, W), Err(Spent(W)));
+    is_spent(&rt, &mut zero);
     gives(&rt, &mut take, &[Empty]);
     let zero = closed(&rt, zero)?;
     gives(&rt, &mut take, &[MARK_0, Taken::Closed, Taken::Closed]);
-    settles(&rt, take, zero, one)
+    let settled = settled_of_two(&rt, rt.alloc(), take, zero, one)?;
+    shows(&rt, &settled);
+    Ok(())
 }
 
 /// Post 0 and post 1 fill the lane, and the lane refuses a further item and a mark.
@@ -56,22 +60,32 @@ fn fills<R: Wait + Abort>(
     rt: &R,
     zero: &mut Post<u32>,
     mut one: Post<u32>,
-) -> Result<Post<u32>, Fail> {
+) -> Result<Post<u32>, Fail>
+    ensures zero { IsSamePost zero.old zero.new }
+    ensures one { IfOk result (λ back. IsSamePost one back) }
+{
     assert_eq!(rt; zero.put(rt, X), Ok(0));
     assert_eq!(rt; one.put(rt, Z), Ok(0));
     assert_eq!(rt; zero.put(rt, Y), Err(Full(Y)));
     Ok(one.close(rt).err().ok_or("room for a mark")?)
 }
 
+/// Post 0 puts its second item.
+fn puts_its_second<R: Wait + Abort>(rt: &R, zero: &mut Post<u32>)
+    ensures { IsSamePost zero.old zero.new }
+{
+    assert_eq!(rt; zero.put(rt, Y), Ok(1));
+}
+
+/// Post 0 may put no third.
+fn is_spent<R: Wait + Abort>(rt: &R, zero: &mut Post<u32>)
+    ensures { IsSamePost zero.old zero.new }
+{
+    assert_eq!(rt; zero.put(rt, W), Err(Spent(W)));
+}
+
 /// The lists of the ends are those of the turns above.
-fn settles<R: Wait + Abort + Alloc<A = Global>>(
-    rt: &R,
-    take: Take<u32>,
-    zero: ClosedPost<u32>,
-    one: ClosedPost<u32>,
-) -> Result<(), Fail> {
-    let posts = Vec::from_array(rt.alloc(), [one, zero])?;
-    let settled = settle_up(rt, take, posts)?;
+fn shows<R: Abort>(rt: &R, settled: &Settled<u32>) {
     assert_eq!(rt;
         settled.taken(),
         [FIRST, OTHER, MARK_1, SECOND, MARK_0].as_slice()
@@ -80,5 +94,4 @@ fn settles<R: Wait + Abort + Alloc<A = Global>>(
     assert_eq!(rt; settled.posted(1), [Z].as_slice());
     assert!(rt; settled.posted(2).is_empty());
     assert!(rt; settled.posted(3).is_empty());
-    Ok(())
 }
