@@ -10,7 +10,7 @@ ghost use Rattle.rdm_responder.specs.StandsFor.{StandsFor};
 ghost use Rattle.rdm_bus.specs.Collecting.{heard_in, after_hearing};
 ghost use Rattle.rdm_bus.specs.Faults.{reply_heard};
 ghost use Rattle.rdm_bus.specs.BusLaws.{BusLaws, recorded_by};
-ghost use Rattle.rdm_bus.specs.BusRun.{Start, after, after_reply, history_after, reply_in, transaction, raise_of, fault_of, IsFault, IsPlayed, IsAlteredInVain};
+ghost use Rattle.rdm_bus.specs.BusRun.{Start, after, after_all, after_reply, history_after, reply_in, transaction, raise_of, fault_of, IsFault, IsPlayed, IsAlteredInVain};
 ghost use Rattle.rdm_bus.specs.Systems.{Stands, IsTrace, IsAstray, refusal_in, start_of};
 
 use crate::collector::{Collector, MOST_DATA, PollError};
@@ -89,6 +89,9 @@ impl System {
         requires { raise_of (fault_of step.now) ≢ Some 0 }
         ensures trace { OnOk result ((start : Start) (steps : List Step) →
             IsTrace start steps self.old → IsTrace start (steps ++ step.now ∷ []) self.new) }
+        ensures event { OnOk result ((event : Event) × (self.new.trace ≡ self.old.trace ++ event ∷ [])
+            × ((start : Start) (steps : List Step) →
+            IsTrace start steps self.old → IsPlayed (after_all start self.old.trace) step.now event)) }
         ensures laws { OnOk result ((start : Start) (steps : List Step) →
             IsTrace start steps self.old → BusLaws start self.new.trace) }
         ensures reserved { IsErrOf result PlayError.Reserved ↔ (refusal_in step.now ≡ Some PlayError.Reserved) }

@@ -3,6 +3,7 @@
 //! The device is 7FF0:00000001, the controller 7FF0:00000002, and what it wants is advisory.
 
 mod playing;
+mod readme;
 
 use crate::{Action, Collector, Command, Fault, Want};
 use rdm_frame::{Load, Uid, Wire};

@@ -2,8 +2,8 @@
 use Rattle.std.proofs.Common.{List, [], ◌∷◌, ◌++◌, sym, ap, subst, ◌∙◌}
 use Rattle.rdm_bus.specs.declared.event.Event.{Event}
 use Rattle.rdm_bus.specs.BusLaws.{recorded}
-use Rattle.rdm_bus.specs.BusRun.{after_all}
-use Rattle.rdm_bus.specs.Systems.{IsTrace}
+use Rattle.rdm_bus.specs.BusRun.{after_all, IsPlayed}
+use Rattle.rdm_bus.specs.Systems.{Played, IsTrace}
 use Rattle.rdm_bus.proofs.Systems.{trace_more}
 use Rattle.rdm_bus.proofs.system.System.play.Goals as goal
 
@@ -21,3 +21,15 @@ returns-clause-trace c start steps trace =
 pub returns-clause-laws : goal.returns-clause-laws
 returns-clause-laws c start steps trace =
     c.bus_recording_laws_hold.ensures start (steps ++ c.args.step.now ∷ []) _ (returns-clause-trace c start steps trace).run
+
+pub returns-clause-event : goal.returns-clause-event
+returns-clause-event c =
+    let pushed = c.push_reserved.ensures.items ∙ ap (λ (es : List Event). es ++ c.in_ok-event.event ∷ []) c.reserve.ensures.items in (
+      c.in_ok-event.event,
+      pushed ∙ ap (λ (p : Played). p.trace ++ c.in_ok-event.event ∷ []) c.self.view_is,
+      λ start steps trace.
+          let before = subst (IsTrace start steps) (sym c.self.view_is) trace in
+          let at = after_all start c.self.inside.trace.items in
+          subst (λ (p : Played). IsPlayed (after_all start p.trace) c.args.step.now c.in_ok-event.event) c.self.view_is
+          (c.in_ok-event.ensures.played at (recorded c.self.inside.trace.items) before.stands),
+    )
