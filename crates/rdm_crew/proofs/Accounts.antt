@@ -1,0 +1,301 @@
+-- What a run of the bus makes of the account of jobs: the jobs that its events start are accepted, and as many of each
+-- worker have ended as reports on them have arrived.
+use Rattle.std.proofs.Common.{◌≡◌, ℕ, zero, suc, ◌+◌, ◌<◌, ◌==◌, Bool, true, false, cond, List, [], ◌∷◌, ◌++◌, length, map, drop, Option, Some, None, refl, sym, ap, subst, ◌∙◌, arith, append_assoc, append-nil}
+use Rattle.std.specs.Prelude.{filter, slice_get, nat_lt, Ok, Err}
+use Rattle.std.specs.Option.{option_map_or, option_and_then, option_to_list}
+use Rattle.std.specs.Result.{result_ok}
+use Rattle.std.proofs.lemmas.Bool.{and_parts, ltb-true}
+use Rattle.std.proofs.lemmas.List.Sums.{fold_push, sum_by-cons}
+use Rattle.rdm_frame.specs.FrameText.{frame_text}
+use Rattle.rdm_frame.specs.Reading.{frame_in}
+use Rattle.rdm_params.specs.declared.slow.ask.Ask.{Ask}
+use Rattle.rdm_params.specs.declared.slow.message.Message.{Message}
+use Rattle.rdm_params.specs.declared.slow.outcome.Outcome.{Outcome}
+use Rattle.rdm_params.specs.declared.slow.outcome.Outcome.TheVariants.{Done, Reading, Failed}
+use Rattle.rdm_params.specs.declared.slow.work.Work.{Work}
+use Rattle.rdm_params.specs.declared.verdict.Verdict.{Verdict}
+use Rattle.rdm_params.specs.declared.verdict.Verdict.TheVariants as verdict
+use Rattle.rdm_params.specs.Commands.Commands.{command_of, got, answer_to_set}
+use Rattle.rdm_params.specs.Slow.Laws.{GetStartsItsWork, SetStartsItsWork}
+use Rattle.rdm_params.specs.Slow.Work.{worker_of}
+use Rattle.rdm_params.specs.Table.Uses.{is_slow}
+use Rattle.rdm_outbox.specs.declared.job.Job.{Job}
+use Rattle.rdm_outbox.specs.declared.job.Full.TheVariants.{NoRoom}
+use Rattle.rdm_outbox.specs.Account as outbox
+use Rattle.rdm_outbox.specs.Jobs.{jobs_of, ended_of, outstanding_of, next_job, has_room, after_arrive}
+use Rattle.rdm_outbox.specs.Messages.{is_last, next_of, after_next}
+use Rattle.rdm_outbox.specs.Statuses.{can_note, after_status_now}
+use Rattle.rdm_responder.specs.declared.report.Report.{Report}
+use Rattle.rdm_responder.specs.History as history
+use Rattle.rdm_responder.specs.History.{History, then_event}
+use Rattle.rdm_responder.specs.Requests.{Request, Ignored, Branch, Muting, Get, Set, request_in}
+use Rattle.rdm_responder.specs.Rules.{Account, account_of, account_before, account_after, account_with, job_with, job_of, outbox_after, started_by, after_outcome}
+use Rattle.rdm_responder.specs.Runs.{outbox_of}
+use Rattle.rdm_bus.specs.declared.event.Event.{Event}
+use Rattle.rdm_bus.specs.declared.event.Event.TheVariants.{Bus, Arrived}
+use Rattle.rdm_bus.specs.declared.event.Step.{Step}
+use Rattle.rdm_bus.specs.declared.event.Step.TheVariants as step
+use Rattle.rdm_bus.specs.declared.fault.Fault.{Fault}
+use Rattle.rdm_bus.specs.Collecting.{State, after_ask, after_poll, command_request, poll_request}
+use Rattle.rdm_bus.specs.Faults.{request_heard}
+use Rattle.rdm_bus.specs.BusRun.{Start, controller_at, transaction, IsPlayed, after, after_all, IsBusRun}
+use Rattle.rdm_crew.specs.RunTrace.{started_in, arrived_in, jobs_in, reports_in, reports_of}
+use Rattle.rdm_crew.specs.Setups.{switched_on}
+use Rattle.rdm_crew.specs.declared.setup.Setup.{Setup}
+
+-- From one account to another these jobs were accepted, and a job of each of these workers ended.
+pub record Grows (a b : outbox.Account) (jobs : List Job) (workers : List ℕ) : Type 0 where
+  pub accepted : b.accepted ≡ a.accepted ++ jobs
+  pub ended : b.ended ≡ a.ended ++ workers
+  pub most : b.jobs ≡ a.jobs
+
+stays : (a b : outbox.Account) → b.accepted ≡ a.accepted → b.ended ≡ a.ended → b.jobs ≡ a.jobs → Grows a b [] []
+stays a b e1 e2 e3 = record { accepted = e1 ∙ sym (append-nil a.accepted); ended = e2 ∙ sym (append-nil a.ended); most = e3 }
+
+still : (a : outbox.Account) → Grows a a [] []
+still a = stays a a refl refl refl
+
+and_then : (a b c : outbox.Account) (js ks : List Job) (ws vs : List ℕ) → Grows a b js ws → Grows b c ks vs → Grows a c (js ++ ks) (ws ++ vs)
+and_then a b c js ks ws vs one two = record {
+  accepted = two.accepted ∙ ap (λ (l : List Job). l ++ ks) one.accepted ∙ append_assoc a.accepted js ks;
+  ended = two.ended ∙ ap (λ (l : List ℕ). l ++ vs) one.ended ∙ append_assoc a.ended ws vs;
+  most = two.most ∙ one.most;
+}
+
+-- ---- a request
+
+either : (a b c : outbox.Account) (yes? : Bool) → Grows a b [] [] → Grows a c [] [] → Grows a (cond yes? b c) [] []
+either a b c true one other = one
+either a b c false one other = other
+
+reserves : (b : outbox.Account) (j : Job) (room : Bool) → Grows b (cond room (record b { accepted = b.accepted ++ j ∷ [] }) b) (option_to_list (result_ok (cond room (Ok j) (Err NoRoom)))) []
+reserves b j true = record { accepted = refl; ended = sym (append-nil b.ended); most = refl }
+reserves b j false = still b
+
+shows_statuses : (b : outbox.Account) (ask : Ask) → Grows b (after_status_now b ask) [] []
+shows_statuses b ask = stays b (after_status_now b ask) refl refl refl
+
+gives_next : (b : outbox.Account) (ask : Ask) → Grows b (after_next b ask) [] []
+gives_next b ask =
+    let next : outbox.Account = record b { given = b.given + 1; answers = b.answers ++ next_of b ask ∷ [] } in
+    either b next (after_status_now b ask) (nat_lt b.given (length b.arrived)) (stays b next refl refl refl) (shows_statuses b ask)
+
+carries_out : (b : outbox.Account) (v : Verdict) → Grows b (outbox_after b v) (option_to_list (started_by b v)) []
+carries_out b (verdict.Start work) = reserves b (next_job b work) (has_room b work)
+carries_out b (verdict.Queue ask) = either b b (after_next b ask) (is_last ask) (still b) (gives_next b ask)
+carries_out b (verdict.Status ask) = either b b (after_status_now b ask) (is_last ask) (still b) (shows_statuses b ask)
+carries_out b (verdict.Reply bytes) = still b
+carries_out b (verdict.Refuse nack) = still b
+
+requested : (a : Account) (q : Request) → Grows a.outbox (account_with a q).outbox (option_to_list (job_with a q)) []
+requested a Ignored = still a.outbox
+requested a (Branch lower upper) = still a.outbox
+requested a (Muting muted f) = still a.outbox
+requested a (Get f) = carries_out a.outbox (got a.parameters f.sub f.pid f.body)
+requested a (Set f) = carries_out a.outbox (answer_to_set a.parameters f.sub f.pid f.body)
+
+account_of-then : (h : History) (event : history.Event) → account_of (then_event h event) ≡ account_after (account_of h) event
+unfolding account_of
+account_of-then h event = fold_push account_after (account_before h.setup) h.events event
+
+heard : (h : History) (bytes : List ℕ) → Grows (outbox_of h) (outbox_of (then_event h (history.Heard bytes))) (option_to_list (job_of h bytes)) []
+heard h bytes =
+    subst (λ (a : Account). Grows (outbox_of h) a.outbox (option_to_list (job_of h bytes)) []) (sym (account_of-then h (history.Heard bytes)))
+    (requested (account_of h) (request_in (account_of h).setup.uid (frame_in bytes)))
+
+reaches : (h : History) (heard? : Option (List ℕ)) → Grows (outbox_of h) (outbox_of (option_map_or (λ bytes. then_event h (history.Heard bytes)) heard? h)) (option_to_list (option_and_then (job_of h) heard?)) []
+reaches h None = still (outbox_of h)
+reaches h (Some bytes) = heard h bytes
+
+-- ---- a report
+
+notes : (b c : outbox.Account) (r? : Bool) → c.accepted ≡ b.accepted → c.ended ≡ b.ended → c.jobs ≡ b.jobs → Grows b (cond r? c b) [] []
+notes b c true e1 e2 e3 = stays b c e1 e2 e3
+notes b c false e1 e2 e3 = still b
+
+ends : (b : outbox.Account) (work : Work) (outcome : Outcome) → Grows b (after_outcome b work outcome) [] []
+ends b work Done = still b
+ends b work (Reading v) = still b
+ends b work (Failed severity id v1 v2) = notes b _ (can_note b) refl refl refl
+
+on_worker : Report → ℕ
+on_worker r = worker_of r.job.work
+
+reported : (b : outbox.Account) (worker : ℕ) (m : Message) → Grows b (after_arrive b worker m) [] (worker ∷ [])
+reported b worker m = record { accepted = sym (append-nil b.accepted); ended = refl; most = refl }
+
+arrived : (h : History) (r : Report) → Grows (outbox_of h) (outbox_of (then_event h (history.Arrived r))) [] (worker_of r.job.work ∷ [])
+arrived h r =
+    subst (λ (a : Account). Grows (outbox_of h) a.outbox [] (worker_of r.job.work ∷ [])) (sym (account_of-then h (history.Arrived r)))
+    (and_then (outbox_of h) _ _ [] [] (worker_of r.job.work ∷ []) [] (reported (outbox_of h) (worker_of r.job.work) _) (ends _ r.job.work r.outcome))
+
+-- ---- an event, and a run
+
+-- the workers of these reports
+abbrev pub workers_of : List Report → List ℕ
+workers_of rs = map (λ r. worker_of r.job.work) rs
+
+abbrev Happens : Start → Event → Type 0
+Happens s e = Grows (outbox_of s.history) (outbox_of (after s e).history) (started_in e) (workers_of (arrived_in e))
+
+carried : (s : Start) (waiting : State) (poll : Bool) (f : Fault) (sent : List ℕ) → Happens s (transaction s.history waiting poll f sent)
+carried s waiting poll f sent = reaches s.history (request_heard f sent)
+
+pub happens : (s : Start) (p : Step) (e : Event) → IsPlayed s p e → Happens s e
+happens s (step.Ask c f) e is = subst (Happens s) (sym is.1.event_is) (carried s (after_ask (controller_at s) c) false f (frame_text (command_request (controller_at s) c)))
+happens s (step.Collect f) e is = subst (Happens s) (sym is.event_is) (carried s (after_poll (controller_at s)) true f (frame_text (poll_request (controller_at s))))
+happens s (step.Arrive r) (Bus sent poll f reply job taken) is = absurd is
+happens s (step.Arrive r) (Arrived reported m kept) is = arrived s.history reported
+
+map-append : {A B : Type 0} (f : A → B) (xs ys : List A) → map f (xs ++ ys) ≡ map f xs ++ map f ys
+map-append f [] ys = refl
+map-append f (x ∷ xs) ys = ap (λ l. f x ∷ l) (map-append f xs ys)
+
+pub run_grows : (s : Start) (steps : List Step) (es : List Event) → IsBusRun s steps es → Grows (outbox_of s.history) (outbox_of (after_all s es).history) (jobs_in es) (workers_of (reports_in es))
+unfolding jobs_in reports_in
+run_grows s [] [] run = still (outbox_of s.history)
+run_grows s [] (e ∷ es) run = absurd run
+run_grows s (p ∷ ps) [] run = absurd run
+run_grows s (p ∷ ps) (e ∷ es) run =
+    subst (Grows (outbox_of s.history) (outbox_of (after_all s (e ∷ es)).history) (jobs_in (e ∷ es))) (sym (map-append (λ (r : Report). worker_of r.job.work) (arrived_in e) (reports_in es)))
+    (and_then _ _ _ (started_in e) (jobs_in es) (workers_of (arrived_in e)) (workers_of (reports_in es)) (happens s p e run.0) (run_grows (after s e) ps es run.1))
+
+-- ---- from the moment that the device is switched on
+
+-- all that a run tells of the account
+pub record Tells (a : outbox.Account) (es : List Event) : Type 0 where
+  pub accepted : a.accepted ≡ jobs_in es
+  pub ended : a.ended ≡ workers_of (reports_in es)
+  pub most : a.jobs ≡ 4294967295
+
+no_jobs : (setup : Setup) → (outbox_of (switched_on setup).history).accepted ≡ []
+unfolding account_of
+no_jobs setup = refl
+
+none_ended : (setup : Setup) → (outbox_of (switched_on setup).history).ended ≡ []
+unfolding account_of
+none_ended setup = refl
+
+most_given : (setup : Setup) → (outbox_of (switched_on setup).history).jobs ≡ 4294967295
+unfolding account_of
+most_given setup = refl
+
+pub run_tells : (setup : Setup) (steps : List Step) (es : List Event) → IsBusRun (switched_on setup) steps es → Tells (outbox_of (after_all (switched_on setup) es).history) es
+run_tells setup steps es run =
+    let all = run_grows (switched_on setup) steps es run in
+    record {
+      accepted = all.accepted ∙ ap (λ (l : List Job). l ++ jobs_in es) (no_jobs setup);
+      ended = all.ended ∙ ap (λ (l : List ℕ). l ++ workers_of (reports_in es)) (none_ended setup);
+      most = all.most ∙ most_given setup;
+    }
+
+-- ---- outstanding jobs
+
+count-cond : (b : Bool) (r : Report) (rs : List Report) → cond b 1 0 + length rs ≡ length (cond b (r ∷ rs) rs)
+count-cond true r rs = omega arith
+count-cond false r rs = omega arith
+
+ended_count : (p : ℕ) (rs : List Report) → ended_of p (workers_of rs) ≡ length (reports_of p rs)
+ended_count p [] = refl
+ended_count p (r ∷ rs) =
+    sum_by-cons (λ w. cond (w == p) 1 0) (worker_of r.job.work) (workers_of rs)
+    ∙ ap (λ n. cond (worker_of r.job.work == p) 1 0 + n) (ended_count p rs)
+    ∙ count-cond (worker_of r.job.work == p) r (reports_of p rs)
+
+pub outstanding_is : (a : outbox.Account) (es : List Event) (p : ℕ) → Tells a es → outstanding_of a p ≡ drop (length (reports_of p (reports_in es))) (jobs_of p (jobs_in es))
+outstanding_is a es p tells =
+    ap (λ (l : List ℕ). drop (ended_of p l) (jobs_of p a.accepted)) tells.ended
+    ∙ ap (λ (l : List Job). drop (ended_of p (workers_of (reports_in es))) (jobs_of p l)) tells.accepted
+    ∙ ap (λ n. drop n (jobs_of p (jobs_in es))) (ended_count p (reports_in es))
+
+-- ---- the jobs that start
+
+-- A slow command, for whose job its worker's number had room.
+pub record IsNextJob (a : outbox.Account) (j : Job) : Type 0 where
+  pub below : length (jobs_of (worker_of j.work) a.accepted) < a.jobs
+  pub slow : is_slow (command_of j.work.pid j.work.verb) ≡ true
+
+abbrev IfJob : (Job → Type 0) → Option Job → Type 0
+IfJob P None = Unit {0}
+IfJob P (Some j) = P j
+
+has_number : (b : outbox.Account) (work : Work) (room : Bool) → has_room b work ≡ room → is_slow (command_of work.pid work.verb) ≡ true → IfJob (IsNextJob b) (result_ok (cond room (Ok (next_job b work)) (Err NoRoom)))
+has_number b work false e slow = tt
+has_number b work true e slow = record { below = ltb-true _ _ (and_parts _ _ e).1; slow = slow }
+
+started_is : (b : outbox.Account) (v : Verdict) → ((w : Work) → v ≡ verdict.Start w → is_slow (command_of w.pid w.verb) ≡ true) → IfJob (IsNextJob b) (started_by b v)
+started_is b (verdict.Start work) slow = has_number b work (has_room b work) refl (slow work refl)
+started_is b (verdict.Queue ask) slow = tt
+started_is b (verdict.Status ask) slow = tt
+started_is b (verdict.Reply bytes) slow = tt
+started_is b (verdict.Refuse nack) slow = tt
+
+request_starts : GetStartsItsWork → SetStartsItsWork → (a : Account) (q : Request) → IfJob (IsNextJob a.outbox) (job_with a q)
+request_starts gets sets a Ignored = tt
+request_starts gets sets a (Branch lower upper) = tt
+request_starts gets sets a (Muting muted f) = tt
+request_starts gets sets a (Get f) = started_is a.outbox _ (λ w e. (gets a.parameters f.sub f.pid f.body w e).accepted.slow)
+request_starts gets sets a (Set f) = started_is a.outbox _ (λ w e. (sets a.parameters f.sub f.pid f.body w e).accepted.slow)
+
+heard_starts : GetStartsItsWork → SetStartsItsWork → (h : History) (heard? : Option (List ℕ)) → IfJob (IsNextJob (outbox_of h)) (option_and_then (job_of h) heard?)
+heard_starts gets sets h None = tt
+heard_starts gets sets h (Some bytes) = request_starts gets sets (account_of h) (request_in (account_of h).setup.uid (frame_in bytes))
+
+-- all of these jobs
+abbrev pub Each : (Job → Type 0) → List Job → Type 0
+Each P [] = Unit {0}
+Each P (j ∷ js) = P j × Each P js
+
+as_list : (P : Job → Type 0) (o : Option Job) → IfJob P o → Each P (option_to_list o)
+as_list P None all = tt
+as_list P (Some j) all = (all, tt)
+
+pub event_starts : GetStartsItsWork → SetStartsItsWork → (s : Start) (p : Step) (e : Event) → IsPlayed s p e → Each (IsNextJob (outbox_of s.history)) (started_in e)
+event_starts gets sets s (step.Ask c f) e is =
+    subst (λ (v : Event). Each (IsNextJob (outbox_of s.history)) (started_in v)) (sym is.1.event_is)
+    (as_list _ _ (heard_starts gets sets s.history (request_heard f (frame_text (command_request (controller_at s) c)))))
+event_starts gets sets s (step.Collect f) e is =
+    subst (λ (v : Event). Each (IsNextJob (outbox_of s.history)) (started_in v)) (sym is.event_is)
+    (as_list _ _ (heard_starts gets sets s.history (request_heard f (frame_text (poll_request (controller_at s))))))
+event_starts gets sets s (step.Arrive r) (Bus sent poll f reply job taken) is = absurd is
+event_starts gets sets s (step.Arrive r) (Arrived reported m kept) is = tt
+
+-- every job of a run is a slow command
+abbrev pub IsSlowJob : Job → Type 0
+IsSlowJob j = is_slow (command_of j.work.pid j.work.verb) ≡ true
+
+Each-append : (P : Job → Type 0) (js ks : List Job) → Each P js → Each P ks → Each P (js ++ ks)
+Each-append P [] ks one two = two
+Each-append P (j ∷ js) ks one two = (one.0, Each-append P js ks one.1 two)
+
+are_slow : (a : outbox.Account) (js : List Job) → Each (IsNextJob a) js → Each IsSlowJob js
+are_slow a [] all = tt
+are_slow a (j ∷ js) all = (all.0.slow, are_slow a js all.1)
+
+pub all_slow : GetStartsItsWork → SetStartsItsWork → (s : Start) (steps : List Step) (es : List Event) → IsBusRun s steps es → Each IsSlowJob (jobs_in es)
+unfolding jobs_in
+all_slow gets sets s [] [] run = tt
+all_slow gets sets s [] (e ∷ es) run = absurd run
+all_slow gets sets s (p ∷ ps) [] run = absurd run
+all_slow gets sets s (p ∷ ps) (e ∷ es) run =
+    Each-append IsSlowJob (started_in e) (jobs_in es) (are_slow _ (started_in e) (event_starts gets sets s p e run.0)) (all_slow gets sets (after s e) ps es run.1)
+
+-- ---- the jobs of a worker
+
+some_is : (x j : Job) → Some x ≡ Some j → x ≡ j
+some_is x j e = cc
+
+at_cond : (P : Job → Type 0) (keep : Job → Bool) (x : Job) (ys : List Job) (n : ℕ) (j : Job) (b : Bool) → keep x ≡ b → P x → ((m : ℕ) → slice_get ys m ≡ Some j → P j × (keep j ≡ true)) → slice_get (cond b (x ∷ ys) ys) n ≡ Some j → P j × (keep j ≡ true)
+at_cond P keep x ys zero j true e one rest at = subst (λ i. P i × (keep i ≡ true)) (some_is x j at) (one, e)
+at_cond P keep x ys (suc n) j true e one rest at = rest n at
+at_cond P keep x ys n j false e one rest at = rest n at
+
+pub at_filter : (P : Job → Type 0) (keep : Job → Bool) (js : List Job) (n : ℕ) (j : Job) → Each P js → slice_get (filter keep js) n ≡ Some j → P j × (keep j ≡ true)
+at_filter P keep [] n j all at = absurd cc
+at_filter P keep (x ∷ xs) n j all at = at_cond P keep x (filter keep xs) n j (keep x) refl all.0 (λ m. at_filter P keep xs m j all.1) at
+
+pub first_left : (n : ℕ) (js : List Job) → slice_get (drop n js) 0 ≡ slice_get js n
+first_left zero [] = refl
+first_left zero (j ∷ js) = refl
+first_left (suc n) [] = refl
+first_left (suc n) (j ∷ js) = first_left n js

@@ -1,0 +1,10 @@
+pub mod Accounts
+pub mod Items
+pub mod Drawing
+pub mod Playing
+pub mod Working
+pub mod Law
+pub mod Sorted
+pub mod Ending
+pub mod Runs
+pub mod Starting

@@ -1,0 +1,47 @@
+-- The whole run: the pieces of the steps, and the last piece.
+use Rattle.std.proofs.Common.{◌≡◌, List, [], ◌++◌, sym, ap, subst, ◌∙◌}
+use Rattle.std.specs.Prelude.{Result, Ok, Err, IfOk}
+use Rattle.rdm_params.specs.declared.slow.outcome.Outcome.{Outcome}
+use Rattle.rdm_outbox.specs.declared.job.Job.{Job}
+use Rattle.rdm_outbox.specs.Jobs.{jobs_of, outstanding_count}
+use Rattle.rdm_responder.specs.Runs.{outbox_of}
+use Rattle.rdm_bus.specs.declared.event.Event.{Event}
+use Rattle.rdm_bus.specs.declared.event.Step.{Step}
+use Rattle.rdm_bus.specs.BusRun.{Start, IsBusRun, after_all}
+use Rattle.rdm_lane.specs.Ends.{PostState}
+use Rattle.rdm_crew.specs.declared.crew.Crew.{Crew}
+use Rattle.rdm_crew.specs.declared.desk.Desk.{Desk}
+use Rattle.rdm_crew.specs.declared.error.RunError.{RunError}
+use Rattle.rdm_crew.specs.declared.step.CrewStep.{CrewStep}
+use Rattle.rdm_crew.specs.Crews.{HasJobs, IsTied, HavePlayed}
+use Rattle.rdm_crew.specs.Desks.{began, stands_at, IsDrawn, IsSameDesk, HaveArrived}
+use Rattle.rdm_crew.specs.RunTrace.{IsCut, IsAnswered, IsRunTrace}
+use Rattle.rdm_crew.specs.Setups.{switched_on}
+use Rattle.rdm_crew.specs.Traces.{Traced}
+use Rattle.rdm_crew.proofs.Drawing.{same_jobs, same_desk, stands_after}
+
+pub closing_jobs : (c : Crew) (e : Desk) (first second : PostState Job) → IsTied c → HaveArrived c.desk e → first ≡ c.first → second ≡ c.second → HasJobs e first second
+closing_jobs c e first second tied arrived f s =
+    let jobs = same_jobs c.desk e arrived in (
+      ap (λ (p : PostState Job). p.items) f ∙ tied.jobs.0 ∙ ap (jobs_of 0) (sym jobs),
+      ap (λ (p : PostState Job). p.items) s ∙ tied.jobs.1 ∙ ap (jobs_of 1) (sym jobs),
+    )
+
+run_cut : (steps : List CrewStep) (d m e : Desk) → d.system.trace ≡ [] → IsSameDesk m e → HavePlayed steps d m → HaveArrived m e → outstanding_count (outbox_of (stands_at e).history) ≡ 0 → IsCut (began d) steps e.system.trace
+run_cut steps d m e new same played arrived none =
+    let last : IsCut (stands_at d) steps (played.0 ++ arrived.0) =
+    played.2 arrived.0 (arrived.2, subst (λ (s : Start). outstanding_count (outbox_of s.history) ≡ 0) (stands_after m e arrived.0 same.0 arrived.1) none) in
+    let events : e.system.trace ≡ played.0 ++ arrived.0 = arrived.1 ∙ ap (λ (l : List Event). l ++ arrived.0) (played.1 ∙ ap (λ (l : List Event). l ++ played.0) new) in
+    subst (IsCut (began d) steps) (sym events) (subst (λ (l : List Event). IsCut (after_all (began d) l) steps (played.0 ++ arrived.0)) new last)
+
+pub run_trace : (steps : List CrewStep) (d m e : Desk) (g0 g1 : Job → Outcome → Type 0) (r : Result Traced RunError) → d.system.trace ≡ [] → IsSameDesk m e → HavePlayed steps d m → HaveArrived m e
+    → IfOk r (λ t. t.events ≡ e.system.trace) → IfOk r (λ t. outstanding_count (outbox_of (stands_at e).history) ≡ 0) → IfOk r (λ t. IsAnswered 0 g0 e.system.trace) → IfOk r (λ t. IsAnswered 1 g1 e.system.trace)
+    → IfOk r (λ t. IsRunTrace d.setup.value g0 g1 steps t.events)
+run_trace steps d m e g0 g1 (Ok t) new same played arrived events none first second =
+    subst (IsRunTrace d.setup.value g0 g1 steps) (sym events) (record { cut = run_cut steps d m e new same played arrived none; first = first; second = second })
+run_trace steps d m e g0 g1 (Err x) new same played arrived events none first second = tt
+
+pub bus_run : (d m e : Desk) (r : Result Traced RunError) → IsSameDesk d m → IsSameDesk m e → IsDrawn e → IfOk r (λ t. t.events ≡ e.system.trace) → IfOk r (λ t. (bus : List Step) × IsBusRun (switched_on d.setup.value) bus t.events)
+bus_run d m e (Ok t) one two is events =
+    (is.run.0, subst (IsBusRun (began d) is.run.0) (sym events) (subst (λ s. IsBusRun (switched_on s.value) is.run.0 e.system.trace) (same_desk d m e one two).0 is.run.1.run))
+bus_run d m e (Err x) one two is events = tt

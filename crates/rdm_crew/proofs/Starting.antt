@@ -1,0 +1,74 @@
+-- The start of a run: nothing has happened, and nothing was put into a lane or taken from one.
+use Rattle.std.proofs.Common.{◌≡◌, ◌↔◌, ℕ, List, [], ◌∷◌, refl, sym, ap, subst, ◌∙◌}
+use Rattle.std.specs.Prelude.{Result, Ok, Err, IfOk, IsErrOf}
+use Rattle.rdm_outbox.specs.declared.job.Job.{Job}
+use Rattle.rdm_outbox.specs.Jobs.{jobs_of}
+use Rattle.rdm_responder.specs.declared.report.Report.{Report}
+use Rattle.rdm_bus.specs.declared.event.Event.{Event}
+use Rattle.rdm_bus.specs.declared.event.Step.{Step}
+use Rattle.rdm_bus.specs.BusLaws.{BusLaws, BusLawsHold}
+use Rattle.rdm_bus.specs.BusRun.{Start, IsBusRun}
+use Rattle.rdm_bus.specs.Systems.{IsTrace}
+use Rattle.rdm_lane.specs.Ends.{PostState, TakeState}
+use Rattle.rdm_lane.specs.Lane.{items_of}
+use Rattle.rdm_crew.specs.declared.desk.Desk.{Desk}
+use Rattle.rdm_crew.specs.declared.error.RunError.{RunError}
+use Rattle.rdm_crew.specs.Crews.{IsTied}
+use Rattle.rdm_crew.specs.Desks.{began, OfTwo, IsDrawn}
+use Rattle.rdm_crew.specs.RunTrace.{jobs_in, reports_in}
+use Rattle.rdm_crew.specs.Settling.{IsJobLane, IsReportLane}
+use Rattle.rdm_crew.specs.Traces.{Traced}
+use Rattle.rdm_crew.proofs.Drawing.{no_jobs, no_reports}
+
+nothing : (s : Start) (es : List Event) → IsBusRun s [] es → es ≡ []
+nothing s [] run = refl
+nothing s (e ∷ es) run = absurd run
+
+no_items : items_of {T = Report} [] ≡ []
+unfolding items_of
+no_items = refl
+
+drawn : (d : Desk) (a b : PostState Report) → IsTrace (began d) [] d.system → IsReportLane d.reports a b → IsDrawn d
+drawn d a b trace lane =
+    let taken : d.reports.taken ≡ [] = ap (λ (t : TakeState Report). t.taken) lane.0 in
+    record {
+      run = ([], trace);
+      posts = ap (λ (t : TakeState Report). t.posts) lane.0;
+      two = subst OfTwo (sym taken) tt;
+      all = ap items_of taken ∙ no_items ∙ sym (ap reports_in (nothing (began d) d.system.trace trace.run) ∙ no_reports);
+    }
+
+none_put : (p : ℕ) (es : List Event) (post : PostState Job) → es ≡ [] → post.items ≡ [] → post.items ≡ jobs_of p (jobs_in es)
+none_put p es post none items = items ∙ sym (ap (λ (l : List Event). jobs_of p (jobs_in l)) none ∙ ap (jobs_of p) no_jobs)
+
+pub tied : (d : Desk) (first second : PostState Job) (first_jobs second_jobs : TakeState Job) (a b : PostState Report)
+    → IsTrace (began d) [] d.system → IsJobLane first_jobs first → IsJobLane second_jobs second → IsReportLane d.reports a b
+    → IsTied (record { desk = d; first = first; second = second }) × (d.system.trace ≡ [])
+tied d first second first_jobs second_jobs a b trace one two reports =
+    let none : d.system.trace ≡ [] = nothing (began d) d.system.trace trace.run in (
+      record {
+        drawn = drawn d a b trace reports;
+        jobs = (
+          none_put 0 d.system.trace first none (ap (λ (p : PostState Job). p.items) one.1),
+          none_put 1 d.system.trace second none (ap (λ (p : PostState Job). p.items) two.1),
+        );
+        first_limit = ap (λ (p : PostState Job). p.limit) one.1;
+        second_limit = ap (λ (p : PostState Job). p.limit) two.1;
+      },
+      none,
+    )
+
+pub laws : (s : Start) (r : Result Traced RunError) → BusLawsHold → IfOk r (λ t. (bus : List Step) × IsBusRun s bus t.events) → IfOk r (λ t. BusLaws s t.events)
+laws s (Ok t) hold run = hold s run.0 t.events run.1
+laws s (Err e) hold run = tt
+
+abbrev error_in : {A : Type 0} → RunError → Result A RunError → RunError
+error_in d (Ok a) = d
+error_in d (Err e) = e
+
+-- an answer of another type is the same error
+same_error : {A B : Type 0} (e x : RunError) → IsErrOf {T = A} (Err e) x → IsErrOf {T = B} (Err e) x
+same_error e x is = ap Err (ap (error_in e) is)
+
+pub told_also : {A B : Type 0} (e x : RunError) (S : Type 0) → (IsErrOf {T = A} (Err e) x ↔ S) → (IsErrOf {T = B} (Err e) x ↔ S)
+told_also {A} {B} e x S both = (λ is. both.0 (same_error {A = B} {B = A} e x is), λ s. same_error {A = A} {B = B} e x (both.1 s))

@@ -1,0 +1,15 @@
+use Rattle.rdm_crew.proofs.Runs.{closing_jobs, run_trace, bus_run}
+use Rattle.rdm_crew.proofs.running.play.Goals as goal
+
+pub finish-requires-clause-jobs : goal.finish-requires-clause-jobs
+finish-requires-clause-jobs g c =
+    closing_jobs c.play_all-played.new.self c.draw_all.new.self c.close-first.result c.close-second.result c.in-Ok.ensures.played.0 c.in-Ok-draw_all.ensures.drawn.1 c.close-first.ensures c.close-second.ensures
+
+pub returns-in-Ok-draw_all-clause-trace : goal.returns-in-Ok-draw_all-clause-trace
+returns-in-Ok-draw_all-clause-trace g c =
+    run_trace c.args.steps.now c.args.crew.desk c.play_all-played.new.self.desk c.draw_all.new.self (g.P.Part.gives c.args.first_worker.promise.part.value) (g.Q.Part.gives c.args.second_worker.promise.part.value) c.finish.result
+    c.requires.new.1 c.draw_all.ensures.same c.in-Ok.ensures.played.1 c.in-Ok-draw_all.ensures.drawn.1 c.finish.ensures.events c.finish.ensures.last c.finish.ensures.first c.finish.ensures.second
+
+pub returns-in-Ok-draw_all-clause-bus : goal.returns-in-Ok-draw_all-clause-bus
+returns-in-Ok-draw_all-clause-bus g c =
+    bus_run c.args.crew.desk c.play_all-played.new.self.desk c.draw_all.new.self c.finish.result c.play_all-played.ensures.same.0 c.draw_all.ensures.same c.in-Ok-draw_all.ensures.drawn.0 c.finish.ensures.events

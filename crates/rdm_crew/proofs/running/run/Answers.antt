@@ -1,0 +1,27 @@
+use Rattle.std.proofs.Common.{List, [], sym, subst}
+use Rattle.std.specs.Prelude.{IfOk}
+use Rattle.rdm_bus.specs.declared.event.Step.{Step}
+use Rattle.rdm_bus.specs.BusRun.{IsBusRun}
+use Rattle.rdm_bus.specs.Systems.{IsTrace}
+use Rattle.rdm_crew.specs.declared.setup.Setup.{Setup}
+use Rattle.rdm_crew.specs.declared.error.RunError.TheVariants.{BadSetup}
+use Rattle.rdm_crew.specs.Setups.{switched_on, IsBadSetup}
+use Rattle.rdm_crew.proofs.Starting.{tied, laws, told_also}
+use Rattle.rdm_crew.proofs.running.run.Goals as goal
+
+pub play-requires-clause-new : goal.play-requires-clause-new
+play-requires-clause-new g c =
+    tied (record { setup = c.of-began.result; system = c.in-Ok.system; reports = c.in_ok-reports.reports })
+    c.in_ok-first_jobs.first c.in_ok-second_jobs.second c.in_ok-first_jobs.first_jobs c.in_ok-second_jobs.second_jobs c.in_ok-reports.first_reports c.in_ok-reports.second_reports
+    (subst (λ (s : Setup). IsTrace (switched_on s) [] c.in-Ok.system) (sym c.of-began.ensures) c.in-Ok.ensures.new)
+    c.in_ok-first_jobs.ensures c.in_ok-second_jobs.ensures c.in_ok-reports.ensures
+
+pub returns-clause-bus : goal.returns-clause-bus
+returns-clause-bus g c =
+    subst (λ (s : Setup). IfOk c.play.result (λ t. (bus : List Step) × IsBusRun (switched_on s) bus t.events)) c.of-began.ensures c.play.ensures.bus
+
+pub returns-clause-laws : goal.returns-clause-laws
+returns-clause-laws g c = laws (switched_on c.args.setup) c.play.result c.bus_recording_laws_hold.ensures (returns-clause-bus g c)
+
+pub returns-in-Err-clause-bad_setup : goal.returns-in-Err-clause-bad_setup
+returns-in-Err-clause-bad_setup g c = told_also c.in-Err.refusal BadSetup (IsBadSetup c.args.setup) c.in-Err.ensures.bad

@@ -1,0 +1,70 @@
+-- The bus thread's ends of all three lanes, and what has happened on the bus.
+use Rattle.std.specs.Prelude.{◌≡◌, List, [], ◌∷◌, ◌++◌, Some}
+use Rattle.rdm_outbox.specs.declared.job.Job.{Job}
+use Rattle.rdm_outbox.specs.Jobs.{jobs_of}
+use Rattle.rdm_bus.specs.declared.event.Event.{Event}
+use Rattle.rdm_bus.specs.declared.event.Step.{Step}
+use Rattle.rdm_bus.specs.declared.event.Step.TheVariants as bus
+use Rattle.rdm_bus.specs.declared.system.PlayError.TheVariants as refused
+use Rattle.rdm_bus.specs.BusRun.{IsPlayed}
+use Rattle.rdm_bus.specs.Systems.{refusal_in}
+use Rattle.rdm_lane.specs.Ends.{PostState, IsSamePost}
+use Rattle.rdm_crew.specs.declared.crew.Crew.{Crew}
+use Rattle.rdm_crew.specs.declared.desk.Desk.{Desk}
+use Rattle.rdm_crew.specs.declared.step.CrewStep.{CrewStep}
+use Rattle.rdm_crew.specs.declared.stop.Stop.{Stop}
+use Rattle.rdm_crew.specs.declared.stop.Stop.TheVariants as stop
+use Rattle.rdm_crew.specs.Desks.{IsDrawn, IsSuspect, IsSameDesk, stands_at}
+use Rattle.rdm_crew.specs.RunTrace.{AreLast, IsPiece, IsCut, HasSettle, first_refusal, jobs_in}
+use Rattle.rdm_crew.specs.Workers.{most}
+
+-- Each worker's jobs were put into its lane, in order.
+abbrev pub HasJobs : Desk → PostState Job → PostState Job → Type 0
+HasJobs d first second = (first.items ≡ jobs_of 0 (jobs_in d.system.trace)) × (second.items ≡ jobs_of 1 (jobs_in d.system.trace))
+
+-- What was put into the lanes and taken from them is what the trace tells.
+pub record IsTied (c : Crew) : Type 0 where
+  pub drawn : IsDrawn c.desk
+  pub jobs : HasJobs c.desk c.first c.second
+  pub first_limit : c.first.limit ≡ most
+  pub second_limit : c.second.limit ≡ most
+
+-- they are the same ends of the same lanes, in the same run
+abbrev pub IsSameCrew : Crew → Crew → Type 0
+IsSameCrew c d = IsSameDesk c.desk d.desk × IsSamePost c.first d.first × IsSamePost c.second d.second
+
+-- a command or a poll is played
+abbrev pub IsSent : Step → Type 0
+IsSent (bus.Ask c fault) = Unit {0}
+IsSent (bus.Collect fault) = Unit {0}
+IsSent (bus.Arrive r) = ⊥
+
+-- .. and is the one event since
+abbrev pub HasSent : Step → Desk → Desk → Type 0
+HasSent step d e = (event : Event) × (e.system.trace ≡ d.system.trace ++ event ∷ []) × IsPlayed (stands_at d) step event
+
+-- why a command or a poll isn't played to its end
+abbrev pub IsRefused : Step → Stop → Type 0
+IsRefused step stop.OutOfMemory = Unit {0}
+IsRefused step stop.Reserved = refusal_in step ≡ Some refused.Reserved
+IsRefused step stop.TooLong = refusal_in step ≡ Some refused.TooLong
+IsRefused step stop.Unsettled = ⊥
+IsRefused step stop.Astray = ⊥
+
+-- the piece of a step has happened since
+abbrev pub HasPlayed : CrewStep → Desk → Desk → Type 0
+HasPlayed step d e = (piece : List Event) × (e.system.trace ≡ d.system.trace ++ piece) × IsPiece (stands_at d) step piece
+
+-- All steps were played since: with any last piece the events are cut.
+abbrev pub HavePlayed : List CrewStep → Desk → Desk → Type 0
+HavePlayed steps d e =
+    (es : List Event) × (e.system.trace ≡ d.system.trace ++ es)
+    × ((last : List Event) → AreLast (stands_at e) last → IsCut (stands_at d) steps (es ++ last))
+
+-- why steps end early
+abbrev pub IsStopped : List CrewStep → Crew → Stop → Type 0
+IsStopped steps c stop.OutOfMemory = Unit {0}
+IsStopped steps c stop.Reserved = first_refusal steps ≡ Some refused.Reserved
+IsStopped steps c stop.TooLong = first_refusal steps ≡ Some refused.TooLong
+IsStopped steps c stop.Unsettled = HasSettle steps
+IsStopped steps c stop.Astray = IsSuspect c.desk × HasJobs c.desk c.first c.second

@@ -1,0 +1,10 @@
+pub mod Errors
+pub mod Setups
+pub mod Stops
+pub mod Workers
+pub mod Law
+pub mod RunTrace
+pub mod Traces
+pub mod Desks
+pub mod Crews
+pub mod Settling

@@ -1,0 +1,48 @@
+-- What all ends of the three lanes come to when the workers have ended.
+use Rattle.std.specs.Prelude.{◌≡◌, ℕ, List, []}
+use Rattle.rdm_outbox.specs.declared.job.Job.{Job}
+use Rattle.rdm_responder.specs.declared.report.Report.{Report}
+use Rattle.rdm_lane.specs.declared.taken.Taken.{Taken}
+use Rattle.rdm_lane.specs.Ends.{PostState, TakeState, take_state, new_post}
+use Rattle.rdm_lane.specs.Lane.{of, put_closed, IsPrefix}
+use Rattle.rdm_crew.specs.declared.worker.Worked.{Worked}
+use Rattle.rdm_crew.specs.Workers.{most}
+
+-- the two ends of a new job lane
+abbrev pub IsJobLane : TakeState Job → PostState Job → Type 0
+IsJobLane jobs post = (jobs ≡ take_state jobs.lane 1 []) × (post ≡ new_post jobs.lane 0 most)
+
+-- the three ends of a new report lane
+abbrev pub IsReportLane : TakeState Report → PostState Report → PostState Report → Type 0
+IsReportLane reports first second =
+    (reports ≡ take_state reports.lane 2 []) × (first ≡ new_post reports.lane 0 most) × (second ≡ new_post reports.lane 1 most)
+
+-- A job lane's two ends are of one lane, with one post.
+pub record IsLaneOfJobs (jobs : TakeState Job) (post : PostState Job) : Type 0 where
+  pub lane : post.lane ≡ jobs.lane
+  pub producer : post.producer ≡ 0
+  pub posts : jobs.posts ≡ 1
+
+-- The report lane's three ends are of one lane, with posts 0 and 1.
+pub record IsLaneOfReports (reports : TakeState Report) (first second : PostState Report) : Type 0 where
+  pub first_lane : first.lane ≡ reports.lane
+  pub second_lane : second.lane ≡ reports.lane
+  pub first_producer : first.producer ≡ 0
+  pub second_producer : second.producer ≡ 1
+  pub posts : reports.posts ≡ 2
+
+-- What was taken from a lane of what post p put, its mark included, is the first of it.
+abbrev pub IsTakenOf : {T : Type 0} → ℕ → List (Taken T) → List T → Type 0
+IsTakenOf p taken items = IsPrefix (of p taken) (put_closed p items)
+
+-- The jobs and the reports of a worker, and what was taken of them.
+pub record IsSettled (worker : ℕ) (post : PostState Job) (reports : TakeState Report) (w : Worked) : Type 0 where
+  pub took : IsTakenOf 0 w.jobs.taken post.items
+  pub sent : IsTakenOf worker reports.taken w.reports.items
+
+-- All ends of the three lanes: of the report lane and of both job lanes those that the bus thread has, and of each worker
+-- that of its job lane and its post of the report lane.
+pub record AreLanes (taker : TakeState Report) (first_post second_post : PostState Job) (first_jobs : TakeState Job) (first_reports : PostState Report) (second_jobs : TakeState Job) (second_reports : PostState Report) : Type 0 where
+  pub first : IsLaneOfJobs first_jobs first_post
+  pub second : IsLaneOfJobs second_jobs second_post
+  pub reports : IsLaneOfReports taker first_reports second_reports

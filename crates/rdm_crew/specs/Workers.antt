@@ -1,0 +1,43 @@
+-- What a worker makes of its jobs: one report on each, in order.
+use Rattle.std.specs.Prelude.{◌≡◌, ◌≤◌, ◌+◌, ℕ, false, List, [], ◌∷◌, length}
+use Rattle.rdm_params.specs.declared.slow.outcome.Outcome.{Outcome}
+use Rattle.rdm_outbox.specs.declared.job.Job.{Job}
+use Rattle.rdm_responder.specs.declared.report.Report.{Report}
+use Rattle.rdm_lane.specs.Ends.{PostState, TakeState, IsOver, IsSameTake, IsSamePost}
+use Rattle.rdm_lane.specs.Lane.{items_from}
+use Rattle.rdm_crew.specs.declared.worker.Worked.{Worked}
+
+-- The reports are on the first of the jobs, one by one, each with an outcome that may be given for its job.
+abbrev pub Answers : (Job → Outcome → Type 0) → List Job → List Report → Type 0
+Answers gives jobs [] = Unit {0}
+Answers gives [] (r ∷ rs) = ⊥
+Answers gives (j ∷ js) (r ∷ rs) = (r.job ≡ j) × gives j r.outcome × Answers gives js rs
+
+-- how many reports a post may put
+abbrev pub most : ℕ
+most = 4294967295
+
+-- The ends of a worker before it begins: of a job lane with one post, and a post of the report lane.
+pub record IsIdle (jobs : TakeState Job) (reports : PostState Report) : Type 0 where
+  pub one_post : jobs.posts ≡ 1
+  pub none_taken : jobs.taken ≡ []
+  pub none_put : reports.items ≡ []
+  pub limit : reports.limit ≡ most
+
+-- What a worker leaves: a report on each job that it took, in order, save perhaps on the last. Where its memory wasn't
+-- refused, it took all jobs that there were and reported on each.
+pub record IsWorked (gives : Job → Outcome → Type 0) (jobs : TakeState Job) (reports : PostState Report) (w : Worked) : Type 0 where
+  pub take : IsSameTake jobs w.jobs
+  pub post : IsSamePost reports w.reports
+  pub answers : Answers gives (items_from 0 w.jobs.taken) w.reports.items
+  pub save_one : length (items_from 0 w.jobs.taken) ≤ length w.reports.items + 1
+  pub all : w.refused ≡ false → IsOver w.jobs × (length (items_from 0 w.jobs.taken) ≡ length w.reports.items)
+
+-- A worker at work: a report on each job that it has taken.
+pub record IsWorking (gives : Job → Outcome → Type 0) (jobs : TakeState Job) (reports : PostState Report) (taken : TakeState Job) (put : PostState Report) : Type 0 where
+  pub take : IsSameTake jobs taken
+  pub post : IsSamePost reports put
+  pub one_post : jobs.posts ≡ 1
+  pub limit : reports.limit ≡ most
+  pub answers : Answers gives (items_from 0 taken.taken) put.items
+  pub each : length (items_from 0 taken.taken) ≡ length put.items

@@ -1,0 +1,132 @@
+//! The end of a run: the workers are joined, and their lanes settled.
+
+ghost use Rattle.std.specs.Prelude.{◌≡◌, ◌≢◌, IfOk, IfErr};
+ghost use Rattle.rdm_bus.specs.BusLaws.{recorded};
+ghost use Rattle.rdm_lane.specs.Ends.{IsOver};
+ghost use Rattle.rdm_responder.specs.Runs.{outbox_of};
+ghost use Rattle.rdm_outbox.specs.Jobs.{outstanding_count};
+ghost use Rattle.rdm_crew.specs.Crews.{HasJobs};
+ghost use Rattle.rdm_crew.specs.Desks.{IsDrawn, IsSuspect, stands_at};
+ghost use Rattle.rdm_crew.specs.RunTrace.{IsAnswered, FitsFor};
+ghost use Rattle.rdm_crew.specs.Settling.{AreLanes};
+ghost use Rattle.rdm_crew.specs.Stops.{error_of};
+
+use crate::desk::Desk;
+use crate::settling::settle;
+use crate::stop::Stop;
+use crate::worker::{Worked, Works};
+use crate::{Part, RunError, Trace};
+use rdm_lane::ClosedPost;
+use rdm_outbox::Job;
+use rdm_params::started_work_is_its_command;
+use std::alloc::Global;
+use std::sync::Wait;
+use std::thread::{PromisedHandle, Threads};
+
+/// What is left of a run when its job lanes are closed: the bus, and workers that end.
+#[derive(Drop)]
+pub(crate) struct Closing<P: Part, Q: Part> {
+    pub(crate) desk: Desk,
+    pub(crate) first: ClosedPost<Job>,
+    pub(crate) second: ClosedPost<Job>,
+    pub(crate) first_worker: PromisedHandle<Worked, Works<P>>,
+    pub(crate) second_worker: PromisedHandle<Worked, Works<Q>>,
+}
+
+impl<P: Part, Q: Part> Closing<P, Q> {
+    /// Ends a run whose reports were all drawn.
+    pub(crate) fn finish<R: Threads + Wait>(self, rt: &R, alloc: Global) -> Result<Trace, RunError>
+        requires drawn { IsDrawn self.desk × IsOver self.desk.reports }
+        requires jobs { HasJobs self.desk self.first self.second }
+        requires lanes { AreLanes self.desk.reports self.first self.second
+            self.first_worker.promise.jobs.value self.first_worker.promise.reports.value
+            self.second_worker.promise.jobs.value self.second_worker.promise.reports.value }
+        ensures events { IfOk result (λ trace. trace.events ≡ self.desk.system.trace) }
+        ensures recorded { IfOk result (λ trace. trace.recorded ≡ recorded self.desk.system.trace) }
+        ensures last { IfOk result (λ trace. outstanding_count (outbox_of (stands_at self.desk).history) ≡ 0) }
+        ensures first { IfOk result (λ trace. IsAnswered 0 (P.gives self.first_worker.promise.part.value) self.desk.system.trace) }
+        ensures second { IfOk result (λ trace. IsAnswered 1 (Q.gives self.second_worker.promise.part.value) self.desk.system.trace) }
+        ensures err { IfErr result (λ e. e ≡ RunError.OutOfMemory) }
+    {
+        let Closing {
+            desk,
+            first,
+            second,
+            first_worker,
+            second_worker,
+        } = self;
+        let Desk {
+            setup: _setup,
+            system,
+            reports,
+        } = desk;
+        let a = first_worker.join(rt);
+        let b = second_worker.join(rt);
+        let first_refused = a.refused;
+        let second_refused = b.refused;
+        settle(rt, alloc, first, second, reports, a, b)?;
+        if first_refused || second_refused {
+            return Err(RunError::OutOfMemory);
+        }
+        if system.responder().outstanding() > 0 {
+            // Each worker has reported on all its jobs, and every report has arrived.
+            return Err(RunError::Missing);
+        }
+        Ok(Trace::of(system))
+    }
+
+    /// Ends a run whose steps, or whose drawing of reports, ended early.
+    pub(crate) fn give_up<R: Threads + Wait>(self, rt: &R, alloc: Global, stop: Stop) -> RunError
+        requires fits { FitsFor 0 (P.gives self.first_worker.promise.part.value) × FitsFor 1 (Q.gives self.second_worker.promise.part.value) }
+        requires lanes { AreLanes self.desk.reports self.first self.second
+            self.first_worker.promise.jobs.value self.first_worker.promise.reports.value
+            self.second_worker.promise.jobs.value self.second_worker.promise.reports.value }
+        requires suspect { stop ≡ Stop.Astray → IsSuspect self.desk × HasJobs self.desk self.first self.second }
+        ensures astray { stop ≡ Stop.Astray → result ≡ RunError.OutOfMemory }
+        ensures others { stop ≢ Stop.Astray → result ≡ error_of stop }
+    {
+        if stop == Stop::Astray {
+            return self.look_into(rt, alloc);
+        }
+        let _ = self.first_worker.join(rt);
+        let _ = self.second_worker.join(rt);
+        RunError::from(stop)
+    }
+
+    /// Ends a run in which a report seemed astray: the lists of all lanes tell whether it was.
+    fn look_into<R: Threads + Wait>(self, rt: &R, alloc: Global) -> RunError
+        requires fits { FitsFor 0 (P.gives self.first_worker.promise.part.value) × FitsFor 1 (Q.gives self.second_worker.promise.part.value) }
+        requires lanes { AreLanes self.desk.reports self.first self.second
+            self.first_worker.promise.jobs.value self.first_worker.promise.reports.value
+            self.second_worker.promise.jobs.value self.second_worker.promise.reports.value }
+        requires suspect { IsSuspect self.desk × HasJobs self.desk self.first self.second }
+        ensures { result ≡ RunError.OutOfMemory }
+    {
+        let Closing {
+            mut desk,
+            first,
+            second,
+            first_worker,
+            second_worker,
+        } = self;
+        // A job that starts is a slow command.
+        started_work_is_its_command();
+        let drained = desk.drain(rt);
+        let a = first_worker.join(rt);
+        let b = second_worker.join(rt);
+        let Desk {
+            setup: _setup,
+            system: _system,
+            reports,
+        } = desk;
+        match drained {
+            Ok(()) => {}
+            Err(_) => return RunError::OutOfMemory,
+        }
+        match settle(rt, alloc, first, second, reports, a, b) {
+            // The report is of the oldest outstanding job of its worker, so that it may arrive.
+            Ok(()) => RunError::Astray,
+            Err(_) => RunError::OutOfMemory,
+        }
+    }
+}

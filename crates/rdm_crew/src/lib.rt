@@ -1,0 +1,32 @@
+//! A run of the bus with two workers: slow commands are carried out on threads of their own, and their reports arrive
+//! on the bus.
+//!
+//! `run` plays steps on the calling thread. Each `Part` works on a thread of its own: the jobs that the device starts
+//! are handed to it over a lane, and its reports come back over another. What a run is stands in `specs/RunTrace.antt`.
+#![tactic(auto)]
+
+mod closing;
+mod crew;
+mod desk;
+mod error;
+mod laws;
+mod part;
+mod putting;
+mod running;
+mod settling;
+mod setup;
+mod step;
+mod stop;
+mod trace;
+mod worker;
+
+pub use error::RunError;
+pub use laws::{no_report_goes_astray, no_report_is_missing};
+pub use part::Part;
+pub use running::run;
+pub use setup::Setup;
+pub use step::CrewStep;
+pub use trace::Trace;
+
+#[cfg(test)]
+mod tests;

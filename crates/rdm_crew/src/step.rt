@@ -1,0 +1,16 @@
+//! The steps of a run.
+
+use rdm_bus::{Command, Fault};
+
+/// What is to happen next in a run.
+#[derive(Debug, Drop)]
+pub enum CrewStep {
+    /// The controller sends a command, and this goes wrong.
+    Ask(Command, Fault),
+    /// The controller polls for a message, and this goes wrong.
+    Collect(Fault),
+    /// The report of a job arrives at the device, if one is there.
+    Draw,
+    /// Reports arrive until no job is outstanding. So many times there may be none; the next time the run ends.
+    Settle(u32),
+}
