@@ -7,6 +7,7 @@ use std::process::ExitCode;
 
 fn main(rt: HostRuntime) -> ExitCode {
     run_program(
+        rt,
         rt.alloc(),
         &mut rt.reader(),
         &mut io::writer(&rt),

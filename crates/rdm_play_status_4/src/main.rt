@@ -18,6 +18,7 @@ impl Read for Broken {
 
 fn main(rt: HostRuntime) -> ExitCode {
     run_program(
+        rt,
         rt.alloc(),
         &mut Broken,
         &mut io::writer(&rt),

@@ -1,8 +1,11 @@
 pub mod CommandSpellings
-pub mod DigitLemmas
+pub mod DecimalSpellings
+pub mod DemoFits
+pub mod Failing
+pub mod LineSpellings
 pub mod Lines
 pub mod Pieces
-pub mod Runs
-pub mod Spellings
+pub mod ScriptSpellings
 pub mod StreamLemmas
+pub mod Stopping
 pub mod Words

@@ -1,17 +1,21 @@
 -- Lines of a text one after the other, and what they say.
-use Rattle.std.proofs.Common.{◌≡◌, ◌≢◌, ℕ, suc, ◌+◌, ◌-◌, ◌<◌, ◌≤◌, ◌==◌, Bool, List, [], ◌∷◌, ◌++◌, length, get_or, take, drop, position, Some, None, refl, sym, ap, subst, ◌∙◌, arith, add-one, count_by}
+use Rattle.std.proofs.Common.{◌≡◌, ◌≢◌, ℕ, suc, ◌+◌, ◌-◌, ◌<◌, ◌≤◌, ◌==◌, Bool, true, false, not, cond, List, [], ◌∷◌, ◌++◌, length, get_or, take, drop, position, Some, None, refl, sym, ap, subst, ◌∙◌, arith, add-one, count_by}
 use Rattle.std.specs.List.{slice_split}
 use Rattle.std.specs.Str.Lines.{strip_carriage_return as without_return}
 use Rattle.std.proofs.lemmas.List.Splits.{length-slice_split}
 use Rattle.std.proofs.lemmas.Option.{slice_get-get_or}
 use Rattle.std.proofs.Math.Seq.{drop-cons}
-use Rattle.std.proofs.lemmas.List.{take_more, flat_map_more, get_or-map, length-map, length-drop, take_all}
+use Rattle.std.proofs.lemmas.List.{take_more, flat_map_more, length-map, length-drop, take_all}
 use Rattle.std.proofs.lemmas.List.Elements.{All-more}
-use Rattle.rdm_script.specs.declared.script.Step.{Step}
+use Rattle.std.proofs.lemmas.List.Sums.{fold-append}
+use Rattle.rdm_crew.specs.declared.step.CrewStep.{CrewStep}
+use Rattle.rdm_script.specs.declared.script.Setup.{Setup}
 use Rattle.rdm_script.specs.declared.grammar.line.Line.{Line}
-use Rattle.rdm_script.specs.declared.grammar.line.Line.TheVariants.{Faulty}
+use Rattle.rdm_script.specs.declared.grammar.line.Line.TheVariants.{Skipped, Sets, Says, Faulty}
 use Rattle.rdm_script.proofs.Pieces.{pieces_more, pieces_last}
-use Rattle.rdm_script.specs.Grammar.{line_in, words_of, said_by, lines_of, without_returns, steps_of_line, AreSteps, IsFirstFaulty}
+use Rattle.rdm_script.specs.Parties.{plain_setup}
+use Rattle.rdm_script.specs.Grammar.{line_in, first_line_in, line_at, is_skipped, words_of, said_later, said_by, lines_of, without_returns, begun_after, setup_after, steps_of_line, AreSaid, IsFirstFaulty}
+use Rattle.rdm_script.proofs.LineSpellings.{first_begins}
 
 abbrev is_lf : ℕ → Bool
 is_lf b = b == 10
@@ -36,92 +40,104 @@ lines_of_last : (text : List ℕ) → position (λ b. b == 10) text ≡ None →
 unfolding lines_of
 lines_of_last text h = ap without_returns (pieces_last is_lf text h)
 
--- one line more, which isn't faulty
-pub steps_more : (said : List Line) (i : ℕ) (steps : List Step) (line : Line) → i < length said → get_or said i line ≡ line → line ≢ Faulty → AreSteps (take i said) steps → AreSteps (take (i + 1) said) (steps ++ steps_of_line line)
-steps_more said i steps line lt at sound before =
-    record {
-      faultless = All-more (λ x. x ≢ Faulty) said i line lt before.faultless (rw at sound);
-      in_order = rw (take_more said i line lt, at, before.in_order) (flat_map_more steps_of_line [] (take i said) line);
-    }
-
--- the first line that is faulty
-pub fault_at : (said : List Line) (i : ℕ) (steps : List Step) → i < length said → get_or said i Faulty ≡ Faulty → AreSteps (take i said) steps → IsFirstFaulty said (i + 1)
-fault_at said i steps lt at before =
-    let back : i ≡ i + 1 - 1 = omega arith in
-    record {
-      counted = omega arith;
-      faulty = rw (← back) (slice_get-get_or said i Faulty lt ∙ ap (λ (x : Line). Some x) at);
-      front = rw (← back) before.faultless;
-    }
-
--- what the list of the rest says of the whole list
-rest_at : {A : Type 0} (i : ℕ) (whole : List A) (d x : A) (xs : List A) → x ∷ xs ≡ drop i whole → (i < length whole) × (get_or whole i d ≡ x) × (xs ≡ drop (i + 1) whole)
-rest_at i whole d x xs e =
-    let some : 0 < length (drop i whole) = rw (← e) (omega arith) in
-    let lt : i < length whole = omega (arith, length-drop i whole) in
-    let parts : drop i whole ≡ get_or whole i d ∷ drop (i + 1) whole = rw add-one (drop-cons whole i d lt) in
-    let both : x ∷ xs ≡ get_or whole i d ∷ drop (i + 1) whole = e ∙ parts in
-    let one : get_or whole i d ≡ x = cc in
-    let more : xs ≡ drop (i + 1) whole = cc in
-    (lt, one, more)
-
--- what the line at an index says
-pub said_at : (lines : List (List ℕ)) (i : ℕ) (line : List ℕ) (e : Line) → i < length lines → get_or lines i line ≡ line → (i < length (said_by lines)) × (get_or (said_by lines) i e ≡ line_in (words_of line))
-said_at lines i line e lt at =
-    (rw length-map lt, get_or-map (λ (l : List ℕ). line_in (words_of l)) lines i line e lt ∙ ap (λ (l : List ℕ). line_in (words_of l)) at)
-
 pub line_count_is : (text : List ℕ) → length (lines_of text) ≡ count_by (λ b. b == 10) text + 1
 unfolding lines_of
 line_count_is text = length-without_returns (slice_split is_lf text) ∙ length-slice_split is_lf text
 
+-- ---- what each line says
+
+-- what lines say behind others
+abbrev pub said_from : Bool → List (List ℕ) → List Line
+said_from true lines = said_later lines
+said_from false lines = said_by lines
+
+pub said_none : (begun : Bool) → said_from begun [] ≡ []
+said_none true = refl
+said_none false = refl
+
+begun_stays : (line : Line) → begun_after true line ≡ true
+begun_stays Skipped = refl
+begun_stays (Sets s) = refl
+begun_stays (Says step) = refl
+begun_stays Faulty = refl
+
+goes_on : (b : Bool) (more : List (List ℕ)) → cond b (said_by more) (said_later more) ≡ said_from (not b) more
+goes_on true more = refl
+goes_on false more = refl
+
+-- the first line of some, and those behind it
+pub said_first : (begun : Bool) (line : List ℕ) (more : List (List ℕ)) → said_from begun (line ∷ more) ≡ line_at begun (words_of line) ∷ said_from (begun_after begun (line_at begun (words_of line))) more
+said_first true line more = rw (begun_stays (line_in (words_of line))) refl
+said_first false line more = rw (first_begins (words_of line)) (ap (λ (xs : List Line). first_line_in (words_of line) ∷ xs) (goes_on (is_skipped (words_of line)) more))
+
+length-cond : (b : Bool) (xs ys : List Line) (n : ℕ) → length xs ≡ n → length ys ≡ n → length (cond b xs ys) ≡ n
+length-cond true xs ys n h k = h
+length-cond false xs ys n h k = k
+
+length-said_by : (lines : List (List ℕ)) → length (said_by lines) ≡ length lines
+length-said_by [] = refl
+length-said_by (line ∷ more) =
+    let later : length (said_later more) ≡ length more = rw length-map refl in
+    ap suc (length-cond (is_skipped (words_of line)) (said_by more) (said_later more) (length more) (length-said_by more) later)
+
+pub said_count : (text : List ℕ) → length (said_by (lines_of text)) ≡ length (lines_of text)
+said_count text = length-said_by (lines_of text)
+
+-- ---- a line at hand
+
+-- the line is the one at this index, and these come behind it
+pub record AtLine (said : List Line) (i : ℕ) (line : Line) (behind : List Line) : Type 0 where
+  pub lt : i < length said
+  pub is : get_or said i line ≡ line
+  pub rest : behind ≡ drop (i + 1) said
+
+at_front : (said : List Line) (i : ℕ) (line : Line) (behind : List Line) → line ∷ behind ≡ drop i said → AtLine said i line behind
+at_front said i line behind e =
+    let some : 0 < length (drop i said) = rw (← e) (omega arith) in
+    let lt : i < length said = omega (arith, length-drop i said) in
+    let parts : drop i said ≡ get_or said i line ∷ drop (i + 1) said = rw add-one (drop-cons said i line lt) in
+    let both : line ∷ behind ≡ get_or said i line ∷ drop (i + 1) said = e ∙ parts in
+    let one : get_or said i line ≡ line = cc in
+    let more : behind ≡ drop (i + 1) said = cc in
+    record { lt = lt; is = one; rest = more }
+
 -- a line is read off the rest of the text
-pub line_read : (text rest after : List ℕ) (i end : ℕ) (line : List ℕ) → position (λ b. b == 10) rest ≡ Some end → line ≡ without_return (take end rest) → after ≡ drop (end + 1) rest → lines_of rest ≡ drop i (lines_of text)
-    → (i < length (lines_of text)) × (get_or (lines_of text) i line ≡ line) × (lines_of after ≡ drop (i + 1) (lines_of text))
-line_read text rest after i end line h is_line is_after so_far =
-    let one : line ∷ lines_of after ≡ drop i (lines_of text) = rw (is_line, is_after) (sym (lines_of_more rest end h) ∙ so_far) in
-    rest_at i (lines_of text) line line (lines_of after) one
+pub at_line : (said : List Line) (begun : Bool) (rest : List ℕ) (i end : ℕ) (line after : List ℕ) → position (λ b. b == 10) rest ≡ Some end → line ≡ without_return (take end rest) → after ≡ drop (end + 1) rest
+    → said_from begun (lines_of rest) ≡ drop i said → AtLine said i (line_at begun (words_of line)) (said_from (begun_after begun (line_at begun (words_of line))) (lines_of after))
+at_line said begun rest i end line after h is_line is_after so_far =
+    let lines : lines_of rest ≡ line ∷ lines_of after = rw (is_line, is_after) (lines_of_more rest end h) in
+    at_front said i _ _ (sym (said_first begun line (lines_of after)) ∙ ap (said_from begun) (sym lines) ∙ so_far)
 
 -- the rest of the text is the last line
-pub last_read : (text rest : List ℕ) (i : ℕ) → position (λ b. b == 10) rest ≡ None → lines_of rest ≡ drop i (lines_of text)
-    → (i < length (lines_of text)) × (get_or (lines_of text) i rest ≡ rest) × ([] ≡ drop (i + 1) (lines_of text))
-last_read text rest i h so_far =
-    let one : rest ∷ [] ≡ drop i (lines_of text) = sym (lines_of_last rest h) ∙ so_far in
-    rest_at i (lines_of text) rest rest [] one
+pub at_last : (said : List Line) (begun : Bool) (rest : List ℕ) (i : ℕ) → position (λ b. b == 10) rest ≡ None
+    → said_from begun (lines_of rest) ≡ drop i said → AtLine said i (line_at begun (words_of rest)) []
+at_last said begun rest i h so_far =
+    let one : line_at begun (words_of rest) ∷ said_from (begun_after begun (line_at begun (words_of rest))) [] ≡ drop i said = sym (said_first begun rest []) ∙ ap (said_from begun) (sym (lines_of_last rest h)) ∙ so_far in
+    at_front said i _ [] (ap (λ (xs : List Line). line_at begun (words_of rest) ∷ xs) (sym (said_none (begun_after begun (line_at begun (words_of rest))))) ∙ one)
 
--- what is known where a line is at hand: its place, and that the lines before it say the steps so far
-pub record AtLine (text line : List ℕ) (i : ℕ) (steps : List Step) : Type 0 where
-  pub lt : i < length (lines_of text)
-  pub is : get_or (lines_of text) i line ≡ line
-  pub front : AreSteps (take i (said_by (lines_of text))) steps
+-- it isn't faulty, and what it says goes with what the lines before it say
+pub passes : (said : List Line) (i : ℕ) (line : Line) (behind : List Line) (setup : Setup) (steps : List CrewStep) → AtLine said i line behind → line ≢ Faulty → AreSaid (take i said) setup steps → AreSaid (take (i + 1) said) (setup_after setup line) (steps ++ steps_of_line line)
+passes said i line behind setup steps here sound before =
+    let more : take (i + 1) said ≡ take i said ++ line ∷ [] = take_more said i line here.lt ∙ ap (λ (x : Line). take i said ++ x ∷ []) here.is in
+    record {
+      faultless = All-more (λ x. x ≢ Faulty) said i line here.lt before.faultless (rw here.is sound);
+      setup_is = rw (more, fold-append setup_after plain_setup (take i said) (line ∷ [])) (ap (λ (s : Setup). setup_after s line) before.setup_is);
+      in_order = rw (more, before.in_order) (flat_map_more steps_of_line [] (take i said) line);
+    }
 
-pub at_line : (text rest : List ℕ) (i end : ℕ) (line : List ℕ) (steps : List Step) → position (λ b. b == 10) rest ≡ Some end → line ≡ without_return (take end rest) → lines_of rest ≡ drop i (lines_of text)
-    → AreSteps (take i (said_by (lines_of text))) steps → AtLine text line i steps
-at_line text rest i end line steps h is_line so_far front =
-    let read = line_read text rest (drop (end + 1) rest) i end line h is_line refl so_far in
-    record { lt = read.0; is = read.1; front = front }
-
-pub at_last : (text rest : List ℕ) (i : ℕ) (steps : List Step) → position (λ b. b == 10) rest ≡ None → lines_of rest ≡ drop i (lines_of text)
-    → AreSteps (take i (said_by (lines_of text))) steps → AtLine text rest i steps
-at_last text rest i steps h so_far front =
-    let read = last_read text rest i h so_far in
-    record { lt = read.0; is = read.1; front = front }
-
--- the line says something else than a fault
-pub line_passes : (text line : List ℕ) (i : ℕ) (steps : List Step) → AtLine text line i steps → line_in (words_of line) ≢ Faulty → AreSteps (take (i + 1) (said_by (lines_of text))) (steps ++ steps_of_line (line_in (words_of line)))
-line_passes text line i steps here sound =
-    let said = said_at (lines_of text) i line (line_in (words_of line)) here.lt here.is in
-    steps_more (said_by (lines_of text)) i steps (line_in (words_of line)) said.0 said.1 sound here.front
-
--- the line is faulty
-pub line_fails : (text line : List ℕ) (i : ℕ) (steps : List Step) → AtLine text line i steps → line_in (words_of line) ≡ Faulty → IsFirstFaulty (said_by (lines_of text)) (i + 1)
-line_fails text line i steps here faulty =
-    let said = said_at (lines_of text) i line Faulty here.lt here.is in
-    fault_at (said_by (lines_of text)) i steps said.0 (said.1 ∙ faulty) here.front
+-- the first line that is faulty
+pub fails : (said : List Line) (i : ℕ) (line : Line) (behind : List Line) (setup : Setup) (steps : List CrewStep) → AtLine said i line behind → line ≡ Faulty → AreSaid (take i said) setup steps → IsFirstFaulty said (i + 1)
+fails said i line behind setup steps here faulty before =
+    let back : i ≡ i + 1 - 1 = omega arith in
+    let at : get_or said i Faulty ≡ Faulty = rw (← faulty) here.is in
+    record {
+      counted = omega arith;
+      faulty = rw (← back) (slice_get-get_or said i Faulty here.lt ∙ ap (λ (x : Line). Some x) at);
+      front = rw (← back) before.faultless;
+    }
 
 -- the last line says something else than a fault
-pub last_passes : (text rest : List ℕ) (i : ℕ) (steps : List Step) → position (λ b. b == 10) rest ≡ None → lines_of rest ≡ drop i (lines_of text)
-    → AtLine text rest i steps → line_in (words_of rest) ≢ Faulty → AreSteps (said_by (lines_of text)) (steps ++ steps_of_line (line_in (words_of rest)))
-last_passes text rest i steps h so_far here sound =
-    let none : [] ≡ drop (i + 1) (lines_of text) = (last_read text rest i h so_far).2 in
-    let past : length (said_by (lines_of text)) ≤ i + 1 = rw length-map (omega (arith, length-drop (i + 1) (lines_of text), ap length none)) in
-    subst (λ (said : List Line). AreSteps said (steps ++ steps_of_line (line_in (words_of rest)))) (take_all (i + 1) (said_by (lines_of text)) past) (line_passes text rest i steps here sound)
+pub last_passes : (said : List Line) (i : ℕ) (line : Line) (setup : Setup) (steps : List CrewStep) → AtLine said i line [] → line ≢ Faulty → AreSaid (take i said) setup steps → AreSaid said (setup_after setup line) (steps ++ steps_of_line line)
+last_passes said i line setup steps here sound before =
+    let past : length said ≤ i + 1 = omega (arith, length-drop (i + 1) said, ap length here.rest) in
+    subst (λ (ls : List Line). AreSaid ls (setup_after setup line) (steps ++ steps_of_line line)) (take_all (i + 1) said past) (passes said i line [] setup steps here sound before)

@@ -1,11 +1,12 @@
 -- Words of a line, one after the other.
-use Rattle.std.proofs.Common.{false, eqb, ◌≡◌, ℕ, ◌+◌, ◌≤◌, ◌==◌, true, false, List, [], ◌∷◌, ◌++◌, length, take, drop, map, filter, position, Some, None, refl, sym, ap, ◌∙◌, arith, append_assoc, Bor}
+use Rattle.std.proofs.Common.{false, Bool, eqb, leb, ◌≡◌, ℕ, ◌+◌, ◌≤◌, ◌==◌, true, false, List, [], ◌∷◌, ◌++◌, length, take, drop, map, filter, position, Some, None, refl, sym, ap, ◌∙◌, arith, append_assoc, Bor}
 use Rattle.std.specs.List.{slice_split}
 use Rattle.std.proofs.lemmas.List.{map_push, length-map, take-append-le, take_all, append-nil}
+use Rattle.std.proofs.lemmas.Bool.{le-leb}
 use Rattle.std.proofs.lemmas.Bool.Decides.{nat_tests}
 use Rattle.std.proofs.lemmas.List.Elements.{filter-append}
 use Rattle.rdm_script.proofs.Pieces.{pieces_more, pieces_last}
-use Rattle.rdm_script.specs.Grammar.{is_blank, is_word, words_of, line_in}
+use Rattle.rdm_script.specs.Grammar.{is_blank, is_word, words_of, fault_in, setup_in, command_step_in, step_in, line_in, first_line_in, line_at}
 
 -- the bytes of borrowed words
 abbrev pub bytes_of : List (Bor (List ℕ)) → List (List ℕ)
@@ -24,48 +25,93 @@ word_is piece h = rw h refl
 no_word : (piece : List ℕ) → (length piece == 0) ≡ true → filter is_word (piece ∷ []) ≡ []
 no_word piece h = rw h refl
 
-full : (front xs ys : List (List ℕ)) → 6 ≤ length front → take 6 (front ++ xs) ≡ take 6 (front ++ ys)
-full front xs ys h = take-append-le 6 front xs h ∙ sym (take-append-le 6 front ys h)
+full : (front xs ys : List (List ℕ)) → 9 ≤ length front → take 9 (front ++ xs) ≡ take 9 (front ++ ys)
+full front xs ys h = take-append-le 9 front xs h ∙ sym (take-append-le 9 front ys h)
 
 -- a piece that is kept, and one that isn't
 pub kept : (words : List (Bor (List ℕ))) (piece : Bor (List ℕ)) → (length piece.now == 0) ≡ false → (rest : List (List ℕ))
-    → take 6 (bytes_of (words ++ piece ∷ []) ++ rest) ≡ take 6 (bytes_of words ++ (filter is_word (piece.now ∷ []) ++ rest))
+    → take 9 (bytes_of (words ++ piece ∷ []) ++ rest) ≡ take 9 (bytes_of words ++ (filter is_word (piece.now ∷ []) ++ rest))
 kept words piece some rest =
-    rw (map_push, word_is piece.now some) (ap (take 6) (append_assoc (bytes_of words) (piece.now ∷ []) rest))
+    rw (map_push, word_is piece.now some) (ap (take 9) (append_assoc (bytes_of words) (piece.now ∷ []) rest))
 
 pub left_empty : (words : List (Bor (List ℕ))) (piece : List ℕ) → (length piece == 0) ≡ true → (rest : List (List ℕ))
-    → take 6 (bytes_of words ++ rest) ≡ take 6 (bytes_of words ++ (filter is_word (piece ∷ []) ++ rest))
+    → take 9 (bytes_of words ++ rest) ≡ take 9 (bytes_of words ++ (filter is_word (piece ∷ []) ++ rest))
 left_empty words piece none rest = rw (no_word piece none) refl
 
-pub left_full : (words : List (Bor (List ℕ))) (piece : List ℕ) → 6 ≤ length words → (rest : List (List ℕ))
-    → take 6 (bytes_of words ++ rest) ≡ take 6 (bytes_of words ++ (filter is_word (piece ∷ []) ++ rest))
+pub left_full : (words : List (Bor (List ℕ))) (piece : List ℕ) → 9 ≤ length words → (rest : List (List ℕ))
+    → take 9 (bytes_of words ++ rest) ≡ take 9 (bytes_of words ++ (filter is_word (piece ∷ []) ++ rest))
 left_full words piece past rest = full (bytes_of words) rest (filter is_word (piece ∷ []) ++ rest) (rw length-map past)
 
 -- the words of a line that were read so far, and those of the rest
 pub words_go_on : (before after : List (Bor (List ℕ))) (line rest more : List ℕ) (end : ℕ) → position is_blank rest ≡ Some end → more ≡ drop (end + 1) rest
-    → ((xs : List (List ℕ)) → take 6 (bytes_of after ++ xs) ≡ take 6 (bytes_of before ++ (filter is_word (take end rest ∷ []) ++ xs)))
-    → take 6 (bytes_of before ++ words_of rest) ≡ take 6 (words_of line) → take 6 (bytes_of after ++ words_of more) ≡ take 6 (words_of line)
+    → ((xs : List (List ℕ)) → take 9 (bytes_of after ++ xs) ≡ take 9 (bytes_of before ++ (filter is_word (take end rest ∷ []) ++ xs)))
+    → take 9 (bytes_of before ++ words_of rest) ≡ take 9 (words_of line) → take 9 (bytes_of after ++ words_of more) ≡ take 9 (words_of line)
 words_go_on before after line rest more end h is_more keeps so_far =
-    rw is_more (keeps (words_of (drop (end + 1) rest)) ∙ ap (λ (ws : List (List ℕ)). take 6 (bytes_of before ++ ws)) (sym (words_more rest end h)) ∙ so_far)
+    rw is_more (keeps (words_of (drop (end + 1) rest)) ∙ ap (λ (ws : List (List ℕ)). take 9 (bytes_of before ++ ws)) (sym (words_more rest end h)) ∙ so_far)
 
-pub words_end : (before after : List (Bor (List ℕ))) (line rest : List ℕ) → position is_blank rest ≡ None → length after ≤ 6
-    → ((xs : List (List ℕ)) → take 6 (bytes_of after ++ xs) ≡ take 6 (bytes_of before ++ (filter is_word (rest ∷ []) ++ xs)))
-    → take 6 (bytes_of before ++ words_of rest) ≡ take 6 (words_of line) → bytes_of after ≡ take 6 (words_of line)
+pub words_end : (before after : List (Bor (List ℕ))) (line rest : List ℕ) → position is_blank rest ≡ None → length after ≤ 9
+    → ((xs : List (List ℕ)) → take 9 (bytes_of after ++ xs) ≡ take 9 (bytes_of before ++ (filter is_word (rest ∷ []) ++ xs)))
+    → take 9 (bytes_of before ++ words_of rest) ≡ take 9 (words_of line) → bytes_of after ≡ take 9 (words_of line)
 words_end before after line rest h small keeps so_far =
-    let whole : take 6 (bytes_of after ++ []) ≡ bytes_of after = rw append-nil (take_all 6 (bytes_of after) (rw length-map small)) in
+    let whole : take 9 (bytes_of after ++ []) ≡ bytes_of after = rw append-nil (take_all 9 (bytes_of after) (rw length-map small)) in
     let last : filter is_word (rest ∷ []) ++ [] ≡ words_of rest = append-nil (filter is_word (rest ∷ [])) ∙ sym (words_last rest h) in
-    sym whole ∙ keeps [] ∙ ap (λ (ws : List (List ℕ)). take 6 (bytes_of before ++ ws)) last ∙ so_far
+    sym whole ∙ keeps [] ∙ ap (λ (ws : List (List ℕ)). take 9 (bytes_of before ++ ws)) last ∙ so_far
 
--- six words tell what the whole line says
-pub line_in_front : (words : List (List ℕ)) → line_in (take 6 words) ≡ line_in words
+-- ---- nine words tell what the whole line says
+
+-- no fault has more than three words
+pub fault_long : (words : List (List ℕ)) → 4 ≤ length words → fault_in words ≡ None
+unfolding fault_in
+fault_long words long =
+    let some : eqb (length words) 0 ≡ false = grind (arith, nat_tests) in
+    let many : eqb (length words) 1 ≡ false = grind (arith, nat_tests) in
+    let more : eqb (length words) 3 ≡ false = grind (arith, nat_tests) in
+    rw (some, many, more) refl
+
+command_front : (a b c d e : List ℕ) (xs ys : List (List ℕ)) → fault_in xs ≡ fault_in ys → command_step_in (a ∷ b ∷ c ∷ d ∷ e ∷ xs) ≡ command_step_in (a ∷ b ∷ c ∷ d ∷ e ∷ ys)
+unfolding command_step_in
+command_front a b c d e xs ys same =
+    let long : leb 5 (length (a ∷ b ∷ c ∷ d ∷ e ∷ xs)) ≡ true = le-leb 5 _ (omega arith) in
+    let long' : leb 5 (length (a ∷ b ∷ c ∷ d ∷ e ∷ ys)) ≡ true = le-leb 5 _ (omega arith) in
+    rw (long, long', same) refl
+
+step_front : (a b c d e : List ℕ) (xs ys : List (List ℕ)) → 4 ≤ length xs → 4 ≤ length ys → step_in (a ∷ b ∷ c ∷ d ∷ e ∷ xs) ≡ step_in (a ∷ b ∷ c ∷ d ∷ e ∷ ys)
+unfolding step_in
+step_front a b c d e xs ys long long' =
+    let not_one : eqb (length (a ∷ b ∷ c ∷ d ∷ e ∷ xs)) 1 ≡ false = grind (arith, nat_tests) in
+    let not_one' : eqb (length (a ∷ b ∷ c ∷ d ∷ e ∷ ys)) 1 ≡ false = grind (arith, nat_tests) in
+    let not_two : eqb (length (a ∷ b ∷ c ∷ d ∷ e ∷ xs)) 2 ≡ false = grind (arith, nat_tests) in
+    let not_two' : eqb (length (a ∷ b ∷ c ∷ d ∷ e ∷ ys)) 2 ≡ false = grind (arith, nat_tests) in
+    rw (not_one, not_one', not_two, not_two', fault_long (b ∷ c ∷ d ∷ e ∷ xs) (omega arith), fault_long (b ∷ c ∷ d ∷ e ∷ ys) (omega arith), command_front a b c d e xs ys (fault_long xs long ∙ sym (fault_long ys long'))) refl
+
+setup_long : (words : List (List ℕ)) → 5 ≤ length words → setup_in words ≡ None
+unfolding setup_in
+setup_long words long = let many : eqb (length words) 4 ≡ false = grind (arith, nat_tests) in rw many refl
+
+line_long : (a b c d e : List ℕ) (xs ys : List (List ℕ)) → 4 ≤ length xs → 4 ≤ length ys → line_in (a ∷ b ∷ c ∷ d ∷ e ∷ xs) ≡ line_in (a ∷ b ∷ c ∷ d ∷ e ∷ ys)
 unfolding line_in
-line_in_front [] = refl
-line_in_front (a ∷ []) = refl
-line_in_front (a ∷ b ∷ []) = refl
-line_in_front (a ∷ b ∷ c ∷ []) = refl
-line_in_front (a ∷ b ∷ c ∷ d ∷ []) = refl
-line_in_front (a ∷ b ∷ c ∷ d ∷ e ∷ []) = refl
-line_in_front (a ∷ b ∷ c ∷ d ∷ e ∷ f ∷ more) =
-    let some : eqb (length (a ∷ b ∷ c ∷ d ∷ e ∷ f ∷ more)) 0 ≡ false = grind (arith, nat_tests) in
-    let many : eqb (length (a ∷ b ∷ c ∷ d ∷ e ∷ f ∷ more)) 5 ≡ false = grind (arith, nat_tests) in
-    rw (some, many) refl
+line_long a b c d e xs ys long long' =
+    let some : eqb (length (a ∷ b ∷ c ∷ d ∷ e ∷ xs)) 0 ≡ false = grind (arith, nat_tests) in
+    let some' : eqb (length (a ∷ b ∷ c ∷ d ∷ e ∷ ys)) 0 ≡ false = grind (arith, nat_tests) in
+    rw (some, some', step_front a b c d e xs ys long long') refl
+
+first_long : (a b c d e : List ℕ) (xs ys : List (List ℕ)) → 4 ≤ length xs → 4 ≤ length ys → first_line_in (a ∷ b ∷ c ∷ d ∷ e ∷ xs) ≡ first_line_in (a ∷ b ∷ c ∷ d ∷ e ∷ ys)
+unfolding first_line_in
+first_long a b c d e xs ys long long' =
+    rw (setup_long (a ∷ b ∷ c ∷ d ∷ e ∷ xs) (omega arith), setup_long (a ∷ b ∷ c ∷ d ∷ e ∷ ys) (omega arith), line_long a b c d e xs ys long long') refl
+
+at_long : (begun : Bool) (a b c d e : List ℕ) (xs ys : List (List ℕ)) → 4 ≤ length xs → 4 ≤ length ys → line_at begun (a ∷ b ∷ c ∷ d ∷ e ∷ xs) ≡ line_at begun (a ∷ b ∷ c ∷ d ∷ e ∷ ys)
+at_long true a b c d e xs ys long long' = line_long a b c d e xs ys long long'
+at_long false a b c d e xs ys long long' = first_long a b c d e xs ys long long'
+
+pub line_in_front : (begun : Bool) (words : List (List ℕ)) → line_at begun (take 9 words) ≡ line_at begun words
+line_in_front begun [] = refl
+line_in_front begun (a ∷ []) = refl
+line_in_front begun (a ∷ b ∷ []) = refl
+line_in_front begun (a ∷ b ∷ c ∷ []) = refl
+line_in_front begun (a ∷ b ∷ c ∷ d ∷ []) = refl
+line_in_front begun (a ∷ b ∷ c ∷ d ∷ e ∷ []) = refl
+line_in_front begun (a ∷ b ∷ c ∷ d ∷ e ∷ f ∷ []) = refl
+line_in_front begun (a ∷ b ∷ c ∷ d ∷ e ∷ f ∷ g ∷ []) = refl
+line_in_front begun (a ∷ b ∷ c ∷ d ∷ e ∷ f ∷ g ∷ h ∷ []) = refl
+line_in_front begun (a ∷ b ∷ c ∷ d ∷ e ∷ f ∷ g ∷ h ∷ i ∷ more) = at_long begun a b c d e (f ∷ g ∷ h ∷ i ∷ []) (f ∷ g ∷ h ∷ i ∷ more) (omega arith) (omega arith)

@@ -1,9 +1,8 @@
 -- The line by which the program tells an error on standard error.
 use Rattle.std.specs.Prelude.{ℕ, List, [], ◌∷◌, ◌++◌, codes, decimal}
+use Rattle.rdm_crew.specs.Errors.{error_words as run_words}
 use Rattle.rdm_script.specs.declared.grammar.parsing.ScriptError.{ScriptError}
 use Rattle.rdm_script.specs.declared.grammar.parsing.ScriptError.TheVariants as script
-use Rattle.rdm_script.specs.declared.controller.RunError.{RunError}
-use Rattle.rdm_script.specs.declared.controller.RunError.TheVariants as run
 use Rattle.rdm_script.specs.declared.program.ProgramError.{ProgramError}
 use Rattle.rdm_script.specs.declared.program.ProgramError.TheVariants.{Read, Script, Memory, Run, Write}
 
@@ -13,13 +12,7 @@ script_words script.OutOfMemory = codes "out of memory"
 script_words script.TooLong = codes "script too long"
 script_words (script.Line number) = codes "line " ++ decimal number
 
--- the words of a fault of the run
-abbrev pub run_words : RunError → List ℕ
-run_words run.OutOfMemory = codes "out of memory"
-run_words run.Reserved = codes "reserved"
-run_words run.TooLong = codes "too long"
-
--- the words of an error
+-- the words of an error; those of a run are rdm_crew's
 abbrev pub error_words : ProgramError → List ℕ
 error_words Read = codes "read"
 error_words (Script e) = script_words e

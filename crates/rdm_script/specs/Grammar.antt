@@ -1,21 +1,32 @@
 -- How a script is read, by lines and words: the reader's view of what Spelling.antt defines.
-use Rattle.std.specs.Prelude.{◌≡◌, ◌≢◌, ℕ, ◌-◌, ◌<◌, ◌≤◌, Bool, not, ◌||◌, ◌==◌, if◌then◌else◌, List, [], ◌∷◌, length, take, drop, filter, map, slice_index, slice_index_or, slice_get, Option, Some, None, nat_le, All, codes}
-use Rattle.std.specs.Int.{w16, w32}
+use Rattle.std.specs.Prelude.{◌≡◌, ◌≢◌, ℕ, ◌-◌, ◌<◌, ◌≤◌, Bool, true, not, ◌||◌, ◌==◌, ◌&&◌, if◌then◌else◌, List, [], ◌∷◌, length, fold, drop, take, filter, map, slice_index, slice_index_or, slice_get, Option, Some, None, nat_le, All, codes}
+use Rattle.std.specs.Option.{option_map, option_map_or}
+use Rattle.std.specs.Int.{w16}
 use Rattle.std.specs.Str.{bytes_eq}
 use Rattle.std.specs.Str.Lines.{strip_carriage_return as without_return}
 use Rattle.std.specs.List.{slice_split, flat_map}
 use Rattle.rdm_frame.specs.declared.uid.Uid.{Uid}
-use Rattle.rdm_script.specs.declared.command.Action.{Action}
-use Rattle.rdm_script.specs.declared.command.Action.TheVariants.{Disc, Get, Set}
-use Rattle.rdm_script.specs.declared.command.Command.{Command}
-use Rattle.rdm_script.specs.declared.script.Step.{Step}
-use Rattle.rdm_script.specs.declared.script.Step.TheVariants.{Ask}
+use Rattle.rdm_frame.specs.Addressing.{all_devices, all_of}
+use Rattle.rdm_frame.specs.DigitReading.{◌>>=◌, bytes_in, number_in, uid_in}
+use Rattle.rdm_bus.specs.declared.command.Action.{Action}
+use Rattle.rdm_bus.specs.declared.command.Action.TheVariants.{Disc, Get, Set}
+use Rattle.rdm_bus.specs.declared.command.Command.{Command}
+use Rattle.rdm_bus.specs.declared.fault.Fault.{Fault}
+use Rattle.rdm_bus.specs.declared.fault.Fault.TheVariants as fault
+use Rattle.rdm_bus.specs.declared.want.Want.{Want}
+use Rattle.rdm_bus.specs.declared.want.Want.TheVariants.{Advisory, Warning, Error}
+use Rattle.rdm_crew.specs.declared.step.CrewStep.{CrewStep}
+use Rattle.rdm_crew.specs.declared.step.CrewStep.TheVariants.{Ask, Collect, Draw, Settle}
+use Rattle.rdm_script.specs.declared.script.Setup.{Setup}
 use Rattle.rdm_script.specs.declared.grammar.line.Line.{Line}
-use Rattle.rdm_script.specs.declared.grammar.line.Line.TheVariants.{Skipped, Says, Faulty}
+use Rattle.rdm_script.specs.declared.grammar.line.Line.TheVariants.{Skipped, Sets, Says, Faulty}
 use Rattle.rdm_script.specs.declared.grammar.parsing.ScriptError.{ScriptError}
 use Rattle.rdm_script.specs.declared.grammar.parsing.ScriptError.TheVariants as errors
-use Rattle.rdm_script.specs.Parties.{device, all_devices, all_of_maker}
-use Rattle.rdm_script.specs.Digits.{◌>>=◌, bytes_in, number_in}
+use Rattle.rdm_script.specs.Parties.{device, plain_setup}
+use Rattle.rdm_script.specs.Decimals.{number_up_to}
+
+abbrev pub word : List (List ℕ) → ℕ → List ℕ
+word words i = slice_index_or words i []
 
 -- ---- a command, word by word
 
@@ -26,19 +37,12 @@ action_in word =
     else (if bytes_eq word (codes "disc") then Some Disc
     else None))
 
--- a UID as E1.20 writes it: four digits, a colon, eight digits
-unfoldable pub uid_in : List ℕ → Option Uid
-uid_in word = do
-  maker ← number_in w16 (take 4 word)
-  device ← number_in w32 (drop 5 word)
-  if slice_index word 4 == 58 then Some (record { maker = maker; device = device }) else None
-
 -- the device of the script, every device, every device of its manufacturer, or a UID
 unfoldable pub destination_in : List ℕ → Option Uid
 destination_in word =
     if bytes_eq word (codes "dev") then Some device
     else (if bytes_eq word (codes "all") then Some all_devices
-    else (if bytes_eq word (codes "maker") then Some all_of_maker
+    else (if bytes_eq word (codes "maker") then Some (all_of device.maker)
     else uid_in word))
 
 -- a hyphen for no data, or the digits of at most 255 bytes
@@ -55,6 +59,40 @@ command_in action dst sub pid load = do
   l ← load_in load
   Some (record { dst = d; action = a; sub = s; pid = p; load = l })
 
+-- ---- what goes wrong
+
+abbrev pub lost_in : List ℕ → Option Fault
+lost_in name =
+    if bytes_eq name (codes "lost-request") then Some fault.LostRequest
+    else (if bytes_eq name (codes "lost-reply") then Some fault.LostReply
+    else None)
+
+-- from 1 to 255
+unfoldable pub raise_in : List ℕ → Option ℕ
+raise_in word = do
+  x ← number_up_to 255 word
+  if x == 0 then None else Some x
+
+abbrev pub altered : List ℕ → ℕ → ℕ → Option Fault
+altered name k x =
+    if bytes_eq name (codes "bad-request") then Some (fault.BadRequest k x)
+    else (if bytes_eq name (codes "bad-reply") then Some (fault.BadReply k x)
+    else None)
+
+unfoldable pub altered_in : List ℕ → List ℕ → List ℕ → Option Fault
+altered_in name slot raise = do
+  k ← number_up_to 255 slot
+  x ← raise_in raise
+  altered name k x
+
+-- nothing goes wrong where there is no word
+unfoldable pub fault_in : List (List ℕ) → Option Fault
+fault_in words =
+    if length words == 0 then Some fault.None
+    else (if length words == 1 then lost_in (word words 0)
+    else (if length words == 3 then altered_in (word words 0) (word words 1) (word words 2)
+    else None))
+
 -- ---- a line
 
 -- spaces and tabs stand between words
@@ -68,23 +106,63 @@ is_word piece = not (length piece == 0)
 abbrev pub words_of : List ℕ → List (List ℕ)
 words_of line = filter is_word (slice_split is_blank line)
 
-abbrev pub word : List (List ℕ) → ℕ → List ℕ
-word words i = slice_index_or words i []
-
 -- a line without words, or a comment: its first word begins with a `#`
 abbrev pub is_skipped : List (List ℕ) → Bool
 is_skipped words = length words == 0 || slice_index (word words 0) 0 == 35
 
-abbrev pub line_with : Option Command → Line
-line_with None = Faulty
-line_with (Some command) = Says (Ask command)
+abbrev pub want_in : List ℕ → Option Want
+want_in word =
+    if bytes_eq word (codes "advisory") then Some Advisory
+    else (if bytes_eq word (codes "warning") then Some Warning
+    else (if bytes_eq word (codes "error") then Some Error
+    else None))
+
+-- how many sub-devices, for how many results there is room, and what is wanted
+unfoldable pub setup_of : List ℕ → List ℕ → List ℕ → Option Setup
+setup_of subs queue_size want = do
+  s ← number_up_to 65535 subs
+  q ← number_up_to 65535 queue_size
+  w ← want_in want
+  Some (record { subs = s; queue_size = q; want = w })
+
+unfoldable pub setup_in : List (List ℕ) → Option Setup
+setup_in words =
+    if (length words == 4) && bytes_eq (word words 0) (codes "setup") then setup_of (word words 1) (word words 2) (word words 3)
+    else None
+
+unfoldable pub asked : Option Command → Option Fault → Option CrewStep
+asked command fault = do
+  c ← command
+  f ← fault
+  Some (Ask c f)
+
+-- five words of a command, and what goes wrong
+unfoldable pub command_step_in : List (List ℕ) → Option CrewStep
+command_step_in words =
+    if nat_le 5 (length words) then asked (command_in (word words 0) (word words 1) (word words 2) (word words 3) (word words 4)) (fault_in (drop 5 words))
+    else None
+
+-- a poll, one report, reports until no job is outstanding, or a command
+unfoldable pub step_in : List (List ℕ) → Option CrewStep
+step_in words =
+    if bytes_eq (word words 0) (codes "collect") then option_map (λ f. Collect f) (fault_in (drop 1 words))
+    else (if (length words == 1) && bytes_eq (word words 0) (codes "draw") then Some Draw
+    else (if (length words == 2) && bytes_eq (word words 0) (codes "settle") then option_map (λ n. Settle n) (number_up_to 4294967295 (word words 1))
+    else command_step_in words))
 
 -- What the words of a line say.
 unfoldable pub line_in : List (List ℕ) → Line
 line_in words =
     if is_skipped words then Skipped
-    else (if length words == 5 then line_with (command_in (word words 0) (word words 1) (word words 2) (word words 3) (word words 4))
-    else Faulty)
+    else option_map_or (λ step. Says step) (step_in words) Faulty
+
+-- What they say where no line before says anything: a setup may stand there.
+unfoldable pub first_line_in : List (List ℕ) → Line
+first_line_in words = option_map_or (λ setup. Sets setup) (setup_in words) (line_in words)
+
+-- whether a line before says anything tells which of the two it is
+abbrev pub line_at : Bool → List (List ℕ) → Line
+line_at begun words = if begun then line_in words else first_line_in words
 
 -- ---- a script
 
@@ -99,17 +177,38 @@ unfoldable pub lines_of : List ℕ → List (List ℕ)
 lines_of text = without_returns (slice_split (λ b. b == 10) text)
 
 -- what each line says
-abbrev pub said_by : List (List ℕ) → List Line
-said_by lines = map (λ line. line_in (words_of line)) lines
+abbrev pub said_later : List (List ℕ) → List Line
+said_later lines = map (λ line. line_in (words_of line)) lines
 
-abbrev pub steps_of_line : Line → List Step
+-- What each line says: the first one that isn't skipped may be a setup.
+abbrev pub said_by : List (List ℕ) → List Line
+said_by [] = []
+said_by (line ∷ more) = first_line_in (words_of line) ∷ (if is_skipped (words_of line) then said_by more else said_later more)
+
+abbrev pub steps_of_line : Line → List CrewStep
 steps_of_line Skipped = []
+steps_of_line (Sets setup) = []
 steps_of_line (Says step) = step ∷ []
 steps_of_line Faulty = []
 
--- No line is faulty, and the lines say these steps in order.
-pub record AreSteps (said : List Line) (steps : List Step) : Type 0 where
+-- the setup once a line is read
+abbrev pub setup_after : Setup → Line → Setup
+setup_after setup Skipped = setup
+setup_after setup (Sets other) = other
+setup_after setup (Says step) = setup
+setup_after setup Faulty = setup
+
+-- whether a line says anything by now
+abbrev pub begun_after : Bool → Line → Bool
+begun_after begun Skipped = begun
+begun_after begun (Sets setup) = true
+begun_after begun (Says step) = true
+begun_after begun Faulty = true
+
+-- No line is faulty, and the lines say this setup and these steps in order.
+pub record AreSaid (said : List Line) (setup : Setup) (steps : List CrewStep) : Type 0 where
   pub faultless : All (λ line. line ≢ Faulty) said
+  pub setup_is : setup ≡ fold setup_after plain_setup said
   pub in_order : steps ≡ flat_map steps_of_line said
 
 -- The first faulty line, counted from 1.
@@ -118,16 +217,10 @@ pub record IsFirstFaulty (said : List Line) (number : ℕ) : Type 0 where
   pub faulty : slice_get said (number - 1) ≡ Some Faulty
   pub front : All (λ line. line ≢ Faulty) (take (number - 1) said)
 
--- why lines are no script: one is faulty
-abbrev pub RefusesLines : ScriptError → List Line → Type 0
-RefusesLines errors.OutOfMemory said = Unit {0}
-RefusesLines errors.TooLong said = ⊥
-RefusesLines (errors.Line number) said = IsFirstFaulty said number
-
--- The reader's view of a script of these steps: no line is read as faulty, and they are what is read.
-pub record IsRead (text : List ℕ) (steps : List Step) : Type 0 where
+-- The reader's view of a script: no line is read as faulty, and this setup and these steps are what is read.
+pub record IsRead (text : List ℕ) (setup : Setup) (steps : List CrewStep) : Type 0 where
   pub within : length text ≤ 65536
-  pub says : AreSteps (said_by (lines_of text)) steps
+  pub says : AreSaid (said_by (lines_of text)) setup steps
 
 -- Why a text is no script: it is too long, or else it has a first faulty line.
 abbrev pub Refuses : ScriptError → List ℕ → Type 0

@@ -1,8 +1,9 @@
-pub mod BusRun
-pub mod Digits
+pub mod Decimals
+pub mod DemoParts
 pub mod ErrorLine
 pub mod Grammar
 pub mod Parties
 pub mod Program
+pub mod Running
 pub mod Spelling
 pub mod TraceText

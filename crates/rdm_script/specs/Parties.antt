@@ -1,5 +1,7 @@
--- Who takes part when a script is played, and whom its commands may name.
+-- Who takes part when a script is played, and how they are set up where it doesn't say.
 use Rattle.rdm_frame.specs.declared.uid.Uid.{Uid}
+use Rattle.rdm_bus.specs.declared.want.Want.TheVariants.{Advisory}
+use Rattle.rdm_script.specs.declared.script.Setup.{Setup}
 
 -- 7FF0:00000001
 abbrev pub device : Uid
@@ -9,10 +11,6 @@ device = record { maker = 0x7FF0; device = 0x00000001 }
 abbrev pub controller : Uid
 controller = record { maker = 0x7FF0; device = 0x00000002 }
 
--- FFFF:FFFFFFFF addresses every device. E1.20 section 6.2.4.
-abbrev pub all_devices : Uid
-all_devices = record { maker = 0xFFFF; device = 0xFFFFFFFF }
-
--- 7FF0:FFFFFFFF addresses every device of the manufacturer 7FF0. Section 6.2.4.
-abbrev pub all_of_maker : Uid
-all_of_maker = record { maker = 0x7FF0; device = 0xFFFFFFFF }
+-- no sub-devices, room for eight results of slow commands, and status entries of every severity
+abbrev pub plain_setup : Setup
+plain_setup = record { subs = 0; queue_size = 8; want = Advisory }

@@ -1,33 +1,38 @@
 -- What the program makes of its input.
-use Rattle.std.specs.Prelude.{◌≡◌, ◌≢◌, ℕ, List, take, Option, Some, IfSome, Result, Ok, Err, ⊤}
+use Rattle.std.specs.Prelude.{◌≡◌, ◌≢◌, ℕ, List, take, Option, IfSome, Result, Ok, Err, ⊤}
 use Rattle.std.specs.Io.KnownBytes.{Keeps, Appends}
-use Rattle.rdm_script.specs.declared.script.Step.{Step}
-use Rattle.rdm_script.specs.declared.event.Event.{Event}
+use Rattle.rdm_bus.specs.declared.event.Event.{Event}
+use Rattle.rdm_bus.specs.BusLaws.{recorded}
+use Rattle.rdm_crew.specs.declared.error.RunError.{RunError}
+use Rattle.rdm_crew.specs.declared.error.RunError.TheVariants as run
+use Rattle.rdm_crew.specs.declared.step.CrewStep.{CrewStep}
+use Rattle.rdm_script.specs.declared.script.Setup.{Setup}
 use Rattle.rdm_script.specs.declared.grammar.parsing.ScriptError.{ScriptError}
 use Rattle.rdm_script.specs.declared.grammar.parsing.ScriptError.TheVariants as script
-use Rattle.rdm_script.specs.declared.controller.RunError.{RunError}
-use Rattle.rdm_script.specs.declared.controller.RunError.TheVariants as run
 use Rattle.rdm_script.specs.declared.program.ProgramError.{ProgramError}
 use Rattle.rdm_script.specs.declared.program.ProgramError.TheVariants.{Read, Script, Memory, Run, Write}
 use Rattle.rdm_script.specs.Grammar.{Refuses}
 use Rattle.rdm_script.specs.Spelling.{IsScript}
-use Rattle.rdm_script.specs.BusRun.{IsBusRun, start, first_refusal}
+use Rattle.rdm_script.specs.Running.{IsGoodSetup, IsScriptRun, Stops}
 use Rattle.rdm_script.specs.TraceText.{trace_text}
 
 -- The output is the text of what happens when the script that the input is gets played on a device that has just been
--- switched on.
+-- switched on, with the parts of the demonstration, and of what the controller recorded then.
 pub record IsTraceOf (input output : List ℕ) : Type 0 where
-  pub steps : List Step
+  pub setup : Setup
+  pub steps : List CrewStep
   pub events : List Event
-  pub spelled : IsScript input steps
-  pub run : IsBusRun start 0 steps events
-  pub written : output ≡ trace_text events
+  pub spelled : IsScript input setup steps
+  pub good : IsGoodSetup setup
+  pub run : IsScriptRun setup steps events
+  pub written : output ≡ trace_text events (recorded events)
 
--- Steps can't be played to their end: this is the first reason in their order.
+-- The input is a script that isn't played to its end, and this is the reason.
 pub record IsStopped (input : List ℕ) (e : RunError) : Type 0 where
-  pub steps : List Step
-  pub spelled : IsScript input steps
-  pub first : first_refusal steps ≡ Some e
+  pub setup : Setup
+  pub steps : List CrewStep
+  pub spelled : IsScript input setup steps
+  pub because : Stops e setup steps
 
 -- Why there is no trace of the input. Want of memory is told as such, and never as a fault of the script or the run.
 abbrev pub IsFailure : ProgramError → List ℕ → Type 0
@@ -69,3 +74,7 @@ abbrev pub fault_of_run : RunError → ProgramError
 fault_of_run run.OutOfMemory = Memory
 fault_of_run run.Reserved = Run run.Reserved
 fault_of_run run.TooLong = Run run.TooLong
+fault_of_run run.Unsettled = Run run.Unsettled
+fault_of_run run.Astray = Run run.Astray
+fault_of_run run.Missing = Run run.Missing
+fault_of_run run.BadSetup = Run run.BadSetup

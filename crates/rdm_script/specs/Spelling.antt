@@ -1,46 +1,31 @@
--- What a script is: how its lines spell commands, word by word. Bytes are spelled as a trace prints them, with digits of
--- either case.
-use Rattle.std.specs.Prelude.{◌≡◌, true, false, ℕ, ◌-◌, ◌<◌, ◌≤◌, ◌^◌, ◌⊎◌, List, [], ◌∷◌, ◌++◌, length, map, if◌then◌else◌, codes}
-use Rattle.std.specs.List.{AllByRecursion}
-use Rattle.std.specs.Int.{Width, w16, w32, byte_len, to_be_bytes}
+-- What a script is: how its lines spell a setup and steps, word by word. Bytes are spelled as a trace prints them, with
+-- digits of either case.
+use Rattle.std.specs.Prelude.{◌≡◌, true, false, ℕ, ◌<◌, ◌≤◌, ◌⊎◌, List, [], ◌∷◌, length, drop, map, codes}
+use Rattle.std.specs.Int.{w16}
 use Rattle.rdm_frame.specs.declared.uid.Uid.{Uid}
-use Rattle.rdm_script.specs.declared.command.Action.{Action}
-use Rattle.rdm_script.specs.declared.command.Action.TheVariants.{Disc, Get, Set}
-use Rattle.rdm_script.specs.declared.command.Command.{Command}
-use Rattle.rdm_script.specs.Digits.{within}
-use Rattle.rdm_script.specs.TraceText.{digits}
-use Rattle.rdm_script.specs.Parties.{device, all_devices, all_of_maker}
-use Rattle.rdm_script.specs.declared.script.Step.{Step}
-use Rattle.rdm_script.specs.declared.script.Step.TheVariants.{Ask}
+use Rattle.rdm_frame.specs.Addressing.{all_devices, all_of}
+use Rattle.rdm_frame.specs.Digits.{SpellsBytes, SpellsNumber}
+use Rattle.rdm_frame.specs.UidText.{SpellsUid}
+use Rattle.rdm_bus.specs.declared.command.Action.{Action}
+use Rattle.rdm_bus.specs.declared.command.Action.TheVariants.{Disc, Get, Set}
+use Rattle.rdm_bus.specs.declared.command.Command.{Command}
+use Rattle.rdm_bus.specs.declared.fault.Fault.{Fault}
+use Rattle.rdm_bus.specs.declared.fault.Fault.TheVariants as fault
+use Rattle.rdm_bus.specs.declared.want.Want.{Want}
+use Rattle.rdm_bus.specs.declared.want.Want.TheVariants.{Advisory, Warning, Error}
+use Rattle.rdm_crew.specs.declared.step.CrewStep.{CrewStep}
+use Rattle.rdm_crew.specs.declared.step.CrewStep.TheVariants.{Ask, Collect, Draw, Settle}
+use Rattle.rdm_script.specs.declared.script.Setup.{Setup}
+use Rattle.rdm_script.specs.Decimals.{SpellsDecimal}
+use Rattle.rdm_script.specs.Parties.{device, plain_setup}
 use Rattle.rdm_script.specs.Grammar.{word, is_skipped, words_of, lines_of}
-
--- a letter in upper case, and what is no letter as it is
-abbrev pub upper : ℕ → ℕ
-upper b = if within 97 b 122 then b - 32 else b
-
--- The word spells these bytes: in upper case it is what a trace prints of them.
-pub record SpellsBytes (text bytes : List ℕ) : Type 0 where
-  pub printed : map upper text ≡ digits bytes
-  pub fits : AllByRecursion (λ byte. byte < 256) bytes
-
--- The word spells this number: all bytes of its width, most significant byte first.
-abbrev pub SpellsNumber : Width → List ℕ → ℕ → Type 0
-SpellsNumber width text n = (n < 256 ^ byte_len width) × SpellsBytes text (to_be_bytes width n)
-
--- The word is this UID: the manufacturer ID, a colon and the device ID.
-pub record SpellsUid (text : List ℕ) (u : Uid) : Type 0 where
-  pub maker : List ℕ
-  pub device : List ℕ
-  pub parts : text ≡ maker ++ 58 ∷ device
-  pub is_maker : SpellsNumber w16 maker u.maker
-  pub is_device : SpellsNumber w32 device u.device
 
 -- The word says whom a command is for: by a name, or by a UID.
 abbrev pub SpellsDestination : List ℕ → Uid → Type 0
 SpellsDestination text u =
     ((text ≡ codes "dev") × (u ≡ device)) ⊎
     (((text ≡ codes "all") × (u ≡ all_devices)) ⊎
-    (((text ≡ codes "maker") × (u ≡ all_of_maker)) ⊎ SpellsUid text u))
+    (((text ≡ codes "maker") × (u ≡ all_of device.maker)) ⊎ SpellsUid text u))
 
 -- The word is the data of a command: a hyphen for none, or at most 255 bytes.
 abbrev pub SpellsLoad : List ℕ → List ℕ → Type 0
@@ -52,24 +37,80 @@ SpellsAction text Disc = text ≡ codes "disc"
 SpellsAction text Get = text ≡ codes "get"
 SpellsAction text Set = text ≡ codes "set"
 
--- The five words of a line that says this command.
+-- The first five words of a line say this command.
 pub record SpellsCommand (words : List (List ℕ)) (c : Command) : Type 0 where
-  pub five : length words ≡ 5
+  pub five : 5 ≤ length words
   pub action : SpellsAction (word words 0) c.action
   pub destination : SpellsDestination (word words 1) c.dst
   pub sub : SpellsNumber w16 (word words 2) c.sub
   pub pid : SpellsNumber w16 (word words 3) c.pid
   pub load : SpellsLoad (word words 4) c.load
 
--- What the lines of a script say, each taken by its words: a line without words or a comment says nothing, and every
--- other one says the command that its words spell.
-abbrev pub SpellSteps : List (List (List ℕ)) → List Step → Type 0
+-- The words are this name, a slot and by how much it is raised.
+pub record SpellsRaise (name : List ℕ) (words : List (List ℕ)) (k x : ℕ) : Type 0 where
+  pub three : length words ≡ 3
+  pub named : word words 0 ≡ name
+  pub slot : SpellsDecimal (word words 1) k
+  pub slot_fits : k ≤ 255
+  pub raise : SpellsDecimal (word words 2) x
+  pub raises : 0 < x
+  pub raise_fits : x ≤ 255
+
+-- The words say what goes wrong with a transaction. Where there are none, nothing does.
+abbrev pub SpellsFault : List (List ℕ) → Fault → Type 0
+SpellsFault words fault.None = words ≡ []
+SpellsFault words fault.LostRequest = words ≡ codes "lost-request" ∷ []
+SpellsFault words fault.LostReply = words ≡ codes "lost-reply" ∷ []
+SpellsFault words (fault.BadRequest k x) = SpellsRaise (codes "bad-request") words k x
+SpellsFault words (fault.BadReply k x) = SpellsRaise (codes "bad-reply") words k x
+
+-- The words say that reports are awaited until no job is outstanding, and how often there may be none.
+pub record SpellsSettle (words : List (List ℕ)) (n : ℕ) : Type 0 where
+  pub two : length words ≡ 2
+  pub named : word words 0 ≡ codes "settle"
+  pub empties : SpellsDecimal (word words 1) n
+  pub empties_fit : n ≤ 4294967295
+
+-- The words of a line say this step.
+abbrev pub SpellsStep : List (List ℕ) → CrewStep → Type 0
+SpellsStep words (Ask c f) = SpellsCommand words c × SpellsFault (drop 5 words) f
+SpellsStep words (Collect f) = (word words 0 ≡ codes "collect") × SpellsFault (drop 1 words) f
+SpellsStep words Draw = words ≡ codes "draw" ∷ []
+SpellsStep words (Settle empties) = SpellsSettle words empties
+
+-- The word says which messages the controller wants.
+abbrev pub SpellsWant : List ℕ → Want → Type 0
+SpellsWant text Advisory = text ≡ codes "advisory"
+SpellsWant text Warning = text ≡ codes "warning"
+SpellsWant text Error = text ≡ codes "error"
+
+-- The words of a line say this setup: how many sub-devices there are, for how many results of slow commands there is
+-- room, and what the controller wants.
+pub record SpellsSetup (words : List (List ℕ)) (s : Setup) : Type 0 where
+  pub four : length words ≡ 4
+  pub named : word words 0 ≡ codes "setup"
+  pub subs : SpellsDecimal (word words 1) s.subs
+  pub subs_fit : s.subs ≤ 65535
+  pub queue_size : SpellsDecimal (word words 2) s.queue_size
+  pub queue_size_fits : s.queue_size ≤ 65535
+  pub want : SpellsWant (word words 3) s.want
+
+-- What lines say, each taken by its words: a line without words or a comment says nothing, and every other one says the
+-- step that its words spell.
+abbrev pub SpellSteps : List (List (List ℕ)) → List CrewStep → Type 0
 SpellSteps [] steps = steps ≡ []
 SpellSteps (words ∷ more) steps =
     ((is_skipped words ≡ true) × SpellSteps more steps) ⊎
-    ((is_skipped words ≡ false) × (c : Command) × (rest : List Step) × (steps ≡ Ask c ∷ rest) × SpellsCommand words c × SpellSteps more rest)
+    ((is_skipped words ≡ false) × (step : CrewStep) × (rest : List CrewStep) × (steps ≡ step ∷ rest) × SpellsStep words step × SpellSteps more rest)
 
--- The text is a script of these steps: it has at most 65,536 bytes, and its lines say them in order.
-pub record IsScript (text : List ℕ) (steps : List Step) : Type 0 where
+-- The lines say this setup, and then these steps. Before the setup stand only lines that say nothing.
+abbrev pub SpellSetupAndSteps : List (List (List ℕ)) → Setup → List CrewStep → Type 0
+SpellSetupAndSteps [] setup steps = ⊥
+SpellSetupAndSteps (words ∷ more) setup steps =
+    ((is_skipped words ≡ true) × SpellSetupAndSteps more setup steps) ⊎ (SpellsSetup words setup × SpellSteps more steps)
+
+-- The text is a script of this setup and these steps: it has at most 65,536 bytes, and its lines say them in order. A
+-- script that says no setup has the plain one.
+pub record IsScript (text : List ℕ) (setup : Setup) (steps : List CrewStep) : Type 0 where
   pub within : length text ≤ 65536
-  pub says : SpellSteps (map words_of (lines_of text)) steps
+  pub says : SpellSetupAndSteps (map words_of (lines_of text)) setup steps ⊎ ((setup ≡ plain_setup) × SpellSteps (map words_of (lines_of text)) steps)

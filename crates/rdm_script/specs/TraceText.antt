@@ -1,44 +1,97 @@
 -- The text of a trace.
-use Rattle.std.specs.Prelude.{ℕ, ◌+◌, ◌/◌, ◌%◌, List, [], ◌∷◌, ◌++◌, Option, Some, None, nat_lt, if◌then◌else◌, codes, decimal}
+use Rattle.std.specs.Prelude.{ℕ, List, [], ◌∷◌, ◌++◌, Option, Some, None, codes, decimal}
+use Rattle.std.specs.Fmt.{signed_decimal}
+use Rattle.std.specs.Int.{w16, to_be_bytes}
 use Rattle.std.specs.List.{flat_map}
+use Rattle.rdm_frame.specs.Digits.{digits}
+use Rattle.rdm_params.specs.declared.slow.message.Message.{Message}
+use Rattle.rdm_params.specs.declared.slow.outcome.Outcome.{Outcome}
+use Rattle.rdm_params.specs.declared.slow.outcome.Outcome.TheVariants.{Done, Reading, Failed}
+use Rattle.rdm_params.specs.declared.slow.status.Severity.{Severity}
+use Rattle.rdm_params.specs.Slow.Severities.{severity_code}
 use Rattle.rdm_params.specs.Slow.Work.{worker_of}
 use Rattle.rdm_outbox.specs.declared.job.Job.{Job}
-use Rattle.rdm_script.specs.declared.event.Heard.{Heard}
-use Rattle.rdm_script.specs.declared.event.Heard.TheVariants.{Reply, Ignored}
-use Rattle.rdm_script.specs.declared.event.Event.{Event}
-use Rattle.rdm_script.specs.declared.event.Event.TheVariants.{Bus}
-
--- the digit of a number below 16, in upper case
-abbrev pub digit : ℕ → ℕ
-digit n = if nat_lt n 10 then 48 + n else 55 + n
-
--- two digits for each byte
-abbrev pub digits : List ℕ → List ℕ
-digits bytes = flat_map (λ byte. digit (byte / 16) ∷ digit (byte % 16) ∷ []) bytes
+use Rattle.rdm_bus.specs.declared.event.Event.{Event}
+use Rattle.rdm_bus.specs.declared.event.Event.TheVariants.{Bus, Arrived}
+use Rattle.rdm_bus.specs.declared.fault.Fault.{Fault}
+use Rattle.rdm_bus.specs.declared.fault.Fault.TheVariants as fault
+use Rattle.rdm_bus.specs.declared.transaction.Heard.{Heard}
+use Rattle.rdm_bus.specs.declared.transaction.Heard.TheVariants as heard
 
 -- a word, what follows it, and the end of the line
 abbrev pub line : List ℕ → List ℕ → List ℕ
 line word rest = word ++ rest ++ 10 ∷ []
 
+-- four digits for a number of 16 bits, most significant byte first
+abbrev pub word_digits : ℕ → List ℕ
+word_digits n = digits (to_be_bytes w16 n)
+
+-- two numbers
+abbrev pub pair_words : ℕ → ℕ → List ℕ
+pair_words n m = decimal n ++ 32 ∷ decimal m
+
+-- ---- a transaction
+
+-- what goes wrong, in the words of a script
+abbrev pub fault_words : Fault → List ℕ
+fault_words fault.None = []
+fault_words fault.LostRequest = codes " lost-request"
+fault_words fault.LostReply = codes " lost-reply"
+fault_words (fault.BadRequest k x) = codes " bad-request " ++ pair_words k x
+fault_words (fault.BadReply k x) = codes " bad-reply " ++ pair_words k x
+
 abbrev pub reply_words : Option (List ℕ) → List ℕ
 reply_words None = codes "none"
 reply_words (Some bytes) = digits bytes
 
-abbrev pub heard_word : Option Heard → List ℕ
-heard_word None = codes "nothing"
-heard_word (Some Reply) = codes "reply"
-heard_word (Some Ignored) = codes "ignored"
+-- a job: its worker and its number
+abbrev pub job_words : Job → List ℕ
+job_words job = pair_words (worker_of job.work) job.number
 
--- where a job started, a line with its worker and its number
 abbrev pub job_text : Option Job → List ℕ
 job_text None = []
-job_text (Some job) = line (codes "job ") (decimal (worker_of job.work) ++ 32 ∷ decimal job.number)
+job_text (Some job) = line (codes "job ") (job_words job)
 
--- the lines of a request: what was sent, what was replied, the job that started, and what the controller took the reply for
+abbrev pub heard_word : Option Heard → List ℕ
+heard_word None = codes "nothing"
+heard_word (Some heard.Message) = codes "message"
+heard_word (Some heard.Reply) = codes "reply"
+heard_word (Some heard.Ignored) = codes "ignored"
+
+-- ---- a report
+
+-- a status entry: its severity, its ID and its two values
+abbrev pub status_words : Severity → ℕ → ℕ → ℕ → List ℕ
+status_words severity id v1 v2 = digits (severity_code severity ∷ []) ++ 32 ∷ word_digits id ++ 32 ∷ word_digits v1 ++ 32 ∷ word_digits v2
+
+-- how a job ended
+abbrev pub outcome_words : Outcome → List ℕ
+outcome_words Done = codes " done"
+outcome_words (Reading v) = codes " reading " ++ signed_decimal v
+outcome_words (Failed severity id v1 v2) = codes " failed " ++ status_words severity id v1 v2
+
+-- ---- a trace
+
+-- The lines of a transaction: what was sent and what goes wrong, what was replied, the job that started, and what the
+-- controller took the reply for. A report has one line.
 unfoldable pub event_text : Event → List ℕ
-event_text (Bus sent reply job heard) =
-    line (codes "send ") (digits sent) ++ line (codes "reply ") (reply_words reply) ++ job_text job ++ line (codes "heard ") (heard_word heard)
+event_text (Bus sent poll fault reply job heard) =
+    line (codes "send ") (digits sent ++ fault_words fault)
+    ++ line (codes "reply ") (reply_words reply)
+    ++ job_text job
+    ++ line (codes "heard ") (heard_word heard)
+event_text (Arrived report message kept) = line (codes "arrive ") (job_words report.job ++ outcome_words report.outcome)
 
--- The text of a whole trace: each event in order, and the last line.
-abbrev pub trace_text : List Event → List ℕ
-trace_text events = flat_map event_text events ++ line (codes "end") []
+-- the data of a message, or a hyphen where there are none
+abbrev pub data_words : List ℕ → List ℕ
+data_words [] = codes "-"
+data_words (byte ∷ bytes) = digits (byte ∷ bytes)
+
+-- The line of a message that the controller recorded: its command class, parameter ID, sub-device and data.
+unfoldable pub message_text : Message → List ℕ
+message_text m =
+    line (codes "message ") (digits (m.class ∷ []) ++ 32 ∷ word_digits m.pid ++ 32 ∷ word_digits m.sub ++ 32 ∷ data_words m.body)
+
+-- The text of a whole trace: each event in order, each recorded message in order, and the last line.
+abbrev pub trace_text : List Event → List Message → List ℕ
+trace_text events messages = flat_map event_text events ++ flat_map message_text messages ++ line (codes "end") []

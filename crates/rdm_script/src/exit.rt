@@ -12,15 +12,20 @@ use std::alloc::Global;
 use std::io;
 use std::io::{Read, Write};
 use std::process::ExitCode;
+use std::sync::Wait;
+use std::thread::Threads;
 
 /// Plays the script that is read and writes its trace, as `run_script` does. Where that fails, the line of the error
 /// is written to `errors`. The exit status is 0, or that of the error.
-pub fn run_program<R: Read, W: Write, E: Write>(
+pub fn run_program<T, R: Read, W: Write, E: Write>(
+    rt: T,
     alloc: Global,
     reader: &mut R,
     writer: &mut W,
     errors: &mut E,
 ) -> ExitCode
+where
+    T: Threads + Wait + Copy + Send + 'static,
     // Status 0: the whole input was read, its trace was written, and no error line.
     ensures done { exit_status result ≡ 0 → IfSome (R.remaining reader.old) (λ input. (text : List ℕ) ×
         IsTraceOf input text × Appends (W.contents writer.old) (W.contents writer.new) text) }
@@ -31,7 +36,7 @@ pub fn run_program<R: Read, W: Write, E: Write>(
         IfSome (R.remaining reader.old) (IsFailure e) ×
         Leaves e (R.remaining reader.old) (W.contents writer.old) (W.contents writer.new) }
 {
-    report(errors, run_script(alloc, reader, writer))
+    report(errors, run_script(rt, alloc, reader, writer))
 }
 
 /// Tells how a program ended: where it failed, the line of the error is written to `errors`. Gives the exit status.

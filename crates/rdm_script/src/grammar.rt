@@ -1,6 +1,8 @@
-//! What a script says: its lines, their words, and the digits of numbers and bytes.
+//! What a script says: its lines, their words, and the numbers in them.
 
-pub(crate) mod digits;
+mod command;
+mod decimals;
+mod fault;
 pub(crate) mod line;
 pub(crate) mod parsing;
 mod words;

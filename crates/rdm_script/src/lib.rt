@@ -2,32 +2,26 @@
 //! of the bytes that went over the bus.
 //!
 //! `run_script` does all of it, for any reader and writer, and `run_program` ends a program with what came of it. The
-//! language stands in `specs/Spelling.antt`, what a run is in `specs/BusRun.antt`, the text in `specs/TraceText.antt`.
+//! language stands in `specs/Spelling.antt`, how a run is set up and why it stops in `specs/Running.antt`, how its jobs end
+//! in `specs/DemoParts.antt`, and the text in `specs/TraceText.antt`. What a run is, rdm_crew says.
 #![tactic(auto)]
 
-mod command;
-mod controller;
-mod event;
+mod demo;
 mod exit;
 mod grammar;
 mod laws;
 mod parties;
 mod program;
+mod running;
 mod script;
 mod streams;
 mod trace;
 
-pub use command::{Action, Command};
-pub use controller::RunError;
-pub use event::{Event, Heard};
 pub use exit::{report, run_program, write_error_line};
 pub use grammar::{ScriptError, parse};
-pub use laws::{
-    line_says_what_its_words_spell, printed_bytes_are_read_back, script_is_never_refused,
-    text_is_one_script,
-};
+pub use laws::{line_says_what_its_words_spell, script_is_never_refused, text_is_one_script};
 pub use program::{ProgramError, run_script};
-pub use script::{Script, Step};
+pub use script::{Script, Setup};
 
 #[cfg(test)]
 mod tests;

@@ -1,4 +1,4 @@
-//! Who takes part when a script is played, and whom its commands may name.
+//! Who takes part when a script is played.
 
 use rdm_frame::Uid;
 
@@ -12,16 +12,4 @@ pub(crate) const DEVICE: Uid = Uid {
 pub(crate) const CONTROLLER: Uid = Uid {
     maker: 0x7FF0,
     device: 0x0000_0002,
-};
-
-/// All devices (E1.20 section 6.2.4).
-pub(crate) const ALL_DEVICES: Uid = Uid {
-    maker: 0xFFFF,
-    device: Uid::EVERY_DEVICE,
-};
-
-/// All devices of the manufacturer of the script's device (E1.20 section 6.2.4).
-pub(crate) const ALL_OF_MAKER: Uid = Uid {
-    maker: DEVICE.maker,
-    device: Uid::EVERY_DEVICE,
 };

@@ -5,14 +5,17 @@ ghost use Rattle.std.specs.Io.KnownBytes.{Keeps, Appends, IsAtEnd};
 ghost use Rattle.rdm_script.specs.Program.{IsTraceOf, IsFailure, status_of, fault_of_script, fault_of_run};
 ghost use Rattle.rdm_script.specs.declared.program.ProgramError.TheVariants.{Memory, Read as ReadFault, Write as WriteFault};
 
-use crate::controller::{RunError, run};
 use crate::grammar::{ScriptError, parse};
+use crate::running::play_steps;
 use crate::streams::{read_input, write_text};
 use crate::trace::trace_text;
+use rdm_crew::RunError;
 use std::alloc::{AllocError, Global};
 use std::error::Error;
 use std::fmt;
 use std::io::{Read, Write};
+use std::sync::Wait;
+use std::thread::Threads;
 
 /// Why the program couldn't do its work.
 #[derive(Clone, Copy, Debug, PartialEq, Eq)]
@@ -23,7 +26,7 @@ pub enum ProgramError {
     Script(ScriptError),
     /// Memory was wanted and refused.
     Memory,
-    /// The script can't be played to its end. It is never want of memory.
+    /// The script isn't played to its end. It is never want of memory.
     Run(RunError),
     /// The writer failed, or took no byte.
     Write,
@@ -87,20 +90,29 @@ impl From<RunError> for ProgramError {
     fn from(fault: RunError) -> ProgramError {
         match fault {
             RunError::OutOfMemory => ProgramError::Memory,
-            RunError::Reserved | RunError::TooLong => ProgramError::Run(fault),
+            RunError::Reserved
+            | RunError::TooLong
+            | RunError::Unsettled
+            | RunError::Astray
+            | RunError::Missing
+            | RunError::BadSetup => ProgramError::Run(fault),
         }
     }
 }
 
-/// Reads a script to its end, plays it, and then writes the text of its trace.
+/// Reads a script to its end, plays it, and then writes the text of its trace. The device's jobs are done by two workers, each
+/// on a thread of its own.
 ///
 /// A read that gives no byte is the end of the input, and at most 65,537 bytes are read. A write that takes no byte
 /// is a fault of the writer.
-pub fn run_script<R: Read, W: Write>(
+pub fn run_script<T, R: Read, W: Write>(
+    rt: T,
     alloc: Global,
     reader: &mut R,
     writer: &mut W,
 ) -> Result<(), ProgramError>
+where
+    T: Threads + Wait + Copy + Send + 'static,
     // What is written is the text of the trace of what is read, and nothing else.
     ensures ok { OnOk result (IfSome (R.remaining reader.old) (λ input. (text : List ℕ) ×
         IsTraceOf input text × Appends (W.contents writer.old) (W.contents writer.new) text)) }
@@ -115,16 +127,18 @@ pub fn run_script<R: Read, W: Write>(
     ensures err { IfErr result (λ e. IfSome (R.remaining reader.old) (IsFailure e)) }
 {
     let input = read_input(alloc, reader)?;
-    let text = play(alloc, &input)?;
+    let text = play(rt, alloc, &input)?;
     write_text(writer, &text)
 }
 
 /// The text of the trace of a script.
-fn play(alloc: Global, input: &[u8]) -> Result<Vec<u8>, ProgramError>
+fn play<T>(rt: T, alloc: Global, input: &[u8]) -> Result<Vec<u8>, ProgramError>
+where
+    T: Threads + Wait + Copy + Send + 'static,
     ensures ok { IfOk result (λ text. IsTraceOf input.now text.items) }
     ensures err { IfErr result (λ e. IsFailure e input.now × (e ≢ ReadFault) × (e ≢ WriteFault)) }
 {
     let script = parse(alloc, input)?;
-    let events = run(alloc, &script.steps)?;
-    Ok(trace_text(alloc, &events)?)
+    let trace = play_steps(rt, alloc, script.setup, &script.steps)?;
+    Ok(trace_text(alloc, trace.events(), trace.recorded())?)
 }

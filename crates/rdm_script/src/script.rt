@@ -1,17 +1,33 @@
 //! What a script says.
 
-use crate::command::Command;
+use rdm_bus::Want;
+use rdm_crew::CrewStep;
 
-/// One thing that a script asks for.
-#[derive(Debug, Drop, PartialEq, Eq)]
-pub enum Step {
-    /// A command is sent, and its reply awaited.
-    Ask(Command),
+/// How the device and the controller of a script are set up.
+#[derive(Clone, Copy, Debug, PartialEq, Eq)]
+pub struct Setup {
+    /// How many sub-devices the device has.
+    pub subs: u16,
+    /// For how many results of slow commands the device has room.
+    pub queue_size: u16,
+    /// Which messages the controller wants.
+    pub want: Want,
 }
 
-/// The steps of a script, in order.
+impl Setup {
+    /// The setup of a script that says none.
+    pub const PLAIN: Setup = Setup {
+        subs: 0,
+        queue_size: 8,
+        want: Want::Advisory,
+    };
+}
+
+/// A script: a setup, and the steps in order.
 #[derive(Debug, Drop)]
 pub struct Script {
+    /// How the device and the controller are set up.
+    pub setup: Setup,
     /// The steps.
-    pub steps: Vec<Step>,
+    pub steps: Vec<CrewStep>,
 }

@@ -1,12 +1,11 @@
 //! Readers and writers: all that a reader gives, and a text written whole.
 
-ghost use Rattle.std.specs.Prelude.{◌≡◌, ◌≤◌, ℕ, [], length, take, vec_capacity, OnOk, OnErr, ◌⊎◌, IfOk, IfErr, MatchResult};
+ghost use Rattle.std.specs.Prelude.{◌≡◌, ◌+◌, ◌≤◌, ◌++◌, ℕ, [], length, take, vec_len, vec_capacity, OnOk, OnErr, ◌⊎◌, IfOk, IfErr, MatchResult};
 ghost use Rattle.std.specs.Io.KnownBytes.{Keeps, Appends, Consumes, IsAtEnd, ReadConsumes};
 ghost use Rattle.rdm_script.specs.declared.program.ProgramError.TheVariants.{Memory, Read as ReadFault, Write as WriteFault};
 
 use crate::grammar::MOST_BYTES;
 use crate::program::ProgramError;
-use crate::trace::put_all;
 use std::alloc::Global;
 use std::io::{Read, Write};
 
@@ -47,6 +46,15 @@ fn read_all<R: Read>(reader: &mut R, input: &mut Vec<u8>) -> Result<(), ProgramE
         put_all(input, &piece[..count]);
     }
     Ok(())
+}
+
+/// Puts bytes behind others, in a list that has room for them.
+fn put_all(input: &mut Vec<u8>, bytes: &[u8])
+    requires { vec_len input.old + length bytes.now ≤ vec_capacity input.old }
+    ensures items { input.new.items ≡ input.old.items ++ bytes.now }
+    ensures capacity { vec_capacity input.old ≤ vec_capacity input.new }
+{
+    input.extend_from_slice(bytes).unwrap();
 }
 
 /// One read. A read that fails is a fault.

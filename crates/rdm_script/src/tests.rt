@@ -1,13 +1,20 @@
 //! What no contract says: that scripts print what they should, and that the words of each fault are right.
 
+mod collecting;
 mod endings;
 mod examples;
 mod large;
+mod parsing;
+mod readme;
 mod scripts;
 mod streams;
+mod traces;
+mod working;
 
 use crate::program::{ProgramError, run_script};
 use std::alloc::Global;
+use std::sync::Wait;
+use std::thread::Threads;
 
 /// The shortest script.
 const FIRST_SCRIPT: &str = "get dev 0000 1000 -\n";
@@ -20,9 +27,12 @@ end
 ";
 
 /// What a script ends with, and what it writes.
-fn played(alloc: Global, script: &[u8]) -> (Result<(), ProgramError>, Vec<u8>) {
+fn played<T>(rt: T, alloc: Global, script: &[u8]) -> (Result<(), ProgramError>, Vec<u8>)
+where
+    T: Threads + Wait + Copy + Send + 'static,
+{
     let mut reader = script;
     let mut written = Vec::new(alloc);
-    let outcome = run_script(alloc, &mut reader, &mut written);
+    let outcome = run_script(rt, alloc, &mut reader, &mut written);
     (outcome, written)
 }

@@ -1,16 +1,19 @@
-//! From the bytes of a script to its steps.
+//! From the bytes of a script to its setup and its steps.
 
 ghost use Rattle.std.specs.Prelude.{◌≡◌, ◌≢◌, ℕ, ◌+◌, ◌^◌, ◌<◌, ◌≤◌, ◌==◌, List, [], ◌++◌, length, count_by, position, vec_len, vec_capacity, IfSome, OnOk, IfOk, IfErr, MatchResult};
 ghost use Rattle.std.specs.Str.Lines.{strip_carriage_return as without_return};
-ghost use Rattle.rdm_script.specs.Grammar.{line_in, words_of, said_by, lines_of, steps_of_line, AreSteps, IsFirstFaulty, IsRead, Refuses};
+ghost use Rattle.rdm_crew.specs.declared.step.CrewStep.{CrewStep as TheStep};
+ghost use Rattle.rdm_crew.specs.RunTrace.{HaveFaults};
+ghost use Rattle.rdm_script.specs.declared.script.Setup.{Setup as TheSetup};
+ghost use Rattle.rdm_script.specs.Parties.{plain_setup};
+ghost use Rattle.rdm_script.specs.Grammar.{words_of, line_at, begun_after, said_by, lines_of, setup_after, steps_of_line, AreSaid, IsFirstFaulty, IsRead, Refuses};
 ghost use Rattle.rdm_script.specs.Spelling.{IsScript};
 ghost use Rattle.rdm_script.specs.declared.grammar.parsing.ScriptError.TheVariants.{OutOfMemory, Line as LineError};
 ghost use Rattle.rdm_script.specs.declared.grammar.line.Line.TheVariants.{Faulty};
-ghost use Rattle.rdm_script.specs.declared.script.Step.{Step as TheStep};
 
-use super::line::{Line, line_in};
+use super::line::{Line, first_line_in, line_in};
 use super::words::words_of;
-use crate::script::{Script, Step};
+use crate::script::{Script, Setup};
 use std::alloc::{AllocError, Global};
 use std::error::Error;
 use std::fmt;
@@ -70,32 +73,37 @@ impl From<FaultyLine> for ScriptError {
 ///
 /// Memory for the steps is taken first, so that whether the bytes are a script hangs on nothing else.
 pub fn parse(alloc: Global, text: &[u8]) -> Result<Script, ScriptError>
-    // What is read is a script of these steps.
-    ensures ok { IfOk result (λ script. IsScript text.now script.steps.items) }
+    // What is read is a script of this setup and these steps.
+    ensures ok { IfOk result (λ script. IsScript text.now script.setup script.steps.items) }
     // A script is read, unless memory is refused.
-    ensures only { (steps : List TheStep) → IsScript text.now steps →
-        MatchResult result (λ script. script.steps.items ≡ steps) (λ e. e ≡ OutOfMemory) }
+    ensures only { (setup : TheSetup) (steps : List TheStep) → IsScript text.now setup steps →
+        MatchResult result (λ script. (script.setup ≡ setup) × (script.steps.items ≡ steps)) (λ e. e ≡ OutOfMemory) }
     // Each refusal comes for its cause: a line is named only where it is the first faulty one.
     ensures err { IfErr result (λ e. Refuses e text.now) }
     ensures too_long { 65536 < length text.now → result ≡ Err ScriptError.TooLong }
+    // What goes wrong at a step alters something.
+    ensures faults { IfOk result (λ script. HaveFaults script.steps.items) }
 {
     read_script(alloc, text)
 }
 
 /// The script that the bytes are, as the reader sees it.
 fn read_script(alloc: Global, text: &[u8]) -> Result<Script, ScriptError>
-    ensures ok { IfOk result (λ script. IsRead text.now script.steps.items) }
-    ensures only { (steps : List TheStep) → IsRead text.now steps →
-        MatchResult result (λ script. script.steps.items ≡ steps) (λ e. e ≡ OutOfMemory) }
+    ensures ok { IfOk result (λ script. IsRead text.now script.setup script.steps.items) }
+    ensures only { (setup : TheSetup) (steps : List TheStep) → IsRead text.now setup steps →
+        MatchResult result (λ script. (script.setup ≡ setup) × (script.steps.items ≡ steps)) (λ e. e ≡ OutOfMemory) }
     ensures err { IfErr result (λ e. Refuses e text.now) }
     ensures too_long { 65536 < length text.now → result ≡ Err ScriptError.TooLong }
 {
     if text.len() > MOST_BYTES {
         return Err(ScriptError::TooLong);
     }
-    let mut steps = Vec::with_capacity(alloc, line_count(text))?;
-    read_steps(text, &mut steps)?;
-    Ok(Script { steps })
+    let mut script = Script {
+        setup: Setup::PLAIN,
+        steps: Vec::with_capacity(alloc, line_count(text))?,
+    };
+    read_lines(text, &mut script)?;
+    Ok(script)
 }
 
 /// How many lines a text has.
@@ -114,48 +122,67 @@ fn line_end_count(text: &[u8]) -> usize
     text.iter().filter(|b| **b == b'\n').count()
 }
 
-/// Puts the steps that the lines of a text say into a list that has room for them.
-fn read_steps(text: &[u8], steps: &mut Vec<Step>) -> Result<(), FaultyLine>
-    requires none { steps.old.items ≡ [] }
-    requires room { length (lines_of text.now) ≤ vec_capacity steps.old }
-    ensures ok { OnOk result (AreSteps (said_by (lines_of text.now)) steps.new.items) }
+/// Puts what the lines of a text say into a script that has room for their steps.
+fn read_lines(text: &[u8], script: &mut Script) -> Result<(), FaultyLine>
+    requires plain { script.old.setup ≡ plain_setup }
+    requires none { script.old.steps.items ≡ [] }
+    requires room { length (lines_of text.now) ≤ vec_capacity script.old.steps }
+    ensures ok { OnOk result (AreSaid (said_by (lines_of text.now)) script.new.setup script.new.steps.items) }
     ensures err { IfErr result (λ fault. IsFirstFaulty (said_by (lines_of text.now)) fault.0) }
 {
     let mut rest = text;
     let mut index = 0;
+    let mut begun = false;
     while let Some(end) = line_end(rest) {
-        read_line(without_return(&rest[..end]), index, steps)?;
+        begun = read_line(without_return(&rest[..end]), index, begun, script)?;
         rest = &rest[end + 1..];
         index += 1;
     }
-    read_line(rest, index, steps)
+    read_line(rest, index, begun, script)?;
+    Ok(())
 }
 
-/// Puts the step that the line at an index says, if it says one, behind the others.
-fn read_line(line: &[u8], index: usize, steps: &mut Vec<Step>) -> Result<(), FaultyLine>
+/// Puts what the line at an index says into a script, and tells whether a line has now said anything.
+fn read_line(
+    line: &[u8],
+    index: usize,
+    begun: bool,
+    script: &mut Script,
+) -> Result<bool, FaultyLine>
     requires within { index < 2 ^ 63 }
-    requires room { vec_len steps.old < vec_capacity steps.old }
-    ensures ok { OnOk result ((line_in (words_of line.now) ≢ Faulty) ×
-        (steps.new.items ≡ steps.old.items ++ steps_of_line (line_in (words_of line.now)))) }
-    ensures len { vec_len steps.new ≤ vec_len steps.old + 1 }
-    ensures capacity { vec_capacity steps.new ≡ vec_capacity steps.old }
-    ensures err { IfErr result (λ fault. (fault.0 ≡ index + 1) × (line_in (words_of line.now) ≡ Faulty)) }
+    requires room { vec_len script.old.steps < vec_capacity script.old.steps }
+    ensures sound { OnOk result (line_at begun (words_of line.now) ≢ Faulty) }
+    ensures begun { IfOk result (λ now. now ≡ begun_after begun (line_at begun (words_of line.now))) }
+    ensures setup { OnOk result (script.new.setup ≡ setup_after script.old.setup (line_at begun (words_of line.now))) }
+    ensures steps { OnOk result (script.new.steps.items ≡ script.old.steps.items ++ steps_of_line (line_at begun (words_of line.now))) }
+    ensures len { vec_len script.new.steps ≤ vec_len script.old.steps + 1 }
+    ensures capacity { vec_capacity script.new.steps ≡ vec_capacity script.old.steps }
+    ensures err { IfErr result (λ fault. (fault.0 ≡ index + 1) × (line_at begun (words_of line.now) ≡ Faulty)) }
 {
-    match line_of(line) {
-        Line::Skipped => Ok(()),
+    match line_of(line, begun) {
+        Line::Skipped => Ok(begun),
+        Line::Sets(setup) => {
+            script.setup = setup;
+            Ok(true)
+        }
         Line::Says(step) => {
-            steps.push_reserved(step);
-            Ok(())
+            script.steps.push_reserved(step);
+            Ok(true)
         }
         Line::Faulty => Err(FaultyLine(index + 1)),
     }
 }
 
-/// What a line says.
-fn line_of(line: &[u8]) -> Line
-    ensures { result ≡ line_in (words_of line.now) }
+/// What a line says, behind lines that say something or nothing.
+fn line_of(line: &[u8], begun: bool) -> Line
+    ensures { result ≡ line_at begun (words_of line.now) }
 {
-    line_in(words_of(line).as_slice())
+    let words = words_of(line);
+    if begun {
+        line_in(words.as_slice())
+    } else {
+        first_line_in(words.as_slice())
+    }
 }
 
 /// Where the first line ends, if an LF ends it.

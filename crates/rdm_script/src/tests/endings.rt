@@ -1,14 +1,14 @@
 //! How a program ends: its exit status, and the whole of its line.
 
-use crate::controller::RunError;
 use crate::exit::{report, run_program};
 use crate::grammar::ScriptError;
 use crate::program::ProgramError;
+use rdm_crew::RunError;
 use std::process::ExitCode;
 use std::test::Fail;
 
 /// Each error, the status of a program that ends so, and its line.
-const ENDINGS: [(ProgramError, u8, &str); 7] = [
+const ENDINGS: [(ProgramError, u8, &str); 11] = [
     (
         ProgramError::Script(ScriptError::Line(12)),
         1,
@@ -30,6 +30,26 @@ const ENDINGS: [(ProgramError, u8, &str); 7] = [
         3,
         "error: run too long\n",
     ),
+    (
+        ProgramError::Run(RunError::Unsettled),
+        3,
+        "error: run unsettled\n",
+    ),
+    (
+        ProgramError::Run(RunError::Astray),
+        3,
+        "error: run astray\n",
+    ),
+    (
+        ProgramError::Run(RunError::Missing),
+        3,
+        "error: run missing\n",
+    ),
+    (
+        ProgramError::Run(RunError::BadSetup),
+        3,
+        "error: run bad setup\n",
+    ),
     (ProgramError::Read, 4, "error: read\n"),
     (ProgramError::Write, 4, "error: write\n"),
 ];
@@ -50,7 +70,7 @@ fn tells_where_a_script_is_faulty(rt: HostRuntime) -> Result<(), Fail> {
     let mut reader = b"get dev 0000 1000 -\nfoo\n".as_slice();
     let mut written = Vec::new(rt.alloc());
     let mut errors = Vec::new(rt.alloc());
-    let code = run_program(rt.alloc(), &mut reader, &mut written, &mut errors);
+    let code = run_program(rt, rt.alloc(), &mut reader, &mut written, &mut errors);
     assert_eq!(rt; code, ExitCode::from(1));
     assert!(rt; written.is_empty());
     assert_eq!(rt; errors.as_slice(), b"error: line 2\n".as_slice());

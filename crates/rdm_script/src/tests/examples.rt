@@ -4,7 +4,7 @@ use super::played;
 use std::test::Fail;
 
 /// Scripts beside what they print. The traces were worked from the reply rules, not taken from a run.
-const EXAMPLES: [(&str, &str); 4] = [
+const EXAMPLES: [(&str, &str); 7] = [
     // examples/tour.script and examples/tour.trace
     (
         "# A search finds the device, and a mute takes it out of the search.
@@ -181,12 +181,120 @@ heard reply
 end
 ",
     ),
+    // examples/faults.script and examples/faults.trace
+    (
+        "# A device with two cells, and a controller that wants warnings and errors. Identifying is switched on at the second cell.
+setup 2 8 warning
+set dev 0002 1000 01
+
+# The first poll doesn't reach the device, and the reply to the second is altered on its way. So the controller asks for
+# the last message again, until it hears one; then it asks for the next.
+collect lost-request
+collect bad-reply 23 1
+collect
+collect
+
+# The label of the second cell: a reply that is lost, and a request that is altered, so that nobody replies.
+get dev 0002 0082 - lost-reply
+get dev 0002 0082 - bad-request 20 16
+get dev 0002 0082 -
+",
+        "send CC01197FF0000000017FF00000000200010000023010000101040C
+reply CC01187FF0000000027FF0000000010000000002311000000409
+heard reply
+send CC01197FF0000000017FF00000000201010000002000200103040D lost-request
+reply none
+heard nothing
+send CC01197FF0000000017FF00000000202010000002000200101040C bad-reply 23 1
+reply CC01187FF0000000027FF0000000010200000000210030000419
+heard ignored
+send CC01197FF0000000017FF00000000203010000002000200101040D
+reply CC01187FF0000000027FF000000001030000000021003000041A
+heard message
+send CC01197FF0000000017FF000000002040100000020002001030410
+reply CC01187FF0000000027FF000000001040000000021003000041B
+heard message
+send CC01187FF0000000017FF0000000020501000002200082000470 lost-reply
+reply CC011C7FF0000000027FF00000000105000000022100820443656C6C05F8
+heard nothing
+send CC01187FF0000000017FF0000000020601000002200082000471 bad-request 20 16
+reply none
+heard nothing
+send CC01187FF0000000017FF0000000020701000002200082000472
+reply CC011C7FF0000000027FF00000000107000000022100820443656C6C05FA
+heard reply
+message 21 0030 0000 -
+message 21 0030 0000 -
+end
+",
+    ),
+    // examples/lamp.script and examples/lamp.trace
+    (
+        "setup 0 8 advisory
+set dev 0000 0403 01
+settle 100000000
+collect
+collect
+",
+        "send CC01197FF0000000017FF000000002000100000030040301010401
+reply CC011A7FF0000000027FF00000000100010000003104030200320435
+job 0 0
+heard reply
+arrive 0 0 done
+send CC01197FF0000000017FF00000000201010000002000200102040C
+reply CC01187FF0000000027FF00000000101000000003104030003FF
+heard message
+send CC01197FF0000000017FF00000000202010000002000200102040D
+reply CC01187FF0000000027FF0000000010200000000210030000419
+heard message
+message 31 0403 0000 -
+message 21 0030 0000 -
+end
+",
+    ),
+    // examples/lost_reply.script and examples/lost_reply.trace
+    (
+        "# The lamp is struck, and the result is collected over a bus that loses it once.
+setup 0 8 advisory
+set dev 0000 0403 01
+get dev 0000 0403 -
+settle 100000000
+collect lost-reply
+collect
+get dev 0000 0403 -
+collect
+",
+        "send CC01197FF0000000017FF000000002000100000030040301010401
+reply CC011A7FF0000000027FF00000000100010000003104030200320435
+job 0 0
+heard reply
+send CC01187FF0000000017FF00000000201010000002004030003EF
+reply CC01197FF0000000027FF0000000010100000000210403010003F1
+heard reply
+arrive 0 0 done
+send CC01197FF0000000017FF00000000202010000002000200102040D lost-reply
+reply CC01187FF0000000027FF0000000010200000000310403000400
+heard nothing
+send CC01197FF0000000017FF00000000203010000002000200101040D
+reply CC01187FF0000000027FF0000000010300000000310403000401
+heard message
+send CC01187FF0000000017FF00000000204010000002004030003F2
+reply CC01197FF0000000027FF0000000010400000000210403010103F5
+heard reply
+send CC01197FF0000000017FF000000002050100000020002001020410
+reply CC01187FF0000000027FF000000001050000000021003000041C
+heard message
+message 31 0403 0000 -
+message 21 0030 0000 -
+end
+",
+    ),
 ];
 
 #[test]
 fn prints_the_traces_of_the_examples(rt: HostRuntime) -> Result<(), Fail> {
     for (script, trace) in EXAMPLES {
-        let (outcome, written) = played(rt.alloc(), script.as_bytes());
+        let (outcome, written) = played(rt, rt.alloc(), script.as_bytes());
         assert_eq!(rt; outcome, Ok(()), "{script}");
         assert_eq!(rt; written.as_slice(), trace.as_bytes(), "{script}");
     }

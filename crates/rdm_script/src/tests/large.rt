@@ -26,7 +26,7 @@ fn plays_thousands_of_commands(rt: HostRuntime) -> Result<(), Fail> {
     let script = repeated(rt.alloc(), "", FIRST_SCRIPT, COMMANDS)?;
     let mut reader = script.as_bytes();
     let mut writer = taking(rt.alloc(), 1_000, None);
-    let outcome = run_script(rt.alloc(), &mut reader, &mut writer);
+    let outcome = run_script(rt, rt.alloc(), &mut reader, &mut writer);
     assert_eq!(rt; outcome, Ok(()));
     assert_eq!(rt; writer.taken.len(), TRACE_BYTES);
     assert!(rt;
@@ -43,7 +43,7 @@ fn skips_a_comment_of_many_words(rt: HostRuntime) -> Result<(), Fail> {
     let mut script = repeated(rt.alloc(), "#", " a", 20_000)?;
     script.push_str("\n")?;
     script.push_str(FIRST_SCRIPT)?;
-    let (outcome, written) = played(rt.alloc(), script.as_bytes());
+    let (outcome, written) = played(rt, rt.alloc(), script.as_bytes());
     assert_eq!(rt; outcome, Ok(()));
     assert_eq!(rt; written.as_slice(), FIRST_TRACE.as_bytes());
     Ok(())
@@ -65,7 +65,7 @@ end
         ),
     ];
     for (script, trace) in cases {
-        let (outcome, written) = played(rt.alloc(), script);
+        let (outcome, written) = played(rt, rt.alloc(), script);
         assert_eq!(rt; outcome, Ok(()), "{script:?}");
         assert_eq!(rt; written.as_slice(), trace.as_bytes(), "{script:?}");
     }

@@ -1,13 +1,9 @@
 //! Scripts, and what they print.
 
 use super::{FIRST_SCRIPT, FIRST_TRACE, played};
-use crate::command::{Action, Command};
-use crate::controller::{RunError, heard_as};
-use crate::event::Heard;
 use crate::grammar::ScriptError;
-use crate::parties::DEVICE;
 use crate::program::ProgramError;
-use rdm_frame::Load;
+use rdm_crew::RunError;
 use std::alloc::{AllocError, Global};
 use std::test::Fail;
 
@@ -68,13 +64,14 @@ heard reply
 end
 ",
     ),
-    // A slow command starts a job.
+    // A slow command starts a job, whose report arrives before the run ends.
     (
         "set dev 0000 0403 01\n",
         "send CC01197FF0000000017FF000000002000100000030040301010401
 reply CC011A7FF0000000027FF00000000100010000003104030200320435
 job 0 0
 heard reply
+arrive 0 0 done
 end
 ",
     ),
@@ -137,7 +134,7 @@ end
 #[test]
 fn prints_traces(rt: HostRuntime) -> Result<(), Fail> {
     for (script, trace) in PLAYED {
-        let (outcome, written) = played(rt.alloc(), script.as_bytes());
+        let (outcome, written) = played(rt, rt.alloc(), script.as_bytes());
         assert_eq!(rt; outcome, Ok(()), "{script}");
         assert_eq!(rt; written.as_slice(), trace.as_bytes(), "{script}");
     }
@@ -158,7 +155,7 @@ const SPELLINGS: [&str; 7] = [
 #[test]
 fn reads_other_spellings(rt: HostRuntime) -> Result<(), Fail> {
     for script in SPELLINGS {
-        let (outcome, written) = played(rt.alloc(), script.as_bytes());
+        let (outcome, written) = played(rt, rt.alloc(), script.as_bytes());
         assert_eq!(rt; outcome, Ok(()), "{script:?}");
         assert_eq!(rt; written.as_slice(), FIRST_TRACE.as_bytes(), "{script:?}");
     }
@@ -166,7 +163,7 @@ fn reads_other_spellings(rt: HostRuntime) -> Result<(), Fail> {
 }
 
 /// Lines that no script has.
-const FAULTY: [&str; 37] = [
+const FAULTY: [&str; 30] = [
     "foo",
     "get",
     "get dev 0000 1000",
@@ -197,20 +194,13 @@ const FAULTY: [&str; 37] = [
     "get dev 0000 1000 -\r",
     "DISC dev 0000 0002 -",
     "disc dev 0000 0002",
-    "setup 0 8 advisory",
-    "collect",
-    "draw",
-    "settle 100",
     "panel 1",
-    "get dev 0000 1000 - lost-request",
-    "get dev 0000 1000 - lost-reply",
-    "get dev 0000 1000 - bad-request 2 1",
 ];
 
 #[test]
 fn refuses_faulty_lines(rt: HostRuntime) -> Result<(), Fail> {
     for line in FAULTY {
-        let (outcome, written) = played(rt.alloc(), line.as_bytes());
+        let (outcome, written) = played(rt, rt.alloc(), line.as_bytes());
         let fault = ProgramError::Script(ScriptError::Line(1));
         assert_eq!(rt; outcome, Err(fault), "{line:?}");
         assert!(rt; written.is_empty(), "{line:?}");
@@ -226,7 +216,7 @@ fn counts_every_line(rt: HostRuntime) -> Result<(), Fail> {
         ("\n\n\nfoo", 4),
     ];
     for (script, number) in cases {
-        let (outcome, _) = played(rt.alloc(), script.as_bytes());
+        let (outcome, _) = played(rt, rt.alloc(), script.as_bytes());
         let fault = ProgramError::Script(ScriptError::Line(number));
         assert_eq!(rt; outcome, Err(fault), "{script:?}");
     }
@@ -262,7 +252,7 @@ fn refuses_commands_in_order(rt: HostRuntime) -> Result<(), Fail> {
     ];
     for (front, count, expected) in cases {
         let script = command_with(rt.alloc(), front, count)?;
-        let (outcome, written) = played(rt.alloc(), script.as_bytes());
+        let (outcome, written) = played(rt, rt.alloc(), script.as_bytes());
         assert_eq!(rt; outcome, expected, "{front:?} {count}");
         assert_eq!(rt; written.is_empty(), expected.is_err(), "{front:?} {count}");
     }
@@ -272,30 +262,12 @@ fn refuses_commands_in_order(rt: HostRuntime) -> Result<(), Fail> {
 #[test]
 fn reads_up_to_the_longest_script(rt: HostRuntime) -> Result<(), Fail> {
     let mut script = vec![in rt.alloc(); b'#'; 65_536]?;
-    let (outcome, written) = played(rt.alloc(), &script);
+    let (outcome, written) = played(rt, rt.alloc(), &script);
     assert_eq!(rt; outcome, Ok(()));
     assert_eq!(rt; written.as_slice(), b"end\n".as_slice());
     script.push(b'#')?;
-    let (outcome, written) = played(rt.alloc(), &script);
+    let (outcome, written) = played(rt, rt.alloc(), &script);
     assert_eq!(rt; outcome, Err(ProgramError::Script(ScriptError::TooLong)));
     assert!(rt; written.is_empty());
     Ok(())
-}
-
-#[test]
-fn ignores_the_reply_of_another_transaction(rt: HostRuntime) {
-    let command = Command {
-        dst: DEVICE,
-        action: Action::Get,
-        sub: 0,
-        pid: 0x1000,
-        load: Load::new(),
-    };
-    let reply = [
-        0xCC, 0x01, 0x19, 0x7F, 0xF0, 0x00, 0x00, 0x00, 0x02, 0x7F, 0xF0, 0x00, 0x00, 0x00, 0x01,
-        0x00, 0x00, 0x00, 0x00, 0x00, 0x21, 0x10, 0x00, 0x01, 0x00, 0x03, 0xF9,
-    ];
-    assert_eq!(rt; heard_as(0, &command, &reply), Heard::Reply);
-    assert_eq!(rt; heard_as(1, &command, &reply), Heard::Ignored);
-    assert_eq!(rt; heard_as(0, &command, &reply[..26]), Heard::Ignored);
 }

@@ -98,7 +98,7 @@ pub(super) fn taking(alloc: Global, most: usize, fails_after: Option<usize>) -> 
 fn works_a_byte_at_a_time(rt: HostRuntime) -> Result<(), Fail> {
     let mut reader = dripping(None);
     let mut writer = taking(rt.alloc(), 1, None);
-    let outcome = run_script(rt.alloc(), &mut reader, &mut writer);
+    let outcome = run_script(rt, rt.alloc(), &mut reader, &mut writer);
     assert_eq!(rt; outcome, Ok(()));
     assert_eq!(rt; writer.taken.as_slice(), FIRST_TRACE.as_bytes());
     // A read that gives nothing is the end: there is none behind it.
@@ -111,7 +111,7 @@ fn tells_a_reader_that_fails(rt: HostRuntime) -> Result<(), Fail> {
     for call in 0..=FIRST_SCRIPT.len() {
         let mut reader = dripping(Some(call));
         let mut writer = taking(rt.alloc(), 64, None);
-        let outcome = run_script(rt.alloc(), &mut reader, &mut writer);
+        let outcome = run_script(rt, rt.alloc(), &mut reader, &mut writer);
         assert_eq!(rt; outcome, Err(ProgramError::Read), "call {call}");
         // What failed isn't tried again.
         assert_eq!(rt; reader.calls, call + 1, "call {call}");
@@ -124,7 +124,7 @@ fn tells_a_reader_that_fails(rt: HostRuntime) -> Result<(), Fail> {
 fn stops_reading_without_end(rt: HostRuntime) -> Result<(), Fail> {
     let mut reader = Endless { given: 0 };
     let mut writer = taking(rt.alloc(), 64, None);
-    let outcome = run_script(rt.alloc(), &mut reader, &mut writer);
+    let outcome = run_script(rt, rt.alloc(), &mut reader, &mut writer);
     assert_eq!(rt; outcome, Err(ProgramError::Script(ScriptError::TooLong)));
     assert_eq!(rt; reader.given, 65_537);
     assert!(rt; writer.taken.is_empty());
@@ -134,7 +134,7 @@ fn stops_reading_without_end(rt: HostRuntime) -> Result<(), Fail> {
 #[test]
 fn tells_a_writer_that_takes_nothing(rt: HostRuntime) -> Result<(), Fail> {
     let mut writer = taking(rt.alloc(), 0, None);
-    let outcome = run_script(rt.alloc(), &mut dripping(None), &mut writer);
+    let outcome = run_script(rt, rt.alloc(), &mut dripping(None), &mut writer);
     assert_eq!(rt; outcome, Err(ProgramError::Write));
     assert!(rt; writer.taken.is_empty());
     Ok(())
@@ -145,7 +145,7 @@ fn tells_a_writer_that_fails(rt: HostRuntime) -> Result<(), Fail> {
     let trace = FIRST_TRACE.as_bytes();
     for count in 0..trace.len() {
         let mut writer = taking(rt.alloc(), 7, Some(count));
-        let outcome = run_script(rt.alloc(), &mut dripping(None), &mut writer);
+        let outcome = run_script(rt, rt.alloc(), &mut dripping(None), &mut writer);
         assert_eq!(rt; outcome, Err(ProgramError::Write), "after {count}");
         assert_eq!(rt; writer.taken.as_slice(), &trace[..count], "after {count}");
     }

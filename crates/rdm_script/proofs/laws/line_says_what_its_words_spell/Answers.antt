@@ -1,5 +1,11 @@
-use Rattle.rdm_script.proofs.CommandSpellings.{line_read, line_again}
+use Rattle.rdm_script.proofs.LineSpellings.{line_read, line_again, first_read, first_says, sets_read, first_sets}
 use Rattle.rdm_script.proofs.laws.line_says_what_its_words_spell.Goals as goal
 
-pub returns : goal.returns
-returns c = λ words command. (line_read words command, λ s. line_again words command s.0 s.1)
+pub returns-clause-step : goal.returns-clause-step
+returns-clause-step c = λ words step. (line_read words step, λ s. line_again words step s.0 s.1)
+
+pub returns-clause-first_step : goal.returns-clause-first_step
+returns-clause-first_step c = λ words step. (first_read words step, λ s. first_says words step s.0 s.1)
+
+pub returns-clause-setup : goal.returns-clause-setup
+returns-clause-setup c = λ words setup. (sets_read words setup, first_sets words setup)

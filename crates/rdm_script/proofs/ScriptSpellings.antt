@@ -1,0 +1,224 @@
+-- What is read is a script, and a script is read.
+use Rattle.std.proofs.Common.{◌≡◌, ◌≢◌, All, ℕ, Bool, true, false, cond, List, [], ◌∷◌, ◌++◌, map, drop, Option, Some, None, ◌⊎◌, inl, inr, refl, sym, ap, subst, ◌∙◌, arith}
+use Rattle.std.specs.List.{fold, flat_map}
+use Rattle.std.proofs.lemmas.List.Elements.{All-nil, All-cons, All-head, All-tail}
+use Rattle.std.proofs.lemmas.List.Concat.{flat_map-cons}
+use Rattle.rdm_bus.specs.declared.fault.Fault.{Fault}
+use Rattle.rdm_bus.specs.declared.fault.Fault.TheVariants as fault
+use Rattle.rdm_bus.specs.BusRun.{raise_of}
+use Rattle.rdm_crew.specs.RunTrace.{fault_at, HaveFaults}
+use Rattle.rdm_crew.specs.declared.step.CrewStep.{CrewStep}
+use Rattle.rdm_crew.specs.declared.step.CrewStep.TheVariants.{Ask, Collect, Draw, Settle}
+use Rattle.rdm_script.specs.declared.script.Setup.{Setup}
+use Rattle.rdm_script.specs.declared.grammar.line.Line.{Line}
+use Rattle.rdm_script.specs.declared.grammar.line.Line.TheVariants.{Skipped, Sets, Says, Faulty}
+use Rattle.rdm_script.specs.Parties.{plain_setup}
+use Rattle.rdm_script.specs.Grammar.{setup_in, is_skipped, words_of, lines_of, line_in, first_line_in, said_later, said_by, setup_after, steps_of_line, IsRead}
+use Rattle.rdm_script.specs.Spelling.{SpellsFault, SpellsStep, SpellsSetup, SpellSteps, SpellSetupAndSteps, IsScript}
+use Rattle.rdm_script.proofs.LineSpellings.{setup_read, setup_isnt_skipped, said_skipped, line_again, spoken, first_is, first_sets, first_skipped, first_says, keeps_setup}
+
+abbrev Sound : List Line → Type 0
+Sound said = All (λ line. line ≢ Faulty) said
+
+-- steps of a line and of those behind it
+steps_first : (line : Line) (more : List Line) → flat_map steps_of_line (line ∷ more) ≡ steps_of_line line ++ flat_map steps_of_line more
+steps_first line more = flat_map-cons steps_of_line line more
+
+steps_skipped : (line : Line) (more : List Line) → line ≡ Skipped → flat_map steps_of_line (line ∷ more) ≡ flat_map steps_of_line more
+steps_skipped line more e = steps_first line more ∙ ap (λ (l : Line). steps_of_line l ++ flat_map steps_of_line more) e
+
+steps_set : (line : Line) (s : Setup) (more : List Line) → line ≡ Sets s → flat_map steps_of_line (line ∷ more) ≡ flat_map steps_of_line more
+steps_set line s more e = steps_first line more ∙ ap (λ (l : Line). steps_of_line l ++ flat_map steps_of_line more) e
+
+steps_said : (line : Line) (step : CrewStep) (more : List Line) → line ≡ Says step → flat_map steps_of_line (line ∷ more) ≡ step ∷ flat_map steps_of_line more
+steps_said line step more e = steps_first line more ∙ ap (λ (l : Line). steps_of_line l ++ flat_map steps_of_line more) e
+
+head_sound : (line : Line) (more : List Line) → Sound (line ∷ more) → line ≢ Faulty
+head_sound line more sound = All-head (λ (l : Line). l ≢ Faulty) line more sound
+
+tail_sound : (line : Line) (more : List Line) → Sound (line ∷ more) → Sound more
+tail_sound line more sound = All-tail (λ (l : Line). l ≢ Faulty) line more sound
+
+sound_skipped : (line : Line) (more : List Line) → line ≡ Skipped → Sound more → Sound (line ∷ more)
+sound_skipped line more e behind = All-cons (λ (l : Line). l ≢ Faulty) line more (λ f. let never : Skipped ≡ Faulty = sym e ∙ f in absurd cc) behind
+
+sound_set : (line : Line) (s : Setup) (more : List Line) → line ≡ Sets s → Sound more → Sound (line ∷ more)
+sound_set line s more e behind = All-cons (λ (l : Line). l ≢ Faulty) line more (λ f. let never : Sets s ≡ Faulty = sym e ∙ f in absurd cc) behind
+
+sound_said : (line : Line) (step : CrewStep) (more : List Line) → line ≡ Says step → Sound more → Sound (line ∷ more)
+sound_said line step more e behind = All-cons (λ (l : Line). l ≢ Faulty) line more (λ f. let never : Says step ≡ Faulty = sym e ∙ f in absurd cc) behind
+
+-- ---- lines of steps
+
+either : (b : Bool) → (b ≡ true) ⊎ (b ≡ false)
+either true = inl refl
+either false = inr refl
+
+-- whether a line is skipped
+skips : (words : List (List ℕ)) → (is_skipped words ≡ true) ⊎ (is_skipped words ≡ false)
+skips words = either (is_skipped words)
+
+-- a line that isn't skipped says a step, unless it is faulty
+says_step : (words : List (List ℕ)) → is_skipped words ≡ false → line_in words ≢ Faulty → (step : CrewStep) × (line_in words ≡ Says step) × SpellsStep words step
+says_step words out sound =
+    elim (spoken words out) [
+      | inl h ↦ absurd (sound h)
+      | inr h ↦ h
+    ]
+
+-- the steps that lines are read as are those that they spell
+later_spelled : (lines : List (List ℕ)) → Sound (said_later lines) → SpellSteps (map words_of lines) (flat_map steps_of_line (said_later lines))
+later_spelled [] sound = refl
+later_spelled (line ∷ more) sound =
+    let words = words_of line in
+    let behind = later_spelled more (tail_sound (line_in words) (said_later more) sound) in
+    elim (skips words) [
+      | inl h ↦ inl (h, subst (λ (ss : List CrewStep). SpellSteps (map words_of more) ss) (sym (steps_skipped (line_in words) (said_later more) (said_skipped words h))) behind)
+      | inr h ↦
+          let s = says_step words h (head_sound (line_in words) (said_later more) sound) in
+          inr (h, s.0, flat_map steps_of_line (said_later more), steps_said (line_in words) s.0 (said_later more) s.1, s.2, behind)
+    ]
+
+-- and the steps that they spell are those that they are read as
+later_read : (lines : List (List ℕ)) (steps : List CrewStep) → SpellSteps (map words_of lines) steps → Sound (said_later lines) × (steps ≡ flat_map steps_of_line (said_later lines))
+later_read [] steps h = (All-nil (λ (l : Line). l ≢ Faulty), h)
+later_read (line ∷ more) steps (inl h) =
+    let said = said_skipped (words_of line) h.0 in
+    let behind = later_read more steps h.1 in
+    (sound_skipped (line_in (words_of line)) (said_later more) said behind.0, behind.1 ∙ sym (steps_skipped (line_in (words_of line)) (said_later more) said))
+later_read (line ∷ more) steps (inr (out, step, rest, is, spelled, others)) =
+    let said = line_again (words_of line) step out spelled in
+    let behind = later_read more rest others in
+    (sound_said (line_in (words_of line)) step (said_later more) said behind.0, is ∙ ap (λ (ss : List CrewStep). step ∷ ss) behind.1 ∙ sym (steps_said (line_in (words_of line)) step (said_later more) said))
+
+-- they leave the setup as it is
+later_keeps : (lines : List (List ℕ)) (s : Setup) → fold setup_after s (said_later lines) ≡ s
+later_keeps [] s = refl
+later_keeps (line ∷ more) s = ap (λ (t : Setup). fold setup_after t (said_later more)) (keeps_setup (words_of line) s) ∙ later_keeps more s
+
+-- ---- all lines
+
+abbrev SpellScript : List (List (List ℕ)) → Setup → List CrewStep → Type 0
+SpellScript lines setup steps = SpellSetupAndSteps lines setup steps ⊎ ((setup ≡ plain_setup) × SpellSteps lines steps)
+
+skip_script : (words : List (List ℕ)) (more : List (List (List ℕ))) (setup : Setup) (steps : List CrewStep) → is_skipped words ≡ true → SpellScript more setup steps → SpellScript (words ∷ more) setup steps
+skip_script words more setup steps h (inl s) = inl (inl (h, s))
+skip_script words more setup steps h (inr s) = inr (s.0, inl (h, s.1))
+
+-- the lines are read so, and what they are read as is a script
+abbrev Reads : List Line → Setup → List CrewStep → Type 0
+Reads said setup steps = Sound said × (setup ≡ fold setup_after plain_setup said) × (steps ≡ flat_map steps_of_line said)
+
+said_behind : (line : List ℕ) (more : List (List ℕ)) (b : Bool) → is_skipped (words_of line) ≡ b → said_by (line ∷ more) ≡ first_line_in (words_of line) ∷ cond b (said_by more) (said_later more)
+said_behind line more b e = rw e refl
+
+-- where a line is skipped
+read_skipped : (line : Line) (said : List Line) (setup : Setup) (steps : List CrewStep) → line ≡ Skipped → Reads (line ∷ said) setup steps → Reads said setup steps
+read_skipped line said setup steps e r = (tail_sound line said r.0, r.1 ∙ ap (λ (l : Line). fold setup_after (setup_after plain_setup l) said) e, r.2 ∙ steps_skipped line said e)
+
+skipped_read : (line : Line) (said : List Line) (setup : Setup) (steps : List CrewStep) → line ≡ Skipped → Reads said setup steps → Reads (line ∷ said) setup steps
+skipped_read line said setup steps e r = (sound_skipped line said e r.0, r.1 ∙ sym (ap (λ (l : Line). fold setup_after (setup_after plain_setup l) said) e), r.2 ∙ sym (steps_skipped line said e))
+
+-- where it isn't
+opening_at : (line : List ℕ) (more : List (List ℕ)) (o : Option Setup) (setup : Setup) (steps : List CrewStep) → setup_in (words_of line) ≡ o → Reads (first_line_in (words_of line) ∷ said_later more) setup steps → SpellScript (map words_of (line ∷ more)) setup steps
+opening_at line more (Some s) setup steps e r =
+    let words = words_of line in
+    let spelled = setup_read words s e in
+    let said : first_line_in words ≡ Sets s = first_sets words s spelled in
+    let same : setup ≡ s = r.1 ∙ ap (λ (l : Line). fold setup_after (setup_after plain_setup l) (said_later more)) said ∙ later_keeps more s in
+    let behind = later_spelled more (tail_sound (first_line_in words) (said_later more) r.0) in
+    inl (inr (subst (λ (t : Setup). SpellsSetup words t) (sym same) spelled, subst (λ (ss : List CrewStep). SpellSteps (map words_of more) ss) (sym (r.2 ∙ steps_set (first_line_in words) s (said_later more) said)) behind))
+opening_at line more None setup steps e r =
+    let said : first_line_in (words_of line) ∷ said_later more ≡ said_later (line ∷ more) = ap (λ (l : Line). l ∷ said_later more) (first_is (words_of line) e) in
+    let all : Reads (said_later (line ∷ more)) setup steps = subst (λ (ls : List Line). Reads ls setup steps) said r in
+    inr (all.1 ∙ later_keeps (line ∷ more) plain_setup, subst (λ (ss : List CrewStep). SpellSteps (map words_of (line ∷ more)) ss) (sym all.2) (later_spelled (line ∷ more) all.0))
+
+lines_spelled : (lines : List (List ℕ)) (setup : Setup) (steps : List CrewStep) → Reads (said_by lines) setup steps → SpellScript (map words_of lines) setup steps
+lines_spelled [] setup steps r = inr (r.1, r.2)
+lines_spelled (line ∷ more) setup steps r =
+    elim (skips (words_of line)) [
+      | inl h ↦
+          let here : Reads (first_line_in (words_of line) ∷ said_by more) setup steps = subst (λ (ls : List Line). Reads ls setup steps) (said_behind line more true h) r in
+          skip_script (words_of line) (map words_of more) setup steps h (lines_spelled more setup steps (read_skipped (first_line_in (words_of line)) (said_by more) setup steps (first_skipped (words_of line) h) here))
+      | inr h ↦
+          let here : Reads (first_line_in (words_of line) ∷ said_later more) setup steps = subst (λ (ls : List Line). Reads ls setup steps) (said_behind line more false h) r in
+          opening_at line more (setup_in (words_of line)) setup steps refl here
+    ]
+
+skipped_lines : (line : List ℕ) (more : List (List ℕ)) (setup : Setup) (steps : List CrewStep) → is_skipped (words_of line) ≡ true → Reads (said_by more) setup steps → Reads (said_by (line ∷ more)) setup steps
+skipped_lines line more setup steps h r =
+    subst (λ (ls : List Line). Reads ls setup steps) (sym (said_behind line more true h)) (skipped_read (first_line_in (words_of line)) (said_by more) setup steps (first_skipped (words_of line) h) r)
+
+opened_lines : (line : List ℕ) (more : List (List ℕ)) (setup : Setup) (steps : List CrewStep) → SpellsSetup (words_of line) setup → SpellSteps (map words_of more) steps → Reads (said_by (line ∷ more)) setup steps
+opened_lines line more setup steps opening others =
+    let words = words_of line in
+    let said : first_line_in words ≡ Sets setup = first_sets words setup opening in
+    let behind = later_read more steps others in
+    let is_setup : setup ≡ fold setup_after plain_setup (first_line_in words ∷ said_later more) = sym (ap (λ (l : Line). fold setup_after (setup_after plain_setup l) (said_later more)) said ∙ later_keeps more setup) in
+    subst (λ (ls : List Line). Reads ls setup steps) (sym (said_behind line more false (setup_isnt_skipped words setup opening)))
+    (sound_set (first_line_in words) setup (said_later more) said behind.0, is_setup, behind.1 ∙ sym (steps_set (first_line_in words) setup (said_later more) said))
+
+step_lines : (line : List ℕ) (more : List (List ℕ)) (setup : Setup) (steps : List CrewStep) (step : CrewStep) (rest : List CrewStep) → setup ≡ plain_setup → is_skipped (words_of line) ≡ false → steps ≡ step ∷ rest → SpellsStep (words_of line) step → SpellSteps (map words_of more) rest → Reads (said_by (line ∷ more)) setup steps
+step_lines line more setup steps step rest plain out is spelled others =
+    let words = words_of line in
+    let said : first_line_in words ≡ Says step = first_says words step out spelled in
+    let behind = later_read more rest others in
+    let is_setup : setup ≡ fold setup_after plain_setup (first_line_in words ∷ said_later more) = plain ∙ sym (ap (λ (l : Line). fold setup_after (setup_after plain_setup l) (said_later more)) said ∙ later_keeps more plain_setup) in
+    subst (λ (ls : List Line). Reads ls setup steps) (sym (said_behind line more false out))
+    (sound_said (first_line_in words) step (said_later more) said behind.0, is_setup, is ∙ ap (λ (ss : List CrewStep). step ∷ ss) behind.1 ∙ sym (steps_said (first_line_in words) step (said_later more) said))
+
+lines_read : (lines : List (List ℕ)) (setup : Setup) (steps : List CrewStep) → SpellScript (map words_of lines) setup steps → Reads (said_by lines) setup steps
+lines_read [] setup steps (inl s) = absurd s
+lines_read [] setup steps (inr s) = (All-nil (λ (l : Line). l ≢ Faulty), s.0, s.1)
+lines_read (line ∷ more) setup steps (inl (inl h)) = skipped_lines line more setup steps h.0 (lines_read more setup steps (inl h.1))
+lines_read (line ∷ more) setup steps (inl (inr h)) = opened_lines line more setup steps h.0 h.1
+lines_read (line ∷ more) setup steps (inr (plain, inl h)) = skipped_lines line more setup steps h.0 (lines_read more setup steps (inr (plain, h.1)))
+lines_read (line ∷ more) setup steps (inr (plain, inr (out, step, rest, is, spelled, others))) = step_lines line more setup steps step rest plain out is spelled others
+
+-- ---- a script
+
+pub script_spelled : (text : List ℕ) (setup : Setup) (steps : List CrewStep) → IsRead text setup steps → IsScript text setup steps
+script_spelled text setup steps r =
+    record { within = r.within; says = lines_spelled (lines_of text) setup steps (r.says.faultless, r.says.setup_is, r.says.in_order) }
+
+pub script_read : (text : List ℕ) (setup : Setup) (steps : List CrewStep) → IsScript text setup steps → IsRead text setup steps
+script_read text setup steps s =
+    let all = lines_read (lines_of text) setup steps s.says in
+    record { within = s.within; says = record { faultless = all.0; setup_is = all.1; in_order = all.2 } }
+
+-- ---- what goes wrong at its steps
+
+-- whatever is altered is raised
+abbrev Alters : CrewStep → Type 0
+Alters step = raise_of (fault_at step) ≢ Some 0
+
+fault_alters : (words : List (List ℕ)) (f : Fault) → SpellsFault words f → raise_of f ≢ Some 0
+fault_alters words fault.None s = λ e. cc
+fault_alters words fault.LostRequest s = λ e. cc
+fault_alters words fault.LostReply s = λ e. cc
+fault_alters words (fault.BadRequest k x) s = λ e. let zero : x ≡ 0 = cc in omega (arith, s.raises)
+fault_alters words (fault.BadReply k x) s = λ e. let zero : x ≡ 0 = cc in omega (arith, s.raises)
+
+step_alters : (words : List (List ℕ)) (step : CrewStep) → SpellsStep words step → Alters step
+step_alters words (Ask c f) s = fault_alters (drop 5 words) f s.1
+step_alters words (Collect f) s = fault_alters (drop 1 words) f s.1
+step_alters words Draw s = λ e. cc
+step_alters words (Settle empties) s = λ e. cc
+
+steps_alter : (lines : List (List (List ℕ))) (steps : List CrewStep) → SpellSteps lines steps → All Alters steps
+steps_alter [] steps e = subst (λ (ss : List CrewStep). All Alters ss) (sym e) (All-nil Alters)
+steps_alter (words ∷ more) steps (inl h) = steps_alter more steps h.1
+steps_alter (words ∷ more) steps (inr (out, step, rest, is, spelled, others)) =
+    subst (λ (ss : List CrewStep). All Alters ss) (sym is) (All-cons Alters step rest (step_alters words step spelled) (steps_alter more rest others))
+
+opened_alter : (lines : List (List (List ℕ))) (setup : Setup) (steps : List CrewStep) → SpellSetupAndSteps lines setup steps → All Alters steps
+opened_alter [] setup steps s = absurd s
+opened_alter (words ∷ more) setup steps (inl h) = opened_alter more setup steps h.1
+opened_alter (words ∷ more) setup steps (inr h) = steps_alter more steps h.1
+
+lines_alter : (lines : List (List (List ℕ))) (setup : Setup) (steps : List CrewStep) → SpellScript lines setup steps → All Alters steps
+lines_alter lines setup steps (inl s) = opened_alter lines setup steps s
+lines_alter lines setup steps (inr s) = steps_alter lines steps s.1
+
+pub script_alters : (text : List ℕ) (setup : Setup) (steps : List CrewStep) → IsScript text setup steps → HaveFaults steps
+script_alters text setup steps s = lines_alter (map words_of (lines_of text)) setup steps s.says
