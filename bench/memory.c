@@ -166,6 +166,7 @@ static long deepest(void)
         {"SET LAMP_STATE", 0, 0x30, 0x0403, 1, {1}},
         {"QUEUED_MESSAGE", 0, 0x20, 0x0020, 1, {2}},
         {"STATUS_MESSAGES", 0, 0x20, 0x0030, 1, {2}},
+        {"CLEAR_STATUS_ID", 0, 0x30, 0x0032, 0, {0}},
         {"SET IDENTIFY_DEVICE of all sub-devices", 0xFFFF, 0x30, 0x1000, 1, {1}},
     };
     long most = 0;

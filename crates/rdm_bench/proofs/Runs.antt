@@ -15,7 +15,7 @@ use Rattle.rdm_responder.specs.declared.run.Input.{Input}
 use Rattle.rdm_responder.specs.declared.run.Input.TheVariants as input
 use Rattle.rdm_responder.specs.declared.run.Output.{Output}
 use Rattle.rdm_responder.specs.declared.run.Output.TheVariants as output
-use Rattle.rdm_responder.specs.History.{History, Heard, Arrived, then_event}
+use Rattle.rdm_responder.specs.History.{History, Heard, Arrived, Changed, then_event}
 use Rattle.rdm_responder.specs.Lawful.{MayArrive}
 use Rattle.rdm_responder.specs.Rules.{account_of, answered, reply_of, job_of}
 use Rattle.rdm_responder.specs.Runs.{IsRun, IsArrival}
@@ -32,14 +32,26 @@ run_and_run h g end [] more [] others run rest = subst (λ (k : History). IsRun 
 run_and_run h g end [] more (o ∷ outputs) others run rest = absurd run
 run_and_run h g end (input.Heard bytes ∷ inputs) more [] others run rest = absurd run
 run_and_run h g end (input.Reported report ∷ inputs) more [] others run rest = absurd run
+run_and_run h g end (input.Changed change ∷ inputs) more [] others run rest = absurd run
 run_and_run h g end (input.Heard bytes ∷ inputs) more (output.Answered reply job ∷ outputs) others run rest =
     (run.0, run.1, run_and_run (then_event h (Heard bytes.now)) g end inputs more outputs others run.2 rest)
 run_and_run h g end (input.Heard bytes ∷ inputs) more (output.Arrived arrival ∷ outputs) others run rest = run
 run_and_run h g end (input.Heard bytes ∷ inputs) more (output.HandedBack astray ∷ outputs) others run rest = run
+run_and_run h g end (input.Heard bytes ∷ inputs) more (output.Changed message ∷ outputs) others run rest = run
+run_and_run h g end (input.Heard bytes ∷ inputs) more (output.NoRoom refused ∷ outputs) others run rest = run
 run_and_run h g end (input.Reported report ∷ inputs) more (output.Answered reply job ∷ outputs) others run rest = run
 run_and_run h g end (input.Reported report ∷ inputs) more (output.Arrived arrival ∷ outputs) others run rest =
     (run.0, run_and_run (then_event h (Arrived report)) g end inputs more outputs others run.1 rest)
 run_and_run h g end (input.Reported report ∷ inputs) more (output.HandedBack astray ∷ outputs) others run rest =
+    (run.0, run.1, run_and_run h g end inputs more outputs others run.2 rest)
+run_and_run h g end (input.Reported report ∷ inputs) more (output.Changed message ∷ outputs) others run rest = run
+run_and_run h g end (input.Reported report ∷ inputs) more (output.NoRoom refused ∷ outputs) others run rest = run
+run_and_run h g end (input.Changed change ∷ inputs) more (output.Answered reply job ∷ outputs) others run rest = run
+run_and_run h g end (input.Changed change ∷ inputs) more (output.Arrived arrival ∷ outputs) others run rest = run
+run_and_run h g end (input.Changed change ∷ inputs) more (output.HandedBack astray ∷ outputs) others run rest = run
+run_and_run h g end (input.Changed change ∷ inputs) more (output.Changed message ∷ outputs) others run rest =
+    (run.0, run_and_run (then_event h (Changed change)) g end inputs more outputs others run.1 rest)
+run_and_run h g end (input.Changed change ∷ inputs) more (output.NoRoom refused ∷ outputs) others run rest =
     (run.0, run.1, run_and_run h g end inputs more outputs others run.2 rest)
 
 -- and what there is in both

@@ -15,9 +15,9 @@ use Rattle.rdm_bench.specs.Reports.{reports_with, reports_of}
 use Rattle.rdm_bench.specs.Tally.{tally_of}
 
 -- The device that hears them: its UID is 7FF0:00000001, it is the demo fixture with so many sub-devices, and it has room
--- for 255 results of slow commands.
+-- for 1,024 results of slow commands.
 abbrev pub bench_setup : ℕ → Setup
-bench_setup subs = record { uid = record { maker = 0x7FF0; device = 1 }; profile = demo subs; queue_size = 255 }
+bench_setup subs = record { uid = record { maker = 0x7FF0; device = 1 }; profile = demo subs; queue_size = 1024 }
 
 -- these, that many times over
 abbrev pub repeated : ℕ → List (List ℕ) → List (List ℕ)
@@ -27,12 +27,12 @@ repeated (suc rounds) frames = repeated rounds frames ++ frames
 -- the bytes that are heard, where some are
 abbrev pub heard : Input → Option (List ℕ)
 heard (input.Heard bytes) = Some bytes.now
-heard (input.Reported report) = None
+heard _ = None
 
 -- the report that is handed in, where one is
 abbrev pub reported : Input → Option Report
-reported (input.Heard bytes) = None
 reported (input.Reported report) = Some report
+reported _ = None
 
 -- the job that started, where one did
 abbrev pub started : Output → Option Job
@@ -44,8 +44,8 @@ abbrev pub reply_bytes : Output → List ℕ
 reply_bytes (output.Answered reply job) = unwrap_or reply []
 reply_bytes _ = []
 
--- What there is in a run, in order of time: the byte strings that are heard, the reports that are handed in, the jobs
--- that start, and the bytes of all replies.
+-- What there is in a run: the byte strings that are heard, the reports that are handed in, the jobs that start, and the
+-- bytes of all replies, each list in order of time. How frames and reports lie among one another isn't said.
 pub record IsRunOf (start end : History) (frames : List (List ℕ)) (reports : List Report) (jobs : List Job) (replies : List ℕ) : Type 0 where
   pub inputs : List Input
   pub outputs : List Output

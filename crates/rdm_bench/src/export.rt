@@ -21,14 +21,16 @@ const DEVICE: Uid = Uid {
 };
 
 /// How many results of slow commands it has room for.
-const QUEUE_SIZE: u16 = 255;
+const QUEUE_SIZE: u16 = 1024;
 
 /// How many sub-devices there can be.
 const MOST_SUBS: u16 = 512;
 
 /// Makes a responder with that many sub-devices, lets it hear the frames of `preface` once and those of `bytes` `rounds`
-/// times over, and sets `tally` to what the bytes of all replies come to. Each job that starts is reported at once, as
-/// the code `reports` says: 0 not at all, 1 as done, 2 as failed with an advisory, 3 as failed with an error.
+/// times over, and sets `tally` to what the bytes of all replies come to. Each job that starts is reported, before the next
+/// frame is heard, as the code `reports` says: 0 not at all, 1 as done, 2 as failed with an advisory, 3 as failed with an
+/// error. The contract says which frames are heard and which reports are handed in, each in their order, and not how the two
+/// lie among one another.
 ///
 /// Frames stand one after another, each behind its length in two bytes, the most significant first. The answer is 0
 /// where they were heard. Else `tally` stays as it was: it is 2 where there are more than 512 sub-devices, 3 where no

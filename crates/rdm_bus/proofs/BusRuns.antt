@@ -11,6 +11,7 @@ use Rattle.rdm_frame.specs.FrameText.{frame_text, IsFrame}
 use Rattle.rdm_frame.specs.Reading.{frame_in}
 use Rattle.rdm_params.specs.declared.slow.ask.Ask.{Ask}
 use Rattle.rdm_params.specs.declared.slow.ask.Ask.TheVariants as asks
+use Rattle.rdm_params.specs.declared.panel.Change.{Change}
 use Rattle.rdm_params.specs.declared.slow.message.Message.{Message}
 use Rattle.rdm_params.specs.declared.verdict.Verdict.TheVariants.{Queue}
 use Rattle.rdm_params.specs.Commands.Commands.{got}
@@ -27,9 +28,9 @@ use Rattle.rdm_bus.specs.declared.command.Command.{Command}
 use Rattle.rdm_bus.specs.declared.collector.AskError.{AskError}
 use Rattle.rdm_bus.specs.declared.collector.AskError.TheVariants.{Reserved}
 use Rattle.rdm_bus.specs.declared.event.Event.{Event}
-use Rattle.rdm_bus.specs.declared.event.Event.TheVariants.{Bus, Arrived}
+use Rattle.rdm_bus.specs.declared.event.Event.TheVariants.{Bus, Arrived, Changed}
 use Rattle.rdm_bus.specs.declared.event.Step.{Step}
-use Rattle.rdm_bus.specs.declared.event.Step.TheVariants.{Ask as ask_step, Collect, Arrive}
+use Rattle.rdm_bus.specs.declared.event.Step.TheVariants.{Ask as ask_step, Collect, Arrive, Change as change_step}
 use Rattle.rdm_bus.specs.declared.fault.Fault.{Fault}
 use Rattle.rdm_bus.specs.declared.fault.Fault.TheVariants as fault
 use Rattle.rdm_bus.specs.declared.want.Want.{Want}
@@ -45,7 +46,7 @@ use Rattle.rdm_bus.specs.Polling.{IsReply, IsRun, given_between}
 use Rattle.rdm_bus.specs.Polling.Event.{Arrived as Enters, Polled}
 use Rattle.rdm_bus.proofs.Alterations.{altered_is_no_frame}
 use Rattle.rdm_bus.proofs.PollingRuns.{laws_hold}
-use Rattle.rdm_bus.proofs.Queues.{queue_at, queue_still, command_still, within, heard_nothing, heard_frame, report_arrived, got_last, got_advisory, got_warning, got_error, polled, Poll, Unanswered, Answered, poll_becomes}
+use Rattle.rdm_bus.proofs.Queues.{queue_at, queue_still, command_still, within, heard_nothing, heard_frame, report_arrived, Changing, Says, Stays, value_changed, got_last, got_advisory, got_warning, got_error, polled, Poll, Unanswered, Answered, poll_becomes}
 use Rattle.rdm_bus.proofs.ReadBack.{read_as_itself, message_read}
 
 -- What reaches the device of a request: the whole, nothing, or bytes that are no frame.
@@ -197,6 +198,25 @@ small_arrival s r m kept is = record {
   recorded_is = refl;
 }
 
+-- a change at the device's menu puts its message into the queue, where there is one
+small_changing : (s : Start) (change : Change) (message : Option Message) → Changing s.history change → IsSmall s (Changed change message ∷ [])
+small_changing s change message (Says m is) = record {
+  polls = Enters (carried m) ∷ [];
+  run = (tt, tt);
+  queue = sym is;
+  unanswered = refl;
+  dispensed_is = refl;
+  recorded_is = refl;
+}
+small_changing s change message (Stays is) = record {
+  polls = [];
+  run = tt;
+  queue = sym is;
+  unanswered = refl;
+  dispensed_is = refl;
+  recorded_is = refl;
+}
+
 -- a command that isn't refused isn't reserved
 not_reserved : (pid : ℕ) → is_reserved pid ≡ false → (pid ≢ 0x0020) × (pid ≢ 0x0030)
 not_reserved pid e = (λ is. both_ways _ e (ap is_reserved is), λ is. both_ways _ e (ap is_reserved is))
@@ -227,6 +247,11 @@ small_one queues statuses sets s (Collect f) e is =
 small_one queues statuses sets s (Arrive r) (Bus sent poll f reply job heard) is = absurd is
 small_one queues statuses sets s (Arrive r) (Arrived reported m kept) is =
     small_arrival s reported m kept (subst (λ (v : Report). IsArrival s.history v (record { message = m; kept = kept })) (sym is.0) is.1)
+small_one queues statuses sets s (Arrive r) (Changed change m) is = absurd is
+small_one queues statuses sets s (change_step change) (Bus sent poll f reply job heard) is = absurd is
+small_one queues statuses sets s (change_step change) (Arrived r m kept) is = absurd is
+small_one queues statuses sets s (change_step change) (Changed changed m) is =
+    small_changing s changed m (value_changed s.history changed)
 
 small_run : GetQueues → GetStatuses → SetFetchesNothing → (s : Start) (steps : List Step) (es : List Event) → IsBusRun s steps es → IsSmall s es
 small_run queues statuses sets s [] [] run = small_none s

@@ -13,12 +13,14 @@ use Rattle.rdm_frame.specs.FrameText.{frame_text}
 use Rattle.rdm_frame.specs.Reading.{frame_in}
 use Rattle.rdm_params.specs.declared.slow.ask.Ask.{Ask}
 use Rattle.rdm_params.specs.declared.slow.ask.Ask.TheVariants as asks
+use Rattle.rdm_params.specs.declared.panel.Change.{Change}
 use Rattle.rdm_params.specs.declared.slow.message.Message.{Message}
 use Rattle.rdm_params.specs.declared.slow.outcome.Outcome.{Outcome}
 use Rattle.rdm_params.specs.declared.slow.outcome.Outcome.TheVariants.{Done, Reading, Failed}
 use Rattle.rdm_params.specs.declared.slow.work.Work.{Work}
 use Rattle.rdm_params.specs.declared.verdict.Verdict.{Verdict}
-use Rattle.rdm_params.specs.declared.verdict.Verdict.TheVariants.{Reply, Start, Queue, Status, Refuse}
+use Rattle.rdm_params.specs.declared.verdict.Verdict.TheVariants.{Reply, Start, Queue, Status, Clear, Refuse}
+use Rattle.rdm_params.specs.Commands.Panel.{change_message}
 use Rattle.rdm_params.specs.Commands.Commands.{got, answer_to_set, accepted}
 use Rattle.rdm_params.specs.Device.Parameters.{Parameters}
 use Rattle.rdm_params.specs.Table.Rows.{row_of, table}
@@ -28,14 +30,14 @@ use Rattle.rdm_params.specs.Slow.Commit.{committed}
 use Rattle.rdm_outbox.specs.Account as outbox
 use Rattle.rdm_outbox.specs.declared.job.Job.{Job}
 use Rattle.rdm_outbox.specs.Jobs.{has_room, next_job, after_arrive}
-use Rattle.rdm_outbox.specs.Messages.{is_last, last_or, last_of, next_of, after_next, dispensed, after_dispense}
+use Rattle.rdm_outbox.specs.Messages.{is_last, last_or, last_of, next_of, after_next, after_post, dispensed, after_dispense}
 use Rattle.rdm_outbox.specs.Statuses.{status_message, status_now, can_note}
 use Rattle.rdm_responder.specs.declared.report.Report.{Report}
 use Rattle.rdm_responder.specs.declared.report.Arrival.{Arrival}
 use Rattle.rdm_responder.specs.History as history
 use Rattle.rdm_responder.specs.History.{History, Event, then_event}
 use Rattle.rdm_responder.specs.Requests.{Request, Ignored, Branch, Muting, Get, Set, request_of, request_in, discovery_of}
-use Rattle.rdm_responder.specs.Rules.{Account, Response, ack_message, account_of, account_before, account_after, account_with, after_outcome, outbox_after, answer_to, answer_with, reply_with, message_count}
+use Rattle.rdm_responder.specs.Rules.{Account, Response, ack_message, account_of, account_before, account_after, account_with, after_message, after_outcome, outbox_after, answer_to, answer_with, reply_with, message_count}
 use Rattle.rdm_responder.specs.Runs.{IsArrival, outbox_of}
 use Rattle.rdm_bus.specs.Answers.{message_of}
 use Rattle.rdm_bus.specs.BusLaws.{carried, queue_of}
@@ -77,6 +79,7 @@ verdict_still b (Reply bytes) q s = still b
 verdict_still b (Start work) q s = reserve_still b (b.accepted ++ next_job b work ∷ []) (has_room b work)
 verdict_still b (Queue ask) q s = absurd (q ask refl)
 verdict_still b (Status ask) q s = absurd (s ask refl)
+verdict_still b Clear q s = record { arrived = refl; given = refl; answers = refl }
 verdict_still b (Refuse nack) q s = still b
 
 -- a request of which this holds whichever rule applies
@@ -131,6 +134,7 @@ within_verdict b (Reply bytes) w = w
 within_verdict b (Start work) w = within_either (has_room b work) _ _ w w
 within_verdict b (Queue ask) w = within_either (is_last ask) _ _ w (within_next b ask w)
 within_verdict b (Status ask) w = within_either (is_last ask) _ _ w w
+within_verdict b Clear w = w
 within_verdict b (Refuse nack) w = w
 
 within_request : (a : Account) (r : Request) → IsWithin a.outbox → IsWithin (account_with a r).outbox
@@ -145,18 +149,23 @@ note_still : (b b' : outbox.Account) (c : Bool) → IsStill b b' → IsStill b (
 note_still b b' true s = s
 note_still b b' false s = still b
 
-outcome_still : (b : outbox.Account) (work : Work) (outcome : Outcome) → IsStill b (after_outcome b work outcome)
-outcome_still b work Done = still b
-outcome_still b work (Reading v) = still b
-outcome_still b work (Failed severity id v1 v2) = note_still b _ (can_note b) (record { arrived = refl; given = refl; answers = refl })
+outcome_still : (p : Parameters) (b : outbox.Account) (work : Work) (outcome : Outcome) → IsStill b (after_outcome p b work outcome)
+outcome_still p b work Done = still b
+outcome_still p b work (Reading v) = still b
+outcome_still p b work (Failed severity id v1 v2) = note_still b _ _ (note_still b _ (can_note b) (record { arrived = refl; given = refl; answers = refl }))
 
 within_arrive : (b : outbox.Account) (worker : ℕ) (m : Message) → IsWithin b → IsWithin (after_arrive b worker m)
 within_arrive b worker m w = omega (arith, w, length-append b.arrived (m ∷ []))
 
+within_message : (b : outbox.Account) (message : Option Message) → IsWithin b → IsWithin (after_message b message)
+within_message b None w = w
+within_message b (Some m) w = omega (arith, w, length-append b.arrived (m ∷ []))
+
 within_event : (a : Account) (e : Event) → IsWithin a.outbox → IsWithin (account_after a e).outbox
 within_event a (history.Heard bytes) w = within_request a (request_in a.setup.uid (frame_in bytes)) w
 within_event a (history.Arrived r) w =
-    within_still _ _ (outcome_still _ r.job.work r.outcome) (within_arrive a.outbox (worker_of r.job.work) (committed a.parameters r.job.work r.outcome) w)
+    within_still _ _ (outcome_still _ _ r.job.work r.outcome) (within_arrive a.outbox (worker_of r.job.work) (committed a.parameters r.job.work r.outcome) w)
+within_event a (history.Changed change) w = within_message a.outbox (change_message a.parameters change) w
 
 within_events : (a : Account) (es : List Event) → IsWithin a.outbox → IsWithin (fold account_after a es).outbox
 within_events a [] w = w
@@ -191,7 +200,7 @@ arrived_is b b' m e1 e2 e3 =
     ∙ ap (λ (ms : List Message). record (queue_at b) { arrived = ms }) (map-append carried b.arrived (m ∷ []))
 
 report_still : (a : Account) (r : Report) → IsStill (after_arrive a.outbox (worker_of r.job.work) (committed a.parameters r.job.work r.outcome)) (account_after a (history.Arrived r)).outbox
-report_still a r = outcome_still _ r.job.work r.outcome
+report_still a r = outcome_still _ _ r.job.work r.outcome
 
 pub report_arrived : (h : History) (r : Report) (arrival : Arrival) → IsArrival h r arrival → queue_of (then_event h (history.Arrived r)) ≡ polling.after (queue_of h) (Arrived (carried arrival.message))
 report_arrived h r arrival is =
@@ -199,6 +208,22 @@ report_arrived h r arrival is =
     arrived_is (outbox_of h) (outbox_of (then_event h (history.Arrived r))) arrival.message is.message
     (ap (λ (a : Account). a.outbox.given) (account_of-then h (history.Arrived r)) ∙ same.given)
     (ap (λ (a : Account). a.outbox.answers) (account_of-then h (history.Arrived r)) ∙ same.answers)
+
+-- What a change at the device's menu does to its queue: its message enters it, or there is none.
+pub data Changing (h : History) (change : Change) : Type 0 where
+  Says : (m : Message) → queue_of (then_event h (history.Changed change)) ≡ polling.after (queue_of h) (Arrived (carried m)) → Changing h change
+  Stays : queue_of (then_event h (history.Changed change)) ≡ queue_of h → Changing h change
+
+changed_to : (h : History) (change : Change) → queue_of (then_event h (history.Changed change)) ≡ queue_at (after_message (outbox_of h) (change_message (account_of h).parameters change))
+changed_to h change = ap (λ (a : Account). queue_at a.outbox) (account_of-then h (history.Changed change))
+
+changing_by : (h : History) (change : Change) (message : Option Message) → change_message (account_of h).parameters change ≡ message → Changing h change
+changing_by h change (Some m) e =
+    Says m (changed_to h change ∙ ap (λ (o : Option Message). queue_at (after_message (outbox_of h) o)) e ∙ arrived_is (outbox_of h) (after_post (outbox_of h) m) m refl refl refl)
+changing_by h change None e = Stays (changed_to h change ∙ ap (λ (o : Option Message). queue_at (after_message (outbox_of h) o)) e)
+
+pub value_changed : (h : History) (change : Change) → Changing h change
+value_changed h change = changing_by h change (change_message (account_of h).parameters change) refl
 
 -- ---- a poll
 

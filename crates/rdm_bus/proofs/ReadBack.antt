@@ -11,7 +11,6 @@ use Rattle.rdm_frame.specs.declared.frame.Frame.{Frame}
 use Rattle.rdm_frame.specs.FrameText.{head_slots, with_checksum, frame_text, IsUid, IsFrame}
 use Rattle.rdm_frame.specs.Reading.{frame_of, frame_in}
 use Rattle.std.specs.Str.{bytes_eq}
-use Rattle.rdm_params.specs.declared.slow.message.Message.{Message}
 use Rattle.rdm_bus.specs.Answers.{message_of}
 use Rattle.rdm_bus.specs.BusLaws.{carried, message_in}
 

@@ -8,7 +8,7 @@ use Rattle.rdm_outbox.specs.Messages.{last_of}
 use Rattle.rdm_responder.specs.History.{History}
 use Rattle.rdm_responder.specs.Runs.{outbox_of}
 use Rattle.rdm_bus.specs.declared.event.Event.{Event}
-use Rattle.rdm_bus.specs.declared.event.Event.TheVariants.{Bus, Arrived}
+use Rattle.rdm_bus.specs.declared.event.Event.TheVariants.{Bus, Arrived, Changed}
 use Rattle.rdm_bus.specs.declared.event.Step.{Step}
 use Rattle.rdm_bus.specs.Answers.{message_of}
 use Rattle.rdm_bus.specs.BusRun.{Start, is_message_heard, after_all, IsBusRun}
@@ -24,6 +24,7 @@ abbrev pub dispensed_by : Event → List Message
 dispensed_by (Bus sent true fault reply job heard) = option_to_list (option_and_then message_in reply)
 dispensed_by (Bus sent false fault reply job heard) = []
 dispensed_by (Arrived report message kept) = []
+dispensed_by (Changed change message) = []
 
 abbrev pub dispensed : List Event → List Message
 dispensed events = flat_map dispensed_by events
@@ -37,6 +38,7 @@ abbrev pub recorded_by : Event → List Message
 recorded_by (Bus sent poll fault reply job heard) =
     recorded_if (is_message_heard heard) (Bus sent poll fault reply job heard)
 recorded_by (Arrived report message kept) = []
+recorded_by (Changed change message) = []
 
 abbrev pub recorded : List Event → List Message
 recorded events = flat_map recorded_by events
@@ -57,7 +59,7 @@ pub record BusLaws (start : Start) (events : List Event) : Type 0 where
   pub no_loss : NoLossLaw (after_all start events).unanswered
       (given_between (queue_of start.history) (queue_of (after_all start events).history)) (recorded events)
 
--- The laws hold of every run of the bus, after whatever has happened to the device: whichever commands, polls and arrivals,
--- whichever requests and replies are lost or altered, and however many in a row.
+-- The laws hold of every run of the bus, after whatever has happened to the device: whichever commands, polls, arrivals and
+-- changes at its menu, whichever requests and replies are lost or altered, and however many in a row.
 abbrev pub BusLawsHold : Type 0
 BusLawsHold = (start : Start) (steps : List Step) (events : List Event) → IsBusRun start steps events → BusLaws start events

@@ -1,5 +1,6 @@
 -- A run of the bus: a controller sends commands and polls to a device, one transaction at a time, with what goes wrong on
--- the bus, and between them the reports of the device's jobs arrive. E1.20 sections 6.2 and 10.3.1.
+-- the bus, and between them the reports of the device's jobs arrive, and a person changes values at the device's own menu.
+-- E1.20 sections 6.2 and 10.3.1.
 use Rattle.std.specs.Prelude.{◌≡◌, ℕ, ◌+◌, ◌%◌, ◌<◌, Bool, true, false, not, List, [], ◌∷◌, fold, Option, Some, None, IfSome}
 use Rattle.std.specs.Option.{option_map, option_map_or, option_and_then}
 use Rattle.rdm_frame.specs.declared.uid.Uid.{Uid}
@@ -8,11 +9,11 @@ use Rattle.rdm_frame.specs.FrameText.{frame_text, IsFrame}
 use Rattle.rdm_responder.specs.History as history
 use Rattle.rdm_responder.specs.History.{History, then_event}
 use Rattle.rdm_responder.specs.Rules.{reply_of, job_of}
-use Rattle.rdm_responder.specs.Runs.{IsArrival}
+use Rattle.rdm_responder.specs.Runs.{IsArrival, IsChange}
 use Rattle.rdm_bus.specs.declared.event.Event.{Event}
-use Rattle.rdm_bus.specs.declared.event.Event.TheVariants.{Bus, Arrived}
+use Rattle.rdm_bus.specs.declared.event.Event.TheVariants.{Bus, Arrived, Changed}
 use Rattle.rdm_bus.specs.declared.event.Step.{Step}
-use Rattle.rdm_bus.specs.declared.event.Step.TheVariants.{Ask, Collect, Arrive}
+use Rattle.rdm_bus.specs.declared.event.Step.TheVariants.{Ask, Collect, Arrive, Change}
 use Rattle.rdm_bus.specs.declared.fault.Fault.{Fault}
 use Rattle.rdm_bus.specs.declared.fault.Fault.TheVariants as fault
 use Rattle.rdm_bus.specs.declared.transaction.Heard.{Heard}
@@ -74,6 +75,7 @@ pub record IsTransaction (h : History) (waiting : State) (poll : Bool) (request 
 abbrev pub reply_in : Event → Option (List ℕ)
 reply_in (Bus sent poll fault reply job heard) = reply
 reply_in (Arrived report message kept) = None
+reply_in (Changed change message) = None
 
 -- The controller after the transaction, in which it waited for the answer.
 abbrev pub after_reply : State → Fault → Option (List ℕ) → State
@@ -81,7 +83,8 @@ after_reply waiting fault reply = without_transaction (option_map_or (after_hear
 
 -- ---- a run
 
--- What happens at a step. A command is sent that isn't refused; a poll is sent; or a report arrives that may.
+-- What happens at a step. A command is sent that isn't refused; a poll is sent; a report arrives that may; or a value is
+-- changed, where there is room for the message that tells of it.
 abbrev pub IsPlayed : Start → Step → Event → Type 0
 IsPlayed s (Ask c fault) event =
     (refusal_of (controller_at s) c ≡ None)
@@ -90,18 +93,22 @@ IsPlayed s (Collect fault) event =
     IsTransaction s.history (after_poll (controller_at s)) true (poll_request (controller_at s)) fault event
 IsPlayed s (Arrive report) (Arrived reported message kept) =
     (reported ≡ report) × IsArrival s.history report (record { message = message; kept = kept })
-IsPlayed s (Arrive report) (Bus sent poll fault reply job heard) = ⊥
+IsPlayed s (Change change) (Changed changed message) = (changed ≡ change) × IsChange s.history change message
+IsPlayed s (Arrive report) _ = ⊥
+IsPlayed s (Change change) _ = ⊥
 
--- what the device has heard, and what has arrived
+-- what the device has heard, what has arrived, and what was changed
 abbrev pub history_after : History → Event → History
 history_after h (Bus sent poll fault reply job heard) =
     option_map_or (λ bytes. then_event h (history.Heard bytes)) (request_heard fault sent) h
 history_after h (Arrived report message kept) = then_event h (history.Arrived report)
+history_after h (Changed change message) = then_event h (history.Changed change)
 
 -- the transaction numbers count up modulo 256
 abbrev pub tn_after : ℕ → Event → ℕ
 tn_after tn (Bus sent poll fault reply job heard) = (tn + 1) % 256
 tn_after tn (Arrived report message kept) = tn
+tn_after tn (Changed change message) = tn
 
 -- a poll is answered where the controller hears a message
 abbrev pub is_message_heard : Option Heard → Bool
@@ -114,6 +121,7 @@ abbrev pub unanswered_after : Bool → Event → Bool
 unanswered_after unanswered (Bus sent true fault reply job heard) = not (is_message_heard heard)
 unanswered_after unanswered (Bus sent false fault reply job heard) = unanswered
 unanswered_after unanswered (Arrived report message kept) = unanswered
+unanswered_after unanswered (Changed change message) = unanswered
 
 -- where the bus stands after an event, and after events
 abbrev pub after : Start → Event → Start
@@ -135,6 +143,7 @@ abbrev pub fault_of : Step → Fault
 fault_of (Ask c fault) = fault
 fault_of (Collect fault) = fault
 fault_of (Arrive report) = fault.None
+fault_of (Change change) = fault.None
 
 -- ---- what is altered
 

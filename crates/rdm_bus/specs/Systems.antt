@@ -3,13 +3,13 @@ use Rattle.std.specs.Prelude.{◌≡◌, List, nat_lt, length, Option, Some, Non
 use Rattle.std.specs.List.{AllByRecursion}
 use Rattle.rdm_responder.specs.History.{History}
 use Rattle.rdm_params.specs.declared.slow.message.Message.{Message}
-use Rattle.rdm_responder.specs.Lawful.{MayArrive}
+use Rattle.rdm_responder.specs.Lawful.{MayArrive, MayChange}
 use Rattle.rdm_responder.specs.Rules.{account_of}
 use Rattle.rdm_responder.specs.StandsFor as responder
 use Rattle.rdm_responder.specs.StandsFor.{StandsFor}
 use Rattle.rdm_bus.specs.declared.event.Event.{Event}
 use Rattle.rdm_bus.specs.declared.event.Step.{Step}
-use Rattle.rdm_bus.specs.declared.event.Step.TheVariants.{Ask, Collect, Arrive}
+use Rattle.rdm_bus.specs.declared.event.Step.TheVariants.{Ask, Collect, Arrive, Change}
 use Rattle.rdm_bus.specs.declared.system.PlayError.{PlayError}
 use Rattle.rdm_bus.specs.declared.system.PlayError.TheVariants.{Reserved, TooLong}
 use Rattle.rdm_bus.specs.Requests.{is_reserved}
@@ -44,9 +44,14 @@ abbrev pub refusal_in : Step → Option PlayError
 refusal_in (Ask c fault) = if is_reserved c.pid then Some Reserved else (if nat_lt 231 (length c.load) then Some TooLong else None)
 refusal_in (Collect fault) = None
 refusal_in (Arrive report) = None
+refusal_in (Change change) = None
 
 -- A report may not arrive, whatever has happened to the device.
 abbrev pub IsAstray : responder.State → Step → Type 0
 IsAstray device (Arrive report) = (h : History) → StandsFor device h → ¬ MayArrive (account_of h) report
-IsAstray device (Ask c fault) = ⊥
-IsAstray device (Collect fault) = ⊥
+IsAstray device _ = ⊥
+
+-- A value is to be changed, and there is no room for a message, whatever has happened to the device.
+abbrev pub HasNoRoom : responder.State → Step → Type 0
+HasNoRoom device (Change change) = (h : History) → StandsFor device h → ¬ MayChange (account_of h)
+HasNoRoom device _ = ⊥

@@ -1,6 +1,6 @@
 //! The collector.
 
-ghost use Rattle.std.specs.Prelude.{◌≡◌, ◌↔◌, ◌≤◌, length, IsSome, IfOk, OnOk, OnErr, IsErrOf};
+ghost use Rattle.std.specs.Prelude.{◌≡◌, ◌↔◌, ◌≤◌, length, drop, IsSome, IfOk, OnOk, OnErr, IsErrOf};
 ghost use Rattle.std.specs.Result.{result_err};
 ghost use Rattle.rdm_frame.specs.FrameText.{frame_text, IsFrame};
 ghost use Rattle.rdm_bus.specs.Collecting.{new_collector, refusal_of, poll_request, command_request, after_ask, after_poll, heard_in, after_hearing, without_transaction};
@@ -190,10 +190,18 @@ impl Collector {
         self.transaction = None;
     }
 
-    /// The messages that were recorded, in order.
+    /// The messages that were recorded and not forgotten, in order.
     pub fn recorded(&self) -> &[Message]
         ensures { result.now ≡ self.now.recorded }
     {
         self.recorded.as_slice()
+    }
+
+    /// Forgets the first `count` messages that were recorded, or all where there are fewer. Later ones take their room.
+    pub fn forget(&mut self, count: usize)
+        ensures { self.new ≡ record self.old { recorded = drop count self.old.recorded } }
+    {
+        let count = count.min(self.recorded.len());
+        drop(self.recorded.drain(..count));
     }
 }

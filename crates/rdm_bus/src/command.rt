@@ -43,6 +43,21 @@ pub struct Command {
     pub load: Load,
 }
 
+impl Command {
+    /// The same command again.
+    pub fn copy(&self) -> Self
+        ensures { result ≡ self.now }
+    {
+        Command {
+            dst: self.dst,
+            action: self.action,
+            sub: self.sub,
+            pid: self.pid,
+            load: self.load.copy(),
+        }
+    }
+}
+
 /// The command class of a request (E1.20 table A-1).
 pub(crate) fn class_of(action: Action) -> u8
     ensures { result ≡ class_of action }

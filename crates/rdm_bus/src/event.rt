@@ -8,7 +8,7 @@ use crate::fault::Fault;
 use crate::transaction::Heard;
 use rdm_frame::Wire;
 use rdm_outbox::Job;
-use rdm_params::Message;
+use rdm_params::{Change, Message};
 use rdm_responder::Report;
 
 /// What is to happen next on a bus.
@@ -20,6 +20,8 @@ pub enum Step {
     Collect(Fault),
     /// The report of a job arrives at the device.
     Arrive(Report),
+    /// A person changes a value at the device's own menu.
+    Change(Change),
 }
 
 impl Step {
@@ -29,7 +31,7 @@ impl Step {
     {
         match self {
             Step::Ask(_, fault) | Step::Collect(fault) => *fault,
-            Step::Arrive(_) => Fault::None,
+            Step::Arrive(_) | Step::Change(_) => Fault::None,
         }
     }
 }
@@ -60,5 +62,12 @@ pub enum Event {
         message: Message,
         /// Whether a status entry was noted (section 10.3.2).
         kept: bool,
+    },
+    /// A person changed a value at the device's own menu.
+    Changed {
+        /// The change.
+        change: Change,
+        /// The message that waits for the controller since then, if the device took the value (section 10.3.1).
+        message: Option<Message>,
     },
 }

@@ -1,11 +1,13 @@
 //! Laws of the bus, over every value. Each is the contract of a call that does nothing.
 
+ghost use Rattle.std.specs.Prelude.{◌≡◌, ◌↔◌, IsTrue};
 ghost use Rattle.rdm_bus.specs.Devices.{dequeues_again, forgets_empty_status, BreaksPrefixLaw, RightDeviceIsPolled};
 ghost use Rattle.rdm_bus.specs.Faults.{AlteredIsNoFrame};
 ghost use Rattle.rdm_bus.specs.BusLaws.{BusLawsHold};
 ghost use Rattle.rdm_bus.specs.Polling.{LawsHold};
 ghost use Rattle.rdm_bus.specs.Recording.{JoinsFromTheFront, SkippingIsRefused, RecordingNothingIsRefused, RepeatingAnOlderOneIsRefused};
 
+use crate::{Command, Fault, Heard};
 use rdm_params::two_commands_fetch;
 
 /// A frame with one slot raised by 1 to 255 is no frame: nobody on the bus takes it for one.
@@ -36,8 +38,8 @@ pub fn recording_laws_rule_out()
     ensures repeating_an_older_one { RepeatingAnOlderOneIsRefused }
 {}
 
-/// Both recording laws hold of every run of the bus, from every history of the device: whichever commands, polls and arrivals
-/// there are, whichever requests and replies are lost or altered, and however many in a row.
+/// Both recording laws hold of every run of the bus, from every history of the device: whichever commands, polls, arrivals and
+/// changes at its menu there are, whichever requests and replies are lost or altered, and however many in a row.
 pub fn bus_recording_laws_hold()
     ensures { BusLawsHold }
 {
@@ -50,4 +52,19 @@ pub fn wrong_devices_break_the_prefix_law()
     ensures dequeues_again { BreaksPrefixLaw dequeues_again }
     ensures forgets_empty_status { BreaksPrefixLaw forgets_empty_status }
     ensures right { RightDeviceIsPolled }
+{}
+
+/// Two commands are equal by `==` exactly where each of their fields is.
+pub fn commands_are_equal_by_value()
+    ensures { (a b : Command) → IsTrue (⟦<Command as PartialEq>⟧.eq a b) ↔ (a ≡ b) }
+{}
+
+/// Two faults are equal by `==` exactly where they are the same, slot and raise included.
+pub fn faults_are_equal_by_value()
+    ensures { (a b : Fault) → IsTrue (⟦<Fault as PartialEq>⟧.eq a b) ↔ (a ≡ b) }
+{}
+
+/// Two values of `Heard` are equal by `==` exactly where they are the same.
+pub fn heards_are_equal_by_value()
+    ensures { (a b : Heard) → IsTrue (⟦<Heard as PartialEq>⟧.eq a b) ↔ (a ≡ b) }
 {}

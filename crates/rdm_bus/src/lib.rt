@@ -12,8 +12,6 @@ mod laws;
 mod message;
 mod ranges;
 mod system;
-#[cfg(test)]
-mod tests;
 mod transaction;
 mod want;
 
@@ -22,7 +20,8 @@ pub use command::{Action, Command};
 pub use event::{Event, Step};
 pub use fault::Fault;
 pub use laws::{
-    altered_frame_is_no_frame, bus_recording_laws_hold, joining_goes_from_the_front,
+    altered_frame_is_no_frame, bus_recording_laws_hold, commands_are_equal_by_value,
+    faults_are_equal_by_value, heards_are_equal_by_value, joining_goes_from_the_front,
     recording_laws_hold, recording_laws_rule_out, wrong_devices_break_the_prefix_law,
 };
 pub use system::{PlayError, System};

@@ -11,7 +11,7 @@ ghost use Rattle.rdm_bus.specs.Collecting.{heard_in, after_hearing};
 ghost use Rattle.rdm_bus.specs.Faults.{reply_heard};
 ghost use Rattle.rdm_bus.specs.BusLaws.{BusLaws, recorded_by};
 ghost use Rattle.rdm_bus.specs.BusRun.{Start, after, after_all, after_reply, history_after, reply_in, transaction, raise_of, fault_of, IsFault, IsPlayed, IsAlteredInVain};
-ghost use Rattle.rdm_bus.specs.Systems.{Stands, IsTrace, IsAstray, refusal_in, start_of};
+ghost use Rattle.rdm_bus.specs.Systems.{Stands, IsTrace, IsAstray, HasNoRoom, refusal_in, start_of};
 
 use crate::collector::{Collector, MOST_DATA, PollError};
 use crate::command::is_reserved;
@@ -27,7 +27,8 @@ use std::alloc::Global;
 use std::marker::Model;
 use thiserror::Error;
 
-/// Why a step isn't played. The first two are tested first, in this order.
+/// Why a step isn't played. `Reserved` and `TooLong` are tested first, in this order; then memory is taken; `Astray` and
+/// `NoRoom` come last.
 #[derive(Clone, Copy, Debug, PartialEq, Eq, Error)]
 pub enum PlayError {
     /// There is no memory for the event or for the answer to a poll.
@@ -39,10 +40,12 @@ pub enum PlayError {
     /// A command has more data than a frame can carry.
     #[error("too long")]
     TooLong,
-    /// A report isn't of the oldest outstanding job of its worker, or its outcome doesn't fit the job. It comes after want
-    /// of memory.
+    /// A report isn't of the oldest outstanding job of its worker, or its outcome doesn't fit the job.
     #[error("astray")]
     Astray,
+    /// The device has no room for the message of a change at its own menu.
+    #[error("no room")]
+    NoRoom,
 }
 
 /// A responder and a collector on one bus, and what has happened there.
@@ -80,11 +83,12 @@ impl System {
         }
     }
 
-    /// Plays a step: the controller sends a command or a poll, and the device and then the controller hear what comes of it,
-    /// or the report of a job arrives at the device.
+    /// Plays a step: the controller sends a command or a poll, and the device and then the controller hear what comes of it;
+    /// or the report of a job arrives at the device; or a person changes a value at the device's own menu.
     ///
     /// A command for QUEUED_MESSAGE or STATUS_MESSAGES is refused first, then one with more than 231 bytes of data. Then
-    /// memory is taken. A report that may not arrive is `Astray` at last. Where a step is refused, nothing changes.
+    /// memory is taken. Last, a report that may not arrive is `Astray`, and a change is `NoRoom` where outstanding jobs and
+    /// waiting messages leave no room for its message. Where a step is refused, nothing changes.
     pub fn play(&mut self, step: &Step) -> Result<(), PlayError>
         requires { raise_of (fault_of step.now) ≢ Some 0 }
         ensures trace { OnOk result ((start : Start) (steps : List Step) →
@@ -97,6 +101,7 @@ impl System {
         ensures reserved { IsErrOf result PlayError.Reserved ↔ (refusal_in step.now ≡ Some PlayError.Reserved) }
         ensures too_long { IsErrOf result PlayError.TooLong ↔ (refusal_in step.now ≡ Some PlayError.TooLong) }
         ensures astray { IsErrOf result PlayError.Astray → IsAstray self.old.responder step.now }
+        ensures no_room { IsErrOf result PlayError.NoRoom → HasNoRoom self.old.responder step.now }
         ensures err { OnErr result (self.new ≡ self.old) }
     {
         // The trace is a run of the bus, and the laws hold of every run.
@@ -143,12 +148,12 @@ fn refusal_in(step: &Step) -> Option<PlayError>
         Step::Ask(command, _) if command.load.as_slice().len() > MOST_DATA => {
             Some(PlayError::TooLong)
         }
-        Step::Ask(_, _) | Step::Collect(_) | Step::Arrive(_) => None,
+        Step::Ask(_, _) | Step::Collect(_) | Step::Arrive(_) | Step::Change(_) => None,
     }
 }
 
 /// Plays a step on a responder and a collector, and gives the event. It is refused where a poll finds no memory for its
-/// answer, and where a report is astray.
+/// answer, where a report is astray, and where there is no room for the message of a change.
 fn happen(
     responder: &mut Responder,
     collector: &mut Collector,
@@ -167,6 +172,7 @@ fn happen(
     ensures idle { collector.new.transaction ≡ None }
     ensures refused { IfErr result (λ e. (e ≢ PlayError.Reserved) × (e ≢ PlayError.TooLong)) }
     ensures astray { IsErrOf result PlayError.Astray → IsAstray responder.old step.now }
+    ensures no_room { IsErrOf result PlayError.NoRoom → HasNoRoom responder.old step.now }
     ensures err { OnErr result ((responder.new ≡ responder.old) × (collector.new ≡ collector.old)) }
 {
     match step {
@@ -188,6 +194,13 @@ fn happen(
                 kept: arrival.kept,
             }),
             Err(_) => Err(PlayError::Astray),
+        },
+        Step::Change(change) => match responder.change(*change) {
+            Ok(message) => Ok(Event::Changed {
+                change: *change,
+                message,
+            }),
+            Err(_) => Err(PlayError::NoRoom),
         },
     }
 }

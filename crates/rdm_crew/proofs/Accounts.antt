@@ -8,6 +8,7 @@ use Rattle.std.proofs.lemmas.Bool.{and_parts, ltb-true}
 use Rattle.std.proofs.lemmas.List.Sums.{fold_push, sum_by-cons}
 use Rattle.rdm_frame.specs.FrameText.{frame_text}
 use Rattle.rdm_frame.specs.Reading.{frame_in}
+use Rattle.rdm_params.specs.declared.panel.Change.{Change}
 use Rattle.rdm_params.specs.declared.slow.ask.Ask.{Ask}
 use Rattle.rdm_params.specs.declared.slow.message.Message.{Message}
 use Rattle.rdm_params.specs.declared.slow.outcome.Outcome.{Outcome}
@@ -16,6 +17,8 @@ use Rattle.rdm_params.specs.declared.slow.work.Work.{Work}
 use Rattle.rdm_params.specs.declared.verdict.Verdict.{Verdict}
 use Rattle.rdm_params.specs.declared.verdict.Verdict.TheVariants as verdict
 use Rattle.rdm_params.specs.Commands.Commands.{command_of, got, answer_to_set}
+use Rattle.rdm_params.specs.Commands.Panel.{change_message}
+use Rattle.rdm_params.specs.Device.Parameters.{Parameters}
 use Rattle.rdm_params.specs.Slow.Laws.{GetStartsItsWork, SetStartsItsWork}
 use Rattle.rdm_params.specs.Slow.Work.{worker_of}
 use Rattle.rdm_params.specs.Table.Uses.{is_slow}
@@ -23,16 +26,16 @@ use Rattle.rdm_outbox.specs.declared.job.Job.{Job}
 use Rattle.rdm_outbox.specs.declared.job.Full.TheVariants.{NoRoom}
 use Rattle.rdm_outbox.specs.Account as outbox
 use Rattle.rdm_outbox.specs.Jobs.{jobs_of, ended_of, outstanding_of, next_job, has_room, after_arrive}
-use Rattle.rdm_outbox.specs.Messages.{is_last, next_of, after_next}
-use Rattle.rdm_outbox.specs.Statuses.{can_note, after_status_now}
+use Rattle.rdm_outbox.specs.Messages.{is_last, next_of, after_next, after_post}
+use Rattle.rdm_outbox.specs.Statuses.{after_clear, can_note, after_status_now}
 use Rattle.rdm_responder.specs.declared.report.Report.{Report}
 use Rattle.rdm_responder.specs.History as history
 use Rattle.rdm_responder.specs.History.{History, then_event}
 use Rattle.rdm_responder.specs.Requests.{Request, Ignored, Branch, Muting, Get, Set, request_in}
-use Rattle.rdm_responder.specs.Rules.{Account, account_of, account_before, account_after, account_with, job_with, job_of, outbox_after, started_by, after_outcome}
+use Rattle.rdm_responder.specs.Rules.{Account, account_of, account_before, account_after, account_with, job_with, job_of, outbox_after, started_by, after_message, after_outcome}
 use Rattle.rdm_responder.specs.Runs.{outbox_of}
 use Rattle.rdm_bus.specs.declared.event.Event.{Event}
-use Rattle.rdm_bus.specs.declared.event.Event.TheVariants.{Bus, Arrived}
+use Rattle.rdm_bus.specs.declared.event.Event.TheVariants.{Bus, Arrived, Changed}
 use Rattle.rdm_bus.specs.declared.event.Step.{Step}
 use Rattle.rdm_bus.specs.declared.event.Step.TheVariants as step
 use Rattle.rdm_bus.specs.declared.fault.Fault.{Fault}
@@ -85,6 +88,7 @@ carries_out b (verdict.Start work) = reserves b (next_job b work) (has_room b wo
 carries_out b (verdict.Queue ask) = either b b (after_next b ask) (is_last ask) (still b) (gives_next b ask)
 carries_out b (verdict.Status ask) = either b b (after_status_now b ask) (is_last ask) (still b) (shows_statuses b ask)
 carries_out b (verdict.Reply bytes) = still b
+carries_out b verdict.Clear = stays b (after_clear b) refl refl refl
 carries_out b (verdict.Refuse nack) = still b
 
 requested : (a : Account) (q : Request) → Grows a.outbox (account_with a q).outbox (option_to_list (job_with a q)) []
@@ -113,10 +117,10 @@ notes : (b c : outbox.Account) (r? : Bool) → c.accepted ≡ b.accepted → c.e
 notes b c true e1 e2 e3 = stays b c e1 e2 e3
 notes b c false e1 e2 e3 = still b
 
-ends : (b : outbox.Account) (work : Work) (outcome : Outcome) → Grows b (after_outcome b work outcome) [] []
-ends b work Done = still b
-ends b work (Reading v) = still b
-ends b work (Failed severity id v1 v2) = notes b _ (can_note b) refl refl refl
+ends : (p : Parameters) (b : outbox.Account) (work : Work) (outcome : Outcome) → Grows b (after_outcome p b work outcome) [] []
+ends p b work Done = still b
+ends p b work (Reading v) = still b
+ends p b work (Failed severity id v1 v2) = either b _ b _ (notes b _ (can_note b) refl refl refl) (still b)
 
 on_worker : Report → ℕ
 on_worker r = worker_of r.job.work
@@ -127,7 +131,18 @@ reported b worker m = record { accepted = sym (append-nil b.accepted); ended = r
 arrived : (h : History) (r : Report) → Grows (outbox_of h) (outbox_of (then_event h (history.Arrived r))) [] (worker_of r.job.work ∷ [])
 arrived h r =
     subst (λ (a : Account). Grows (outbox_of h) a.outbox [] (worker_of r.job.work ∷ [])) (sym (account_of-then h (history.Arrived r)))
-    (and_then (outbox_of h) _ _ [] [] (worker_of r.job.work ∷ []) [] (reported (outbox_of h) (worker_of r.job.work) _) (ends _ r.job.work r.outcome))
+    (and_then (outbox_of h) _ _ [] [] (worker_of r.job.work ∷ []) [] (reported (outbox_of h) (worker_of r.job.work) _) (ends _ _ r.job.work r.outcome))
+
+-- ---- a change at the device's menu
+
+posted : (b : outbox.Account) (message : Option Message) → Grows b (after_message b message) [] []
+posted b None = still b
+posted b (Some m) = stays b (after_post b m) refl refl refl
+
+changed : (h : History) (change : Change) → Grows (outbox_of h) (outbox_of (then_event h (history.Changed change))) [] []
+changed h change =
+    subst (λ (a : Account). Grows (outbox_of h) a.outbox [] []) (sym (account_of-then h (history.Changed change)))
+    (posted (outbox_of h) (change_message (account_of h).parameters change))
 
 -- ---- an event, and a run
 
@@ -146,6 +161,10 @@ happens s (step.Ask c f) e is = subst (Happens s) (sym is.1.event_is) (carried s
 happens s (step.Collect f) e is = subst (Happens s) (sym is.event_is) (carried s (after_poll (controller_at s)) true f (frame_text (poll_request (controller_at s))))
 happens s (step.Arrive r) (Bus sent poll f reply job taken) is = absurd is
 happens s (step.Arrive r) (Arrived reported m kept) is = arrived s.history reported
+happens s (step.Arrive r) (Changed change m) is = absurd is
+happens s (step.Change change) (Bus sent poll f reply job taken) is = absurd is
+happens s (step.Change change) (Arrived reported m kept) is = absurd is
+happens s (step.Change change) (Changed change' m) is = changed s.history change'
 
 map-append : {A B : Type 0} (f : A → B) (xs ys : List A) → map f (xs ++ ys) ≡ map f xs ++ map f ys
 map-append f [] ys = refl
@@ -228,6 +247,7 @@ started_is b (verdict.Start work) slow = has_number b work (has_room b work) ref
 started_is b (verdict.Queue ask) slow = tt
 started_is b (verdict.Status ask) slow = tt
 started_is b (verdict.Reply bytes) slow = tt
+started_is b verdict.Clear slow = tt
 started_is b (verdict.Refuse nack) slow = tt
 
 request_starts : GetStartsItsWork → SetStartsItsWork → (a : Account) (q : Request) → IfJob (IsNextJob a.outbox) (job_with a q)
@@ -259,6 +279,10 @@ event_starts gets sets s (step.Collect f) e is =
     (as_list _ _ (heard_starts gets sets s.history (request_heard f (frame_text (poll_request (controller_at s))))))
 event_starts gets sets s (step.Arrive r) (Bus sent poll f reply job taken) is = absurd is
 event_starts gets sets s (step.Arrive r) (Arrived reported m kept) is = tt
+event_starts gets sets s (step.Arrive r) (Changed change m) is = absurd is
+event_starts gets sets s (step.Change change) (Bus sent poll f reply job taken) is = absurd is
+event_starts gets sets s (step.Change change) (Arrived reported m kept) is = absurd is
+event_starts gets sets s (step.Change change) (Changed change' m) is = tt
 
 -- every job of a run is a slow command
 abbrev pub IsSlowJob : Job → Type 0

@@ -12,7 +12,7 @@ use Rattle.rdm_responder.specs.Rules.{account_of}
 use Rattle.rdm_responder.specs.Runs.{outbox_of}
 use Rattle.rdm_responder.specs.StandsFor.{StandsFor}
 use Rattle.rdm_bus.specs.declared.event.Event.{Event}
-use Rattle.rdm_bus.specs.declared.event.Event.TheVariants.{Bus, Arrived}
+use Rattle.rdm_bus.specs.declared.event.Event.TheVariants.{Bus, Arrived, Changed}
 use Rattle.rdm_bus.specs.declared.event.Step.{Step}
 use Rattle.rdm_bus.specs.declared.event.Step.TheVariants.{Arrive}
 use Rattle.rdm_bus.specs.BusRun.{Start, IsPlayed, after, after_all}
@@ -58,10 +58,12 @@ reports-more es e = reports-append es (e ∷ []) ∙ ap (λ (l : List Report). r
 arrival_reports : (s : Start) (r : Report) (e : Event) → IsPlayed s (Arrive r) e → arrived_in e ≡ r ∷ []
 arrival_reports s r (Bus sent poll f reply job heard) is = absurd is
 arrival_reports s r (Arrived reported m kept) is = ap (λ (x : Report). x ∷ []) is.0
+arrival_reports s r (Changed change m) is = absurd is
 
 arrival_starts : (s : Start) (r : Report) (e : Event) → IsPlayed s (Arrive r) e → started_in e ≡ []
 arrival_starts s r (Bus sent poll f reply job heard) is = absurd is
 arrival_starts s r (Arrived reported m kept) is = refl
+arrival_starts s r (Changed change m) is = absurd is
 
 pub no_jobs : jobs_in [] ≡ []
 unfolding jobs_in

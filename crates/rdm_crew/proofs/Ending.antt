@@ -22,7 +22,7 @@ use Rattle.rdm_crew.specs.declared.worker.Worked.{Worked}
 use Rattle.rdm_crew.specs.Crews.{HasJobs}
 use Rattle.rdm_crew.specs.Desks.{stands_at, OfTwo, IsDrawn, IsSuspect}
 use Rattle.rdm_crew.specs.RunTrace.{IsAnswered, FitsFor, jobs_in, reports_in, reports_of}
-use Rattle.rdm_crew.specs.Settling.{IsTakenOf, IsSettled, IsLaneOfReports, AreLanes}
+use Rattle.rdm_crew.specs.Settling.{IsTakenOf, IsSettled, IsLaneOfOne, IsLaneOfReports, AreLanes}
 use Rattle.rdm_crew.specs.Workers.{Answers, IsWorked}
 use Rattle.rdm_crew.proofs.Accounts.{Tells, run_tells, outstanding_is, IsSlowJob, all_slow, at_filter, first_left}
 use Rattle.rdm_crew.proofs.Items.{from-append}
@@ -157,6 +157,17 @@ still_has_jobs d e first second still has = (
   has.0 ∙ ap (λ (p : Played). jobs_of 0 (jobs_in p.trace)) (sym still),
   has.1 ∙ ap (λ (p : Played). jobs_of 1 (jobs_in p.trace)) (sym still),
 )
+
+-- ---- a lane with one post
+
+-- what was taken of it, where the lane keeps the lane law
+pub settled_of_one : {T : Type 0} (take : TakeState T) (post : PostState T) (taken : List (Taken T)) (posted : List (List T)) (posts : List (PostState T)) → IsLaneOfOne take post → LaneLaw take.posts taken posted
+    → taken ≡ take.taken → HasLists posted posts → posts ≡ post ∷ [] → IsTakenOf 0 take.taken post.items
+settled_of_one {T} take post taken posted posts lane law same lists one =
+    let only : HasLists posted (post ∷ []) = subst (HasLists posted) one lists in
+    let posts_one : take.posts ≡ 1 = lane.posts in
+    let zeroth : slice_index_or posted 0 [] ≡ post.items = ap (λ (p : ℕ). slice_index_or posted p []) (sym lane.producer) ∙ only 0 post (omega arith) in
+    subst (λ (es : List (Taken T)). IsTakenOf 0 es post.items) same (subst (IsTakenOf 0 taken) zeroth (law 0 (omega arith)))
 
 -- ---- the report lane
 

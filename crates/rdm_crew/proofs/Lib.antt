@@ -8,3 +8,5 @@ pub mod Sorted
 pub mod Ending
 pub mod Runs
 pub mod Starting
+pub mod Watching
+pub mod Changing

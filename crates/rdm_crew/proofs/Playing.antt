@@ -4,6 +4,7 @@ use Rattle.std.specs.Prelude.{Result, Ok, Err, MatchResult, slice_get}
 use Rattle.std.specs.Option.{option_or}
 use Rattle.std.proofs.Math.Seq.{drop-cons}
 use Rattle.std.proofs.lemmas.List.Elements.{filter-append}
+use Rattle.rdm_params.specs.declared.panel.Change.{Change}
 use Rattle.rdm_params.specs.Slow.Laws.{GetStartsItsWork, SetStartsItsWork}
 use Rattle.rdm_params.specs.Slow.Work.{worker_of}
 use Rattle.rdm_outbox.specs.declared.job.Job.{Job}
@@ -29,12 +30,13 @@ use Rattle.rdm_crew.specs.declared.step.CrewStep.{CrewStep}
 use Rattle.rdm_crew.specs.declared.step.CrewStep.TheVariants.{Ask, Collect, Draw, Settle}
 use Rattle.rdm_crew.specs.declared.stop.Stop.{Stop}
 use Rattle.rdm_crew.specs.declared.stop.Stop.TheVariants as stop
-use Rattle.rdm_crew.specs.Crews.{HasJobs, IsTied, IsSameCrew, IsSent, HasSent, HasPlayed, HavePlayed, IsRefused, IsStopped}
+use Rattle.rdm_crew.specs.Crews.{HasJobs, HasChanged, IsTied, IsSameCrew, IsSent, HasSent, HasPlayed, HavePlayed, IsRefused, IsStopped}
 use Rattle.rdm_crew.specs.Desks.{stands_at, HasRun, OfTwo, IsDrawn, IsSameDesk, HasArrived, HaveArrived, HaveSettled, IsCutShort, AfterDraw}
 use Rattle.rdm_crew.specs.RunTrace.{AreArrivals, IsCut, HasSettle, first_refusal, refusal_at, started_in, arrived_in, jobs_in, reports_in}
 use Rattle.rdm_crew.specs.Stops.{stop_of}
 use Rattle.rdm_crew.specs.Workers.{most}
 use Rattle.rdm_crew.proofs.Accounts.{IsNextJob, Each, Tells, event_starts, run_tells}
+use Rattle.rdm_crew.proofs.Changing.{change_quiet, change_starts}
 use Rattle.rdm_crew.proofs.Drawing.{jobs-more, reports-more, same_jobs, stands_after, same_desk}
 
 -- ---- a command or a poll
@@ -44,27 +46,29 @@ nothing_arrives : (s : Start) (p : Step) (e : Event) → IsSent p → IsPlayed s
 nothing_arrives s (bus.Ask c f) e sent is = ap arrived_in is.1.event_is
 nothing_arrives s (bus.Collect f) e sent is = ap arrived_in is.event_is
 nothing_arrives s (bus.Arrive r) e sent is = absurd sent
+nothing_arrives s (bus.Change change) e sent is = absurd sent
 
 -- why it isn't played
-pub refused_for : (p : Step) (e : PlayError) → (e ≡ refused.Reserved → refusal_in p ≡ Some refused.Reserved) → (e ≡ refused.TooLong → refusal_in p ≡ Some refused.TooLong) → (e ≡ refused.Astray → ⊥) → IsRefused p (stop_of e)
-refused_for p refused.OutOfMemory reserved long astray = tt
-refused_for p refused.Reserved reserved long astray = reserved refl
-refused_for p refused.TooLong reserved long astray = long refl
-refused_for p refused.Astray reserved long astray = astray refl
+pub refused_for : (p : Step) (e : PlayError) → (e ≡ refused.Reserved → refusal_in p ≡ Some refused.Reserved) → (e ≡ refused.TooLong → refusal_in p ≡ Some refused.TooLong) → (e ≡ refused.Astray → ⊥) → (e ≡ refused.NoRoom → ⊥) → IsRefused p (stop_of e)
+refused_for p refused.OutOfMemory reserved long astray room = tt
+refused_for p refused.Reserved reserved long astray room = reserved refl
+refused_for p refused.TooLong reserved long astray room = long refl
+refused_for p refused.Astray reserved long astray room = astray refl
+refused_for p refused.NoRoom reserved long astray room = room refl
 
 abbrev pub IsSentTo : Step → Event → Desk → Desk → Type 0
 IsSentTo p event d e = (e.setup ≡ d.setup) × (e.reports ≡ d.reports) × (e.system.trace ≡ d.system.trace ++ event ∷ []) × IsPlayed (stands_at d) p event × HasRun e
 
 -- the desk after an event that isn't an arrival
-pub sent_desk : (d e : Desk) (p : Step) (event : Event) → IsDrawn d → IsSent p → IsSentTo p event d e → IsDrawn e
-sent_desk d e p event is sent done = record {
+sent_desk : (d e : Desk) (p : Step) (event : Event) → IsDrawn d → arrived_in event ≡ [] → IsSentTo p event d e → IsDrawn e
+sent_desk d e p event is quiet done = record {
   run = done.4;
   posts = ap (λ (s : TakeState Report). s.posts) done.1 ∙ is.posts;
   two = subst (λ (s : TakeState Report). OfTwo s.taken) (sym done.1) is.two;
   all =
       ap (λ (s : TakeState Report). items_of s.taken) done.1
       ∙ is.all
-      ∙ sym (ap reports_in done.2 ∙ reports-more d.system.trace event ∙ ap (λ (l : List Report). reports_in d.system.trace ++ l) (nothing_arrives (stands_at d) p event sent done.3) ∙ append-nil (reports_in d.system.trace));
+      ∙ sym (ap reports_in done.2 ∙ reports-more d.system.trace event ∙ ap (λ (l : List Report). reports_in d.system.trace ++ l) quiet ∙ append-nil (reports_in d.system.trace));
 }
 
 -- ---- the job that starts
@@ -104,11 +108,11 @@ second_has_room gets sets c p event j tied is started own =
     subst (λ (n : ℕ). length c.second.items < n) (sym tied.second_limit) (subst (λ (n : ℕ). n < most) (sym many) below)
 
 -- the crew after the job was put into its lane, and after an event that starts none
-tied_after : (c f : Crew) (p : Step) (event : Event) (js : List Job) → IsTied c → IsSent p → IsSentTo p event c.desk f.desk → js ≡ started_in event
+tied_after : (c f : Crew) (p : Step) (event : Event) (js : List Job) → IsTied c → arrived_in event ≡ [] → IsSentTo p event c.desk f.desk → js ≡ started_in event
     → f.first.items ≡ c.first.items ++ jobs_of 0 js → f.second.items ≡ c.second.items ++ jobs_of 1 js → f.first.limit ≡ c.first.limit → f.second.limit ≡ c.second.limit → IsTied f × HasSent p c.desk f.desk
-tied_after c f p event js tied sent done started first second first_limit second_limit = (
+tied_after c f p event js tied quiet done started first second first_limit second_limit = (
   record {
-    drawn = sent_desk c.desk f.desk p event tied.drawn sent done;
+    drawn = sent_desk c.desk f.desk p event tied.drawn quiet done;
     jobs = has_jobs c.desk f.desk event js c.first c.second f.first f.second tied.jobs done.2 started first second;
     first_limit = first_limit ∙ tied.first_limit;
     second_limit = second_limit ∙ tied.second_limit;
@@ -121,12 +125,21 @@ pub handed : (c f : Crew) (m : Desk) (p : Step) (event : Event) (j : Job) (r : R
     → f.desk ≡ m → IsSamePost c.first f.first → IsSamePost c.second f.second
     → MatchResult r (λ _. IsTied f × HasSent p c.desk f.desk) (λ why. IsRefused p why)
 handed c f m p event j (Ok u) tied sent done started put same first second =
-    tied_after c f p event (j ∷ []) tied sent (subst (IsSentTo p event c.desk) (sym same) done) started put.0 put.1 first.2 second.2
+    tied_after c f p event (j ∷ []) tied (nothing_arrives (stands_at c.desk) p event sent done.3) (subst (IsSentTo p event c.desk) (sym same) done) started put.0 put.1 first.2 second.2
 handed c f m p event j (Err why) tied sent done started put same first second = subst (IsRefused p) (sym put) tt
 
 pub none_handed : (c f : Crew) (p : Step) (event : Event) → IsTied c → IsSent p → IsSentTo p event c.desk f.desk → [] ≡ started_in event → f.first ≡ c.first → f.second ≡ c.second → IsTied f × HasSent p c.desk f.desk
 none_handed c f p event tied sent done started first second =
-    tied_after c f p event [] tied sent done started
+    tied_after c f p event [] tied (nothing_arrives (stands_at c.desk) p event sent done.3) done started
+    (ap (λ (o : PostState Job). o.items) first ∙ sym (append-nil c.first.items)) (ap (λ (o : PostState Job). o.items) second ∙ sym (append-nil c.second.items))
+    (ap (λ (o : PostState Job). o.limit) first) (ap (λ (o : PostState Job). o.limit) second)
+
+-- ---- a change
+
+-- the crew after a change at the panel
+pub changed_tied : (c d : Crew) (change : Change) (event : Event) → IsTied c → IsSentTo (bus.Change change) event c.desk d.desk → d.first ≡ c.first → d.second ≡ c.second → IsTied d × HasChanged change c.desk d.desk
+changed_tied c d change event tied done first second =
+    tied_after c d (bus.Change change) event [] tied (change_quiet (stands_at c.desk) change event done.3) done (sym (change_starts (stands_at c.desk) change event done.3))
     (ap (λ (o : PostState Job). o.items) first ∙ sym (append-nil c.first.items)) (ap (λ (o : PostState Job). o.items) second ∙ sym (append-nil c.second.items))
     (ap (λ (o : PostState Job). o.limit) first) (ap (λ (o : PostState Job). o.limit) second)
 
@@ -296,6 +309,7 @@ same_crew c d e one two = (
   same_desk c.desk d.desk e.desk one.0 two.0,
   (two.1.0 ∙ one.1.0, two.1.1 ∙ one.1.1, two.1.2 ∙ one.1.2),
   (two.2.0 ∙ one.2.0, two.2.1 ∙ one.2.1, two.2.2 ∙ one.2.2),
+  (two.3.0 ∙ one.3.0, two.3.1 ∙ one.3.1),
 )
 
 -- ---- a loop over the steps

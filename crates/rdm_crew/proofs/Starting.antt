@@ -1,6 +1,7 @@
 -- The start of a run: nothing has happened, and nothing was put into a lane or taken from one.
 use Rattle.std.proofs.Common.{◌≡◌, ◌↔◌, ℕ, List, [], ◌∷◌, refl, sym, ap, subst, ◌∙◌}
 use Rattle.std.specs.Prelude.{Result, Ok, Err, IfOk, IsErrOf}
+use Rattle.rdm_params.specs.declared.panel.Change.{Change}
 use Rattle.rdm_outbox.specs.declared.job.Job.{Job}
 use Rattle.rdm_outbox.specs.Jobs.{jobs_of}
 use Rattle.rdm_responder.specs.declared.report.Report.{Report}
@@ -10,14 +11,18 @@ use Rattle.rdm_bus.specs.BusLaws.{BusLaws, BusLawsHold}
 use Rattle.rdm_bus.specs.BusRun.{Start, IsBusRun}
 use Rattle.rdm_bus.specs.Systems.{IsTrace}
 use Rattle.rdm_lane.specs.Ends.{PostState, TakeState}
-use Rattle.rdm_lane.specs.Lane.{items_of}
+use Rattle.rdm_lane.specs.Lane.{items_of, items_from}
+use Rattle.rdm_crew.specs.declared.crew.Crew.{Crew}
 use Rattle.rdm_crew.specs.declared.desk.Desk.{Desk}
 use Rattle.rdm_crew.specs.declared.error.RunError.{RunError}
-use Rattle.rdm_crew.specs.Crews.{IsTied}
+use Rattle.rdm_crew.specs.Crews.{HasChanges, IsTied}
 use Rattle.rdm_crew.specs.Desks.{began, OfTwo, IsDrawn}
-use Rattle.rdm_crew.specs.RunTrace.{jobs_in, reports_in}
-use Rattle.rdm_crew.specs.Settling.{IsJobLane, IsReportLane}
+use Rattle.rdm_crew.specs.RunTrace.{changes_in, jobs_in, reports_in}
+use Rattle.rdm_crew.specs.Settling.{IsLaneOfOne, IsNewLaneOfOne, IsReportLane}
 use Rattle.rdm_crew.specs.Traces.{Traced}
+use Rattle.rdm_crew.specs.Watchers.{most_changes}
+use Rattle.rdm_crew.specs.Workers.{most}
+use Rattle.rdm_crew.proofs.Changing.{no_changes}
 use Rattle.rdm_crew.proofs.Drawing.{no_jobs, no_reports}
 
 nothing : (s : Start) (es : List Event) → IsBusRun s [] es → es ≡ []
@@ -41,22 +46,40 @@ drawn d a b trace lane =
 none_put : (p : ℕ) (es : List Event) (post : PostState Job) → es ≡ [] → post.items ≡ [] → post.items ≡ jobs_of p (jobs_in es)
 none_put p es post none items = items ∙ sym (ap (λ (l : List Event). jobs_of p (jobs_in l)) none ∙ ap (jobs_of p) no_jobs)
 
-pub tied : (d : Desk) (first second : PostState Job) (first_jobs second_jobs : TakeState Job) (a b : PostState Report)
-    → IsTrace (began d) [] d.system → IsJobLane first_jobs first → IsJobLane second_jobs second → IsReportLane d.reports a b
-    → IsTied (record { desk = d; first = first; second = second }) × (d.system.trace ≡ [])
-tied d first second first_jobs second_jobs a b trace one two reports =
-    let none : d.system.trace ≡ [] = nothing (began d) d.system.trace trace.run in (
+pub tied : (c : Crew) (first_jobs second_jobs : TakeState Job) (a b : PostState Report)
+    → IsTrace (began c.desk) [] c.desk.system → IsNewLaneOfOne most first_jobs c.first → IsNewLaneOfOne most second_jobs c.second → IsReportLane c.desk.reports a b
+    → IsTied c × (c.desk.system.trace ≡ [])
+tied c first_jobs second_jobs a b trace one two reports =
+    let none : c.desk.system.trace ≡ [] = nothing (began c.desk) c.desk.system.trace trace.run in (
       record {
-        drawn = drawn d a b trace reports;
+        drawn = drawn c.desk a b trace reports;
         jobs = (
-          none_put 0 d.system.trace first none (ap (λ (p : PostState Job). p.items) one.1),
-          none_put 1 d.system.trace second none (ap (λ (p : PostState Job). p.items) two.1),
+          none_put 0 c.desk.system.trace c.first none (ap (λ (p : PostState Job). p.items) one.1),
+          none_put 1 c.desk.system.trace c.second none (ap (λ (p : PostState Job). p.items) two.1),
         );
         first_limit = ap (λ (p : PostState Job). p.limit) one.1;
         second_limit = ap (λ (p : PostState Job). p.limit) two.1;
       },
       none,
     )
+
+no_changes_taken : items_from {T = Change} 0 [] ≡ []
+unfolding items_of
+no_changes_taken = refl
+
+-- nothing was taken of the panel, and nothing has happened there
+pub unchanged : (d : Desk) (changes : TakeState Change) (post : PostState Change) → IsTrace (began d) [] d.system → IsNewLaneOfOne most_changes changes post → HasChanges d changes × IsLaneOfOne changes post
+unchanged d changes post trace lane = (
+  (
+    ap (λ (t : TakeState Change). items_from 0 t.taken) lane.0 ∙ no_changes_taken ∙ sym (ap changes_in (nothing (began d) d.system.trace trace.run) ∙ no_changes),
+    ap (λ (t : TakeState Change). t.posts) lane.0,
+  ),
+  record {
+    lane = ap (λ (p : PostState Change). p.lane) lane.1;
+    producer = ap (λ (p : PostState Change). p.producer) lane.1;
+    posts = ap (λ (t : TakeState Change). t.posts) lane.0;
+  },
+)
 
 pub laws : (s : Start) (r : Result Traced RunError) → BusLawsHold → IfOk r (λ t. (bus : List Step) × IsBusRun s bus t.events) → IfOk r (λ t. BusLaws s t.events)
 laws s (Ok t) hold run = hold s run.0 t.events run.1

@@ -1,5 +1,6 @@
 -- The bus thread's ends of all three lanes, and what has happened on the bus.
 use Rattle.std.specs.Prelude.{◌≡◌, List, [], ◌∷◌, ◌++◌, Some}
+use Rattle.rdm_params.specs.declared.panel.Change.{Change}
 use Rattle.rdm_outbox.specs.declared.job.Job.{Job}
 use Rattle.rdm_outbox.specs.Jobs.{jobs_of}
 use Rattle.rdm_bus.specs.declared.event.Event.{Event}
@@ -8,19 +9,24 @@ use Rattle.rdm_bus.specs.declared.event.Step.TheVariants as bus
 use Rattle.rdm_bus.specs.declared.system.PlayError.TheVariants as refused
 use Rattle.rdm_bus.specs.BusRun.{IsPlayed}
 use Rattle.rdm_bus.specs.Systems.{refusal_in}
-use Rattle.rdm_lane.specs.Ends.{PostState, IsSamePost}
+use Rattle.rdm_lane.specs.Ends.{PostState, TakeState, IsSamePost, IsSameTake}
+use Rattle.rdm_lane.specs.Lane.{items_from}
 use Rattle.rdm_crew.specs.declared.crew.Crew.{Crew}
 use Rattle.rdm_crew.specs.declared.desk.Desk.{Desk}
 use Rattle.rdm_crew.specs.declared.step.CrewStep.{CrewStep}
 use Rattle.rdm_crew.specs.declared.stop.Stop.{Stop}
 use Rattle.rdm_crew.specs.declared.stop.Stop.TheVariants as stop
 use Rattle.rdm_crew.specs.Desks.{IsDrawn, IsSuspect, IsSameDesk, stands_at}
-use Rattle.rdm_crew.specs.RunTrace.{AreLast, IsPiece, IsCut, HasSettle, first_refusal, jobs_in}
+use Rattle.rdm_crew.specs.RunTrace.{AreLast, IsPiece, IsCut, HasSettle, first_refusal, jobs_in, changes_in}
 use Rattle.rdm_crew.specs.Workers.{most}
 
 -- Each worker's jobs were put into its lane, in order.
 abbrev pub HasJobs : Desk → PostState Job → PostState Job → Type 0
 HasJobs d first second = (first.items ≡ jobs_of 0 (jobs_in d.system.trace)) × (second.items ≡ jobs_of 1 (jobs_in d.system.trace))
+
+-- The changes that were taken from the panel's lane are those that have happened, in order.
+abbrev pub HasChanges : Desk → TakeState Change → Type 0
+HasChanges d changes = (items_from 0 changes.taken ≡ changes_in d.system.trace) × (changes.posts ≡ 1)
 
 -- What was put into the lanes and taken from them is what the trace tells.
 pub record IsTied (c : Crew) : Type 0 where
@@ -31,17 +37,24 @@ pub record IsTied (c : Crew) : Type 0 where
 
 -- they are the same ends of the same lanes, in the same run
 abbrev pub IsSameCrew : Crew → Crew → Type 0
-IsSameCrew c d = IsSameDesk c.desk d.desk × IsSamePost c.first d.first × IsSamePost c.second d.second
+IsSameCrew c d =
+    IsSameDesk c.desk d.desk × IsSamePost c.first d.first × IsSamePost c.second d.second × IsSameTake c.changes d.changes
 
 -- a command or a poll is played
 abbrev pub IsSent : Step → Type 0
 IsSent (bus.Ask c fault) = Unit {0}
 IsSent (bus.Collect fault) = Unit {0}
 IsSent (bus.Arrive r) = ⊥
+IsSent (bus.Change change) = ⊥
 
 -- .. and is the one event since
 abbrev pub HasSent : Step → Desk → Desk → Type 0
 HasSent step d e = (event : Event) × (e.system.trace ≡ d.system.trace ++ event ∷ []) × IsPlayed (stands_at d) step event
+
+-- a change has happened since, and nothing else
+abbrev pub HasChanged : Change → Desk → Desk → Type 0
+HasChanged change d e =
+    (event : Event) × (e.system.trace ≡ d.system.trace ++ event ∷ []) × IsPlayed (stands_at d) (bus.Change change) event
 
 -- why a command or a poll isn't played to its end
 abbrev pub IsRefused : Step → Stop → Type 0

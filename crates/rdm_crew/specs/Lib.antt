@@ -8,3 +8,4 @@ pub mod Traces
 pub mod Desks
 pub mod Crews
 pub mod Settling
+pub mod Watchers

@@ -3,6 +3,7 @@
 use Rattle.std.specs.Prelude.{◌≡◌, ◌≢◌, ℕ, ◌≤◌, ◌==◌, List, [], ◌∷◌, ◌++◌, length, filter, All, slice_get, true, Option, Some, None}
 use Rattle.std.specs.Option.{option_or, option_to_list}
 use Rattle.std.specs.List.{flat_map}
+use Rattle.rdm_params.specs.declared.panel.Change.{Change}
 use Rattle.rdm_params.specs.declared.slow.outcome.Outcome.{Outcome}
 use Rattle.rdm_params.specs.Commands.Commands.{command_of}
 use Rattle.rdm_params.specs.Slow.Outcome.{fits}
@@ -13,7 +14,7 @@ use Rattle.rdm_outbox.specs.Jobs.{jobs_of, outstanding_count}
 use Rattle.rdm_responder.specs.declared.report.Report.{Report}
 use Rattle.rdm_responder.specs.Runs.{outbox_of}
 use Rattle.rdm_bus.specs.declared.event.Event.{Event}
-use Rattle.rdm_bus.specs.declared.event.Event.TheVariants.{Bus, Arrived}
+use Rattle.rdm_bus.specs.declared.event.Event.TheVariants.{Bus, Arrived, Changed}
 use Rattle.rdm_bus.specs.declared.event.Step.TheVariants as bus
 use Rattle.rdm_bus.specs.declared.fault.Fault.{Fault}
 use Rattle.rdm_bus.specs.declared.fault.Fault.TheVariants as fault
@@ -25,8 +26,9 @@ use Rattle.rdm_crew.specs.declared.error.RunError.{RunError}
 use Rattle.rdm_crew.specs.declared.error.RunError.TheVariants as run
 use Rattle.rdm_crew.specs.declared.setup.Setup.{Setup}
 use Rattle.rdm_crew.specs.declared.step.CrewStep.{CrewStep}
-use Rattle.rdm_crew.specs.declared.step.CrewStep.TheVariants.{Ask, Collect, Draw, Settle}
+use Rattle.rdm_crew.specs.declared.step.CrewStep.TheVariants.{Ask, Collect, Draw, Settle, Panel}
 use Rattle.rdm_crew.specs.Setups.{switched_on}
+use Rattle.rdm_crew.specs.Watchers.{AreOffered}
 use Rattle.rdm_crew.specs.Workers.{Answers}
 
 -- ---- pieces
@@ -40,13 +42,19 @@ AreArrivals s (e ∷ es) = ((r : Report) × IsPlayed s (bus.Arrive r) e) × AreA
 abbrev pub AreLast : Start → List Event → Type 0
 AreLast s es = AreArrivals s es × (outstanding_count (outbox_of (after_all s es).history) ≡ 0)
 
--- What happens at a step: a command or a poll is one transaction; at most one report arrives; or reports arrive until no
--- job is outstanding.
+-- Changes at the fixture's panel happen, and nothing else happens.
+abbrev pub AreChanges : Start → List Event → Type 0
+AreChanges s [] = Unit {0}
+AreChanges s (e ∷ es) = ((c : Change) × IsPlayed s (bus.Change c) e) × AreChanges (after s e) es
+
+-- What happens at a step: a command or a poll is one transaction; at most one report arrives; reports arrive until no
+-- job is outstanding; or at most one change happens.
 abbrev pub IsPiece : Start → CrewStep → List Event → Type 0
 IsPiece s (Ask c fault) es = (event : Event) × (es ≡ event ∷ []) × IsPlayed s (bus.Ask c fault) event
 IsPiece s (Collect fault) es = (event : Event) × (es ≡ event ∷ []) × IsPlayed s (bus.Collect fault) event
 IsPiece s Draw es = AreArrivals s es × (length es ≤ 1)
 IsPiece s (Settle empties) es = AreLast s es
+IsPiece s (Panel empties) es = AreChanges s es × (length es ≤ 1)
 
 -- There is a piece for each step, in order. After the last step reports arrive until no job is outstanding.
 abbrev pub IsCut : Start → List CrewStep → List Event → Type 0
@@ -60,17 +68,28 @@ IsCut s (step ∷ steps) es =
 abbrev pub started_in : Event → List Job
 started_in (Bus sent poll fault reply job heard) = option_to_list job
 started_in (Arrived report message kept) = []
+started_in (Changed change message) = []
 
 abbrev pub arrived_in : Event → List Report
 arrived_in (Bus sent poll fault reply job heard) = []
 arrived_in (Arrived report message kept) = report ∷ []
+arrived_in (Changed change message) = []
 
--- all jobs that were accepted, and all reports that arrived, in order
+-- the change at the panel that happens in an event
+abbrev pub changed_in : Event → List Change
+changed_in (Bus sent poll fault reply job heard) = []
+changed_in (Arrived report message kept) = []
+changed_in (Changed change message) = change ∷ []
+
+-- all jobs that were accepted, all reports that arrived, and all changes that happened, in order
 unfoldable pub jobs_in : List Event → List Job
 jobs_in events = flat_map started_in events
 
 unfoldable pub reports_in : List Event → List Report
 reports_in events = flat_map arrived_in events
+
+unfoldable pub changes_in : List Event → List Change
+changes_in events = flat_map changed_in events
 
 -- the reports on jobs of a worker
 abbrev pub reports_of : ℕ → List Report → List Report
@@ -84,12 +103,13 @@ pub record IsAnswered (worker : ℕ) (gives : Job → Outcome → Type 0) (event
 
 -- ---- runs
 
--- A run of a setup, of the first worker's part and the second's, and of these steps, from the moment that the device is
--- switched on.
-pub record IsRunTrace (setup : Setup) (gives_0 gives_1 : Job → Outcome → Type 0) (steps : List CrewStep) (events : List Event) : Type 0 where
+-- A run of a setup, of the first worker's part and the second's, of what the panel offers, and of these steps, from the
+-- moment that the device is switched on. The changes that happened are offered for 0, 1, 2 and so on.
+pub record IsRunTrace (setup : Setup) (gives_0 gives_1 : Job → Outcome → Type 0) (offers : ℕ → Change → Type 0) (steps : List CrewStep) (events : List Event) : Type 0 where
   pub cut : IsCut (switched_on setup) steps events
   pub first : IsAnswered 0 gives_0 events
   pub second : IsAnswered 1 gives_1 events
+  pub changes : AreOffered offers 0 (changes_in events)
 
 -- ---- refusals
 
@@ -99,6 +119,7 @@ refusal_at (Ask c fault) = refusal_in (bus.Ask c fault)
 refusal_at (Collect fault) = None
 refusal_at Draw = None
 refusal_at (Settle empties) = None
+refusal_at (Panel empties) = None
 
 -- why steps are never all played: the first that isn't
 abbrev pub first_refusal : List CrewStep → Option PlayError
@@ -125,6 +146,7 @@ fault_at (Ask c fault) = fault
 fault_at (Collect fault) = fault
 fault_at Draw = fault.None
 fault_at (Settle empties) = fault.None
+fault_at (Panel empties) = fault.None
 
 -- No fault of the steps raises a slot by 0.
 abbrev pub HaveFaults : List CrewStep → Type 0

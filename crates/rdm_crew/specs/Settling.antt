@@ -8,20 +8,20 @@ use Rattle.rdm_lane.specs.Lane.{of, put_closed, IsPrefix}
 use Rattle.rdm_crew.specs.declared.worker.Worked.{Worked}
 use Rattle.rdm_crew.specs.Workers.{most}
 
--- the two ends of a new job lane
-abbrev pub IsJobLane : TakeState Job → PostState Job → Type 0
-IsJobLane jobs post = (jobs ≡ take_state jobs.lane 1 []) × (post ≡ new_post jobs.lane 0 most)
+-- the two ends of a new lane with one post, which may put as many items
+abbrev pub IsNewLaneOfOne : {T : Type 0} → ℕ → TakeState T → PostState T → Type 0
+IsNewLaneOfOne limit take post = (take ≡ take_state take.lane 1 []) × (post ≡ new_post take.lane 0 limit)
 
 -- the three ends of a new report lane
 abbrev pub IsReportLane : TakeState Report → PostState Report → PostState Report → Type 0
 IsReportLane reports first second =
     (reports ≡ take_state reports.lane 2 []) × (first ≡ new_post reports.lane 0 most) × (second ≡ new_post reports.lane 1 most)
 
--- A job lane's two ends are of one lane, with one post.
-pub record IsLaneOfJobs (jobs : TakeState Job) (post : PostState Job) : Type 0 where
-  pub lane : post.lane ≡ jobs.lane
+-- The two ends of a lane with one post.
+pub record IsLaneOfOne {T : Type 0} (take : TakeState T) (post : PostState T) : Type 0 where
+  pub lane : post.lane ≡ take.lane
   pub producer : post.producer ≡ 0
-  pub posts : jobs.posts ≡ 1
+  pub posts : take.posts ≡ 1
 
 -- The report lane's three ends are of one lane, with posts 0 and 1.
 pub record IsLaneOfReports (reports : TakeState Report) (first second : PostState Report) : Type 0 where
@@ -43,6 +43,6 @@ pub record IsSettled (worker : ℕ) (post : PostState Job) (reports : TakeState 
 -- All ends of the three lanes: of the report lane and of both job lanes those that the bus thread has, and of each worker
 -- that of its job lane and its post of the report lane.
 pub record AreLanes (taker : TakeState Report) (first_post second_post : PostState Job) (first_jobs : TakeState Job) (first_reports : PostState Report) (second_jobs : TakeState Job) (second_reports : PostState Report) : Type 0 where
-  pub first : IsLaneOfJobs first_jobs first_post
-  pub second : IsLaneOfJobs second_jobs second_post
+  pub first : IsLaneOfOne first_jobs first_post
+  pub second : IsLaneOfOne second_jobs second_post
   pub reports : IsLaneOfReports taker first_reports second_reports

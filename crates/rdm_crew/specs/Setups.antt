@@ -1,5 +1,6 @@
 -- Where the bus of a run stands at first, and which setups can't be run.
-use Rattle.std.specs.Prelude.{◌≡◌, ◌⊎◌, ℕ, false}
+use Rattle.std.specs.Prelude.{◌≡◌, ◌⊎◌, true, false}
+use Rattle.rdm_frame.specs.Addressing.{is_broadcast}
 use Rattle.rdm_params.specs.Device.Profiles.{CanBeMade}
 use Rattle.rdm_responder.specs.History.{empty_history}
 use Rattle.rdm_responder.specs.StandsFor.{IsQueueSize}
@@ -17,13 +18,9 @@ switched_on s = record {
   unanswered = false;
 }
 
--- a UID that addresses more than one device. E1.20 section 6.2.4.
-abbrev pub every_device : ℕ
-every_device = 0xFFFFFFFF
-
 -- The controller's UID is a broadcast or the device's; or there is no such device: its UID is a broadcast, its size of the
 -- queue is none, or its profile breaks a rule.
 abbrev pub IsBadSetup : Setup → Type 0
 IsBadSetup s =
-    (s.controller.device ≡ every_device) ⊎ (s.controller ≡ s.device)
-    ⊎ (s.device.device ≡ every_device) ⊎ (¬ IsQueueSize s.queue_size) ⊎ (¬ CanBeMade s.profile)
+    (is_broadcast s.controller ≡ true) ⊎ (s.controller ≡ s.device)
+    ⊎ (is_broadcast s.device ≡ true) ⊎ (¬ IsQueueSize s.queue_size) ⊎ (¬ CanBeMade s.profile)

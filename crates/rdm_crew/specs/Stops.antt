@@ -11,6 +11,7 @@ stop_of refused.OutOfMemory = stop.OutOfMemory
 stop_of refused.Reserved = stop.Reserved
 stop_of refused.TooLong = stop.TooLong
 stop_of refused.Astray = stop.Astray
+stop_of refused.NoRoom = stop.Astray
 
 abbrev pub error_of : Stop → RunError
 error_of stop.OutOfMemory = run.OutOfMemory

@@ -1,43 +1,48 @@
-//! The end of a run: the workers are joined, and their lanes settled.
+//! The end of a run: the workers and the watcher of the panel are joined, and their lanes settled.
 
 ghost use Rattle.std.specs.Prelude.{◌≡◌, ◌≢◌, IfOk, IfErr};
 ghost use Rattle.rdm_bus.specs.BusLaws.{recorded};
 ghost use Rattle.rdm_lane.specs.Ends.{IsOver};
 ghost use Rattle.rdm_responder.specs.Runs.{outbox_of};
 ghost use Rattle.rdm_outbox.specs.Jobs.{outstanding_count};
-ghost use Rattle.rdm_crew.specs.Crews.{HasJobs};
+ghost use Rattle.rdm_crew.specs.Crews.{HasJobs, HasChanges};
 ghost use Rattle.rdm_crew.specs.Desks.{IsDrawn, IsSuspect, stands_at};
-ghost use Rattle.rdm_crew.specs.RunTrace.{IsAnswered, FitsFor};
-ghost use Rattle.rdm_crew.specs.Settling.{AreLanes};
+ghost use Rattle.rdm_crew.specs.RunTrace.{IsAnswered, FitsFor, changes_in};
+ghost use Rattle.rdm_crew.specs.Settling.{AreLanes, IsLaneOfOne};
 ghost use Rattle.rdm_crew.specs.Stops.{error_of};
+ghost use Rattle.rdm_crew.specs.Watchers.{AreOffered};
 
 use crate::desk::Desk;
-use crate::settling::settle;
+use crate::settling::{settle, settle_one};
 use crate::stop::Stop;
+use crate::watcher::{Watched, Watches};
 use crate::worker::{Worked, Works};
-use crate::{Part, RunError, Trace};
-use rdm_lane::ClosedPost;
+use crate::{Panel, Part, RunError, Trace};
+use rdm_lane::{ClosedPost, Take};
 use rdm_outbox::Job;
-use rdm_params::started_work_is_its_command;
+use rdm_params::{Change, started_work_is_its_command};
 use std::alloc::Global;
 use std::sync::Wait;
 use std::thread::{PromisedHandle, Threads};
 
-/// What is left of a run when its job lanes are closed: the bus, and workers that end.
+/// What is left of a run when its job lanes are closed: the bus, and workers and a watcher that end.
 #[derive(Drop)]
-pub(crate) struct Closing<P: Part, Q: Part> {
+pub(crate) struct Closing<P: Part, Q: Part, N: Panel> {
     pub(crate) desk: Desk,
     pub(crate) first: ClosedPost<Job>,
     pub(crate) second: ClosedPost<Job>,
+    pub(crate) changes: Take<Change>,
     pub(crate) first_worker: PromisedHandle<Worked, Works<P>>,
     pub(crate) second_worker: PromisedHandle<Worked, Works<Q>>,
+    pub(crate) watcher: PromisedHandle<Watched, Watches<N>>,
 }
 
-impl<P: Part, Q: Part> Closing<P, Q> {
+impl<P: Part, Q: Part, N: Panel> Closing<P, Q, N> {
     /// Ends a run whose reports were all drawn.
     pub(crate) fn finish<R: Threads + Wait>(self, rt: &R, alloc: Global) -> Result<Trace, RunError>
         requires drawn { IsDrawn self.desk × IsOver self.desk.reports }
         requires jobs { HasJobs self.desk self.first self.second }
+        requires changes { HasChanges self.desk self.changes × IsLaneOfOne self.changes self.watcher.promise.changes.value }
         requires lanes { AreLanes self.desk.reports self.first self.second
             self.first_worker.promise.jobs.value self.first_worker.promise.reports.value
             self.second_worker.promise.jobs.value self.second_worker.promise.reports.value }
@@ -46,14 +51,17 @@ impl<P: Part, Q: Part> Closing<P, Q> {
         ensures last { IfOk result (λ trace. outstanding_count (outbox_of (stands_at self.desk).history) ≡ 0) }
         ensures first { IfOk result (λ trace. IsAnswered 0 (P.gives self.first_worker.promise.part.value) self.desk.system.trace) }
         ensures second { IfOk result (λ trace. IsAnswered 1 (Q.gives self.second_worker.promise.part.value) self.desk.system.trace) }
+        ensures changes { IfOk result (λ trace. AreOffered (N.offers self.watcher.promise.panel.value) 0 (changes_in self.desk.system.trace)) }
         ensures err { IfErr result (λ e. e ≡ RunError.OutOfMemory) }
     {
         let Closing {
             desk,
             first,
             second,
+            changes,
             first_worker,
             second_worker,
+            watcher,
         } = self;
         let Desk {
             setup: _setup,
@@ -62,10 +70,12 @@ impl<P: Part, Q: Part> Closing<P, Q> {
         } = desk;
         let a = first_worker.join(rt);
         let b = second_worker.join(rt);
+        let watched = watcher.join(rt);
         let first_refused = a.refused;
         let second_refused = b.refused;
         settle(rt, alloc, first, second, reports, a, b)?;
-        if first_refused || second_refused {
+        settle_one(rt, alloc, changes, watched.changes)?;
+        if first_refused || second_refused || watched.refused {
             return Err(RunError::OutOfMemory);
         }
         if system.responder().outstanding() > 0 {
@@ -90,6 +100,7 @@ impl<P: Part, Q: Part> Closing<P, Q> {
         }
         let _ = self.first_worker.join(rt);
         let _ = self.second_worker.join(rt);
+        let _ = self.watcher.join(rt);
         RunError::from(stop)
     }
 
@@ -106,14 +117,17 @@ impl<P: Part, Q: Part> Closing<P, Q> {
             mut desk,
             first,
             second,
+            changes: _changes,
             first_worker,
             second_worker,
+            watcher,
         } = self;
         // A job that starts is a slow command.
         started_work_is_its_command();
         let drained = desk.drain(rt);
         let a = first_worker.join(rt);
         let b = second_worker.join(rt);
+        let _ = watcher.join(rt);
         let Desk {
             setup: _setup,
             system: _system,

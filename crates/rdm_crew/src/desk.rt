@@ -50,6 +50,8 @@ impl Desk {
                 // Commands alone are refused so.
                 Err(PlayError::Reserved) => unreachable!(),
                 Err(PlayError::TooLong) => unreachable!(),
+                // A change alone is.
+                Err(PlayError::NoRoom) => unreachable!(),
             },
             Ok(Taken::Mark { .. }) => Ok(Drawn::Mark),
             Ok(Taken::Empty) => Ok(Drawn::Empty),

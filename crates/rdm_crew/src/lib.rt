@@ -10,6 +10,7 @@ mod crew;
 mod desk;
 mod error;
 mod laws;
+mod panel;
 mod part;
 mod putting;
 mod running;
@@ -18,15 +19,14 @@ mod setup;
 mod step;
 mod stop;
 mod trace;
+mod watcher;
 mod worker;
 
 pub use error::RunError;
 pub use laws::{no_report_goes_astray, no_report_is_missing};
+pub use panel::Panel;
 pub use part::Part;
 pub use running::run;
 pub use setup::Setup;
 pub use step::CrewStep;
 pub use trace::Trace;
-
-#[cfg(test)]
-mod tests;

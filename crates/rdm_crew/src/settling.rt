@@ -1,7 +1,7 @@
-//! The settling of all three lanes, when the workers have ended.
+//! The settling of all lanes, when the workers and the watcher of the panel have ended.
 
 ghost use Rattle.std.specs.Prelude.{OnOk, ◌≡◌};
-ghost use Rattle.rdm_crew.specs.Settling.{IsTakenOf, IsSettled, IsLaneOfJobs, IsLaneOfReports, AreLanes};
+ghost use Rattle.rdm_crew.specs.Settling.{IsTakenOf, IsSettled, IsLaneOfOne, IsLaneOfReports, AreLanes};
 
 use crate::worker::Worked;
 use rdm_lane::{ClosedPost, Take, settle_up};
@@ -10,19 +10,19 @@ use rdm_responder::Report;
 use std::alloc::{AllocError, Global};
 use std::sync::Wait;
 
-/// Settles a job lane.
-fn settle_jobs<R: Wait>(
+/// Settles a lane with one post.
+pub(crate) fn settle_one<T: Copy + Send + Drop, R: Wait>(
     rt: &R,
     alloc: Global,
-    jobs: Take<Job>,
-    post: ClosedPost<Job>,
+    take: Take<T>,
+    post: ClosedPost<T>,
 ) -> Result<(), AllocError>
-    requires { IsLaneOfJobs jobs post }
-    ensures { OnOk result (IsTakenOf 0 jobs.taken post.items) }
+    requires { IsLaneOfOne take post }
+    ensures { OnOk result (IsTakenOf 0 take.taken post.items) }
 {
     let mut posts = Vec::with_capacity(alloc, 1)?;
     posts.push_reserved(post);
-    let Ok(_) = settle_up(rt, jobs, posts) else {
+    let Ok(_) = settle_up(rt, take, posts) else {
         unreachable!();
     };
     Ok(())
@@ -48,7 +48,7 @@ fn settle_reports<R: Wait>(
     Ok(())
 }
 
-/// Settles all three lanes of workers that have ended.
+/// Settles the three lanes of workers that have ended.
 pub(crate) fn settle<R: Wait>(
     rt: &R,
     alloc: Global,
@@ -72,7 +72,7 @@ pub(crate) fn settle<R: Wait>(
         reports: second_reports,
         refused: _second_refused,
     } = b;
-    settle_jobs(rt, alloc, first_jobs, first)?;
-    settle_jobs(rt, alloc, second_jobs, second)?;
+    settle_one(rt, alloc, first_jobs, first)?;
+    settle_one(rt, alloc, second_jobs, second)?;
     settle_reports(rt, alloc, reports, first_reports, second_reports)
 }

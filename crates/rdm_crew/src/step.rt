@@ -13,4 +13,7 @@ pub enum CrewStep {
     Draw,
     /// Reports arrive until no job is outstanding. So many times there may be none; the next time the run ends.
     Settle(u32),
+    /// What a person changed at the panel happens at the device, if its message has room there and a change is there. So many
+    /// times there may be none; the next time the step ends.
+    Panel(u32),
 }

@@ -25,7 +25,8 @@ impl From<PlayError> for Stop {
             PlayError::OutOfMemory => Stop::OutOfMemory,
             PlayError::Reserved => Stop::Reserved,
             PlayError::TooLong => Stop::TooLong,
-            PlayError::Astray => Stop::Astray,
+            // Neither comes of a command or a poll.
+            PlayError::Astray | PlayError::NoRoom => Stop::Astray,
         }
     }
 }

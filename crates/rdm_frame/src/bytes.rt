@@ -42,6 +42,16 @@ impl<const N: usize> Bytes<N> {
         }
     }
 
+    /// These bytes, of which there are at most `N`: for the texts of a profile, which are known beforehand.
+    pub fn of(bytes: &[u8]) -> Self
+        requires { length bytes.now ≤ N }
+        ensures { result ≡ bytes.now }
+    {
+        let mut list = Bytes::new();
+        list.append(bytes);
+        list
+    }
+
     /// These bytes, or `None` where there are more than `N`.
     pub fn from_slice(bytes: &[u8]) -> Option<Self>
         ensures fits { IsSome result ↔ (length bytes.now ≤ N) }

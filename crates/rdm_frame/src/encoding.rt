@@ -63,7 +63,7 @@ pub(crate) fn checksum_of(slots: &[u8]) -> u16
     (sum_of(slots) % 65536) as u16
 }
 
-/// The sum of the slots, by parts of eight, each of which a processor adds at once.
+/// The sum of the slots, by parts of sixteen, each of which a processor adds at once.
 // Not inlined: at a call the compiler makes it longer, to spare the few instructions of the call.
 #[inline(never)]
 #[tactic(auto, using(crate::proofs::Sums::sum_in_parts, crate::proofs::Sums::sum_is_small))]
@@ -73,15 +73,28 @@ pub fn sum_of(slots: &[u8]) -> u32
 {
     let mut total = 0;
     let mut rest = slots;
-    while let Some((eight, others)) = rest.split_first_chunk::<8>() {
-        total += sum_of_part(eight);
+    while let Some((sixteen, others)) = rest.split_first_chunk::<16>() {
+        total += sum_of_part(sixteen);
         rest = others;
     }
-    total + sum_of_part(rest)
+    total + sum_of_rest(rest)
+}
+
+/// The sum of what is left after the parts of sixteen: a part of eight, if there is one, and the last slots.
+#[inline(always)]
+#[tactic(auto, using(crate::proofs::Sums::sum_in_parts, crate::proofs::Sums::sum_is_small))]
+fn sum_of_rest(slots: &[u8]) -> u32
+    requires { length slots.now ≤ 257 }
+    ensures { result ≡ sum slots.now }
+{
+    match slots.split_first_chunk::<8>() {
+        Some((eight, others)) => sum_of_part(eight) + sum_of_part(others),
+        None => sum_of_part(slots),
+    }
 }
 
 /// The sum of some of the slots.
-// Inlined: the compiler sums eight slots, of which it sees that there are eight, by one instruction.
+// Inlined: the compiler sums sixteen slots, or eight, of which it sees that there are as many, by one instruction.
 #[inline(always)]
 fn sum_of_part(slots: &[u8]) -> u32
     requires { length slots.now ≤ 257 }

@@ -13,8 +13,6 @@ mod frame;
 mod frame_view;
 mod laws;
 pub mod standard;
-#[cfg(test)]
-mod tests;
 mod uid;
 mod uid_text;
 

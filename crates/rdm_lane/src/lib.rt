@@ -13,8 +13,6 @@ mod rule;
 mod settling;
 mod take;
 mod taken;
-#[cfg(test)]
-mod tests;
 
 pub use ends::{Ends, LaneError, lane};
 pub use laws::{

@@ -1,13 +1,13 @@
 -- Entries that are shown, one after another.
 use Rattle.std.proofs.Common.{◌≡◌, ℕ, zero, suc, ◌+◌, ◌-◌, ◌*◌, ◌<◌, ◌≤◌, Bool, true, false, ◌&&◌, List, [], ◌∷◌, ◌++◌, length, get_or, set, take, drop, refl, sym, ap, ◌∙◌, append_assoc, arith}
-use Rattle.std.specs.Prelude.{flat_map, nat_lt}
+use Rattle.std.specs.Prelude.{flat_map, map, nat_lt}
 use Rattle.std.proofs.Common.{length-append}
 use Rattle.std.proofs.lemmas.Grind.{take-set_at}
 use Rattle.std.proofs.lemmas.List.{append-nil, at_drop_more, drop_all, drop-set-lt}
 use Rattle.rdm_params.specs.declared.slow.ask.Ask.{Ask}
 use Rattle.rdm_params.specs.declared.slow.status.Entry.{Entry}
 use Rattle.rdm_outbox.specs.Account.{Noted}
-use Rattle.rdm_outbox.specs.Statuses.{asks_for, first_asked, others, show, unshown, entry_slots}
+use Rattle.rdm_outbox.specs.Statuses.{asks_for, cleared, first_asked, others, show, unshown, entry_slots}
 
 -- an entry that is shown
 pub first_asked-shown : (n : ℕ) (ask : Ask) (e : Entry) (es : List Entry) → nat_lt 0 n && asks_for ask e ≡ true → first_asked n ask (e ∷ es) ≡ e ∷ first_asked (n - 1) ask es
@@ -78,3 +78,8 @@ pub unshown_after_show : (n : ℕ) (ask : Ask) (ns : List Noted) → unshown (sh
 unshown_after_show zero ask ns = refl
 unshown_after_show (suc n) ask [] = refl
 unshown_after_show (suc n) ask (x ∷ ns) = unshown-show_one n ask x ns x.shown (asks_for ask x.entry) refl refl (unshown_after_show n ask ns) (unshown_after_show (suc n) ask ns)
+
+-- once the status list was cleared, nothing is left to be shown
+pub unshown_after_clear : (ns : List Noted) → unshown (map cleared ns) ≡ []
+unshown_after_clear [] = refl
+unshown_after_clear (x ∷ xs) = unshown_after_clear xs

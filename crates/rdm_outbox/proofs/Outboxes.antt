@@ -15,8 +15,8 @@ use Rattle.rdm_outbox.specs.Jobs.{jobs_of, ended_of, after_arrive}
 use Rattle.rdm_outbox.specs.Messages.{last_or, next_of, after_next}
 use Rattle.rdm_outbox.specs.Shows.{Shows}
 use Rattle.rdm_outbox.specs.State.{State, jobs_at}
-use Rattle.rdm_outbox.specs.Statuses.{others, first_asked, status_message, status_now, after_status_now}
-use Rattle.rdm_outbox.proofs.Entries.{unshown_after_show}
+use Rattle.rdm_outbox.specs.Statuses.{after_clear, others, first_asked, status_message, status_now, after_status_now}
+use Rattle.rdm_outbox.proofs.Entries.{unshown_after_clear, unshown_after_show}
 
 -- the last of a list that was made longer
 pub last_or_push : (m x : Message) (xs : List Message) → last_or m (xs ++ x ∷ []) ≡ x
@@ -157,3 +157,20 @@ pub shows_end_of_second : (s : State) (a : Account) (worker : ℕ) (m : Message)
 shows_end_of_second s a worker m h not_first some =
     let second : worker ≡ 1 = second_worker s worker not_first some in
     rw second (second_ends s a m h (subst (λ (n : ℕ). 0 < length (jobs_at s n)) second some))
+
+-- the status list is cleared
+pub shows_clear : (s : State) (a : Account) → Shows s a → Shows (record s { unshown = [] }) (after_clear a)
+shows_clear s a h = record {
+  q = h.q;
+  jobs = h.jobs;
+  first = h.first;
+  second = h.second;
+  first_given = h.first_given;
+  second_given = h.second_given;
+  first_ended = h.first_ended;
+  second_ended = h.second_ended;
+  queue = h.queue;
+  within = h.within;
+  unshown = sym (unshown_after_clear a.noted);
+  last = h.last;
+}

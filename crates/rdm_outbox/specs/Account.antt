@@ -4,7 +4,8 @@ use Rattle.rdm_params.specs.declared.slow.message.Message.{Message}
 use Rattle.rdm_params.specs.declared.slow.status.Entry.{Entry}
 use Rattle.rdm_outbox.specs.declared.job.Job.{Job}
 
--- a status entry that was noted, and whether a status message has shown it
+-- A status entry that was noted, and whether it counts as shown: a status message has shown it, or CLEAR_STATUS_ID came
+-- after it.
 pub record Noted : Type 0 where
   pub entry : Entry
   pub shown : Bool

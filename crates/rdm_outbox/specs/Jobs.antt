@@ -36,9 +36,13 @@ numbered number work = record { number = number; work = work }
 abbrev pub next_job : Account → Work → Job
 next_job a work = numbered (length (jobs_of (worker_of work) a.accepted)) work
 
--- The room rule: outstanding jobs and waiting messages are fewer than q, and the worker may be given a further job.
+-- There is a place for one more: outstanding jobs and waiting messages are fewer than q.
+abbrev pub has_place : Account → Bool
+has_place a = nat_lt (outstanding_count a + length (waiting_of a)) a.q
+
+-- The room rule: there is a place, and the worker may be given a further job.
 abbrev pub has_room : Account → Work → Bool
-has_room a work = nat_lt (outstanding_count a + length (waiting_of a)) a.q && nat_lt (next_job a work).number a.jobs
+has_room a work = has_place a && nat_lt (next_job a work).number a.jobs
 
 -- what `reserve` answers, and the account after it
 abbrev pub reserved : Account → Work → Result Job Full

@@ -35,6 +35,10 @@ after_next a ask =
     if nat_lt a.given (length a.arrived) then record a { given = a.given + 1; answers = a.answers ++ next_of a ask ∷ [] }
     else after_status_now a ask
 
+-- The account after a message was posted that tells of no job. No job ends by it.
+abbrev pub after_post : Account → Message → Account
+after_post a message = record a { arrived = a.arrived ++ message ∷ [] }
+
 -- the answer to QUEUED_MESSAGE, and the account after it
 abbrev pub dispensed : Account → Ask → Message
 dispensed a ask = if is_last ask then last_of a else next_of a ask

@@ -1,5 +1,5 @@
 -- What a contract sees of an outbox.
-use Rattle.std.specs.Prelude.{ℕ, ◌+◌, ◌≤◌, ◌==◌, List, [], length, if◌then◌else◌}
+use Rattle.std.specs.Prelude.{ℕ, ◌+◌, ◌≤◌, ◌==◌, Bool, List, [], length, nat_lt, if◌then◌else◌}
 use Rattle.rdm_params.specs.declared.slow.message.Message.{Message}
 use Rattle.rdm_params.specs.declared.slow.status.Entry.{Entry}
 use Rattle.rdm_outbox.specs.declared.job.Job.{Job}
@@ -21,9 +21,17 @@ pub record State : Type 0 where
 abbrev pub jobs_at : State → ℕ → List Job
 jobs_at s worker = if worker == 0 then s.first else (if worker == 1 then s.second else [])
 
+-- whether there is a place for one more: the jobs and the messages are fewer than q
+abbrev pub place_in : State → Bool
+place_in s = nat_lt (length s.first + length s.second + length s.queue) s.q
+
+-- the greatest number of jobs and messages together that an outbox may have room for
+abbrev pub most_waiting : ℕ
+most_waiting = 1024
+
 -- How far the lists and counts of an outbox go: for each outstanding job there is room for its message.
 pub record HasRoom (s : State) : Type 0 where
-  pub most : s.q ≤ 255
+  pub most : s.q ≤ most_waiting
   pub room : length s.first + length s.second + length s.queue ≤ s.q
   pub first_given : s.first_given ≤ s.jobs
   pub second_given : s.second_given ≤ s.jobs
@@ -31,4 +39,4 @@ pub record HasRoom (s : State) : Type 0 where
 
 -- how many jobs and messages there may be room for, and jobs for each worker
 abbrev pub IsOutboxSize : ℕ → ℕ → Type 0
-IsOutboxSize q jobs = (1 ≤ q) × (q ≤ 255) × (1 ≤ jobs)
+IsOutboxSize q jobs = (1 ≤ q) × (q ≤ most_waiting) × (1 ≤ jobs)

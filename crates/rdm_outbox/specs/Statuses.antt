@@ -8,7 +8,7 @@ use Rattle.rdm_params.specs.Slow.Severities.{rank_of, severity_code}
 use Rattle.rdm_params.specs.Device.Values.{word_slots}
 use Rattle.rdm_outbox.specs.Account.{Account, Noted}
 
--- the entries that no status message has shown, in order
+-- the entries that are still to be shown, in order
 abbrev pub unshown : List Noted → List Entry
 unshown noted = map (λ n. n.entry) (filter (λ n. not n.shown) noted)
 
@@ -46,6 +46,14 @@ show (suc n) ask [] = []
 show (suc n) ask (x ∷ xs) =
     if not x.shown && asks_for ask x.entry then record { entry = x.entry; shown = true } ∷ show n ask xs
     else x ∷ show (suc n) ask xs
+
+-- the entry, which now counts as shown
+abbrev pub cleared : Noted → Noted
+cleared n = record n { shown = true }
+
+-- The account after CLEAR_STATUS_ID: every entry that was noted so far counts as shown. Section 10.3.4.
+abbrev pub after_clear : Account → Account
+after_clear a = record a { noted = map cleared a.noted }
 
 -- The nine slots of an entry: sub-device, status type, status ID and two values.
 abbrev pub entry_slots : Entry → List ℕ

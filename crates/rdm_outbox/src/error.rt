@@ -8,7 +8,7 @@ pub enum NewError {
     /// Memory was refused.
     #[error("out of memory")]
     OutOfMemory,
-    /// The number of jobs and messages isn't 1 to 255, or no worker may be given a job.
+    /// The number of jobs and messages isn't 1 to 1,024, or no worker may be given a job.
     #[error("bad outbox size")]
     BadSize,
 }

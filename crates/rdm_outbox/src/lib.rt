@@ -18,7 +18,4 @@ pub use dispensed::Dispensed;
 pub use error::NewError;
 pub use job::{Full, Job};
 pub use laws::jobs_are_equal_by_value;
-pub use outbox::Outbox;
-
-#[cfg(test)]
-mod tests;
+pub use outbox::{MOST_WAITING, Outbox};

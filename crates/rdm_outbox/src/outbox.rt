@@ -1,13 +1,14 @@
 //! The outbox.
 
-ghost use Rattle.std.specs.Prelude.{◌≡◌, ◌↔◌, ◌<◌, ◌≤◌, ◌+◌, not, length, min, IfOk, IfSome, MatchOption, Err, slice_get, option_copied};
+ghost use Rattle.std.specs.Prelude.{◌≡◌, ◌↔◌, ◌<◌, ◌≤◌, ◌+◌, [], ◌∷◌, ◌++◌, not, length, min, IsTrue, IfOk, IfSome, MatchOption, Err, slice_get, option_copied};
 ghost use Rattle.circular_buffer.specs.Buffer.{buffer};
 ghost use Rattle.rdm_outbox.specs.Account.{Account, account_before};
-ghost use Rattle.rdm_outbox.specs.Jobs.{outstanding_of, outstanding_count, waiting_of, reserved, after_reserve, after_arrive};
-ghost use Rattle.rdm_outbox.specs.Messages.{is_last, last_of, next_of, after_next, dispensed, after_dispense, status_dispensed, after_status};
+ghost use Rattle.rdm_outbox.specs.Jobs.{outstanding_of, outstanding_count, waiting_of, has_place, reserved, after_reserve, after_arrive};
+ghost use Rattle.rdm_outbox.specs.Messages.{is_last, last_of, next_of, after_next, after_post, dispensed, after_dispense, status_dispensed, after_status};
 ghost use Rattle.rdm_outbox.specs.Shows.{Shows};
-ghost use Rattle.rdm_outbox.specs.State.{IsOutboxSize, jobs_at};
-ghost use Rattle.rdm_outbox.specs.Statuses.{can_note, after_note, status_now, after_status_now};
+ghost use Rattle.rdm_outbox.specs.State.{IsOutboxSize, jobs_at, place_in};
+ghost use Rattle.rdm_params.specs.Slow.Work.{worker_of};
+ghost use Rattle.rdm_outbox.specs.Statuses.{after_clear, can_note, after_note, status_now, after_status_now};
 
 use crate::giving::give;
 use crate::room::{drop_first, put};
@@ -18,8 +19,8 @@ use rdm_params::{Ask, Entry, Message, Work, worker_of};
 use std::alloc::Global;
 use std::marker::Model;
 
-/// The greatest number of jobs and messages that an outbox may have room for.
-const MOST_WAITING: u16 = 255;
+/// The greatest number of jobs and messages together that an outbox may have room for.
+pub const MOST_WAITING: u16 = 1024;
 
 /// How many status entries are kept that weren't shown.
 const MOST_ENTRIES: usize = 1024;
@@ -53,7 +54,7 @@ impl Model for Outbox {
 impl Outbox {
     /// An empty outbox with room for `q` jobs and messages together, whose workers may each be given `jobs` jobs.
     ///
-    /// A `q` that isn't 1 to 255, or no jobs, is refused first, and then comes want of memory. No later call takes
+    /// A `q` that isn't 1 to 1,024, or no jobs, is refused first, and then comes want of memory. No later call takes
     /// memory.
     pub fn new(alloc: Global, q: u16, jobs: u32) -> Result<Self, NewError>
         ensures shows { IfOk result (λ outbox. Shows outbox (account_before q jobs)) }
@@ -110,6 +111,15 @@ impl Outbox {
         u8::try_from(self.waiting()).unwrap_or(u8::MAX)
     }
 
+    /// Whether there is a place for one more job or message: outstanding jobs and waiting messages are fewer than `q`.
+    pub fn room(&self) -> bool
+        ensures state { result ≡ place_in self.now }
+        ensures account { (a : Account) → Shows self.now a → result ≡ has_place a }
+    {
+        let places = usize::from(self.q);
+        self.outstanding() + self.waiting() < places
+    }
+
     /// The messages that wait, the first of them at the front.
     pub fn waiting_ring(&self) -> &HeapCircularBuffer<Message>
         ensures queue { result.now ≡ buffer self.now.queue self.now.q }
@@ -137,10 +147,19 @@ impl Outbox {
         ensures answer { (a : Account) → Shows self.old a → result ≡ reserved a work }
         ensures shows { (a : Account) → Shows self.old a → Shows self.new (after_reserve a work) }
     {
-        if self.outstanding() + self.waiting() >= usize::from(self.q) {
+        self.reserve_for(worker_of(&work), work)
+    }
+
+    /// Accepts a job as `reserve` does, for a caller that knows the worker of its work.
+    pub fn reserve_for(&mut self, worker: u8, work: Work) -> Result<Job, Full>
+        requires { worker ≡ worker_of work }
+        ensures answer { (a : Account) → Shows self.old a → result ≡ reserved a work }
+        ensures shows { (a : Account) → Shows self.old a → Shows self.new (after_reserve a work) }
+    {
+        if !self.room() {
             return Err(Full::NoRoom);
         }
-        if worker_of(&work) == 0 {
+        if worker == 0 {
             give(&mut self.first, &mut self.first_given, self.jobs, work)
         } else {
             give(&mut self.second, &mut self.second_given, self.jobs, work)
@@ -184,6 +203,25 @@ impl Outbox {
         }
         self.unshown.push_reserved(entry);
         true
+    }
+
+    /// Puts a message that tells of no job at the back of the queue. There must be room for it.
+    pub fn post(&mut self, message: Message)
+        requires { IsTrue (place_in self.old) }
+        ensures state { self.new ≡ record self.old { queue = self.old.queue ++ message ∷ [] } }
+        ensures shows { (a : Account) → Shows self.old a → Shows self.new (after_post a message) }
+    {
+        // By the condition there is room, so no message is overwritten.
+        put(&mut self.queue, message);
+    }
+
+    /// Clears the status list (E1.20 section 10.3.4): no entry that was kept will be shown. The queue, the last message
+    /// and the jobs stay.
+    pub fn clear_status(&mut self)
+        ensures state { self.new ≡ record self.old { unshown = [] } }
+        ensures shows { (a : Account) → Shows self.old a → Shows self.new (after_clear a) }
+    {
+        self.unshown.clear();
     }
 
     /// Answers QUEUED_MESSAGE: the next message leaves the queue, unless the last one is asked for again.

@@ -10,22 +10,22 @@ use Rattle.rdm_params.specs.declared.nack.Nack.TheVariants.{FormatError, DataOut
 use Rattle.rdm_params.specs.declared.slow.ask.Ask.{Ask}
 use Rattle.rdm_params.specs.declared.slow.ask.Ask.TheVariants as asks
 use Rattle.rdm_params.specs.declared.slow.way.Way.{Way}
-use Rattle.rdm_params.specs.declared.slow.way.Way.TheVariants.{AtOnce, ByJob, FromQueue, FromStatus}
+use Rattle.rdm_params.specs.declared.slow.way.Way.TheVariants.{AtOnce, ByJob, FromQueue, FromStatus, Clears}
 use Rattle.rdm_params.specs.declared.slow.work.Work.{Work}
-use Rattle.rdm_params.specs.declared.value.Value.{Value}
-use Rattle.rdm_params.specs.declared.value.Value.TheVariants.{Byte}
+use Rattle.rdm_device.specs.declared.value.Value.{Value}
+use Rattle.rdm_device.specs.declared.value.Value.TheVariants.{Byte}
 use Rattle.rdm_params.specs.declared.verdict.Verdict.{Verdict}
-use Rattle.rdm_params.specs.declared.verdict.Verdict.TheVariants.{Start, Queue, Status}
+use Rattle.rdm_params.specs.declared.verdict.Verdict.TheVariants.{Start, Queue, Status, Clear}
 use Rattle.rdm_params.specs.Commands.Commands.{command_of, accepted, addressed, answered, verdict, work, known, suits, check, is_some_device, got, answer_to_set, after_set, reply_at, ◌>>=◌}
-use Rattle.rdm_params.specs.Table.Forms.{byte, read_as}
-use Rattle.rdm_params.specs.Device.Parameters.{Parameters}
-use Rattle.rdm_params.specs.Table.Ranges.{a_message_type}
+use Rattle.rdm_device.specs.Columns.Forms.{byte}
+use Rattle.rdm_device.specs.Device.Parameters.{Parameters}
+use Rattle.rdm_device.specs.Columns.Ranges.{a_message_type}
 use Rattle.rdm_params.specs.Slow.Asks.{ask_of}
-use Rattle.rdm_params.specs.Slow.Laws.{IsWorkOf, GetStartsItsWork, SetStartsItsWork, GetQueues, GetStatuses, SetFetchesNothing}
-use Rattle.rdm_params.specs.Device.Spot.{Spot}
+use Rattle.rdm_params.specs.Slow.Laws.{IsWorkOf, GetStartsItsWork, SetStartsItsWork, GetQueues, GetStatuses, SetFetchesNothing, SetClears, GetClearsNothing}
+use Rattle.rdm_device.specs.Device.Spot.{Spot}
 use Rattle.rdm_params.specs.Table.Rows.{Command}
-use Rattle.rdm_params.specs.Table.Uses.{read, way_of, is_by_job, is_slow, in_range_of}
-use Rattle.rdm_params.specs.Device.Values.{byte_or_0}
+use Rattle.rdm_params.specs.Table.Uses.{read_as, read, way_of, is_by_job, is_slow, in_range_of}
+use Rattle.rdm_device.specs.Device.Values.{byte_or_0}
 use Rattle.rdm_params.proofs.RowFacts.{FactsOfWay, Facts, facts_of}
 
 -- ---- what an answer says of the way
@@ -47,18 +47,28 @@ started_by AtOnce bytes job ask w e = absurd cc
 started_by (ByJob worker estimate) bytes job ask w e = (refl, start_is job w e)
 started_by FromQueue bytes job ask w e = absurd cc
 started_by FromStatus bytes job ask w e = absurd cc
+started_by Clears bytes job ask w e = absurd cc
 
 queued_by : (way : Way) (bytes : List ℕ) (job : Work) (ask a : Ask) → answered way bytes job ask ≡ Queue a → (way ≡ FromQueue) × (ask ≡ a)
 queued_by AtOnce bytes job ask a e = absurd cc
 queued_by (ByJob worker estimate) bytes job ask a e = absurd cc
 queued_by FromQueue bytes job ask a e = (refl, queue_is ask a e)
 queued_by FromStatus bytes job ask a e = absurd cc
+queued_by Clears bytes job ask a e = absurd cc
 
 status_by : (way : Way) (bytes : List ℕ) (job : Work) (ask a : Ask) → answered way bytes job ask ≡ Status a → way ≡ FromStatus
 status_by AtOnce bytes job ask a e = absurd cc
 status_by (ByJob worker estimate) bytes job ask a e = absurd cc
 status_by FromQueue bytes job ask a e = absurd cc
 status_by FromStatus bytes job ask a e = refl
+status_by Clears bytes job ask a e = absurd cc
+
+cleared_by : (way : Way) (bytes : List ℕ) (job : Work) (ask : Ask) → answered way bytes job ask ≡ Clear → way ≡ Clears
+cleared_by AtOnce bytes job ask e = absurd cc
+cleared_by (ByJob worker estimate) bytes job ask e = absurd cc
+cleared_by FromQueue bytes job ask e = absurd cc
+cleared_by FromStatus bytes job ask e = absurd cc
+cleared_by Clears bytes job ask e = refl
 
 -- ---- what the rows say of each way
 
@@ -67,6 +77,7 @@ takes_byte_in pid verb c AtOnce facts slow = absurd cc
 takes_byte_in pid verb c (ByJob worker estimate) facts slow = facts.1.0
 takes_byte_in pid verb c FromQueue facts slow = absurd cc
 takes_byte_in pid verb c FromStatus facts slow = absurd cc
+takes_byte_in pid verb c Clears facts slow = absurd cc
 
 takes_byte : (pid : ℕ) (verb : Verb) (o : Option Command) → Facts pid verb o → is_slow o ≡ true → (bytes : List ℕ) → read o bytes ≡ read_as byte bytes
 takes_byte pid verb None facts slow bytes = absurd cc
@@ -79,6 +90,10 @@ in_queue pid verb (Some c) facts e = subst (FactsOfWay pid verb c) e facts
 in_status : (pid : ℕ) (verb : Verb) (o : Option Command) → Facts pid verb o → way_of o ≡ FromStatus → (pid ≡ 0x0030) × (verb ≡ Get)
 in_status pid verb None facts e = absurd cc
 in_status pid verb (Some c) facts e = subst (FactsOfWay pid verb c) e facts
+
+in_clearing : (pid : ℕ) (verb : Verb) (o : Option Command) → Facts pid verb o → way_of o ≡ Clears → (pid ≡ 0x0032) × (verb ≡ Set)
+in_clearing pid verb None facts e = absurd cc
+in_clearing pid verb (Some c) facts e = subst (FactsOfWay pid verb c) e facts
 
 -- ---- what acceptance says
 
@@ -228,3 +243,22 @@ set_fetches_nothing p sub pid bytes ask = (
   λ e. set_is_no_get (queues p (after_set p sub pid bytes) sub pid Set bytes ask (accepted p sub pid Set bytes) refl e).1.0,
   λ e. set_is_no_get (statuses (after_set p sub pid bytes) sub pid Set ask (accepted p sub pid Set bytes) e).1,
 )
+
+-- ---- what clears status entries
+
+clearing : (now : Parameters) (sub pid : ℕ) (verb : Verb) (value : Result Value Nack) → verdict now sub pid verb value ≡ Clear → (pid ≡ 0x0032) × (verb ≡ Set)
+clearing now sub pid verb (Err nack) answer = absurd cc
+clearing now sub pid verb (Ok v) answer =
+    let command = command_of pid verb in
+    in_clearing pid verb command (facts_of pid verb) (cleared_by (way_of command) (reply_at command (addressed now sub verb) v) (work sub pid verb v) (ask_of (byte_or_0 v)) answer)
+
+pub set_clears : SetClears
+unfolding answer_to_set
+set_clears p sub pid bytes e = (clearing (after_set p sub pid bytes) sub pid Set (accepted p sub pid Set bytes) e).0
+
+get_is_no_set : Get ≢ Set
+get_is_no_set e = absurd cc
+
+pub get_clears_nothing : GetClearsNothing
+unfolding got
+get_clears_nothing p sub pid bytes e = get_is_no_set (clearing p sub pid Get (accepted p sub pid Get bytes) e).1

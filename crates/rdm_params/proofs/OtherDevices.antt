@@ -5,11 +5,11 @@ use Rattle.std.proofs.lemmas.Bool.{eqb-true, eqb-false}
 use Rattle.std.proofs.lemmas.List.{length-map}
 use Rattle.rdm_params.specs.declared.kind.Verb.TheVariants.{Set}
 use Rattle.rdm_params.specs.declared.nack.Nack.{Nack}
-use Rattle.rdm_params.specs.declared.value.Value.{Value}
+use Rattle.rdm_device.specs.declared.value.Value.{Value}
 use Rattle.rdm_params.specs.Commands.Commands.{command_of, accepted, after_set, after_accepted, carried_out, written, root_spot, sub_spot}
 use Rattle.rdm_params.specs.Laws.{IsSameBut, LeavesTheRest}
-use Rattle.rdm_params.specs.Device.Map.{Entry}
-use Rattle.rdm_params.specs.Device.Parameters.{Parameters}
+use Rattle.rdm_device.specs.Device.Map.{Entry}
+use Rattle.rdm_device.specs.Device.Parameters.{Parameters}
 use Rattle.rdm_params.specs.Table.Uses.{is_slow}
 
 as_many_set : (subs : List (List Entry)) (i : ℕ) (new : List Entry) → length (slice_set subs i new) ≡ length subs

@@ -5,13 +5,13 @@ use Rattle.std.specs.List.{list_all}
 use Rattle.rdm_params.specs.declared.kind.Kind.{Kind}
 use Rattle.rdm_params.specs.declared.kind.Verb.{Verb}
 use Rattle.rdm_params.specs.declared.kind.Verb.TheVariants.{Get, Set}
-use Rattle.rdm_params.specs.declared.value.Value.{Value}
-use Rattle.rdm_params.specs.declared.value.Value.TheVariants.{Pair, Named, SlotName, Mode, Reading, Sensor, Info, Block}
+use Rattle.rdm_device.specs.declared.value.Value.{Value}
+use Rattle.rdm_device.specs.declared.value.Value.TheVariants.{Pair, Named, SlotName, Mode, Reading, Sensor, Info, Block}
 use Rattle.rdm_params.specs.Commands.Commands.{in_range, addressed, command_of, is_some_device}
-use Rattle.rdm_params.specs.Table.Forms.{is_of_a_form}
+use Rattle.rdm_device.specs.Columns.Forms.{is_of_a_form}
 use Rattle.rdm_params.specs.Table.Kinds.{pid_of}
-use Rattle.rdm_params.specs.Device.Parameters.{Parameters}
-use Rattle.rdm_params.specs.Device.Spot.{Spot}
+use Rattle.rdm_device.specs.Device.Parameters.{Parameters}
+use Rattle.rdm_device.specs.Device.Spot.{Spot}
 use Rattle.rdm_params.specs.Table.Rows.{Row, table, row_in, row_of, command_in}
 use Rattle.rdm_params.specs.Table.Uses.{access, in_range_of}
 

@@ -5,18 +5,18 @@ use Rattle.std.specs.List.{list_any, AllByRecursion}
 use Rattle.std.proofs.lemmas.Bool.{eqb-true, eqb-false, ne_eqb}
 use Rattle.rdm_params.specs.declared.kind.Verb.TheVariants.{Set}
 use Rattle.rdm_params.specs.declared.nack.Nack.{Nack}
-use Rattle.rdm_params.specs.declared.value.Value.{Value}
-use Rattle.rdm_params.specs.Table.Changes.{stored_at, set_back, sensor_change, reset, record_present}
+use Rattle.rdm_device.specs.declared.value.Value.{Value}
+use Rattle.rdm_device.specs.Columns.Changes.{stored_at, set_back, sensor_change, reset, record_present}
 use Rattle.rdm_params.specs.Commands.Commands.{command_of, accepted, after_set, after_accepted, carried_out, written, root_spot, sub_spot, is_all_call}
-use Rattle.rdm_params.specs.Table.Forms.{Form, byte, word, long, preset, label, has_form}
+use Rattle.rdm_device.specs.Columns.Forms.{Form, byte, word, long, preset, label, has_form}
 use Rattle.rdm_params.specs.Laws.{keys_written, SameAt, ChangesItsKeys}
-use Rattle.rdm_params.specs.Device.Map.{Entry, has_key, lookup, update}
-use Rattle.rdm_params.specs.Device.Parameters.{Parameters}
-use Rattle.rdm_params.specs.Table.Replies.{factory_pids}
-use Rattle.rdm_params.specs.Device.Spot.{Spot}
+use Rattle.rdm_device.specs.Device.Map.{Entry, has_key, lookup, update}
+use Rattle.rdm_device.specs.Device.Parameters.{Parameters}
+use Rattle.rdm_device.specs.Columns.Replies.{factory_pids}
+use Rattle.rdm_device.specs.Device.Spot.{Spot}
 use Rattle.rdm_params.specs.Table.Rows.{Row, table, row_of, row_in, command_in}
 use Rattle.rdm_params.specs.Table.Uses.{is_slow, change}
-use Rattle.rdm_params.specs.Device.Values.{bytes_of, byte_or_0}
+use Rattle.rdm_device.specs.Device.Values.{bytes_of, byte_or_0}
 use Rattle.rdm_params.proofs.Rows.{found}
 
 -- ---- changes and lookups
@@ -87,7 +87,7 @@ idle pid spot v key apart e at = refl
 rows_only : AllByRecursion OnlyItsKeys table
 unfolding table
 rows_only =
-    (idle 0x0020, (idle 0x0030, (idle 0x0031, (idle 0x0050, (idle 0x0060, (idle 0x0080, (idle 0x0081, (stores 0x0082 label, (sets_back, (idle 0x00A0, (stores 0x00B0 word, (idle 0x00C0, (idle 0x00C1, (idle 0x00C2, (stores 0x00E0 byte, (idle 0x00E1, (stores 0x00F0 word, (idle 0x0120, (idle 0x0121, (idle 0x0122, (idle 0x0200, (senses reset, (senses record_present, (stores 0x0400 long, (stores 0x0401 long, (stores 0x0402 long, (stores 0x0403 byte, (stores 0x0404 byte, (stores 0x0405 long, (stores 0x0500 byte, (stores 0x0501 byte, (stores 0x0600 byte, (stores 0x0601 byte, (stores 0x0602 byte, (stores 0x1000 byte, (stores 0x1010 byte, (stores 0x1020 byte, (idle 0x1021, (stores 0x1031 preset, tt)))))))))))))))))))))))))))))))))))))))
+    (idle 0x0020, (idle 0x0030, (idle 0x0031, (idle 0x0032, (stores 0x0033 byte, (idle 0x0050, (idle 0x0060, (idle 0x0080, (idle 0x0081, (stores 0x0082 label, (sets_back, (idle 0x00A0, (stores 0x00B0 word, (idle 0x00C0, (idle 0x00C1, (idle 0x00C2, (stores 0x00E0 byte, (idle 0x00E1, (stores 0x00F0 word, (idle 0x0120, (idle 0x0121, (idle 0x0122, (idle 0x0200, (senses reset, (senses record_present, (stores 0x0400 long, (stores 0x0401 long, (stores 0x0402 long, (stores 0x0403 byte, (stores 0x0404 byte, (stores 0x0405 long, (stores 0x0500 byte, (stores 0x0501 byte, (stores 0x0600 byte, (stores 0x0601 byte, (stores 0x0602 byte, (stores 0x1000 byte, (stores 0x1010 byte, (stores 0x1020 byte, (idle 0x1021, (stores 0x1031 preset, tt)))))))))))))))))))))))))))))))))))))))))
 
 row_changes : (pid : ℕ) (row : Option Row) → row_in table pid ≡ row → (spot : Spot) (v : Value) (key : ℕ) → IsApart pid key → Keeps key (change (command_in row Set) spot v)
 row_changes pid None e spot v key apart = λ e at. refl

@@ -5,12 +5,12 @@ use Rattle.std.specs.Option.{option_map}
 use Rattle.std.proofs.lemmas.Bool.{ne_eqb}
 use Rattle.std.proofs.lemmas.Option.{slice_get-map}
 use Rattle.rdm_params.specs.declared.kind.Verb.{Verb}
-use Rattle.rdm_params.specs.declared.device.state.Common.{Common}
+use Rattle.rdm_device.specs.declared.device.state.Common.{Common}
 use Rattle.rdm_params.specs.Commands.Commands.{addressed, is_all_call, sub_spot}
-use Rattle.rdm_params.specs.Device.Map.{Entry}
-use Rattle.rdm_params.specs.Device.Parameters.{Parameters}
-use Rattle.rdm_params.specs.Device.Spot.{Spot}
-use Rattle.rdm_params.specs.Views.State.{common_entries}
+use Rattle.rdm_device.specs.Device.Map.{Entry}
+use Rattle.rdm_device.specs.Device.Parameters.{Parameters}
+use Rattle.rdm_device.specs.Device.Spot.{Spot}
+use Rattle.rdm_device.specs.Views.State.{common_entries}
 
 -- the entries of a sub-device
 pub at_place : (subs : List Common) (i : ℕ) → slice_get (map common_entries subs) i ≡ option_map common_entries (slice_get subs i)

@@ -4,12 +4,12 @@ use Rattle.std.specs.List.{AllByRecursion}
 use Rattle.rdm_params.specs.declared.kind.Verb.{Verb}
 use Rattle.rdm_params.specs.declared.kind.Verb.TheVariants.{Get, Set}
 use Rattle.rdm_params.specs.declared.slow.way.Way.{Way}
-use Rattle.rdm_params.specs.declared.slow.way.Way.TheVariants.{AtOnce, ByJob, FromQueue, FromStatus}
-use Rattle.rdm_params.specs.declared.value.Value.{Value}
+use Rattle.rdm_params.specs.declared.slow.way.Way.TheVariants.{AtOnce, ByJob, FromQueue, FromStatus, Clears}
+use Rattle.rdm_device.specs.declared.value.Value.{Value}
 use Rattle.rdm_params.specs.Commands.Commands.{command_of}
-use Rattle.rdm_params.specs.Table.Forms.{byte}
-use Rattle.rdm_params.specs.Table.Ranges.{a_message_type}
-use Rattle.rdm_params.specs.Device.Spot.{Spot}
+use Rattle.rdm_device.specs.Columns.Forms.{byte}
+use Rattle.rdm_device.specs.Columns.Ranges.{a_message_type}
+use Rattle.rdm_device.specs.Device.Spot.{Spot}
 use Rattle.rdm_params.specs.Table.Rows.{Command, Row, table, row_of, row_in, command_in}
 use Rattle.rdm_params.proofs.Rows.{found}
 
@@ -23,6 +23,7 @@ FactsOfWay pid verb c AtOnce = Unit {0}
 FactsOfWay pid verb c (ByJob worker estimate) = ByProfile c × ((c.form ≡ byte) × (worker < 2))
 FactsOfWay pid verb c FromQueue = (pid ≡ 0x0020) × ((verb ≡ Get) × ((s : Spot) (v : Value) → c.range s v ≡ a_message_type byte s v))
 FactsOfWay pid verb c FromStatus = (pid ≡ 0x0030) × (verb ≡ Get)
+FactsOfWay pid verb c Clears = (pid ≡ 0x0032) × (verb ≡ Set)
 
 abbrev pub Facts : ℕ → Verb → Option Command → Type 0
 Facts pid verb None = Unit {0}
@@ -37,7 +38,7 @@ quick = (tt, tt)
 rows_say : AllByRecursion RowFacts table
 unfolding table
 rows_say =
-    (((refl, (refl, λ s v. refl)), tt), (((refl, refl), tt), (quick, (quick, (quick, (quick, (quick, (quick, (quick, (quick, (quick, (quick, (quick, (quick, (quick, (quick, (quick, (quick, (quick, (quick, (quick, ((((λ s t v same. rw same refl), (refl, omega arith)), tt), (quick, (quick, (quick, (quick, ((tt, ((λ s t v same. refl), (refl, omega arith))), (quick, (quick, (quick, (quick, (quick, (quick, (quick, (quick, ((tt, ((λ s t v same. refl), (refl, omega arith))), ((tt, ((λ s t v same. rw same refl), (refl, omega arith))), (quick, (quick, tt)))))))))))))))))))))))))))))))))))))))
+    (((refl, (refl, λ s v. refl)), tt), (((refl, refl), tt), (quick, ((tt, (refl, refl)), (quick, (quick, (quick, (quick, (quick, (quick, (quick, (quick, (quick, (quick, (quick, (quick, (quick, (quick, (quick, (quick, (quick, (quick, (quick, ((((λ s t v same. rw same refl), (refl, omega arith)), tt), (quick, (quick, (quick, (quick, ((tt, ((λ s t v same. refl), (refl, omega arith))), (quick, (quick, (quick, (quick, (quick, (quick, (quick, (quick, ((tt, ((λ s t v same. refl), (refl, omega arith))), ((tt, ((λ s t v same. rw same refl), (refl, omega arith))), (quick, (quick, tt)))))))))))))))))))))))))))))))))))))))))
 
 of_verb : (pid : ℕ) (r : Row) (verb : Verb) → Facts pid Get r.get × Facts pid Set r.set → Facts pid verb (command_in (Some r) verb)
 of_verb pid r Get facts = facts.0

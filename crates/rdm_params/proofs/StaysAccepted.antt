@@ -7,18 +7,19 @@ use Rattle.rdm_params.specs.declared.kind.Verb.{Verb}
 use Rattle.rdm_params.specs.declared.kind.Verb.TheVariants.{Set}
 use Rattle.rdm_params.specs.declared.nack.Nack.{Nack}
 use Rattle.rdm_params.specs.declared.nack.Nack.TheVariants.{DataOutOfRange, SubDeviceOutOfRange}
-use Rattle.rdm_params.specs.declared.profile.Profile.{Profile}
+use Rattle.rdm_device.specs.declared.profile.Profile.{Profile}
 use Rattle.rdm_params.specs.declared.slow.outcome.Outcome.TheVariants.{Done, Reading, Failed}
 use Rattle.rdm_params.specs.declared.slow.way.Way.{Way}
-use Rattle.rdm_params.specs.declared.slow.way.Way.TheVariants.{AtOnce, ByJob, FromQueue, FromStatus}
-use Rattle.rdm_params.specs.declared.value.Value.{Value}
-use Rattle.rdm_params.specs.declared.value.Value.TheVariants.{Byte}
+use Rattle.rdm_params.specs.declared.slow.way.Way.TheVariants.{AtOnce, ByJob, FromQueue, FromStatus, Clears}
+use Rattle.rdm_device.specs.declared.value.Value.{Value}
+use Rattle.rdm_device.specs.declared.value.Value.TheVariants.{Byte}
 use Rattle.rdm_params.specs.Commands.Commands.{command_of, accepted, after_set, after_accepted, carried_out, written, addressed, root_spot, sub_spot, is_all_call, is_some_device, known, suits, check, ◌>>=◌}
-use Rattle.rdm_params.specs.Device.Map.{Entry}
-use Rattle.rdm_params.specs.Device.Parameters.{Parameters}
+use Rattle.rdm_params.specs.Commands.Panel.{changed_pid, changed_value, can_change, after_change}
+use Rattle.rdm_device.specs.Device.Map.{Entry}
+use Rattle.rdm_device.specs.Device.Parameters.{Parameters}
 use Rattle.rdm_params.specs.Slow.Commit.{after_commit}
-use Rattle.rdm_params.specs.Slow.Laws.{SameDevices, StaysAccepted, SetKeepsDevices, CommitKeepsDevices}
-use Rattle.rdm_params.specs.Device.Spot.{Spot}
+use Rattle.rdm_params.specs.Slow.Laws.{SameDevices, StaysAccepted, SetKeepsDevices, CommitKeepsDevices, PanelKeepsDevices}
+use Rattle.rdm_device.specs.Device.Spot.{Spot}
 use Rattle.rdm_params.specs.Table.Rows.{Command, row_of}
 use Rattle.rdm_params.specs.Table.Uses.{access, read, is_by_job, is_slow, in_range_of}
 use Rattle.rdm_params.proofs.RowFacts.{FactsOfWay, Facts, ByProfile, facts_of}
@@ -30,6 +31,7 @@ profile_decides_in pid verb c AtOnce facts slow = absurd cc
 profile_decides_in pid verb c (ByJob worker estimate) facts slow = facts.0
 profile_decides_in pid verb c FromQueue facts slow = absurd cc
 profile_decides_in pid verb c FromStatus facts slow = absurd cc
+profile_decides_in pid verb c Clears facts slow = absurd cc
 
 profile_decides : (pid : ℕ) (verb : Verb) (o : Option Command) → Facts pid verb o → is_slow o ≡ true → (s t : Spot) (v : Value) → s.profile ≡ t.profile → in_range_of o s v ≡ in_range_of o t v
 profile_decides pid verb None facts slow s t v same = absurd cc
@@ -129,3 +131,13 @@ unfolding after_commit
 commit_keeps_devices p w Done = carried_keeps p w.sub (command_of w.pid Set) (Byte w.arg)
 commit_keeps_devices p w (Reading v) = record { profile = refl; subs = refl }
 commit_keeps_devices p w (Failed severity id v1 v2) = record { profile = refl; subs = refl }
+
+if_in_range : (p new : Parameters) (within : Bool) → SameDevices p new → SameDevices p (cond within new p)
+if_in_range p new true same = same
+if_in_range p new false same = record { profile = refl; subs = refl }
+
+pub panel_keeps_devices : PanelKeepsDevices
+unfolding after_change
+panel_keeps_devices p change =
+    let command : Option Command = command_of (changed_pid change) Set in
+    if_in_range p (carried_out p 0 command (changed_value change)) (can_change p change) (carried_keeps p 0 command (changed_value change))

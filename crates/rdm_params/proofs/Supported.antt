@@ -3,7 +3,7 @@ use Rattle.std.proofs.Common.{◌≡◌, Bool, true, false, cond, not, ◌&&◌,
 use Rattle.std.specs.Prelude.{filter, flat_map}
 use Rattle.std.proofs.lemmas.Grind.{flat_map-append}
 use Rattle.rdm_params.specs.Table.Rows.{Row, listed, is_required}
-use Rattle.rdm_params.specs.Device.Values.{word_slots}
+use Rattle.rdm_device.specs.Device.Values.{word_slots}
 
 at_first : (b : Bool) (x : Row) (xs ys both : List Row) → both ≡ xs ++ ys → cond b (x ∷ both) both ≡ cond b (x ∷ xs) xs ++ ys
 at_first true x xs ys both e = ap (λ (rows : List Row). x ∷ rows) e

@@ -2,7 +2,7 @@
 use Rattle.std.proofs.Common.{ℕ, ◌<◌, Option, Some, None, arith}
 use Rattle.rdm_params.specs.declared.kind.Verb.{Verb}
 use Rattle.rdm_params.specs.declared.slow.way.Way.{Way}
-use Rattle.rdm_params.specs.declared.slow.way.Way.TheVariants.{AtOnce, ByJob, FromQueue, FromStatus}
+use Rattle.rdm_params.specs.declared.slow.way.Way.TheVariants.{AtOnce, ByJob, FromQueue, FromStatus, Clears}
 use Rattle.rdm_params.specs.declared.slow.work.Work.{Work}
 use Rattle.rdm_params.specs.Commands.Commands.{command_of}
 use Rattle.rdm_params.specs.Slow.Work.{worker_in, worker_of}
@@ -15,6 +15,7 @@ in_way pid verb c AtOnce facts = omega arith
 in_way pid verb c (ByJob worker estimate) facts = facts.1.1
 in_way pid verb c FromQueue facts = omega arith
 in_way pid verb c FromStatus facts = omega arith
+in_way pid verb c Clears facts = omega arith
 
 in_command : (pid : ℕ) (verb : Verb) (o : Option Command) → Facts pid verb o → worker_in (way_of o) < 2
 in_command pid verb None facts = omega arith

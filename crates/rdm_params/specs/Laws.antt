@@ -2,16 +2,16 @@
 use Rattle.std.specs.Prelude.{◌≡◌, ◌≢◌, ℕ, suc, ◌^◌, ◌<◌, ◌≤◌, ◌==◌, false, List, [], ◌∷◌, length, Option, Some, None, Ok, IsTrue, slice_index_or, if◌then◌else◌}
 use Rattle.std.specs.List.{list_any}
 use Rattle.rdm_params.specs.declared.kind.Verb.{Verb}
-use Rattle.rdm_params.specs.declared.value.Value.{Value}
-use Rattle.rdm_params.specs.declared.value.Value.TheVariants.{Byte, Word, Long, Preset, Label}
+use Rattle.rdm_device.specs.declared.value.Value.{Value}
+use Rattle.rdm_device.specs.declared.value.Value.TheVariants.{Byte, Word, Long, Preset, Label}
 use Rattle.rdm_params.specs.Commands.Commands.{command_of, after_set}
-use Rattle.rdm_params.specs.Table.Forms.{has_form}
-use Rattle.rdm_params.specs.Device.Map.{lookup}
-use Rattle.rdm_params.specs.Device.Parameters.{Parameters}
-use Rattle.rdm_params.specs.Table.Replies.{factory_pids}
+use Rattle.rdm_device.specs.Columns.Forms.{has_form}
+use Rattle.rdm_device.specs.Device.Map.{lookup}
+use Rattle.rdm_device.specs.Device.Parameters.{Parameters}
+use Rattle.rdm_device.specs.Columns.Replies.{factory_pids}
 use Rattle.rdm_params.specs.Table.Rows.{Command}
 use Rattle.rdm_params.specs.Table.Uses.{read}
-use Rattle.rdm_params.specs.Device.Values.{bytes_of}
+use Rattle.rdm_device.specs.Device.Values.{bytes_of}
 
 -- the numbers of a value that a command can hand in fit their slots
 abbrev pub FitsSlots : Value → Type 0

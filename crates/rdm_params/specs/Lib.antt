@@ -1,5 +1,6 @@
+pub use Rattle.rdm_device.specs.Columns
+pub use Rattle.rdm_device.specs.Device
 pub mod Commands
-pub mod Device
 pub mod Laws
 pub mod Slow
 pub mod Table

@@ -3,4 +3,5 @@ pub mod Commit
 pub mod Laws
 pub mod Outcome
 pub mod Severities
+pub mod Thresholds
 pub mod Work

@@ -1,4 +1,2 @@
-pub mod Handed
-pub mod Plain
-pub mod State
+pub mod Plates
 pub mod Verdicts

@@ -13,6 +13,10 @@ pub enum Kind {
     StatusMessages,
     /// STATUS_ID_DESCRIPTION (section 10.3.3).
     StatusIdDescription,
+    /// CLEAR_STATUS_ID (section 10.3.4).
+    ClearStatusId,
+    /// SUB_DEVICE_STATUS_REPORT_THRESHOLD (section 10.3.5).
+    SubDeviceStatusReportThreshold,
     /// SUPPORTED_PARAMETERS (section 10.4.1).
     SupportedParameters,
     /// DEVICE_INFO (section 10.5.1).
@@ -110,6 +114,8 @@ impl Kind {
             Kind::QueuedMessage => (0x0020, "QUEUED_MESSAGE"),
             Kind::StatusMessages => (0x0030, "STATUS_MESSAGES"),
             Kind::StatusIdDescription => (0x0031, "STATUS_ID_DESCRIPTION"),
+            Kind::ClearStatusId => (0x0032, "CLEAR_STATUS_ID"),
+            Kind::SubDeviceStatusReportThreshold => (0x0033, "SUB_DEVICE_STATUS_REPORT_THRESHOLD"),
             Kind::SupportedParameters => (0x0050, "SUPPORTED_PARAMETERS"),
             Kind::DeviceInfo => (0x0060, "DEVICE_INFO"),
             Kind::DeviceModelDescription => (0x0080, "DEVICE_MODEL_DESCRIPTION"),
@@ -169,6 +175,8 @@ pub fn kind_of(pid: u16) -> Option<Kind>
         0x0020 => Kind::QueuedMessage,
         0x0030 => Kind::StatusMessages,
         0x0031 => Kind::StatusIdDescription,
+        0x0032 => Kind::ClearStatusId,
+        0x0033 => Kind::SubDeviceStatusReportThreshold,
         0x0050 => Kind::SupportedParameters,
         0x0060 => Kind::DeviceInfo,
         0x0080 => Kind::DeviceModelDescription,

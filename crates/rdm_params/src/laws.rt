@@ -1,10 +1,11 @@
 //! Laws of the table, over every value, command and device. Each is the contract of a call that does nothing.
 
-ghost use Rattle.std.specs.Prelude.{◌≡◌, ◌↔◌, IsTrue};
+ghost use Rattle.std.specs.Prelude.{◌≡◌, ◌↔◌, ℕ, List, IsTrue};
 ghost use Rattle.rdm_params.specs.Laws.{ReadsBack, ChangesItsKeys, LeavesTheRest};
 
 use crate::{
-    Answer, Ask, Entry, Kind, Message, Nack, NewError, Outcome, Severity, Verb, Verdict, Work,
+    Answer, Ask, Change, Entry, Kind, Message, Nack, NewError, Outcome, Plate, Severity, Verb,
+    Verdict, Work,
 };
 
 /// What `write_value` writes of a value that has the form of a command, `read_value` reads back for that command.
@@ -76,4 +77,14 @@ pub fn answers_are_equal_by_value()
 /// Two values of `Verdict` are equal by `==` exactly where they are the same.
 pub fn verdicts_are_equal_by_value()
     ensures { (a b : Verdict) → IsTrue (⟦<Verdict as PartialEq>⟧.eq a b) ↔ (a ≡ b) }
+{}
+
+/// Two values of `Plate` are equal by `==` exactly where they are the same.
+pub fn plates_are_equal_by_value()
+    ensures { (a b : List ℕ) → IsTrue (⟦<Plate as PartialEq>⟧.eq a b) ↔ (a ≡ b) }
+{}
+
+/// Two values of `Change` are equal by `==` exactly where they are the same.
+pub fn changes_are_equal_by_value()
+    ensures { (a b : Change) → IsTrue (⟦<Change as PartialEq>⟧.eq a b) ↔ (a ≡ b) }
 {}

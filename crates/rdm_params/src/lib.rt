@@ -6,37 +6,34 @@
 //! job, and `Devices::commit` carries it out when the job has ended.
 #![tactic(auto)]
 
-mod columns;
-mod device;
-mod devices;
+mod commands;
 mod kind;
 mod laws;
 mod nack;
-mod profile;
+mod panel;
 mod slow;
 mod table;
-mod value;
 mod verdict;
 
-pub use devices::{Devices, NewError};
+pub use commands::{Devices, NewError};
 pub use kind::{Kind, Verb, kind_of};
 pub use laws::{
-    answers_are_equal_by_value, asks_are_equal_by_value, entries_are_equal_by_value,
-    kinds_are_equal_by_value, messages_are_equal_by_value, nacks_are_equal_by_value,
-    new_errors_are_equal_by_value, outcomes_are_equal_by_value, set_changes_its_own_keys,
-    severities_are_equal_by_value, verbs_are_equal_by_value, verdicts_are_equal_by_value,
-    works_are_equal_by_value, written_value_is_read_back,
+    answers_are_equal_by_value, asks_are_equal_by_value, changes_are_equal_by_value,
+    entries_are_equal_by_value, kinds_are_equal_by_value, messages_are_equal_by_value,
+    nacks_are_equal_by_value, new_errors_are_equal_by_value, outcomes_are_equal_by_value,
+    plates_are_equal_by_value, set_changes_its_own_keys, severities_are_equal_by_value,
+    verbs_are_equal_by_value, verdicts_are_equal_by_value, works_are_equal_by_value,
+    written_value_is_read_back,
 };
 pub use nack::Nack;
-pub use profile::{Personality, Profile, SelfTest, SensorDef, Slot, StatusText, Unit};
+pub use panel::{Change, Plate};
+pub use rdm_device::{
+    Personality, Profile, SelfTest, SensorDef, Slot, StatusText, Unit, Value, write_value,
+};
 pub use slow::{
-    Ask, Entry, Message, Outcome, Severity, Work, estimate_of, fits, slow_command_stays_accepted,
-    started_work_is_its_command, two_commands_fetch, worker_of,
+    Ask, Entry, Message, Outcome, Severity, Work, estimate_of, fits, fitting_worker,
+    one_command_clears, slow_command_stays_accepted, started_work_is_its_command,
+    two_commands_fetch, worker_of,
 };
 pub use table::read::read_value;
-pub use value::Value;
-pub use value::writing::write_value;
 pub use verdict::{Answer, Verdict};
-
-#[cfg(test)]
-mod tests;

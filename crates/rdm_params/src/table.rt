@@ -7,20 +7,19 @@
 //!   `(measures FORM (RANGE) WORKER ESTIMATE REPLY)`, which a job of that worker carries out, with an estimate in
 //!   tenths of a second; `(fetches FORM (RANGE) WAY)`, which is answered from what waits for the controller. A source
 //!   is a field of the device's values, of its unit, of the root's own values or of the profile, with the form of the
-//!   value, or `computed` by a function of `replies`.
+//!   value, `computed` by a function of `replies`, or `listed` from the rows.
 //! - SET: `none`; `(takes FORM (RANGE) FIELD)`, which writes that field; `(sets FORM (RANGE) (COMMON OWN) REPLY)`,
 //!   which changes a device by these functions of `changes`; `(starts FORM (RANGE) WORKER ESTIMATE FIELD)`, which
-//!   writes that field at the end of a job of that worker.
-//!
-//! The last two groups are the forms of values, with their fields.
+//!   writes that field at the end of a job of that worker; `(clears FORM (RANGE))`, which clears the list of status
+//!   entries that wait.
 
 pub(crate) mod access;
+pub(crate) mod dispatch;
 pub(crate) mod list;
-pub(crate) mod range;
 pub(crate) mod read;
-pub(crate) mod reply;
+pub(crate) mod respond;
 pub(crate) mod store;
-pub(crate) mod way;
+pub(crate) mod within;
 
 macro_rules! rows {
     (status, $use:ident! $args:tt) => {
@@ -28,11 +27,13 @@ macro_rules! rows {
             (QueuedMessage 0x0020 root (fetches byte (a_message_type) FromQueue) none)
             (StatusMessages 0x0030 root (fetches byte (below 5) FromStatus) none)
             (StatusIdDescription 0x0031 root (asks word (a_status) status_text) none)
+            (ClearStatusId 0x0032 root none (clears nothing (any)))
+            (SubDeviceStatusReportThreshold 0x0033 both (reads (common byte report_threshold)) (takes byte (a_threshold) (common report_threshold)))
         }
     };
     (product, $use:ident! $args:tt) => {
         $use! { $args
-            (SupportedParameters 0x0050 both (reads (computed supported)) none)
+            (SupportedParameters 0x0050 both (reads (listed)) none)
             (DeviceInfo 0x0060 both (reads (computed device_info)) none)
             (DeviceModelDescription 0x0080 both (reads (unit text model_text)) none)
             (ManufacturerLabel 0x0081 both (reads (unit text maker_text)) none)
@@ -94,38 +95,11 @@ macro_rules! rows {
             (PresetPlayback 0x1031 root (reads (own preset preset)) (takes preset (a_preset) (own preset)))
         }
     };
-    (plain, $use:ident! $args:tt) => {
-        $use! { $args
-            (Nothing)
-            (Byte (a byte))
-            (Word (a number))
-            (Long (a number))
-            (Pair (a byte, b byte))
-            (Label (a text))
-            (Block (a text))
-        }
-    };
-    (fields, $use:ident! $args:tt) => {
-        $use! { $args
-            (Preset { mode number, level byte })
-            (Named { number byte, name text })
-            (SlotName { offset number, name text })
-            (Mode { number byte, footprint number, name text })
-            (Reading { number byte, present number, lowest number, highest number, recorded number })
-            (Sensor { number byte, def sensor })
-            (Info { protocol number, model number, category number, software number, footprint number, personality byte, personalities byte, start number, subs number, sensors byte })
-        }
-    };
 }
 
 macro_rules! kinds {
     (() $(($kind:ident $pid:tt $at:ident $get:tt $set:tt))*) => { $(Kind::$kind)|* };
 }
 
-macro_rules! forms {
-    (() $(($name:ident $($fields:tt)?))*) => { $(Value::$name { .. })|* };
-}
-
-pub(crate) use forms;
 pub(crate) use kinds;
 pub(crate) use rows;

@@ -17,6 +17,8 @@ pub enum Verdict {
     Queue(Ask),
     /// It asks for status entries, or for the last message again (section 10.3.2).
     Status(Ask),
+    /// It clears the list of status entries, and is answered without data (section 10.3.4).
+    Clear,
     /// It is refused, and nothing changes (section 6.3.4).
     Refuse(Nack),
 }
@@ -26,12 +28,21 @@ pub enum Verdict {
 pub enum Answer {
     /// It is carried out, and the data of the reply stand beside this (E1.20 section 6.3.1).
     Done,
-    /// It starts this job, and nothing has changed yet (section 6.3.3).
-    Starts(Work),
+    /// It starts a job, and nothing has changed yet (section 6.3.3).
+    Starts {
+        /// What the job is to do.
+        work: Work,
+        /// The worker that has the job, as `worker_of` tells.
+        worker: u8,
+        /// How long it takes, in tenths of a second, as `estimate_of` tells.
+        estimate: u16,
+    },
     /// It asks for the next message that waits, or for the last one again (section 10.3.1).
     Queues(Ask),
     /// It asks for status entries, or for the last message again (section 10.3.2).
     Statuses(Ask),
+    /// It clears the list of status entries, and is answered without data (section 10.3.4).
+    Clears,
     /// It is refused, and nothing changes (section 6.3.4).
     Refused(Nack),
 }
@@ -43,9 +54,10 @@ impl Answer {
     {
         match self {
             Answer::Done => Verdict::Reply(body),
-            Answer::Starts(work) => Verdict::Start(work),
+            Answer::Starts { work, .. } => Verdict::Start(work),
             Answer::Queues(ask) => Verdict::Queue(ask),
             Answer::Statuses(ask) => Verdict::Status(ask),
+            Answer::Clears => Verdict::Clear,
             Answer::Refused(nack) => Verdict::Refuse(nack),
         }
     }

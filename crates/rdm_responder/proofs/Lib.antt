@@ -1,4 +1,5 @@
 pub mod Accounts
 pub mod Arrivals
+pub mod Changes
 pub mod Lawfulness
 pub mod Runs

@@ -16,10 +16,21 @@ one_and_run h g end (input.Heard bytes) (output.Answered reply job) inputs outpu
     (one.0, one.1, subst (λ (k : History). IsRun k inputs outputs end) one.2 run)
 one_and_run h g end (input.Heard bytes) (output.Arrived arrival) inputs outputs one run = one
 one_and_run h g end (input.Heard bytes) (output.HandedBack astray) inputs outputs one run = one
+one_and_run h g end (input.Heard bytes) (output.Changed message) inputs outputs one run = one
+one_and_run h g end (input.Heard bytes) (output.NoRoom refused) inputs outputs one run = one
 one_and_run h g end (input.Reported report) (output.Answered reply job) inputs outputs one run = one
 one_and_run h g end (input.Reported report) (output.Arrived arrival) inputs outputs one run =
     (one.0, subst (λ (k : History). IsRun k inputs outputs end) one.1 run)
 one_and_run h g end (input.Reported report) (output.HandedBack astray) inputs outputs one run =
+    (one.0, one.1, subst (λ (k : History). IsRun k inputs outputs end) one.2 run)
+one_and_run h g end (input.Reported report) (output.Changed message) inputs outputs one run = one
+one_and_run h g end (input.Reported report) (output.NoRoom refused) inputs outputs one run = one
+one_and_run h g end (input.Changed change) (output.Answered reply job) inputs outputs one run = one
+one_and_run h g end (input.Changed change) (output.Arrived arrival) inputs outputs one run = one
+one_and_run h g end (input.Changed change) (output.HandedBack astray) inputs outputs one run = one
+one_and_run h g end (input.Changed change) (output.Changed message) inputs outputs one run =
+    (one.0, subst (λ (k : History). IsRun k inputs outputs end) one.1 run)
+one_and_run h g end (input.Changed change) (output.NoRoom refused) inputs outputs one run =
     (one.0, one.1, subst (λ (k : History). IsRun k inputs outputs end) one.2 run)
 
 -- The outputs so far, with those of any run of the rest, are the outputs of a run of all.
@@ -35,10 +46,10 @@ Steps state next i o = (h : History) → StandsFor state h → (g : History) × 
 pub completes_first : (start : State) (outputs : List Output) (inputs : List Input) → outputs ≡ [] → Completes start start outputs inputs inputs
 completes_first start outputs inputs e h stands = (h, stands, λ more end run. rw e run)
 
-pub completes_next : (start state next : State) (outputs : List Output) (inputs : List Input) (i : ℕ) (d : Input) (o : Output) (more : List Output) → more ≡ outputs ++ o ∷ [] → i < length inputs → Completes start state outputs inputs (drop i inputs) → Steps state next (get_or inputs i d) o → Completes start next more inputs (drop (i + 1) inputs)
-completes_next start state next outputs inputs i d o more pushed lt so_far steps h from =
+pub completes_next : (start state next : State) (outputs : List Output) (inputs : List Input) (i : ℕ) (d item : Input) (o : Output) (more : List Output) → more ≡ outputs ++ o ∷ [] → item ≡ get_or inputs i d → i < length inputs → Completes start state outputs inputs (drop i inputs) → Steps state next item o → Completes start next more inputs (drop (i + 1) inputs)
+completes_next start state next outputs inputs i d item o more pushed at lt so_far steps h from =
     let before = so_far h from in
-    let step = steps before.0 before.1 in
+    let step = subst (λ (x : Input). Steps state next x o) at steps before.0 before.1 in
     let rest : drop i inputs ≡ get_or inputs i d ∷ drop (i + 1) inputs = drop-cons inputs i d lt ∙ ap (λ (k : ℕ). get_or inputs i d ∷ drop k inputs) (sym (add-one i)) in (
       step.0,
       step.1,

@@ -1,7 +1,8 @@
 -- What happens to a responder, from the moment that it is switched on.
 use Rattle.std.specs.Prelude.{ℕ, List, [], ◌∷◌, ◌++◌}
 use Rattle.rdm_frame.specs.declared.uid.Uid.{Uid}
-use Rattle.rdm_params.specs.declared.profile.Profile.{Profile}
+use Rattle.rdm_params.specs.declared.panel.Change.{Change}
+use Rattle.rdm_device.specs.declared.profile.Profile.{Profile}
 use Rattle.rdm_responder.specs.declared.report.Report.{Report}
 
 -- What a responder is set up with: its UID, what it is, and how many results of slow commands it has room for.
@@ -10,10 +11,12 @@ pub record Setup : Type 0 where
   pub profile : Profile
   pub queue_size : ℕ
 
--- Something that happens: bytes are heard on the bus, or the report of a job arrives.
+-- Something that happens: bytes are heard on the bus, the report of a job arrives, or a person changes something at the
+-- fixture's own menu.
 pub data Event : Type 0 where
   Heard : List ℕ → Event
   Arrived : Report → Event
+  Changed : Change → Event
 
 -- A setup, and what happened since, in order of time.
 pub record History : Type 0 where

@@ -11,24 +11,28 @@ use Rattle.rdm_frame.specs.Reading.{frame_in}
 use Rattle.rdm_frame.specs.Discovery.{branch_reply}
 use Rattle.rdm_params.specs.declared.nack.Nack.{Nack}
 use Rattle.rdm_params.specs.declared.nack.Nack.TheVariants.{BufferFull}
+use Rattle.rdm_params.specs.declared.panel.Change.{Change}
 use Rattle.rdm_params.specs.declared.slow.message.Message.{Message}
+use Rattle.rdm_params.specs.declared.slow.status.Entry.{Entry as StatusEntry}
 use Rattle.rdm_params.specs.declared.slow.outcome.Outcome.{Outcome}
 use Rattle.rdm_params.specs.declared.slow.outcome.Outcome.TheVariants.{Failed}
 use Rattle.rdm_params.specs.declared.slow.work.Work.{Work}
 use Rattle.rdm_params.specs.declared.verdict.Verdict.{Verdict}
-use Rattle.rdm_params.specs.declared.verdict.Verdict.TheVariants.{Reply, Start, Queue, Status, Refuse}
+use Rattle.rdm_params.specs.declared.verdict.Verdict.TheVariants.{Reply, Start, Queue, Status, Clear, Refuse}
 use Rattle.rdm_params.specs.Commands.Commands.{got, answer_to_set, after_set}
 use Rattle.rdm_params.specs.Commands.Nacks.{nack_code}
+use Rattle.rdm_params.specs.Commands.Panel.{after_change, change_message}
 use Rattle.rdm_params.specs.Device.Parameters.{Parameters, parameters_of}
 use Rattle.rdm_params.specs.Slow.Work.{worker_of, estimate_of}
 use Rattle.rdm_params.specs.Slow.Commit.{after_commit, committed}
+use Rattle.rdm_params.specs.Slow.Thresholds.{notes}
 use Rattle.rdm_outbox.specs.declared.job.Job.{Job}
 use Rattle.rdm_outbox.specs.Account as outbox
 use Rattle.rdm_outbox.specs.Jobs.{has_room, reserved, after_reserve, after_arrive, waiting_of}
-use Rattle.rdm_outbox.specs.Messages.{dispensed, after_dispense, status_dispensed, after_status}
-use Rattle.rdm_outbox.specs.Statuses.{after_note}
+use Rattle.rdm_outbox.specs.Messages.{after_post, dispensed, after_dispense, status_dispensed, after_status}
+use Rattle.rdm_outbox.specs.Statuses.{after_note, after_clear}
 use Rattle.rdm_responder.specs.declared.report.Report.{Report}
-use Rattle.rdm_responder.specs.History.{Setup, Event, Heard, Arrived, History}
+use Rattle.rdm_responder.specs.History.{Setup, Event, Heard, Arrived, Changed, History}
 use Rattle.rdm_responder.specs.Requests.{Request, Ignored, Branch, Muting, Get, Set, request_in}
 
 -- What a history comes to: the setup, the values of the parameters, each mute (true) and un-mute (false) that was
@@ -80,6 +84,7 @@ response_of b f (Refuse nack) = nack_reason f nack
 response_of b f (Start work) = if has_room b work then ack_timer f (estimate_of work) else nack_reason f BufferFull
 response_of b f (Queue ask) = ack_message (dispensed b ask)
 response_of b f (Status ask) = ack_message (status_dispensed b ask)
+response_of b f Clear = ack f []
 response_of b f (Reply bytes) = ack f bytes
 
 -- the job that starts
@@ -92,6 +97,7 @@ abbrev pub outbox_after : outbox.Account → Verdict → outbox.Account
 outbox_after b (Start work) = after_reserve b work
 outbox_after b (Queue ask) = after_dispense b ask
 outbox_after b (Status ask) = after_status b ask
+outbox_after b Clear = after_clear b
 outbox_after b _ = b
 
 -- ---- what a request changes
@@ -157,22 +163,40 @@ job_to a found = job_with a (request_in a.setup.uid found)
 
 -- ---- what a history comes to
 
+-- A status entry is noted where the threshold of its device lets it, with these values of the parameters. Section 10.3.5.
+abbrev pub after_entry : Parameters → outbox.Account → StatusEntry → outbox.Account
+after_entry p b entry = if notes p entry then after_note b entry else b
+
 -- a failed job leaves a status entry. Section 10.3.2.
-abbrev pub after_outcome : outbox.Account → Work → Outcome → outbox.Account
-after_outcome b work (Failed severity id v1 v2) = after_note b (record { sub = work.sub; severity = severity; id = id; v1 = v1; v2 = v2 })
-after_outcome b work _ = b
+abbrev pub after_outcome : Parameters → outbox.Account → Work → Outcome → outbox.Account
+after_outcome p b work (Failed severity id v1 v2) = after_entry p b (record { sub = work.sub; severity = severity; id = id; v1 = v1; v2 = v2 })
+after_outcome p b work _ = b
 
 -- The report of a job makes of the parameters what the table says, ends the job, queues its message, and notes what
 -- failed.
 abbrev pub account_after_report : Account → Report → Account
 account_after_report a r = record a {
   parameters = after_commit a.parameters r.job.work r.outcome;
-  outbox = after_outcome (after_arrive a.outbox (worker_of r.job.work) (committed a.parameters r.job.work r.outcome)) r.job.work r.outcome;
+  outbox = after_outcome (after_commit a.parameters r.job.work r.outcome) (after_arrive a.outbox (worker_of r.job.work) (committed a.parameters r.job.work r.outcome)) r.job.work r.outcome;
+}
+
+-- the account of jobs and messages after the message of a change, if it has one, was queued
+abbrev pub after_message : outbox.Account → Option Message → outbox.Account
+after_message b None = b
+after_message b (Some message) = after_post b message
+
+-- A change makes of the parameters what a SET of the same value would, and its message is queued. Where that SET would be
+-- out of range nothing changes.
+abbrev pub account_after_change : Account → Change → Account
+account_after_change a change = record a {
+  parameters = after_change a.parameters change;
+  outbox = after_message a.outbox (change_message a.parameters change);
 }
 
 abbrev pub account_after : Account → Event → Account
 account_after a (Heard bytes) = account_with a (request_in a.setup.uid (frame_in bytes))
 account_after a (Arrived report) = account_after_report a report
+account_after a (Changed change) = account_after_change a change
 
 -- how many jobs a worker can be given: their numbers have 32 bits
 abbrev pub most_jobs : ℕ

@@ -1,9 +1,9 @@
 //! The device side of Remote Device Management (ANSI E1.20-2010): the reply to each frame that is heard, the jobs that slow
 //! commands start, and the messages that wait for a controller.
 //!
-//! `Responder::step` answers what the reply rules give for the whole history before it, and `Responder::arrive` takes the
-//! report of a job. The rules stand in `specs/Rules.antt`, and what a responder has to do with a history in
-//! `specs/StandsFor.antt`.
+//! `Responder::step` answers what the reply rules give for the whole history before it, `Responder::arrive` takes the report
+//! of a job, and `Responder::change` takes what a person changes at the fixture's own menu. The rules stand in
+//! `specs/Rules.antt`, and what a responder has to do with a history in `specs/StandsFor.antt`.
 #![tactic(auto)]
 
 mod laws;
@@ -13,10 +13,7 @@ mod response;
 mod run;
 
 pub use laws::{answers_are_equal_by_value, reports_are_equal_by_value};
-pub use report::{Arrival, Astray, Report};
+pub use report::{Arrival, Astray, NoRoom, Report};
 pub use responder::{NewError, Responder};
 pub use response::Stepped;
 pub use run::{Input, Output};
-
-#[cfg(test)]
-mod tests;

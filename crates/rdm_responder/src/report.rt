@@ -1,7 +1,7 @@
-//! The report of a job, and what becomes of it.
+//! The report of a job, and what becomes of it; a change at the fixture's own menu that is refused.
 
 use rdm_outbox::Job;
-use rdm_params::{Message, Outcome};
+use rdm_params::{Change, Message, Outcome};
 use thiserror::Error;
 
 /// What a worker reports: a job, and how it ended.
@@ -18,7 +18,8 @@ pub struct Report {
 pub struct Arrival {
     /// The message that waits for the controller now (E1.20 section 10.3.1).
     pub message: Message,
-    /// Whether a status entry was noted (section 10.3.2). It is where the job failed and there was room for the entry.
+    /// Whether a status entry was noted (section 10.3.2). It is where the job failed, the threshold of its
+    /// device is not above the entry (section 10.3.5), and there was room for it.
     pub kept: bool,
 }
 
@@ -28,4 +29,12 @@ pub struct Arrival {
 pub struct Astray {
     /// The report.
     pub report: Report,
+}
+
+/// A change at the fixture's own menu, for whose message there is no room.
+#[derive(Clone, Copy, Debug, PartialEq, Eq, Error)]
+#[error("no room")]
+pub struct NoRoom {
+    /// The change.
+    pub change: Change,
 }

@@ -1,6 +1,6 @@
 //! The responder.
 
-ghost use Rattle.std.specs.Prelude.{◌≡◌, ◌↔◌, ◌<◌, ◌≤◌, ◌≢◌, ℕ, IsTrue, IsOk, IfOk, OnOk, OnErr, IfErr, IsErrOf, Option, None, Some, true, slice_get, length, nat_lt};
+ghost use Rattle.std.specs.Prelude.{◌≡◌, ◌↔◌, ◌<◌, ◌≤◌, ◌≢◌, ℕ, IsTrue, IsOk, IfOk, OnOk, OnErr, IfErr, IsErrOf, IfSome, IsSome, Option, None, Some, true, slice_get, length, nat_lt};
 ghost use Rattle.std.specs.Bool.{OnFalse};
 ghost use Rattle.rdm_outbox.specs.Account.{Account as OutboxAccount};
 ghost use Rattle.rdm_outbox.specs.Jobs.{outstanding_count, waiting_of};
@@ -16,19 +16,17 @@ ghost use Rattle.rdm_responder.specs.Rules.{Account, account_of, account_after_r
 ghost use Rattle.rdm_responder.specs.Runs.{IsArrival, outbox_of};
 ghost use Rattle.rdm_responder.specs.StandsFor.{Shows, StandsFor, IsQueueSize};
 
+mod panel;
 mod rules;
 
 use crate::report::{Arrival, Astray, Report};
 use crate::response::Stepped;
 use rdm_frame::{Uid, Wire, decode_view};
-use rdm_outbox::{Job, Outbox};
-use rdm_params::{Devices, Entry, Message, Outcome, Profile, Work, fits, worker_of};
+use rdm_outbox::{Job, MOST_WAITING, Outbox};
+use rdm_params::{Devices, Entry, Message, Outcome, Profile, Work, fitting_worker};
 use std::alloc::Global;
 use std::marker::Model;
 use thiserror::Error;
-
-/// The greatest number of results of slow commands that a responder may be given room for.
-const GREATEST_QUEUE: u16 = 255;
 
 /// How many jobs each worker can be given: their numbers have 32 bits.
 const MOST_JOBS: u32 = u32::MAX;
@@ -42,7 +40,7 @@ pub enum NewError {
     /// The profile breaks a rule, or has too many sub-devices.
     #[error("bad profile")]
     BadProfile,
-    /// The size of the queue isn't 1 to 255.
+    /// The size of the queue isn't 1 to 1,024.
     #[error("bad queue size")]
     BadSize,
     /// The UID addresses more than one device.
@@ -71,18 +69,20 @@ impl Responder {
     /// A responder with this UID, whose parameters have the initial values of the profile, with room for
     /// `queue_size` results of slow commands.
     ///
-    /// A UID that addresses more than one device is refused first, then a size that isn't 1 to 255, then a profile
+    /// A UID that addresses more than one device is refused first, then a size that isn't 1 to 1,024, then a profile
     /// that breaks a rule or has too many sub-devices, and last comes want of memory.
     pub fn new(alloc: Global, uid: Uid, profile: Profile, queue_size: u16) -> Result<Self, NewError>
-        ensures stands { IfOk result (λ r. StandsFor r (empty_history (record { uid = uid; profile = profile; queue_size = queue_size }))) }
+        ensures stands { IfOk result (λ r.
+            StandsFor r (empty_history (record { uid = uid; profile = profile; queue_size = queue_size }))) }
         ensures bad_uid { IsErrOf result NewError.BadUid ↔ (uid.device ≡ 0xFFFFFFFF) }
         ensures bad_size { IsErrOf result NewError.BadSize ↔ ((uid.device ≢ 0xFFFFFFFF) × ¬ IsQueueSize queue_size) }
-        ensures bad_profile { IsErrOf result NewError.BadProfile ↔ ((uid.device ≢ 0xFFFFFFFF) × IsQueueSize queue_size × ¬ CanBeMade profile) }
+        ensures bad_profile { IsErrOf result NewError.BadProfile
+            ↔ ((uid.device ≢ 0xFFFFFFFF) × IsQueueSize queue_size × ¬ CanBeMade profile) }
     {
         if uid.is_broadcast() {
             return Err(NewError::BadUid);
         }
-        if queue_size == 0 || queue_size > GREATEST_QUEUE {
+        if queue_size == 0 || queue_size > MOST_WAITING {
             return Err(NewError::BadSize);
         }
         let devices = devices_of(alloc, profile)?;
@@ -132,19 +132,21 @@ impl Responder {
     /// It is `Astray`, and nothing changes, unless the report is of the oldest outstanding job of its worker, number and
     /// work alike, and its outcome fits that work.
     pub fn arrive(&mut self, report: Report) -> Result<Arrival, Astray>
-        ensures lawful { (h : History) → IsLawful h → StandsFor self.old h → (IsOk result ↔ IsLawful (then_event h (Arrived report))) }
+        ensures lawful { (h : History) → IsLawful h → StandsFor self.old h →
+            (IsOk result ↔ IsLawful (then_event h (Arrived report))) }
         ensures arrival { IfOk result (λ arrival. (h : History) → StandsFor self.old h → IsArrival h report arrival) }
         ensures stands { OnOk result ((h : History) → StandsFor self.old h → StandsFor self.new (then_event h (Arrived report))) }
-        ensures astray { IfErr result (λ astray. (astray.report ≡ report) × ((h : History) → StandsFor self.old h → ¬ MayArrive (account_of h) report)) }
+        ensures astray { IfErr result (λ astray. (astray.report ≡ report)
+            × ((h : History) → StandsFor self.old h → ¬ MayArrive (account_of h) report)) }
         ensures same { OnErr result (self.new ≡ self.old) }
     {
-        if !self.awaits(&report) {
+        let Some(worker) = self.awaits(&report) else {
             return Err(Astray { report });
-        }
+        };
         let work = report.job.work;
         let message = self.devices.commit(&work, report.outcome);
-        self.outbox.arrive(worker_of(&work), message.copy());
-        let kept = note_failure(&mut self.outbox, &work, report.outcome);
+        self.outbox.arrive(worker, message.copy());
+        let kept = note_failure(&self.devices, &mut self.outbox, &work, report.outcome);
         Ok(Arrival { message, kept })
     }
 
@@ -169,19 +171,20 @@ impl Responder {
         self.outbox.outstanding()
     }
 
-    /// Whether a report may arrive now.
-    fn awaits(&self, report: &Report) -> bool
-        ensures oldest { result ≡ true → slice_get (jobs_at self.now.outbox (worker_of report.now.job.work)) 0 ≡ Some report.now.job }
-        ensures fits { result ≡ true → fits report.now.job.work report.now.outcome ≡ true }
-        ensures account { (a : Account) → Shows self.now a → ((result ≡ true) ↔ MayArrive a report.now) }
+    /// The worker whose report this is, if it may arrive now.
+    fn awaits(&self, report: &Report) -> Option<u8>
+        ensures worker { IfSome result (λ worker. worker ≡ worker_of report.now.job.work) }
+        ensures oldest { IfSome result (λ worker. slice_get (jobs_at self.now.outbox worker) 0 ≡ Some report.now.job) }
+        ensures fits { IsSome result → fits report.now.job.work report.now.outcome ≡ true }
+        ensures account { (a : Account) → Shows self.now a → (IsSome result ↔ MayArrive a report.now) }
     {
-        let Some(job) = self.outbox.oldest(worker_of(&report.job.work)) else {
-            return false;
-        };
-        if !is_same(job, &report.job) {
-            return false;
+        let worker = fitting_worker(&report.job.work, &report.outcome)?;
+        let job = self.outbox.oldest(worker)?;
+        if is_same(job, &report.job) {
+            Some(worker)
+        } else {
+            None
         }
-        fits(&report.job.work, &report.outcome)
     }
 }
 
@@ -192,11 +195,13 @@ fn is_same(job: &Job, other: &Job) -> bool
     *job == *other
 }
 
-/// Notes a status entry where a job of this work failed, and says whether it was kept.
-fn note_failure(outbox: &mut Outbox, work: &Work, outcome: Outcome) -> bool
+/// Notes a status entry where a job of this work failed, unless the threshold of its device is above it, and says whether it
+/// was kept.
+fn note_failure(devices: &Devices, outbox: &mut Outbox, work: &Work, outcome: Outcome) -> bool
     ensures kept { (b : OutboxAccount) → OutboxShows outbox.old b →
-        result ≡ nat_lt (length b.noted) (length (after_outcome b work.now outcome).noted) }
-    ensures shows { (b : OutboxAccount) → OutboxShows outbox.old b → OutboxShows outbox.new (after_outcome b work.now outcome) }
+        result ≡ nat_lt (length b.noted) (length (after_outcome devices.now b work.now outcome).noted) }
+    ensures shows { (b : OutboxAccount) → OutboxShows outbox.old b →
+        OutboxShows outbox.new (after_outcome devices.now b work.now outcome) }
 {
     match outcome {
         Outcome::Failed {
@@ -204,13 +209,16 @@ fn note_failure(outbox: &mut Outbox, work: &Work, outcome: Outcome) -> bool
             id,
             v1,
             v2,
-        } => outbox.note(Entry {
-            sub: work.sub,
-            severity,
-            id,
-            v1,
-            v2,
-        }),
+        } => {
+            let entry = Entry {
+                sub: work.sub,
+                severity,
+                id,
+                v1,
+                v2,
+            };
+            devices.notes(&entry) && outbox.note(entry)
+        }
         Outcome::Done | Outcome::Reading(_) => false,
     }
 }

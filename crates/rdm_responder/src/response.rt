@@ -6,7 +6,8 @@ ghost use Rattle.std.specs.Bool.{OnFalse};
 ghost use Rattle.rdm_frame.specs.declared.frame.Frame.{Frame};
 ghost use Rattle.rdm_outbox.specs.Account.{Account};
 ghost use Rattle.rdm_outbox.specs.Shows.{Shows};
-ghost use Rattle.rdm_params.specs.Views.Verdicts.{verdict_with};
+ghost use Rattle.rdm_params.specs.Views.Verdicts.{verdict_with, NamesItsJob};
+ghost use Rattle.rdm_params.specs.Slow.Work.{worker_of, estimate_of};
 ghost use Rattle.rdm_responder.specs.Headings.{response_with, own_heading, message_heading};
 ghost use Rattle.rdm_params.specs.declared.verdict.Verdict.TheVariants.{Start};
 ghost use Rattle.rdm_params.specs.Commands.Nacks.{nack_code};
@@ -15,7 +16,7 @@ ghost use Rattle.rdm_responder.specs.Rules.{ack_message, response_of, answered, 
 use rdm_frame::standard::{ACK, ACK_TIMER, NACK_REASON};
 use rdm_frame::{Body, FrameView, Uid, Wire, encode_into};
 use rdm_outbox::{Job, Outbox};
-use rdm_params::{Answer, Message, Nack, Work, estimate_of};
+use rdm_params::{Answer, Message, Nack, Work};
 
 /// What became of bytes that were heard.
 #[derive(Clone, Copy, Debug, PartialEq, Eq)]
@@ -87,6 +88,7 @@ pub(crate) fn respond(
     wire: &mut Wire,
 ) -> Stepped
     requires class { request.now.class < 255 }
+    requires job { NamesItsJob answer }
     ensures reply { (b : Account) → Shows outbox.old b →
         answered result.replied wire.new ≡ reply_with own b request.now (verdict_with answer body.old) }
     ensures silent { OnFalse result.replied (wire.new ≡ wire.old) }
@@ -99,8 +101,12 @@ pub(crate) fn respond(
             let heading = Heading::of_own(request, ACK);
             send(own, request, heading, body.as_slice(), outbox.count(), wire)
         }
-        Answer::Starts(work) => {
-            let port = start(work, outbox, body, &mut job);
+        Answer::Starts {
+            work,
+            worker,
+            estimate,
+        } => {
+            let port = start(work, worker, estimate, outbox, body, &mut job);
             let heading = Heading::of_own(request, port);
             send(own, request, heading, body.as_slice(), outbox.count(), wire)
         }
@@ -111,6 +117,11 @@ pub(crate) fn respond(
         Answer::Statuses(ask) => {
             outbox.answer_status(ask);
             send_last(own, request, outbox, wire)
+        }
+        Answer::Clears => {
+            outbox.clear_status();
+            let heading = Heading::of_own(request, ACK);
+            send(own, request, heading, &[], outbox.count(), wire)
         }
         Answer::Refused(nack) => {
             refuse(nack, body);
@@ -125,17 +136,26 @@ pub(crate) fn respond(
 /// second, or the reason of the refusal. It says the response type.
 // Inlined, as `respond` says.
 #[inline(always)]
-fn start(work: Work, outbox: &mut Outbox, body: &mut Body, job: &mut Option<Job>) -> u8
+fn start(
+    work: Work,
+    worker: u8,
+    estimate: u16,
+    outbox: &mut Outbox,
+    body: &mut Body,
+    job: &mut Option<Job>,
+) -> u8
+    requires worker { worker ≡ worker_of work }
+    requires estimate { estimate ≡ estimate_of work }
     ensures response { (b : Account) → Shows outbox.old b → (f : Frame) →
         response_with (own_heading f result) body.new ≡ response_of b f (Start work) }
     ensures job { (b : Account) → Shows outbox.old b → job.new ≡ started_by b (Start work) }
     ensures after { (b : Account) → Shows outbox.old b → Shows outbox.new (outbox_after b (Start work)) }
 {
-    match outbox.reserve(work) {
+    match outbox.reserve_for(worker, work) {
         Ok(started) => {
             *job = Some(started);
             body.clear();
-            body.append(&estimate_of(&work).to_be_bytes());
+            body.append(&estimate.to_be_bytes());
             ACK_TIMER
         }
         Err(_) => {

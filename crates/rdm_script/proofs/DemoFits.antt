@@ -32,7 +32,7 @@ never e = absurd cc
 rows_say : AllByRecursion SlowRow table
 unfolding table
 rows_say =
-    ((never, never), ((never, never), ((never, never), ((never, never), ((never, never), ((never, never), ((never, never), ((never, never), ((never, never), ((never, never), ((never, never), ((never, never), ((never, never), ((never, never), ((never, never), ((never, never), ((never, never), ((never, never), ((never, never), ((never, never), ((never, never), ((λ slow. (refl, refl), never), ((never, never), ((never, never), ((never, never), ((never, never), ((never, λ slow. refl), ((never, never), ((never, never), ((never, never), ((never, never), ((never, never), ((never, never), ((never, never), ((never, never), ((never, λ slow. refl), ((never, λ slow. refl), ((never, never), ((never, never), tt)))))))))))))))))))))))))))))))))))))))
+    ((never, never), ((never, never), ((never, never), ((never, never), ((never, never), ((never, never), ((never, never), ((never, never), ((never, never), ((never, never), ((never, never), ((never, never), ((never, never), ((never, never), ((never, never), ((never, never), ((never, never), ((never, never), ((never, never), ((never, never), ((never, never), ((never, never), ((never, never), ((λ slow. (refl, refl), never), ((never, never), ((never, never), ((never, never), ((never, never), ((never, λ slow. refl), ((never, never), ((never, never), ((never, never), ((never, never), ((never, never), ((never, never), ((never, never), ((never, never), ((never, λ slow. refl), ((never, λ slow. refl), ((never, never), ((never, never), tt)))))))))))))))))))))))))))))))))))))))))
 
 of_row : (pid : ℕ) (row : Option Row) → row_in table pid ≡ row → SlowGet pid (command_in row Get) × SlowSet pid (command_in row Set)
 of_row pid None e = (never, never)

@@ -16,13 +16,13 @@ use Rattle.rdm_bus.specs.declared.fault.Fault.TheVariants as fault
 use Rattle.rdm_bus.specs.declared.want.Want.{Want}
 use Rattle.rdm_bus.specs.declared.want.Want.TheVariants.{Advisory, Warning, Error}
 use Rattle.rdm_crew.specs.declared.step.CrewStep.{CrewStep}
-use Rattle.rdm_crew.specs.declared.step.CrewStep.TheVariants.{Ask, Collect, Draw, Settle}
+use Rattle.rdm_crew.specs.declared.step.CrewStep.TheVariants.{Ask, Collect, Draw, Settle, Panel}
 use Rattle.rdm_script.specs.declared.script.Setup.{Setup}
 use Rattle.rdm_script.specs.declared.grammar.line.Line.{Line}
 use Rattle.rdm_script.specs.declared.grammar.line.Line.TheVariants.{Skipped, Sets, Says, Faulty}
 use Rattle.rdm_script.specs.Decimals.{SpellsDecimal, number_up_to}
 use Rattle.rdm_script.specs.Grammar.{word, command_in, lost_in, raise_in, altered, altered_in, fault_in, is_skipped, want_in, setup_of, setup_in, asked, command_step_in, step_in, line_in, first_line_in, setup_after, begun_after}
-use Rattle.rdm_script.specs.Spelling.{SpellsAction, SpellsCommand, SpellsRaise, SpellsFault, SpellsSettle, SpellsStep, SpellsWant, SpellsSetup}
+use Rattle.rdm_script.specs.Spelling.{SpellsAction, SpellsCommand, SpellsRaise, SpellsFault, SpellsEmpties, SpellsStep, SpellsWant, SpellsSetup}
 use Rattle.rdm_script.proofs.CommandSpellings.{chosen, guarded, command_read, command_again}
 use Rattle.rdm_script.proofs.Words.{fault_long}
 use Rattle.rdm_script.proofs.DecimalSpellings.{number_read, number_again}
@@ -136,9 +136,9 @@ mapped : (o : Option Fault) (step : CrewStep) → option_map (λ f. Collect f) o
 mapped None step e = absurd cc
 mapped (Some f) step e = (f, refl, same_Some (Collect f) step e)
 
-counted : (o : Option ℕ) (step : CrewStep) → option_map (λ n. Settle n) o ≡ Some step → (n : ℕ) × (o ≡ Some n) × (Settle n ≡ step)
-counted None step e = absurd cc
-counted (Some n) step e = (n, refl, same_Some (Settle n) step e)
+counted : (made : ℕ → CrewStep) (o : Option ℕ) (step : CrewStep) → option_map made o ≡ Some step → (n : ℕ) × (o ≡ Some n) × (made n ≡ step)
+counted made None step e = absurd cc
+counted made (Some n) step e = (n, refl, same_Some (made n) step e)
 
 both : (x y : Bool) → (x && y) ≡ true → (x ≡ true) × (y ≡ true)
 both true y h = (refl, h)
@@ -154,11 +154,11 @@ draw_read words e =
     let tests = both (eqb (length words) 1) (bytes_eq (word words 0) (codes "draw")) e in
     is_alone words (codes "draw") (eqb-true _ _ tests.0) (named (word words 0) (codes "draw") tests.1)
 
-settle_read : (words : List (List ℕ)) (n : ℕ) → (eqb (length words) 2 && bytes_eq (word words 0) (codes "settle")) ≡ true → number_up_to 4294967295 (word words 1) ≡ Some n → SpellsSettle words n
-settle_read words n e is_n =
-    let tests = both (eqb (length words) 2) (bytes_eq (word words 0) (codes "settle")) e in
+empties_read : (name : List ℕ) (words : List (List ℕ)) (n : ℕ) → (eqb (length words) 2 && bytes_eq (word words 0) name) ≡ true → number_up_to 4294967295 (word words 1) ≡ Some n → SpellsEmpties name words n
+empties_read name words n e is_n =
+    let tests = both (eqb (length words) 2) (bytes_eq (word words 0) name) e in
     let read = number_read 4294967295 (word words 1) n is_n in
-    record { two = eqb-true _ _ tests.0; named = named (word words 0) (codes "settle") tests.1; empties = read.0; empties_fit = read.1 }
+    record { two = eqb-true _ _ tests.0; named = named (word words 0) name tests.1; empties = read.0; empties_fit = read.1 }
 
 pub step_read : (words : List (List ℕ)) (step : CrewStep) → step_in words ≡ Some step → SpellsStep words step
 unfolding step_in
@@ -173,9 +173,15 @@ step_read words step e =
             | inr k ↦
                 elim (chosen (eqb (length words) 2 && bytes_eq (word words 0) (codes "settle")) (option_map (λ n. Settle n) (number_up_to 4294967295 (word words 1))) _ (Some step) k.1) [
                   | inl l ↦
-                      let p = counted (number_up_to 4294967295 (word words 1)) step l.1 in
-                      subst (λ (x : CrewStep). SpellsStep words x) p.2 (settle_read words p.0 l.0 p.1)
-                  | inr l ↦ command_step_read words step l.1
+                      let p = counted (λ n. Settle n) (number_up_to 4294967295 (word words 1)) step l.1 in
+                      subst (λ (x : CrewStep). SpellsStep words x) p.2 (empties_read (codes "settle") words p.0 l.0 p.1)
+                  | inr l ↦
+                      elim (chosen (eqb (length words) 2 && bytes_eq (word words 0) (codes "panel")) (option_map (λ n. Panel n) (number_up_to 4294967295 (word words 1))) _ (Some step) l.1) [
+                        | inl m ↦
+                            let p = counted (λ n. Panel n) (number_up_to 4294967295 (word words 1)) step m.1 in
+                            subst (λ (x : CrewStep). SpellsStep words x) p.2 (empties_read (codes "panel") words p.0 m.0 p.1)
+                        | inr m ↦ command_step_read words step m.1
+                      ]
                 ]
           ]
     ]
@@ -194,6 +200,7 @@ step_again words (Ask c f) s =
 step_again words (Collect f) s = rw (s.0, fault_again (drop 1 words) f s.1) refl
 step_again words Draw s = rw s refl
 step_again words (Settle n) s = rw (s.named, s.two, number_again 4294967295 (word words 1) n s.empties s.empties_fit) refl
+step_again words (Panel n) s = rw (s.named, s.two, number_again 4294967295 (word words 1) n s.empties s.empties_fit) refl
 
 -- ---- a setup
 
@@ -251,6 +258,7 @@ setup_is_no_step words s (Ask c f) h k = omega (arith, h.four, k.0.five)
 setup_is_no_step words s (Collect f) h k = let same : codes "collect" ≡ codes "setup" = sym k.0 ∙ h.named in let lens : length (codes "collect") ≡ length (codes "setup") = ap length same in omega (arith, lens)
 setup_is_no_step words s Draw h k = let lens : length words ≡ 1 = ap length k in omega (arith, h.four, lens)
 setup_is_no_step words s (Settle n) h k = omega (arith, h.four, k.two)
+setup_is_no_step words s (Panel n) h k = omega (arith, h.four, k.two)
 
 -- ---- a line
 

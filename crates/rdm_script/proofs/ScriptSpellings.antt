@@ -8,7 +8,7 @@ use Rattle.rdm_bus.specs.declared.fault.Fault.TheVariants as fault
 use Rattle.rdm_bus.specs.BusRun.{raise_of}
 use Rattle.rdm_crew.specs.RunTrace.{fault_at, HaveFaults}
 use Rattle.rdm_crew.specs.declared.step.CrewStep.{CrewStep}
-use Rattle.rdm_crew.specs.declared.step.CrewStep.TheVariants.{Ask, Collect, Draw, Settle}
+use Rattle.rdm_crew.specs.declared.step.CrewStep.TheVariants.{Ask, Collect, Draw, Settle, Panel}
 use Rattle.rdm_script.specs.declared.script.Setup.{Setup}
 use Rattle.rdm_script.specs.declared.grammar.line.Line.{Line}
 use Rattle.rdm_script.specs.declared.grammar.line.Line.TheVariants.{Skipped, Sets, Says, Faulty}
@@ -204,6 +204,7 @@ step_alters words (Ask c f) s = fault_alters (drop 5 words) f s.1
 step_alters words (Collect f) s = fault_alters (drop 1 words) f s.1
 step_alters words Draw s = λ e. cc
 step_alters words (Settle empties) s = λ e. cc
+step_alters words (Panel empties) s = λ e. cc
 
 steps_alter : (lines : List (List (List ℕ))) (steps : List CrewStep) → SpellSteps lines steps → All Alters steps
 steps_alter [] steps e = subst (λ (ss : List CrewStep). All Alters ss) (sym e) (All-nil Alters)

@@ -16,7 +16,7 @@ use Rattle.rdm_bus.specs.declared.fault.Fault.TheVariants as fault
 use Rattle.rdm_bus.specs.declared.want.Want.{Want}
 use Rattle.rdm_bus.specs.declared.want.Want.TheVariants.{Advisory, Warning, Error}
 use Rattle.rdm_crew.specs.declared.step.CrewStep.{CrewStep}
-use Rattle.rdm_crew.specs.declared.step.CrewStep.TheVariants.{Ask, Collect, Draw, Settle}
+use Rattle.rdm_crew.specs.declared.step.CrewStep.TheVariants.{Ask, Collect, Draw, Settle, Panel}
 use Rattle.rdm_script.specs.declared.script.Setup.{Setup}
 use Rattle.rdm_script.specs.declared.grammar.line.Line.{Line}
 use Rattle.rdm_script.specs.declared.grammar.line.Line.TheVariants.{Skipped, Sets, Says, Faulty}
@@ -142,13 +142,14 @@ command_step_in words =
     if nat_le 5 (length words) then asked (command_in (word words 0) (word words 1) (word words 2) (word words 3) (word words 4)) (fault_in (drop 5 words))
     else None
 
--- a poll, one report, reports until no job is outstanding, or a command
+-- a poll, one report, reports until no job is outstanding, a change at the panel, or a command
 unfoldable pub step_in : List (List ℕ) → Option CrewStep
 step_in words =
     if bytes_eq (word words 0) (codes "collect") then option_map (λ f. Collect f) (fault_in (drop 1 words))
     else (if (length words == 1) && bytes_eq (word words 0) (codes "draw") then Some Draw
     else (if (length words == 2) && bytes_eq (word words 0) (codes "settle") then option_map (λ n. Settle n) (number_up_to 4294967295 (word words 1))
-    else command_step_in words))
+    else (if (length words == 2) && bytes_eq (word words 0) (codes "panel") then option_map (λ n. Panel n) (number_up_to 4294967295 (word words 1))
+    else command_step_in words)))
 
 -- What the words of a line say.
 unfoldable pub line_in : List (List ℕ) → Line

@@ -9,7 +9,7 @@ use Rattle.rdm_crew.specs.declared.setup.Setup.{Setup as CrewSetup}
 use Rattle.rdm_crew.specs.declared.step.CrewStep.{CrewStep}
 use Rattle.rdm_crew.specs.RunTrace.{IsRunTrace, HasSettle, first_refusal}
 use Rattle.rdm_crew.specs.Setups.{IsBadSetup}
-use Rattle.rdm_script.specs.DemoParts.{lamp_outcome, test_outcome}
+use Rattle.rdm_script.specs.DemoParts.{lamp_outcome, test_outcome, panel_change}
 use Rattle.rdm_script.specs.Parties.{device, controller}
 use Rattle.rdm_script.specs.declared.script.Setup.{Setup}
 
@@ -17,10 +17,12 @@ use Rattle.rdm_script.specs.declared.script.Setup.{Setup}
 abbrev pub crew_setup : Setup → CrewSetup
 crew_setup s = record { device = device; controller = controller; want = s.want; profile = demo s.subs; queue_size = s.queue_size }
 
--- Events are a run of the script: its device has just been switched on, and the parts of the demonstration do the jobs.
+-- Events are a run of the script: its device has just been switched on, the parts of the demonstration do the jobs, and
+-- its panel offers the changes.
 abbrev pub IsScriptRun : Setup → List CrewStep → List Event → Type 0
 IsScriptRun setup steps events =
-    IsRunTrace (crew_setup setup) (λ job outcome. outcome ≡ lamp_outcome job) (λ job outcome. outcome ≡ test_outcome job) steps events
+    IsRunTrace (crew_setup setup) (λ job outcome. outcome ≡ lamp_outcome job) (λ job outcome. outcome ≡ test_outcome job)
+    (λ number change. panel_change number ≡ Some change) steps events
 
 -- There can be such a device.
 abbrev pub IsGoodSetup : Setup → Type 0

@@ -14,7 +14,7 @@ use Rattle.rdm_bus.specs.declared.fault.Fault.TheVariants as fault
 use Rattle.rdm_bus.specs.declared.want.Want.{Want}
 use Rattle.rdm_bus.specs.declared.want.Want.TheVariants.{Advisory, Warning, Error}
 use Rattle.rdm_crew.specs.declared.step.CrewStep.{CrewStep}
-use Rattle.rdm_crew.specs.declared.step.CrewStep.TheVariants.{Ask, Collect, Draw, Settle}
+use Rattle.rdm_crew.specs.declared.step.CrewStep.TheVariants.{Ask, Collect, Draw, Settle, Panel}
 use Rattle.rdm_script.specs.declared.script.Setup.{Setup}
 use Rattle.rdm_script.specs.Decimals.{SpellsDecimal}
 use Rattle.rdm_script.specs.Parties.{device, plain_setup}
@@ -64,10 +64,10 @@ SpellsFault words fault.LostReply = words ≡ codes "lost-reply" ∷ []
 SpellsFault words (fault.BadRequest k x) = SpellsRaise (codes "bad-request") words k x
 SpellsFault words (fault.BadReply k x) = SpellsRaise (codes "bad-reply") words k x
 
--- The words say that reports are awaited until no job is outstanding, and how often there may be none.
-pub record SpellsSettle (words : List (List ℕ)) (n : ℕ) : Type 0 where
+-- The words are this name, and how often a lane may be found empty.
+pub record SpellsEmpties (name : List ℕ) (words : List (List ℕ)) (n : ℕ) : Type 0 where
   pub two : length words ≡ 2
-  pub named : word words 0 ≡ codes "settle"
+  pub named : word words 0 ≡ name
   pub empties : SpellsDecimal (word words 1) n
   pub empties_fit : n ≤ 4294967295
 
@@ -76,7 +76,8 @@ abbrev pub SpellsStep : List (List ℕ) → CrewStep → Type 0
 SpellsStep words (Ask c f) = SpellsCommand words c × SpellsFault (drop 5 words) f
 SpellsStep words (Collect f) = (word words 0 ≡ codes "collect") × SpellsFault (drop 1 words) f
 SpellsStep words Draw = words ≡ codes "draw" ∷ []
-SpellsStep words (Settle empties) = SpellsSettle words empties
+SpellsStep words (Settle empties) = SpellsEmpties (codes "settle") words empties
+SpellsStep words (Panel empties) = SpellsEmpties (codes "panel") words empties
 
 -- The word says which messages the controller wants.
 abbrev pub SpellsWant : List ℕ → Want → Type 0

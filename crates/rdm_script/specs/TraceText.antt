@@ -4,6 +4,8 @@ use Rattle.std.specs.Fmt.{signed_decimal}
 use Rattle.std.specs.Int.{w16, to_be_bytes}
 use Rattle.std.specs.List.{flat_map}
 use Rattle.rdm_frame.specs.Digits.{digits}
+use Rattle.rdm_params.specs.declared.panel.Change.{Change}
+use Rattle.rdm_params.specs.declared.panel.Change.TheVariants.{Start, Personality, Label}
 use Rattle.rdm_params.specs.declared.slow.message.Message.{Message}
 use Rattle.rdm_params.specs.declared.slow.outcome.Outcome.{Outcome}
 use Rattle.rdm_params.specs.declared.slow.outcome.Outcome.TheVariants.{Done, Reading, Failed}
@@ -12,7 +14,7 @@ use Rattle.rdm_params.specs.Slow.Severities.{severity_code}
 use Rattle.rdm_params.specs.Slow.Work.{worker_of}
 use Rattle.rdm_outbox.specs.declared.job.Job.{Job}
 use Rattle.rdm_bus.specs.declared.event.Event.{Event}
-use Rattle.rdm_bus.specs.declared.event.Event.TheVariants.{Bus, Arrived}
+use Rattle.rdm_bus.specs.declared.event.Event.TheVariants.{Bus, Arrived, Changed}
 use Rattle.rdm_bus.specs.declared.fault.Fault.{Fault}
 use Rattle.rdm_bus.specs.declared.fault.Fault.TheVariants as fault
 use Rattle.rdm_bus.specs.declared.transaction.Heard.{Heard}
@@ -70,10 +72,28 @@ outcome_words Done = codes " done"
 outcome_words (Reading v) = codes " reading " ++ signed_decimal v
 outcome_words (Failed severity id v1 v2) = codes " failed " ++ status_words severity id v1 v2
 
+-- ---- a change at the device's menu
+
+-- bytes, or a hyphen where there are none
+abbrev pub data_words : List ℕ → List ℕ
+data_words [] = codes "-"
+data_words (byte ∷ bytes) = digits (byte ∷ bytes)
+
+-- what is changed, and to which value
+abbrev pub change_words : Change → List ℕ
+change_words (Start start) = codes "start " ++ decimal start
+change_words (Personality number) = codes "personality " ++ decimal number
+change_words (Label label) = codes "label " ++ data_words label
+
+-- a change of which there is no message
+abbrev pub refused_words : Option Message → List ℕ
+refused_words None = codes " refused"
+refused_words (Some message) = []
+
 -- ---- a trace
 
 -- The lines of a transaction: what was sent and what goes wrong, what was replied, the job that started, and what the
--- controller took the reply for. A report has one line.
+-- controller took the reply for. A report has one line, and so has a change.
 unfoldable pub event_text : Event → List ℕ
 event_text (Bus sent poll fault reply job heard) =
     line (codes "send ") (digits sent ++ fault_words fault)
@@ -81,11 +101,7 @@ event_text (Bus sent poll fault reply job heard) =
     ++ job_text job
     ++ line (codes "heard ") (heard_word heard)
 event_text (Arrived report message kept) = line (codes "arrive ") (job_words report.job ++ outcome_words report.outcome)
-
--- the data of a message, or a hyphen where there are none
-abbrev pub data_words : List ℕ → List ℕ
-data_words [] = codes "-"
-data_words (byte ∷ bytes) = digits (byte ∷ bytes)
+event_text (Changed change message) = line (codes "panel ") (change_words change ++ refused_words message)
 
 -- The line of a message that the controller recorded: its command class, parameter ID, sub-device and data.
 unfoldable pub message_text : Message → List ℕ

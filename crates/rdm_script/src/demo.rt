@@ -1,8 +1,8 @@
-//! The parts of the demonstration: each ends a job as the job alone says.
+//! The parts of the demonstration: each ends a job as the job alone says. And its panel, which offers four changes.
 
-use rdm_crew::Part;
+use rdm_crew::{Panel, Part};
 use rdm_outbox::Job;
-use rdm_params::{Outcome, Severity};
+use rdm_params::{Change, Outcome, Plate, Severity};
 
 const SENSOR_VALUE: u16 = 0x0201;
 
@@ -56,5 +56,27 @@ impl Part for TestPart {
             };
         }
         Outcome::Done
+    }
+}
+
+/// What a person changes at the fixture's own menu: a label, a start address, a personality that the fixture hasn't got, and
+/// one that it has.
+#[derive(Drop)]
+pub(crate) struct DemoPanel;
+
+impl Panel for DemoPanel {
+    ghost use Rattle.std.specs.Prelude.{◌≡◌, Some};
+    ghost use Rattle.rdm_script.specs.DemoParts.{panel_change};
+
+    ghost offers = { λ panel number change. panel_change number ≡ Some change };
+
+    fn next(&mut self, number: u32) -> Option<Change> {
+        match number {
+            0 => Some(Change::Label(Plate::new(b"Panel")?)),
+            1 => Some(Change::Start(101)),
+            2 => Some(Change::Personality(9)),
+            3 => Some(Change::Personality(2)),
+            _ => None,
+        }
     }
 }

@@ -11,7 +11,8 @@ ghost use Rattle.rdm_script.specs.declared.grammar.parsing.ScriptError.TheVarian
 
 /// No byte list is two scripts.
 pub fn text_is_one_script()
-    ensures { (text : List ℕ) (s t : TheSetup) (a b : List TheStep) → IsScript text s a → IsScript text t b → (s ≡ t) × (a ≡ b) }
+    ensures { (text : List ℕ) (s t : TheSetup) (a b : List TheStep) →
+        IsScript text s a → IsScript text t b → (s ≡ t) × (a ≡ b) }
 {}
 
 /// No byte list is both a script and refused, but for want of memory.

@@ -22,6 +22,4 @@ pub use grammar::{ScriptError, parse};
 pub use laws::{line_says_what_its_words_spell, script_is_never_refused, text_is_one_script};
 pub use program::{ProgramError, run_script};
 pub use script::{Script, Setup};
-
-#[cfg(test)]
-mod tests;
+pub use trace::trace_text;

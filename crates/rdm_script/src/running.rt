@@ -7,7 +7,7 @@ ghost use Rattle.rdm_crew.specs.RunTrace.{HaveFaults};
 ghost use Rattle.rdm_crew.specs.Setups.{switched_on, IsBadSetup};
 ghost use Rattle.rdm_script.specs.Running.{crew_setup, IsGoodSetup, IsScriptRun, Stops};
 
-use crate::demo::{LampPart, TestPart};
+use crate::demo::{DemoPanel, LampPart, TestPart};
 use crate::parties::{CONTROLLER, DEVICE};
 use crate::script::Setup;
 use rdm_crew::{CrewStep, RunError, Trace};
@@ -36,7 +36,15 @@ where
     ensures bad_setup { IsErrOf result RunError.BadSetup ↔ IsBadSetup (crew_setup setup) }
     ensures err { IfErr result (λ e. Stops e setup steps.now) }
 {
-    rdm_crew::run(rt, alloc, crew_setup(setup), steps, LampPart, TestPart)
+    rdm_crew::run(
+        rt,
+        alloc,
+        crew_setup(setup),
+        steps,
+        LampPart,
+        TestPart,
+        DemoPanel,
+    )
 }
 
 /// The device and the controller of a script.

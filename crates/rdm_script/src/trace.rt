@@ -1,20 +1,20 @@
 //! The text of a trace.
 
-ghost use Rattle.std.specs.Prelude.{◌≡◌, ◌++◌, ◌∷◌, IfOk, OnOk, codes};
+ghost use Rattle.std.specs.Prelude.{◌≡◌, ◌++◌, ◌∷◌, IfOk, OnOk, codes, decimal};
 ghost use Rattle.std.specs.List.{flat_map};
 ghost use Rattle.rdm_frame.specs.Digits.{digits};
-ghost use Rattle.rdm_script.specs.TraceText.{line, word_digits, pair_words, fault_words, reply_words, job_words, job_text, heard_word, data_words, outcome_words, status_words, event_text, message_text, trace_text};
+ghost use Rattle.rdm_script.specs.TraceText.{line, word_digits, pair_words, change_words, refused_words, fault_words, reply_words, job_words, job_text, heard_word, data_words, outcome_words, status_words, event_text, message_text, trace_text};
 
 use itoa::{Buffer, Integer};
 use rdm_bus::{Event, Fault, Heard};
 use rdm_frame::Wire;
 use rdm_frame::digits::digit;
 use rdm_outbox::Job;
-use rdm_params::{Message, Outcome, Severity, worker_of};
+use rdm_params::{Change, Message, Outcome, Severity, worker_of};
 use std::alloc::{AllocError, Global};
 
-/// The text of the events, of the messages that were recorded, and of the end of the trace.
-pub(crate) fn trace_text(
+/// The text of a trace: its events, the messages that were recorded, and the end. Fails only where memory is refused.
+pub fn trace_text(
     alloc: Global,
     events: &[Event],
     recorded: &[Message],
@@ -71,6 +71,12 @@ fn put_event(text: &mut Vec<u8>, event: &Event) -> Result<(), AllocError>
             text.extend_from_slice(b"arrive ")?;
             put_job(text, &report.job)?;
             put_outcome(text, report.outcome)?;
+            text.extend_from_slice(b"\n")
+        }
+        Event::Changed { change, message } => {
+            text.extend_from_slice(b"panel ")?;
+            put_change(text, change)?;
+            put_refused(text, message)?;
             text.extend_from_slice(b"\n")
         }
     }
@@ -172,6 +178,38 @@ fn put_outcome(text: &mut Vec<u8>, outcome: Outcome) -> Result<(), AllocError>
     }
 }
 
+/// What is changed at the device's menu, and to which value.
+fn put_change(text: &mut Vec<u8>, change: &Change) -> Result<(), AllocError>
+    ensures { OnOk result (text.new.items ≡ text.old.items ++ change_words change.now) }
+{
+    match change {
+        Change::Start(start) => put_setting(text, b"start ", *start),
+        Change::Personality(number) => put_setting(text, b"personality ", u16::from(*number)),
+        Change::Label(label) => {
+            text.extend_from_slice(b"label ")?;
+            put_data(text, label.as_slice())
+        }
+    }
+}
+
+/// A word of a change, and the number that is set.
+fn put_setting(text: &mut Vec<u8>, words: &[u8], number: u16) -> Result<(), AllocError>
+    ensures { OnOk result (text.new.items ≡ text.old.items ++ (words.now ++ decimal number)) }
+{
+    text.extend_from_slice(words)?;
+    put_number(text, number)
+}
+
+/// The word of a change of which there is no message.
+fn put_refused(text: &mut Vec<u8>, message: &Option<Message>) -> Result<(), AllocError>
+    ensures { OnOk result (text.new.items ≡ text.old.items ++ refused_words message.now) }
+{
+    match message {
+        Some(_) => Ok(()),
+        None => text.extend_from_slice(b" refused"),
+    }
+}
+
 /// A status entry: its severity, its ID and its two values.
 fn put_status(
     text: &mut Vec<u8>,
@@ -202,7 +240,7 @@ fn put_message(text: &mut Vec<u8>, message: &Message) -> Result<(), AllocError>
     text.extend_from_slice(b"\n")
 }
 
-/// The data of a message, or a hyphen where there are none.
+/// Bytes, or a hyphen where there are none.
 fn put_data(text: &mut Vec<u8>, data: &[u8]) -> Result<(), AllocError>
     ensures { OnOk result (text.new.items ≡ text.old.items ++ data_words data.now) }
 {

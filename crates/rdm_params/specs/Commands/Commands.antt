@@ -7,22 +7,22 @@ use Rattle.rdm_params.specs.declared.kind.Verb.{Verb}
 use Rattle.rdm_params.specs.declared.kind.Verb.TheVariants.{Get, Set}
 use Rattle.rdm_params.specs.declared.nack.Nack.{Nack}
 use Rattle.rdm_params.specs.declared.nack.Nack.TheVariants.{DataOutOfRange, SubDeviceOutOfRange}
-use Rattle.rdm_params.specs.declared.profile.Profile.{Profile}
-use Rattle.rdm_params.specs.declared.value.Value.{Value}
+use Rattle.rdm_device.specs.declared.profile.Profile.{Profile}
+use Rattle.rdm_device.specs.declared.value.Value.{Value}
 use Rattle.rdm_params.specs.declared.verdict.Verdict.{Verdict}
-use Rattle.rdm_params.specs.declared.verdict.Verdict.TheVariants.{Reply, Start, Queue, Status, Refuse}
+use Rattle.rdm_params.specs.declared.verdict.Verdict.TheVariants.{Reply, Start, Queue, Status, Clear, Refuse}
 use Rattle.rdm_params.specs.declared.slow.ask.Ask.{Ask}
 use Rattle.rdm_params.specs.declared.slow.way.Way.{Way}
-use Rattle.rdm_params.specs.declared.slow.way.Way.TheVariants.{AtOnce, ByJob, FromQueue, FromStatus}
+use Rattle.rdm_params.specs.declared.slow.way.Way.TheVariants.{AtOnce, ByJob, FromQueue, FromStatus, Clears}
 use Rattle.rdm_params.specs.declared.slow.work.Work.{Work}
 use Rattle.rdm_params.specs.Table.Kinds.{pid_of}
-use Rattle.rdm_params.specs.Device.Map.{Entry, update}
-use Rattle.rdm_params.specs.Device.Parameters.{Parameters}
-use Rattle.rdm_params.specs.Device.Spot.{Spot}
+use Rattle.rdm_device.specs.Device.Map.{Entry, update}
+use Rattle.rdm_device.specs.Device.Parameters.{Parameters}
+use Rattle.rdm_device.specs.Device.Spot.{Spot}
 use Rattle.rdm_params.specs.Table.Rows.{Command, row_of, command_in}
 use Rattle.rdm_params.specs.Table.Uses.{access, read, way_of, is_slow, in_range_of, change, reply}
 use Rattle.rdm_params.specs.Slow.Asks.{ask_of}
-use Rattle.rdm_params.specs.Device.Values.{byte_or_0}
+use Rattle.rdm_device.specs.Device.Values.{byte_or_0}
 
 -- the root
 abbrev pub root_spot : Parameters → Spot
@@ -102,12 +102,13 @@ reply_at command spots value = option_map_or (λ spot. reply command spot value)
 abbrev pub work : ℕ → ℕ → Verb → Value → Work
 work sub pid verb value = record { sub = sub; pid = pid; verb = verb; arg = byte_or_0 value }
 
--- what is answered in this way: these bytes at once, this job, or what a controller asks for
+-- what is answered in this way: these bytes at once, this job, what a controller asks for, or that entries are cleared
 abbrev pub answered : Way → List ℕ → Work → Ask → Verdict
 answered AtOnce bytes job ask = Reply bytes
 answered (ByJob worker estimate) bytes job ask = Start job
 answered FromQueue bytes job ask = Queue ask
 answered FromStatus bytes job ask = Status ask
+answered Clears bytes job ask = Clear
 
 -- what a command answers that leaves these values
 abbrev pub verdict : Parameters → ℕ → ℕ → Verb → Result Value Nack → Verdict

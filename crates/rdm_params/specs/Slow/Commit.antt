@@ -1,33 +1,15 @@
 -- What the end of a job makes of the values, and the message that tells of it. E1.20 sections 6.3.3 and 10.3.1.
-use Rattle.std.specs.Prelude.{ℕ, ℤ, List, [], ◌++◌, take, drop, if◌then◌else◌}
-use Rattle.std.specs.Int.{w16, from_be_bytes, cast_signed, int_min, int_max}
+use Rattle.std.specs.Prelude.{ℕ, List, []}
 use Rattle.rdm_params.specs.declared.kind.Verb.TheVariants.{Get, Set}
 use Rattle.rdm_params.specs.declared.slow.message.Message.{Message}
 use Rattle.rdm_params.specs.declared.slow.outcome.Outcome.{Outcome}
 use Rattle.rdm_params.specs.declared.slow.outcome.Outcome.TheVariants.{Done, Reading, Failed}
 use Rattle.rdm_params.specs.declared.slow.work.Work.{Work}
-use Rattle.rdm_params.specs.declared.value.Value.TheVariants.{Byte}
+use Rattle.rdm_device.specs.declared.value.Value.TheVariants.{Byte}
 use Rattle.rdm_params.specs.Commands.Commands.{command_of, carried_out, addressed, reply_at}
-use Rattle.rdm_params.specs.Device.Map.{Entry, has_key, update}
-use Rattle.rdm_params.specs.Device.Parameters.{Parameters}
-use Rattle.rdm_params.specs.Device.Values.{signed_slots}
-
--- the signed number that 16 bits say
-abbrev pub signed_in : List ℕ → ℤ
-signed_in bytes = cast_signed w16 (from_be_bytes w16 bytes)
-
--- What a sensor shows after it has measured v: v is present, the lowest and the highest value take it in, and the
--- recorded value stays. Section 10.7.2.
-unfoldable pub measured : ℤ → List ℕ → List ℕ
-measured v bytes =
-    signed_slots v
-    ++ signed_slots (int_min (signed_in (take 2 (drop 2 bytes))) v)
-    ++ signed_slots (int_max (signed_in (take 2 (drop 4 bytes))) v)
-    ++ drop 6 bytes
-
--- the sensor of this number has measured v
-abbrev pub measured_by : ℕ → ℤ → Entry → List ℕ
-measured_by number v e = if has_key 0x0201 number e then measured v e.bytes else e.bytes
+use Rattle.rdm_device.specs.Device.Map.{update}
+use Rattle.rdm_device.specs.Device.Measuring.{measured_by}
+use Rattle.rdm_device.specs.Device.Parameters.{Parameters}
 
 -- The values after the end of a job: what is done is carried out as the SET, a sensor shows what it has measured, and
 -- where the job failed nothing changes.

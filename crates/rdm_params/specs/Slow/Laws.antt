@@ -6,9 +6,11 @@ use Rattle.rdm_params.specs.declared.slow.ask.Ask.{Ask}
 use Rattle.rdm_params.specs.declared.slow.ask.Ask.TheVariants as asks
 use Rattle.rdm_params.specs.declared.slow.outcome.Outcome.{Outcome}
 use Rattle.rdm_params.specs.declared.slow.work.Work.{Work}
-use Rattle.rdm_params.specs.declared.verdict.Verdict.TheVariants.{Start, Queue, Status}
+use Rattle.rdm_params.specs.declared.panel.Change.{Change}
+use Rattle.rdm_params.specs.declared.verdict.Verdict.TheVariants.{Start, Queue, Status, Clear}
 use Rattle.rdm_params.specs.Commands.Commands.{command_of, accepted, got, answer_to_set, after_set}
-use Rattle.rdm_params.specs.Device.Parameters.{Parameters}
+use Rattle.rdm_params.specs.Commands.Panel.{after_change}
+use Rattle.rdm_device.specs.Device.Parameters.{Parameters}
 use Rattle.rdm_params.specs.Slow.Commit.{after_commit}
 use Rattle.rdm_params.specs.Slow.Work.{IsAccepted}
 use Rattle.rdm_params.specs.Table.Uses.{is_slow}
@@ -24,12 +26,15 @@ StaysAccepted =
     (p q : Parameters) (sub pid : ℕ) (verb : Verb) (bytes : List ℕ)
     → SameDevices p q → is_slow (command_of pid verb) ≡ true → accepted q sub pid verb bytes ≡ accepted p sub pid verb bytes
 
--- Neither a SET nor the end of a job changes the profile, or how many sub-devices there are.
+-- No SET, end of a job or change at the menu changes the profile, or how many sub-devices there are.
 abbrev pub SetKeepsDevices : Type 0
 SetKeepsDevices = (p : Parameters) (sub pid : ℕ) (bytes : List ℕ) → SameDevices p (after_set p sub pid bytes)
 
 abbrev pub CommitKeepsDevices : Type 0
 CommitKeepsDevices = (p : Parameters) (w : Work) (outcome : Outcome) → SameDevices p (after_commit p w outcome)
+
+abbrev pub PanelKeepsDevices : Type 0
+PanelKeepsDevices = (p : Parameters) (change : Change) → SameDevices p (after_change p change)
 
 -- A work is that of this command, a slow one that the devices accept.
 pub record IsWorkOf (p : Parameters) (sub pid : ℕ) (verb : Verb) (w : Work) : Type 0 where
@@ -61,3 +66,10 @@ abbrev pub SetFetchesNothing : Type 0
 SetFetchesNothing =
     (p : Parameters) (sub pid : ℕ) (bytes : List ℕ) (ask : Ask)
     → (answer_to_set p sub pid bytes ≢ Queue ask) × (answer_to_set p sub pid bytes ≢ Status ask)
+
+-- A SET of CLEAR_STATUS_ID alone clears status entries. Section 10.3.4.
+abbrev pub SetClears : Type 0
+SetClears = (p : Parameters) (sub pid : ℕ) (bytes : List ℕ) → answer_to_set p sub pid bytes ≡ Clear → pid ≡ 0x0032
+
+abbrev pub GetClearsNothing : Type 0
+GetClearsNothing = (p : Parameters) (sub pid : ℕ) (bytes : List ℕ) → got p sub pid bytes ≢ Clear

@@ -3,9 +3,9 @@ use Rattle.std.specs.Prelude.{◌≡◌, ℕ, true, [], ◌∷◌, Ok}
 use Rattle.rdm_params.specs.declared.slow.way.Way.{Way}
 use Rattle.rdm_params.specs.declared.slow.way.Way.TheVariants.{ByJob}
 use Rattle.rdm_params.specs.declared.slow.work.Work.{Work}
-use Rattle.rdm_params.specs.declared.value.Value.TheVariants.{Byte}
+use Rattle.rdm_device.specs.declared.value.Value.TheVariants.{Byte}
 use Rattle.rdm_params.specs.Commands.Commands.{command_of, accepted}
-use Rattle.rdm_params.specs.Device.Parameters.{Parameters}
+use Rattle.rdm_device.specs.Device.Parameters.{Parameters}
 use Rattle.rdm_params.specs.Table.Uses.{way_of, is_slow}
 
 abbrev pub worker_in : Way → ℕ

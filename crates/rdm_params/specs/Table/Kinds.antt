@@ -1,13 +1,15 @@
 -- The PIDs and the names of the parameters. E1.20 table A-3.
 use Rattle.std.specs.Prelude.{ℕ, List, codes}
 use Rattle.rdm_params.specs.declared.kind.Kind.{Kind}
-use Rattle.rdm_params.specs.declared.kind.Kind.TheVariants.{QueuedMessage, StatusMessages, StatusIdDescription, SupportedParameters, DeviceInfo, DeviceModelDescription, ManufacturerLabel, DeviceLabel, FactoryDefaults, LanguageCapabilities, Language, SoftwareVersionLabel, BootSoftwareVersionId, BootSoftwareVersionLabel, DmxPersonality, DmxPersonalityDescription, DmxStartAddress, SlotInfo, SlotDescription, DefaultSlotValue, SensorDefinition, SensorValue, RecordSensors, DeviceHours, LampHours, LampStrikes, LampState, LampOnMode, DevicePowerCycles, DisplayInvert, DisplayLevel, PanInvert, TiltInvert, PanTiltSwap, IdentifyDevice, PowerState, PerformSelfTest, SelfTestDescription, PresetPlayback}
+use Rattle.rdm_params.specs.declared.kind.Kind.TheVariants.{QueuedMessage, StatusMessages, StatusIdDescription, ClearStatusId, SubDeviceStatusReportThreshold, SupportedParameters, DeviceInfo, DeviceModelDescription, ManufacturerLabel, DeviceLabel, FactoryDefaults, LanguageCapabilities, Language, SoftwareVersionLabel, BootSoftwareVersionId, BootSoftwareVersionLabel, DmxPersonality, DmxPersonalityDescription, DmxStartAddress, SlotInfo, SlotDescription, DefaultSlotValue, SensorDefinition, SensorValue, RecordSensors, DeviceHours, LampHours, LampStrikes, LampState, LampOnMode, DevicePowerCycles, DisplayInvert, DisplayLevel, PanInvert, TiltInvert, PanTiltSwap, IdentifyDevice, PowerState, PerformSelfTest, SelfTestDescription, PresetPlayback}
 
 -- the PID of each parameter, and its name in the standard
 abbrev pub pid_and_name : Kind → ℕ × List ℕ
 pid_and_name QueuedMessage = (0x0020, codes "QUEUED_MESSAGE")
 pid_and_name StatusMessages = (0x0030, codes "STATUS_MESSAGES")
 pid_and_name StatusIdDescription = (0x0031, codes "STATUS_ID_DESCRIPTION")
+pid_and_name ClearStatusId = (0x0032, codes "CLEAR_STATUS_ID")
+pid_and_name SubDeviceStatusReportThreshold = (0x0033, codes "SUB_DEVICE_STATUS_REPORT_THRESHOLD")
 pid_and_name SupportedParameters = (0x0050, codes "SUPPORTED_PARAMETERS")
 pid_and_name DeviceInfo = (0x0060, codes "DEVICE_INFO")
 pid_and_name DeviceModelDescription = (0x0080, codes "DEVICE_MODEL_DESCRIPTION")

@@ -4,15 +4,15 @@ use Rattle.std.specs.List.{list_any}
 use Rattle.rdm_params.specs.declared.kind.Verb.{Verb}
 use Rattle.rdm_params.specs.declared.kind.Verb.TheVariants.{Get, Set}
 use Rattle.rdm_params.specs.declared.slow.way.Way.{Way}
-use Rattle.rdm_params.specs.declared.slow.way.Way.TheVariants.{AtOnce, ByJob, FromQueue, FromStatus}
-use Rattle.rdm_params.specs.declared.value.Value.{Value}
-use Rattle.rdm_params.specs.Table.Changes.{Change, unchanged, stored_at, set_back, sensors_reset, sensors_recorded}
-use Rattle.rdm_params.specs.Table.Forms.{Form, nothing, byte, word, long, preset, label}
-use Rattle.rdm_params.specs.Device.Map.{lookup}
-use Rattle.rdm_params.specs.Table.Ranges.{Range, any, below, a_message_type, a_status, a_language, a_personality, a_start, a_slot, a_sensor, sensors, a_power_state, a_test, a_self_test, a_preset}
-use Rattle.rdm_params.specs.Table.Replies.{status_text, device_info, at_factory_defaults, languages, personality_of_all, personality_described, start_address, used_slots, slot_infos, slot_described, slot_defaults, sensor_described, sensor_measured, self_test_runs, self_test_described}
-use Rattle.rdm_params.specs.Device.Spot.{Spot}
-use Rattle.rdm_params.specs.Device.Values.{word_slots, long_slots}
+use Rattle.rdm_params.specs.declared.slow.way.Way.TheVariants.{AtOnce, ByJob, FromQueue, FromStatus, Clears}
+use Rattle.rdm_device.specs.declared.value.Value.{Value}
+use Rattle.rdm_device.specs.Columns.Changes.{Change, unchanged, stored_at, set_back, sensors_reset, sensors_recorded}
+use Rattle.rdm_device.specs.Columns.Forms.{Form, nothing, byte, word, long, preset, label}
+use Rattle.rdm_device.specs.Device.Map.{lookup}
+use Rattle.rdm_device.specs.Columns.Ranges.{Range, any, below, a_message_type, a_threshold, a_status, a_language, a_personality, a_start, a_slot, a_sensor, sensors, a_power_state, a_test, a_self_test, a_preset}
+use Rattle.rdm_device.specs.Columns.Replies.{status_text, device_info, at_factory_defaults, languages, personality_of_all, personality_described, start_address, used_slots, slot_infos, slot_described, slot_defaults, sensor_described, sensor_measured, self_test_runs, self_test_described}
+use Rattle.rdm_device.specs.Device.Spot.{Spot}
+use Rattle.rdm_device.specs.Device.Values.{word_slots, long_slots}
 
 -- A command of a row: the form of its data, the range of it, the way in which it is answered, what it makes of the
 -- entries of a device, and the data of its reply, which is of the device afterwards. Where a job carries it out, the
@@ -85,6 +85,10 @@ measures worker estimate range reply pid =
 abbrev pub fetches : Way → (Form → Range) → Cell
 fetches way range pid = Some (record { form = byte; range = range byte; way = way; change = unchanged; reply = λ spot v. [] })
 
+-- a SET without data that clears the list of status entries
+abbrev pub clears : Cell
+clears pid = Some (record { form = nothing; range = any nothing; way = Clears; change = unchanged; reply = λ spot v. [] })
+
 -- a row that shows and takes what is kept at the key of its PID
 abbrev pub kept : ℕ → Bool → Form → (Form → Range) → Row
 kept pid root_only form range = row pid root_only stored (takes form range)
@@ -95,6 +99,8 @@ status =
     row 0x0020 root (fetches FromQueue a_message_type) none  -- QUEUED_MESSAGE
     ∷ row 0x0030 root (fetches FromStatus (below 5)) none  -- STATUS_MESSAGES
     ∷ row 0x0031 root (asks word a_status status_text) none  -- STATUS_ID_DESCRIPTION
+    ∷ row 0x0032 root none clears  -- CLEAR_STATUS_ID
+    ∷ kept 0x0033 both byte a_threshold  -- SUB_DEVICE_STATUS_REPORT_THRESHOLD
     ∷ []
 
 -- Product information: sections 10.5.1 to 10.5.6

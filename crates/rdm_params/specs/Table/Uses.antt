@@ -1,14 +1,16 @@
 -- What a row says of a command, also where there is no such row or command.
-use Rattle.std.specs.Prelude.{ℕ, Bool, true, false, List, [], Option, Some, None, Result, Ok, Err, if◌then◌else◌, is_some}
+use Rattle.std.specs.Prelude.{ℕ, Bool, true, false, List, [], length, Option, Some, None, Result, Ok, Err, if◌then◌else◌, is_some}
 use Rattle.rdm_params.specs.declared.kind.Verb.{Verb}
+use Rattle.rdm_params.specs.declared.kind.Verb.TheVariants.{Set}
 use Rattle.rdm_params.specs.declared.nack.Nack.{Nack}
 use Rattle.rdm_params.specs.declared.nack.Nack.TheVariants.{FormatError, UnknownPid, UnsupportedCommandClass}
 use Rattle.rdm_params.specs.declared.slow.way.Way.{Way}
 use Rattle.rdm_params.specs.declared.slow.way.Way.TheVariants.{AtOnce, ByJob}
-use Rattle.rdm_params.specs.declared.value.Value.{Value}
-use Rattle.rdm_params.specs.Table.Changes.{Change}
-use Rattle.rdm_params.specs.Device.Spot.{Spot}
-use Rattle.rdm_params.specs.Table.Forms.{read_as}
+use Rattle.rdm_device.specs.declared.value.Value.{Value}
+use Rattle.rdm_device.specs.Columns.Changes.{Change}
+use Rattle.rdm_device.specs.Device.Map.{Entry, update}
+use Rattle.rdm_device.specs.Device.Spot.{Spot}
+use Rattle.rdm_device.specs.Columns.Forms.{Form, has_length, value_in}
 use Rattle.rdm_params.specs.Table.Rows.{Row, Command, command_in}
 
 -- whether the device has the parameter, and the parameter the command
@@ -18,6 +20,10 @@ access (Some r) false verb =
     if r.root_only then Err UnknownPid
     else (if is_some (command_in (Some r) verb) then Ok tt else Err UnsupportedCommandClass)
 access (Some r) true verb = if is_some (command_in (Some r) verb) then Ok tt else Err UnsupportedCommandClass
+
+-- the value that data of a form says, or FORMAT_ERROR
+abbrev pub read_as : Form → List ℕ → Result Value Nack
+read_as form bytes = if has_length form (length bytes) then Ok (value_in form bytes) else Err FormatError
 
 -- the value that the data says
 abbrev pub read : Option Command → List ℕ → Result Value Nack
@@ -46,6 +52,10 @@ in_range_of (Some c) spot v = c.range spot v
 abbrev pub change : Option Command → Change
 change None spot v e = e.bytes
 change (Some c) spot v e = c.change spot v e
+
+-- what a SET by this row makes of these entries of a device
+abbrev pub after_store : Option Row → Spot → Value → List Entry → List Entry
+after_store row spot v entries = update (change (command_in row Set) spot v) entries
 
 -- the data of the reply
 abbrev pub reply : Option Command → Spot → Value → List ℕ

@@ -1,14 +1,21 @@
 -- What a command answers, in two parts.
-use Rattle.std.specs.Prelude.{ℕ, List}
+use Rattle.std.specs.Prelude.{◌≡◌, ℕ, List}
 use Rattle.rdm_params.specs.declared.verdict.Answer.{Answer}
-use Rattle.rdm_params.specs.declared.verdict.Answer.TheVariants.{Done, Starts, Queues, Statuses, Refused}
+use Rattle.rdm_params.specs.declared.verdict.Answer.TheVariants.{Done, Starts, Queues, Statuses, Clears, Refused}
 use Rattle.rdm_params.specs.declared.verdict.Verdict.{Verdict}
-use Rattle.rdm_params.specs.declared.verdict.Verdict.TheVariants.{Reply, Start, Queue, Status, Refuse}
+use Rattle.rdm_params.specs.declared.verdict.Verdict.TheVariants.{Reply, Start, Queue, Status, Clear, Refuse}
+use Rattle.rdm_params.specs.Slow.Work.{worker_of, estimate_of}
 
 -- an answer with the data of its reply; one that is no reply has none
 abbrev pub verdict_with : Answer → List ℕ → Verdict
 verdict_with Done body = Reply body
-verdict_with (Starts work) body = Start work
+verdict_with (Starts work worker estimate) body = Start work
 verdict_with (Queues ask) body = Queue ask
 verdict_with (Statuses ask) body = Status ask
+verdict_with Clears body = Clear
 verdict_with (Refused nack) body = Refuse nack
+
+-- the worker and the estimate that an answer names beside its work are those of the work
+abbrev pub NamesItsJob : Answer → Type 0
+NamesItsJob (Starts work worker estimate) = (worker ≡ worker_of work) × (estimate ≡ estimate_of work)
+NamesItsJob _ = Unit {0}

@@ -1,12 +1,15 @@
 //! Laws of slow commands and of what is fetched. Each is the contract of a call that does nothing.
 
-ghost use Rattle.rdm_params.specs.Slow.Laws.{StaysAccepted, SetKeepsDevices, CommitKeepsDevices, GetStartsItsWork, SetStartsItsWork, GetQueues, GetStatuses, SetFetchesNothing};
+ghost use Rattle.rdm_params.specs.Slow.Laws.{StaysAccepted, SetKeepsDevices, CommitKeepsDevices, GetStartsItsWork};
+ghost use Rattle.rdm_params.specs.Slow.Laws.{SetStartsItsWork, GetQueues, GetStatuses, SetFetchesNothing};
+ghost use Rattle.rdm_params.specs.Slow.Laws.{PanelKeepsDevices, SetClears, GetClearsNothing};
 
-/// A slow command that is accepted stays so, whatever is set and whatever jobs end.
+/// A slow command that is accepted stays so, whatever is set, whatever jobs end and whatever a person changes.
 pub fn slow_command_stays_accepted()
     ensures accepted { StaysAccepted }
     ensures set { SetKeepsDevices }
     ensures commit { CommitKeepsDevices }
+    ensures panel { PanelKeepsDevices }
 {}
 
 /// The work that a command starts has its sub-device, PID and verb, and is accepted as a slow command.
@@ -20,4 +23,10 @@ pub fn two_commands_fetch()
     ensures queue { GetQueues }
     ensures status { GetStatuses }
     ensures set { SetFetchesNothing }
+{}
+
+/// A SET of CLEAR_STATUS_ID is the one command that clears status entries.
+pub fn one_command_clears()
+    ensures set { SetClears }
+    ensures get { GetClearsNothing }
 {}

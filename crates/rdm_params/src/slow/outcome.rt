@@ -1,9 +1,11 @@
 //! How a job ends.
 
-ghost use Rattle.std.specs.Prelude.{◌≡◌};
-ghost use Rattle.rdm_params.specs.Slow.Outcome.{fits};
+ghost use Rattle.std.specs.Prelude.{◌≡◌, ◌<◌, Some, None, IfSome, if◌then◌else◌};
+ghost use Rattle.rdm_params.specs.Slow.Outcome.{ends, fits};
+ghost use Rattle.rdm_params.specs.Slow.Work.{worker_of};
 
-use crate::slow::work::is_slow;
+use crate::slow::Way;
+use crate::slow::work::{is_slow, way};
 use crate::{Severity, Verb, Work};
 
 /// How a job ended.
@@ -31,11 +33,27 @@ pub enum Outcome {
 pub fn fits(work: &Work, outcome: &Outcome) -> bool
     ensures { result ≡ fits work.now outcome.now }
 {
-    is_slow(work)
-        && matches!(
-            (work.verb, outcome),
-            (Verb::Set, Outcome::Done)
-                | (Verb::Get, Outcome::Reading(_))
-                | (_, Outcome::Failed { .. })
-        )
+    is_slow(work) && ends(work.verb, outcome)
+}
+
+/// The worker that has the job of this work, or `None` where no such job can end so: what `worker_of` and `fits` tell,
+/// for one look at the table.
+pub fn fitting_worker(work: &Work, outcome: &Outcome) -> Option<u8>
+    ensures worker { result ≡ if fits work.now outcome.now then Some (worker_of work.now) else None }
+    ensures two { IfSome result (λ worker. worker < 2) }
+{
+    match way(work) {
+        Way::ByJob { worker, .. } if ends(work.verb, outcome) => Some(worker),
+        _ => None,
+    }
+}
+
+/// Whether a slow command can end so: a SET with `Done`, a GET with `Reading`, and each with `Failed`.
+fn ends(verb: Verb, outcome: &Outcome) -> bool
+    ensures { result ≡ ends verb outcome.now }
+{
+    matches!(
+        (verb, outcome),
+        (Verb::Set, Outcome::Done) | (Verb::Get, Outcome::Reading(_)) | (_, Outcome::Failed { .. })
+    )
 }

@@ -1,5 +1,8 @@
 //! How a command is answered.
 
+ghost use Rattle.std.specs.Prelude.{◌≡◌};
+ghost use Rattle.rdm_params.specs.Table.Uses.{is_by_job};
+
 /// The way in which a command is answered.
 #[derive(Clone, Copy)]
 pub(crate) enum Way {
@@ -16,4 +19,18 @@ pub(crate) enum Way {
     FromQueue,
     /// With status entries (section 10.3.2).
     FromStatus,
+    /// At once, and the list of status entries is cleared (section 10.3.4).
+    Clears,
+}
+
+impl Way {
+    /// Whether the command starts a job.
+    pub(crate) fn is_by_job(self) -> bool
+        ensures { result ≡ is_by_job self }
+    {
+        match self {
+            Way::ByJob { .. } => true,
+            Way::AtOnce | Way::FromQueue | Way::FromStatus | Way::Clears => false,
+        }
+    }
 }

@@ -6,7 +6,7 @@ ghost use Rattle.rdm_params.specs.Slow.Work.{worker_of, estimate_of};
 ghost use Rattle.rdm_params.specs.Table.Uses.{way_of, is_slow};
 
 use crate::slow::Way;
-use crate::table::way::way_of;
+use crate::table::dispatch::way_of;
 use crate::{Verb, kind_of};
 
 /// A slow command that was accepted.
@@ -29,7 +29,7 @@ pub fn worker_of(work: &Work) -> u8
 {
     match way(work) {
         Way::ByJob { worker, .. } => worker,
-        Way::AtOnce | Way::FromQueue | Way::FromStatus => 1,
+        Way::AtOnce | Way::FromQueue | Way::FromStatus | Way::Clears => 1,
     }
 }
 
@@ -40,12 +40,12 @@ pub fn estimate_of(work: &Work) -> u16
 {
     match way(work) {
         Way::ByJob { estimate, .. } => estimate,
-        Way::AtOnce | Way::FromQueue | Way::FromStatus => 0,
+        Way::AtOnce | Way::FromQueue | Way::FromStatus | Way::Clears => 0,
     }
 }
 
 /// The way in which the command of a work is answered.
-fn way(work: &Work) -> Way
+pub(super) fn way(work: &Work) -> Way
     ensures { result ≡ way_of (command_of work.now.pid work.now.verb) }
 {
     match kind_of(work.pid) {
@@ -58,8 +58,5 @@ fn way(work: &Work) -> Way
 pub(crate) fn is_slow(work: &Work) -> bool
     ensures { result ≡ is_slow (command_of work.now.pid work.now.verb) }
 {
-    match way(work) {
-        Way::ByJob { .. } => true,
-        Way::AtOnce | Way::FromQueue | Way::FromStatus => false,
-    }
+    way(work).is_by_job()
 }

@@ -3,8 +3,8 @@
 ghost use Rattle.std.specs.Prelude.{◌≡◌, ◌≤◌, ◌+◌, [], ◌++◌, length};
 ghost use Rattle.rdm_params.specs.Table.Rows.{supported, listed, status, information, software, dmx, sensing, usage, display, control};
 
-use crate::device::Place;
 use crate::table::rows;
+use rdm_device::Place;
 use rdm_frame::Body;
 
 macro_rules! listed_rows {

@@ -5,10 +5,10 @@ ghost use Rattle.rdm_params.specs.Table.Kinds.{pid_of};
 ghost use Rattle.rdm_params.specs.Table.Rows.{row_of, row_in, command_in, status, product, software, dmx, sensing, usage, display, control};
 ghost use Rattle.rdm_params.specs.Table.Uses.{read};
 
-use crate::columns::forms;
 use crate::table::{kinds, rows};
-use crate::value::argument::Argument;
 use crate::{Kind, Nack, Value, Verb};
+use rdm_device::Argument;
+use rdm_device::columns::forms;
 
 macro_rules! read_rows {
     (($kind:ident $verb:ident $data:ident) $(($name:ident $pid:tt $at:ident $get:tt $set:tt))*) => {
@@ -24,8 +24,8 @@ macro_rules! read_rows {
 
 macro_rules! read_command {
     (none $data:ident) => { Err(Nack::FormatError) };
-    ((reads $source:tt) $data:ident) => { forms::nothing($data) };
-    (($command:ident $form:ident $($rest:tt)*) $data:ident) => { forms::$form($data) };
+    ((reads $source:tt) $data:ident) => { forms::nothing($data).ok_or(Nack::FormatError) };
+    (($command:ident $form:ident $($rest:tt)*) $data:ident) => { forms::$form($data).ok_or(Nack::FormatError) };
 }
 
 /// The value that the data of a command says.

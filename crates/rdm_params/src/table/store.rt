@@ -1,19 +1,16 @@
 //! What a SET writes.
 
 ghost use Rattle.std.specs.Prelude.{◌≡◌};
-ghost use Rattle.rdm_params.specs.declared.kind.Verb.TheVariants.{Set};
 ghost use Rattle.rdm_params.specs.Table.Kinds.{pid_of};
-ghost use Rattle.rdm_params.specs.Device.Map.{update};
-ghost use Rattle.rdm_params.specs.Device.Spot.{Spot};
-ghost use Rattle.rdm_params.specs.Views.State.{common_entries, own_entries};
-ghost use Rattle.rdm_params.specs.Table.Rows.{row_of, row_in, command_in, status, product, software, dmx, sensing, usage, display, control};
-ghost use Rattle.rdm_params.specs.Table.Uses.{change};
+ghost use Rattle.rdm_device.specs.Device.Spot.{Spot};
+ghost use Rattle.rdm_device.specs.Views.State.{common_entries, own_entries};
+ghost use Rattle.rdm_params.specs.Table.Rows.{row_of, row_in, status, product, software, dmx, sensing, usage, display, control};
+ghost use Rattle.rdm_params.specs.Table.Uses.{after_store};
 
-use crate::columns::changes;
-use crate::device::state::{Common, Own};
 use crate::table::{kinds, rows};
-use crate::value::argument::Argument;
 use crate::{Kind, Profile};
+use rdm_device::columns::changes;
+use rdm_device::{Argument, Common, Own};
 
 macro_rules! common_rows {
     (($kind:ident $value:ident $profile:ident $common:ident) $(($name:ident $pid:tt $at:ident $get:tt $set:tt))*) => {
@@ -71,7 +68,8 @@ macro_rules! write_own {
 /// Writes what a SET writes of the values that every device keeps.
 #[tactic(auto, unfolding(crate::specs::Table::Rows::row_of, crate::specs::Table::Rows::table))]
 pub(crate) fn store_common(kind: Kind, value: &Argument<'_>, profile: &Profile, common: &mut Common)
-    ensures { (spot : Spot) → spot.profile ≡ profile.now → common_entries common.new ≡ update (change (command_in (row_of (pid_of kind)) Set) spot value.now) (common_entries common.old) }
+    ensures { (spot : Spot) → spot.profile ≡ profile.now
+        → common_entries common.new ≡ after_store (row_of (pid_of kind)) spot value.now (common_entries common.old) }
 {
     match kind {
         rows!(status, kinds!()) => common_status(kind, value, profile, common),
@@ -85,58 +83,66 @@ pub(crate) fn store_common(kind: Kind, value: &Argument<'_>, profile: &Profile, 
     }
 }
 
-#[tactic(auto, unfolding(crate::specs::Views::State::common_entries))]
+#[tactic(auto, unfolding(rdm_device::specs::Views::State::common_entries))]
 fn common_status(kind: Kind, value: &Argument<'_>, profile: &Profile, common: &mut Common)
-    ensures { (spot : Spot) → spot.profile ≡ profile.now → common_entries common.new ≡ update (change (command_in (row_in status (pid_of kind)) Set) spot value.now) (common_entries common.old) }
+    ensures { (spot : Spot) → spot.profile ≡ profile.now
+        → common_entries common.new ≡ after_store (row_in status (pid_of kind)) spot value.now (common_entries common.old) }
 {
     rows!(status, common_rows!(kind value profile common))
 }
 
-#[tactic(auto, unfolding(crate::specs::Views::State::common_entries))]
+#[tactic(auto, unfolding(rdm_device::specs::Views::State::common_entries))]
 fn common_product(kind: Kind, value: &Argument<'_>, profile: &Profile, common: &mut Common)
-    ensures { (spot : Spot) → spot.profile ≡ profile.now → common_entries common.new ≡ update (change (command_in (row_in product (pid_of kind)) Set) spot value.now) (common_entries common.old) }
+    ensures { (spot : Spot) → spot.profile ≡ profile.now
+        → common_entries common.new ≡ after_store (row_in product (pid_of kind)) spot value.now (common_entries common.old) }
 {
     rows!(product, common_rows!(kind value profile common))
 }
 
-#[tactic(auto, unfolding(crate::specs::Views::State::common_entries))]
+#[tactic(auto, unfolding(rdm_device::specs::Views::State::common_entries))]
 fn common_software(kind: Kind, value: &Argument<'_>, profile: &Profile, common: &mut Common)
-    ensures { (spot : Spot) → spot.profile ≡ profile.now → common_entries common.new ≡ update (change (command_in (row_in software (pid_of kind)) Set) spot value.now) (common_entries common.old) }
+    ensures { (spot : Spot) → spot.profile ≡ profile.now
+        → common_entries common.new ≡ after_store (row_in software (pid_of kind)) spot value.now (common_entries common.old) }
 {
     rows!(software, common_rows!(kind value profile common))
 }
 
-#[tactic(auto, unfolding(crate::specs::Views::State::common_entries))]
+#[tactic(auto, unfolding(rdm_device::specs::Views::State::common_entries))]
 fn common_dmx(kind: Kind, value: &Argument<'_>, profile: &Profile, common: &mut Common)
-    ensures { (spot : Spot) → spot.profile ≡ profile.now → common_entries common.new ≡ update (change (command_in (row_in dmx (pid_of kind)) Set) spot value.now) (common_entries common.old) }
+    ensures { (spot : Spot) → spot.profile ≡ profile.now
+        → common_entries common.new ≡ after_store (row_in dmx (pid_of kind)) spot value.now (common_entries common.old) }
 {
     rows!(dmx, common_rows!(kind value profile common))
 }
 
-#[tactic(auto, unfolding(crate::specs::Views::State::common_entries))]
+#[tactic(auto, unfolding(rdm_device::specs::Views::State::common_entries))]
 fn common_sensing(kind: Kind, value: &Argument<'_>, profile: &Profile, common: &mut Common)
-    ensures { (spot : Spot) → spot.profile ≡ profile.now → common_entries common.new ≡ update (change (command_in (row_in sensing (pid_of kind)) Set) spot value.now) (common_entries common.old) }
+    ensures { (spot : Spot) → spot.profile ≡ profile.now
+        → common_entries common.new ≡ after_store (row_in sensing (pid_of kind)) spot value.now (common_entries common.old) }
 {
     rows!(sensing, common_rows!(kind value profile common))
 }
 
-#[tactic(auto, unfolding(crate::specs::Views::State::common_entries))]
+#[tactic(auto, unfolding(rdm_device::specs::Views::State::common_entries))]
 fn common_usage(kind: Kind, value: &Argument<'_>, profile: &Profile, common: &mut Common)
-    ensures { (spot : Spot) → spot.profile ≡ profile.now → common_entries common.new ≡ update (change (command_in (row_in usage (pid_of kind)) Set) spot value.now) (common_entries common.old) }
+    ensures { (spot : Spot) → spot.profile ≡ profile.now
+        → common_entries common.new ≡ after_store (row_in usage (pid_of kind)) spot value.now (common_entries common.old) }
 {
     rows!(usage, common_rows!(kind value profile common))
 }
 
-#[tactic(auto, unfolding(crate::specs::Views::State::common_entries))]
+#[tactic(auto, unfolding(rdm_device::specs::Views::State::common_entries))]
 fn common_display(kind: Kind, value: &Argument<'_>, profile: &Profile, common: &mut Common)
-    ensures { (spot : Spot) → spot.profile ≡ profile.now → common_entries common.new ≡ update (change (command_in (row_in display (pid_of kind)) Set) spot value.now) (common_entries common.old) }
+    ensures { (spot : Spot) → spot.profile ≡ profile.now
+        → common_entries common.new ≡ after_store (row_in display (pid_of kind)) spot value.now (common_entries common.old) }
 {
     rows!(display, common_rows!(kind value profile common))
 }
 
-#[tactic(auto, unfolding(crate::specs::Views::State::common_entries))]
+#[tactic(auto, unfolding(rdm_device::specs::Views::State::common_entries))]
 fn common_control(kind: Kind, value: &Argument<'_>, profile: &Profile, common: &mut Common)
-    ensures { (spot : Spot) → spot.profile ≡ profile.now → common_entries common.new ≡ update (change (command_in (row_in control (pid_of kind)) Set) spot value.now) (common_entries common.old) }
+    ensures { (spot : Spot) → spot.profile ≡ profile.now
+        → common_entries common.new ≡ after_store (row_in control (pid_of kind)) spot value.now (common_entries common.old) }
 {
     rows!(control, common_rows!(kind value profile common))
 }
@@ -144,7 +150,8 @@ fn common_control(kind: Kind, value: &Argument<'_>, profile: &Profile, common: &
 /// Writes what a SET writes of the values that the root alone keeps.
 #[tactic(auto, unfolding(crate::specs::Table::Rows::row_of, crate::specs::Table::Rows::table))]
 pub(crate) fn store_own(kind: Kind, value: &Argument<'_>, profile: &Profile, own: &mut Own)
-    ensures { (spot : Spot) → spot.profile ≡ profile.now → own_entries own.new ≡ update (change (command_in (row_of (pid_of kind)) Set) spot value.now) (own_entries own.old) }
+    ensures { (spot : Spot) → spot.profile ≡ profile.now
+        → own_entries own.new ≡ after_store (row_of (pid_of kind)) spot value.now (own_entries own.old) }
 {
     match kind {
         rows!(status, kinds!()) => own_status(kind, value, profile, own),
@@ -158,58 +165,66 @@ pub(crate) fn store_own(kind: Kind, value: &Argument<'_>, profile: &Profile, own
     }
 }
 
-#[tactic(auto, unfolding(crate::specs::Views::State::own_entries), using(crate::proofs::Sensors::sensors_stay))]
+#[tactic(auto, unfolding(rdm_device::specs::Views::State::own_entries), using(rdm_device::proofs::Sensors::sensors_stay))]
 fn own_status(kind: Kind, value: &Argument<'_>, profile: &Profile, own: &mut Own)
-    ensures { (spot : Spot) → spot.profile ≡ profile.now → own_entries own.new ≡ update (change (command_in (row_in status (pid_of kind)) Set) spot value.now) (own_entries own.old) }
+    ensures { (spot : Spot) → spot.profile ≡ profile.now
+        → own_entries own.new ≡ after_store (row_in status (pid_of kind)) spot value.now (own_entries own.old) }
 {
     rows!(status, own_rows!(kind value profile own))
 }
 
-#[tactic(auto, unfolding(crate::specs::Views::State::own_entries), using(crate::proofs::Sensors::sensors_stay))]
+#[tactic(auto, unfolding(rdm_device::specs::Views::State::own_entries), using(rdm_device::proofs::Sensors::sensors_stay))]
 fn own_product(kind: Kind, value: &Argument<'_>, profile: &Profile, own: &mut Own)
-    ensures { (spot : Spot) → spot.profile ≡ profile.now → own_entries own.new ≡ update (change (command_in (row_in product (pid_of kind)) Set) spot value.now) (own_entries own.old) }
+    ensures { (spot : Spot) → spot.profile ≡ profile.now
+        → own_entries own.new ≡ after_store (row_in product (pid_of kind)) spot value.now (own_entries own.old) }
 {
     rows!(product, own_rows!(kind value profile own))
 }
 
-#[tactic(auto, unfolding(crate::specs::Views::State::own_entries), using(crate::proofs::Sensors::sensors_stay))]
+#[tactic(auto, unfolding(rdm_device::specs::Views::State::own_entries), using(rdm_device::proofs::Sensors::sensors_stay))]
 fn own_software(kind: Kind, value: &Argument<'_>, profile: &Profile, own: &mut Own)
-    ensures { (spot : Spot) → spot.profile ≡ profile.now → own_entries own.new ≡ update (change (command_in (row_in software (pid_of kind)) Set) spot value.now) (own_entries own.old) }
+    ensures { (spot : Spot) → spot.profile ≡ profile.now
+        → own_entries own.new ≡ after_store (row_in software (pid_of kind)) spot value.now (own_entries own.old) }
 {
     rows!(software, own_rows!(kind value profile own))
 }
 
-#[tactic(auto, unfolding(crate::specs::Views::State::own_entries), using(crate::proofs::Sensors::sensors_stay))]
+#[tactic(auto, unfolding(rdm_device::specs::Views::State::own_entries), using(rdm_device::proofs::Sensors::sensors_stay))]
 fn own_dmx(kind: Kind, value: &Argument<'_>, profile: &Profile, own: &mut Own)
-    ensures { (spot : Spot) → spot.profile ≡ profile.now → own_entries own.new ≡ update (change (command_in (row_in dmx (pid_of kind)) Set) spot value.now) (own_entries own.old) }
+    ensures { (spot : Spot) → spot.profile ≡ profile.now
+        → own_entries own.new ≡ after_store (row_in dmx (pid_of kind)) spot value.now (own_entries own.old) }
 {
     rows!(dmx, own_rows!(kind value profile own))
 }
 
-#[tactic(auto, unfolding(crate::specs::Views::State::own_entries), using(crate::proofs::Sensors::sensors_stay))]
+#[tactic(auto, unfolding(rdm_device::specs::Views::State::own_entries), using(rdm_device::proofs::Sensors::sensors_stay))]
 fn own_sensing(kind: Kind, value: &Argument<'_>, profile: &Profile, own: &mut Own)
-    ensures { (spot : Spot) → spot.profile ≡ profile.now → own_entries own.new ≡ update (change (command_in (row_in sensing (pid_of kind)) Set) spot value.now) (own_entries own.old) }
+    ensures { (spot : Spot) → spot.profile ≡ profile.now
+        → own_entries own.new ≡ after_store (row_in sensing (pid_of kind)) spot value.now (own_entries own.old) }
 {
     rows!(sensing, own_rows!(kind value profile own))
 }
 
-#[tactic(auto, unfolding(crate::specs::Views::State::own_entries), using(crate::proofs::Sensors::sensors_stay))]
+#[tactic(auto, unfolding(rdm_device::specs::Views::State::own_entries), using(rdm_device::proofs::Sensors::sensors_stay))]
 fn own_usage(kind: Kind, value: &Argument<'_>, profile: &Profile, own: &mut Own)
-    ensures { (spot : Spot) → spot.profile ≡ profile.now → own_entries own.new ≡ update (change (command_in (row_in usage (pid_of kind)) Set) spot value.now) (own_entries own.old) }
+    ensures { (spot : Spot) → spot.profile ≡ profile.now
+        → own_entries own.new ≡ after_store (row_in usage (pid_of kind)) spot value.now (own_entries own.old) }
 {
     rows!(usage, own_rows!(kind value profile own))
 }
 
-#[tactic(auto, unfolding(crate::specs::Views::State::own_entries), using(crate::proofs::Sensors::sensors_stay))]
+#[tactic(auto, unfolding(rdm_device::specs::Views::State::own_entries), using(rdm_device::proofs::Sensors::sensors_stay))]
 fn own_display(kind: Kind, value: &Argument<'_>, profile: &Profile, own: &mut Own)
-    ensures { (spot : Spot) → spot.profile ≡ profile.now → own_entries own.new ≡ update (change (command_in (row_in display (pid_of kind)) Set) spot value.now) (own_entries own.old) }
+    ensures { (spot : Spot) → spot.profile ≡ profile.now
+        → own_entries own.new ≡ after_store (row_in display (pid_of kind)) spot value.now (own_entries own.old) }
 {
     rows!(display, own_rows!(kind value profile own))
 }
 
-#[tactic(auto, unfolding(crate::specs::Views::State::own_entries), using(crate::proofs::Sensors::sensors_stay))]
+#[tactic(auto, unfolding(rdm_device::specs::Views::State::own_entries), using(rdm_device::proofs::Sensors::sensors_stay))]
 fn own_control(kind: Kind, value: &Argument<'_>, profile: &Profile, own: &mut Own)
-    ensures { (spot : Spot) → spot.profile ≡ profile.now → own_entries own.new ≡ update (change (command_in (row_in control (pid_of kind)) Set) spot value.now) (own_entries own.old) }
+    ensures { (spot : Spot) → spot.profile ≡ profile.now
+        → own_entries own.new ≡ after_store (row_in control (pid_of kind)) spot value.now (own_entries own.old) }
 {
     rows!(control, own_rows!(kind value profile own))
 }

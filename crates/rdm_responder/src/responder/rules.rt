@@ -20,7 +20,8 @@ const HAS_SUB_DEVICES: u16 = 0x0002;
 impl Responder {
     /// Writes what is answered to a frame, and says whether anything is, and which job started.
     pub(super) fn answer(&mut self, request: &FrameView<'_>, wire: &mut Wire) -> Stepped
-        ensures reply { (a : Account) → Shows self.old a → answered result.replied wire.new ≡ answer_to a (request_of a.setup.uid request.now) }
+        ensures reply { (a : Account) → Shows self.old a →
+            answered result.replied wire.new ≡ answer_to a (request_of a.setup.uid request.now) }
         ensures silent { OnFalse result.replied (wire.new ≡ wire.old) }
         ensures job { (a : Account) → Shows self.old a → result.job ≡ job_with a (request_of a.setup.uid request.now) }
         ensures after { (a : Account) → Shows self.old a → Shows self.new (account_with a (request_of a.setup.uid request.now)) }

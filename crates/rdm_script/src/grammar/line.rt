@@ -94,6 +94,9 @@ fn step_in(words: &[&[u8]]) -> Option<CrewStep>
         [name, empties] if *name == b"settle".as_slice() => {
             Some(CrewStep::Settle(decimals::long_in(empties)?))
         }
+        [name, empties] if *name == b"panel".as_slice() => {
+            Some(CrewStep::Panel(decimals::long_in(empties)?))
+        }
         _ => command_step_in(words),
     }
 }

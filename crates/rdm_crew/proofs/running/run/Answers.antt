@@ -5,16 +5,23 @@ use Rattle.rdm_bus.specs.BusRun.{IsBusRun}
 use Rattle.rdm_bus.specs.Systems.{IsTrace}
 use Rattle.rdm_crew.specs.declared.setup.Setup.{Setup}
 use Rattle.rdm_crew.specs.declared.error.RunError.TheVariants.{BadSetup}
+use Rattle.rdm_crew.specs.Settling.{IsLaneOfOne}
 use Rattle.rdm_crew.specs.Setups.{switched_on, IsBadSetup}
-use Rattle.rdm_crew.proofs.Starting.{tied, laws, told_also}
+use Rattle.rdm_crew.proofs.Starting.{tied, unchanged, laws, told_also}
 use Rattle.rdm_crew.proofs.running.run.Goals as goal
 
 pub play-requires-clause-new : goal.play-requires-clause-new
 play-requires-clause-new g c =
-    tied (record { setup = c.of-began.result; system = c.in-Ok.system; reports = c.in_ok-reports.reports })
-    c.in_ok-first_jobs.first c.in_ok-second_jobs.second c.in_ok-first_jobs.first_jobs c.in_ok-second_jobs.second_jobs c.in_ok-reports.first_reports c.in_ok-reports.second_reports
+    tied (record { desk = record { setup = c.of-began.result; system = c.in-Ok.system; reports = c.in_ok-reports.reports }; first = c.in_ok-first_jobs.first; second = c.in_ok-second_jobs.second; changes = c.in_ok-changes.changes })
+    c.in_ok-first_jobs.first_jobs c.in_ok-second_jobs.second_jobs c.in_ok-reports.first_reports c.in_ok-reports.second_reports
     (subst (λ (s : Setup). IsTrace (switched_on s) [] c.in-Ok.system) (sym c.of-began.ensures) c.in-Ok.ensures.new)
     c.in_ok-first_jobs.ensures c.in_ok-second_jobs.ensures c.in_ok-reports.ensures
+
+pub play-requires-clause-changes : goal.play-requires-clause-changes
+play-requires-clause-changes g c =
+    let new = unchanged (record { setup = c.of-began.result; system = c.in-Ok.system; reports = c.in_ok-reports.reports }) c.in_ok-changes.changes c.in_ok-changes.offered
+    (subst (λ (s : Setup). IsTrace (switched_on s) [] c.in-Ok.system) (sym c.of-began.ensures) c.in-Ok.ensures.new) c.in_ok-changes.ensures in
+    (new.0, subst (IsLaneOfOne c.in_ok-changes.changes) (sym c.in_ok-watcher.ensures.0) new.1)
 
 pub returns-clause-bus : goal.returns-clause-bus
 returns-clause-bus g c =

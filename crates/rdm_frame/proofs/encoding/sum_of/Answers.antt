@@ -1,4 +1,4 @@
-use Rattle.std.proofs.Common.{sum, ap, ◌∙◌, arith}
+use Rattle.std.proofs.Common.{length, length-drop, sum, ap, ◌∙◌, arith}
 use Rattle.rdm_frame.proofs.Sums.{sum_in_parts, sum_is_small}
 use Rattle.rdm_frame.proofs.encoding.sum_of.Goals as goal
 
@@ -6,4 +6,12 @@ use Rattle.rdm_frame.proofs.encoding.sum_of.Goals as goal
 pub overflow_add-total : goal.overflow_add-total
 overflow_add-total c =
     let part = c.sum_of_part-total.ensures ∙ ap sum c.in-Some.ensures.cases.0 in
-    omega (arith, c.loop-eight.invariant.whole, part, sum_in_parts 8 c.loop-eight.rest.now, sum_is_small c.args.slots.now c.type_inv.slots, c.requires)
+    omega (arith, c.loop-sixteen.invariant.whole, part, sum_in_parts 16 c.loop-sixteen.rest.now, sum_is_small c.args.slots.now c.type_inv.slots, c.requires)
+
+pub loop-sixteen-preserved : goal.loop-sixteen-preserved
+loop-sixteen-preserved c =
+    let part = c.sum_of_part-total.ensures ∙ ap sum c.in-Some.ensures.cases.0 in
+    record {
+      whole = omega (arith, c.loop-sixteen.invariant.whole, part, ap sum c.in-Some.ensures.cases.1, sum_in_parts 16 c.loop-sixteen.rest.now);
+      shorter = omega (arith, ap length c.in-Some.ensures.cases.1, length-drop 16 c.loop-sixteen.rest.now, c.loop-sixteen.invariant.shorter);
+    }

@@ -2,6 +2,7 @@ use Rattle.std.proofs.Common.{sym, subst}
 use Rattle.rdm_responder.specs.StandsFor.{StandsFor}
 use Rattle.rdm_crew.specs.Desks.{stands_at}
 use Rattle.rdm_crew.proofs.Ending.{first_answered, second_answered, none_outstanding, never_missing}
+use Rattle.rdm_crew.proofs.Watching.{joined_lane, offered_in}
 use Rattle.rdm_crew.proofs.closing.Closing.finish.Goals as goal
 
 pub returns-clause-first : goal.returns-clause-first
@@ -33,3 +34,7 @@ returns-then-outstanding-gt0-clause-err g c =
     let history = (stands_at c.args.self.desk).history in
     let stands = c.requires.drawn.0.run.1.stands.responder in
     absurd (never_missing c.outstanding.result _ (c.outstanding.ensures history (subst (λ r. StandsFor r history) (sym c.responder.ensures) stands)) (none_outstanding c.args.self.desk g0 g1 c.requires.drawn.0 first second) c.if-outstanding-gt0.true)
+
+pub returns-clause-changes : goal.returns-clause-changes
+returns-clause-changes g c =
+    offered_in (g.N.Panel.offers c.args.self.watcher.promise.panel.value) c.args.self.desk c.args.self.changes c.args.self.watcher.promise.changes.value c.join-watched.result c.requires.changes.0 c.in_ok-settle_one.ensures c.join-watched.ensures

@@ -1,4 +1,4 @@
-use Rattle.rdm_params.proofs.StaysAccepted.{stays_accepted, set_keeps_devices, commit_keeps_devices}
+use Rattle.rdm_params.proofs.StaysAccepted.{stays_accepted, set_keeps_devices, commit_keeps_devices, panel_keeps_devices}
 use Rattle.rdm_params.proofs.slow.laws.slow_command_stays_accepted.Goals as goal
 
 pub returns-clause-accepted : goal.returns-clause-accepted
@@ -9,3 +9,6 @@ returns-clause-set c = set_keeps_devices
 
 pub returns-clause-commit : goal.returns-clause-commit
 returns-clause-commit c = commit_keeps_devices
+
+pub returns-clause-panel : goal.returns-clause-panel
+returns-clause-panel c = panel_keeps_devices

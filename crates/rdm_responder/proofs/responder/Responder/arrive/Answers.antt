@@ -15,31 +15,23 @@ use Rattle.rdm_responder.proofs.Arrivals.{some_outstanding, shows_report, is_arr
 use Rattle.rdm_responder.proofs.Lawfulness.{lawful_then, may_happen}
 use Rattle.rdm_responder.proofs.responder.Responder.arrive.Goals as goal
 
-pub returns-then-not-awaits-clause-lawful : goal.returns-then-not-awaits-clause-lawful
-returns-then-not-awaits-clause-lawful c h lawful stands =
-    (λ no. absurd cc, λ after. sym c.if-not-awaits.true ∙ (c.awaits.ensures.account (account_of h) stands).1 (may_happen h (Arrived c.args.report) after))
-
-pub commit-message-requires : goal.commit-message-requires
-commit-message-requires c = (and_parts _ _ (c.awaits.ensures.fits c.if-not-awaits.false)).0
-
-pub arrive-requires : goal.arrive-requires
-arrive-requires c =
-    let oldest = ap (λ (s : State). slice_get (jobs_at s.outbox (worker_of c.args.report.job.work)) 0) c.self.view_is ∙ c.awaits.ensures.oldest c.if-not-awaits.false in
-    some_outstanding _ c.args.report.job (ap (λ (n : ℕ). slice_get (jobs_at c.self.inside.outbox n) 0) c.worker_of.ensures.worker ∙ oldest)
+pub returns-in_default-clause-lawful : goal.returns-in_default-clause-lawful
+returns-in_default-clause-lawful c h lawful stands =
+    (λ no. absurd cc, λ after. (c.in_default.ensures.account (account_of h) stands).1 (may_happen h (Arrived c.args.report) after))
 
 pub returns-clause-lawful : goal.returns-clause-lawful
 returns-clause-lawful c h lawful stands =
-    (λ yes. lawful_then h (Arrived c.args.report) lawful ((c.awaits.ensures.account (account_of h) stands).0 c.if-not-awaits.false), λ after. refl)
+    (λ yes. lawful_then h (Arrived c.args.report) lawful ((c.in-Some.ensures.account (account_of h) stands).0 refl), λ after. refl)
 
 pub returns-clause-arrival : goal.returns-clause-arrival
 returns-clause-arrival c h stands =
     let b = (account_of h).outbox in
     let r = c.args.report in
     let shows = subst (λ (s : State). outbox_state.Shows s.outbox b) (sym c.self.view_is) stands.outbox in
-    let kept = c.note_failure-kept.ensures.kept (after_arrive b c.worker_of.result c.copy.result) (c.arrive.ensures.shows b shows) in
-    is_arrival h r _ c.self.inside.devices c.worker_of.result ((c.awaits.ensures.account (account_of h) stands).0 c.if-not-awaits.false)
-    (ap (λ (s : State). s.parameters) c.self.view_is ∙ stands.parameters) c.worker_of.ensures.worker c.commit-message.ensures.message
-    (kept ∙ ap (λ (m : Message). nat_lt (length b.noted) (length (after_outcome (after_arrive b c.worker_of.result m) r.job.work r.outcome).noted)) c.copy.ensures)
+    let kept = c.note_failure-kept.ensures.kept (after_arrive b c.in-Some.worker c.copy.result) (c.arrive.ensures.shows b shows) in
+    is_arrival h r _ c.self.inside.devices c.commit-message.new.self c.in-Some.worker ((c.in-Some.ensures.account (account_of h) stands).0 refl)
+    (ap (λ (s : State). s.parameters) c.self.view_is ∙ stands.parameters) c.commit-message.ensures.after c.in-Some.ensures.worker c.commit-message.ensures.message
+    (kept ∙ ap (λ (m : Message). nat_lt (length b.noted) (length (after_outcome c.commit-message.new.self (after_arrive b c.in-Some.worker m) r.job.work r.outcome).noted)) c.copy.ensures)
 
 pub returns-clause-stands : goal.returns-clause-stands
 returns-clause-stands c h stands =
@@ -49,6 +41,6 @@ returns-clause-stands c h stands =
     let message = c.copy.ensures ∙ c.commit-message.ensures.message ∙ ap (λ (s : State). committed s.parameters r.job.work r.outcome) c.self.view_is in
     let after = c.commit-message.ensures.after ∙ ap (λ (s : State). after_commit s.parameters r.job.work r.outcome) c.self.view_is in
     stands_for_event _ h (Arrived r)
-    (shows_report c.args.self.now _ (account_of h) r c.worker_of.result c.copy.result stands c.worker_of.ensures.worker message
+    (shows_report c.args.self.now _ (account_of h) r c.in-Some.worker c.copy.result stands c.in-Some.ensures.worker message
     (ap (λ (s : State). s.uid) c.self.view_is) after (ap (λ (s : State). s.muted) c.self.view_is)
-    (c.note_failure-kept.ensures.shows (after_arrive b c.worker_of.result c.copy.result) (c.arrive.ensures.shows b shows)))
+    (c.note_failure-kept.ensures.shows (after_arrive b c.in-Some.worker c.copy.result) (c.arrive.ensures.shows b shows)))

@@ -1,24 +1,26 @@
-use Rattle.std.proofs.Common.{sym, ap, subst, ◌∙◌}
-use Rattle.std.specs.Option.{option_copied}
+use Rattle.std.proofs.Common.{sym, subst, ◌∙◌, refl}
 use Rattle.rdm_outbox.specs.Shows as outbox
 use Rattle.rdm_responder.specs.StandsFor.{State}
-use Rattle.rdm_responder.proofs.Arrivals.{oldest_arrives, is_oldest, none_arrives}
+use Rattle.rdm_responder.proofs.Arrivals.{fitting, no_worker, oldest_arrives, is_oldest, none_arrives}
 use Rattle.rdm_responder.proofs.responder.Responder.awaits.Goals as goal
 
-pub returns-in_default-clause-account : goal.returns-in_default-clause-account
-returns-in_default-clause-account c a shows =
+pub returns-in_err-job-clause-account : goal.returns-in_err-job-clause-account
+returns-in_err-job-clause-account c a shows =
     let outbox_shows = subst (λ (s : State). outbox.Shows s.outbox a.outbox) (sym c.self.view_is) shows.outbox in
-    let none = ap option_copied (sym c.in_default.is) ∙ c.oldest.ensures.account a.outbox outbox_shows c.worker_of.ensures.two in
-    (λ no. absurd cc, λ may. absurd (none_arrives a c.args.report.now c.worker_of.result c.worker_of.ensures.worker none may))
+    let fit = fitting _ _ _ c.in_ok-worker.ensures.worker in
+    let none = c.in_err-job.ensures.account a.outbox outbox_shows c.in_ok-worker.ensures.two in
+    (λ some. absurd (no_worker _ c.from_residual-in_err-job.ensures some), λ may. absurd (none_arrives a c.args.report.now c.in_ok-worker.worker fit.0 none may))
 
-pub returns-then-not-is_same-clause-account : goal.returns-then-not-is_same-clause-account
-returns-then-not-is_same-clause-account c a shows =
+pub returns-then-is_same-clause-account : goal.returns-then-is_same-clause-account
+returns-then-is_same-clause-account c a shows =
     let outbox_shows = subst (λ (s : State). outbox.Shows s.outbox a.outbox) (sym c.self.view_is) shows.outbox in
-    let here = ap option_copied (sym c.in-Some.is) ∙ c.oldest.ensures.account a.outbox outbox_shows c.worker_of.ensures.two in
-    (λ no. absurd cc, λ may. sym c.if-not-is_same.true ∙ c.is_same.ensures.1 (is_oldest a c.args.report.now c.worker_of.result c.in-Some.job.now c.worker_of.ensures.worker here may))
+    let fit = fitting _ _ _ c.in_ok-worker.ensures.worker in
+    let here = c.in_ok-job.ensures.account a.outbox outbox_shows c.in_ok-worker.ensures.two in
+    (λ yes. oldest_arrives a c.args.report.now c.in_ok-worker.worker c.in_ok-job.job.now fit.0 here (c.is_same.ensures.0 c.if-is_same.true) fit.1, λ may. refl)
 
-pub returns-clause-account : goal.returns-clause-account
-returns-clause-account c a shows =
+pub returns-else-is_same-clause-account : goal.returns-else-is_same-clause-account
+returns-else-is_same-clause-account c a shows =
     let outbox_shows = subst (λ (s : State). outbox.Shows s.outbox a.outbox) (sym c.self.view_is) shows.outbox in
-    let here = ap option_copied (sym c.in-Some.is) ∙ c.oldest.ensures.account a.outbox outbox_shows c.worker_of.ensures.two in
-    (λ yes. oldest_arrives a c.args.report.now c.worker_of.result c.in-Some.job.now c.worker_of.ensures.worker here (c.is_same.ensures.0 c.if-not-is_same.false) (sym c.fits.ensures ∙ yes), λ may. c.fits.ensures ∙ may.fits)
+    let fit = fitting _ _ _ c.in_ok-worker.ensures.worker in
+    let here = c.in_ok-job.ensures.account a.outbox outbox_shows c.in_ok-worker.ensures.two in
+    (λ no. absurd cc, λ may. sym c.if-is_same.false ∙ c.is_same.ensures.1 (is_oldest a c.args.report.now c.in_ok-worker.worker c.in_ok-job.job.now fit.0 here may))

@@ -11,7 +11,7 @@ loop-input-init c = record {
 
 pub loop-input-preserved : goal.loop-input-preserved
 loop-input-preserved c = record {
-  run = completes_next c.args.self.now c.loop-input.self c.take.new.self c.loop-input.outputs.items c.args.inputs.now c.loop-input.input-index _ c.take.result c.push_reserved.new.self.items c.push_reserved.ensures.items c.loop-input-test.true c.loop-input.invariant.run c.take.ensures;
+  run = completes_next c.args.self.now c.loop-input.self c.take.new.self c.loop-input.outputs.items c.args.inputs.now c.loop-input.input-index _ c.input-item.result c.take.result c.push_reserved.new.self.items c.push_reserved.ensures.items c.input-item.is c.loop-input-test.true c.loop-input.invariant.run c.take.ensures;
   count = omega (arith, c.push_reserved.ensures.len, c.loop-input.invariant.count);
   room = omega (arith, c.push_reserved.ensures.capacity, c.loop-input.invariant.room);
 }

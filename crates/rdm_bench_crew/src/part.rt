@@ -1,0 +1,42 @@
+//! What the workers do, and that nobody stands at the panel.
+
+ghost use Rattle.std.specs.Prelude.{◌≡◌, true};
+ghost use Rattle.rdm_params.specs.Slow.Outcome.{ends};
+
+use rdm_crew::{Panel, Part};
+use rdm_outbox::Job;
+use rdm_params::{Change, Outcome, Verb};
+
+/// Does each job at once.
+#[derive(Drop)]
+pub(crate) struct Quick;
+
+impl Part for Quick {
+    ghost gives = { λ part job outcome. ends job.work.verb outcome ≡ true };
+
+    fn work(&mut self, job: &Job) -> Outcome {
+        outcome_of(job)
+    }
+}
+
+/// A SET is done, and a sensor measures 25.
+pub(crate) fn outcome_of(job: &Job) -> Outcome
+    ensures { ends job.now.work.verb result ≡ true }
+{
+    match job.work.verb {
+        Verb::Set => Outcome::Done,
+        Verb::Get => Outcome::Reading(25),
+    }
+}
+
+/// Offers no change.
+#[derive(Drop)]
+pub(crate) struct Nobody;
+
+impl Panel for Nobody {
+    ghost offers = { λ panel number change. ⊥ };
+
+    fn next(&mut self, _number: u32) -> Option<Change> {
+        None
+    }
+}

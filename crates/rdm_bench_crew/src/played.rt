@@ -1,0 +1,56 @@
+//! What there is after a plan was played.
+
+use crate::fault::Fault;
+use crate::one_thread::play;
+use crate::part::{Nobody, Quick};
+use crate::plan::Plan;
+use crate::setup::setup;
+use rdm_crew::run;
+use std::alloc::Global;
+use std::fmt;
+use std::fmt::{Display, Formatter, Write};
+use std::sync::Wait;
+use std::thread::Threads;
+
+/// How many events there were, and how many messages were collected.
+#[derive(Clone, Copy)]
+pub(crate) struct Played {
+    events: usize,
+    messages: usize,
+}
+
+impl Played {
+    /// Whether, after so many commands, each command, each report and each poll is an event, and each message was
+    /// collected.
+    pub(crate) fn is_whole(self, jobs: u32) -> bool {
+        let jobs = jobs as usize;
+        self.events == 3 * jobs && self.messages == jobs
+    }
+}
+
+impl Display for Played {
+    fn fmt<W: Write>(&self, f: &mut Formatter<W>) -> fmt::Result {
+        write!(f, "{} events, {} messages", self.events, self.messages)
+    }
+}
+
+/// Plays a plan with two workers.
+pub(crate) fn by_workers<R>(rt: R, alloc: Global, plan: &Plan) -> Result<Played, Fault>
+where
+    R: Threads + Wait + Copy + Send + 'static,
+{
+    let trace = run(rt, alloc, setup(), plan.steps(), Quick, Quick, Nobody)?;
+    Ok(Played {
+        events: trace.events().len(),
+        messages: trace.recorded().len(),
+    })
+}
+
+/// Plays a plan on this thread alone.
+pub(crate) fn by_one_thread(alloc: Global, plan: &Plan) -> Result<Played, Fault> {
+    let system = play(alloc, plan.steps()).ok_or(Fault::Refused)?;
+    Ok(Played {
+        events: system.trace().len(),
+        messages: system.recorded().len(),
+    })
+}

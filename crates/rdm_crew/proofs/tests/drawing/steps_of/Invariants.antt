@@ -1,5 +1,0 @@
-use Rattle.rdm_crew.specs.RunTrace.{HaveFaults}
-use Rattle.rdm_crew.proofs.tests.drawing.steps_of.Given as goal
-
-abbrev pub invariant-loop : goal.invariant-loop
-invariant-loop l = HaveFaults l.steps.items

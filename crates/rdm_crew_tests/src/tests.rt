@@ -1,0 +1,232 @@
+//! What no clause says: that runs come to an end, that both workers are at work at once, and that memory suffices.
+
+ghost use Rattle.std.specs.Prelude.{IfOk, OnOk};
+ghost use Rattle.rdm_crew.specs.RunTrace.{HaveFaults};
+
+mod hand;
+mod menu;
+mod queues;
+mod rows;
+
+use hand::hands;
+use menu::Menu;
+use rdm_bus::{Action, Command, Event, Fault, Want};
+use rdm_crew::{CrewStep, RunError, Setup, Trace, run};
+use rdm_frame::{Load, Uid};
+use rdm_params::{Outcome, Profile, worker_of};
+use rows::{DRAWN_AND_POLLED, REFUSALS, THREE_COMMANDS, THREE_REPORTS, TRACES};
+use std::alloc::{AllocError, Global};
+use std::process::Abort;
+use std::sync::Wait;
+use std::test::Fail;
+use std::thread::Threads;
+
+const DEVICE: Uid = Uid {
+    maker: 0x7FF0,
+    device: 1,
+};
+
+const CONTROLLER: Uid = Uid {
+    maker: 0x7FF0,
+    device: 2,
+};
+
+/// At which place of a frame its command class stands (E1.20 section 6.2).
+const CLASS: usize = 20;
+
+/// Steps of a run. Nothing goes wrong on the bus.
+#[derive(Clone, Copy)]
+enum Act {
+    /// A command to the root of the device, with a PID and data.
+    Ask(Action, u16, &'static [u8]),
+    Collect,
+    /// So many draws.
+    Draw(u32),
+    Settle(u32),
+}
+
+/// What a trace tells.
+#[derive(Clone, Copy)]
+struct Told {
+    /// How many events there are.
+    events: usize,
+    /// What the first worker has reported, in order: the number of each job, and how it ended.
+    first: &'static [(u32, Outcome)],
+    /// What the second worker has reported.
+    second: &'static [(u32, Outcome)],
+    /// Of which class and PID the messages are that were collected, all of the root and without data.
+    collected: &'static [(u8, u16)],
+}
+
+/// A run of a device of the demo fixture with so many sub-devices, and of a controller that wants advisories.
+#[derive(Clone, Copy)]
+struct Row {
+    /// What it shows.
+    name: &'static str,
+    device: Uid,
+    controller: Uid,
+    subs: u16,
+    queue_size: u16,
+    acts: &'static [Act],
+    /// How often each part looks whether the other comes, where they wait for each other.
+    gate: Option<u32>,
+}
+
+#[test]
+fn runs_end_with_these_traces(rt: HostRuntime) -> Result<(), Fail> {
+    for (row, told) in TRACES {
+        let trace = run_of(rt, rt.alloc(), &row)??;
+        tells(&rt, rt.alloc(), row.name, &trace, told)?;
+    }
+    Ok(())
+}
+
+#[test]
+fn runs_end_with_these_refusals(rt: HostRuntime) -> Result<(), Fail> {
+    for (row, refusal) in REFUSALS {
+        let ended = run_of(rt, rt.alloc(), &row)?;
+        assert_eq!(rt; ended.err(), Some(refusal), "{}", row.name);
+    }
+    Ok(())
+}
+
+#[test]
+fn a_thousand_runs_come_to_an_end(rt: HostRuntime) -> Result<(), Fail> {
+    let row = THREE_COMMANDS;
+    for _ in 0..1_000 {
+        let trace = run_of(rt, rt.alloc(), &row)??;
+        tells(&rt, rt.alloc(), row.name, &trace, THREE_REPORTS)?;
+    }
+    Ok(())
+}
+
+/// A draw takes a report that is there: in one of a thousand runs at least it is drawn before the poll, which fetches it.
+#[test]
+fn a_report_is_drawn_before_the_poll(rt: HostRuntime) -> Result<(), Fail> {
+    for _ in 0..1_000 {
+        let trace = run_of(rt, rt.alloc(), &DRAWN_AND_POLLED)??;
+        if was_fetched(&trace) {
+            return Ok(());
+        }
+    }
+    Err(Fail::new("each poll came before its report"))
+}
+
+/// The run of a row. Nobody is at the fixture's menu.
+fn run_of<R>(rt: R, alloc: Global, row: &Row) -> Result<Result<Trace, RunError>, Fail>
+where
+    R: Threads + Wait + Copy + Send + 'static,
+{
+    let steps = steps_of(alloc, row.acts)?;
+    let (first, second) = hands(alloc, row.gate)?;
+    let panel = Menu { changes: 0 };
+    Ok(run(rt, alloc, setup_of(row), &steps, first, second, panel))
+}
+
+/// The setup of a row.
+fn setup_of(row: &Row) -> Setup {
+    Setup {
+        device: row.device,
+        controller: row.controller,
+        want: Want::Advisory,
+        profile: Profile::demo(row.subs),
+        queue_size: row.queue_size,
+    }
+}
+
+/// The steps of a run.
+fn steps_of(alloc: Global, acts: &[Act]) -> Result<Vec<CrewStep>, Fail>
+    ensures { IfOk result (λ steps. HaveFaults steps.items) }
+{
+    let mut steps = Vec::new(alloc);
+    for act in acts {
+        match *act {
+            Act::Ask(action, pid, data) => {
+                steps.push(CrewStep::Ask(command(action, pid, data)?, Fault::None))?;
+            }
+            Act::Collect => steps.push(CrewStep::Collect(Fault::None))?,
+            Act::Draw(times) => draws(&mut steps, times)?,
+            Act::Settle(empties) => steps.push(CrewStep::Settle(empties))?,
+        }
+    }
+    Ok(steps)
+}
+
+/// Puts so many draws at the end.
+fn draws(steps: &mut Vec<CrewStep>, times: u32) -> Result<(), AllocError>
+    requires { HaveFaults steps.old.items }
+    ensures { OnOk result (HaveFaults steps.new.items) }
+{
+    for _ in 0..times {
+        steps.push(CrewStep::Draw)?;
+    }
+    Ok(())
+}
+
+/// A command to the root of the device, with these data.
+fn command(action: Action, pid: u16, data: &[u8]) -> Result<Command, Fail> {
+    Ok(Command {
+        dst: DEVICE,
+        action,
+        sub: 0,
+        pid,
+        load: Load::from_slice(data).ok_or("at most 255 bytes")?,
+    })
+}
+
+/// A trace tells this.
+fn tells(
+    rt: &impl Abort,
+    alloc: Global,
+    name: &str,
+    trace: &Trace,
+    told: Told,
+) -> Result<(), Fail> {
+    assert_eq!(rt; trace.events().len(), told.events, "{name}");
+    let first = arrived(alloc, trace, 0)?;
+    assert_eq!(rt; first.as_slice(), told.first, "{name}");
+    let second = arrived(alloc, trace, 1)?;
+    assert_eq!(rt; second.as_slice(), told.second, "{name}");
+    are_collected(rt, trace, told.collected);
+    Ok(())
+}
+
+/// The reports on a worker's jobs, in the order in which they arrived: the number of each job, and how it ended.
+fn arrived(alloc: Global, trace: &Trace, worker: u8) -> Result<Vec<(u32, Outcome)>, AllocError> {
+    let mut reports = Vec::new(alloc);
+    for event in trace.events() {
+        if let Event::Arrived { report, .. } = event {
+            if worker_of(&report.job.work) == worker {
+                reports.push((report.job.number, report.outcome))?;
+            }
+        }
+    }
+    Ok(reports)
+}
+
+/// The messages of these classes and PIDs were collected, of the root and without data.
+fn are_collected(rt: &impl Abort, trace: &Trace, collected: &[(u8, u16)]) {
+    assert_eq!(rt; trace.recorded().len(), collected.len());
+    for (message, (class, pid)) in trace.recorded().iter().zip(collected) {
+        assert_eq!(rt;
+            (message.class, message.pid, message.sub),
+            (*class, *pid, 0)
+        );
+        assert!(rt; message.body.as_slice().is_empty());
+    }
+}
+
+/// Whether a poll fetched the response of a SET.
+fn was_fetched(trace: &Trace) -> bool {
+    for event in trace.events() {
+        if let Event::Bus {
+            poll: true,
+            reply: Some(reply),
+            ..
+        } = event
+        {
+            return reply.as_slice().get(CLASS) == Some(&0x31);
+        }
+    }
+    false
+}

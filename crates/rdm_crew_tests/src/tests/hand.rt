@@ -1,0 +1,101 @@
+//! Parts: one that is done at once, and two that wait for each other and are done only where both are at work at once.
+
+ghost use Rattle.std.specs.Prelude.{◌≡◌, true};
+ghost use Rattle.rdm_params.specs.Slow.Outcome.{ends};
+
+use rdm_crew::Part;
+use rdm_outbox::Job;
+use rdm_params::{Outcome, Severity, Verb};
+use std::alloc::{AllocError, Global};
+use std::sync::Arc;
+use std::sync::atomic::{AtomicBool, Ordering};
+use std::thread;
+
+/// What every sensor measures.
+pub(super) const MEASURED: i16 = 25;
+
+/// How a job ends where the other part doesn't come.
+const NOT_MET: Outcome = Outcome::Failed {
+    severity: Severity::Error,
+    id: 0,
+    v1: 0,
+    v2: 0,
+};
+
+/// Does jobs.
+#[derive(Drop)]
+pub(super) enum Hand {
+    /// Every SET is done, and every sensor measures the same.
+    Quick,
+    /// A SET is done where the other part comes too, and everything else fails.
+    Gate(Gate),
+}
+
+impl Part for Hand {
+    ghost use Rattle.std.specs.Prelude.{◌≡◌, true};
+    ghost use Rattle.rdm_params.specs.Slow.Outcome.{ends};
+
+    ghost gives = { λ part job outcome. ends job.work.verb outcome ≡ true };
+
+    fn work(&mut self, job: &Job) -> Outcome {
+        match (self, job.work.verb) {
+            (Hand::Quick, Verb::Set) => Outcome::Done,
+            (Hand::Quick, Verb::Get) => Outcome::Reading(MEASURED),
+            (Hand::Gate(gate), Verb::Set) => gate.comes_and_waits(),
+            (Hand::Gate(gate), Verb::Get) => gate.comes(),
+        }
+    }
+}
+
+/// A part that waits for another.
+#[derive(Drop)]
+pub(super) struct Gate {
+    mine: Arc<AtomicBool, Global>,
+    other: Arc<AtomicBool, Global>,
+    /// How often it looks whether the other comes.
+    turns: u32,
+}
+
+impl Gate {
+    /// Says that it is there, and fails.
+    fn comes(&self) -> Outcome
+        ensures { ends Verb.Get result ≡ true }
+    {
+        self.mine.store(true, Ordering::SeqCst);
+        NOT_MET
+    }
+
+    /// Says that it is there, and waits for the other part, for a time.
+    fn comes_and_waits(&self) -> Outcome
+        ensures { ends Verb.Set result ≡ true }
+    {
+        self.mine.store(true, Ordering::SeqCst);
+        for _ in 0..self.turns {
+            if self.other.load(Ordering::SeqCst) {
+                return Outcome::Done;
+            }
+            thread::yield_now();
+        }
+        NOT_MET
+    }
+}
+
+/// The parts of both workers. They wait for each other where turns are given, so many of them.
+pub(super) fn hands(alloc: Global, turns: Option<u32>) -> Result<(Hand, Hand), AllocError> {
+    let Some(turns) = turns else {
+        return Ok((Hand::Quick, Hand::Quick));
+    };
+    let first = Arc::new(alloc, AtomicBool::new(false))?;
+    let second = Arc::new(alloc, AtomicBool::new(false))?;
+    let front = Gate {
+        mine: Arc::try_clone(&first)?,
+        other: Arc::try_clone(&second)?,
+        turns,
+    };
+    let back = Gate {
+        mine: second,
+        other: first,
+        turns,
+    };
+    Ok((Hand::Gate(front), Hand::Gate(back)))
+}

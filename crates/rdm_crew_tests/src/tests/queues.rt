@@ -1,0 +1,60 @@
+//! The longest queue.
+
+ghost use Rattle.std.specs.Prelude.{IfOk};
+ghost use Rattle.rdm_crew.specs.RunTrace.{HaveFaults};
+
+use super::hand::hands;
+use super::menu::Menu;
+use super::{CONTROLLER, DEVICE, arrived, command};
+use rdm_bus::{Action, Fault, Want};
+use rdm_crew::{CrewStep, Setup, run};
+use rdm_params::{Outcome, Profile};
+use std::alloc::Global;
+use std::test::Fail;
+
+const LAMP_STATE: u16 = 0x0403;
+
+/// The most results of slow commands for which a device has room.
+const LONGEST: u16 = 1_024;
+
+/// So many empty turns are enough for every report.
+const PATIENCE: u32 = 100_000_000;
+
+/// As many slow commands as there is room for, none of which has ended for the device before the last, and then all reports.
+fn steps_of(alloc: Global) -> Result<Vec<CrewStep>, Fail>
+    ensures { IfOk result (λ steps. HaveFaults steps.items) }
+{
+    let mut steps = Vec::new(alloc);
+    for _ in 0..LONGEST {
+        steps.push(CrewStep::Ask(command(Action::Set, LAMP_STATE, &[1])?, Fault::None))?;
+    }
+    steps.push(CrewStep::Settle(PATIENCE))?;
+    Ok(steps)
+}
+
+#[test]
+fn a_thousand_jobs_are_outstanding(rt: HostRuntime) -> Result<(), Fail> {
+    let steps = steps_of(rt.alloc())?;
+    let setup = Setup {
+        device: DEVICE,
+        controller: CONTROLLER,
+        want: Want::Advisory,
+        profile: Profile::demo(0),
+        queue_size: LONGEST,
+    };
+    let (first, second) = hands(rt.alloc(), None)?;
+    let trace = run(
+        rt,
+        rt.alloc(),
+        setup,
+        &steps,
+        first,
+        second,
+        Menu { changes: 0 },
+    )?;
+    assert_eq!(rt; trace.events().len(), 2 * usize::from(LONGEST));
+    let reports = arrived(rt.alloc(), &trace, 0)?;
+    assert_eq!(rt; reports.len(), usize::from(LONGEST));
+    assert_eq!(rt; reports.last(), Some(&(1_023, Outcome::Done)));
+    Ok(())
+}

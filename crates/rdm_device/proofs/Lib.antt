@@ -1,0 +1,6 @@
+pub mod DemoLemmas
+pub mod ListSteps
+pub mod Maps
+pub mod SensorReads
+pub mod Sensors
+pub mod Words

@@ -1,0 +1,4 @@
+pub mod Changes
+pub mod Forms
+pub mod Ranges
+pub mod Replies

@@ -1,0 +1,7 @@
+pub mod Demo
+pub mod Map
+pub mod Measuring
+pub mod Parameters
+pub mod Profiles
+pub mod Spot
+pub mod Values

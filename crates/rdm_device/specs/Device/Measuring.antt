@@ -1,0 +1,22 @@
+-- What a sensor shows after it has measured. E1.20 section 10.7.2.
+use Rattle.std.specs.Prelude.{ℕ, ℤ, List, ◌++◌, take, drop, if◌then◌else◌}
+use Rattle.std.specs.Int.{w16, from_be_bytes, cast_signed, int_min, int_max}
+use Rattle.rdm_device.specs.Device.Map.{Entry, has_key}
+use Rattle.rdm_device.specs.Device.Values.{signed_slots}
+
+-- the signed number that 16 bits say
+abbrev pub signed_in : List ℕ → ℤ
+signed_in bytes = cast_signed w16 (from_be_bytes w16 bytes)
+
+-- What a sensor shows after it has measured v: v is present, the lowest and the highest value take it in, and the
+-- recorded value stays. Section 10.7.2.
+unfoldable pub measured : ℤ → List ℕ → List ℕ
+measured v bytes =
+    signed_slots v
+    ++ signed_slots (int_min (signed_in (take 2 (drop 2 bytes))) v)
+    ++ signed_slots (int_max (signed_in (take 2 (drop 4 bytes))) v)
+    ++ drop 6 bytes
+
+-- the sensor of this number has measured v
+abbrev pub measured_by : ℕ → ℤ → Entry → List ℕ
+measured_by number v e = if has_key 0x0201 number e then measured v e.bytes else e.bytes

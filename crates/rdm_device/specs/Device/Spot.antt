@@ -1,0 +1,21 @@
+-- What the ranges and replies of one device depend on.
+use Rattle.std.specs.Prelude.{ℕ, ◌-◌, Bool, List, slice_get, slice_index}
+use Rattle.std.specs.Option.{option_map_or}
+use Rattle.rdm_device.specs.declared.profile.Profile.{Profile}
+use Rattle.rdm_device.specs.declared.profile.Unit.{Unit as DeviceUnit}
+use Rattle.rdm_device.specs.Device.Map.{Entry, lookup}
+
+-- A device: the profile, what it says of the device, whether it is the root, and its values.
+pub record Spot : Type 0 where
+  pub profile : Profile
+  pub unit : DeviceUnit
+  pub is_root : Bool
+  pub entries : List Entry
+
+-- the number of the current personality, from 1
+abbrev pub personality : Spot → ℕ
+personality spot = slice_index (lookup spot.entries 0x00E0 0) 0
+
+-- how many slots the current personality uses
+abbrev pub footprint : Spot → ℕ
+footprint spot = option_map_or (λ m. m.footprint) (slice_get spot.unit.personalities.items (personality spot - 1)) 0

@@ -1,0 +1,51 @@
+-- The values that devices keep, as a map by keys.
+use Rattle.std.specs.Prelude.{ℕ, suc, List, [], ◌∷◌, ◌++◌, Option, Some, None}
+use Rattle.rdm_device.specs.declared.device.state.Common.{Common}
+use Rattle.rdm_device.specs.declared.device.state.Measured.{Measured}
+use Rattle.rdm_device.specs.declared.device.state.Own.{Own}
+use Rattle.rdm_device.specs.Device.Map.{Entry, entry}
+use Rattle.rdm_device.specs.Device.Values.{word_slots, long_slots, signed_slots}
+
+-- the keys of every device
+unfoldable pub common_entries : Common → List Entry
+common_entries d =
+    entry 0x0033 0 (d.report_threshold ∷ [])
+    ∷ entry 0x0082 0 d.label
+    ∷ entry 0x00E0 0 (d.personality ∷ [])
+    ∷ entry 0x00F0 0 (word_slots d.start)
+    ∷ entry 0x0401 0 (long_slots d.lamp_hours)
+    ∷ entry 0x0402 0 (long_slots d.lamp_strikes)
+    ∷ entry 0x0403 0 (d.lamp_state ∷ [])
+    ∷ entry 0x0404 0 (d.lamp_on_mode ∷ [])
+    ∷ entry 0x1000 0 (d.identify ∷ [])
+    ∷ entry 0x1010 0 (d.power_state ∷ [])
+    ∷ []
+
+-- the present, lowest, highest and recorded value of a sensor
+abbrev pub measured_slots : Measured → List ℕ
+measured_slots m = signed_slots m.present ++ signed_slots m.lowest ++ signed_slots m.highest ++ signed_slots m.recorded
+
+-- the keys of the sensors from number n on
+abbrev pub sensor_entries : ℕ → List Measured → List Entry
+sensor_entries n [] = []
+sensor_entries n (m ∷ ms) = entry 0x0201 n (measured_slots m) ∷ sensor_entries (suc n) ms
+
+-- the keys of the root alone
+unfoldable pub own_entries : Own → List Entry
+own_entries d =
+    entry 0x00B0 0 (word_slots d.language)
+    ∷ entry 0x0400 0 (long_slots d.device_hours)
+    ∷ entry 0x0405 0 (long_slots d.power_cycles)
+    ∷ entry 0x0500 0 (d.display_invert ∷ [])
+    ∷ entry 0x0501 0 (d.display_level ∷ [])
+    ∷ entry 0x0600 0 (d.pan_invert ∷ [])
+    ∷ entry 0x0601 0 (d.tilt_invert ∷ [])
+    ∷ entry 0x0602 0 (d.pan_tilt_swap ∷ [])
+    ∷ entry 0x1020 0 (d.self_test ∷ [])
+    ∷ entry 0x1031 0 (word_slots d.preset.0 ++ d.preset.1 ∷ [])
+    ∷ sensor_entries 0 d.sensors.items
+
+-- the keys that the root has and a sub-device lacks
+abbrev pub own_if : Option Own → List Entry
+own_if None = []
+own_if (Some d) = own_entries d

@@ -1,0 +1,87 @@
+//! The forms that the data of a command can have.
+
+ghost use Rattle.std.specs.Prelude.{◌≡◌};
+ghost use Rattle.rdm_device.specs.Columns.Forms.{nothing, byte, word, long, preset, label, value_of};
+
+use crate::value::argument::{Argument, Handed};
+
+/// The most bytes of a text.
+const LONGEST_TEXT: usize = 32;
+
+/// No data.
+#[inline]
+pub fn nothing(data: &[u8]) -> Option<Argument<'_>>
+    ensures { result ≡ value_of nothing data.now }
+{
+    match data {
+        [] => Some(Argument {
+            handed: Handed::Nothing,
+        }),
+        _ => None,
+    }
+}
+
+/// An 8-bit number.
+#[inline]
+pub fn byte(data: &[u8]) -> Option<Argument<'_>>
+    ensures { result ≡ value_of byte data.now }
+{
+    match data {
+        [number] => Some(Argument {
+            handed: Handed::Byte(*number),
+        }),
+        _ => None,
+    }
+}
+
+/// A 16-bit number.
+#[inline]
+pub fn word(data: &[u8]) -> Option<Argument<'_>>
+    ensures { result ≡ value_of word data.now }
+{
+    match data {
+        [high, low] => Some(Argument {
+            handed: Handed::Word(u16::from_be_bytes([*high, *low])),
+        }),
+        _ => None,
+    }
+}
+
+/// A 32-bit number.
+#[inline]
+pub fn long(data: &[u8]) -> Option<Argument<'_>>
+    ensures { result ≡ value_of long data.now }
+{
+    match data {
+        [a, b, c, d] => Some(Argument {
+            handed: Handed::Long(u32::from_be_bytes([*a, *b, *c, *d])),
+        }),
+        _ => None,
+    }
+}
+
+/// A preset and its level.
+#[inline]
+pub fn preset(data: &[u8]) -> Option<Argument<'_>>
+    ensures { result ≡ value_of preset data.now }
+{
+    match data {
+        [high, low, level] => Some(Argument {
+            handed: Handed::Preset(u16::from_be_bytes([*high, *low]), *level),
+        }),
+        _ => None,
+    }
+}
+
+/// A text of at most 32 bytes.
+#[inline]
+pub fn label(data: &[u8]) -> Option<Argument<'_>>
+    ensures { result ≡ value_of label data.now }
+{
+    if data.len() > LONGEST_TEXT {
+        return None;
+    }
+    Some(Argument {
+        handed: Handed::Label(data),
+    })
+}

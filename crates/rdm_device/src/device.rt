@@ -1,0 +1,33 @@
+//! One addressed device.
+
+pub(crate) mod footprint;
+pub(crate) mod measuring;
+pub(crate) mod state;
+
+use crate::device::state::{Common, Own};
+use crate::{Profile, Unit};
+use std::marker::Model;
+
+/// What the ranges and replies of one device depend on. A contract sees the device.
+#[derive(Drop)]
+pub struct Place<'a> {
+    /// What the devices are made with.
+    pub profile: &'a Profile,
+    /// What the profile says of the device.
+    pub unit: &'a Unit,
+    /// The values that every device keeps.
+    pub common: &'a Common,
+    /// The values of the root; none at a sub-device.
+    pub own: Option<&'a Own>,
+}
+
+impl<'a> Model for Place<'a> {
+    ghost use Rattle.std.specs.Prelude.{is_some, ◌++◌};
+    ghost use Rattle.std.specs.Option.{option_copied};
+    ghost use Rattle.rdm_device.specs.Device.Spot.{Spot};
+    ghost use Rattle.rdm_device.specs.Views.State.{common_entries, own_if};
+
+    ghost Value = { Spot };
+
+    ghost view = { λ p. record { profile = p.profile.now; unit = p.unit.now; is_root = is_some p.own; entries = common_entries p.common.now ++ own_if (option_copied p.own) } };
+}

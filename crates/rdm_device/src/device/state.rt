@@ -1,0 +1,138 @@
+//! The values that devices keep.
+
+ghost use Rattle.std.specs.Prelude.{◌≡◌};
+
+use crate::{Profile, SensorDef, Unit};
+use arrayvec::ArrayVec;
+use rdm_frame::Text;
+
+/// What every device keeps (E1.20 section 10).
+#[derive(Debug, Drop)]
+pub struct Common {
+    /// The least rank of the status entries that are noted, or 0.
+    pub report_threshold: u8,
+    /// The label (section 10.5.5).
+    pub label: Text,
+    /// The number of the current personality, from 1 (section 10.6.1).
+    pub personality: u8,
+    /// The DMX512 start address (section 10.6.3).
+    pub start: u16,
+    /// The hours that the lamp was on (section 10.8.2).
+    pub lamp_hours: u32,
+    /// How often the lamp was struck (section 10.8.3).
+    pub lamp_strikes: u32,
+    /// The state of the lamp (section 10.8.4).
+    pub lamp_state: u8,
+    /// When the lamp is struck (section 10.8.5).
+    pub lamp_on_mode: u8,
+    /// 1 while the device identifies itself (section 10.11).
+    pub identify: u8,
+    /// The power state (section 10.11 and table A-11).
+    pub power_state: u8,
+}
+
+impl Common {
+    ghost use Rattle.rdm_device.specs.Device.Parameters.{common_at_start};
+    ghost use Rattle.rdm_device.specs.Views.State.{common_entries};
+
+    /// What a device starts with.
+    #[tactic(auto, unfolding(crate::specs::Views::State::common_entries, crate::specs::Device::Parameters::common_at_start))]
+    pub fn at_start(unit: &Unit) -> Common
+        ensures { common_entries result ≡ common_at_start unit.now }
+    {
+        Common {
+            report_threshold: 2,
+            label: unit.label.copy(),
+            personality: 1,
+            start: unit.start,
+            lamp_hours: 0,
+            lamp_strikes: 0,
+            lamp_state: 0,
+            lamp_on_mode: 0,
+            identify: 0,
+            power_state: 0xFF,
+        }
+    }
+}
+
+/// What a sensor measured, in its own unit and prefix (section 10.7.2).
+#[derive(Clone, Copy, Debug, Default)]
+pub struct Measured {
+    /// The present value.
+    pub present: i16,
+    /// The lowest value so far.
+    pub lowest: i16,
+    /// The highest value so far.
+    pub highest: i16,
+    /// The recorded value.
+    pub recorded: i16,
+}
+
+/// What the root device keeps beside it.
+#[derive(Debug, Drop)]
+pub struct Own {
+    /// The code of the language, of two letters (section 10.5.8).
+    pub language: u16,
+    /// The hours that the device was on (section 10.8.1).
+    pub device_hours: u32,
+    /// How often the device was switched on (section 10.8.6).
+    pub power_cycles: u32,
+    /// Whether the display is inverted (section 10.9).
+    pub display_invert: u8,
+    /// How bright the display is (section 10.9).
+    pub display_level: u8,
+    /// Whether pan is inverted (section 10.10).
+    pub pan_invert: u8,
+    /// Whether tilt is inverted (section 10.10).
+    pub tilt_invert: u8,
+    /// Whether pan and tilt are swapped (section 10.10).
+    pub pan_tilt_swap: u8,
+    /// The self test that was last switched on, or 0 (section 10.11).
+    pub self_test: u8,
+    /// The preset and its level (section 10.11).
+    pub preset: (u16, u8),
+    /// What each sensor measured.
+    pub sensors: ArrayVec<Measured, 8>,
+}
+
+impl Own {
+    ghost use Rattle.rdm_device.specs.Device.Parameters.{own_at_start, sensors_at_start};
+    ghost use Rattle.rdm_device.specs.Views.State.{own_entries, sensor_entries};
+
+    /// What the root starts with.
+    #[tactic(auto, unfolding(crate::specs::Views::State::own_entries, crate::specs::Device::Parameters::own_at_start))]
+    pub fn at_start(profile: &Profile) -> Own
+        ensures { own_entries result ≡ own_at_start profile.now }
+    {
+        Own {
+            language: profile.languages.first().copied().unwrap_or(0),
+            device_hours: 0,
+            power_cycles: 0,
+            display_invert: 0,
+            display_level: 0xFF,
+            pan_invert: 0,
+            tilt_invert: 0,
+            pan_tilt_swap: 0,
+            self_test: 0,
+            preset: (0, 0),
+            sensors: Own::sensors_at_start(&profile.sensors),
+        }
+    }
+
+    /// What each sensor starts with.
+    #[tactic(auto, using(crate::proofs::ListSteps::replicate_push, crate::proofs::Sensors::sensors_start))]
+    fn sensors_at_start(sensors: &ArrayVec<SensorDef, 8>) -> ArrayVec<Measured, 8>
+        ensures { sensor_entries 0 result.items ≡ sensors_at_start 0 sensors.now.items }
+    {
+        let mut measured = ArrayVec::new();
+        for _ in 0..sensors.len() {
+            measured.push(Measured {
+                present: 0,
+                lowest: 0,
+                highest: 0,
+                recorded: 0,
+            });
+        }
+        measured
+    }
+}

@@ -1,0 +1,20 @@
+//! One RDM device (ANSI E1.20-2010, sections 9 and 10): its profile, the values that it keeps, which data fit a
+//! command, what it replies, and how a command changes it.
+//!
+//! It knows no PID and no command. The modules of `columns` have what the rows of the table of parameters name.
+#![tactic(auto)]
+
+pub mod columns;
+mod device;
+mod profile;
+mod value;
+
+pub use device::Place;
+pub use device::footprint::footprint;
+pub use device::measuring::measure;
+pub use device::state::{Common, Measured, Own};
+pub use profile::checks::is_good;
+pub use profile::{Personality, Profile, SelfTest, SensorDef, Slot, StatusText, Unit};
+pub use value::Value;
+pub use value::argument::Argument;
+pub use value::writing::write_value;

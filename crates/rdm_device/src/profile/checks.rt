@@ -1,0 +1,71 @@
+//! Which profiles a device can be made with.
+
+ghost use Rattle.std.specs.Prelude.{◌≡◌, ◌≢◌, ◌↔◌, ◌<◌, ◌≤◌, length, IsTrue, All, AllPairs};
+ghost use Rattle.rdm_device.specs.Device.Profiles.{IsGoodUnit, IsGoodProfile};
+
+use crate::{Personality, Profile, SelfTest, StatusText, Unit};
+
+/// Whether a device can be made with the profile.
+pub fn is_good(profile: &Profile) -> bool
+    ensures { IsTrue result ↔ IsGoodProfile profile.now }
+{
+    is_good_unit(&profile.root, profile.slots.len())
+        && is_good_unit(&profile.sub, 512)
+        && !profile.languages.is_empty()
+        && are_numbered(profile.tests.as_slice())
+        && tests_differ(profile.tests.as_slice())
+        && statuses_differ(profile.status_texts.as_slice())
+        && profile.presets < 65535
+}
+
+/// Whether the unit keeps its rules, where there are as many slots.
+fn is_good_unit(unit: &Unit, slots: usize) -> bool
+    ensures { IsTrue result ↔ IsGoodUnit unit.now slots }
+{
+    !unit.personalities.is_empty()
+        && 1 <= unit.start
+        && unit.start <= 512
+        && fit(unit.personalities.as_slice(), slots)
+}
+
+/// Whether no personality uses more slots than there are.
+fn fit(personalities: &[Personality], slots: usize) -> bool
+    ensures { IsTrue result ↔ All (λ m. m.footprint ≤ slots) personalities.now }
+{
+    personalities.iter().all(|m| m.footprint as usize <= slots)
+}
+
+/// Whether no test has a number that stands for none or for all.
+fn are_numbered(tests: &[SelfTest]) -> bool
+    ensures { IsTrue result ↔ All (λ t. (0 < t.number) × (t.number < 255)) tests.now }
+{
+    tests.iter().all(|t| 0 < t.number && t.number < 255)
+}
+
+/// Whether no two tests have one number.
+fn tests_differ(tests: &[SelfTest]) -> bool
+    ensures { IsTrue result ↔ AllPairs (λ s t. s.number ≢ t.number) tests.now }
+{
+    for i in 0..tests.len() {
+        for j in i + 1..tests.len() {
+            if tests[i].number == tests[j].number {
+                return false;
+            }
+        }
+    }
+    true
+}
+
+/// Whether no two status texts have one ID.
+fn statuses_differ(texts: &[StatusText]) -> bool
+    ensures { IsTrue result ↔ AllPairs (λ s t. s.id ≢ t.id) texts.now }
+{
+    for i in 0..texts.len() {
+        for j in i + 1..texts.len() {
+            if texts[i].id == texts[j].id {
+                return false;
+            }
+        }
+    }
+    true
+}

@@ -1,0 +1,174 @@
+//! The profile of a demonstration device.
+
+ghost use Rattle.std.specs.Prelude.{◌≡◌, ◌≤◌, length};
+ghost use Rattle.rdm_device.specs.Device.Profiles.{CanBeMade};
+ghost use Rattle.rdm_device.specs.Device.Demo.{demo, demo_root, demo_sub, demo_sensor, demo_slots, demo_sensors, demo_tests, demo_statuses};
+
+use crate::value::text;
+use crate::{Personality, Profile, SelfTest, SensorDef, Slot, StatusText, Unit};
+use arrayvec::ArrayVec;
+
+impl Profile {
+    /// A moving head with two personalities and two sensors, and cells as its sub-devices.
+    pub fn demo(subs: u16) -> Profile
+        ensures profile { result ≡ demo subs }
+        ensures made { subs ≤ 512 → CanBeMade result }
+    {
+        moving_head(subs)
+    }
+}
+
+#[tactic(auto, unfolding(crate::specs::Device::Demo::demo))]
+fn moving_head(subs: u16) -> Profile
+    ensures { result ≡ demo subs }
+{
+    let mut languages = ArrayVec::new();
+    languages.push(u16::from_be_bytes(*b"en"));
+    languages.push(u16::from_be_bytes(*b"de"));
+    Profile {
+        root: root(),
+        sub: sub(),
+        subs,
+        boot: 1,
+        boot_text: text(b"Boot 1.0"),
+        languages,
+        slots: slots(),
+        sensors: sensors(),
+        tests: tests(),
+        status_texts: status_texts(),
+        presets: 4,
+    }
+}
+
+#[tactic(auto, unfolding(crate::specs::Device::Demo::demo_root))]
+fn root() -> Unit
+    ensures { result ≡ demo_root }
+{
+    let mut personalities = ArrayVec::new();
+    personalities.push(personality(3, b"Basic"));
+    personalities.push(personality(5, b"Fine"));
+    Unit {
+        model: 0x0011,
+        category: 0x0102,
+        software: 0x0000_0100,
+        model_text: text(b"Moving head"),
+        maker_text: text(b"Prototype"),
+        label: text(b"Fixture"),
+        software_text: text(b"1.0"),
+        personalities,
+        start: 1,
+    }
+}
+
+#[tactic(auto, unfolding(crate::specs::Device::Demo::demo_sub))]
+fn sub() -> Unit
+    ensures { result ≡ demo_sub }
+{
+    let mut personalities = ArrayVec::new();
+    personalities.push(personality(1, b"Cell"));
+    Unit {
+        model: 0x0012,
+        category: 0x0102,
+        software: 0x0000_0100,
+        model_text: text(b"Cell module"),
+        maker_text: text(b"Prototype"),
+        label: text(b"Cell"),
+        software_text: text(b"1.0"),
+        personalities,
+        start: 1,
+    }
+}
+
+#[tactic(auto, unfolding(crate::specs::Device::Demo::demo_slots))]
+fn slots() -> ArrayVec<Slot, 46>
+    ensures { result.items ≡ demo_slots }
+{
+    let mut slots = ArrayVec::new();
+    slots.push(slot(0x00, 0x0001, 0x00, b"Intensity"));
+    slots.push(slot(0x00, 0x0101, 0x80, b"Pan"));
+    slots.push(slot(0x00, 0x0102, 0x80, b"Tilt"));
+    slots.push(slot(0x01, 0x0001, 0x00, b"Pan fine"));
+    slots.push(slot(0x01, 0x0002, 0x00, b"Tilt fine"));
+    slots
+}
+
+#[tactic(auto, unfolding(crate::specs::Device::Demo::demo_sensors))]
+fn sensors() -> ArrayVec<SensorDef, 8>
+    ensures { result.items ≡ demo_sensors }
+{
+    let mut sensors = ArrayVec::new();
+    sensors.push(thermometer(b"Lamp temperature"));
+    sensors.push(thermometer(b"Head temperature"));
+    sensors
+}
+
+fn thermometer(name: &[u8]) -> SensorDef
+    requires { length name.now ≤ 32 }
+    ensures { result ≡ demo_sensor name.now }
+{
+    SensorDef {
+        kind: 0x00,
+        unit: 0x01,
+        prefix: 0x00,
+        low: -20,
+        high: 120,
+        normal_low: 0,
+        normal_high: 80,
+        support: 0x03,
+        name: text(name),
+    }
+}
+
+#[tactic(auto, unfolding(crate::specs::Device::Demo::demo_tests))]
+fn tests() -> ArrayVec<SelfTest, 8>
+    ensures { result.items ≡ demo_tests }
+{
+    let mut tests = ArrayVec::new();
+    tests.push(SelfTest {
+        number: 1,
+        name: text(b"Lamp"),
+    });
+    tests.push(SelfTest {
+        number: 2,
+        name: text(b"Motors"),
+    });
+    tests
+}
+
+#[tactic(auto, unfolding(crate::specs::Device::Demo::demo_statuses))]
+fn status_texts() -> ArrayVec<StatusText, 8>
+    ensures { result.items ≡ demo_statuses }
+{
+    let mut texts = ArrayVec::new();
+    texts.push(StatusText {
+        id: 0x8001,
+        text: text(b"Lamp failed to strike"),
+    });
+    texts.push(StatusText {
+        id: 0x8002,
+        text: text(b"Self test failed"),
+    });
+    texts
+}
+
+fn personality(footprint: u16, name: &[u8]) -> Personality
+    requires { length name.now ≤ 32 }
+    ensures { result ≡ record { footprint = footprint; name = name.now } }
+{
+    Personality {
+        footprint,
+        name: text(name),
+    }
+}
+
+fn slot(kind: u8, label: u16, value: u8, name: &[u8]) -> Slot
+    requires { length name.now ≤ 32 }
+    ensures { result ≡ record { kind = kind; label = label; value = value; name = name.now } }
+{
+    Slot {
+        kind,
+        label,
+        value,
+        name: text(name),
+    }
+}

@@ -1,0 +1,392 @@
+//! A root device with its sub-devices, and the commands to them.
+
+mod sub_devices;
+
+ghost use Rattle.std.specs.Prelude.{[], Some, length, ◌≡◌, ◌≢◌, ◌↔◌, ◌≤◌, ◌<◌, IfOk, IfErr, slice_get};
+ghost use Rattle.std.specs.List.{list_all};
+ghost use Rattle.std.specs.Option.{option_map, option_map_or};
+ghost use Rattle.rdm_params.specs.declared.kind.Verb.TheVariants.{Set};
+ghost use Rattle.rdm_params.specs.declared.verdict.Verdict.TheVariants.{Refuse};
+ghost use Rattle.rdm_params.specs.Commands.Commands.{suits, got, answer_to_set, after_set, in_range, answered, work};
+ghost use Rattle.rdm_params.specs.Commands.Commands.{addressed, command_of, carried_out, is_all_call, sub_spot};
+ghost use Rattle.rdm_params.specs.Table.Kinds.{pid_of};
+ghost use Rattle.rdm_device.specs.Device.Parameters.{parameters_of};
+ghost use Rattle.rdm_device.specs.Device.Profiles.{IsGoodProfile};
+ghost use Rattle.rdm_device.specs.Device.Values.{byte_or_0};
+ghost use Rattle.rdm_params.specs.Views.Verdicts.{verdict_with, NamesItsJob};
+ghost use Rattle.rdm_params.specs.Table.Uses.{access, way_of, in_range_of, reply};
+ghost use Rattle.rdm_params.specs.Table.Rows.{row_of};
+ghost use Rattle.rdm_params.specs.Slow.Asks.{ask_of};
+
+mod commit;
+mod panel;
+mod thresholds;
+
+use crate::commands::sub_devices::{all_in_range, start_each, store_at, store_each};
+use crate::slow::Way;
+use crate::table::access::check_access;
+use crate::table::dispatch::way_of;
+use crate::table::read::read_argument;
+use crate::table::respond::reply_into;
+use crate::table::store::{store_common, store_own};
+use crate::table::within::is_in_range;
+use crate::{Answer, Ask, Kind, Nack, Profile, Value, Verb, Verdict, Work, kind_of};
+use rdm_device::{Argument, Common, Own, Place, is_good};
+use rdm_frame::Body;
+use rdm_frame::standard::SUB_DEVICE_ALL_CALL;
+use std::alloc::Global;
+use std::marker::Model;
+use thiserror::Error;
+
+/// Why devices can't be made.
+#[derive(Clone, Copy, Debug, PartialEq, Eq, Error)]
+pub enum NewError {
+    /// There is no memory for them.
+    #[error("out of memory")]
+    OutOfMemory,
+    /// The profile has more sub-devices than there can be.
+    #[error("too many sub-devices")]
+    TooManySubs,
+    /// The profile breaks a rule.
+    #[error("bad profile")]
+    BadProfile,
+}
+
+/// A root device with its sub-devices, and the values of their parameters.
+///
+/// A contract sees the profile, and the values of each device by keys.
+#[derive(Debug, Drop)]
+pub struct Devices {
+    // In its place once and for all: the profile is large, and devices are handed on by value.
+    profile: Box<Profile>,
+    root: Common,
+    own: Own,
+    subs: Vec<Common>,
+}
+
+impl Model for Devices {
+    ghost use Rattle.rdm_device.specs.Device.Parameters.{Parameters};
+
+    ghost Value = { Parameters };
+
+    ghost use Rattle.std.specs.Prelude.{◌++◌, map};
+    ghost use Rattle.rdm_device.specs.Views.State.{common_entries, own_entries};
+
+    ghost view = { λ d. record { profile = d.profile.value; root = common_entries d.root ++ own_entries d.own; subs = map common_entries d.subs.items } };
+}
+
+/// The greatest number of sub-devices (E1.20 section 9).
+const MAX_SUBS: u16 = 512;
+
+impl Devices {
+    /// The devices of a profile, with the values that they start with.
+    ///
+    /// It is `TooManySubs` over 512 sub-devices, else `BadProfile` where the profile breaks a rule.
+    #[tactic(auto, unfolding(rdm_device::specs::Device::Parameters::parameters_of))]
+    pub fn new(alloc: Global, profile: Profile) -> Result<Devices, NewError>
+        ensures ok { IfOk result (λ devices. devices ≡ parameters_of profile) }
+        ensures too_many { (result ≡ Err NewError.TooManySubs) ↔ (512 < profile.subs) }
+        ensures bad { (result ≡ Err NewError.BadProfile) ↔ ((profile.subs ≤ 512) × ¬ IsGoodProfile profile) }
+    {
+        if profile.subs > MAX_SUBS {
+            return Err(NewError::TooManySubs);
+        }
+        if !is_good(&profile) {
+            return Err(NewError::BadProfile);
+        }
+        let Ok(profile) = Box::new(alloc, profile) else {
+            return Err(NewError::OutOfMemory);
+        };
+        let root = Common::at_start(&profile.root);
+        let own = Own::at_start(&profile);
+        let Ok(subs) = start_each(alloc, &profile.sub, profile.subs) else {
+            return Err(NewError::OutOfMemory);
+        };
+        Ok(Devices {
+            profile,
+            root,
+            own,
+            subs,
+        })
+    }
+
+    /// How many sub-devices there are (E1.20 section 9).
+    pub fn sub_devices(&self) -> usize
+        ensures { result ≡ length self.now.subs }
+    {
+        self.subs.len()
+    }
+
+    /// What a GET answers: the value, the job that it starts, or the first reason to refuse it.
+    pub fn get(&self, sub: u16, pid: u16, data: &[u8]) -> Verdict
+        ensures { result ≡ got self.now sub pid data.now }
+    {
+        let mut body = Body::new();
+        let answer = self.get_into(sub, pid, data, &mut body);
+        answer.with(body)
+    }
+
+    /// What a GET answers, as `get`, with the data of the reply in `body`, and none where it isn't `Done`. What stood
+    /// there before is gone.
+    pub fn get_into(&self, sub: u16, pid: u16, data: &[u8], body: &mut Body) -> Answer
+        ensures answer { verdict_with result body.new ≡ got self.now sub pid data.now }
+        ensures job { NamesItsJob result }
+        ensures empty { result ≢ Answer.Done → body.new ≡ [] }
+    {
+        body.clear();
+        match self.try_get(sub, pid, data, body) {
+            Ok(answer) => answer,
+            Err(nack) => Answer::Refused(nack),
+        }
+    }
+
+    /// What a SET answers. One that is refused, or that starts a job, changes nothing.
+    ///
+    /// With sub-device 65535 it is for every sub-device and not for the root, and is refused unless all of them can
+    /// take it.
+    pub fn set(&mut self, sub: u16, pid: u16, data: &[u8]) -> Verdict
+        ensures answer { result ≡ answer_to_set self.old sub pid data.now }
+        ensures after { self.new ≡ after_set self.old sub pid data.now }
+    {
+        let mut body = Body::new();
+        let answer = self.set_into(sub, pid, data, &mut body);
+        answer.with(body)
+    }
+
+    /// What a SET answers, as `set`, with the data of the reply in `body`, and none where it isn't `Done`. What stood
+    /// there before is gone.
+    pub fn set_into(&mut self, sub: u16, pid: u16, data: &[u8], body: &mut Body) -> Answer
+        ensures answer { verdict_with result body.new ≡ answer_to_set self.old sub pid data.now }
+        ensures job { NamesItsJob result }
+        ensures empty { result ≢ Answer.Done → body.new ≡ [] }
+        ensures after { self.new ≡ after_set self.old sub pid data.now }
+    {
+        body.clear();
+        match self.try_set(sub, pid, data, body) {
+            Ok(answer) => answer,
+            Err(nack) => Answer::Refused(nack),
+        }
+    }
+
+    /// Whether a value is in the range of a command at each device that it is for. It isn't where there is no such
+    /// device, parameter or command, or where the value has another form.
+    #[tactic(auto, unfolding(crate::specs::Commands::Commands::in_range), using(crate::proofs::OtherForms::never_in_range))]
+    pub fn in_range(&self, sub: u16, kind: Kind, verb: Verb, value: &Value) -> bool
+        ensures { result ≡ in_range self.now sub kind verb value.now }
+    {
+        let Some(argument) = Argument::of(value) else {
+            return false;
+        };
+        let Some(place) = self.first_place(sub, verb) else {
+            return false;
+        };
+        check_access(kind, sub == 0, verb).is_ok()
+            && self.is_in_range_at(sub, kind, verb, &place, &argument)
+    }
+
+    /// What a GET answers, or the first reason to refuse it.
+    // This and its steps are inlined, since a call would hand the argument on through memory.
+    #[inline(always)]
+    #[tactic(auto, unfolding(crate::specs::Commands::Commands::got, crate::specs::Commands::Commands::accepted))]
+    fn try_get(&self, sub: u16, pid: u16, data: &[u8], body: &mut Body) -> Result<Answer, Nack>
+        requires { body.old ≡ [] }
+        ensures ok { IfOk result (λ answer. verdict_with answer body.new ≡ got self.now sub pid data.now) }
+        ensures err { IfErr result (λ nack. got self.now sub pid data.now ≡ Refuse nack) }
+        ensures job { IfOk result (λ answer. NamesItsJob answer) }
+        ensures empty { result ≢ Ok Answer.Done → body.new ≡ [] }
+    {
+        let place = self
+            .first_place(sub, Verb::Get)
+            .ok_or(Nack::SubDeviceOutOfRange)?;
+        let kind = known(pid, sub == 0, Verb::Get)?;
+        let value = read_argument(kind, Verb::Get, data)?;
+        let way = way_of(kind, Verb::Get);
+        self.suits(sub, kind, Verb::Get, way, &place, &value)?;
+        Ok(answer(sub, kind, Verb::Get, way, Some(place), &value, body))
+    }
+
+    /// What a SET answers, or the first reason to refuse it.
+    #[inline(always)]
+    #[tactic(auto, unfolding(crate::specs::Commands::Commands::answer_to_set, crate::specs::Commands::Commands::after_set, crate::specs::Commands::Commands::accepted))]
+    fn try_set(&mut self, sub: u16, pid: u16, data: &[u8], body: &mut Body) -> Result<Answer, Nack>
+        requires { body.old ≡ [] }
+        ensures ok { IfOk result (λ answer. verdict_with answer body.new ≡ answer_to_set self.old sub pid data.now) }
+        ensures err { IfErr result (λ nack. answer_to_set self.old sub pid data.now ≡ Refuse nack) }
+        ensures job { IfOk result (λ answer. NamesItsJob answer) }
+        ensures empty { result ≢ Ok Answer.Done → body.new ≡ [] }
+        ensures after { self.new ≡ after_set self.old sub pid data.now }
+    {
+        let place = self
+            .first_place(sub, Verb::Set)
+            .ok_or(Nack::SubDeviceOutOfRange)?;
+        let kind = known(pid, sub == 0, Verb::Set)?;
+        let value = read_argument(kind, Verb::Set, data)?;
+        let way = way_of(kind, Verb::Set);
+        self.suits(sub, kind, Verb::Set, way, &place, &value)?;
+        if !way.is_by_job() {
+            self.carry_out(sub, kind, &value);
+        }
+        // The reply tells what the write left, and the write had to end the borrow of the first place.
+        let place = self.first_place(sub, Verb::Set);
+        Ok(answer(sub, kind, Verb::Set, way, place, &value, body))
+    }
+
+    /// Whether a command can be carried out with this value, or the first reason why not.
+    #[inline(always)]
+    fn suits(
+        &self,
+        sub: u16,
+        kind: Kind,
+        verb: Verb,
+        way: Way,
+        place: &Place<'_>,
+        value: &Argument<'_>,
+    ) -> Result<(), Nack>
+        requires first { slice_get (addressed self.now sub verb) 0 ≡ Some place.now }
+        requires way { way ≡ way_of (command_of (pid_of kind) verb) }
+        ensures { result ≡ suits self.now sub (pid_of kind) verb value.now }
+    {
+        if !self.is_in_range_at(sub, kind, verb, place, value) {
+            return Err(Nack::DataOutOfRange);
+        }
+        if is_all_call(sub, verb) && way.is_by_job() {
+            return Err(Nack::SubDeviceOutOfRange);
+        }
+        Ok(())
+    }
+
+    /// Whether a value is in range at each device that a command is for, of which this is the first place.
+    #[inline(always)]
+    fn is_in_range_at(
+        &self,
+        sub: u16,
+        kind: Kind,
+        verb: Verb,
+        place: &Place<'_>,
+        value: &Argument<'_>,
+    ) -> bool
+        requires { slice_get (addressed self.now sub verb) 0 ≡ Some place.now }
+        ensures { result ≡ list_all (λ spot. in_range_of (command_of (pid_of kind) verb) spot value.now) (addressed self.now sub verb) }
+    {
+        if is_all_call(sub, verb) {
+            all_in_range(&self.profile, kind, verb, &self.subs, value)
+        } else {
+            is_in_range(kind, verb, place, value)
+        }
+    }
+
+    /// Carries out a SET at the devices that it is for.
+    #[tactic(auto, using(rdm_device::proofs::Maps::update_append))]
+    fn carry_out(&mut self, sub: u16, kind: Kind, value: &Argument<'_>)
+        ensures { self.new ≡ carried_out self.old sub (command_of (pid_of kind) Set) value.now }
+    {
+        let profile = &self.profile;
+        if sub == 0 {
+            store_common(kind, value, profile, &mut self.root);
+            store_own(kind, value, profile, &mut self.own);
+        } else if sub == SUB_DEVICE_ALL_CALL {
+            store_each(kind, value, profile, &mut self.subs);
+        } else {
+            store_at(kind, value, profile, &mut self.subs, sub as usize - 1);
+        }
+    }
+
+    /// The first device that a command is for, if there is one.
+    #[tactic(auto, unfolding(rdm_device::specs::Views::State::common_entries), using(crate::proofs::Places::first_of_subs, crate::proofs::Places::first_of_one))]
+    fn first_place(&self, sub: u16, verb: Verb) -> Option<Place<'_>>
+        ensures { result ≡ slice_get (addressed self.now sub verb) 0 }
+    {
+        if sub == 0 {
+            return Some(Place {
+                profile: &self.profile,
+                unit: &self.profile.root,
+                common: &self.root,
+                own: Some(&self.own),
+            });
+        }
+        if is_all_call(sub, verb) {
+            return self.sub_place(0);
+        }
+        self.sub_place(sub as usize - 1)
+    }
+
+    /// The sub-device at this place, from 0, if there is one.
+    #[tactic(auto, unfolding(rdm_device::specs::Views::State::common_entries), using(crate::proofs::Places::at_place))]
+    fn sub_place(&self, index: usize) -> Option<Place<'_>>
+        ensures { result ≡ option_map (sub_spot self.now) (slice_get self.now.subs index) }
+    {
+        match self.subs.get(index) {
+            Some(common) => Some(Place {
+                profile: &self.profile,
+                unit: &self.profile.sub,
+                common,
+                own: None,
+            }),
+            None => None,
+        }
+    }
+}
+
+/// The parameter of a PID, at the root or else at a sub-device, which must have it, and it the command.
+#[inline(always)]
+fn known(pid: u16, is_root: bool, verb: Verb) -> Result<Kind, Nack>
+    ensures ok { IfOk result (λ kind. (pid_of kind ≡ pid) × (access (row_of pid) is_root verb ≡ Ok tt)) }
+    ensures err { IfErr result (λ nack. access (row_of pid) is_root verb ≡ Err nack) }
+{
+    let kind = kind_of(pid).ok_or(Nack::UnknownPid)?;
+    check_access(kind, is_root, verb)?;
+    Ok(kind)
+}
+
+/// What an accepted command answers in this way, if this is the first device that it is for.
+#[inline(always)]
+fn answer(
+    sub: u16,
+    kind: Kind,
+    verb: Verb,
+    way: Way,
+    place: Option<Place<'_>>,
+    value: &Argument<'_>,
+    body: &mut Body,
+) -> Answer
+    requires empty { body.old ≡ [] }
+    requires way { way ≡ way_of (command_of (pid_of kind) verb) }
+    ensures answer { verdict_with result body.new ≡ answered way
+        (option_map_or (λ spot. reply (command_of (pid_of kind) verb) spot value.now) place.entry [])
+        (work sub (pid_of kind) verb value.now) (ask_of (byte_or_0 value.now)) }
+    ensures job { NamesItsJob result }
+    ensures empty { result ≢ Answer.Done → body.new ≡ [] }
+{
+    let arg = value.byte().unwrap_or(0);
+    match way {
+        Way::AtOnce => {
+            if let Some(place) = place {
+                reply_into(kind, verb, &place, value, body);
+            }
+            Answer::Done
+        }
+        Way::ByJob { worker, estimate } => Answer::Starts {
+            work: Work {
+                sub,
+                pid: kind.pid(),
+                verb,
+                arg,
+            },
+            worker,
+            estimate,
+        },
+        Way::FromQueue => Answer::Queues(Ask::of(arg)),
+        Way::FromStatus => Answer::Statuses(Ask::of(arg)),
+        Way::Clears => Answer::Clears,
+    }
+}
+
+/// Whether a command is a SET of every sub-device.
+fn is_all_call(sub: u16, verb: Verb) -> bool
+    ensures { result ≡ is_all_call sub verb }
+{
+    match verb {
+        Verb::Get => false,
+        Verb::Set => sub == SUB_DEVICE_ALL_CALL,
+    }
+}

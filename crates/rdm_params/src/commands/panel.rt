@@ -1,0 +1,61 @@
+//! Changes at the fixture's own menu.
+
+ghost use Rattle.std.specs.Prelude.{◌≡◌};
+ghost use Rattle.rdm_params.specs.Commands.Commands.{root_spot};
+ghost use Rattle.rdm_params.specs.Commands.Panel.{after_change, change_message, told};
+
+use super::Devices;
+use crate::table::respond::reply_into;
+use crate::table::within::is_in_range;
+use crate::{Change, Message, Verb};
+use rdm_device::{Argument, Place};
+use rdm_frame::Body;
+use rdm_frame::standard::GET_COMMAND_RESPONSE;
+
+impl Devices {
+    /// Takes over what a person changed at the fixture's own menu, and gives the message that tells a controller: the
+    /// response to a GET of the parameter at the root, with the data that it reads now (E1.20 section 10.3.1).
+    ///
+    /// It is `None` where a SET of the value would be out of range at the root, and then nothing changes.
+    #[tactic(auto, unfolding(crate::specs::Commands::Panel::after_change, crate::specs::Commands::Panel::change_message))]
+    pub fn change(&mut self, change: &Change) -> Option<Message>
+        ensures message { result ≡ change_message self.old change.now }
+        ensures after { self.new ≡ after_change self.old change.now }
+    {
+        let (kind, value) = (change.kind(), change.value());
+        if !is_in_range(kind, Verb::Set, &self.root_place(), &value) {
+            return None;
+        }
+        self.carry_out(0, kind, &value);
+        Some(self.told(change))
+    }
+
+    /// The message that tells of a change that is made.
+    fn told(&self, change: &Change) -> Message
+        ensures { result ≡ told self.now change.now }
+    {
+        let kind = change.kind();
+        let nothing = Argument::nothing();
+        let mut body = Body::new();
+        reply_into(kind, Verb::Get, &self.root_place(), &nothing, &mut body);
+        Message {
+            class: GET_COMMAND_RESPONSE,
+            pid: kind.pid(),
+            sub: 0,
+            body,
+        }
+    }
+
+    /// The root.
+    #[tactic(auto, unfolding(rdm_device::specs::Views::State::common_entries))]
+    fn root_place(&self) -> Place<'_>
+        ensures { result ≡ root_spot self.now }
+    {
+        Place {
+            profile: &self.profile,
+            unit: &self.profile.root,
+            common: &self.root,
+            own: Some(&self.own),
+        }
+    }
+}

@@ -1,0 +1,80 @@
+//! The sub-devices.
+
+ghost use Rattle.std.specs.Prelude.{◌≡◌, IfOk, map, replicate, slice_set, slice_index_or, []};
+ghost use Rattle.std.specs.List.{list_all};
+ghost use Rattle.rdm_params.specs.declared.kind.Verb.TheVariants.{Set};
+ghost use Rattle.rdm_params.specs.Commands.Commands.{command_of, profile_sub_spot, written};
+ghost use Rattle.rdm_params.specs.Table.Kinds.{pid_of};
+ghost use Rattle.rdm_device.specs.Device.Parameters.{common_at_start};
+ghost use Rattle.rdm_device.specs.Views.State.{common_entries};
+ghost use Rattle.rdm_params.specs.Table.Uses.{in_range_of};
+
+use crate::table::store::store_common;
+use crate::table::within::is_in_range;
+use crate::{Kind, Profile, Unit, Verb};
+use rdm_device::{Argument, Common, Place};
+use std::alloc::{AllocError, Global};
+
+/// As many sub-devices, with the values that they start with.
+pub(crate) fn start_each(alloc: Global, unit: &Unit, count: u16) -> Result<Vec<Common>, AllocError>
+    ensures { IfOk result (λ subs. map common_entries subs.items ≡ replicate count (common_at_start unit.now)) }
+{
+    let mut subs = Vec::new(alloc);
+    for _ in 0..count {
+        subs.push(Common::at_start(unit))?;
+    }
+    Ok(subs)
+}
+
+/// Whether a value is in range at every sub-device.
+pub(crate) fn all_in_range<'a>(
+    profile: &'a Profile,
+    kind: Kind,
+    verb: Verb,
+    subs: &'a [Common],
+    value: &Argument<'_>,
+) -> bool
+    ensures { result ≡ list_all (λ spot. in_range_of (command_of (pid_of kind) verb) spot value.now)
+        (map (profile_sub_spot profile.now) (map common_entries subs.now)) }
+{
+    for common in subs {
+        let place = Place {
+            profile,
+            unit: &profile.sub,
+            common,
+            own: None,
+        };
+        if !is_in_range(kind, verb, &place, value) {
+            return false;
+        }
+    }
+    true
+}
+
+/// Carries out a SET at every sub-device.
+pub(crate) fn store_each(kind: Kind, value: &Argument<'_>, profile: &Profile, subs: &mut [Common])
+    ensures { map common_entries subs.new
+        ≡ map (λ entries. written (command_of (pid_of kind) Set) value.now (profile_sub_spot profile.now entries)) (map common_entries subs.old) }
+{
+    for i in 0..subs.len() {
+        store_at(kind, value, profile, subs, i);
+    }
+}
+
+/// Carries out a SET at one sub-device, if there is one at this place.
+pub(crate) fn store_at(
+    kind: Kind,
+    value: &Argument<'_>,
+    profile: &Profile,
+    subs: &mut [Common],
+    index: usize,
+)
+    ensures { map common_entries subs.new
+        ≡ slice_set (map common_entries subs.old) index
+        (written (command_of (pid_of kind) Set) value.now
+        (profile_sub_spot profile.now (slice_index_or (map common_entries subs.old) index []))) }
+{
+    if index < subs.len() {
+        store_common(kind, value, profile, &mut subs[index]);
+    }
+}

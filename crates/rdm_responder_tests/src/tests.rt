@@ -1,0 +1,191 @@
+//! Requests and replies that were worked out by hand, byte for byte.
+//!
+//! The device is 7FF0:00000001, the controller 7FF0:00000002.
+
+mod clear;
+mod discovery;
+mod identify;
+mod panel;
+mod parameters;
+mod play;
+mod slow;
+mod waiting;
+
+use play::plays;
+use rdm_frame::standard::{DISCOVERY_COMMAND as DISCOVERY, GET_COMMAND as GET, SET_COMMAND as SET};
+use rdm_frame::{Body, Frame, Uid, Wire, encode};
+use rdm_params::Profile;
+use rdm_responder::{Input, NewError, Output, Responder};
+use std::alloc::Global;
+use std::process::Abort;
+use std::test::Fail;
+
+const DEVICE: Uid = Uid {
+    maker: 0x7FF0,
+    device: 1,
+};
+
+const CONTROLLER: Uid = Uid {
+    maker: 0x7FF0,
+    device: 2,
+};
+
+const IDENTIFY_DEVICE: u16 = 0x1000;
+
+/// A request of the controller to root devices.
+fn request(dst: Uid, tn: u8, class: u8, pid: u16, slots: &[u8]) -> Result<Wire, Fail> {
+    Ok(encode(&Frame {
+        dst,
+        src: CONTROLLER,
+        tn,
+        port: 1,
+        count: 0,
+        sub: 0,
+        class,
+        pid,
+        body: Body::from_slice(slots).ok_or("slots of a frame")?,
+    }))
+}
+
+/// The bytes that hexadecimal digits print. Blanks between them are for the eye.
+fn printed(rt: &impl Abort, text: &str) -> Wire {
+    let mut bytes = Wire::new();
+    let mut upper = None;
+    for digit in text.chars().filter_map(|c| c.to_digit(16)) {
+        let Some(high) = upper else {
+            upper = Some(digit);
+            continue;
+        };
+        upper = None;
+        append(rt, &mut bytes, &[((high << 4 | digit) & 0xFF) as u8]);
+    }
+    assert_eq!(rt; upper, None, "{text}");
+    bytes
+}
+
+/// Puts bytes at the end.
+fn append(rt: &impl Abort, wire: &mut Wire, bytes: &[u8]) {
+    let fits = wire.as_slice().len() + bytes.len() <= 257;
+    assert!(rt; fits, "{bytes:?} are too many");
+    if fits {
+        wire.append(bytes);
+    }
+}
+
+/// A responder of the demo fixture with so many sub-devices, and room for so many results of slow commands.
+fn responder_with(alloc: Global, subs: u16, queue_size: u16) -> Result<Responder, NewError> {
+    Responder::new(alloc, DEVICE, Profile::demo(subs), queue_size)
+}
+
+#[test]
+fn runs_go_as_printed(rt: HostRuntime) -> Result<(), Fail> {
+    for runs in [
+        discovery::RUNS.as_slice(),
+        identify::RUNS.as_slice(),
+        parameters::RUNS.as_slice(),
+        waiting::RUNS.as_slice(),
+        clear::RUNS.as_slice(),
+        panel::RUNS.as_slice(),
+    ] {
+        for run in runs {
+            plays(&rt, rt.alloc(), *run)?;
+        }
+    }
+    Ok(())
+}
+
+#[test]
+fn requests_have_the_printed_bytes(rt: HostRuntime) -> Result<(), Fail> {
+    // IDENTIFY_DEVICE, and a branch of the device alone.
+    let own: &[u8] = &[0x7F, 0xF0, 0, 0, 0, 1, 0x7F, 0xF0, 0, 0, 0, 1];
+    let rows: [(Uid, u8, u16, &[u8], &str); 3] = [
+        (
+            DEVICE,
+            GET,
+            IDENTIFY_DEVICE,
+            &[],
+            "CC0118 7FF000000001 7FF000000002 00 01 00 0000 20 1000 00 03F7",
+        ),
+        (
+            Uid::ALL,
+            SET,
+            IDENTIFY_DEVICE,
+            &[1],
+            "CC0119 FFFFFFFFFFFF 7FF000000002 00 01 00 0000 30 1000 01 01 0894",
+        ),
+        (
+            Uid::ALL,
+            DISCOVERY,
+            0x0001,
+            own,
+            "CC0124 FFFFFFFFFFFF 7FF000000002 00 01 00 0000 10 0001 0C 7FF000000001 7FF000000001 0B5A",
+        ),
+    ];
+    for (dst, class, pid, slots, text) in rows {
+        assert_eq!(rt;
+            request(dst, 0, class, pid, slots)?,
+            printed(&rt, text),
+            "{text}"
+        );
+    }
+    Ok(())
+}
+
+#[test]
+fn a_whole_run_is_answered_in_order(rt: HostRuntime) -> Result<(), Fail> {
+    let set = printed(
+        &rt,
+        "CC0119 FFFFFFFFFFFF 7FF000000002 00 01 00 0000 30 1000 01 01 0894",
+    );
+    let get = printed(
+        &rt,
+        "CC0118 7FF000000001 7FF000000002 02 01 00 0000 20 1000 00 03F9",
+    );
+    let on = printed(
+        &rt,
+        "CC0119 7FF000000002 7FF000000001 02 00 00 0000 21 1000 01 01 03FC",
+    );
+    let mut responder = responder_with(rt.alloc(), 0, 8)?;
+    let inputs = [Input::Heard(set.as_slice()), Input::Heard(get.as_slice())];
+    let outputs = responder.step_all(rt.alloc(), &inputs)?;
+    let expected = [
+        Output::Answered(None, None),
+        Output::Answered(Some(on), None),
+    ];
+    assert_eq!(rt; outputs.as_slice(), expected.as_slice());
+    Ok(())
+}
+
+#[test]
+fn a_responder_is_made_or_refused(rt: HostRuntime) {
+    let broadcast = Uid::all_of(0x7FF0);
+    for (uid, queue_size, refusal) in [
+        (DEVICE, 1, None),
+        (DEVICE, 8, None),
+        (DEVICE, 1024, None),
+        (DEVICE, 0, Some(NewError::BadSize)),
+        (DEVICE, 1025, Some(NewError::BadSize)),
+        (broadcast, 8, Some(NewError::BadUid)),
+        (broadcast, 0, Some(NewError::BadUid)),
+    ] {
+        let made = Responder::new(rt.alloc(), uid, Profile::demo(0), queue_size);
+        assert_eq!(rt; made.err(), refusal, "{uid:?} {queue_size}");
+    }
+    let made = |subs| Responder::new(rt.alloc(), DEVICE, Profile::demo(subs), 8);
+    assert_eq!(rt; made(2).err(), None);
+    assert_eq!(rt; made(512).err(), None);
+    assert_eq!(rt; made(513).err(), Some(NewError::BadProfile));
+    let no_start = || {
+        let mut profile = Profile::demo(0);
+        profile.root.start = 0;
+        profile
+    };
+    for (uid, queue_size, refusal) in [
+        (DEVICE, 8, NewError::BadProfile),
+        (DEVICE, 0, NewError::BadSize),
+        (broadcast, 0, NewError::BadUid),
+    ] {
+        let made = Responder::new(rt.alloc(), uid, no_start(), queue_size);
+        assert_eq!(rt; made.err(), Some(refusal), "{uid:?} {queue_size}");
+    }
+}

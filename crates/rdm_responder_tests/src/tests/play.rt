@@ -1,0 +1,239 @@
+//! Plays runs that are written as text.
+
+use super::{printed, responder_with};
+use rdm_frame::Wire;
+use rdm_outbox::Job;
+use rdm_params::{Change, Outcome, Plate, Severity, worker_of};
+use rdm_responder::{Report, Responder, Stepped};
+use std::alloc::{AllocError, Global};
+use std::process::Abort;
+use std::test::Fail;
+
+/// What happens to a new responder: how many sub-devices it has, for how many results there is room, and lines.
+///
+/// Three lines say what is done. `send` has the bytes of a frame that is heard. `arrive` reports on a job: as which of the run's
+/// jobs it started, counted from 0, the number that the report says, and how the job ended, in the words of a trace. `change` has
+/// what is changed at the fixture's own menu, and the value.
+///
+/// The others say all that comes of it. `reply` has the bytes of the reply, or `none`, and `job` the worker and the number of a
+/// job that started. After a report stands `kept` where a status entry was kept, and `astray` where the report may not arrive.
+/// After a change stands `queued` where it has a message, and `no room` where there is none for it.
+///
+/// Blanks in a line are for the eye.
+pub(super) type Run = (u16, u16, &'static str);
+
+/// Plays a run: what comes of each line is what the next lines say, and nothing else.
+pub(super) fn plays(
+    rt: &impl Abort,
+    alloc: Global,
+    (subs, queue_size, lines): Run,
+) -> Result<(), Fail> {
+    let mut play = Play {
+        responder: responder_with(alloc, subs, queue_size)?,
+        other: responder_with(alloc, subs, queue_size)?,
+        jobs: Vec::new(alloc),
+        told: String::new(alloc),
+    };
+    for line in lines.lines() {
+        if let Some(bytes) = line.strip_prefix("send ") {
+            play.tells(line)?;
+            play.hears(rt, alloc, printed(rt, bytes))?;
+        } else if let Some(report) = line.strip_prefix("arrive ") {
+            play.tells(line)?;
+            play.takes(rt, report)?;
+        } else if let Some(change) = line.strip_prefix("change ") {
+            play.tells(line)?;
+            play.changes(rt, change)?;
+        }
+    }
+    let told = without_blanks(alloc, &play.told)?;
+    let expected = without_blanks(alloc, lines)?;
+    assert_eq!(rt; told.as_str(), expected.as_str(), "{lines}");
+    Ok(())
+}
+
+/// A run that is being played.
+#[derive(Drop)]
+struct Play {
+    responder: Responder,
+    /// Hears and takes the same, and puts its replies in the caller's list.
+    other: Responder,
+    /// The jobs that started.
+    jobs: Vec<Job>,
+    /// The lines that were played, each with what came of it.
+    told: String,
+}
+
+impl Play {
+    /// Puts a line at the end.
+    fn tells(&mut self, line: &str) -> Result<(), AllocError> {
+        self.told.push_str(line)?;
+        self.told.push_str("\n")
+    }
+
+    /// Hears a frame.
+    fn hears(&mut self, rt: &impl Abort, alloc: Global, heard: Wire) -> Result<(), Fail> {
+        let (reply, job) = self.responder.step(heard.as_slice());
+        let mut wire = Wire::new();
+        let stepped = self.other.step_into(heard.as_slice(), &mut wire);
+        let replied = reply.is_some();
+        assert_eq!(rt; stepped, Stepped { replied, job }, "{heard:?}");
+        match reply {
+            Some(bytes) => {
+                assert_eq!(rt; wire.as_slice(), bytes.as_slice(), "{heard:?}");
+                self.tells_reply(alloc, &bytes)?;
+            }
+            None => self.tells("reply none")?,
+        }
+        if let Some(job) = job {
+            let line = format!(in alloc; "job {} {}", worker_of(&job.work), job.number)?;
+            self.tells(&line)?;
+            self.jobs.push(job)?;
+        }
+        Ok(())
+    }
+
+    /// Prints the bytes of a reply.
+    fn tells_reply(&mut self, alloc: Global, bytes: &Wire) -> Result<(), AllocError> {
+        self.told.push_str("reply ")?;
+        for byte in bytes.as_slice() {
+            let digits = format!(in alloc; "{byte:02X}")?;
+            self.told.push_str(&digits)?;
+        }
+        self.told.push_str("\n")
+    }
+
+    /// Takes a report. One that is astray comes back as it is, and nothing waits or ends by it.
+    fn takes(&mut self, rt: &impl Abort, report: &str) -> Result<(), Fail> {
+        let report = self.report_in(report)?;
+        let counts = (self.responder.waiting(), self.responder.outstanding());
+        let is_other_astray = self.other.arrive(report).is_err();
+        match self.responder.arrive(report) {
+            Ok(arrival) => {
+                assert!(rt; !is_other_astray, "{report:?}");
+                if arrival.kept {
+                    self.tells("kept")?;
+                }
+            }
+            Err(astray) => {
+                assert!(rt; is_other_astray, "{report:?}");
+                assert_eq!(rt; astray.report, report);
+                assert_eq!(rt;
+                    (self.responder.waiting(), self.responder.outstanding()),
+                    counts
+                );
+                self.tells("astray")?;
+            }
+        }
+        Ok(())
+    }
+
+    /// Takes a change. One for which there is no room comes back as it is.
+    fn changes(&mut self, rt: &impl Abort, text: &str) -> Result<(), Fail> {
+        let change = change_in(rt, text)?;
+        let has_room = self.responder.room();
+        assert_eq!(rt; self.other.change(change).is_ok(), has_room, "{change:?}");
+        match self.responder.change(change) {
+            Ok(message) => {
+                assert!(rt; has_room, "{change:?}");
+                if message.is_some() {
+                    self.tells("queued")?;
+                }
+            }
+            Err(refused) => {
+                assert!(rt; !has_room, "{change:?}");
+                assert_eq!(rt; refused.change, change);
+                self.tells("no room")?;
+            }
+        }
+        Ok(())
+    }
+
+    /// The report that words say.
+    fn report_in(&self, text: &str) -> Result<Report, Fail> {
+        let (at, said) = text.split_once(' ').ok_or("which job, and a report")?;
+        let (number, outcome) = said.split_once(' ').ok_or("a number and an outcome")?;
+        let started = self
+            .jobs
+            .get(decimal(at)? as usize)
+            .ok_or("a job of the run")?;
+        let number = decimal(number)?;
+        let outcome = outcome_in(outcome)?;
+        let job = Job { number, ..*started };
+        Ok(Report { job, outcome })
+    }
+}
+
+/// The change that words say: a number in decimal digits, or a label in hexadecimal ones.
+fn change_in(rt: &impl Abort, text: &str) -> Result<Change, Fail> {
+    let (kind, value) = text.split_once(' ').ok_or("what is changed, and a value")?;
+    match kind {
+        "start" => {
+            let address = value.parse::<u16>().ok();
+            Ok(Change::Start(address.ok_or("an address")?))
+        }
+        "personality" => {
+            let number = value.parse::<u8>().ok();
+            Ok(Change::Personality(number.ok_or("a number")?))
+        }
+        "label" => {
+            let plate = Plate::new(printed(rt, value).as_slice());
+            Ok(Change::Label(plate.ok_or("a short label")?))
+        }
+        _ => Err("no such change".into()),
+    }
+}
+
+/// The outcome that words say.
+fn outcome_in(text: &str) -> Result<Outcome, Fail> {
+    match text.split_once(' ') {
+        None if text == "done" => Ok(Outcome::Done),
+        Some(("reading", value)) => {
+            let value = value.parse::<i16>().ok();
+            Ok(Outcome::Reading(value.ok_or("a reading")?))
+        }
+        Some(("failed", status)) => failed_in(status),
+        _ => Err("no such outcome".into()),
+    }
+}
+
+/// A failure: the code of its severity, the number of its status message, and two values.
+fn failed_in(text: &str) -> Result<Outcome, Fail> {
+    let mut words = text.split_whitespace();
+    Ok(Outcome::Failed {
+        severity: severity_in(words.next())?,
+        id: word_in(words.next())?,
+        v1: word_in(words.next())?,
+        v2: word_in(words.next())?,
+    })
+}
+
+/// The number that decimal digits print.
+fn decimal(digits: &str) -> Result<u32, Fail> {
+    Ok(digits.parse::<u32>().ok().ok_or("a number")?)
+}
+
+/// The severity of this code (E1.20 table A-4).
+fn severity_in(word: Option<&str>) -> Result<Severity, Fail> {
+    match word {
+        Some("02") => Ok(Severity::Advisory),
+        Some("03") => Ok(Severity::Warning),
+        Some("04") => Ok(Severity::Error),
+        _ => Err("no such severity".into()),
+    }
+}
+
+/// The number that hexadecimal digits print.
+fn word_in(word: Option<&str>) -> Result<u16, Fail> {
+    let number = word.and_then(|digits| u16::from_str_radix(digits, 16).ok());
+    Ok(number.ok_or("four digits")?)
+}
+
+/// The text without its blanks.
+fn without_blanks(alloc: Global, text: &str) -> Result<String, AllocError> {
+    let mut bare = String::new(alloc);
+    for part in text.split(' ') {
+        bare.push_str(part)?;
+    }
+    Ok(bare)
+}

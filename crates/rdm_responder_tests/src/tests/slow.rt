@@ -1,0 +1,197 @@
+//! Long runs of slow commands, and the example of README.md.
+
+use super::{CONTROLLER, DEVICE, GET, IDENTIFY_DEVICE, SET, printed, request, responder_with};
+use rdm_frame::{Body, Frame, Wire, encode};
+use rdm_params::{Kind, Outcome, Profile, Severity, Verdict};
+use rdm_responder::{Report, Responder};
+use std::test::Fail;
+
+const QUEUED_MESSAGE: u16 = 0x0020;
+
+const STATUS_MESSAGES: u16 = 0x0030;
+
+const LAMP_STATE: u16 = 0x0403;
+
+/// A lamp that failed to strike.
+fn failed(severity: Severity, v1: u16) -> Outcome {
+    Outcome::Failed {
+        severity,
+        id: 0x8001,
+        v1,
+        v2: 0,
+    }
+}
+
+/// SET LAMP_STATE 1.
+fn lamp(tn: u8) -> Result<Wire, Fail> {
+    request(DEVICE, tn, SET, LAMP_STATE, &[1])
+}
+
+/// QUEUED_MESSAGE with this status type.
+fn collect(tn: u8, status_type: u8) -> Result<Wire, Fail> {
+    request(DEVICE, tn, GET, QUEUED_MESSAGE, &[status_type])
+}
+
+/// STATUS_MESSAGES with this status type.
+fn status(tn: u8, status_type: u8) -> Result<Wire, Fail> {
+    request(DEVICE, tn, GET, STATUS_MESSAGES, &[status_type])
+}
+
+/// The reply to the controller with so many messages waiting, that carries these slots of status entries.
+fn status_reply(tn: u8, count: u8, slots: &[u8]) -> Result<Wire, Fail> {
+    Ok(encode(&Frame {
+        dst: CONTROLLER,
+        src: DEVICE,
+        tn,
+        port: 0,
+        count,
+        sub: 0,
+        class: 0x21,
+        pid: STATUS_MESSAGES,
+        body: Body::from_slice(slots).ok_or("slots of a frame")?,
+    }))
+}
+
+#[test]
+fn a_status_message_shows_25_entries_once(rt: HostRuntime) -> Result<(), Fail> {
+    let mut responder = responder_with(rt.alloc(), 0, 27)?;
+    let mut shown = Vec::new(rt.alloc());
+    for number in 0..27u8 {
+        let job = responder.step(lamp(number)?.as_slice()).1.ok_or("a job")?;
+        let severity = if number == 0 {
+            Severity::Advisory
+        } else {
+            Severity::Error
+        };
+        let outcome = failed(severity, u16::from(number));
+        responder.arrive(Report { job, outcome })?;
+        if 1 <= number && number <= 25 {
+            shown.extend_from_slice(&[0, 0, 4, 0x80, 0x01, 0, number, 0, 0])?;
+        }
+    }
+    let full = status_reply(27, 0x1B, &shown)?;
+    assert_eq!(rt;
+        responder.step(status(27, 4)?.as_slice()),
+        (Some(full), None)
+    );
+    let again = status_reply(28, 0x1B, &shown)?;
+    assert_eq!(rt;
+        responder.step(collect(28, 1)?.as_slice()),
+        (Some(again), None)
+    );
+    let rest = printed(&rt, "0000 02 8001 0000 0000 0000 04 8001 001A 0000");
+    let others = status_reply(29, 0x1B, rest.as_slice())?;
+    assert_eq!(rt;
+        responder.step(status(29, 2)?.as_slice()),
+        (Some(others), None)
+    );
+    let none = status_reply(30, 0x1B, &[])?;
+    assert_eq!(rt;
+        responder.step(status(30, 2)?.as_slice()),
+        (Some(none), None)
+    );
+    Ok(())
+}
+
+/// IDENTIFY_DEVICE, and QUEUED_MESSAGE twice, while 256 messages wait at first.
+const COUNTED: [(&str, &str); 3] = [
+    (
+        "CC0118 7FF000000001 7FF000000002 00 01 00 0000 20 1000 00 03F7",
+        "CC0119 7FF000000002 7FF000000001 00 00 FF 0000 21 1000 01 00 04F8",
+    ),
+    (
+        "CC0119 7FF000000001 7FF000000002 01 01 00 0000 20 0020 01 02 040C",
+        "CC0118 7FF000000002 7FF000000001 01 00 FF 0000 31 0403 00 04FE",
+    ),
+    (
+        "CC0119 7FF000000001 7FF000000002 02 01 00 0000 20 0020 01 02 040D",
+        "CC0118 7FF000000002 7FF000000001 02 00 FE 0000 31 0403 00 04FE",
+    ),
+];
+
+#[test]
+fn more_than_255_messages_count_as_255(rt: HostRuntime) -> Result<(), Fail> {
+    let mut responder = responder_with(rt.alloc(), 0, 300)?;
+    let set = lamp(0)?;
+    for _ in 0..256_u16 {
+        let job = responder.step(set.as_slice()).1.ok_or("a job")?;
+        let outcome = Outcome::Done;
+        responder.arrive(Report { job, outcome })?;
+    }
+    for (frame, reply) in COUNTED {
+        let answer = responder.step(printed(&rt, frame).as_slice());
+        assert_eq!(rt; answer, (Some(printed(&rt, reply)), None), "{frame}");
+    }
+    Ok(())
+}
+
+#[test]
+fn a_queue_of_255_is_used_up_to_its_end(rt: HostRuntime) -> Result<(), Fail> {
+    let mut responder = responder_with(rt.alloc(), 0, 255)?;
+    let set = lamp(0)?;
+    for number in 0..254u32 {
+        let job = responder.step(set.as_slice()).1.ok_or("a job")?;
+        assert_eq!(rt; job.number, number);
+        let outcome = Outcome::Done;
+        responder.arrive(Report { job, outcome })?;
+    }
+    let last = responder.step(set.as_slice()).1.ok_or("a job")?;
+    assert_eq!(rt; (responder.waiting(), responder.outstanding()), (254, 1));
+    let full = printed(
+        &rt,
+        "CC011A 7FF000000002 7FF000000001 00 02 FE 0000 31 0403 02 0007 0509",
+    );
+    assert_eq!(rt; responder.step(set.as_slice()), (Some(full), None));
+    let outcome = Outcome::Done;
+    responder.arrive(Report { job: last, outcome })?;
+    for (heard, answer) in [
+        (
+            request(DEVICE, 0, GET, IDENTIFY_DEVICE, &[])?,
+            "CC0119 7FF000000002 7FF000000001 00 00 FF 0000 21 1000 01 00 04F8",
+        ),
+        (
+            collect(1, 2)?,
+            "CC0118 7FF000000002 7FF000000001 01 00 FE 0000 31 0403 00 04FD",
+        ),
+    ] {
+        let answer = printed(&rt, answer);
+        assert_eq!(rt; responder.step(heard.as_slice()), (Some(answer), None));
+    }
+    Ok(())
+}
+
+/// SET LAMP_STATE on, QUEUED_MESSAGE, and what is answered to them: ACK_TIMER with 50 tenths of a second, and the response
+/// to the SET.
+const SET_LAMP_ON: &str = "CC0119 7FF000000001 7FF000000002 00 01 00 0000 30 0403 01 01 0401";
+
+const ASK: &str = "CC0119 7FF000000001 7FF000000002 01 01 00 0000 20 0020 01 02 040C";
+
+const LATER: &str = "CC011A 7FF000000002 7FF000000001 00 01 00 0000 31 0403 02 0032 0435";
+
+const IT_IS_ON: &str = "CC0118 7FF000000002 7FF000000001 01 00 00 0000 31 0403 00 03FF";
+
+#[test]
+fn a_lamp_is_struck(rt: HostRuntime) -> Result<(), Fail> {
+    let set_lamp_on = printed(&rt, SET_LAMP_ON);
+    let queued_message = printed(&rt, ASK);
+    let in_five_seconds = printed(&rt, LATER);
+    let lamp_is_on = printed(&rt, IT_IS_ON);
+    let one = Body::from_slice(&[0, 1]).ok_or("two bytes")?;
+
+    // The example of README.md, as it stands there.
+    let mut responder = Responder::new(rt.alloc(), DEVICE, Profile::demo(0), 8)?;
+    // SET LAMP_STATE is slow: the reply is ACK_TIMER, in 5 seconds, and a job starts.
+    let (reply, job) = responder.step(set_lamp_on.as_slice());
+    assert_eq!(rt; reply, Some(in_five_seconds));
+    let job = job.ok_or("a job")?;
+    // The lamp burns: the job is done, and its result waits.
+    let outcome = Outcome::Done;
+    responder.arrive(Report { job, outcome })?;
+    // The controller asks for what waits, and gets the response to its SET.
+    let (reply, _) = responder.step(queued_message.as_slice());
+    assert_eq!(rt; reply, Some(lamp_is_on));
+    // The firmware reads where its DMX512 slots begin: at the address that the profile starts with, 1.
+    let address = responder.devices().get(0, Kind::DmxStartAddress.pid(), &[]);
+    assert_eq!(rt; address, Verdict::Reply(one));
+    Ok(())
+}

@@ -1,0 +1,110 @@
+//! The lines of a trace that no script prints: those of reports, and of messages with data.
+
+use rdm_bus::Event;
+use rdm_frame::Body;
+use rdm_outbox::Job;
+use rdm_params::{Message, Outcome, Severity, Verb, Work};
+use rdm_responder::Report;
+use rdm_script::trace_text;
+use std::test::Fail;
+
+const LAMP_STATE: u16 = 0x0403;
+
+const SENSOR_VALUE: u16 = 0x0201;
+
+/// A job of worker 0.
+const LAMP: Work = Work {
+    sub: 0,
+    pid: LAMP_STATE,
+    verb: Verb::Set,
+    arg: 2,
+};
+
+/// A job of worker 1.
+const SENSOR: Work = Work {
+    sub: 0,
+    pid: SENSOR_VALUE,
+    verb: Verb::Get,
+    arg: 0,
+};
+
+/// What is reported, and its line.
+const REPORTS: [(Work, u32, Outcome, &str); 5] = [
+    (LAMP, 0, Outcome::Done, "arrive 0 0 done\n"),
+    (SENSOR, 10, Outcome::Reading(25), "arrive 1 10 reading 25\n"),
+    (
+        SENSOR,
+        4_294_967_294,
+        Outcome::Reading(-32_768),
+        "arrive 1 4294967294 reading -32768\n",
+    ),
+    (
+        LAMP,
+        7,
+        Outcome::Failed {
+            severity: Severity::Error,
+            id: 0x8001,
+            v1: 2,
+            v2: 0xABCD,
+        },
+        "arrive 0 7 failed 04 8001 0002 ABCD\n",
+    ),
+    (
+        SENSOR,
+        1,
+        Outcome::Failed {
+            severity: Severity::AdvisoryCleared,
+            id: 0,
+            v1: 0xFFFF,
+            v2: 1,
+        },
+        "arrive 1 1 failed 12 0000 FFFF 0001\n",
+    ),
+];
+
+/// A message with this class, PID and data.
+fn message(class: u8, pid: u16, sub: u16, data: &[u8]) -> Result<Message, Fail> {
+    Ok(Message {
+        class,
+        pid,
+        sub,
+        body: Body::from_slice(data).ok_or("at most 231 bytes")?,
+    })
+}
+
+#[test]
+fn prints_reports(rt: HostRuntime) -> Result<(), Fail> {
+    for (work, number, outcome, line) in REPORTS {
+        let event = Event::Arrived {
+            report: Report {
+                job: Job { number, work },
+                outcome,
+            },
+            message: message(0x31, work.pid, work.sub, &[])?,
+            kept: false,
+        };
+        let mut expected = String::from_str(rt.alloc(), line)?;
+        expected.push_str("end\n")?;
+        let text = trace_text(rt.alloc(), &[event], &[])?;
+        assert_eq!(rt; text.as_slice(), expected.as_bytes());
+    }
+    Ok(())
+}
+
+#[test]
+fn prints_messages_after_all_events(rt: HostRuntime) -> Result<(), Fail> {
+    let sensor: &[u8] = &[0x00, 0x00, 0x19, 0x00, 0x00, 0x00, 0x19, 0x00, 0x00];
+    let messages = [
+        message(0x31, LAMP_STATE, 0, &[])?,
+        message(0x21, SENSOR_VALUE, 0, sensor)?,
+        message(0x21, 0x00E0, 0x01FF, &[0x02, 0xFE])?,
+    ];
+    let text = trace_text(rt.alloc(), &[], &messages)?;
+    let expected = "message 31 0403 0000 -
+message 21 0201 0000 000019000000190000
+message 21 00E0 01FF 02FE
+end
+";
+    assert_eq!(rt; text.as_slice(), expected.as_bytes());
+    Ok(())
+}
