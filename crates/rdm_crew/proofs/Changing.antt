@@ -11,14 +11,13 @@ use Rattle.rdm_bus.specs.declared.event.Event.TheVariants.{Bus, Arrived, Changed
 use Rattle.rdm_bus.specs.declared.event.Step.{Step}
 use Rattle.rdm_bus.specs.declared.event.Step.TheVariants as bus
 use Rattle.rdm_bus.specs.BusRun.{Start, IsPlayed, after}
-use Rattle.rdm_bus.specs.Systems.{Played}
 use Rattle.rdm_lane.specs.declared.taken.Taken.{Taken}
 use Rattle.rdm_lane.specs.declared.taken.Taken.TheVariants.{Item, Mark}
 use Rattle.rdm_lane.specs.Ends.{PostState, TakeState, IsNext, IsSameTake, took}
 use Rattle.rdm_lane.specs.Lane.{items_from}
 use Rattle.rdm_crew.specs.declared.crew.Crew.{Crew}
 use Rattle.rdm_crew.specs.declared.desk.Desk.{Desk}
-use Rattle.rdm_crew.specs.declared.step.CrewStep.TheVariants.{Draw, Settle, Panel}
+use Rattle.rdm_crew.specs.declared.step.CrewStep.TheVariants.{Draw, Panel}
 use Rattle.rdm_crew.specs.declared.stop.Stop.{Stop}
 use Rattle.rdm_crew.specs.declared.stop.Stop.TheVariants as stop
 use Rattle.rdm_crew.specs.Crews.{HasChanges, HasChanged, HasPlayed, HasSent, IsRefused, IsSent, IsStopped, IsTied}

@@ -1,5 +1,5 @@
 -- The bytes that a plate keeps its text in.
-use Rattle.std.proofs.Common.{◌≡◌, ℕ, ◌≤◌, List, ◌++◌, length, drop, replicate, ◌∙◌, arith, length-append}
+use Rattle.std.proofs.Common.{ℕ, ◌≤◌, List, ◌++◌, length, drop, replicate, ◌∙◌, arith, length-append}
 use Rattle.std.proofs.lemmas.List.{drop-replicate, length-drop}
 use Rattle.std.proofs.Math.Seq.{drop-append_seam}
 use Rattle.rdm_params.specs.Views.Plates.{HoldsText}

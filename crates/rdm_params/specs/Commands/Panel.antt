@@ -1,6 +1,6 @@
 -- What a person changes at the fixture's own menu: the values afterwards, and the message that tells a controller. A
 -- change has the range and the effect of a SET of the same parameter at the root.
-use Rattle.std.specs.Prelude.{ℕ, Bool, [], Option, Some, None, if◌then◌else◌}
+use Rattle.std.specs.Prelude.{ℕ, Bool, Option, Some, None, if◌then◌else◌}
 use Rattle.rdm_params.specs.declared.kind.Verb.TheVariants.{Get, Set}
 use Rattle.rdm_params.specs.declared.panel.Change.{Change}
 use Rattle.rdm_params.specs.declared.panel.Change.TheVariants as changes

@@ -1,4 +1,4 @@
-use Rattle.std.proofs.Common.{List, [], ◌∷◌, ◌++◌, ap, ◌∙◌}
+use Rattle.std.proofs.Common.{[], ◌∷◌, ◌++◌, ap, ◌∙◌}
 use Rattle.rdm_crew.proofs.Ending.{settled_of_one}
 use Rattle.rdm_crew.proofs.settling.settle_one.Goals as goal
 

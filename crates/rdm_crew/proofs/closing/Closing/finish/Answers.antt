@@ -2,7 +2,7 @@ use Rattle.std.proofs.Common.{sym, subst}
 use Rattle.rdm_responder.specs.StandsFor.{StandsFor}
 use Rattle.rdm_crew.specs.Desks.{stands_at}
 use Rattle.rdm_crew.proofs.Ending.{first_answered, second_answered, none_outstanding, never_missing}
-use Rattle.rdm_crew.proofs.Watching.{joined_lane, offered_in}
+use Rattle.rdm_crew.proofs.Watching.{offered_in}
 use Rattle.rdm_crew.proofs.closing.Closing.finish.Goals as goal
 
 pub returns-clause-first : goal.returns-clause-first

@@ -1,17 +1,14 @@
-use Rattle.std.proofs.Common.{ℕ, length, refl, sym, ap, subst, ◌∙◌}
-use Rattle.std.specs.Prelude.{slice_get, nat_lt}
-use Rattle.std.proofs.lemmas.Bool.{and_parts}
+use Rattle.std.proofs.Common.{length, refl, sym, ap, subst, ◌∙◌}
+use Rattle.std.specs.Prelude.{nat_lt}
 use Rattle.rdm_params.specs.declared.slow.message.Message.{Message}
 use Rattle.rdm_params.specs.Slow.Commit.{after_commit, committed}
-use Rattle.rdm_params.specs.Slow.Work.{worker_of}
 use Rattle.rdm_outbox.specs.Jobs.{after_arrive}
 use Rattle.rdm_outbox.specs.Shows as outbox_state
-use Rattle.rdm_outbox.specs.State.{jobs_at}
 use Rattle.rdm_responder.specs.History.{Arrived}
 use Rattle.rdm_responder.specs.Rules.{account_of, after_outcome}
 use Rattle.rdm_responder.specs.StandsFor.{State}
 use Rattle.rdm_responder.proofs.Accounts.{stands_for_event}
-use Rattle.rdm_responder.proofs.Arrivals.{some_outstanding, shows_report, is_arrival}
+use Rattle.rdm_responder.proofs.Arrivals.{shows_report, is_arrival}
 use Rattle.rdm_responder.proofs.Lawfulness.{lawful_then, may_happen}
 use Rattle.rdm_responder.proofs.responder.Responder.arrive.Goals as goal
 
