@@ -9,8 +9,8 @@ use thiserror::Error;
 /// Why the program stops.
 #[derive(Debug, Drop, Error)]
 pub(crate) enum Fault {
-    /// The arguments aren't a number of rounds, or none.
-    #[error("usage: rdm_bench_crew [ROUNDS]")]
+    /// The arguments aren't a number of rounds, `slow` and a number of jobs, or none.
+    #[error("usage: rdm_bench_crew [ROUNDS | slow JOBS]")]
     Usage,
     /// Memory was refused to the plan, or to the run on one thread.
     #[error("out of memory")]

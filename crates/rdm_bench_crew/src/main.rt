@@ -3,7 +3,8 @@
 //!
 //! Without arguments 16 commands are played in each of three ways, and the program prints how many events there were and how
 //! many messages were collected. With a number of rounds 10,000 are played a round, and the program prints how long a job
-//! took.
+//! took. With `slow` and a number of jobs these are done one after another, each in a millisecond, and the program prints
+//! how long the run took.
 #![tactic(auto)]
 
 mod fault;
@@ -15,7 +16,7 @@ mod setup;
 
 use fault::Fault;
 use plan::{Plan, WAYS, Way};
-use played::{Played, by_one_thread, by_workers};
+use played::{Played, by_one_thread, by_slow_workers, by_workers};
 use std::alloc::{Alloc, Global};
 use std::env;
 use std::env::Env;
@@ -33,9 +34,10 @@ const MANY: u32 = 10_000;
 
 /// Status 2 says that the arguments can't be read, and status 1 that something else failed.
 fn main(rt: HostRuntime) -> ExitCode {
-    let done = match rounds(&rt) {
-        Ok(Some(rounds)) => time(rt, rt.alloc(), rounds),
-        Ok(None) => show(rt, rt.alloc()),
+    let done = match asked(&rt) {
+        Ok(Asked::Show) => show(rt, rt.alloc()),
+        Ok(Asked::Rounds(rounds)) => time(rt, rt.alloc(), rounds),
+        Ok(Asked::Slow(jobs)) => time_slow(rt, rt.alloc(), jobs),
         Err(fault) => Err(fault),
     };
     match done {
@@ -47,14 +49,28 @@ fn main(rt: HostRuntime) -> ExitCode {
     }
 }
 
-/// How many rounds the arguments ask for, where there are any.
-fn rounds<R: Env + Alloc>(rt: &R) -> Result<Option<u32>, Fault> {
+/// What the arguments ask for.
+enum Asked {
+    /// What a few commands come to.
+    Show,
+    /// The times of so many rounds.
+    Rounds(u32),
+    /// The time of so many slow jobs.
+    Slow(u32),
+}
+
+/// Reads the arguments.
+fn asked<R: Env + Alloc>(rt: &R) -> Result<Asked, Fault> {
     let mut words = env::args(rt)?.skip(1);
     let Some(word) = words.next() else {
-        return Ok(None);
+        return Ok(Asked::Show);
     };
-    match (word.parse::<u32>(), words.next()) {
-        (Ok(rounds), None) => Ok(Some(rounds)),
+    match (word.parse::<u32>(), words.next(), words.next()) {
+        (Ok(rounds), None, None) => Ok(Asked::Rounds(rounds)),
+        (Err(_), Some(jobs), None) if word == "slow" => match jobs.parse::<u32>() {
+            Ok(jobs) => Ok(Asked::Slow(jobs)),
+            Err(_) => Err(Fault::Usage),
+        },
         _ => Err(Fault::Usage),
     }
 }
@@ -102,6 +118,22 @@ where
     let played = by_one_thread(alloc, plan)?;
     let (each, a_second) = speed(start.elapsed(&rt)?, played)?;
     println!(rt; "{}, one thread: {each} {a_second}", way.name)?;
+    Ok(())
+}
+
+/// Prints how many milliseconds a run takes whose jobs take one each, one after another.
+fn time_slow<R>(rt: R, alloc: Global, jobs: u32) -> Result<(), Fault>
+where
+    R: Print + Clock + Threads + Wait + Copy + Send + 'static,
+{
+    let plan = Plan::of(alloc, jobs, &WAYS[0])?;
+    let start = Instant::now(&rt)?;
+    let played = by_slow_workers(rt, alloc, &plan)?;
+    let time = start.elapsed(&rt)?;
+    if !played.is_whole(jobs) {
+        return Err(Fault::Lost);
+    }
+    println!(rt; "{jobs} jobs of 1 ms: {} ms", time.as_millis())?;
     Ok(())
 }
 

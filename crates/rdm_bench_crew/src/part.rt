@@ -6,6 +6,11 @@ ghost use Rattle.rdm_params.specs.Slow.Outcome.{ends};
 use rdm_crew::{Panel, Part};
 use rdm_outbox::Job;
 use rdm_params::{Change, Outcome, Verb};
+use std::thread;
+use std::time::{Clock, Duration};
+
+/// How long a slow job takes, in milliseconds.
+const SLOW: u64 = 1;
 
 /// Does each job at once.
 #[derive(Drop)]
@@ -15,6 +20,24 @@ impl Part for Quick {
     ghost gives = { λ part job outcome. ends job.work.verb outcome ≡ true };
 
     fn work(&mut self, job: &Job) -> Outcome {
+        outcome_of(job)
+    }
+}
+
+/// Does each job in a millisecond, in which it sleeps.
+#[derive(Drop)]
+pub(crate) struct Slow<R: Clock> {
+    pub(crate) rt: R,
+}
+
+impl<R: Clock> Part for Slow<R> {
+    ghost use Rattle.std.specs.Prelude.{◌≡◌, true};
+    ghost use Rattle.rdm_params.specs.Slow.Outcome.{ends};
+
+    ghost gives = { λ part job outcome. ends job.work.verb outcome ≡ true };
+
+    fn work(&mut self, job: &Job) -> Outcome {
+        thread::sleep(&self.rt, Duration::from_millis(SLOW));
         outcome_of(job)
     }
 }

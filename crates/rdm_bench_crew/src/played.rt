@@ -2,15 +2,16 @@
 
 use crate::fault::Fault;
 use crate::one_thread::play;
-use crate::part::{Nobody, Quick};
+use crate::part::{Nobody, Quick, Slow};
 use crate::plan::Plan;
 use crate::setup::setup;
-use rdm_crew::run;
+use rdm_crew::{Trace, run};
 use std::alloc::Global;
 use std::fmt;
 use std::fmt::{Display, Formatter, Write};
 use std::sync::Wait;
 use std::thread::Threads;
+use std::time::Clock;
 
 /// How many events there were, and how many messages were collected.
 #[derive(Clone, Copy)]
@@ -20,6 +21,14 @@ pub(crate) struct Played {
 }
 
 impl Played {
+    /// What a trace shows.
+    fn of(trace: &Trace) -> Played {
+        Played {
+            events: trace.events().len(),
+            messages: trace.recorded().len(),
+        }
+    }
+
     /// Whether, after so many commands, each command, each report and each poll is an event, and each message was
     /// collected.
     pub(crate) fn is_whole(self, jobs: u32) -> bool {
@@ -40,10 +49,17 @@ where
     R: Threads + Wait + Copy + Send + 'static,
 {
     let trace = run(rt, alloc, setup(), plan.steps(), Quick, Quick, Nobody)?;
-    Ok(Played {
-        events: trace.events().len(),
-        messages: trace.recorded().len(),
-    })
+    Ok(Played::of(&trace))
+}
+
+/// Plays a plan with two workers that take a millisecond for each job.
+pub(crate) fn by_slow_workers<R>(rt: R, alloc: Global, plan: &Plan) -> Result<Played, Fault>
+where
+    R: Clock + Threads + Wait + Copy + Send + 'static,
+{
+    let (first, second) = (Slow { rt }, Slow { rt });
+    let trace = run(rt, alloc, setup(), plan.steps(), first, second, Nobody)?;
+    Ok(Played::of(&trace))
 }
 
 /// Plays a plan on this thread alone.

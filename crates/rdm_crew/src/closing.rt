@@ -13,7 +13,8 @@ ghost use Rattle.rdm_crew.specs.Stops.{error_of};
 ghost use Rattle.rdm_crew.specs.Watchers.{AreOffered};
 
 use crate::desk::Desk;
-use crate::settling::{settle, settle_one};
+use crate::joining::Started;
+use crate::settling::{Rooms, settle, settle_one};
 use crate::stop::Stop;
 use crate::watcher::{Watched, Watches};
 use crate::worker::{Worked, Works};
@@ -21,37 +22,37 @@ use crate::{Panel, Part, RunError, Trace};
 use rdm_lane::{ClosedPost, Take};
 use rdm_outbox::Job;
 use rdm_params::{Change, started_work_is_its_command};
-use std::alloc::Global;
 use std::sync::Wait;
-use std::thread::{PromisedHandle, Threads};
+use std::thread::Threads;
 
-/// What is left of a run when its job lanes are closed: the bus, and workers and a watcher that end.
-#[derive(Drop)]
+/// What is left of a run when its job lanes are closed: the bus, and workers and a watcher that end. It can't be dropped, since
+/// these must be joined.
 pub(crate) struct Closing<P: Part, Q: Part, N: Panel> {
     pub(crate) desk: Desk,
     pub(crate) first: ClosedPost<Job>,
     pub(crate) second: ClosedPost<Job>,
     pub(crate) changes: Take<Change>,
-    pub(crate) first_worker: PromisedHandle<Worked, Works<P>>,
-    pub(crate) second_worker: PromisedHandle<Worked, Works<Q>>,
-    pub(crate) watcher: PromisedHandle<Watched, Watches<N>>,
+    pub(crate) first_worker: Started<Worked, Works<P>>,
+    pub(crate) second_worker: Started<Worked, Works<Q>>,
+    pub(crate) watcher: Started<Watched, Watches<N>>,
+    pub(crate) rooms: Rooms,
 }
 
 impl<P: Part, Q: Part, N: Panel> Closing<P, Q, N> {
     /// Ends a run whose reports were all drawn.
-    pub(crate) fn finish<R: Threads + Wait>(self, rt: &R, alloc: Global) -> Result<Trace, RunError>
+    pub(crate) fn finish<R: Threads + Wait>(self, rt: &R) -> Result<Trace, RunError>
         requires drawn { IsDrawn self.desk × IsOver self.desk.reports }
         requires jobs { HasJobs self.desk self.first self.second }
-        requires changes { HasChanges self.desk self.changes × IsLaneOfOne self.changes self.watcher.promise.changes.value }
+        requires changes { HasChanges self.desk self.changes × IsLaneOfOne self.changes self.watcher.changes.value }
         requires lanes { AreLanes self.desk.reports self.first self.second
-            self.first_worker.promise.jobs.value self.first_worker.promise.reports.value
-            self.second_worker.promise.jobs.value self.second_worker.promise.reports.value }
+            self.first_worker.jobs.value self.first_worker.reports.value
+            self.second_worker.jobs.value self.second_worker.reports.value }
         ensures events { IfOk result (λ trace. trace.events ≡ self.desk.system.trace) }
         ensures recorded { IfOk result (λ trace. trace.recorded ≡ recorded self.desk.system.trace) }
         ensures last { IfOk result (λ trace. outstanding_count (outbox_of (stands_at self.desk).history) ≡ 0) }
-        ensures first { IfOk result (λ trace. IsAnswered 0 (P.gives self.first_worker.promise.part.value) self.desk.system.trace) }
-        ensures second { IfOk result (λ trace. IsAnswered 1 (Q.gives self.second_worker.promise.part.value) self.desk.system.trace) }
-        ensures changes { IfOk result (λ trace. AreOffered (N.offers self.watcher.promise.panel.value) 0 (changes_in self.desk.system.trace)) }
+        ensures first { IfOk result (λ trace. IsAnswered 0 (P.gives self.first_worker.part.value) self.desk.system.trace) }
+        ensures second { IfOk result (λ trace. IsAnswered 1 (Q.gives self.second_worker.part.value) self.desk.system.trace) }
+        ensures changes { IfOk result (λ trace. AreOffered (N.offers self.watcher.panel.value) 0 (changes_in self.desk.system.trace)) }
         ensures err { IfErr result (λ e. e ≡ RunError.OutOfMemory) }
     {
         let Closing {
@@ -62,20 +63,23 @@ impl<P: Part, Q: Part, N: Panel> Closing<P, Q, N> {
             first_worker,
             second_worker,
             watcher,
+            rooms,
         } = self;
         let Desk {
             setup: _setup,
             system,
             reports,
+            waiter: _waiter,
         } = desk;
         let a = first_worker.join(rt);
         let b = second_worker.join(rt);
         let watched = watcher.join(rt);
         let first_refused = a.refused;
         let second_refused = b.refused;
-        settle(rt, alloc, first, second, reports, a, b)?;
-        settle_one(rt, alloc, changes, watched.changes)?;
-        if first_refused || second_refused || watched.refused {
+        let watcher_refused = watched.refused;
+        settle(rt, rooms.workers, first, second, reports, a, b);
+        settle_one(rt, rooms.changes, changes, watched.changes);
+        if first_refused || second_refused || watcher_refused {
             return Err(RunError::OutOfMemory);
         }
         if system.responder().outstanding() > 0 {
@@ -86,30 +90,40 @@ impl<P: Part, Q: Part, N: Panel> Closing<P, Q, N> {
     }
 
     /// Ends a run whose steps, or whose drawing of reports, ended early.
-    pub(crate) fn give_up<R: Threads + Wait>(self, rt: &R, alloc: Global, stop: Stop) -> RunError
-        requires fits { FitsFor 0 (P.gives self.first_worker.promise.part.value) × FitsFor 1 (Q.gives self.second_worker.promise.part.value) }
+    pub(crate) fn give_up<R: Threads + Wait>(self, rt: &R, stop: Stop) -> RunError
+        requires fits { FitsFor 0 (P.gives self.first_worker.part.value) × FitsFor 1 (Q.gives self.second_worker.part.value) }
         requires lanes { AreLanes self.desk.reports self.first self.second
-            self.first_worker.promise.jobs.value self.first_worker.promise.reports.value
-            self.second_worker.promise.jobs.value self.second_worker.promise.reports.value }
+            self.first_worker.jobs.value self.first_worker.reports.value
+            self.second_worker.jobs.value self.second_worker.reports.value }
         requires suspect { stop ≡ Stop.Astray → IsSuspect self.desk × HasJobs self.desk self.first self.second }
         ensures astray { stop ≡ Stop.Astray → result ≡ RunError.OutOfMemory }
         ensures others { stop ≢ Stop.Astray → result ≡ error_of stop }
     {
         if stop == Stop::Astray {
-            return self.look_into(rt, alloc);
+            return self.look_into(rt);
         }
-        let _ = self.first_worker.join(rt);
-        let _ = self.second_worker.join(rt);
-        let _ = self.watcher.join(rt);
+        let Closing {
+            desk: _desk,
+            first: _first,
+            second: _second,
+            changes: _changes,
+            first_worker,
+            second_worker,
+            watcher,
+            rooms: _rooms,
+        } = self;
+        let _ = first_worker.join(rt);
+        let _ = second_worker.join(rt);
+        let _ = watcher.join(rt);
         RunError::from(stop)
     }
 
     /// Ends a run in which a report seemed astray: the lists of all lanes tell whether it was.
-    fn look_into<R: Threads + Wait>(self, rt: &R, alloc: Global) -> RunError
-        requires fits { FitsFor 0 (P.gives self.first_worker.promise.part.value) × FitsFor 1 (Q.gives self.second_worker.promise.part.value) }
+    fn look_into<R: Threads + Wait>(self, rt: &R) -> RunError
+        requires fits { FitsFor 0 (P.gives self.first_worker.part.value) × FitsFor 1 (Q.gives self.second_worker.part.value) }
         requires lanes { AreLanes self.desk.reports self.first self.second
-            self.first_worker.promise.jobs.value self.first_worker.promise.reports.value
-            self.second_worker.promise.jobs.value self.second_worker.promise.reports.value }
+            self.first_worker.jobs.value self.first_worker.reports.value
+            self.second_worker.jobs.value self.second_worker.reports.value }
         requires suspect { IsSuspect self.desk × HasJobs self.desk self.first self.second }
         ensures { result ≡ RunError.OutOfMemory }
     {
@@ -121,6 +135,7 @@ impl<P: Part, Q: Part, N: Panel> Closing<P, Q, N> {
             first_worker,
             second_worker,
             watcher,
+            rooms,
         } = self;
         // A job that starts is a slow command.
         started_work_is_its_command();
@@ -132,15 +147,14 @@ impl<P: Part, Q: Part, N: Panel> Closing<P, Q, N> {
             setup: _setup,
             system: _system,
             reports,
+            waiter: _waiter,
         } = desk;
         match drained {
             Ok(()) => {}
             Err(_) => return RunError::OutOfMemory,
         }
-        match settle(rt, alloc, first, second, reports, a, b) {
-            // The report is of the oldest outstanding job of its worker, so that it may arrive.
-            Ok(()) => RunError::Astray,
-            Err(_) => RunError::OutOfMemory,
-        }
+        settle(rt, rooms.workers, first, second, reports, a, b);
+        // The report is of the oldest outstanding job of its worker, so that it may arrive.
+        RunError::Astray
     }
 }

@@ -17,13 +17,13 @@ use crate::desk::{Desk, Drawn};
 use crate::putting::put;
 use crate::step::CrewStep;
 use crate::stop::Stop;
+use crate::waiting::{Bell, Waiter};
 use rdm_bus::{Event, PlayError, Step};
 use rdm_lane::{Post, Take, Taken};
 use rdm_outbox::Job;
 use rdm_params::{Change, started_work_is_its_command, worker_of};
 use std::alloc::AllocError;
 use std::sync::Wait;
-use std::thread;
 
 /// The bus with its end of the report lane, the posts of both job lanes, and the end of the panel's lane.
 #[derive(Drop)]
@@ -31,8 +31,12 @@ pub(crate) struct Crew {
     pub(crate) desk: Desk,
     /// The post of the first worker's job lane.
     pub(crate) first: Post<Job>,
+    /// What wakes the first worker.
+    pub(crate) first_bell: Bell,
     /// The post of the second worker's job lane.
     pub(crate) second: Post<Job>,
+    /// What wakes the second worker.
+    pub(crate) second_bell: Bell,
     /// The end that takes what the panel offers.
     pub(crate) changes: Take<Change>,
 }
@@ -111,7 +115,7 @@ impl Crew {
         if !self.desk.system.responder().room() {
             return Ok(());
         }
-        match next_change(rt, &mut self.changes, empties)? {
+        match next_change(rt, &mut self.changes, &self.desk.waiter, empties)? {
             Some(change) => self.change(change),
             None => Ok(()),
         }
@@ -173,18 +177,20 @@ impl Crew {
         ensures same { IsSameCrew self.old self.new }
     {
         if worker_of(&job.work) == 0 {
-            put(rt, &mut self.first, job)?;
+            put(rt, &mut self.first, job, &self.first_bell)?;
             return Ok(());
         }
-        put(rt, &mut self.second, job)?;
+        put(rt, &mut self.second, job, &self.second_bell)?;
         Ok(())
     }
 }
 
-/// Takes the next change of the panel, if one comes. It may find none so many times; the next time there is none.
+/// Takes the next change of the panel, if one comes. It may find none so many times; the next time there is none. It waits as
+/// a settle does.
 fn next_change<R: Wait>(
     rt: &R,
     changes: &mut Take<Change>,
+    waiter: &Waiter,
     empties: u32,
 ) -> Result<Option<Change>, AllocError>
     requires { changes.old.posts ≡ 1 }
@@ -192,6 +198,7 @@ fn next_change<R: Wait>(
     ensures same { IsSameTake changes.old changes.new }
 {
     let mut left = empties;
+    let mut looks = 0;
     for _ in rt.forever() {
         match changes.take(rt) {
             Ok(Taken::Item { item: change, .. }) => return Ok(Some(change)),
@@ -202,7 +209,7 @@ fn next_change<R: Wait>(
                     return Ok(None);
                 }
                 left -= 1;
-                thread::yield_now();
+                looks = waiter.wait_a_while(rt, looks);
             }
             Ok(Taken::Closed) => return Ok(None),
             Err(_) => return Err(AllocError),

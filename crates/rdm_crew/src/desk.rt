@@ -6,13 +6,13 @@ ghost use Rattle.rdm_crew.specs.Desks.{IsDrawn, IsSuspect, IsSameDesk, IsCutShor
 
 use crate::Setup;
 use crate::stop::Stop;
+use crate::waiting::Waiter;
 use rdm_bus::{PlayError, Step, System};
 use rdm_lane::{Take, Taken};
 use rdm_responder::Report;
 use std::alloc::AllocError;
 use std::snapshot::Snapshot;
 use std::sync::Wait;
-use std::thread;
 
 /// The bus, and the end of the report lane that the bus thread takes from.
 #[derive(Drop)]
@@ -21,6 +21,8 @@ pub(crate) struct Desk {
     pub(crate) setup: Snapshot<Setup>,
     pub(crate) system: System,
     pub(crate) reports: Take<Report>,
+    /// What the bus thread waits with. Every other thread of the run has a bell for it.
+    pub(crate) waiter: Waiter,
 }
 
 /// What one take from the report lane came to.
@@ -61,6 +63,8 @@ impl Desk {
     }
 
     /// Draws reports until no job is outstanding. It may find none so many times; the next time it is `Unsettled`.
+    ///
+    /// After the first hundred in a row it sleeps before each further look, until a report comes or 10 ms have passed.
     pub(crate) fn settle<R: Wait>(&mut self, rt: &R, empties: u32) -> Result<(), Stop>
         requires { IsDrawn self.old }
         ensures settled { MatchResult result
@@ -69,18 +73,19 @@ impl Desk {
         ensures same { IsSameDesk self.old self.new }
     {
         let mut left = empties;
+        let mut looks = 0;
         for _ in rt.forever() {
             if self.system.responder().outstanding() == 0 {
                 return Ok(());
             }
             match self.draw(rt) {
-                Ok(Drawn::Arrived) => {}
+                Ok(Drawn::Arrived) => looks = 0,
                 Ok(Drawn::Empty) => {
                     if left == 0 {
                         return Err(Stop::Unsettled);
                     }
                     left -= 1;
-                    thread::yield_now();
+                    looks = self.waiter.wait_a_while(rt, looks);
                 }
                 // A worker closes its post before the steps end only where its memory was refused.
                 Ok(Drawn::Mark) => return Err(Stop::OutOfMemory),
@@ -100,11 +105,12 @@ impl Desk {
         ensures settles { IfErr result (λ stop. stop ≢ Stop.Unsettled) }
         ensures same { IsSameDesk self.old self.new }
     {
+        let mut looks = 0;
         for _ in rt.forever() {
             match self.draw(rt) {
-                Ok(Drawn::Arrived) => {}
+                Ok(Drawn::Arrived) => looks = 0,
                 Ok(Drawn::Mark) => {}
-                Ok(Drawn::Empty) => thread::yield_now(),
+                Ok(Drawn::Empty) => looks = self.waiter.wait(rt, looks),
                 Ok(Drawn::Closed) => return Ok(()),
                 Err(stop) => return Err(stop),
             }
@@ -119,11 +125,12 @@ impl Desk {
         ensures system { self.new.system ≡ self.old.system }
         ensures same { IsSameDesk self.old self.new }
     {
+        let mut looks = 0;
         for _ in rt.forever() {
             match self.reports.take(rt) {
-                Ok(Taken::Item { .. }) => {}
+                Ok(Taken::Item { .. }) => looks = 0,
                 Ok(Taken::Mark { .. }) => {}
-                Ok(Taken::Empty) => thread::yield_now(),
+                Ok(Taken::Empty) => looks = self.waiter.wait(rt, looks),
                 Ok(Taken::Closed) => return Ok(()),
                 Err(_) => return Err(AllocError),
             }

@@ -8,7 +8,9 @@
 mod closing;
 mod crew;
 mod desk;
+mod equipment;
 mod error;
+mod joining;
 mod laws;
 mod panel;
 mod part;
@@ -19,6 +21,7 @@ mod setup;
 mod step;
 mod stop;
 mod trace;
+mod waiting;
 mod watcher;
 mod worker;
 

@@ -4,14 +4,16 @@ ghost use Rattle.std.specs.Prelude.{◌≡◌, IfOk};
 ghost use Rattle.rdm_crew.specs.Watchers.{IsUnwatched, IsWatched};
 
 use crate::Panel;
+use crate::joining::Started;
 use crate::putting::{close, put};
+use crate::waiting::Bell;
 use rdm_lane::{ClosedPost, Post};
 use rdm_params::Change;
 use std::alloc::AllocError;
 use std::snapshot::Snapshot;
 use std::sync::Wait;
 use std::thread;
-use std::thread::{Promise, PromisedHandle, Threads};
+use std::thread::{Promise, Threads};
 
 /// How many changes a panel may offer in a run.
 pub(crate) const MOST_CHANGES: u32 = 1024;
@@ -41,43 +43,46 @@ pub(crate) fn watch<N, R>(
     rt: R,
     changes: Post<Change>,
     panel: N,
-) -> Result<PromisedHandle<Watched, Watches<N>>, AllocError>
+    bell: Bell,
+) -> Result<Started<Watched, Watches<N>>, AllocError>
 where
     N: Panel + Send + 'static,
     R: Threads + Wait + Copy + Send + 'static,
     requires { IsUnwatched changes }
-    ensures { IfOk result (λ watcher. (watcher.promise.changes.value ≡ changes) × (watcher.promise.panel.value ≡ panel)) }
+    ensures { IfOk result (λ watcher. (watcher.changes.value ≡ changes) × (watcher.panel.value ≡ panel)) }
 {
     let watches = Watches {
         changes: Snapshot::of(&changes),
         panel: Snapshot::of(&panel),
     };
-    let watcher = thread::spawn_with(&rt, watches, move || watch_all(&rt, changes, panel))?;
-    Ok(watcher)
+    let watcher = thread::spawn_with(&rt, watches, move || {
+        watch_all(&rt, changes, panel, &bell)
+    })?;
+    Ok(Started::of(watcher))
 }
 
 /// Puts each change that a panel offers, until it offers none or as many as it may, or until memory is refused.
-fn watch_all<N: Panel, R: Wait>(rt: &R, changes: Post<Change>, panel: N) -> Watched
+fn watch_all<N: Panel, R: Wait>(rt: &R, changes: Post<Change>, panel: N, bell: &Bell) -> Watched
     requires { IsUnwatched changes }
     ensures { IsWatched (N.offers panel) changes result }
 {
     let (mut changes, mut panel) = (changes, panel);
     for number in 0..MOST_CHANGES {
         let Some(change) = panel.next(number) else {
-            return ended(rt, changes, false);
+            return ended(rt, changes, false, bell);
         };
-        match put(rt, &mut changes, change) {
+        match put(rt, &mut changes, change, bell) {
             Ok(()) => {}
-            Err(_) => return ended(rt, changes, true),
+            Err(_) => return ended(rt, changes, true, bell),
         }
     }
-    ended(rt, changes, false)
+    ended(rt, changes, false, bell)
 }
 
 /// What a watcher leaves that ends now. It closes its post.
-fn ended<R: Wait>(rt: &R, changes: Post<Change>, refused: bool) -> Watched
+fn ended<R: Wait>(rt: &R, changes: Post<Change>, refused: bool, bell: &Bell) -> Watched
     ensures { (result.changes ≡ changes) × (result.refused ≡ refused) }
 {
-    let changes = close(rt, changes);
+    let changes = close(rt, changes, bell);
     Watched { changes, refused }
 }

@@ -4,7 +4,9 @@ ghost use Rattle.std.specs.Prelude.{◌≡◌, IfOk};
 ghost use Rattle.rdm_crew.specs.Workers.{IsIdle, IsWorked};
 
 use crate::Part;
+use crate::joining::Started;
 use crate::putting::{close, put};
+use crate::waiting::{Bell, Signals};
 use rdm_lane::{ClosedPost, Post, Take, Taken};
 use rdm_outbox::Job;
 use rdm_responder::Report;
@@ -12,7 +14,7 @@ use std::alloc::AllocError;
 use std::snapshot::Snapshot;
 use std::sync::Wait;
 use std::thread;
-use std::thread::{Promise, PromisedHandle, Threads};
+use std::thread::{Promise, Threads};
 
 /// What a worker leaves when it has ended.
 #[derive(Drop)]
@@ -43,53 +45,70 @@ pub(crate) fn start<P, R>(
     jobs: Take<Job>,
     reports: Post<Report>,
     part: P,
-) -> Result<PromisedHandle<Worked, Works<P>>, AllocError>
+    signals: Signals,
+) -> Result<Started<Worked, Works<P>>, AllocError>
 where
     P: Part + Send + 'static,
     R: Threads + Wait + Copy + Send + 'static,
     requires { IsIdle jobs reports }
     ensures { IfOk result (λ worker.
-        (worker.promise.jobs.value ≡ jobs) × (worker.promise.reports.value ≡ reports) × (worker.promise.part.value ≡ part)) }
+        (worker.jobs.value ≡ jobs) × (worker.reports.value ≡ reports) × (worker.part.value ≡ part)) }
 {
     let works = Works {
         jobs: Snapshot::of(&jobs),
         reports: Snapshot::of(&reports),
         part: Snapshot::of(&part),
     };
-    let worker = thread::spawn_with(&rt, works, move || work_all(&rt, jobs, reports, part))?;
-    Ok(worker)
+    let worker = thread::spawn_with(&rt, works, move || {
+        work_all(&rt, jobs, reports, part, signals)
+    })?;
+    Ok(Started::of(worker))
 }
 
 /// Does the jobs of a lane until it is closed, or until memory is refused.
-fn work_all<P: Part, R: Wait>(rt: &R, jobs: Take<Job>, reports: Post<Report>, part: P) -> Worked
+fn work_all<P: Part, R: Wait>(
+    rt: &R,
+    jobs: Take<Job>,
+    reports: Post<Report>,
+    part: P,
+    signals: Signals,
+) -> Worked
     requires { IsIdle jobs reports }
     ensures { IsWorked (P.gives part) jobs reports result }
 {
     let (mut jobs, mut reports, mut part) = (jobs, reports, part);
+    let bell = &signals.reports;
+    let mut looks = 0;
     for _ in rt.forever() {
         match jobs.take(rt) {
             Ok(Taken::Item { item: job, .. }) => {
                 let outcome = part.work(&job);
-                match put(rt, &mut reports, Report { job, outcome }) {
-                    Ok(()) => {}
-                    Err(_) => return ended(rt, jobs, reports, true),
+                match put(rt, &mut reports, Report { job, outcome }, bell) {
+                    Ok(()) => looks = 0,
+                    Err(_) => return ended(rt, jobs, reports, true, bell),
                 }
             }
             // No job follows the mark: the next answer is `Closed`.
             Ok(Taken::Mark { .. }) => {}
-            Ok(Taken::Empty) => thread::yield_now(),
-            Ok(Taken::Closed) => return ended(rt, jobs, reports, false),
-            Err(_) => return ended(rt, jobs, reports, true),
+            Ok(Taken::Empty) => looks = signals.jobs.wait(rt, looks),
+            Ok(Taken::Closed) => return ended(rt, jobs, reports, false, bell),
+            Err(_) => return ended(rt, jobs, reports, true, bell),
         }
     }
     unreachable!()
 }
 
 /// What a worker leaves that ends now. It closes its post.
-fn ended<R: Wait>(rt: &R, jobs: Take<Job>, reports: Post<Report>, refused: bool) -> Worked
+fn ended<R: Wait>(
+    rt: &R,
+    jobs: Take<Job>,
+    reports: Post<Report>,
+    refused: bool,
+    bell: &Bell,
+) -> Worked
     ensures { (result.jobs ≡ jobs) × (result.reports ≡ reports) × (result.refused ≡ refused) }
 {
-    let reports = close(rt, reports);
+    let reports = close(rt, reports, bell);
     Worked {
         jobs,
         reports,

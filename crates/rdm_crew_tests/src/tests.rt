@@ -4,6 +4,7 @@ ghost use Rattle.std.specs.Prelude.{IfOk, OnOk};
 ghost use Rattle.rdm_crew.specs.RunTrace.{HaveFaults};
 
 mod hand;
+mod joining;
 mod menu;
 mod queues;
 mod rows;

@@ -1,4 +1,5 @@
-//! Parts: one that is done at once, and two that wait for each other and are done only where both are at work at once.
+//! Parts: one that is done at once, two that wait for each other and are done only where both are at work at once, and one
+//! that counts its jobs.
 
 ghost use Rattle.std.specs.Prelude.{◌≡◌, true};
 ghost use Rattle.rdm_params.specs.Slow.Outcome.{ends};
@@ -8,19 +9,22 @@ use rdm_outbox::Job;
 use rdm_params::{Outcome, Severity, Verb};
 use std::alloc::{AllocError, Global};
 use std::sync::Arc;
-use std::sync::atomic::{AtomicBool, Ordering};
+use std::sync::atomic::{AtomicBool, AtomicU32, Ordering};
 use std::thread;
 
 /// What every sensor measures.
 pub(super) const MEASURED: i16 = 25;
 
 /// How a job ends where the other part doesn't come.
-const NOT_MET: Outcome = Outcome::Failed {
+pub(super) const NOT_MET: Outcome = Outcome::Failed {
     severity: Severity::Error,
     id: 0,
     v1: 0,
     v2: 0,
 };
+
+/// How often a slow part looks aside before a job has failed: it ends long after all steps were played.
+const SLOW_TURNS: u32 = 50_000;
 
 /// Does jobs.
 #[derive(Drop)]
@@ -29,6 +33,8 @@ pub(super) enum Hand {
     Quick,
     /// A SET is done where the other part comes too, and everything else fails.
     Gate(Gate),
+    /// Every job fails, after some time, and is counted.
+    Counts(Arc<AtomicU32, Global>),
 }
 
 impl Part for Hand {
@@ -43,8 +49,20 @@ impl Part for Hand {
             (Hand::Quick, Verb::Get) => Outcome::Reading(MEASURED),
             (Hand::Gate(gate), Verb::Set) => gate.comes_and_waits(),
             (Hand::Gate(gate), Verb::Get) => gate.comes(),
+            (Hand::Counts(jobs), _) => {
+                count_slowly(jobs);
+                NOT_MET
+            }
         }
     }
+}
+
+/// Takes some time, and counts.
+fn count_slowly(jobs: &Arc<AtomicU32, Global>) {
+    for _ in 0..SLOW_TURNS {
+        thread::yield_now();
+    }
+    jobs.fetch_add(1, Ordering::SeqCst);
 }
 
 /// A part that waits for another.

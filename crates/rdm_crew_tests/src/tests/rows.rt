@@ -1,13 +1,13 @@
 //! Runs, and how each ends.
 
-use super::hand::MEASURED;
+use super::hand::{MEASURED, NOT_MET};
 use super::{Act, CONTROLLER, DEVICE, Row, Told};
 use rdm_bus::Action;
 use rdm_crew::RunError;
 use rdm_frame::Uid;
 use rdm_params::Outcome;
 
-const QUEUED_MESSAGE: u16 = 0x0020;
+pub(super) const QUEUED_MESSAGE: u16 = 0x0020;
 
 const STATUS_MESSAGES: u16 = 0x0030;
 
@@ -33,7 +33,7 @@ const MOST_TURNS: u32 = 10_000_000;
 /// How often it looks where no other comes: enough for the bus to be first, and soon over on a busy machine.
 const SOME_TURNS: u32 = 1_000_000;
 
-const LAMP_ON: Act = Act::Ask(Action::Set, LAMP_STATE, &[1]);
+pub(super) const LAMP_ON: Act = Act::Ask(Action::Set, LAMP_STATE, &[1]);
 
 /// The broadcast to the device's manufacturer.
 const ALL_OF_MAKER: Uid = Uid {
@@ -50,7 +50,7 @@ const NOTHING: Told = Told {
 };
 
 /// A run without steps.
-const PLAIN: Row = Row {
+pub(super) const PLAIN: Row = Row {
     name: "nothing is done",
     device: DEVICE,
     controller: CONTROLLER,
@@ -88,7 +88,8 @@ pub(super) const DRAWN_AND_POLLED: Row = Row {
 };
 
 /// Runs that end with a trace.
-pub(super) const TRACES: [(Row, Told); 3] = [
+pub(super) const TRACES: [(Row, Told); 6] = [
+    (PLAIN, NOTHING),
     // A report and three transactions, and of these the two polls were answered with messages.
     (
         Row {
@@ -119,6 +120,47 @@ pub(super) const TRACES: [(Row, Told); 3] = [
         Told {
             events: 4,
             first: &[(0, Outcome::Done)],
+            second: &[(0, Outcome::Done)],
+            ..NOTHING
+        },
+    ),
+    // Three jobs wait in a lane until the other worker has come: the bus doesn't wait for the first of them.
+    (
+        Row {
+            name: "jobs wait in their lane",
+            acts: &[
+                LAMP_ON,
+                LAMP_ON,
+                LAMP_ON,
+                Act::Ask(Action::Set, PERFORM_SELFTEST, &[1]),
+                Act::Settle(u32::MAX),
+            ],
+            gate: Some(MOST_TURNS),
+            ..PLAIN
+        },
+        Told {
+            events: 8,
+            first: &[(0, Outcome::Done), (1, Outcome::Done), (2, Outcome::Done)],
+            second: &[(0, Outcome::Done)],
+            ..NOTHING
+        },
+    ),
+    // The second worker sleeps while the first waits for it in vain, and is woken by its job.
+    (
+        Row {
+            name: "a worker that sleeps is woken",
+            acts: &[
+                LAMP_ON,
+                Act::Settle(u32::MAX),
+                Act::Ask(Action::Set, PERFORM_SELFTEST, &[1]),
+                Act::Settle(u32::MAX),
+            ],
+            gate: Some(SOME_TURNS),
+            ..PLAIN
+        },
+        Told {
+            events: 4,
+            first: &[(0, NOT_MET)],
             second: &[(0, Outcome::Done)],
             ..NOTHING
         },

@@ -9,7 +9,7 @@ finish-requires-clause-jobs g c =
 
 pub returns-in-Ok-draw_all-clause-trace : goal.returns-in-Ok-draw_all-clause-trace
 returns-in-Ok-draw_all-clause-trace g c =
-    run_trace c.args.steps.now c.args.crew.desk c.play_all-played.new.self.desk c.draw_all.new.self (g.P.Part.gives c.args.first_worker.promise.part.value) (g.Q.Part.gives c.args.second_worker.promise.part.value) (g.N.Panel.offers c.args.watcher.promise.panel.value) c.finish.result
+    run_trace c.args.steps.now c.args.crew.desk c.play_all-played.new.self.desk c.draw_all.new.self (g.P.Part.gives c.args.first_worker.part.value) (g.Q.Part.gives c.args.second_worker.part.value) (g.N.Panel.offers c.args.watcher.panel.value) c.finish.result
     c.requires.new.1 c.draw_all.ensures.same c.in-Ok.ensures.played.1 c.in-Ok-draw_all.ensures.drawn.1 c.finish.ensures.events c.finish.ensures.last c.finish.ensures.first c.finish.ensures.second c.finish.ensures.changes
 
 pub returns-in-Ok-draw_all-clause-bus : goal.returns-in-Ok-draw_all-clause-bus
@@ -18,4 +18,4 @@ returns-in-Ok-draw_all-clause-bus g c =
 
 pub finish-requires-clause-changes : goal.finish-requires-clause-changes
 finish-requires-clause-changes g c =
-    (arrived_has c.play_all-played.new.self.desk c.draw_all.new.self c.play_all-played.new.self.changes c.in-Ok-draw_all.ensures.drawn.1 c.in-Ok.ensures.changes, same_lane c.args.crew.changes c.play_all-played.new.self.changes c.args.watcher.promise.changes.value c.play_all-played.ensures.same.3 c.requires.changes.1)
+    (arrived_has c.play_all-played.new.self.desk c.draw_all.new.self c.play_all-played.new.self.changes c.in-Ok-draw_all.ensures.drawn.1 c.in-Ok.ensures.changes, same_lane c.args.crew.changes c.play_all-played.new.self.changes c.args.watcher.changes.value c.play_all-played.ensures.same.3 c.requires.changes.1)

@@ -12,16 +12,18 @@ use Rattle.rdm_crew.proofs.running.run.Goals as goal
 
 pub play-requires-clause-new : goal.play-requires-clause-new
 play-requires-clause-new g c =
-    tied (record { desk = record { setup = c.of-began.result; system = c.in-Ok.system; reports = c.in_ok-reports.reports }; first = c.in_ok-first_jobs.first; second = c.in_ok-second_jobs.second; changes = c.in_ok-changes.changes })
-    c.in_ok-first_jobs.first_jobs c.in_ok-second_jobs.second_jobs c.in_ok-reports.first_reports c.in_ok-reports.second_reports
+    let kit = c.in_ok-kit.kit in
+    tied (record { desk = record { setup = c.of-began.result; system = c.in-Ok.system; reports = kit.reports; waiter = kit.waiter }; first = kit.first.post; first_bell = kit.first.bell; second = kit.second.post; second_bell = kit.second.bell; changes = kit.changes })
+    kit.first.jobs kit.second.jobs kit.first.reports kit.second.reports
     (subst (λ (s : Setup). IsTrace (switched_on s) [] c.in-Ok.system) (sym c.of-began.ensures) c.in-Ok.ensures.new)
-    c.in_ok-first_jobs.ensures c.in_ok-second_jobs.ensures c.in_ok-reports.ensures
+    c.in_ok-kit.ensures.first c.in_ok-kit.ensures.second c.in_ok-kit.ensures.reports
 
 pub play-requires-clause-changes : goal.play-requires-clause-changes
 play-requires-clause-changes g c =
-    let new = unchanged (record { setup = c.of-began.result; system = c.in-Ok.system; reports = c.in_ok-reports.reports }) c.in_ok-changes.changes c.in_ok-changes.offered
-    (subst (λ (s : Setup). IsTrace (switched_on s) [] c.in-Ok.system) (sym c.of-began.ensures) c.in-Ok.ensures.new) c.in_ok-changes.ensures in
-    (new.0, subst (IsLaneOfOne c.in_ok-changes.changes) (sym c.in_ok-watcher.ensures.0) new.1)
+    let kit = c.in_ok-kit.kit in
+    let new = unchanged (record { setup = c.of-began.result; system = c.in-Ok.system; reports = kit.reports; waiter = kit.waiter }) kit.changes kit.offered
+    (subst (λ (s : Setup). IsTrace (switched_on s) [] c.in-Ok.system) (sym c.of-began.ensures) c.in-Ok.ensures.new) c.in_ok-kit.ensures.changes in
+    (new.0, subst (IsLaneOfOne kit.changes) (sym c.in-Ok-watch.ensures.0) new.1)
 
 pub returns-clause-bus : goal.returns-clause-bus
 returns-clause-bus g c =

@@ -5,4 +5,4 @@ use Rattle.rdm_crew.proofs.settling.settle_one.Goals as goal
 pub returns : goal.returns
 returns g c =
     settled_of_one c.args.take c.args.post _ _ _ c.requires c.in-Ok.ensures.law c.in-Ok.ensures.lists.0 c.in-Ok.ensures.lists.1
-    (c.push_reserved.ensures.items ∙ ap (λ l. l ++ c.args.post ∷ []) c.in_ok-posts.ensures.items)
+    (c.push_reserved.ensures.items ∙ ap (λ l. l ++ c.args.post ∷ []) c.into_posts-posts.ensures.items)

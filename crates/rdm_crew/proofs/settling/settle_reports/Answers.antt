@@ -8,7 +8,7 @@ use Rattle.rdm_crew.proofs.settling.settle_reports.Goals as goal
 pub settle_up-requires-after_bounds : goal.settle_up-requires-after_bounds
 settle_up-requires-after_bounds g c κs within =
     let both : c.push_reserved-2.new.self.items ≡ c.args.first ∷ c.args.second ∷ [] =
-    c.push_reserved-2.ensures.items ∙ ap (λ (l : List (PostState Report)). l ++ c.args.second ∷ []) (c.push_reserved.ensures.items ∙ ap (λ (l : List (PostState Report)). l ++ c.args.first ∷ []) c.in_ok-posts.ensures.items) in (
+    c.push_reserved-2.ensures.items ∙ ap (λ (l : List (PostState Report)). l ++ c.args.second ∷ []) (c.push_reserved.ensures.items ∙ ap (λ (l : List (PostState Report)). l ++ c.args.first ∷ []) c.into_posts-posts.ensures.items) in (
       omega arith,
       subst (AreEnds c.args.reports) (sym both)
           (two_ends c.args.reports c.args.first c.args.second c.requires.first_lane c.requires.second_lane c.requires.first_producer c.requires.second_producer c.requires.posts),
@@ -17,5 +17,5 @@ settle_up-requires-after_bounds g c κs within =
 pub returns : goal.returns
 returns g c =
     let both : c.push_reserved-2.new.self.items ≡ c.args.first ∷ c.args.second ∷ [] =
-    c.push_reserved-2.ensures.items ∙ ap (λ (l : List (PostState Report)). l ++ c.args.second ∷ []) (c.push_reserved.ensures.items ∙ ap (λ (l : List (PostState Report)). l ++ c.args.first ∷ []) c.in_ok-posts.ensures.items) in
+    c.push_reserved-2.ensures.items ∙ ap (λ (l : List (PostState Report)). l ++ c.args.second ∷ []) (c.push_reserved.ensures.items ∙ ap (λ (l : List (PostState Report)). l ++ c.args.first ∷ []) c.into_posts-posts.ensures.items) in
     settled_of_two c.args.reports c.args.first c.args.second _ _ _ c.requires c.in-Ok.ensures.law c.in-Ok.ensures.lists.0 c.in-Ok.ensures.lists.1 both

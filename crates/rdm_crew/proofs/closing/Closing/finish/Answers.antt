@@ -7,29 +7,29 @@ use Rattle.rdm_crew.proofs.closing.Closing.finish.Goals as goal
 
 pub returns-clause-first : goal.returns-clause-first
 returns-clause-first g c =
-    first_answered (g.P.Part.gives c.args.self.first_worker.promise.part.value) (g.Q.Part.gives c.args.self.second_worker.promise.part.value)
-    c.args.self.first_worker.promise.jobs.value c.args.self.second_worker.promise.jobs.value c.args.self.first_worker.promise.reports.value c.args.self.second_worker.promise.reports.value
-    c.args.self.first c.args.self.second c.args.self.desk c.join-a.result c.join-b.result c.join-a.ensures c.join-b.ensures c.in_ok-settle.ensures.first c.in_ok-settle.ensures.second c.requires.jobs
+    first_answered (g.P.Part.gives c.args.self.first_worker.part.value) (g.Q.Part.gives c.args.self.second_worker.part.value)
+    c.args.self.first_worker.jobs.value c.args.self.second_worker.jobs.value c.args.self.first_worker.reports.value c.args.self.second_worker.reports.value
+    c.args.self.first c.args.self.second c.args.self.desk c.join-a.result c.join-b.result c.join-a.ensures c.join-b.ensures c.settle.ensures.first c.settle.ensures.second c.requires.jobs
     c.requires.drawn.0 c.requires.drawn.1 c.requires.lanes.first.posts c.if-first_refused.false
 
 pub returns-clause-second : goal.returns-clause-second
 returns-clause-second g c =
-    second_answered (g.P.Part.gives c.args.self.first_worker.promise.part.value) (g.Q.Part.gives c.args.self.second_worker.promise.part.value)
-    c.args.self.first_worker.promise.jobs.value c.args.self.second_worker.promise.jobs.value c.args.self.first_worker.promise.reports.value c.args.self.second_worker.promise.reports.value
-    c.args.self.first c.args.self.second c.args.self.desk c.join-a.result c.join-b.result c.join-a.ensures c.join-b.ensures c.in_ok-settle.ensures.first c.in_ok-settle.ensures.second c.requires.jobs
+    second_answered (g.P.Part.gives c.args.self.first_worker.part.value) (g.Q.Part.gives c.args.self.second_worker.part.value)
+    c.args.self.first_worker.jobs.value c.args.self.second_worker.jobs.value c.args.self.first_worker.reports.value c.args.self.second_worker.reports.value
+    c.args.self.first c.args.self.second c.args.self.desk c.join-a.result c.join-b.result c.join-a.ensures c.join-b.ensures c.settle.ensures.first c.settle.ensures.second c.requires.jobs
     c.requires.drawn.0 c.requires.drawn.1 c.requires.lanes.second.posts c.if-second_refused.false
 
 pub returns-then-outstanding-gt0-clause-err : goal.returns-then-outstanding-gt0-clause-err
 returns-then-outstanding-gt0-clause-err g c =
-    let g0 = g.P.Part.gives c.args.self.first_worker.promise.part.value in
-    let g1 = g.Q.Part.gives c.args.self.second_worker.promise.part.value in
+    let g0 = g.P.Part.gives c.args.self.first_worker.part.value in
+    let g1 = g.Q.Part.gives c.args.self.second_worker.part.value in
     let first = first_answered g0 g1
-    c.args.self.first_worker.promise.jobs.value c.args.self.second_worker.promise.jobs.value c.args.self.first_worker.promise.reports.value c.args.self.second_worker.promise.reports.value
-    c.args.self.first c.args.self.second c.args.self.desk c.join-a.result c.join-b.result c.join-a.ensures c.join-b.ensures c.in_ok-settle.ensures.first c.in_ok-settle.ensures.second c.requires.jobs
+    c.args.self.first_worker.jobs.value c.args.self.second_worker.jobs.value c.args.self.first_worker.reports.value c.args.self.second_worker.reports.value
+    c.args.self.first c.args.self.second c.args.self.desk c.join-a.result c.join-b.result c.join-a.ensures c.join-b.ensures c.settle.ensures.first c.settle.ensures.second c.requires.jobs
     c.requires.drawn.0 c.requires.drawn.1 c.requires.lanes.first.posts c.if-first_refused.false in
     let second = second_answered g0 g1
-    c.args.self.first_worker.promise.jobs.value c.args.self.second_worker.promise.jobs.value c.args.self.first_worker.promise.reports.value c.args.self.second_worker.promise.reports.value
-    c.args.self.first c.args.self.second c.args.self.desk c.join-a.result c.join-b.result c.join-a.ensures c.join-b.ensures c.in_ok-settle.ensures.first c.in_ok-settle.ensures.second c.requires.jobs
+    c.args.self.first_worker.jobs.value c.args.self.second_worker.jobs.value c.args.self.first_worker.reports.value c.args.self.second_worker.reports.value
+    c.args.self.first c.args.self.second c.args.self.desk c.join-a.result c.join-b.result c.join-a.ensures c.join-b.ensures c.settle.ensures.first c.settle.ensures.second c.requires.jobs
     c.requires.drawn.0 c.requires.drawn.1 c.requires.lanes.second.posts c.if-second_refused.false in
     let history = (stands_at c.args.self.desk).history in
     let stands = c.requires.drawn.0.run.1.stands.responder in
@@ -37,4 +37,4 @@ returns-then-outstanding-gt0-clause-err g c =
 
 pub returns-clause-changes : goal.returns-clause-changes
 returns-clause-changes g c =
-    offered_in (g.N.Panel.offers c.args.self.watcher.promise.panel.value) c.args.self.desk c.args.self.changes c.args.self.watcher.promise.changes.value c.join-watched.result c.requires.changes.0 c.in_ok-settle_one.ensures c.join-watched.ensures
+    offered_in (g.N.Panel.offers c.args.self.watcher.panel.value) c.args.self.desk c.args.self.changes c.args.self.watcher.changes.value c.join-watched.result c.requires.changes.0 c.settle_one.ensures c.join-watched.ensures
