@@ -1,7 +1,9 @@
-ghost use Rattle.std.specs.Prelude.{◌<◌, ◌≤◌};
+ghost use Rattle.std.specs.Prelude.{◌<◌};
+
+mod hostile;
 
 use rdm_frame::{
-    Body, Bytes, Frame, FrameError, Text, Uid, UidError, Wire, decode, decode_view, disc_reply,
+    Body, Frame, FrameError, Load, Text, Uid, UidError, Wire, decode, decode_view, disc_reply,
     encode, encode_into, sum_of, uid_at,
 };
 use std::test::Fail;
@@ -162,23 +164,32 @@ fn refusals_in_their_order(rt: HostRuntime) {
     }
 }
 
-/// Whether a list of this kind takes as many bytes.
-fn takes<const N: usize>(count: usize) -> bool
-    requires within { count ≤ 258 }
-    requires small { N ≤ 257 }
-{
-    let bytes = [0x41; 258];
-    Bytes::<N>::from_slice(&bytes[..count]).is_some()
-}
-
 #[test]
 fn each_kind_of_bytes_has_its_bound(rt: HostRuntime) {
-    for (kind, fits, over) in [
-        ("Body", takes::<231>(231), takes::<231>(232)),
-        ("Wire", takes::<257>(257), takes::<257>(258)),
-        ("Load", takes::<255>(255), takes::<255>(256)),
-        ("Text", takes::<32>(32), takes::<32>(33)),
-    ] {
+    let bytes = [0x41; 258];
+    let takes = [
+        (
+            "Body",
+            Body::from_slice(&bytes[..231]).is_some(),
+            Body::from_slice(&bytes[..232]).is_some(),
+        ),
+        (
+            "Wire",
+            Wire::from_slice(&bytes[..257]).is_some(),
+            Wire::from_slice(&bytes[..258]).is_some(),
+        ),
+        (
+            "Load",
+            Load::from_slice(&bytes[..255]).is_some(),
+            Load::from_slice(&bytes[..256]).is_some(),
+        ),
+        (
+            "Text",
+            Text::from_slice(&bytes[..32]).is_some(),
+            Text::from_slice(&bytes[..33]).is_some(),
+        ),
+    ];
+    for (kind, fits, over) in takes {
         assert!(rt; fits && !over, "{kind}");
     }
 }

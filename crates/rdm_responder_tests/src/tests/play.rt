@@ -20,13 +20,13 @@ use std::test::Fail;
 /// After a change stands `queued` where it has a message, and `no room` where there is none for it.
 ///
 /// Blanks in a line are for the eye.
-pub(super) type Run = (u16, u16, &'static str);
+pub(super) type Run<'a> = (u16, u16, &'a str);
 
 /// Plays a run: what comes of each line is what the next lines say, and nothing else.
 pub(super) fn plays(
     rt: &impl Abort,
     alloc: Global,
-    (subs, queue_size, lines): Run,
+    (subs, queue_size, lines): Run<'_>,
 ) -> Result<(), Fail> {
     let mut play = Play {
         responder: responder_with(alloc, subs, queue_size)?,
