@@ -7,7 +7,7 @@ ghost use Rattle.rdm_bus.specs.BusLaws.{BusLawsHold};
 ghost use Rattle.rdm_bus.specs.Polling.{LawsHold};
 ghost use Rattle.rdm_bus.specs.Recording.{JoinsFromTheFront, SkippingIsRefused, RecordingNothingIsRefused, RepeatingAnOlderOneIsRefused};
 
-use crate::{Command, Fault, Heard};
+use crate::{Action, AskError, Command, Fault, Heard, PlayError, PollError, Want};
 use rdm_params::two_commands_fetch;
 
 /// A frame with one slot raised by 1 to 255 is no frame: nobody on the bus takes it for one.
@@ -67,4 +67,29 @@ pub fn faults_are_equal_by_value()
 /// Two values of `Heard` are equal by `==` exactly where they are the same.
 pub fn heards_are_equal_by_value()
     ensures { (a b : Heard) → IsTrue (⟦<Heard as PartialEq>⟧.eq a b) ↔ (a ≡ b) }
+{}
+
+/// Two values of `Action` are equal by `==` exactly where they are the same.
+pub fn actions_are_equal_by_value()
+    ensures { (a b : Action) → IsTrue (⟦<Action as PartialEq>⟧.eq a b) ↔ (a ≡ b) }
+{}
+
+/// Two values of `Want` are equal by `==` exactly where they are the same.
+pub fn wants_are_equal_by_value()
+    ensures { (a b : Want) → IsTrue (⟦<Want as PartialEq>⟧.eq a b) ↔ (a ≡ b) }
+{}
+
+/// Two refusals of a command are equal by `==` exactly where they are the same.
+pub fn ask_errors_are_equal_by_value()
+    ensures { (a b : AskError) → IsTrue (⟦<AskError as PartialEq>⟧.eq a b) ↔ (a ≡ b) }
+{}
+
+/// Two refusals of a poll are equal by `==` exactly where they are the same.
+pub fn poll_errors_are_equal_by_value()
+    ensures { (a b : PollError) → IsTrue (⟦<PollError as PartialEq>⟧.eq a b) ↔ (a ≡ b) }
+{}
+
+/// Two refusals of a step are equal by `==` exactly where they are the same.
+pub fn play_errors_are_equal_by_value()
+    ensures { (a b : PlayError) → IsTrue (⟦<PlayError as PartialEq>⟧.eq a b) ↔ (a ≡ b) }
 {}

@@ -20,9 +20,11 @@ pub use command::{Action, Command};
 pub use event::{Event, Step};
 pub use fault::Fault;
 pub use laws::{
-    altered_frame_is_no_frame, bus_recording_laws_hold, commands_are_equal_by_value,
-    faults_are_equal_by_value, heards_are_equal_by_value, joining_goes_from_the_front,
-    recording_laws_hold, recording_laws_rule_out, wrong_devices_break_the_prefix_law,
+    actions_are_equal_by_value, altered_frame_is_no_frame, ask_errors_are_equal_by_value,
+    bus_recording_laws_hold, commands_are_equal_by_value, faults_are_equal_by_value,
+    heards_are_equal_by_value, joining_goes_from_the_front, play_errors_are_equal_by_value,
+    poll_errors_are_equal_by_value, recording_laws_hold, recording_laws_rule_out,
+    wants_are_equal_by_value, wrong_devices_break_the_prefix_law,
 };
 pub use system::{PlayError, System};
 pub use transaction::Heard;

@@ -8,6 +8,8 @@ use rdm_frame::{
 };
 use std::test::Fail;
 
+mod words;
+
 const DEVICE: Uid = Uid {
     maker: 0x7FF0,
     device: 1,

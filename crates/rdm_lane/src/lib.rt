@@ -16,7 +16,9 @@ mod taken;
 
 pub use ends::{Ends, LaneError, lane};
 pub use laws::{
-    items_taken_are_a_prefix, nothing_follows_the_mark, whole_list_is_taken_at_the_mark,
+    items_taken_are_a_prefix, lane_errors_are_equal_by_value, nothing_follows_the_mark,
+    put_errors_are_equal_by_value, settle_errors_are_equal_by_value, takens_are_equal_by_value,
+    whole_list_is_taken_at_the_mark,
 };
 pub use post::{ClosedPost, Post, PutError};
 pub use settling::{SettleError, Settled, settle_up};

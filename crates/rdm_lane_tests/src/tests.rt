@@ -13,6 +13,7 @@ use std::test::Fail;
 mod sizes;
 mod threads;
 mod turns;
+mod words;
 
 /// The ends of a lane of two posts, post 0 first.
 fn lane_of_two(

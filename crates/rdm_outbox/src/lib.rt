@@ -17,5 +17,8 @@ mod showing;
 pub use dispensed::Dispensed;
 pub use error::NewError;
 pub use job::{Full, Job};
-pub use laws::jobs_are_equal_by_value;
+pub use laws::{
+    dispensed_are_equal_by_value, jobs_are_equal_by_value, new_errors_are_equal_by_value,
+    refusals_are_equal_by_value,
+};
 pub use outbox::{MOST_WAITING, Outbox};

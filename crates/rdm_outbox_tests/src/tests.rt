@@ -7,6 +7,8 @@ use rdm_params::{Ask, Entry, Message, Severity, Verb, Work};
 use std::process::Abort;
 use std::test::Fail;
 
+mod words;
+
 /// SET LAMP_STATE, which is for worker 0.
 const LAMP: Work = Work {
     sub: 0,
@@ -81,6 +83,9 @@ fn sizes_and_numbers(rt: HostRuntime) -> Result<(), Fail> {
     for (q, jobs) in [(0, 1), (1025, 1), (1, 0)] {
         let refused = Outbox::new(rt.alloc(), q, jobs);
         assert!(rt; matches!(&refused, Err(NewError::BadSize)), "{q} {jobs}");
+    }
+    for q in 1..=MOST_WAITING {
+        assert!(rt; Outbox::new(rt.alloc(), q, 1).is_ok(), "{q}");
     }
     let mut outbox = made(&rt, 2, 1)?;
     assert_eq!(rt; number(&mut outbox, LAMP), Some(0));

@@ -2,7 +2,10 @@
 
 ghost use Rattle.std.specs.Prelude.{◌≡◌, ◌↔◌, IsTrue};
 
-use crate::{Report, Stepped};
+use crate::{Arrival, Astray, NewError, NoRoom, Output, Report, Stepped};
+use rdm_frame::bytes_are_equal_by_value;
+use rdm_outbox::jobs_are_equal_by_value;
+use rdm_params::{changes_are_equal_by_value, messages_are_equal_by_value};
 
 /// Two reports are equal by `==` exactly where their jobs and their outcomes are.
 pub fn reports_are_equal_by_value()
@@ -12,4 +15,38 @@ pub fn reports_are_equal_by_value()
 /// Two answers to bytes are equal by `==` exactly where each of their fields is.
 pub fn answers_are_equal_by_value()
     ensures { (a b : Stepped) → IsTrue (⟦<Stepped as PartialEq>⟧.eq a b) ↔ (a ≡ b) }
+{}
+
+/// Two arrivals are equal by `==` exactly where their messages are, and each notes an entry or neither does.
+pub fn arrivals_are_equal_by_value()
+    ensures { (a b : Arrival) → IsTrue (⟦<Arrival as PartialEq>⟧.eq a b) ↔ (a ≡ b) }
+{}
+
+/// Two reports that come back are equal by `==` exactly where the reports are.
+pub fn astrays_are_equal_by_value()
+    ensures { (a b : Astray) → IsTrue (⟦<Astray as PartialEq>⟧.eq a b) ↔ (a ≡ b) }
+{}
+
+/// Two changes that come back are equal by `==` exactly where the changes are.
+pub fn no_rooms_are_equal_by_value()
+    ensures { (a b : NoRoom) → IsTrue (⟦<NoRoom as PartialEq>⟧.eq a b) ↔ (a ≡ b) }
+{
+    changes_are_equal_by_value();
+}
+
+/// Two outputs of a run are equal by `==` exactly where they are of one kind and all that they hold is equal, byte for byte.
+pub fn outputs_are_equal_by_value()
+    ensures { (a b : Output) → IsTrue (⟦<Output as PartialEq>⟧.eq a b) ↔ (a ≡ b) }
+{
+    bytes_are_equal_by_value::<257>();
+    jobs_are_equal_by_value();
+    messages_are_equal_by_value();
+    arrivals_are_equal_by_value();
+    astrays_are_equal_by_value();
+    no_rooms_are_equal_by_value();
+}
+
+/// Two reasons why there is no responder are equal by `==` exactly where they are the same.
+pub fn new_errors_are_equal_by_value()
+    ensures { (a b : NewError) → IsTrue (⟦<NewError as PartialEq>⟧.eq a b) ↔ (a ≡ b) }
 {}

@@ -12,7 +12,11 @@ mod responder;
 mod response;
 mod run;
 
-pub use laws::{answers_are_equal_by_value, reports_are_equal_by_value};
+pub use laws::{
+    answers_are_equal_by_value, arrivals_are_equal_by_value, astrays_are_equal_by_value,
+    new_errors_are_equal_by_value, no_rooms_are_equal_by_value, outputs_are_equal_by_value,
+    reports_are_equal_by_value,
+};
 pub use report::{Arrival, Astray, NoRoom, Report};
 pub use responder::{NewError, Responder};
 pub use response::Stepped;

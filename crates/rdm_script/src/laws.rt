@@ -1,6 +1,6 @@
 //! Laws of the script language, over every byte list. Each is the contract of a call that does nothing.
 
-ghost use Rattle.std.specs.Prelude.{◌≡◌, ◌↔◌, ℕ, List, false};
+ghost use Rattle.std.specs.Prelude.{◌≡◌, ◌↔◌, ℕ, List, IsTrue, false};
 ghost use Rattle.rdm_crew.specs.declared.step.CrewStep.{CrewStep as TheStep};
 ghost use Rattle.rdm_script.specs.Spelling.{SpellsStep, SpellsSetup, IsScript};
 ghost use Rattle.rdm_script.specs.Grammar.{is_skipped, line_in, first_line_in, Refuses};
@@ -8,6 +8,8 @@ ghost use Rattle.rdm_script.specs.declared.script.Setup.{Setup as TheSetup};
 ghost use Rattle.rdm_script.specs.declared.grammar.line.Line.TheVariants.{Sets, Says};
 ghost use Rattle.rdm_script.specs.declared.grammar.parsing.ScriptError.{ScriptError as Refusal};
 ghost use Rattle.rdm_script.specs.declared.grammar.parsing.ScriptError.TheVariants.{OutOfMemory};
+
+use crate::{ProgramError, ScriptError, Setup};
 
 /// No byte list is two scripts.
 pub fn text_is_one_script()
@@ -28,4 +30,19 @@ pub fn line_says_what_its_words_spell()
     ensures first_step { (words : List (List ℕ)) (step : TheStep) →
         (first_line_in words ≡ Says step) ↔ ((is_skipped words ≡ false) × SpellsStep words step) }
     ensures setup { (words : List (List ℕ)) (setup : TheSetup) → (first_line_in words ≡ Sets setup) ↔ SpellsSetup words setup }
+{}
+
+/// Two setups are equal by `==` exactly where each of their fields is.
+pub fn setups_are_equal_by_value()
+    ensures { (a b : Setup) → IsTrue (⟦<Setup as PartialEq>⟧.eq a b) ↔ (a ≡ b) }
+{}
+
+/// Two reasons why bytes are no script are equal by `==` exactly where they are the same, the line included.
+pub fn script_errors_are_equal_by_value()
+    ensures { (a b : ScriptError) → IsTrue (⟦<ScriptError as PartialEq>⟧.eq a b) ↔ (a ≡ b) }
+{}
+
+/// Two failures of the program are equal by `==` exactly where they are the same, with the same cause.
+pub fn program_errors_are_equal_by_value()
+    ensures { (a b : ProgramError) → IsTrue (⟦<ProgramError as PartialEq>⟧.eq a b) ↔ (a ≡ b) }
 {}

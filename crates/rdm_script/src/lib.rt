@@ -19,7 +19,11 @@ mod trace;
 
 pub use exit::{report, run_program, write_error_line};
 pub use grammar::{ScriptError, parse};
-pub use laws::{line_says_what_its_words_spell, script_is_never_refused, text_is_one_script};
+pub use laws::{
+    line_says_what_its_words_spell, program_errors_are_equal_by_value,
+    script_errors_are_equal_by_value, script_is_never_refused, setups_are_equal_by_value,
+    text_is_one_script,
+};
 pub use program::{ProgramError, run_script};
 pub use script::{Script, Setup};
 pub use trace::trace_text;

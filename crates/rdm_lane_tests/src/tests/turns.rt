@@ -55,6 +55,20 @@ fn two_posts_take_turns(rt: HostRuntime) -> Result<(), Fail> {
     Ok(())
 }
 
+#[test]
+fn posts_that_put_nothing_close(rt: HostRuntime) -> Result<(), Fail> {
+    let (mut take, zero, one) = lane_of_two(rt.alloc(), 2, 2)?;
+    gives(&rt, &mut take, &[Empty]);
+    let zero = closed(&rt, zero)?;
+    gives(&rt, &mut take, &[MARK_0, Empty]);
+    let one = closed(&rt, one)?;
+    gives(&rt, &mut take, &[MARK_1, Taken::Closed]);
+    let settled = settled_of_two(&rt, rt.alloc(), take, zero, one)?;
+    assert_eq!(rt; settled.taken(), [MARK_0, MARK_1].as_slice());
+    assert!(rt; settled.posted(0).is_empty() && settled.posted(1).is_empty());
+    Ok(())
+}
+
 /// Post 0 and post 1 fill the lane, and the lane refuses a further item and a mark.
 fn fills<R: Wait + Abort>(
     rt: &R,
