@@ -67,7 +67,7 @@ fn asked<R: Env + Alloc>(rt: &R) -> Result<Asked, Fault> {
     };
     match (word.parse::<u32>(), words.next(), words.next()) {
         (Ok(rounds), None, None) => Ok(Asked::Rounds(rounds)),
-        (Err(_), Some(jobs), None) if word == "slow" => match jobs.parse::<u32>() {
+        (Err(_), Some(jobs), None) if word.as_str() == "slow" => match jobs.parse::<u32>() {
             Ok(jobs) => Ok(Asked::Slow(jobs)),
             Err(_) => Err(Fault::Usage),
         },

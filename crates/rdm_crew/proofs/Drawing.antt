@@ -1,5 +1,5 @@
 -- What each take from the report lane makes of a desk.
-use Rattle.std.proofs.Common.{◌≡◌, ◌≢◌, ℕ, ◌<◌, List, [], ◌∷◌, ◌++◌, refl, sym, ap, subst, ◌∙◌, arith, append_assoc, append-nil}
+use Rattle.std.proofs.Common.{◌≡◌, ◌≢◌, ℕ, ◌<◌, ◌≤◌, ◌+◌, List, [], ◌∷◌, ◌++◌, refl, sym, ap, subst, ◌∙◌, arith, append_assoc, append-nil}
 use Rattle.std.specs.Prelude.{Ok, Err}
 use Rattle.std.proofs.lemmas.List.Concat.{flat_map-append}
 use Rattle.std.proofs.lemmas.List.Sums.{fold-append}
@@ -26,7 +26,7 @@ use Rattle.rdm_crew.specs.declared.desk.Drawn.{Drawn}
 use Rattle.rdm_crew.specs.declared.desk.Drawn.TheVariants as drawn
 use Rattle.rdm_crew.specs.declared.stop.Stop.{Stop}
 use Rattle.rdm_crew.specs.declared.stop.Stop.TheVariants as stop
-use Rattle.rdm_crew.specs.Desks.{began, stands_at, HasRun, OfTwo, IsDrawn, IsSuspect, IsSameDesk, HasArrived, HaveArrived, HaveSettled, IsCutShort, AfterDraw}
+use Rattle.rdm_crew.specs.Desks.{began, stands_at, HasRun, OfTwo, IsDrawn, IsSuspect, IsSameDesk, HasArrived, HaveArrived, HaveSettled, IsCutShort, AfterDraw, nones_in}
 use Rattle.rdm_crew.specs.RunTrace.{AreArrivals, started_in, arrived_in, jobs_in, reports_in}
 use Rattle.rdm_crew.specs.Setups.{switched_on}
 use Rattle.rdm_crew.proofs.Items.{items-append}
@@ -246,6 +246,13 @@ pub keeps_arrived : (d m e : Desk) (x : Drawn) → x ≡ drawn.Arrived → After
 keeps_arrived d m e x arrived after before one two =
     let is : IsDrawn e × HasArrived m e = subst (λ (y : Drawn). AfterDraw m e (Ok y)) arrived after in
     (is.0, one_more d m e one before is.1, same_desk d m e one two)
+
+no_more : (old new most k : ℕ) → k ≡ 0 → new ≡ old + k → old ≤ most → new ≤ most
+no_more old new most k none sum within = omega arith
+
+-- a report that arrives isn't counted
+pub still_within : (old new most : ℕ) (x : Drawn) → x ≡ drawn.Arrived → new ≡ old + nones_in (Ok x) → old ≤ most → new ≤ most
+still_within old new most x arrived sum within = no_more old new most (nones_in (Ok x)) (ap (λ (y : Drawn). nones_in (Ok y)) arrived) sum within
 
 pub still_arrived : (d m e : Desk) → HaveArrived d m → e.system ≡ m.system → HaveArrived d e
 still_arrived d m e before still = (before.0, ap (λ (p : Played). p.trace) still ∙ before.1, before.2)

@@ -85,6 +85,14 @@ IsCutShort d e stop.Astray = IsSuspect e × (jobs_in e.system.trace ≡ jobs_in 
 IsCutShort d e stop.Reserved = ⊥
 IsCutShort d e stop.TooLong = ⊥
 
+-- how often it found no report
+abbrev pub nones_in : Result Drawn Stop → ℕ
+nones_in (Ok drawn.Empty) = 1
+nones_in (Ok drawn.Arrived) = 0
+nones_in (Ok drawn.Mark) = 0
+nones_in (Ok drawn.Closed) = 0
+nones_in (Err stop) = 0
+
 -- what a draw comes to
 abbrev pub AfterDraw : Desk → Desk → Result Drawn Stop → Type 0
 AfterDraw d e (Ok drawn.Arrived) = IsDrawn e × HasArrived d e

@@ -1,8 +1,8 @@
 //! What the bus thread plays reports with: the bus, and its end of the report lane.
 
-ghost use Rattle.std.specs.Prelude.{◌≡◌, ◌≢◌, IfErr, MatchResult};
+ghost use Rattle.std.specs.Prelude.{◌≡◌, ◌≢◌, ◌+◌, ◌<◌, IfErr, IsErrOf, MatchResult};
 ghost use Rattle.rdm_lane.specs.Ends.{IsOver};
-ghost use Rattle.rdm_crew.specs.Desks.{IsDrawn, IsSuspect, IsSameDesk, IsCutShort, AfterDraw, HaveArrived, HaveSettled};
+ghost use Rattle.rdm_crew.specs.Desks.{IsDrawn, IsSuspect, IsSameDesk, IsCutShort, AfterDraw, HaveArrived, HaveSettled, nones_in};
 
 use crate::Setup;
 use crate::stop::Stop;
@@ -72,19 +72,37 @@ impl Desk {
             (λ stop. IsCutShort self.old self.new stop) }
         ensures same { IsSameDesk self.old self.new }
     {
-        let mut left = empties;
+        let mut found_none = 0;
+        self.settle_within(rt, u64::from(empties), &mut found_none)
+    }
+
+    /// Settles as `settle` does, and counts how often it found none.
+    fn settle_within<R: Wait>(
+        &mut self,
+        rt: &R,
+        empties: u64,
+        found_none: &mut u64,
+    ) -> Result<(), Stop>
+        requires drawn { IsDrawn self.old }
+        requires none { found_none.old ≡ 0 }
+        requires bound { empties < 4294967296 }
+        ensures settled { MatchResult result
+            (λ _. IsDrawn self.new × HaveSettled self.old self.new)
+            (λ stop. IsCutShort self.old self.new stop) }
+        ensures unsettled { IsErrOf result Stop.Unsettled → found_none.new ≡ empties + 1 }
+        ensures same { IsSameDesk self.old self.new }
+    {
         let mut looks = 0;
         for _ in rt.forever() {
             if self.system.responder().outstanding() == 0 {
                 return Ok(());
             }
-            match self.draw(rt) {
+            match self.look(rt, found_none) {
                 Ok(Drawn::Arrived) => looks = 0,
                 Ok(Drawn::Empty) => {
-                    if left == 0 {
+                    if *found_none > empties {
                         return Err(Stop::Unsettled);
                     }
-                    left -= 1;
                     looks = self.waiter.wait_a_while(rt, looks);
                 }
                 // A worker closes its post before the steps end only where its memory was refused.
@@ -94,6 +112,21 @@ impl Desk {
             }
         }
         unreachable!()
+    }
+
+    /// Takes from the report lane as `draw` does, and counts where no report was there.
+    fn look<R: Wait>(&mut self, rt: &R, found_none: &mut u64) -> Result<Drawn, Stop>
+        requires drawn { IsDrawn self.old }
+        requires room { found_none.old < 4294967296 }
+        ensures drawn { AfterDraw self.old self.new result }
+        ensures counted { found_none.new ≡ found_none.old + nones_in result }
+        ensures same { IsSameDesk self.old self.new }
+    {
+        let drawn = self.draw(rt);
+        if let Ok(Drawn::Empty) = &drawn {
+            *found_none += 1;
+        }
+        drawn
     }
 
     /// Draws every report, until both workers have closed their posts.
