@@ -1,31 +1,54 @@
 //! Readers and writers that take their time, that fail, and that never end.
 
 use super::odd::{COMMANDS, TRACE_BYTES};
-use super::{FIRST_SCRIPT, FIRST_TRACE, repeated};
+use super::{FIRST_SCRIPT, repeated};
 use rdm_script::{ProgramError, ScriptError, run_script};
 use std::alloc::Global;
 use std::io;
 use std::io::{Read, Write};
-use std::sync::Wait;
 use std::test::Fail;
-use std::thread::Threads;
 
-/// A reader that gives the first script byte by byte, then nothing, and then starts over. One call may fail.
+/// A script with a slow command.
+const SCRIPT: &str = "setup 0 8 advisory
+set dev 0000 0403 01
+settle 100000000
+collect
+collect
+";
+
+/// What it prints.
+const TRACE: &str = "send CC01197FF0000000017FF000000002000100000030040301010401
+reply CC011A7FF0000000027FF00000000100010000003104030200320435
+job 0 0
+heard reply
+arrive 0 0 done
+send CC01197FF0000000017FF00000000201010000002000200102040C
+reply CC01187FF0000000027FF00000000101000000003104030003FF
+heard message
+send CC01197FF0000000017FF00000000202010000002000200102040D
+reply CC01187FF0000000027FF0000000010200000000210030000419
+heard message
+message 31 0403 0000 -
+message 21 0030 0000 -
+end
+";
+
+/// A reader that gives the script byte by byte, then nothing, and then starts over. It may fail once, after so many bytes.
 #[derive(Drop)]
 struct Drip {
     calls: usize,
     given: usize,
-    fails_at: Option<usize>,
+    fails_after: Option<usize>,
 }
 
 impl Read for Drip {
     fn read(&mut self, buf: &mut [u8]) -> io::Result<usize> {
-        let call = self.calls;
-        self.calls = call.saturating_add(1);
-        if self.fails_at == Some(call) {
+        self.calls = self.calls.saturating_add(1);
+        if self.fails_after == Some(self.given) {
+            self.fails_after = None;
             return Err(io::Error::from(io::ErrorKind::Interrupted));
         }
-        match (FIRST_SCRIPT.as_bytes().get(self.given), buf.first_mut()) {
+        match (SCRIPT.as_bytes().get(self.given), buf.first_mut()) {
             (Some(byte), Some(place)) => {
                 *place = *byte;
                 self.given = self.given.saturating_add(1);
@@ -53,9 +76,10 @@ impl Read for Endless {
     }
 }
 
-/// A writer that takes so many bytes a call, and may fail after some.
+/// A writer that takes so many bytes a call. It may fail once, after so many bytes: a write that is tried again then shows.
 #[derive(Drop)]
 struct Sink {
+    calls: usize,
     taken: Vec<u8>,
     most: usize,
     fails_after: Option<usize>,
@@ -63,11 +87,13 @@ struct Sink {
 
 impl Write for Sink {
     fn write(&mut self, buf: &[u8]) -> io::Result<usize> {
+        self.calls = self.calls.saturating_add(1);
         let mut count = self.most.min(buf.len());
         if let Some(limit) = self.fails_after {
             let room = limit.saturating_sub(self.taken.len());
             if room == 0 {
-                return Err(io::Error::from(io::ErrorKind::BrokenPipe));
+                self.fails_after = None;
+                return Err(io::Error::from(io::ErrorKind::Interrupted));
             }
             count = count.min(room);
         }
@@ -80,65 +106,72 @@ impl Write for Sink {
     }
 }
 
-fn dripping(fails_at: Option<usize>) -> Drip {
+fn dripping(fails_after: Option<usize>) -> Drip {
     Drip {
         calls: 0,
         given: 0,
-        fails_at,
+        fails_after,
     }
 }
 
 fn taking(alloc: Global, most: usize, fails_after: Option<usize>) -> Sink {
     Sink {
+        calls: 0,
         taken: Vec::new(alloc),
         most,
         fails_after,
     }
 }
 
-/// The first script is read byte by byte, where one call of the reader may fail, and its trace is written so many bytes a call, where
-/// the writer may fail after some. What it ends with, how often the reader was called, and what was written.
-fn flows<T>(
-    rt: T,
-    alloc: Global,
-    fails_at: Option<usize>,
-    most: usize,
-    fails_after: Option<usize>,
-) -> (Result<(), ProgramError>, usize, Vec<u8>)
-where
-    T: Threads + Wait + Copy + Send + 'static,
-{
-    let mut reader = dripping(fails_at);
-    let mut writer = taking(alloc, most, fails_after);
-    let outcome = run_script(rt, alloc, &mut reader, &mut writer);
-    (outcome, reader.calls, writer.taken)
+#[test]
+fn a_reader_that_fails_is_a_fault(rt: HostRuntime) {
+    for count in 0..=SCRIPT.len() {
+        let mut reader = dripping(Some(count));
+        let mut writer = taking(rt.alloc(), 64, None);
+        let outcome = run_script(rt, rt.alloc(), &mut reader, &mut writer);
+        assert_eq!(rt; outcome, Err(ProgramError::Read), "after {count}");
+        // What failed isn't tried again.
+        assert_eq!(rt; reader.calls, count + 1, "after {count}");
+        assert_eq!(rt; writer.calls, 0, "after {count}");
+    }
 }
 
 #[test]
-fn streams_take_their_time_and_fail(rt: HostRuntime) -> Result<(), Fail> {
-    let trace = FIRST_TRACE.as_bytes();
-    let (outcome, calls, written) = flows(rt, rt.alloc(), None, 1, None);
-    assert_eq!(rt; outcome, Ok(()));
-    assert_eq!(rt; written.as_slice(), trace);
-    // A read that gives nothing is the end: there is none after it.
-    assert_eq!(rt; calls, FIRST_SCRIPT.len() + 1);
-    for call in 0..=FIRST_SCRIPT.len() {
-        let (outcome, calls, written) = flows(rt, rt.alloc(), Some(call), 64, None);
-        assert_eq!(rt; outcome, Err(ProgramError::Read), "call {call}");
-        // What failed isn't tried again.
-        assert_eq!(rt; calls, call + 1, "call {call}");
-        assert!(rt; written.is_empty(), "call {call}");
-    }
-    // A writer that takes nothing, and one that fails.
-    let (outcome, _, written) = flows(rt, rt.alloc(), None, 0, None);
-    assert_eq!(rt; outcome, Err(ProgramError::Write));
-    assert!(rt; written.is_empty());
-    for count in 0..trace.len() {
-        let (outcome, _, written) = flows(rt, rt.alloc(), None, 7, Some(count));
+fn a_writer_that_fails_has_the_bytes_before(rt: HostRuntime) {
+    for count in 0..TRACE.len() {
+        let mut reader = dripping(None);
+        let mut writer = taking(rt.alloc(), 7, Some(count));
+        let outcome = run_script(rt, rt.alloc(), &mut reader, &mut writer);
         assert_eq!(rt; outcome, Err(ProgramError::Write), "after {count}");
-        assert_eq!(rt; written.as_slice(), &trace[..count], "after {count}");
+        assert_eq!(rt;
+            writer.taken.as_slice(),
+            &TRACE.as_bytes()[..count],
+            "after {count}"
+        );
+        // What failed isn't tried again.
+        assert_eq!(rt; writer.calls, count.div_ceil(7) + 1, "after {count}");
     }
-    Ok(())
+}
+
+#[test]
+fn streams_take_their_time(rt: HostRuntime) {
+    let mut reader = dripping(None);
+    let mut writer = taking(rt.alloc(), 1, None);
+    let outcome = run_script(rt, rt.alloc(), &mut reader, &mut writer);
+    assert_eq!(rt; outcome, Ok(()));
+    assert_eq!(rt; writer.taken.as_slice(), TRACE.as_bytes());
+    assert_eq!(rt; writer.calls, TRACE.len());
+    // A read that gives nothing is the end: there is none after it.
+    assert_eq!(rt; reader.calls, SCRIPT.len() + 1);
+}
+
+#[test]
+fn a_writer_that_takes_nothing_is_a_fault(rt: HostRuntime) {
+    let mut reader = dripping(None);
+    let mut writer = taking(rt.alloc(), 0, None);
+    let outcome = run_script(rt, rt.alloc(), &mut reader, &mut writer);
+    assert_eq!(rt; outcome, Err(ProgramError::Write));
+    assert_eq!(rt; writer.calls, 1);
 }
 
 #[test]
