@@ -7,6 +7,8 @@ mod altered;
 mod panel;
 mod playing;
 mod readme;
+mod sizes;
+mod words;
 
 use rdm_bus::{Action, Collector, Command, Fault, Want};
 use rdm_frame::{Load, Uid, Wire};
