@@ -34,7 +34,7 @@ const MANY: u32 = 10_000;
 
 /// Status 2 says that the arguments can't be read, and status 1 that something else failed.
 fn main(rt: HostRuntime) -> ExitCode {
-    let done = match asked(&rt) {
+    let done = match read_arguments(&rt) {
         Ok(Asked::Show) => show(rt, rt.alloc()),
         Ok(Asked::Rounds(rounds)) => time(rt, rt.alloc(), rounds),
         Ok(Asked::Slow(jobs)) => time_slow(rt, rt.alloc(), jobs),
@@ -60,7 +60,7 @@ enum Asked {
 }
 
 /// Reads the arguments.
-fn asked<R: Env + Alloc>(rt: &R) -> Result<Asked, Fault> {
+fn read_arguments<R: Env + Alloc>(rt: &R) -> Result<Asked, Fault> {
     let mut words = env::args(rt)?.skip(1);
     let Some(word) = words.next() else {
         return Ok(Asked::Show);

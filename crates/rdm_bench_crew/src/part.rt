@@ -30,7 +30,7 @@ pub(crate) struct Slow<R: Clock> {
     pub(crate) rt: R,
 }
 
-impl<R: Clock> Part for Slow<R> {
+impl<R: Clock + Drop> Part for Slow<R> {
     ghost use Rattle.std.specs.Prelude.{◌≡◌, true};
     ghost use Rattle.rdm_params.specs.Slow.Outcome.{ends};
 
