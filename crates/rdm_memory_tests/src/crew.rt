@@ -1,0 +1,247 @@
+//! Runs with two workers and a panel.
+
+ghost use Rattle.std.specs.Prelude.{◌≡◌, true};
+ghost use Rattle.rdm_params.specs.Slow.Outcome.{ends};
+ghost use Rattle.rdm_crew.specs.RunTrace.{HaveFaults};
+
+use crate::bus::command;
+use crate::fault::{ALWAYS, Fault, OTHER, check};
+use crate::making::{CONTROLLER, DEVICE};
+use crate::tally::{TRIES, Tally};
+use rdm_bus::{Event, Fault as Goes, Want};
+use rdm_crew::{CrewStep, Panel, Part, RunError, Setup, Trace, run};
+use rdm_outbox::Job;
+use rdm_params::{Change, Outcome, Profile, Verb, worker_of};
+use std::alloc::{AllocError, Global};
+use std::sync::atomic::{AtomicBool, Ordering};
+use std::sync::{Arc, Wait};
+use std::thread::Threads;
+
+/// So many empty turns are enough for every report.
+const PATIENCE: u32 = 100_000_000;
+
+/// Does each job at once, and says when it is gone: the thread that has it is then done with it.
+struct Hand {
+    gone: Arc<AtomicBool, Global>,
+}
+
+impl Drop for Hand {
+    fn drop(self) {
+        let Hand { gone } = self;
+        gone.store(true, Ordering::SeqCst);
+    }
+}
+
+impl Part for Hand {
+    ghost gives = { λ part job outcome. ends job.work.verb outcome ≡ true };
+
+    fn work(&mut self, job: &Job) -> Outcome {
+        match job.work.verb {
+            Verb::Set => Outcome::Done,
+            Verb::Get => Outcome::Reading(25),
+        }
+    }
+}
+
+/// Offers no change, and says when it is gone.
+struct Nobody {
+    gone: Arc<AtomicBool, Global>,
+}
+
+impl Drop for Nobody {
+    fn drop(self) {
+        let Nobody { gone } = self;
+        gone.store(true, Ordering::SeqCst);
+    }
+}
+
+impl Panel for Nobody {
+    ghost offers = { λ panel number change. ⊥ };
+
+    fn next(&mut self, _number: u32) -> Option<Change> {
+        None
+    }
+}
+
+/// Who takes part in a run, and by what each says that it is gone.
+#[derive(Drop)]
+struct Parties {
+    first: Hand,
+    second: Hand,
+    panel: Nobody,
+    gone: [Arc<AtomicBool, Global>; 3],
+}
+
+impl Parties {
+    fn new(alloc: Global) -> Result<Parties, AllocError> {
+        let first = Arc::new(alloc, AtomicBool::new(false))?;
+        let second = Arc::new(alloc, AtomicBool::new(false))?;
+        let panel = Arc::new(alloc, AtomicBool::new(false))?;
+        Ok(Parties {
+            first: Hand {
+                gone: Arc::try_clone(&first)?,
+            },
+            second: Hand {
+                gone: Arc::try_clone(&second)?,
+            },
+            panel: Nobody {
+                gone: Arc::try_clone(&panel)?,
+            },
+            gone: [first, second, panel],
+        })
+    }
+}
+
+/// Those of a run, where memory was refused to them made again.
+fn new_parties(alloc: Global, tally: &mut Tally) -> Result<Parties, Fault> {
+    for _ in 0..TRIES {
+        match Parties::new(alloc) {
+            Ok(parties) => return Ok(parties),
+            Err(_) => tally.refused_ready(),
+        }
+    }
+    Err(ALWAYS)
+}
+
+/// Plays steps on a device that has just been switched on, again where memory is refused. Whatever a run answers, its threads
+/// are then gone.
+fn ended<T>(
+    rt: T,
+    alloc: Global,
+    steps: &[CrewStep],
+    tally: &mut Tally,
+) -> Result<Result<Trace, RunError>, Fault>
+where
+    T: Threads + Wait + Copy + Send + 'static,
+    requires { HaveFaults steps.now }
+{
+    for _ in 0..TRIES {
+        let Parties {
+            first,
+            second,
+            panel,
+            gone,
+        } = new_parties(alloc, tally)?;
+        let answer = run(rt, alloc, setup(), steps, first, second, panel);
+        check(are_gone(&gone), "a thread isn't joined")?;
+        match answer {
+            Err(RunError::OutOfMemory) => tally.refused(),
+            other => return Ok(other),
+        }
+    }
+    Err(ALWAYS)
+}
+
+/// Whether all say that they are gone.
+fn are_gone(gone: &[Arc<AtomicBool, Global>]) -> bool {
+    gone.iter().all(|flag| flag.load(Ordering::SeqCst))
+}
+
+/// A device with room for eight results.
+fn setup() -> Setup {
+    Setup {
+        device: DEVICE,
+        controller: CONTROLLER,
+        want: Want::Advisory,
+        profile: Profile::demo(0),
+        queue_size: 8,
+    }
+}
+
+/// A lamp is switched on, and its message and then a status are collected.
+pub(crate) fn collects<T>(rt: T, alloc: Global) -> Result<Tally, Fault>
+where
+    T: Threads + Wait + Copy + Send + 'static,
+{
+    let mut tally = Tally::NONE;
+    let steps = [
+        CrewStep::Ask(command(0x0403, &[1])?, Goes::None),
+        CrewStep::Settle(PATIENCE),
+        CrewStep::Collect(Goes::None),
+        CrewStep::Collect(Goes::None),
+    ];
+    let trace = ended(rt, alloc, &steps, &mut tally)?.ok().ok_or(OTHER)?;
+    check(trace.events().len() == 4, "other events")?;
+    let [lamp, status] = trace.recorded() else {
+        return Err(Fault::Wrong("other messages"));
+    };
+    check(
+        (lamp.class, lamp.pid) == (0x31, 0x0403),
+        "the lamp's message",
+    )?;
+    check((status.class, status.pid) == (0x21, 0x0030), "the status")?;
+    Ok(tally)
+}
+
+/// Each worker reports on each of its jobs, in order.
+pub(crate) fn reports<T>(rt: T, alloc: Global) -> Result<Tally, Fault>
+where
+    T: Threads + Wait + Copy + Send + 'static,
+{
+    let mut tally = Tally::NONE;
+    let steps = [
+        CrewStep::Ask(command(0x0403, &[1])?, Goes::None),
+        CrewStep::Ask(command(0x0403, &[0])?, Goes::None),
+        CrewStep::Ask(command(0x0201, &[0])?, Goes::None),
+        CrewStep::Settle(PATIENCE),
+    ];
+    let trace = ended(rt, alloc, &steps, &mut tally)?.ok().ok_or(OTHER)?;
+    check(trace.events().len() == 6, "other events")?;
+    check(arrived(&trace, 0, Outcome::Done) == Some(2), "worker 0")?;
+    check(
+        arrived(&trace, 1, Outcome::Reading(25)) == Some(1),
+        "worker 1",
+    )?;
+    Ok(tally)
+}
+
+/// How many reports of a worker arrived, where they are in order and each has this outcome.
+fn arrived(trace: &Trace, worker: u8, outcome: Outcome) -> Option<u32> {
+    let mut next = 0_u32;
+    for event in trace.events() {
+        if let Event::Arrived { report, .. } = event
+            && worker_of(&report.job.work) == worker
+        {
+            if report.job.number != next || report.outcome != outcome {
+                return None;
+            }
+            next = next.saturating_add(1);
+        }
+    }
+    Some(next)
+}
+
+/// A run stops at a command for QUEUED_MESSAGE, with as many jobs outstanding as there is room for. Another may give up with a
+/// job outstanding, or settle.
+pub(crate) fn stops<T>(rt: T, alloc: Global) -> Result<Tally, Fault>
+where
+    T: Threads + Wait + Copy + Send + 'static,
+{
+    let mut tally = Tally::NONE;
+    let steps = [
+        CrewStep::Ask(command(0x0403, &[1])?, Goes::None),
+        CrewStep::Ask(command(0x0403, &[0])?, Goes::None),
+        CrewStep::Ask(command(0x0403, &[1])?, Goes::None),
+        CrewStep::Ask(command(0x0403, &[0])?, Goes::None),
+        CrewStep::Ask(command(0x0201, &[0])?, Goes::None),
+        CrewStep::Ask(command(0x0201, &[0])?, Goes::None),
+        CrewStep::Ask(command(0x0201, &[0])?, Goes::None),
+        CrewStep::Ask(command(0x0201, &[0])?, Goes::None),
+        CrewStep::Ask(command(0x0020, &[2])?, Goes::None),
+    ];
+    let answer = ended(rt, alloc, &steps, &mut tally)?;
+    check(
+        matches!(&answer, Err(RunError::Reserved)),
+        "a command for QUEUED_MESSAGE",
+    )?;
+    let steps = [
+        CrewStep::Ask(command(0x0403, &[1])?, Goes::None),
+        CrewStep::Settle(0),
+    ];
+    let answer = ended(rt, alloc, &steps, &mut tally)?;
+    check(
+        matches!(&answer, Ok(_) | Err(RunError::Unsettled)),
+        "a settle",
+    )?;
+    Ok(tally)
+}
