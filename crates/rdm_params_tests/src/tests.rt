@@ -14,6 +14,7 @@ mod scalars;
 mod slow;
 mod thresholds;
 mod values;
+mod words;
 
 /// A PID, the data of a command, and the data of its reply.
 type Replied<'a> = (u16, &'a [u8], &'a [u8]);

@@ -11,6 +11,7 @@ mod parameters;
 mod play;
 mod slow;
 mod waiting;
+mod words;
 
 use play::plays;
 use rdm_frame::standard::{DISCOVERY_COMMAND as DISCOVERY, GET_COMMAND as GET, SET_COMMAND as SET};
@@ -160,10 +161,13 @@ fn a_whole_run_is_answered_in_order(rt: HostRuntime) -> Result<(), Fail> {
 #[test]
 fn a_responder_is_made_or_refused(rt: HostRuntime) {
     let broadcast = Uid::all_of(0x7FF0);
+    let of_maker = |maker| Uid { maker, device: 0 };
     for (uid, queue_size, refusal) in [
         (DEVICE, 1, None),
         (DEVICE, 8, None),
         (DEVICE, 1024, None),
+        (of_maker(0x7FF0), 8, None),
+        (of_maker(0), 8, None),
         (DEVICE, 0, Some(NewError::BadSize)),
         (DEVICE, 1025, Some(NewError::BadSize)),
         (broadcast, 8, Some(NewError::BadUid)),

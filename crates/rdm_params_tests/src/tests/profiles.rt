@@ -92,7 +92,14 @@ fn good_profiles_are_taken_whatever_their_numbers(rt: HostRuntime) {
 #[test]
 fn sub_devices_are_counted_first(rt: HostRuntime) {
     let many = Some(NewError::TooManySubs);
-    for (subs, want) in [(2, None), (512, None), (513, many)] {
+    for (subs, want) in [
+        (0, None),
+        (1, None),
+        (2, None),
+        (511, None),
+        (512, None),
+        (513, many),
+    ] {
         assert_eq!(rt; fault(&rt, Profile::demo(subs)), want, "{subs}");
     }
     let mut bad = Profile::demo(513);

@@ -44,6 +44,5 @@ decides c (NoRoom x) (HandedBack y) = (λ e. absurd cc, λ e. absurd cc)
 decides c (NoRoom x) (Changed y) = (λ e. absurd cc, λ e. absurd cc)
 decides c (NoRoom x) (NoRoom y) = Decides-like _ (ap NoRoom) (λ e. cc) (c.no_rooms_are_equal_by_value.ensures x y)
 
--- src/laws.rt:38:1
 pub returns : goal.returns
 returns c = decides c
