@@ -1,10 +1,15 @@
+pub mod Accounts
 pub mod Alterations
 pub mod BusRuns
 pub mod Devices
+pub mod Headlines
 pub mod Joining
 pub mod Kept
+pub mod Numbers
+pub mod Orders
 pub mod PollingRuns
 pub mod Queues
 pub mod ReadBack
 pub mod Refusals
+pub mod RulingOut
 pub mod Systems

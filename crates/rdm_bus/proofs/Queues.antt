@@ -177,7 +177,7 @@ within h = within_events (account_before h.setup) h.events (omega arith)
 
 -- ---- histories
 
-account_of-then : (h : History) (event : Event) → account_of (then_event h event) ≡ account_after (account_of h) event
+pub account_of-then : (h : History) (event : Event) → account_of (then_event h event) ≡ account_after (account_of h) event
 unfolding account_of
 account_of-then h event = fold_push account_after (account_before h.setup) h.events event
 

@@ -11,14 +11,17 @@ head [] m = m
 head (x ∷ xs) m = x
 
 -- two messages that aren't equal stay apart
-join-two : (m n : Message) → same_message m n ≡ false → join (m ∷ n ∷ []) ≡ m ∷ n ∷ []
+pub join-two : (m n : Message) → same_message m n ≡ false → join (m ∷ n ∷ []) ≡ m ∷ n ∷ []
 join-two m n other = joins_from_the_front m n [] ∙ rw (other, join-one n) refl
 
-pub skipping : SkippingIsRefused
-skipping u lost next other law =
-    let both : (next ∷ []) ++ law.rest ≡ lost ∷ next ∷ [] = ap (λ (js : List Message). js ++ law.rest) (sym (join-one next)) ∙ law.prefix ∙ join-two lost next other in
+pub not_skipped : (lost next : Message) → same_message lost next ≡ false → (rest : List Message) → join (next ∷ []) ++ rest ≡ join (lost ∷ next ∷ []) → ⊥
+not_skipped lost next other rest prefix =
+    let both : (next ∷ []) ++ rest ≡ lost ∷ next ∷ [] = ap (λ (js : List Message). js ++ rest) (sym (join-one next)) ∙ prefix ∙ join-two lost next other in
     let same : next ≡ lost = ap (λ (js : List Message). head js next) both in
     both_ways _ other (rw same (same-refl lost))
+
+pub skipping : SkippingIsRefused
+skipping u lost next other law = not_skipped lost next other law.rest law.prefix
 
 pub recording_nothing : RecordingNothingIsRefused
 recording_nothing u first second other law =

@@ -15,6 +15,7 @@ use Rattle.rdm_frame.specs.Reading.{frame_in}
 use Rattle.rdm_params.specs.declared.slow.message.Message.{Message}
 use Rattle.rdm_outbox.specs.declared.job.Job.{Job}
 use Rattle.rdm_responder.specs.History.{History}
+use Rattle.rdm_responder.specs.Lawful.{IsLawful}
 use Rattle.rdm_responder.specs.Requests.{Request, Ignored, Branch, Muting, Get, Set, request_in}
 use Rattle.rdm_responder.specs.Rules.{Account, Response, account_of, answer_to, answer_with, job_with, reply_of, job_of}
 use Rattle.rdm_bus.specs.declared.event.Event.{Event}
@@ -29,6 +30,8 @@ use Rattle.rdm_bus.specs.Collecting.{State, after_poll, heard_as, heard_in, with
 use Rattle.rdm_bus.specs.Faults.{altered, request_heard}
 use Rattle.rdm_bus.specs.BusRun.{Start, controller_at, replied, came, transaction, IsFault, IsPlayed, reply_in, after_reply, is_message_heard, after, after_all, IsBusRun, IsAlteredInVain}
 use Rattle.rdm_bus.specs.BusLaws.{dispensed_by, recorded, recorded_by, recorded_if}
+use Rattle.rdm_bus.specs.Happened.{reports_in}
+use Rattle.rdm_bus.specs.Headline.{Headline, HeadlineHolds, unclosed}
 use Rattle.rdm_bus.specs.Systems.{Played, Stands, IsTrace}
 use Rattle.rdm_bus.proofs.Alterations.{none_in, text_length, raised_is_no_frame, altered_is_no_frame}
 use Rattle.rdm_bus.proofs.BusRuns.{reply_is}
@@ -206,3 +209,9 @@ trace_more start steps old new step e trace pushed is stands vain = record {
   stands = rw (pushed, fold_push after start old.trace e, recorded_more old.trace e) stands;
   altered = rw pushed (all_more old.trace e trace.altered vain);
 }
+
+-- the headline, of what was played
+pub headline_of_trace : HeadlineHolds → (start : Start) (steps : List Step) (s : Played) → IsLawful start.history → IsTrace start steps s → Headline start (unclosed (reports_in s.trace)) s.trace s.collector.recorded
+headline_of_trace holds start steps s lawful trace =
+    subst (Headline start (unclosed (reports_in s.trace)) s.trace) (sym (ap (λ (c : State). c.recorded) trace.stands.collector_is))
+    (holds start steps s.trace lawful trace.run)

@@ -7,4 +7,6 @@ pub mod Polling
 pub mod Devices
 pub mod BusRun
 pub mod BusLaws
+pub mod Happened
+pub mod Headline
 pub mod Systems

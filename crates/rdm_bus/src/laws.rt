@@ -4,6 +4,7 @@ ghost use Rattle.std.specs.Prelude.{◌≡◌, ◌↔◌, IsTrue};
 ghost use Rattle.rdm_bus.specs.Devices.{dequeues_again, forgets_empty_status, BreaksPrefixLaw, RightDeviceIsPolled};
 ghost use Rattle.rdm_bus.specs.Faults.{AlteredIsNoFrame};
 ghost use Rattle.rdm_bus.specs.BusLaws.{BusLawsHold};
+ghost use Rattle.rdm_bus.specs.Headline.{HeadlineHolds, TwiceIsRuledOut, LaterFirstIsRuledOut, AnsweringTheUnheardIsRuledOut, AfterTheCloseIsRuledOut, SkippingIsRuledOut, RecordingNothingIsRuledOut};
 ghost use Rattle.rdm_bus.specs.Polling.{LawsHold};
 ghost use Rattle.rdm_bus.specs.Recording.{JoinsFromTheFront, SkippingIsRefused, RecordingNothingIsRefused, RepeatingAnOlderOneIsRefused};
 
@@ -45,6 +46,24 @@ pub fn bus_recording_laws_hold()
 {
     two_commands_fetch();
 }
+
+/// The headline holds of every run of the bus, after whatever has lawfully happened to the device.
+pub fn headline_holds()
+    ensures { HeadlineHolds }
+{
+    bus_recording_laws_hold();
+}
+
+/// What the headline rules out: devices that let a result into the queue twice, a later one of a worker first, or one after
+/// the worker's close, or that answer what they haven't heard; and collectors that skip a message or record nothing.
+pub fn headline_rules_out()
+    ensures twice { TwiceIsRuledOut }
+    ensures later_first { LaterFirstIsRuledOut }
+    ensures answering_the_unheard { AnsweringTheUnheardIsRuledOut }
+    ensures after_the_close { AfterTheCloseIsRuledOut }
+    ensures skipping { SkippingIsRuledOut }
+    ensures recording_nothing { RecordingNothingIsRuledOut }
+{}
 
 /// A device whose last message takes a new one from the queue breaks the prefix law, and so does one that doesn't keep an
 /// empty status message as its last one. The runs of the device of the standard are among those of which the laws hold.

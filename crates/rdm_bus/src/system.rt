@@ -4,20 +4,22 @@ ghost use Rattle.std.specs.Prelude.{◌≡◌, ◌≢◌, ◌↔◌, ◌<◌, �
 ghost use Rattle.std.specs.Option.{option_map, option_map_or};
 ghost use Rattle.rdm_params.specs.declared.slow.message.Message.{Message};
 ghost use Rattle.rdm_responder.specs.History.{History};
-ghost use Rattle.rdm_responder.specs.Lawful.{MayArrive};
+ghost use Rattle.rdm_responder.specs.Lawful.{IsLawful, MayArrive};
 ghost use Rattle.rdm_responder.specs.Rules.{account_of};
 ghost use Rattle.rdm_responder.specs.StandsFor.{StandsFor};
 ghost use Rattle.rdm_bus.specs.Collecting.{heard_in, after_hearing};
 ghost use Rattle.rdm_bus.specs.Faults.{reply_heard};
 ghost use Rattle.rdm_bus.specs.BusLaws.{BusLaws, recorded_by};
 ghost use Rattle.rdm_bus.specs.BusRun.{Start, after, after_all, after_reply, history_after, reply_in, transaction, raise_of, fault_of, IsFault, IsPlayed, IsAlteredInVain};
+ghost use Rattle.rdm_bus.specs.Happened.{reports_in};
+ghost use Rattle.rdm_bus.specs.Headline.{Headline, unclosed};
 ghost use Rattle.rdm_bus.specs.Systems.{Stands, IsTrace, IsAstray, HasNoRoom, refusal_in, start_of};
 
 use crate::collector::{Collector, MOST_DATA, PollError};
 use crate::command::is_reserved;
 use crate::event::{Event, Step};
 use crate::fault::Fault;
-use crate::laws::bus_recording_laws_hold;
+use crate::laws::{bus_recording_laws_hold, headline_holds};
 use crate::ranges::are_bytes;
 use crate::transaction::Heard;
 use rdm_frame::Wire;
@@ -98,14 +100,18 @@ impl System {
             IsTrace start steps self.old → IsPlayed (after_all start self.old.trace) step.now event)) }
         ensures laws { OnOk result ((start : Start) (steps : List Step) →
             IsTrace start steps self.old → BusLaws start self.new.trace) }
+        ensures headline { OnOk result ((start : Start) (steps : List Step) →
+            IsLawful start.history → IsTrace start steps self.old →
+            Headline start (unclosed (reports_in self.new.trace)) self.new.trace self.new.collector.recorded) }
         ensures reserved { IsErrOf result PlayError.Reserved ↔ (refusal_in step.now ≡ Some PlayError.Reserved) }
         ensures too_long { IsErrOf result PlayError.TooLong ↔ (refusal_in step.now ≡ Some PlayError.TooLong) }
         ensures astray { IsErrOf result PlayError.Astray → IsAstray self.old.responder step.now }
         ensures no_room { IsErrOf result PlayError.NoRoom → HasNoRoom self.old.responder step.now }
         ensures err { OnErr result (self.new ≡ self.old) }
     {
-        // The trace is a run of the bus, and the laws hold of every run.
+        // The trace is a run of the bus, and the laws and the headline hold of every run.
         bus_recording_laws_hold();
+        headline_holds();
         if let Some(refusal) = refusal_in(step) {
             return Err(refusal);
         }

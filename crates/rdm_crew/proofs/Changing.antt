@@ -22,7 +22,8 @@ use Rattle.rdm_crew.specs.declared.stop.Stop.{Stop}
 use Rattle.rdm_crew.specs.declared.stop.Stop.TheVariants as stop
 use Rattle.rdm_crew.specs.Crews.{HasChanges, HasChanged, HasPlayed, HasSent, IsRefused, IsSent, IsStopped, IsTied}
 use Rattle.rdm_crew.specs.Desks.{stands_at, IsDrawn, HaveArrived, HaveSettled, IsCutShort}
-use Rattle.rdm_crew.specs.RunTrace.{AreArrivals, arrived_in, changed_in, changes_in, started_in}
+use Rattle.rdm_bus.specs.Happened.{arrived_in, changed_in, changes_in, started_in}
+use Rattle.rdm_crew.specs.RunTrace.{AreArrivals}
 use Rattle.rdm_crew.proofs.Items.{from-item, from-mark}
 
 -- ---- lists of events

@@ -27,7 +27,8 @@ use Rattle.rdm_crew.specs.declared.desk.Drawn.TheVariants as drawn
 use Rattle.rdm_crew.specs.declared.stop.Stop.{Stop}
 use Rattle.rdm_crew.specs.declared.stop.Stop.TheVariants as stop
 use Rattle.rdm_crew.specs.Desks.{began, stands_at, HasRun, OfTwo, IsDrawn, IsSuspect, IsSameDesk, HasArrived, HaveArrived, HaveSettled, IsCutShort, AfterDraw, nones_in}
-use Rattle.rdm_crew.specs.RunTrace.{AreArrivals, started_in, arrived_in, jobs_in, reports_in}
+use Rattle.rdm_bus.specs.Happened.{started_in, arrived_in, jobs_in, reports_in}
+use Rattle.rdm_crew.specs.RunTrace.{AreArrivals}
 use Rattle.rdm_crew.specs.Setups.{switched_on}
 use Rattle.rdm_crew.proofs.Items.{items-append}
 

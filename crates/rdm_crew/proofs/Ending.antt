@@ -21,7 +21,8 @@ use Rattle.rdm_crew.specs.declared.desk.Desk.{Desk}
 use Rattle.rdm_crew.specs.declared.worker.Worked.{Worked}
 use Rattle.rdm_crew.specs.Crews.{HasJobs}
 use Rattle.rdm_crew.specs.Desks.{stands_at, OfTwo, IsDrawn, IsSuspect}
-use Rattle.rdm_crew.specs.RunTrace.{IsAnswered, FitsFor, jobs_in, reports_in, reports_of}
+use Rattle.rdm_bus.specs.Happened.{jobs_in, reports_in, reports_of}
+use Rattle.rdm_crew.specs.RunTrace.{IsAnswered, FitsFor}
 use Rattle.rdm_crew.specs.Settling.{IsTakenOf, IsSettled, IsLaneOfOne, IsLaneOfReports, AreLanes}
 use Rattle.rdm_crew.specs.Workers.{Answers, IsWorked}
 use Rattle.rdm_crew.proofs.Accounts.{Tells, run_tells, outstanding_is, IsSlowJob, all_slow, at_filter, first_left}

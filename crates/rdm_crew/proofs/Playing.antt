@@ -32,7 +32,8 @@ use Rattle.rdm_crew.specs.declared.stop.Stop.{Stop}
 use Rattle.rdm_crew.specs.declared.stop.Stop.TheVariants as stop
 use Rattle.rdm_crew.specs.Crews.{HasJobs, HasChanged, IsTied, IsSameCrew, IsSent, HasSent, HasPlayed, HavePlayed, IsRefused, IsStopped}
 use Rattle.rdm_crew.specs.Desks.{stands_at, HasRun, OfTwo, IsDrawn, IsSameDesk, HasArrived, HaveArrived, HaveSettled, IsCutShort, AfterDraw}
-use Rattle.rdm_crew.specs.RunTrace.{AreArrivals, IsCut, HasSettle, first_refusal, refusal_at, started_in, arrived_in, jobs_in, reports_in}
+use Rattle.rdm_bus.specs.Happened.{started_in, arrived_in, jobs_in, reports_in}
+use Rattle.rdm_crew.specs.RunTrace.{AreArrivals, IsCut, HasSettle, first_refusal, refusal_at}
 use Rattle.rdm_crew.specs.Stops.{stop_of}
 use Rattle.rdm_crew.specs.Workers.{most}
 use Rattle.rdm_crew.proofs.Accounts.{IsNextJob, Each, Tells, event_starts, run_tells}

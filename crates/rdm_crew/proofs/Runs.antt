@@ -16,7 +16,8 @@ use Rattle.rdm_crew.specs.declared.error.RunError.{RunError}
 use Rattle.rdm_crew.specs.declared.step.CrewStep.{CrewStep}
 use Rattle.rdm_crew.specs.Crews.{HasJobs, IsTied, HavePlayed}
 use Rattle.rdm_crew.specs.Desks.{began, stands_at, IsDrawn, IsSameDesk, HaveArrived}
-use Rattle.rdm_crew.specs.RunTrace.{IsCut, IsAnswered, IsRunTrace, changes_in}
+use Rattle.rdm_bus.specs.Happened.{changes_in}
+use Rattle.rdm_crew.specs.RunTrace.{IsCut, IsAnswered, IsRunTrace}
 use Rattle.rdm_crew.specs.Setups.{switched_on}
 use Rattle.rdm_crew.specs.Traces.{Traced}
 use Rattle.rdm_crew.specs.Watchers.{AreOffered}

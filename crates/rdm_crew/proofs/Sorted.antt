@@ -10,7 +10,7 @@ use Rattle.rdm_lane.specs.declared.taken.Taken.{Taken}
 use Rattle.rdm_lane.specs.declared.taken.Taken.TheVariants.{Item, Mark, Empty, Closed}
 use Rattle.rdm_lane.specs.Lane.{is_from, items_of, items_from}
 use Rattle.rdm_crew.specs.Desks.{OfTwo}
-use Rattle.rdm_crew.specs.RunTrace.{reports_of}
+use Rattle.rdm_bus.specs.Happened.{reports_of}
 use Rattle.rdm_crew.specs.Workers.{Answers}
 
 -- Each report is on a job of the worker that sent it.

@@ -17,7 +17,7 @@ use Rattle.rdm_crew.specs.declared.desk.Desk.{Desk}
 use Rattle.rdm_crew.specs.declared.error.RunError.{RunError}
 use Rattle.rdm_crew.specs.Crews.{HasChanges, IsTied}
 use Rattle.rdm_crew.specs.Desks.{began, OfTwo, IsDrawn}
-use Rattle.rdm_crew.specs.RunTrace.{changes_in, jobs_in, reports_in}
+use Rattle.rdm_bus.specs.Happened.{changes_in, jobs_in, reports_in}
 use Rattle.rdm_crew.specs.Settling.{IsLaneOfOne, IsNewLaneOfOne, IsReportLane}
 use Rattle.rdm_crew.specs.Traces.{Traced}
 use Rattle.rdm_crew.specs.Watchers.{most_changes}

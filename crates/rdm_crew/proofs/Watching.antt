@@ -9,7 +9,7 @@ use Rattle.rdm_lane.proofs.ThreeSentences.{takes_a_prefix}
 use Rattle.rdm_crew.specs.declared.desk.Desk.{Desk}
 use Rattle.rdm_crew.specs.declared.watcher.Watched.{Watched}
 use Rattle.rdm_crew.specs.Crews.{HasChanges}
-use Rattle.rdm_crew.specs.RunTrace.{changes_in}
+use Rattle.rdm_bus.specs.Happened.{changes_in}
 use Rattle.rdm_crew.specs.Settling.{IsTakenOf, IsLaneOfOne}
 use Rattle.rdm_crew.specs.Watchers.{AreOffered, IsWatched}
 

@@ -17,7 +17,8 @@ use Rattle.rdm_crew.specs.declared.step.CrewStep.{CrewStep}
 use Rattle.rdm_crew.specs.declared.stop.Stop.{Stop}
 use Rattle.rdm_crew.specs.declared.stop.Stop.TheVariants as stop
 use Rattle.rdm_crew.specs.Desks.{IsDrawn, IsSuspect, IsSameDesk, stands_at}
-use Rattle.rdm_crew.specs.RunTrace.{AreLast, IsPiece, IsCut, HasSettle, first_refusal, jobs_in, changes_in}
+use Rattle.rdm_bus.specs.Happened.{jobs_in, changes_in}
+use Rattle.rdm_crew.specs.RunTrace.{AreLast, IsPiece, IsCut, HasSettle, first_refusal}
 use Rattle.rdm_crew.specs.Workers.{most}
 
 -- Each worker's jobs were put into its lane, in order.

@@ -17,7 +17,8 @@ use Rattle.rdm_crew.specs.declared.desk.Drawn.{Drawn}
 use Rattle.rdm_crew.specs.declared.desk.Drawn.TheVariants as drawn
 use Rattle.rdm_crew.specs.declared.stop.Stop.{Stop}
 use Rattle.rdm_crew.specs.declared.stop.Stop.TheVariants as stop
-use Rattle.rdm_crew.specs.RunTrace.{AreArrivals, AreLast, jobs_in, reports_in}
+use Rattle.rdm_bus.specs.Happened.{jobs_in, reports_in}
+use Rattle.rdm_crew.specs.RunTrace.{AreArrivals, AreLast}
 use Rattle.rdm_crew.specs.Setups.{switched_on}
 
 -- where the bus stood at first, and where it stands

@@ -21,6 +21,7 @@ use Rattle.rdm_bus.specs.declared.fault.Fault.TheVariants as fault
 use Rattle.rdm_bus.specs.declared.system.PlayError.{PlayError}
 use Rattle.rdm_bus.specs.declared.system.PlayError.TheVariants as refused
 use Rattle.rdm_bus.specs.BusRun.{Start, IsPlayed, after, after_all, raise_of}
+use Rattle.rdm_bus.specs.Happened.{jobs_in, reports_in, changes_in, reports_of}
 use Rattle.rdm_bus.specs.Systems.{refusal_in}
 use Rattle.rdm_crew.specs.declared.error.RunError.{RunError}
 use Rattle.rdm_crew.specs.declared.error.RunError.TheVariants as run
@@ -63,37 +64,6 @@ IsCut s (step ∷ steps) es =
     (piece : List Event) × (rest : List Event) × (es ≡ piece ++ rest) × IsPiece s step piece × IsCut (after_all s piece) steps rest
 
 -- ---- jobs and reports
-
--- the job that an event starts, and the report that arrives in it
-abbrev pub started_in : Event → List Job
-started_in (Bus sent poll fault reply job heard) = option_to_list job
-started_in (Arrived report message kept) = []
-started_in (Changed change message) = []
-
-abbrev pub arrived_in : Event → List Report
-arrived_in (Bus sent poll fault reply job heard) = []
-arrived_in (Arrived report message kept) = report ∷ []
-arrived_in (Changed change message) = []
-
--- the change at the panel that happens in an event
-abbrev pub changed_in : Event → List Change
-changed_in (Bus sent poll fault reply job heard) = []
-changed_in (Arrived report message kept) = []
-changed_in (Changed change message) = change ∷ []
-
--- all jobs that were accepted, all reports that arrived, and all changes that happened, in order
-unfoldable pub jobs_in : List Event → List Job
-jobs_in events = flat_map started_in events
-
-unfoldable pub reports_in : List Event → List Report
-reports_in events = flat_map arrived_in events
-
-unfoldable pub changes_in : List Event → List Change
-changes_in events = flat_map changed_in events
-
--- the reports on jobs of a worker
-abbrev pub reports_of : ℕ → List Report → List Report
-reports_of worker reports = filter (λ r. worker_of r.job.work == worker) reports
 
 -- The reports of a worker that arrived are on its jobs, in their order, each with an outcome that its part gives, and
 -- every job has one.

@@ -11,7 +11,8 @@ ghost use Rattle.rdm_bus.specs.BusRun.{raise_of, fault_of};
 ghost use Rattle.rdm_bus.specs.Systems.{refusal_in};
 ghost use Rattle.rdm_crew.specs.Crews.{IsTied, HasChanges, HasChanged, IsSameCrew, IsSent, HasSent, HasPlayed, HavePlayed, IsStopped, IsRefused};
 ghost use Rattle.rdm_crew.specs.Desks.{IsDrawn, IsSameDesk, stands_at};
-ghost use Rattle.rdm_crew.specs.RunTrace.{HaveFaults, started_in, fault_at, first_refusal};
+ghost use Rattle.rdm_bus.specs.Happened.{started_in};
+ghost use Rattle.rdm_crew.specs.RunTrace.{HaveFaults, fault_at, first_refusal};
 
 use crate::desk::{Desk, Drawn};
 use crate::putting::put;

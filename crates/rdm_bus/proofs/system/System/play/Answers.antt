@@ -4,7 +4,7 @@ use Rattle.rdm_bus.specs.declared.event.Event.{Event}
 use Rattle.rdm_bus.specs.BusLaws.{recorded}
 use Rattle.rdm_bus.specs.BusRun.{after_all, IsPlayed}
 use Rattle.rdm_bus.specs.Systems.{Played, IsTrace}
-use Rattle.rdm_bus.proofs.Systems.{trace_more}
+use Rattle.rdm_bus.proofs.Systems.{trace_more, headline_of_trace}
 use Rattle.rdm_bus.proofs.system.System.play.Goals as goal
 
 pub returns-clause-trace : goal.returns-clause-trace
@@ -21,6 +21,10 @@ returns-clause-trace c start steps trace =
 pub returns-clause-laws : goal.returns-clause-laws
 returns-clause-laws c start steps trace =
     c.bus_recording_laws_hold.ensures start (steps ++ c.args.step.now ∷ []) _ (returns-clause-trace c start steps trace).run
+
+pub returns-clause-headline : goal.returns-clause-headline
+returns-clause-headline c start steps lawful trace =
+    headline_of_trace c.headline_holds.ensures start (steps ++ c.args.step.now ∷ []) _ lawful (returns-clause-trace c start steps trace)
 
 pub returns-clause-event : goal.returns-clause-event
 returns-clause-event c =

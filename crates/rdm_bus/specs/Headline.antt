@@ -1,0 +1,159 @@
+-- The headline: what is promised of a device on a bus, and of the controller that collects its messages.
+--
+--     For every list of commands, collections, bus faults, panel changes and worker outcomes, each reply is the one that
+--     the reply rules give; each accepted job's result enters the queue at most once, in its worker's order, nothing after
+--     its close; and what the collector recorded, adjacent equal messages joined, is a prefix of what the responder
+--     dispensed, joined likewise, at most one message shorter.
+--
+-- `Headline` says it of a run, field by field in the order of the sentence. `System::play` has it of what was played so far,
+-- without threads, and `run` of a run with two workers and a panel. Its premises:
+--
+-- * The run was answered with Ok. A step that is refused changes nothing, so `play` has it after each step.
+-- * A reply is heard in its own transaction or never, and an altered frame has exactly one slot altered: a fault of a step
+--   is nothing else.
+-- * This controller alone fetches messages: `play` and `run` refuse a command for QUEUED_MESSAGE or STATUS_MESSAGES.
+-- * The device is switched on once, and whatever has happened to it before the start was lawful: `IsLawful`.
+-- * Calls that wait for another thread return.
+use Rattle.std.specs.Prelude.{◌≡◌, ◌≢◌, ℕ, Bool, false, Option, ◌+◌, ◌≤◌, List, [], ◌∷◌, ◌++◌, length, map, slice_get, Some}
+use Rattle.rdm_params.specs.declared.slow.message.Message.{Message}
+use Rattle.rdm_params.specs.Slow.Work.{worker_of}
+use Rattle.rdm_outbox.specs.declared.job.Job.{Job}
+use Rattle.rdm_outbox.specs.Jobs.{jobs_of, outstanding_of}
+use Rattle.rdm_responder.specs.declared.report.Report.{Report}
+use Rattle.rdm_responder.specs.History.{History}
+use Rattle.rdm_responder.specs.Lawful.{IsLawful}
+use Rattle.rdm_responder.specs.Runs.{outbox_of}
+use Rattle.rdm_bus.specs.declared.event.Event.{Event}
+use Rattle.rdm_bus.specs.declared.event.Event.TheVariants.{Bus, Arrived, Changed}
+use Rattle.rdm_bus.specs.declared.event.Step.{Step}
+use Rattle.rdm_bus.specs.declared.fault.Fault.TheVariants as fault
+use Rattle.rdm_bus.specs.declared.transaction.Heard.{Heard}
+use Rattle.rdm_bus.specs.BusRun.{Start, replied, after, after_all, IsBusRun}
+use Rattle.rdm_bus.specs.BusLaws.{dispensed, recorded}
+use Rattle.rdm_bus.specs.Happened.{jobs_in, reports_in, reports_of}
+use Rattle.rdm_bus.specs.Recording.{join, same_message}
+
+-- ---- each reply
+
+-- The reply to a transaction is the one that the reply rules give, after this history, for what the device heard of the
+-- request; where they give none there is none. E1.20 sections 6.2 and 6.3.
+abbrev pub IsByTheRules : History → Event → Type 0
+IsByTheRules h (Bus sent poll fault reply job heard) = reply ≡ replied h fault sent
+IsByTheRules h (Arrived report message kept) = Unit {0}
+IsByTheRules h (Changed change message) = Unit {0}
+
+-- Each reply is, after all that has happened before it.
+abbrev pub RepliesAreByTheRules : Start → List Event → Type 0
+RepliesAreByTheRules s [] = Unit {0}
+RepliesAreByTheRules s (event ∷ events) = IsByTheRules s.history event × RepliesAreByTheRules (after s event) events
+
+-- ---- each accepted job's result
+
+-- What is handed to a device: the result of a job, which enters its queue, or word that a worker has closed.
+pub data Handed : Type 0 where
+  Result : Report → Handed
+  Close : (worker : ℕ) → Handed
+
+-- the results among them
+abbrev pub results_in : List Handed → List Report
+results_in [] = []
+results_in (Result report ∷ handed) = report ∷ results_in handed
+results_in (Close worker ∷ handed) = results_in handed
+
+-- the results of a caller who hands them in himself: no worker closes
+abbrev pub unclosed : List Report → List Handed
+unclosed reports = map Result reports
+
+-- No two of these results are of the same job.
+abbrev pub AreOnce : List Report → Type 0
+AreOnce results =
+    (i k : ℕ) (r s : Report) → slice_get results i ≡ Some r → slice_get results k ≡ Some s → r.job ≡ s.job → i ≡ k
+
+-- the results of a worker that entered the queue, in the order in which they did
+abbrev pub entered : ℕ → List Event → List Report
+entered worker events = reports_of worker (reports_in events)
+
+-- The results of a worker are of its jobs in the order in which these were accepted: those that were outstanding at the
+-- start, and then those that were accepted since. The jobs that are left are outstanding.
+abbrev pub IsInOrder : ℕ → Start → List Event → Type 0
+IsInOrder worker start events =
+    map (λ r. r.job) (entered worker events) ++ outstanding_of (outbox_of (after_all start events).history) worker
+    ≡ outstanding_of (outbox_of start.history) worker ++ jobs_of worker (jobs_in events)
+
+-- Wherever a worker closes, none of its results is still to come.
+abbrev pub NothingAfterClose : List Handed → Type 0
+NothingAfterClose [] = Unit {0}
+NothingAfterClose (Result report ∷ handed) = NothingAfterClose handed
+NothingAfterClose (Close worker ∷ handed) = (reports_of worker (results_in handed) ≡ []) × NothingAfterClose handed
+
+-- ---- what the collector recorded
+
+-- the first messages of a list, or all of them
+abbrev pub IsPrefix : List Message → List Message → Type 0
+IsPrefix front all = (rest : List Message) × (front ++ rest ≡ all)
+
+-- ---- the headline
+
+-- Of a run from this start: what was handed to the device, what happened, and what the collector recorded.
+pub record Headline (start : Start) (handed : List Handed) (events : List Event) (collected : List Message) : Type 0 where
+  -- each reply is the one that the reply rules give;
+  pub each_reply : RepliesAreByTheRules start events
+  -- each accepted job's result enters the queue, which is what an arrival of it is,
+  pub enters : reports_in events ≡ results_in handed
+  -- at most once,
+  pub at_most_once : (worker : ℕ) → AreOnce (entered worker events)
+  -- in its worker's order,
+  pub in_order : (worker : ℕ) → IsInOrder worker start events
+  -- nothing after its close;
+  pub nothing_after_close : NothingAfterClose handed
+  -- and what the collector recorded, joined, is a prefix of what the responder dispensed, joined likewise,
+  pub prefix : IsPrefix (join collected) (join (dispensed events))
+  -- at most one message shorter.
+  pub at_most_one_shorter : length (join (dispensed events)) ≤ length (join collected) + 1
+
+-- The headline holds of every run of the bus after whatever has lawfully happened to the device: of the device of the reply
+-- rules, and of the collector that records what it hears.
+abbrev pub HeadlineHolds : Type 0
+HeadlineHolds =
+    (start : Start) (steps : List Step) (events : List Event) → IsLawful start.history → IsBusRun start steps events
+    → Headline start (unclosed (reports_in events)) events (recorded events)
+
+-- ---- what the headline rules out
+
+-- A device that lets the result of a job into its queue twice.
+abbrev pub TwiceIsRuledOut : Type 0
+TwiceIsRuledOut =
+    (start : Start) (handed : List Handed) (events : List Event) (collected : List Message) (worker : ℕ) (r s : Report)
+    → entered worker events ≡ r ∷ s ∷ [] → r.job ≡ s.job → ¬ Headline start handed events collected
+
+-- A device that lets the result of a worker's second job into its queue before that of the first.
+abbrev pub LaterFirstIsRuledOut : Type 0
+LaterFirstIsRuledOut =
+    (start : Start) (handed : List Handed) (events : List Event) (collected : List Message) (worker : ℕ) (r : Report)
+    (first second : Job) (more : List Job) → outstanding_of (outbox_of start.history) worker ≡ first ∷ second ∷ more
+    → entered worker events ≡ r ∷ [] → r.job ≡ second → first ≢ second → ¬ Headline start handed events collected
+
+-- A device that answers a request that it hasn't heard.
+abbrev pub AnsweringTheUnheardIsRuledOut : Type 0
+AnsweringTheUnheardIsRuledOut =
+    (start : Start) (handed : List Handed) (events : List Event) (collected : List Message) (sent reply : List ℕ) (poll : Bool)
+    (job : Option Job) (heard : Option Heard)
+    → ¬ Headline start handed (Bus sent poll fault.LostRequest (Some reply) job heard ∷ events) collected
+
+-- A result that is handed in after its worker's close.
+abbrev pub AfterTheCloseIsRuledOut : Type 0
+AfterTheCloseIsRuledOut =
+    (start : Start) (events : List Event) (collected : List Message) (r : Report)
+    → ¬ Headline start (Close (worker_of r.job.work) ∷ Result r ∷ []) events collected
+
+-- A collector that skips a message, as it does where it asks for the next one after a loss.
+abbrev pub SkippingIsRuledOut : Type 0
+SkippingIsRuledOut =
+    (start : Start) (handed : List Handed) (events : List Event) (lost next : Message)
+    → dispensed events ≡ lost ∷ next ∷ [] → same_message lost next ≡ false → ¬ Headline start handed events (next ∷ [])
+
+-- A collector that records nothing.
+abbrev pub RecordingNothingIsRuledOut : Type 0
+RecordingNothingIsRuledOut =
+    (start : Start) (handed : List Handed) (events : List Event) (first second : Message)
+    → dispensed events ≡ first ∷ second ∷ [] → same_message first second ≡ false → ¬ Headline start handed events []
