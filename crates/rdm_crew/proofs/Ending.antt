@@ -19,6 +19,7 @@ use Rattle.rdm_lane.specs.Settling.{HasLists}
 use Rattle.rdm_lane.proofs.ThreeSentences.{takes_a_prefix, whole_at_its_mark}
 use Rattle.rdm_crew.specs.declared.desk.Desk.{Desk}
 use Rattle.rdm_crew.specs.declared.worker.Worked.{Worked}
+use Rattle.rdm_crew.specs.Closes.{handed_by, IsHandedOver}
 use Rattle.rdm_crew.specs.Crews.{HasJobs}
 use Rattle.rdm_crew.specs.Desks.{stands_at, OfTwo, IsDrawn, IsSuspect}
 use Rattle.rdm_bus.specs.Happened.{jobs_in, reports_in, reports_of}
@@ -26,6 +27,7 @@ use Rattle.rdm_crew.specs.RunTrace.{IsAnswered, FitsFor}
 use Rattle.rdm_crew.specs.Settling.{IsTakenOf, IsSettled, IsLaneOfOne, IsLaneOfReports, AreLanes}
 use Rattle.rdm_crew.specs.Workers.{Answers, IsWorked}
 use Rattle.rdm_crew.proofs.Accounts.{Tells, run_tells, outstanding_is, IsSlowJob, all_slow, at_filter, first_left}
+use Rattle.rdm_crew.proofs.Closes.{handed_over}
 use Rattle.rdm_crew.proofs.Items.{from-append}
 use Rattle.rdm_crew.proofs.Law.{none_astray, none_missing}
 use Rattle.rdm_crew.proofs.Sorted.{EachOwn, AreOn, sorted, each_own, reports_on, own_job, own_item}
@@ -110,6 +112,11 @@ module _ (g0 g1 : Job → Outcome → Type 0) (t u : TakeState Job) (v x : PostS
   second_answered is over one not_refused =
       let posts : d.reports.posts ≡ 2 = is.posts in
       answered 1 g1 second is jobs.1 (all_answered 1 g1 u x second d.reports b second_worked second_settled one (omega arith) over not_refused)
+
+  -- what both workers handed over, with their closes
+  pub handed : IsDrawn d → IsOver d.reports → IsHandedOver d.system.trace (handed_by d.reports.taken)
+  handed is over =
+      handed_over d a.reports.items b.reports.items (front_own d.reports.taken [] (sym (append-nil d.reports.taken)) is.two) is.two first_settled.sent second_settled.sent is over
 
   -- a suspected report may arrive after all
   may_arrive : (gets : GetStartsItsWork) (sets : SetStartsItsWork) (p : ℕ) (gives : Job → Outcome → Type 0) (post : PostState Job) (is : IsSuspect d) → FitsFor p gives → post.items ≡ jobs_of p (jobs_in d.system.trace)

@@ -5,6 +5,7 @@ pub mod Playing
 pub mod Working
 pub mod Law
 pub mod Sorted
+pub mod Closes
 pub mod Ending
 pub mod Runs
 pub mod Starting

@@ -9,3 +9,4 @@ pub mod Desks
 pub mod Crews
 pub mod Settling
 pub mod Watchers
+pub mod Closes

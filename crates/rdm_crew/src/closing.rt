@@ -5,6 +5,7 @@ ghost use Rattle.rdm_bus.specs.BusLaws.{recorded};
 ghost use Rattle.rdm_lane.specs.Ends.{IsOver};
 ghost use Rattle.rdm_responder.specs.Runs.{outbox_of};
 ghost use Rattle.rdm_outbox.specs.Jobs.{outstanding_count};
+ghost use Rattle.rdm_crew.specs.Closes.{handed_by, IsHandedOver};
 ghost use Rattle.rdm_crew.specs.Crews.{HasJobs, HasChanges};
 ghost use Rattle.rdm_crew.specs.Desks.{IsDrawn, IsSuspect, stands_at};
 ghost use Rattle.rdm_bus.specs.Happened.{changes_in};
@@ -53,6 +54,7 @@ impl<P: Part, Q: Part, N: Panel> Closing<P, Q, N> {
         ensures last { IfOk result (λ trace. outstanding_count (outbox_of (stands_at self.desk).history) ≡ 0) }
         ensures first { IfOk result (λ trace. IsAnswered 0 (P.gives self.first_worker.part.value) self.desk.system.trace) }
         ensures second { IfOk result (λ trace. IsAnswered 1 (Q.gives self.second_worker.part.value) self.desk.system.trace) }
+        ensures handed { IfOk result (λ trace. IsHandedOver self.desk.system.trace (handed_by self.desk.reports.taken)) }
         ensures changes { IfOk result (λ trace. AreOffered (N.offers self.watcher.panel.value) 0 (changes_in self.desk.system.trace)) }
         ensures err { IfErr result (λ e. e ≡ RunError.OutOfMemory) }
     {

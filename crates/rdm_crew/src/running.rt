@@ -5,6 +5,8 @@ ghost use Rattle.rdm_bus.specs.BusLaws.{BusLaws, recorded};
 ghost use Rattle.rdm_bus.specs.BusRun.{IsBusRun};
 ghost use Rattle.rdm_bus.specs.Systems.{IsTrace};
 ghost use Rattle.rdm_responder.specs.StandsFor.{IsQueueSize};
+ghost use Rattle.rdm_bus.specs.Headline.{Handed};
+ghost use Rattle.rdm_crew.specs.Closes.{IsHandedOver, HeadlineOfRun};
 ghost use Rattle.rdm_crew.specs.Crews.{IsTied, HasJobs, HasChanges};
 ghost use Rattle.rdm_crew.specs.Desks.{IsDrawn, HasRun};
 ghost use Rattle.rdm_crew.specs.RunTrace.{IsRunTrace, IsRunError, HaveFaults, HasSettle, FitsFor, first_refusal};
@@ -58,13 +60,14 @@ where
     ensures recorded { IfOk result (λ trace. trace.recorded ≡ recorded trace.events) }
     ensures bus { IfOk result (λ trace. (bus : List Step) × IsBusRun (switched_on setup) bus trace.events) }
     ensures laws { IfOk result (λ trace. BusLaws (switched_on setup) trace.events) }
+    ensures headline { IfOk result (λ trace. HeadlineOfRun setup trace.events trace.recorded) }
     ensures bad_setup { IsErrOf result RunError.BadSetup ↔ IsBadSetup setup }
     ensures reserved { IsErrOf result RunError.Reserved → first_refusal steps.now ≡ Some PlayError.Reserved }
     ensures too_long { IsErrOf result RunError.TooLong → first_refusal steps.now ≡ Some PlayError.TooLong }
     ensures unsettled { IsErrOf result RunError.Unsettled → HasSettle steps.now }
     ensures never { IfErr result (λ e. (e ≢ RunError.Astray) × (e ≢ RunError.Missing)) }
 {
-    // The trace is a run of the bus, and the laws hold of every run.
+    // The trace is a run of the bus, and the laws, from which the headline follows, hold of every run.
     bus_recording_laws_hold();
     let began = Snapshot::of(&setup);
     let queue_size = setup.queue_size;
@@ -135,6 +138,7 @@ fn play<P: Part, Q: Part, N: Panel, R: Threads + Wait>(
         (N.offers watcher.panel.value) steps.now trace.events) }
     ensures recorded { IfOk result (λ trace. trace.recorded ≡ recorded trace.events) }
     ensures bus { IfOk result (λ trace. (bus : List Step) × IsBusRun (switched_on crew.desk.setup.value) bus trace.events) }
+    ensures handed { IfOk result (λ trace. (handed : List Handed) × IsHandedOver trace.events handed) }
     ensures err { IfErr result (λ e. IsRunError steps.now e) }
 {
     let mut crew = crew;

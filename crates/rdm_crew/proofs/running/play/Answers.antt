@@ -1,4 +1,5 @@
 use Rattle.rdm_crew.proofs.Changing.{arrived_has}
+use Rattle.rdm_crew.proofs.Closes.{handed_in}
 use Rattle.rdm_crew.proofs.Watching.{same_lane}
 use Rattle.rdm_crew.proofs.Runs.{closing_jobs, run_trace, bus_run}
 use Rattle.rdm_crew.proofs.running.play.Goals as goal
@@ -19,3 +20,6 @@ returns-in-Ok-draw_all-clause-bus g c =
 pub finish-requires-clause-changes : goal.finish-requires-clause-changes
 finish-requires-clause-changes g c =
     (arrived_has c.play_all-played.new.self.desk c.draw_all.new.self c.play_all-played.new.self.changes c.in-Ok-draw_all.ensures.drawn.1 c.in-Ok.ensures.changes, same_lane c.args.crew.changes c.play_all-played.new.self.changes c.args.watcher.changes.value c.play_all-played.ensures.same.3 c.requires.changes.1)
+
+pub returns-in-Ok-draw_all-clause-handed : goal.returns-in-Ok-draw_all-clause-handed
+returns-in-Ok-draw_all-clause-handed g c = handed_in c.draw_all.new.self c.finish.result c.finish.ensures.events c.finish.ensures.handed

@@ -7,6 +7,7 @@ use Rattle.rdm_crew.specs.declared.setup.Setup.{Setup}
 use Rattle.rdm_crew.specs.declared.error.RunError.TheVariants.{BadSetup}
 use Rattle.rdm_crew.specs.Settling.{IsLaneOfOne}
 use Rattle.rdm_crew.specs.Setups.{switched_on, IsBadSetup}
+use Rattle.rdm_crew.proofs.Closes.{headlines}
 use Rattle.rdm_crew.proofs.Starting.{tied, unchanged, laws, told_also}
 use Rattle.rdm_crew.proofs.running.run.Goals as goal
 
@@ -31,6 +32,9 @@ returns-clause-bus g c =
 
 pub returns-clause-laws : goal.returns-clause-laws
 returns-clause-laws g c = laws (switched_on c.args.setup) c.play.result c.bus_recording_laws_hold.ensures (returns-clause-bus g c)
+
+pub returns-clause-headline : goal.returns-clause-headline
+returns-clause-headline g c = headlines c.args.setup c.play.result c.bus_recording_laws_hold.ensures (returns-clause-bus g c) c.play.ensures.handed c.play.ensures.recorded
 
 pub returns-in-Err-clause-bad_setup : goal.returns-in-Err-clause-bad_setup
 returns-in-Err-clause-bad_setup g c = told_also c.in-Err.refusal BadSetup (IsBadSetup c.args.setup) c.in-Err.ensures.bad

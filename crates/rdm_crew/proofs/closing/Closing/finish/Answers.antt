@@ -1,7 +1,7 @@
 use Rattle.std.proofs.Common.{sym, subst}
 use Rattle.rdm_responder.specs.StandsFor.{StandsFor}
 use Rattle.rdm_crew.specs.Desks.{stands_at}
-use Rattle.rdm_crew.proofs.Ending.{first_answered, second_answered, none_outstanding, never_missing}
+use Rattle.rdm_crew.proofs.Ending.{first_answered, second_answered, handed, none_outstanding, never_missing}
 use Rattle.rdm_crew.proofs.Watching.{offered_in}
 use Rattle.rdm_crew.proofs.closing.Closing.finish.Goals as goal
 
@@ -11,6 +11,13 @@ returns-clause-first g c =
     c.args.self.first_worker.jobs.value c.args.self.second_worker.jobs.value c.args.self.first_worker.reports.value c.args.self.second_worker.reports.value
     c.args.self.first c.args.self.second c.args.self.desk c.join-a.result c.join-b.result c.join-a.ensures c.join-b.ensures c.settle.ensures.first c.settle.ensures.second c.requires.jobs
     c.requires.drawn.0 c.requires.drawn.1 c.requires.lanes.first.posts c.if-first_refused.false
+
+pub returns-clause-handed : goal.returns-clause-handed
+returns-clause-handed g c =
+    handed (g.P.Part.gives c.args.self.first_worker.part.value) (g.Q.Part.gives c.args.self.second_worker.part.value)
+    c.args.self.first_worker.jobs.value c.args.self.second_worker.jobs.value c.args.self.first_worker.reports.value c.args.self.second_worker.reports.value
+    c.args.self.first c.args.self.second c.args.self.desk c.join-a.result c.join-b.result c.join-a.ensures c.join-b.ensures c.settle.ensures.first c.settle.ensures.second c.requires.jobs
+    c.requires.drawn.0 c.requires.drawn.1
 
 pub returns-clause-second : goal.returns-clause-second
 returns-clause-second g c =
