@@ -7,7 +7,6 @@ use Rattle.std.specs.Result.{result_ok}
 use Rattle.std.proofs.lemmas.List.Sums.{sum_by-cons}
 use Rattle.rdm_frame.specs.FrameText.{frame_text}
 use Rattle.rdm_frame.specs.Reading.{frame_in}
-use Rattle.rdm_params.specs.declared.panel.Change.{Change}
 use Rattle.rdm_params.specs.declared.slow.ask.Ask.{Ask}
 use Rattle.rdm_params.specs.declared.slow.message.Message.{Message}
 use Rattle.rdm_params.specs.declared.slow.outcome.Outcome.{Outcome}

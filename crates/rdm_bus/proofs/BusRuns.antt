@@ -63,12 +63,12 @@ reaches (fault.BadRequest k x) request i fits = Spoilt (altered (frame_text requ
 reaches (fault.BadReply k x) request i fits = Whole refl
 
 -- the history after bytes reached the device, or didn't
-abbrev history_with : History → Option (List ℕ) → History
+abbrev pub history_with : History → Option (List ℕ) → History
 history_with h heard = option_map_or (λ bytes. then_event h (history.Heard bytes)) heard h
 
 -- ---- a command leaves the queue
 
-command_leaves : GetQueues → GetStatuses → SetFetchesNothing → (h : History) (f : Fault) (request : Frame) → IsFrame request → request.pid ≢ 0x0020 → request.pid ≢ 0x0030 → Reaches f (frame_text request) → queue_of (history_with h (request_heard f (frame_text request))) ≡ queue_of h
+pub command_leaves : GetQueues → GetStatuses → SetFetchesNothing → (h : History) (f : Fault) (request : Frame) → IsFrame request → request.pid ≢ 0x0020 → request.pid ≢ 0x0030 → Reaches f (frame_text request) → queue_of (history_with h (request_heard f (frame_text request))) ≡ queue_of h
 command_leaves queues statuses sets h f request fits q s (Whole e) =
     ap (λ (o : Option (List ℕ)). queue_of (history_with h o)) e
     ∙ heard_frame h (frame_text request) request (read_as_itself request fits)
@@ -87,7 +87,7 @@ poll_ask p false Warning = (asks.Warning, got_warning p, refl)
 poll_ask p false Error = (asks.Error, got_error p, refl)
 
 -- A poll that has this reply, and leads to this history, is one of a run of polls.
-abbrev IsPolled : History → Bool → Option (List ℕ) → Bool → History → Type 0
+abbrev pub IsPolled : History → Bool → Option (List ℕ) → Bool → History → Type 0
 IsPolled h again reply heard h' =
     IsReply (queue_of h) again (option_and_then message_in reply) heard
     × (polling.after (queue_of h) (Polled again (option_and_then message_in reply) heard) ≡ queue_of h')
@@ -99,7 +99,7 @@ some_reply : (h : History) (again : Bool) (reply : Option (List ℕ)) (heard : B
 some_reply h again reply heard h' m e1 is e3 = rw e1 (is, sym e3)
 
 -- whether the controller hears a message
-abbrev hears : State → Fault → Option (List ℕ) → Bool
+abbrev pub hears : State → Fault → Option (List ℕ) → Bool
 hears waiting f reply = is_message_heard (option_map (heard_in waiting) (came f reply))
 
 pub reply_is : (h : History) (bytes : List ℕ) (found : Option Frame) → frame_in bytes ≡ found → reply_of h bytes ≡ answer_to (account_of h) (request_in (account_of h).setup.uid found)
@@ -121,11 +121,11 @@ whole_poll s waiting f fits ask last (Answered r some is same) =
     (heard_frame s.history (frame_text (poll_request (controller_at s))) (poll_request (controller_at s)) read ∙ ap queue_at same ∙ one.1)
 
 -- bytes reached the device, or didn't
-abbrev IsPolledBy : Start → State → Fault → Option (List ℕ) → Type 0
+abbrev pub IsPolledBy : Start → State → Fault → Option (List ℕ) → Type 0
 IsPolledBy s waiting f heard =
     IsPolled s.history s.unanswered (option_and_then (reply_of s.history) heard) (hears waiting f (option_and_then (reply_of s.history) heard)) (history_with s.history heard)
 
-poll_reaches : (s : Start) (waiting : State) (f : Fault) → IsFrame (poll_request (controller_at s)) → Reaches f (frame_text (poll_request (controller_at s))) → IsPolledBy s waiting f (request_heard f (frame_text (poll_request (controller_at s))))
+pub poll_reaches : (s : Start) (waiting : State) (f : Fault) → IsFrame (poll_request (controller_at s)) → Reaches f (frame_text (poll_request (controller_at s))) → IsPolledBy s waiting f (request_heard f (frame_text (poll_request (controller_at s))))
 poll_reaches s waiting f fits (Whole e) =
     let asks = poll_ask (account_of s.history).parameters s.unanswered s.want in
     subst (IsPolledBy s waiting f) (sym e) (whole_poll s waiting f fits asks.0 asks.2 (poll_becomes (account_of s.history) (account_of s.history).setup.uid s.target s.uid s.tn (poll_type (controller_at s)) asks.0 asks.1))
@@ -218,13 +218,13 @@ small_changing s change message (Stays is) = record {
 }
 
 -- a command that isn't refused isn't reserved
-not_reserved : (pid : ℕ) → is_reserved pid ≡ false → (pid ≢ 0x0020) × (pid ≢ 0x0030)
+pub not_reserved : (pid : ℕ) → is_reserved pid ≡ false → (pid ≢ 0x0020) × (pid ≢ 0x0030)
 not_reserved pid e = (λ is. both_ways _ e (ap is_reserved is), λ is. both_ways _ e (ap is_reserved is))
 
 some_is_not_none : (e : AskError) → Some e ≡ None → ⊥
 some_is_not_none e is = absurd cc
 
-allowed : (s : State) (c : Command) → refusal_of s c ≡ None → is_reserved c.pid ≡ false
+pub allowed : (s : State) (c : Command) → refusal_of s c ≡ None → is_reserved c.pid ≡ false
 allowed s c none =
     elim (cases_Bool (is_reserved c.pid)) [
       | inl is ↦ absurd (some_is_not_none Reserved (sym (cond-true _ _ _ is) ∙ none))

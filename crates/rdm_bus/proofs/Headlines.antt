@@ -1,5 +1,5 @@
 -- The headline holds of every run of the bus.
-use Rattle.std.proofs.Common.{◌≡◌, ℕ, zero, suc, ◌+◌, ◌<◌, ◌≤◌, ◌==◌, Bool, true, false, cond, List, [], ◌∷◌, ◌++◌, length, map, drop, Option, Some, None, refl, sym, ap, subst, ◌∙◌, arith, length-append}
+use Rattle.std.proofs.Common.{◌≡◌, ℕ, zero, suc, ◌+◌, ◌≤◌, ◌==◌, List, [], ◌∷◌, ◌++◌, length, drop, Some, refl, sym, ap, subst, ◌∙◌, arith, length-append}
 use Rattle.std.specs.Prelude.{slice_get}
 use Rattle.std.proofs.lemmas.List.{drop-append-le}
 use Rattle.std.proofs.lemmas.List.Elements.{filter-append}
@@ -15,11 +15,11 @@ use Rattle.rdm_bus.specs.declared.event.Event.TheVariants.{Bus, Arrived, Changed
 use Rattle.rdm_bus.specs.declared.event.Step.{Step}
 use Rattle.rdm_bus.specs.declared.event.Step.TheVariants as step
 use Rattle.rdm_bus.specs.BusRun.{Start, IsPlayed, after, after_all, IsBusRun}
-use Rattle.rdm_bus.specs.BusLaws.{BusLaws, BusLawsHold, dispensed, recorded}
-use Rattle.rdm_bus.specs.Happened.{jobs_in, reports_in, reports_of}
-use Rattle.rdm_bus.specs.Headline.{IsByTheRules, RepliesAreByTheRules, Handed, Result, Close, results_in, unclosed, AreOnce, entered, NothingAfterClose, Headline, HeadlineHolds}
+use Rattle.rdm_bus.specs.BusLaws.{BusLawsHold, dispensed, recorded}
+use Rattle.rdm_bus.specs.Happened.{jobs_in, reports_in}
+use Rattle.rdm_bus.specs.Headline.{IsByTheRules, RepliesAreByTheRules, Handed, results_in, unclosed, AreOnce, entered, NothingAfterClose, Headline, HeadlineHolds}
 use Rattle.rdm_bus.specs.Recording.{join}
-use Rattle.rdm_bus.proofs.Accounts.{Grows, run_grows, workers_of}
+use Rattle.rdm_bus.proofs.Accounts.{run_grows}
 use Rattle.rdm_bus.proofs.Numbers.{NumberedFrom, number_at, drop_numbered, front_number, numbered, ends_within}
 use Rattle.rdm_bus.proofs.Orders.{EndsWithin, done_by, run_moves}
 

@@ -5,6 +5,8 @@ pub mod Devices
 pub mod Headlines
 pub mod Joining
 pub mod Kept
+pub mod Messages
+pub mod Numbering
 pub mod Numbers
 pub mod Orders
 pub mod PollingRuns

@@ -1,10 +1,8 @@
 -- The results of a worker are of its jobs, each once and in their order.
-use Rattle.std.proofs.Common.{◌≡◌, ℕ, zero, suc, ◌+◌, ◌<◌, ◌≤◌, ◌==◌, Bool, true, false, cond, List, [], ◌∷◌, ◌++◌, length, map, drop, Option, Some, None, refl, sym, ap, subst, ◌∙◌, arith, append_assoc, append-nil, length-append, length-drop}
-use Rattle.std.specs.Prelude.{filter, slice_get}
-use Rattle.std.specs.List.{count_by}
+use Rattle.std.proofs.Common.{◌≡◌, ℕ, zero, suc, ◌+◌, ◌≤◌, ◌==◌, Bool, true, false, cond, List, [], ◌∷◌, ◌++◌, length, map, drop, Option, Some, refl, sym, ap, subst, ◌∙◌, arith, append_assoc, append-nil, length-append, length-drop}
+use Rattle.std.specs.Prelude.{slice_get}
 use Rattle.std.proofs.lemmas.Bool.{eqb-true}
 use Rattle.std.proofs.lemmas.List.{drop-append-le, map-append}
-use Rattle.std.proofs.lemmas.List.Concat.{flat_map-append}
 use Rattle.std.proofs.lemmas.List.Elements.{filter-append}
 use Rattle.std.proofs.lemmas.List.Sums.{sum_by-append}
 use Rattle.rdm_params.specs.Slow.Work.{worker_of}
@@ -12,7 +10,6 @@ use Rattle.rdm_outbox.specs.declared.job.Job.{Job}
 use Rattle.rdm_outbox.specs.Account as outbox
 use Rattle.rdm_outbox.specs.Jobs.{jobs_of, ended_of, outstanding_of}
 use Rattle.rdm_responder.specs.declared.report.Report.{Report}
-use Rattle.rdm_responder.specs.Lawful.{MayArrive}
 use Rattle.rdm_responder.specs.Runs.{outbox_of}
 use Rattle.rdm_params.specs.declared.slow.message.Message.{Message}
 use Rattle.rdm_bus.specs.declared.event.Event.{Event}
@@ -23,8 +20,7 @@ use Rattle.rdm_bus.specs.declared.fault.Fault.{Fault}
 use Rattle.rdm_bus.specs.declared.transaction.Heard.{Heard}
 use Rattle.rdm_bus.specs.BusRun.{Start, IsPlayed, after, after_all, IsBusRun}
 use Rattle.rdm_bus.specs.Happened.{started_in, arrived_in, jobs_in, reports_in, reports_of}
-use Rattle.rdm_bus.specs.Headline.{IsInOrder}
-use Rattle.rdm_bus.proofs.Accounts.{Grows, workers_of, happens}
+use Rattle.rdm_bus.proofs.Accounts.{Grows, happens}
 
 -- no more of a worker's jobs have ended than were accepted
 abbrev pub EndsWithin : ℕ → outbox.Account → Type 0

@@ -38,7 +38,7 @@ use Rattle.rdm_responder.specs.History as history
 use Rattle.rdm_responder.specs.History.{History, Event, then_event}
 use Rattle.rdm_responder.specs.Requests.{Request, Ignored, Branch, Muting, Get, Set, request_of, request_in, discovery_of}
 use Rattle.rdm_responder.specs.Rules.{Account, Response, ack_message, account_of, account_before, account_after, account_with, after_message, after_outcome, outbox_after, answer_to, answer_with, reply_with, message_count}
-use Rattle.rdm_responder.specs.Runs.{IsArrival, outbox_of}
+use Rattle.rdm_responder.specs.Runs.{IsArrival, IsChange, outbox_of}
 use Rattle.rdm_bus.specs.Answers.{message_of}
 use Rattle.rdm_bus.specs.BusLaws.{carried, queue_of}
 use Rattle.rdm_bus.specs.Polling as polling
@@ -224,6 +224,19 @@ changing_by h change None e = Stays (changed_to h change ∙ ap (λ (o : Option 
 
 pub value_changed : (h : History) (change : Change) → Changing h change
 value_changed h change = changing_by h change (change_message (account_of h).parameters change) refl
+
+-- the queue after a change whose message, if there is one, is this
+abbrev after_told : History → Option Message → polling.Queue
+after_told h None = queue_of h
+after_told h (Some m) = polling.after (queue_of h) (Arrived (carried m))
+
+posted_is : (h : History) (message : Option Message) → queue_at (after_message (outbox_of h) message) ≡ after_told h message
+posted_is h None = refl
+posted_is h (Some m) = arrived_is (outbox_of h) (after_post (outbox_of h) m) m refl refl refl
+
+pub change_told : (h : History) (change : Change) (message : Option Message) → IsChange h change message → queue_of (then_event h (history.Changed change)) ≡ after_told h message
+change_told h change message is =
+    changed_to h change ∙ ap (λ (o : Option Message). queue_at (after_message (outbox_of h) o)) (sym is.message_is) ∙ posted_is h message
 
 -- ---- a poll
 

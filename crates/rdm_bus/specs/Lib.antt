@@ -9,4 +9,6 @@ pub mod BusRun
 pub mod BusLaws
 pub mod Happened
 pub mod Headline
+pub mod Messages
+pub mod Numbering
 pub mod Systems

@@ -5,6 +5,8 @@ ghost use Rattle.rdm_bus.specs.Devices.{dequeues_again, forgets_empty_status, Br
 ghost use Rattle.rdm_bus.specs.Faults.{AlteredIsNoFrame};
 ghost use Rattle.rdm_bus.specs.BusLaws.{BusLawsHold};
 ghost use Rattle.rdm_bus.specs.Headline.{HeadlineHolds, TwiceIsRuledOut, LaterFirstIsRuledOut, AnsweringTheUnheardIsRuledOut, AfterTheCloseIsRuledOut, SkippingIsRuledOut, RecordingNothingIsRuledOut};
+ghost use Rattle.rdm_bus.specs.Messages.{KeepingHolds};
+ghost use Rattle.rdm_bus.specs.Numbering.{NumberingHolds, PollingInTurnHolds, JobsAreNumbered};
 ghost use Rattle.rdm_bus.specs.Polling.{LawsHold};
 ghost use Rattle.rdm_bus.specs.Recording.{JoinsFromTheFront, SkippingIsRefused, RecordingNothingIsRefused, RepeatingAnOlderOneIsRefused};
 
@@ -52,6 +54,33 @@ pub fn headline_holds()
     ensures { HeadlineHolds }
 {
     bus_recording_laws_hold();
+}
+
+/// The n-th transaction of every run has the first number plus n, modulo 256 (E1.20 section 6.2.5).
+#[tactic(auto, using(crate::proofs::Numbering::numbers))]
+pub fn transactions_are_numbered()
+    ensures { NumberingHolds }
+{}
+
+/// A poll asks for the wanted status type exactly where the last poll before it was heard as a message, and else for the last
+/// message again (E1.20 section 10.3.1).
+#[tactic(auto, using(crate::proofs::Numbering::polls))]
+pub fn polls_ask_in_turn()
+    ensures { PollingInTurnHolds }
+{}
+
+/// The k-th job of a worker that a device accepts has the number k, after whatever has happened to it.
+#[tactic(auto, using(crate::proofs::Numbering::jobs))]
+pub fn jobs_are_numbered()
+    ensures { JobsAreNumbered }
+{}
+
+/// In every run what a device gave from its queue, followed by what waits, is what waited at first, followed by what entered
+/// since: each message is given once, in order of arrival (E1.20 section 10.3.1).
+pub fn messages_are_kept()
+    ensures { KeepingHolds }
+{
+    two_commands_fetch();
 }
 
 /// What the headline rules out: devices that let a result into the queue twice, a later one of a worker first, or one after
