@@ -13,10 +13,10 @@ use Rattle.rdm_device.specs.declared.value.Value.{Value}
 use Rattle.rdm_device.specs.declared.value.Value.TheVariants.{Byte}
 use Rattle.rdm_params.specs.Commands.Commands.{command_of, carried_out, is_all_call}
 use Rattle.rdm_params.specs.Commands.Panel.{after_change, can_change, changed_pid, changed_value}
-use Rattle.rdm_params.specs.Laws.{keys_written, keys_committed, device_committed, SameAt, IsSameBut, CommitChangesItsKey, CommitChangesItsKeys, ReadingChangesItsSensor, CommitLeavesTheRest, FailedChangesNothing, PanelChangesItsKey, PanelLeavesTheRest}
+use Rattle.rdm_params.specs.Laws.{keys_written, keys_committed, SameAt, IsSameBut, CommitChangesItsKey, CommitChangesItsKeys, ReadingChangesItsSensor, CommitLeavesTheRest, FailedChangesNothing, PanelChangesItsKey, PanelLeavesTheRest}
 use Rattle.rdm_params.specs.Slow.Commit.{after_commit}
-use Rattle.rdm_params.specs.Slow.Outcome.{fits, ends}
-use Rattle.rdm_device.specs.Device.Map.{Entry, has_key, lookup, update}
+use Rattle.rdm_params.specs.Slow.Outcome.{ends}
+use Rattle.rdm_device.specs.Device.Map.{Entry, lookup, update}
 use Rattle.rdm_device.specs.Device.Measuring.{measured, measured_by}
 use Rattle.rdm_device.specs.Device.Parameters.{Parameters}
 use Rattle.rdm_params.specs.Table.Rows.{Row, table, row_of, row_in, command_in}
