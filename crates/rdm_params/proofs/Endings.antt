@@ -1,6 +1,7 @@
 -- The end of a job and a change at the fixture's own menu change no value but at their keys.
 use Rattle.std.proofs.Common.{◌≡◌, ◌≢◌, ℕ, ℤ, ◌==◌, ◌&&◌, Bool, true, false, cond, List, [], ◌∷◌, Option, Some, None, refl, sym, subst, ◌∙◌}
-use Rattle.std.specs.List.{list_any, AllByRecursion}
+use Rattle.std.specs.Prelude.{not, ◌||◌}
+use Rattle.std.specs.List.{list_all, list_any, AllByRecursion}
 use Rattle.std.proofs.lemmas.Bool.{eqb-true, ne_eqb}
 use Rattle.rdm_params.specs.declared.kind.Verb.{Verb}
 use Rattle.rdm_params.specs.declared.kind.Verb.TheVariants.{Get, Set}
@@ -89,14 +90,49 @@ failed_changes_nothing p w severity id v1 v2 = refl
 abbrev SlowFacts : Row → Type 0
 SlowFacts r = (is_slow (command_in (Some r) Get) ≡ true → r.pid ≡ 0x0201) × (is_slow (command_in (Some r) Set) ≡ true → keys_written r.pid ≡ r.pid ∷ [])
 
--- a row with no slow command
-quick : (pid : ℕ) → (false ≡ true → pid ≡ 0x0201) × (false ≡ true → keys_written pid ≡ pid ∷ [])
-quick pid = (λ e. absurd cc, λ e. absurd cc)
+both_true : (a b : Bool) → (a && b) ≡ true → (a ≡ true) × (b ≡ true)
+both_true true true h = (refl, refl)
+both_true true false h = absurd cc
+both_true false b h = absurd cc
+
+-- the same as a test
+abbrev passes : Row → Bool
+passes r =
+    (not (is_slow (command_in (Some r) Get)) || (r.pid == 0x0201))
+    && (not (is_slow (command_in (Some r) Set)) || (not (r.pid == 0x0090) && not (r.pid == 0x0202)))
+
+slow_or : (slow b : Bool) → (not slow || b) ≡ true → slow ≡ true → b ≡ true
+slow_or true b e slow = e
+slow_or false b e slow = absurd cc
+
+is_not : (b : Bool) → not b ≡ true → b ≡ false
+is_not true e = absurd cc
+is_not false e = refl
+
+own_key : (pid : ℕ) → (not (pid == 0x0090) && not (pid == 0x0202)) ≡ true → keys_written pid ≡ pid ∷ []
+own_key pid e =
+    let both = both_true (not (pid == 0x0090)) (not (pid == 0x0202)) e in
+    rw (is_not (pid == 0x0090) both.0, is_not (pid == 0x0202) both.1) refl
+
+row_says : (r : Row) → passes r ≡ true → SlowFacts r
+row_says r e =
+    let both = both_true (not (is_slow (command_in (Some r) Get)) || (r.pid == 0x0201)) (not (is_slow (command_in (Some r) Set)) || (not (r.pid == 0x0090) && not (r.pid == 0x0202))) e in (
+      λ slow. eqb-true r.pid 0x0201 (slow_or (is_slow (command_in (Some r) Get)) (r.pid == 0x0201) both.0 slow),
+      λ slow. own_key r.pid (slow_or (is_slow (command_in (Some r) Set)) (not (r.pid == 0x0090) && not (r.pid == 0x0202)) both.1 slow),
+    )
+
+all_say : (rows : List Row) → list_all passes rows ≡ true → AllByRecursion SlowFacts rows
+all_say [] e = tt
+all_say (r ∷ rows) e =
+    let both = both_true (passes r) (list_all passes rows) e in
+    (row_says r both.0, all_say rows both.1)
+
+rows_pass : list_all passes table ≡ true
+unfolding table
+rows_pass = refl
 
 rows_say : AllByRecursion SlowFacts table
-unfolding table
-rows_say =
-    (quick 0x0020, (quick 0x0030, (quick 0x0031, (quick 0x0032, (quick 0x0033, (quick 0x0050, (quick 0x0060, (quick 0x0080, (quick 0x0081, (quick 0x0082, (quick 0x0090, (quick 0x00A0, (quick 0x00B0, (quick 0x00C0, (quick 0x00C1, (quick 0x00C2, (quick 0x00E0, (quick 0x00E1, (quick 0x00F0, (quick 0x0120, (quick 0x0121, (quick 0x0122, (quick 0x0200, ((λ e. refl, λ e. absurd cc), (quick 0x0202, (quick 0x0400, (quick 0x0401, (quick 0x0402, ((λ e. absurd cc, λ e. refl), (quick 0x0404, (quick 0x0405, (quick 0x0500, (quick 0x0501, (quick 0x0600, (quick 0x0601, (quick 0x0602, (quick 0x1000, ((λ e. absurd cc, λ e. refl), ((λ e. absurd cc, λ e. refl), (quick 0x1021, (quick 0x1031, tt)))))))))))))))))))))))))))))))))))))))))
+rows_say = all_say table rows_pass
 
 of_row : (pid : ℕ) (row : Option Row) → row_in table pid ≡ row → (is_slow (command_in row Get) ≡ true → pid ≡ 0x0201) × (is_slow (command_in row Set) ≡ true → keys_written pid ≡ pid ∷ [])
 of_row pid None e = (λ slow. absurd cc, λ slow. absurd cc)
@@ -107,11 +143,6 @@ of_row pid (Some r) e =
 slow_says : (pid : ℕ) → (is_slow (command_of pid Get) ≡ true → pid ≡ 0x0201) × (is_slow (command_of pid Set) ≡ true → keys_written pid ≡ pid ∷ [])
 unfolding row_of
 slow_says pid = of_row pid (row_in table pid) refl
-
-both_true : (a b : Bool) → (a && b) ≡ true → (a ≡ true) × (b ≡ true)
-both_true true true h = (refl, refl)
-both_true true false h = absurd cc
-both_true false b h = absurd cc
 
 one_key : (pid key : ℕ) (pids : List ℕ) → pids ≡ pid ∷ [] → key ≢ pid → list_any (λ k. k == key) pids ≡ false
 one_key pid key pids e apart = rw (e, ne_eqb pid key (λ (at : pid ≡ key). apart (sym at))) refl
