@@ -14,7 +14,7 @@ use Rattle.rdm_bus.specs.Systems.{Played}
 use Rattle.rdm_lane.specs.declared.taken.Taken.{Taken}
 use Rattle.rdm_lane.specs.declared.taken.Taken.TheVariants.{Item}
 use Rattle.rdm_lane.specs.Ends.{PostState, TakeState, IsOver}
-use Rattle.rdm_lane.specs.Lane.{IsPrefix, LaneLaw, items_of, items_from}
+use Rattle.rdm_lane.specs.Lane.{IsPrefix, LaneLaw, has_mark, items_of, items_from}
 use Rattle.rdm_lane.specs.Settling.{HasLists}
 use Rattle.rdm_lane.proofs.ThreeSentences.{takes_a_prefix, whole_at_its_mark}
 use Rattle.rdm_crew.specs.declared.desk.Desk.{Desk}
@@ -23,6 +23,7 @@ use Rattle.rdm_crew.specs.Closes.{handed_by, IsHandedOver}
 use Rattle.rdm_crew.specs.Crews.{HasJobs}
 use Rattle.rdm_crew.specs.Desks.{stands_at, OfTwo, IsDrawn, IsSuspect}
 use Rattle.rdm_bus.specs.Happened.{jobs_in, reports_in, reports_of}
+use Rattle.rdm_crew.specs.Law.{FourLists}
 use Rattle.rdm_crew.specs.RunTrace.{IsAnswered, FitsFor}
 use Rattle.rdm_crew.specs.Settling.{IsTakenOf, IsSettled, IsLaneOfOne, IsLaneOfReports, AreLanes}
 use Rattle.rdm_crew.specs.Workers.{Answers, IsWorked}
@@ -53,15 +54,24 @@ module _ (p : ℕ) (gives : Job → Outcome → Type 0) (t : TakeState Job) (q :
   on_own accepted front more has parts =
       reports_on gives p accepted (items_from 0 w.jobs.taken) took_front.0 w.reports.items (items_from p front) (items_from p more ++ drawn_front.0) worked.answers (took_front.1 ∙ has) (front_parts front more parts)
 
+  -- its four lists are those of the law
+  pub four_lists : FourLists gives post.items (items_from 0 w.jobs.taken) w.reports.items (items_from p reports.taken) (has_mark 0 w.jobs.taken) (has_mark p reports.taken) w.refused
+  four_lists = record {
+    took = took_front;
+    took_all = whole_at_its_mark 0 w.jobs.taken post.items settled.took;
+    answers = worked.answers;
+    save_one = worked.save_one;
+    each = λ not_refused. (worked.all not_refused).1;
+    drew = drawn_front;
+    drew_all = whole_at_its_mark p reports.taken w.reports.items settled.sent;
+  }
+
   -- one report on each job, where memory wasn't refused and all reports were taken
   pub all_answered : t.posts ≡ 1 → p < reports.posts → IsOver reports → w.refused ≡ false → Answers gives post.items (items_from p reports.taken) × (length post.items ≡ length (items_from p reports.taken))
   all_answered one below over not_refused =
-      let ended = worked.all not_refused in
       let posts : w.jobs.posts ≡ 1 = worked.take.1 ∙ one in
-      none_missing gives post.items (items_from 0 w.jobs.taken) w.reports.items (items_from p reports.taken) worked.answers
-      (whole_at_its_mark 0 w.jobs.taken post.items settled.took (ended.0 0 (omega arith)))
-      (whole_at_its_mark p reports.taken w.reports.items settled.sent (over p below))
-      ended.1
+      none_missing gives post.items (items_from 0 w.jobs.taken) w.reports.items (items_from p reports.taken) (has_mark 0 w.jobs.taken) (has_mark p reports.taken) w.refused four_lists
+      ((worked.all not_refused).0 0 (omega arith)) (over p below) not_refused
 
   -- a report that was taken is on the job after those that were reported on before it
   pub next_is : (n : ℕ) (r : Report) (before after : List (Taken Report)) → reports.taken ≡ before ++ Item p n r ∷ after → (slice_get post.items (length (items_from p before)) ≡ Some r.job) × gives r.job r.outcome

@@ -1,19 +1,22 @@
 //! Laws of a worker's four lists, over all lists, and of `==`. Each is the contract of a call that does nothing.
 
 ghost use Rattle.std.specs.Prelude.{◌≡◌, ◌↔◌, IsTrue};
-ghost use Rattle.rdm_crew.specs.Law.{NoneAstray, NoneMissing};
+ghost use Rattle.rdm_crew.specs.Law.{NoneAstray, EachIsOnItsJob, NoneMissing, OneMissingAtMost};
 
 use crate::{Part, RunError};
 
 /// The next report that is drawn of a worker is on its oldest job that isn't reported on yet, and its outcome is one that
-/// the part gives for the job.
+/// the part gives for the job. So the n-th that was drawn is on the n-th job that was put.
 pub fn no_report_goes_astray<P: Part>()
-    ensures { (part : P) → NoneAstray (P.gives part) }
+    ensures next { (part : P) → NoneAstray (P.gives part) }
+    ensures each { (part : P) → EachIsOnItsJob (P.gives part) }
 {}
 
-/// Where a worker took all its jobs and reported on each, and all its reports were drawn, these are one on each job.
+/// Where the marks of both lanes were taken, the reports of a worker that were drawn are one on each job that was put for it,
+/// save perhaps on the last one, and that only where its memory was refused.
 pub fn no_report_is_missing<P: Part>()
-    ensures { (part : P) → NoneMissing (P.gives part) }
+    ensures none { (part : P) → NoneMissing (P.gives part) }
+    ensures one { (part : P) → OneMissingAtMost (P.gives part) }
 {}
 
 /// Two reasons why there is no trace are equal by `==` exactly where they are the same.

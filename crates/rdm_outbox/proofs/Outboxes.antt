@@ -89,11 +89,11 @@ shows_first s a ask m h is_first =
     })
 
 -- jobs that have ended
-ended_sum : (worker w : ℕ) (ws : List ℕ) → ended_of worker (ws ++ w ∷ []) ≡ ended_of worker ws + ended_of worker (w ∷ [])
+pub ended_sum : (worker w : ℕ) (ws : List ℕ) → ended_of worker (ws ++ w ∷ []) ≡ ended_of worker ws + ended_of worker (w ∷ [])
 ended_sum worker w ws = sum_by-append (λ (x : ℕ). cond (x == worker) 1 0) ws (w ∷ [])
 
 -- where a job is outstanding, fewer have ended than there are
-within_more : (n : ℕ) (js : List Job) → 0 < length (drop n js) → n + 1 ≤ length js
+pub within_more : (n : ℕ) (js : List Job) → 0 < length (drop n js) → n + 1 ≤ length js
 within_more n js some =
     let left : 0 < length js - n = rw (← length-drop n js) some in
     omega (arith, left)

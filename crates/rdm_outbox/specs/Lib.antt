@@ -1,5 +1,6 @@
 pub mod Account
 pub mod Jobs
+pub mod Laws
 pub mod Memory
 pub mod Messages
 pub mod Shows

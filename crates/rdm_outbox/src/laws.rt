@@ -1,8 +1,19 @@
-//! Laws of `==`, by which tests compare. Each is the contract of a call that does nothing.
+//! Laws of status entries, and of `==`, by which tests compare. Each is the contract of a call that does nothing.
 
 ghost use Rattle.std.specs.Prelude.{◌≡◌, ◌↔◌, IsTrue};
+ghost use Rattle.rdm_outbox.specs.Laws.{ShowMarksTheFirst, ShowOnlyMarks, SendsWhatItMarks, NoneIsSentTwice};
 
 use crate::{Dispensed, Full, Job, NewError};
+
+/// What a status message marks as shown are the first entries that are asked for and weren't shown, in order, and those are
+/// what it sends. All other entries stay as they were, and none is sent twice, whatever is noted, asked for and cleared
+/// (E1.20 section 10.3.2).
+pub fn status_messages_mark_what_they_send()
+    ensures marks { ShowMarksTheFirst }
+    ensures rest { ShowOnlyMarks }
+    ensures sends { SendsWhatItMarks }
+    ensures once { NoneIsSentTwice }
+{}
 
 /// Two jobs are equal by `==` exactly where their numbers and their works are.
 pub fn jobs_are_equal_by_value()

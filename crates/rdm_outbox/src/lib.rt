@@ -19,6 +19,6 @@ pub use error::NewError;
 pub use job::{Full, Job};
 pub use laws::{
     dispensed_are_equal_by_value, jobs_are_equal_by_value, new_errors_are_equal_by_value,
-    refusals_are_equal_by_value,
+    refusals_are_equal_by_value, status_messages_mark_what_they_send,
 };
 pub use outbox::{MOST_WAITING, Outbox};

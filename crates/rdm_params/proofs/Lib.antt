@@ -1,3 +1,4 @@
+pub mod Endings
 pub mod Fetches
 pub mod OtherDevices
 pub mod OtherForms

@@ -28,10 +28,10 @@ place_apart : (sub k : ℕ) → sub ≢ 0 → sub ≢ suc k → sub - 1 ≢ k
 place_apart zero k n apart same = absurd (n refl)
 place_apart (suc i) k n apart same = apart (omega (arith, same))
 
-unchanged : (p : Parameters) (sub : ℕ) → IsSameBut sub p p
+pub unchanged : (p : Parameters) (sub : ℕ) → IsSameBut sub p p
 unchanged p sub = record { profile = refl; count = refl; root = λ n. refl; subs = λ k n m. refl }
 
-carried : (p : Parameters) (sub pid : ℕ) (v : Value) (at_root all : Bool) → (sub == 0) ≡ at_root → (sub == 0xFFFF) ≡ all → IsSameBut sub p (cond at_root (record p { root = written (command_of pid Set) v (root_spot p) }) (cond all (record p { subs = map (λ entries. written (command_of pid Set) v (sub_spot p entries)) p.subs }) (record p { subs = slice_set p.subs (sub - 1) (written (command_of pid Set) v (sub_spot p (slice_index_or p.subs (sub - 1) []))) })))
+pub carried : (p : Parameters) (sub pid : ℕ) (v : Value) (at_root all : Bool) → (sub == 0) ≡ at_root → (sub == 0xFFFF) ≡ all → IsSameBut sub p (cond at_root (record p { root = written (command_of pid Set) v (root_spot p) }) (cond all (record p { subs = map (λ entries. written (command_of pid Set) v (sub_spot p entries)) p.subs }) (record p { subs = slice_set p.subs (sub - 1) (written (command_of pid Set) v (sub_spot p (slice_index_or p.subs (sub - 1) []))) })))
 carried p sub pid v true all e f =
     record { profile = refl; count = refl; root = λ n. absurd (n (eqb-true sub 0 e)); subs = λ k n m. refl }
 carried p sub pid v false true e f =

@@ -27,32 +27,32 @@ both_true true false h = absurd cc
 both_true false b h = absurd cc
 
 -- an entry of this PID keeps its bytes
-abbrev Keeps : ℕ → (Entry → List ℕ) → Type 0
+abbrev pub Keeps : ℕ → (Entry → List ℕ) → Type 0
 Keeps key f = (e : Entry) → e.pid ≡ key → f e ≡ e.bytes
 
 kept_at : (key index : ℕ) (f : Entry → List ℕ) (e : Entry) (rest rest' : List ℕ) → Keeps key f → rest' ≡ rest → (here : Bool) → has_key key index e ≡ here → cond here (f e) rest' ≡ cond here e.bytes rest
 kept_at key index f e rest rest' keeps r true h = keeps e (eqb-true e.pid key (both_true (e.pid == key) (e.index == index) h).0)
 kept_at key index f e rest rest' keeps r false h = r
 
-lookup-update : (key index : ℕ) (f : Entry → List ℕ) (es : List Entry) → Keeps key f → lookup (update f es) key index ≡ lookup es key index
+pub lookup-update : (key index : ℕ) (f : Entry → List ℕ) (es : List Entry) → Keeps key f → lookup (update f es) key index ≡ lookup es key index
 lookup-update key index f [] keeps = refl
 lookup-update key index f (e ∷ es) keeps = kept_at key index f e (lookup es key index) (lookup (update f es) key index) keeps (lookup-update key index f es keeps) (has_key key index e) refl
 
 -- ---- what the rows change
 
-abbrev IsApart : ℕ → ℕ → Type 0
+abbrev pub IsApart : ℕ → ℕ → Type 0
 IsApart pid key = list_any (λ k. k == key) (keys_written pid) ≡ false
 
 -- the SET of a row writes its own keys
 abbrev OnlyItsKeys : Row → Type 0
 OnlyItsKeys r = (spot : Spot) (v : Value) (key : ℕ) → IsApart r.pid key → Keeps key (change (command_in (Some r) Set) spot v)
 
-not_either : (a b : Bool) → (a || b) ≡ false → (a ≡ false) × (b ≡ false)
+pub not_either : (a b : Bool) → (a || b) ≡ false → (a ≡ false) × (b ≡ false)
 not_either true b h = absurd cc
 not_either false b h = (refl, h)
 
 -- a key that isn't this PID
-apart_test : (pid key n : ℕ) → (pid == key) ≡ false → n ≡ key → (n == pid) ≡ false
+pub apart_test : (pid key n : ℕ) → (pid == key) ≡ false → n ≡ key → (n == pid) ≡ false
 apart_test pid key n apart e = ne_eqb n pid (λ (same : n ≡ pid). eqb-false pid key apart (sym same ∙ e))
 
 no_change : (a b c : Bool) (x y : List ℕ) → a ≡ false → cond ((a && b) && c) x y ≡ y
@@ -116,7 +116,7 @@ set_keeps key index (es ∷ subs) zero new same (suc k) = refl
 set_keeps key index (es ∷ subs) (suc i) new same zero = refl
 set_keeps key index (es ∷ subs) (suc i) new same (suc k) = set_keeps key index subs i new same k
 
-carried_keeps : (p : Parameters) (sub pid : ℕ) (v : Value) (key index : ℕ) → IsApart pid key → (at_root all : Bool) → SameAt key index p (cond at_root (record p { root = written (command_of pid Set) v (root_spot p) }) (cond all (record p { subs = map (λ entries. written (command_of pid Set) v (sub_spot p entries)) p.subs }) (record p { subs = slice_set p.subs (sub - 1) (written (command_of pid Set) v (sub_spot p (slice_index_or p.subs (sub - 1) []))) })))
+pub carried_keeps : (p : Parameters) (sub pid : ℕ) (v : Value) (key index : ℕ) → IsApart pid key → (at_root all : Bool) → SameAt key index p (cond at_root (record p { root = written (command_of pid Set) v (root_spot p) }) (cond all (record p { subs = map (λ entries. written (command_of pid Set) v (sub_spot p entries)) p.subs }) (record p { subs = slice_set p.subs (sub - 1) (written (command_of pid Set) v (sub_spot p (slice_index_or p.subs (sub - 1) []))) })))
 carried_keeps p sub pid v key index apart true all = record { root = written_keeps pid v (root_spot p) key index apart; subs = λ k. refl }
 carried_keeps p sub pid v key index apart false true = record { root = refl; subs = map_keeps (λ entries. written (command_of pid Set) v (sub_spot p entries)) key index (λ entries. written_keeps pid v (sub_spot p entries) key index apart) p.subs }
 carried_keeps p sub pid v key index apart false false = record { root = refl; subs = set_keeps key index p.subs (sub - 1) _ (written_keeps pid v (sub_spot p (slice_index_or p.subs (sub - 1) [])) key index apart) }

@@ -1,10 +1,18 @@
 -- Laws of the table, for every value, command and device.
-use Rattle.std.specs.Prelude.{◌≡◌, ◌≢◌, ℕ, suc, ◌^◌, ◌<◌, ◌≤◌, ◌==◌, false, List, [], ◌∷◌, length, Option, Some, None, Ok, IsTrue, slice_index_or, if◌then◌else◌}
+use Rattle.std.specs.Prelude.{◌≡◌, ◌≢◌, ℕ, ℤ, suc, ◌^◌, ◌<◌, ◌≤◌, ◌==◌, false, List, [], ◌∷◌, length, Option, Some, None, Ok, IsTrue, true, slice_index_or, if◌then◌else◌}
 use Rattle.std.specs.List.{list_any}
 use Rattle.rdm_params.specs.declared.kind.Verb.{Verb}
 use Rattle.rdm_device.specs.declared.value.Value.{Value}
 use Rattle.rdm_device.specs.declared.value.Value.TheVariants.{Byte, Word, Long, Preset, Label}
+use Rattle.rdm_params.specs.declared.panel.Change.{Change}
+use Rattle.rdm_params.specs.declared.slow.outcome.Outcome.{Outcome}
+use Rattle.rdm_params.specs.declared.slow.outcome.Outcome.TheVariants.{Done, Reading, Failed}
+use Rattle.rdm_params.specs.declared.slow.status.Severity.{Severity}
+use Rattle.rdm_params.specs.declared.slow.work.Work.{Work}
 use Rattle.rdm_params.specs.Commands.Commands.{command_of, after_set}
+use Rattle.rdm_params.specs.Commands.Panel.{changed_pid, after_change}
+use Rattle.rdm_params.specs.Slow.Commit.{after_commit}
+use Rattle.rdm_params.specs.Slow.Outcome.{fits}
 use Rattle.rdm_device.specs.Columns.Forms.{has_form}
 use Rattle.rdm_device.specs.Device.Map.{lookup}
 use Rattle.rdm_device.specs.Device.Parameters.{Parameters}
@@ -60,3 +68,50 @@ pub record IsSameBut (sub : ℕ) (old new : Parameters) : Type 0 where
 -- A SET changes nothing but the values of the devices that it addresses.
 abbrev pub LeavesTheRest : Type 0
 LeavesTheRest = (p : Parameters) (sub pid : ℕ) (bytes : List ℕ) → IsSameBut sub p (after_set p sub pid bytes)
+
+-- The end of a job changes no value but at the key of its own parameter, at any device, where the outcome is one that such
+-- a job can have.
+abbrev pub CommitChangesItsKey : Type 0
+CommitChangesItsKey =
+    (p : Parameters) (w : Work) (outcome : Outcome) (key index : ℕ)
+    → fits w outcome ≡ true → key ≢ w.pid → SameAt key index p (after_commit p w outcome)
+
+-- The PIDs of the keys that the end of a job may write, whichever outcome is handed in: those that the SET may write, that
+-- of the sensors' values, or none.
+abbrev pub keys_committed : Work → Outcome → List ℕ
+keys_committed w Done = keys_written w.pid
+keys_committed w (Reading v) = 0x0201 ∷ []
+keys_committed w (Failed severity id v1 v2) = []
+
+-- The end of a job changes no value but at these keys, whichever outcome is handed in.
+abbrev pub CommitChangesItsKeys : Type 0
+CommitChangesItsKeys =
+    (p : Parameters) (w : Work) (outcome : Outcome) (key index : ℕ)
+    → list_any (λ k. k == key) (keys_committed w outcome) ≡ false → SameAt key index p (after_commit p w outcome)
+
+-- A reading changes no value of another sensor.
+abbrev pub ReadingChangesItsSensor : Type 0
+ReadingChangesItsSensor =
+    (p : Parameters) (w : Work) (v : ℤ) (key index : ℕ) → index ≢ w.arg → SameAt key index p (after_commit p w (Reading v))
+
+-- the device whose values the end of a job may change: that of the SET, and the root, which alone has sensors
+abbrev pub device_committed : Work → Outcome → ℕ
+device_committed w Done = w.sub
+device_committed w _ = 0
+
+-- The end of a job changes nothing but the values of that device; a job that failed changes nothing.
+abbrev pub CommitLeavesTheRest : Type 0
+CommitLeavesTheRest =
+    (p : Parameters) (w : Work) (outcome : Outcome) → IsSameBut (device_committed w outcome) p (after_commit p w outcome)
+
+abbrev pub FailedChangesNothing : Type 0
+FailedChangesNothing =
+    (p : Parameters) (w : Work) (severity : Severity) (id v1 v2 : ℕ) → after_commit p w (Failed severity id v1 v2) ≡ p
+
+-- A change at the fixture's own menu changes no value but at the key of its parameter, and nothing but the root's values.
+abbrev pub PanelChangesItsKey : Type 0
+PanelChangesItsKey =
+    (p : Parameters) (change : Change) (key index : ℕ) → key ≢ changed_pid change → SameAt key index p (after_change p change)
+
+abbrev pub PanelLeavesTheRest : Type 0
+PanelLeavesTheRest = (p : Parameters) (change : Change) → IsSameBut 0 p (after_change p change)

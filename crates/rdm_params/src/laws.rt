@@ -1,7 +1,9 @@
 //! Laws of the table, over every value, command and device. Each is the contract of a call that does nothing.
 
 ghost use Rattle.std.specs.Prelude.{◌≡◌, ◌↔◌, ℕ, List, IsTrue};
-ghost use Rattle.rdm_params.specs.Laws.{ReadsBack, ChangesItsKeys, LeavesTheRest};
+ghost use Rattle.rdm_params.specs.Laws.{ReadsBack, ChangesItsKeys, LeavesTheRest, PanelChangesItsKey, PanelLeavesTheRest};
+ghost use Rattle.rdm_params.specs.Laws.{CommitChangesItsKey, CommitChangesItsKeys, ReadingChangesItsSensor};
+ghost use Rattle.rdm_params.specs.Laws.{CommitLeavesTheRest, FailedChangesNothing};
 
 use crate::{
     Answer, Ask, Change, Entry, Kind, Message, Nack, NewError, Outcome, Plate, Severity, Verb,
@@ -17,6 +19,23 @@ pub fn written_value_is_read_back()
 pub fn set_changes_its_own_keys()
     ensures keys { ChangesItsKeys }
     ensures rest { LeavesTheRest }
+{}
+
+/// The end of a job changes no value but at the key of its own parameter, and a reading none but its own sensor's; a job
+/// that failed changes nothing. Whichever outcome is handed in, no other keys change than those of the SET or of a reading,
+/// and only at the devices that the job is for.
+pub fn commit_changes_its_own_keys()
+    ensures key { CommitChangesItsKey }
+    ensures keys { CommitChangesItsKeys }
+    ensures sensor { ReadingChangesItsSensor }
+    ensures rest { CommitLeavesTheRest }
+    ensures failed { FailedChangesNothing }
+{}
+
+/// A change at the fixture's own menu changes no value but that of its parameter, at the root.
+pub fn panel_changes_its_own_key()
+    ensures key { PanelChangesItsKey }
+    ensures rest { PanelLeavesTheRest }
 {}
 
 /// Two values of `Work` are equal by `==` exactly where they are the same.

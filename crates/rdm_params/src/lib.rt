@@ -19,11 +19,11 @@ pub use commands::{Devices, NewError};
 pub use kind::{Kind, Verb, kind_of};
 pub use laws::{
     answers_are_equal_by_value, asks_are_equal_by_value, changes_are_equal_by_value,
-    entries_are_equal_by_value, kinds_are_equal_by_value, messages_are_equal_by_value,
-    nacks_are_equal_by_value, new_errors_are_equal_by_value, outcomes_are_equal_by_value,
-    plates_are_equal_by_value, set_changes_its_own_keys, severities_are_equal_by_value,
-    verbs_are_equal_by_value, verdicts_are_equal_by_value, works_are_equal_by_value,
-    written_value_is_read_back,
+    commit_changes_its_own_keys, entries_are_equal_by_value, kinds_are_equal_by_value,
+    messages_are_equal_by_value, nacks_are_equal_by_value, new_errors_are_equal_by_value,
+    outcomes_are_equal_by_value, panel_changes_its_own_key, plates_are_equal_by_value,
+    set_changes_its_own_keys, severities_are_equal_by_value, verbs_are_equal_by_value,
+    verdicts_are_equal_by_value, works_are_equal_by_value, written_value_is_read_back,
 };
 pub use nack::Nack;
 pub use panel::{Change, Plate};

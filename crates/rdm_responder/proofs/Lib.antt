@@ -3,3 +3,4 @@ pub mod Arrivals
 pub mod Changes
 pub mod Lawfulness
 pub mod Runs
+pub mod Shown

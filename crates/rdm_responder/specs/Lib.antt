@@ -5,3 +5,4 @@ pub mod Headings
 pub mod Lawful
 pub mod StandsFor
 pub mod Runs
+pub mod Laws

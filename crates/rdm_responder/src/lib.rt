@@ -14,8 +14,8 @@ mod run;
 
 pub use laws::{
     answers_are_equal_by_value, arrivals_are_equal_by_value, astrays_are_equal_by_value,
-    new_errors_are_equal_by_value, no_rooms_are_equal_by_value, outputs_are_equal_by_value,
-    reports_are_equal_by_value,
+    lawful_histories_have_one_state, new_errors_are_equal_by_value, no_rooms_are_equal_by_value,
+    outputs_are_equal_by_value, reports_are_equal_by_value,
 };
 pub use report::{Arrival, Astray, NoRoom, Report};
 pub use responder::{NewError, Responder};

@@ -1,5 +1,8 @@
-use Rattle.rdm_crew.proofs.Law.{none_missing}
+use Rattle.rdm_crew.proofs.Law.{none_missing, one_missing_at_most}
 use Rattle.rdm_crew.proofs.laws.no_report_is_missing.Goals as goal
 
-pub returns : goal.returns
-returns g c part = none_missing (g.P.Part.gives part)
+pub returns-clause-none : goal.returns-clause-none
+returns-clause-none g c part = none_missing (g.P.Part.gives part)
+
+pub returns-clause-one : goal.returns-clause-one
+returns-clause-one g c part = one_missing_at_most (g.P.Part.gives part)
