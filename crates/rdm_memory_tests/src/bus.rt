@@ -123,7 +123,7 @@ const TURNS: [Turn; 6] = [
 pub(crate) fn play(alloc: Global) -> Result<Tally, Fault> {
     let mut tally = Tally::NONE;
     let mut system = system(alloc, &mut tally)?;
-    let reserved = Step::Ask(command(0x0020, &[2])?, Goes::None);
+    let reserved = Step::Ask(command(0x0020, 2), Goes::None);
     for turn in &TURNS {
         let refusal = system.play(&reserved);
         check(
@@ -153,10 +153,9 @@ fn system(alloc: Global, tally: &mut Tally) -> Result<System, Fault> {
     Err(ALWAYS)
 }
 
-/// A command to the root of the device.
-pub(crate) fn command(pid: u16, data: &[u8]) -> Result<Command, Fault> {
-    let load = Load::from_slice(data).ok_or(OTHER)?;
-    Ok(Command {
+/// A command to the root of the device, with one byte of data.
+pub(crate) fn command(pid: u16, value: u8) -> Command {
+    Command {
         dst: DEVICE,
         action: if pid == 0x0020 || pid == 0x0201 {
             Action::Get
@@ -165,14 +164,14 @@ pub(crate) fn command(pid: u16, data: &[u8]) -> Result<Command, Fault> {
         },
         sub: 0,
         pid,
-        load,
-    })
+        load: Load::of(&[value]),
+    }
 }
 
 /// The step that an act is.
 fn step_of(system: &System, act: Act) -> Result<Step, Fault> {
     match act {
-        Act::Lamp => Ok(Step::Ask(command(0x0403, &[1])?, Goes::None)),
+        Act::Lamp => Ok(Step::Ask(command(0x0403, 1), Goes::None)),
         Act::Collect(fault) => Ok(Step::Collect(fault)),
         Act::Done => Ok(Step::Arrive(Report {
             job: first_job(system).ok_or(OTHER)?,

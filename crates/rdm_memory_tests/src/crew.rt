@@ -155,7 +155,7 @@ where
 {
     let mut tally = Tally::NONE;
     let steps = [
-        CrewStep::Ask(command(0x0403, &[1])?, Goes::None),
+        CrewStep::Ask(command(0x0403, 1), Goes::None),
         CrewStep::Settle(PATIENCE),
         CrewStep::Collect(Goes::None),
         CrewStep::Collect(Goes::None),
@@ -180,9 +180,9 @@ where
 {
     let mut tally = Tally::NONE;
     let steps = [
-        CrewStep::Ask(command(0x0403, &[1])?, Goes::None),
-        CrewStep::Ask(command(0x0403, &[0])?, Goes::None),
-        CrewStep::Ask(command(0x0201, &[0])?, Goes::None),
+        CrewStep::Ask(command(0x0403, 1), Goes::None),
+        CrewStep::Ask(command(0x0403, 0), Goes::None),
+        CrewStep::Ask(command(0x0201, 0), Goes::None),
         CrewStep::Settle(PATIENCE),
     ];
     let trace = ended(rt, alloc, &steps, &mut tally)?.ok().ok_or(OTHER)?;
@@ -219,15 +219,15 @@ where
 {
     let mut tally = Tally::NONE;
     let steps = [
-        CrewStep::Ask(command(0x0403, &[1])?, Goes::None),
-        CrewStep::Ask(command(0x0403, &[0])?, Goes::None),
-        CrewStep::Ask(command(0x0403, &[1])?, Goes::None),
-        CrewStep::Ask(command(0x0403, &[0])?, Goes::None),
-        CrewStep::Ask(command(0x0201, &[0])?, Goes::None),
-        CrewStep::Ask(command(0x0201, &[0])?, Goes::None),
-        CrewStep::Ask(command(0x0201, &[0])?, Goes::None),
-        CrewStep::Ask(command(0x0201, &[0])?, Goes::None),
-        CrewStep::Ask(command(0x0020, &[2])?, Goes::None),
+        CrewStep::Ask(command(0x0403, 1), Goes::None),
+        CrewStep::Ask(command(0x0403, 0), Goes::None),
+        CrewStep::Ask(command(0x0403, 1), Goes::None),
+        CrewStep::Ask(command(0x0403, 0), Goes::None),
+        CrewStep::Ask(command(0x0201, 0), Goes::None),
+        CrewStep::Ask(command(0x0201, 0), Goes::None),
+        CrewStep::Ask(command(0x0201, 0), Goes::None),
+        CrewStep::Ask(command(0x0201, 0), Goes::None),
+        CrewStep::Ask(command(0x0020, 2), Goes::None),
     ];
     let answer = ended(rt, alloc, &steps, &mut tally)?;
     check(
@@ -235,7 +235,7 @@ where
         "a command for QUEUED_MESSAGE",
     )?;
     let steps = [
-        CrewStep::Ask(command(0x0403, &[1])?, Goes::None),
+        CrewStep::Ask(command(0x0403, 1), Goes::None),
         CrewStep::Settle(0),
     ];
     let answer = ended(rt, alloc, &steps, &mut tally)?;
