@@ -28,25 +28,16 @@ pub(super) fn plays(
     alloc: Global,
     (subs, queue_size, lines): Run<'_>,
 ) -> Result<(), Fail> {
-    let mut play = Play {
-        responder: responder_with(alloc, subs, queue_size)?,
-        other: responder_with(alloc, subs, queue_size)?,
-        jobs: Vec::new(alloc),
-        told: String::new(alloc),
-    };
+    let mut play = Play::new(alloc, subs, queue_size)?;
     for line in lines.lines() {
-        if let Some(bytes) = line.strip_prefix("send ") {
-            play.tells(line)?;
-            play.hears(rt, alloc, printed(rt, bytes))?;
-        } else if let Some(report) = line.strip_prefix("arrive ") {
-            play.tells(line)?;
-            play.takes(rt, report)?;
-        } else if let Some(change) = line.strip_prefix("change ") {
-            play.tells(line)?;
-            play.changes(rt, change)?;
-        }
+        play.goes_on(rt, alloc, line)?;
     }
-    let told = without_blanks(alloc, &play.told)?;
+    ends_as(rt, alloc, &play.told, lines)
+}
+
+/// The lines that came are those of the run.
+fn ends_as(rt: &impl Abort, alloc: Global, told: &str, lines: &str) -> Result<(), Fail> {
+    let told = without_blanks(alloc, told)?;
     let expected = without_blanks(alloc, lines)?;
     assert_eq!(rt; told.as_str(), expected.as_str(), "{lines}");
     Ok(())
@@ -65,6 +56,33 @@ struct Play {
 }
 
 impl Play {
+    /// A run that begins: nothing was played yet.
+    fn new(alloc: Global, subs: u16, queue_size: u16) -> Result<Play, Fail> {
+        let responder = responder_with(alloc, subs, queue_size)?;
+        Ok(Play {
+            responder,
+            other: responder_with(alloc, subs, queue_size)?,
+            jobs: Vec::new(alloc),
+            told: String::new(alloc),
+        })
+    }
+
+    /// Does what a line says, where it says what is done.
+    fn goes_on(&mut self, rt: &impl Abort, alloc: Global, line: &str) -> Result<(), Fail> {
+        if let Some(bytes) = line.strip_prefix("send ") {
+            self.tells(line)?;
+            self.hears(rt, alloc, printed(rt, bytes))
+        } else if let Some(report) = line.strip_prefix("arrive ") {
+            self.tells(line)?;
+            self.takes(rt, report)
+        } else if let Some(change) = line.strip_prefix("change ") {
+            self.tells(line)?;
+            self.changes(rt, change)
+        } else {
+            Ok(())
+        }
+    }
+
     /// Puts a line at the end.
     fn tells(&mut self, line: &str) -> Result<(), AllocError> {
         self.told.push_str(line)?;

@@ -2,8 +2,11 @@
 
 use super::{CONTROLLER, DEVICE, GET, IDENTIFY_DEVICE, SET, printed, request, responder_with};
 use rdm_frame::{Body, Frame, Wire, encode};
+use rdm_outbox::Job;
 use rdm_params::{Kind, Outcome, Profile, Severity, Verdict};
 use rdm_responder::{Report, Responder};
+use std::alloc::{AllocError, Global};
+use std::process::Abort;
 use std::test::Fail;
 
 const QUEUED_MESSAGE: u16 = 0x0020;
@@ -52,45 +55,69 @@ fn status_reply(tn: u8, count: u8, slots: &[u8]) -> Result<Wire, Fail> {
     }))
 }
 
-#[test]
-fn a_status_message_shows_25_entries_once(rt: HostRuntime) -> Result<(), Fail> {
-    let mut responder = responder_with(rt.alloc(), 0, 27)?;
-    let mut shown = Vec::new(rt.alloc());
+/// The job that starts where a responder hears these bytes.
+fn started(responder: &mut Responder, heard: &Wire) -> Result<Job, Fail> {
+    let (_, job) = responder.step(heard.as_slice());
+    Ok(job.ok_or("a job")?)
+}
+
+/// Reports on a job, which may arrive.
+fn ends(responder: &mut Responder, job: Job, outcome: Outcome) -> Result<(), Fail> {
+    responder.arrive(Report { job, outcome })?;
+    Ok(())
+}
+
+/// A responder hears bytes, gives this reply, and starts no job.
+fn answers(rt: &impl Abort, responder: &mut Responder, heard: &Wire, reply: Wire) {
+    let answer = responder.step(heard.as_slice());
+    assert_eq!(rt; answer, (Some(reply), None), "{heard:?}");
+}
+
+/// 27 lamps fail to strike, the first of them by an advisory.
+fn lamps_fail(responder: &mut Responder) -> Result<(), Fail> {
     for number in 0..27u8 {
-        let job = responder.step(lamp(number)?.as_slice()).1.ok_or("a job")?;
+        let job = started(responder, &lamp(number)?)?;
         let severity = if number == 0 {
             Severity::Advisory
         } else {
             Severity::Error
         };
-        let outcome = failed(severity, u16::from(number));
-        responder.arrive(Report { job, outcome })?;
-        if 1 <= number && number <= 25 {
-            shown.extend_from_slice(&[0, 0, 4, 0x80, 0x01, 0, number, 0, 0])?;
-        }
+        ends(responder, job, failed(severity, u16::from(number)))?;
     }
-    let full = status_reply(27, 0x1B, &shown)?;
-    assert_eq!(rt;
-        responder.step(status(27, 4)?.as_slice()),
-        (Some(full), None)
-    );
-    let again = status_reply(28, 0x1B, &shown)?;
-    assert_eq!(rt;
-        responder.step(collect(28, 1)?.as_slice()),
-        (Some(again), None)
-    );
-    let rest = printed(&rt, "0000 02 8001 0000 0000 0000 04 8001 001A 0000");
-    let others = status_reply(29, 0x1B, rest.as_slice())?;
-    assert_eq!(rt;
-        responder.step(status(29, 2)?.as_slice()),
-        (Some(others), None)
-    );
-    let none = status_reply(30, 0x1B, &[])?;
-    assert_eq!(rt;
-        responder.step(status(30, 2)?.as_slice()),
-        (Some(none), None)
-    );
     Ok(())
+}
+
+/// The slots of the entries 1 to 25.
+fn first_shown(alloc: Global) -> Result<Vec<u8>, AllocError> {
+    let mut shown = Vec::new(alloc);
+    for number in 1..26u8 {
+        shown.extend_from_slice(&[0, 0, 4, 0x80, 0x01, 0, number, 0, 0])?;
+    }
+    Ok(shown)
+}
+
+/// What is asked is answered by these slots of status entries, while 27 messages wait.
+fn shows(
+    rt: &impl Abort,
+    responder: &mut Responder,
+    tn: u8,
+    asked: &Wire,
+    slots: &[u8],
+) -> Result<(), Fail> {
+    answers(rt, responder, asked, status_reply(tn, 0x1B, slots)?);
+    Ok(())
+}
+
+#[test]
+fn a_status_message_shows_25_entries_once(rt: HostRuntime) -> Result<(), Fail> {
+    let mut responder = responder_with(rt.alloc(), 0, 27)?;
+    lamps_fail(&mut responder)?;
+    let shown = first_shown(rt.alloc())?;
+    let rest = printed(&rt, "0000 02 8001 0000 0000 0000 04 8001 001A 0000");
+    shows(&rt, &mut responder, 27, &status(27, 4)?, &shown)?;
+    shows(&rt, &mut responder, 28, &collect(28, 1)?, &shown)?;
+    shows(&rt, &mut responder, 29, &status(29, 2)?, rest.as_slice())?;
+    shows(&rt, &mut responder, 30, &status(30, 2)?, &[])
 }
 
 /// IDENTIFY_DEVICE, and QUEUED_MESSAGE twice, while 256 messages wait at first.
@@ -114,49 +141,44 @@ fn more_than_255_messages_count_as_255(rt: HostRuntime) -> Result<(), Fail> {
     let mut responder = responder_with(rt.alloc(), 0, 300)?;
     let set = lamp(0)?;
     for _ in 0..256_u16 {
-        let job = responder.step(set.as_slice()).1.ok_or("a job")?;
-        let outcome = Outcome::Done;
-        responder.arrive(Report { job, outcome })?;
+        let job = started(&mut responder, &set)?;
+        ends(&mut responder, job, Outcome::Done)?;
     }
     for (frame, reply) in COUNTED {
-        let answer = responder.step(printed(&rt, frame).as_slice());
-        assert_eq!(rt; answer, (Some(printed(&rt, reply)), None), "{frame}");
+        answers(
+            &rt,
+            &mut responder,
+            &printed(&rt, frame),
+            printed(&rt, reply),
+        );
     }
     Ok(())
 }
+
+/// What is answered to SET LAMP_STATE while 254 messages wait and a job is outstanding, and then, with 255, to
+/// IDENTIFY_DEVICE and QUEUED_MESSAGE.
+const NO_PLACE: &str = "CC011A 7FF000000002 7FF000000001 00 02 FE 0000 31 0403 02 0007 0509";
+
+const ALL_WAIT: &str = "CC0119 7FF000000002 7FF000000001 00 00 FF 0000 21 1000 01 00 04F8";
+
+const ONE_LESS: &str = "CC0118 7FF000000002 7FF000000001 01 00 FE 0000 31 0403 00 04FD";
 
 #[test]
 fn a_queue_of_255_is_used_up_to_its_end(rt: HostRuntime) -> Result<(), Fail> {
     let mut responder = responder_with(rt.alloc(), 0, 255)?;
     let set = lamp(0)?;
     for number in 0..254u32 {
-        let job = responder.step(set.as_slice()).1.ok_or("a job")?;
+        let job = started(&mut responder, &set)?;
         assert_eq!(rt; job.number, number);
-        let outcome = Outcome::Done;
-        responder.arrive(Report { job, outcome })?;
+        ends(&mut responder, job, Outcome::Done)?;
     }
-    let last = responder.step(set.as_slice()).1.ok_or("a job")?;
+    let last = started(&mut responder, &set)?;
     assert_eq!(rt; (responder.waiting(), responder.outstanding()), (254, 1));
-    let full = printed(
-        &rt,
-        "CC011A 7FF000000002 7FF000000001 00 02 FE 0000 31 0403 02 0007 0509",
-    );
-    assert_eq!(rt; responder.step(set.as_slice()), (Some(full), None));
-    let outcome = Outcome::Done;
-    responder.arrive(Report { job: last, outcome })?;
-    for (heard, answer) in [
-        (
-            request(DEVICE, 0, GET, IDENTIFY_DEVICE, &[])?,
-            "CC0119 7FF000000002 7FF000000001 00 00 FF 0000 21 1000 01 00 04F8",
-        ),
-        (
-            collect(1, 2)?,
-            "CC0118 7FF000000002 7FF000000001 01 00 FE 0000 31 0403 00 04FD",
-        ),
-    ] {
-        let answer = printed(&rt, answer);
-        assert_eq!(rt; responder.step(heard.as_slice()), (Some(answer), None));
-    }
+    answers(&rt, &mut responder, &set, printed(&rt, NO_PLACE));
+    ends(&mut responder, last, Outcome::Done)?;
+    let identify = request(DEVICE, 0, GET, IDENTIFY_DEVICE, &[])?;
+    answers(&rt, &mut responder, &identify, printed(&rt, ALL_WAIT));
+    answers(&rt, &mut responder, &collect(1, 2)?, printed(&rt, ONE_LESS));
     Ok(())
 }
 
