@@ -3,7 +3,7 @@
 ghost use Rattle.std.specs.Prelude.{◌≡◌, ◌↔◌, ◌<◌, ◌≤◌, ◌≢◌, ℕ, IsTrue, IsOk, IfOk, OnOk, OnErr, IfErr, IsErrOf, IfSome, IsSome, Option, None, Some, true, slice_get, length, nat_lt};
 ghost use Rattle.std.specs.Bool.{OnFalse};
 ghost use Rattle.rdm_outbox.specs.Account.{Account as OutboxAccount};
-ghost use Rattle.rdm_outbox.specs.Jobs.{outstanding_count, waiting_of};
+ghost use Rattle.rdm_outbox.specs.Jobs.{outstanding_count, outstanding_of, waiting_of};
 ghost use Rattle.rdm_outbox.specs.Shows.{Shows as OutboxShows};
 ghost use Rattle.rdm_outbox.specs.State.{jobs_at};
 ghost use Rattle.rdm_params.specs.Device.Parameters.{parameters_of};
@@ -162,6 +162,14 @@ impl Responder {
         ensures { (h : History) → StandsFor self.now h → result ≡ length (waiting_of (outbox_of h)) }
     {
         self.outbox.waiting()
+    }
+
+    /// The oldest outstanding job of a worker: the one on which its next report is to arrive. There are workers 0 and 1.
+    pub fn oldest(&self, worker: u8) -> Option<Job>
+        requires { worker < 2 }
+        ensures { (h : History) → StandsFor self.now h → result ≡ slice_get (outstanding_of (outbox_of h) worker) 0 }
+    {
+        self.outbox.oldest(worker).copied()
     }
 
     /// How many jobs are outstanding.
