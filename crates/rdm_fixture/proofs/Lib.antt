@@ -3,3 +3,4 @@ pub mod Entries
 pub mod Readings
 pub mod OneFixture
 pub mod Made
+pub mod Equality

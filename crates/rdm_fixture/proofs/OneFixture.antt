@@ -71,10 +71,10 @@ one_languages (Some (datetime dt)) x y p q = absurd p
 
 -- ---- the entries
 
-abbrev personality_of : ℕ → List ℕ → Personality
+abbrev pub personality_of : ℕ → List ℕ → Personality
 personality_of a0 a1 = record { footprint = a0; name = a1 }
 
-same_personality : {a0 b0 : ℕ} {a1 b1 : List ℕ}
+pub same_personality : {a0 b0 : ℕ} {a1 b1 : List ℕ}
     → a0 ≡ b0 → a1 ≡ b1
     → personality_of a0 a1 ≡ personality_of b0 b1
 same_personality e0 e1 = rw (e0, e1) refl
@@ -82,10 +82,10 @@ same_personality e0 e1 = rw (e0, e1) refl
 pub one_personality : (slots : ℕ) → SaysOne (IsPersonality slots)
 one_personality slots t x y p q = same_personality (one p.footprint q.footprint) (one p.name q.name)
 
-abbrev slot_of : ℕ → ℕ → ℕ → List ℕ → Slot
+abbrev pub slot_of : ℕ → ℕ → ℕ → List ℕ → Slot
 slot_of a0 a1 a2 a3 = record { kind = a0; label = a1; value = a2; name = a3 }
 
-same_slot : {a0 b0 : ℕ} {a1 b1 : ℕ} {a2 b2 : ℕ} {a3 b3 : List ℕ}
+pub same_slot : {a0 b0 : ℕ} {a1 b1 : ℕ} {a2 b2 : ℕ} {a3 b3 : List ℕ}
     → a0 ≡ b0 → a1 ≡ b1 → a2 ≡ b2 → a3 ≡ b3
     → slot_of a0 a1 a2 a3 ≡ slot_of b0 b1 b2 b3
 same_slot e0 e1 e2 e3 = rw (e0, e1, e2, e3) refl
@@ -93,10 +93,10 @@ same_slot e0 e1 e2 e3 = rw (e0, e1, e2, e3) refl
 pub one_slot : SaysOne IsSlot
 one_slot t x y p q = same_slot (one p.kind q.kind) (one p.label q.label) (one p.value q.value) (one p.name q.name)
 
-abbrev sensor_of : ℕ → ℕ → ℕ → ℤ → ℤ → ℤ → ℤ → ℕ → List ℕ → SensorDef
+abbrev pub sensor_of : ℕ → ℕ → ℕ → ℤ → ℤ → ℤ → ℤ → ℕ → List ℕ → SensorDef
 sensor_of a0 a1 a2 a3 a4 a5 a6 a7 a8 = record { kind = a0; unit = a1; prefix = a2; low = a3; high = a4; normal_low = a5; normal_high = a6; support = a7; name = a8 }
 
-same_sensor : {a0 b0 : ℕ} {a1 b1 : ℕ} {a2 b2 : ℕ} {a3 b3 : ℤ} {a4 b4 : ℤ} {a5 b5 : ℤ} {a6 b6 : ℤ} {a7 b7 : ℕ} {a8 b8 : List ℕ}
+pub same_sensor : {a0 b0 : ℕ} {a1 b1 : ℕ} {a2 b2 : ℕ} {a3 b3 : ℤ} {a4 b4 : ℤ} {a5 b5 : ℤ} {a6 b6 : ℤ} {a7 b7 : ℕ} {a8 b8 : List ℕ}
     → a0 ≡ b0 → a1 ≡ b1 → a2 ≡ b2 → a3 ≡ b3 → a4 ≡ b4 → a5 ≡ b5 → a6 ≡ b6 → a7 ≡ b7 → a8 ≡ b8
     → sensor_of a0 a1 a2 a3 a4 a5 a6 a7 a8 ≡ sensor_of b0 b1 b2 b3 b4 b5 b6 b7 b8
 same_sensor e0 e1 e2 e3 e4 e5 e6 e7 e8 = rw (e0, e1, e2, e3, e4, e5, e6, e7, e8) refl
@@ -105,10 +105,10 @@ pub one_sensor : SaysOne IsSensor
 one_sensor t x y p q =
     same_sensor (one p.kind q.kind) (one p.unit q.unit) (one p.prefix q.prefix) (one p.low q.low) (one p.high q.high) (one p.normal_low q.normal_low) (one p.normal_high q.normal_high) (one p.support q.support) (one p.name q.name)
 
-abbrev self_test_of : ℕ → List ℕ → SelfTest
+abbrev pub self_test_of : ℕ → List ℕ → SelfTest
 self_test_of a0 a1 = record { number = a0; name = a1 }
 
-same_self_test : {a0 b0 : ℕ} {a1 b1 : List ℕ}
+pub same_self_test : {a0 b0 : ℕ} {a1 b1 : List ℕ}
     → a0 ≡ b0 → a1 ≡ b1
     → self_test_of a0 a1 ≡ self_test_of b0 b1
 same_self_test e0 e1 = rw (e0, e1) refl
@@ -116,10 +116,10 @@ same_self_test e0 e1 = rw (e0, e1) refl
 pub one_self_test : SaysOne IsSelfTest
 one_self_test t x y p q = same_self_test (one p.number q.number) (one p.name q.name)
 
-abbrev status_of : ℕ → List ℕ → StatusText
+abbrev pub status_of : ℕ → List ℕ → StatusText
 status_of a0 a1 = record { id = a0; text = a1 }
 
-same_status : {a0 b0 : ℕ} {a1 b1 : List ℕ}
+pub same_status : {a0 b0 : ℕ} {a1 b1 : List ℕ}
     → a0 ≡ b0 → a1 ≡ b1
     → status_of a0 a1 ≡ status_of b0 b1
 same_status e0 e1 = rw (e0, e1) refl
@@ -129,13 +129,13 @@ one_status t x y p q = same_status (one p.id q.id) (one p.text q.text)
 
 -- ---- the devices
 
-abbrev listed : {A : Type 0} (n : ℕ) → List A → ArrayVec A n (Unit {0})
+abbrev pub listed : {A : Type 0} (n : ℕ) → List A → ArrayVec A n (Unit {0})
 listed n xs = record { items = xs }
 
-abbrev unit_of : ℕ → ℕ → ℕ → List ℕ → List ℕ → List ℕ → List ℕ → ArrayVec Personality 8 (Unit {0}) → ℕ → DeviceUnit
+abbrev pub unit_of : ℕ → ℕ → ℕ → List ℕ → List ℕ → List ℕ → List ℕ → ArrayVec Personality 8 (Unit {0}) → ℕ → DeviceUnit
 unit_of a0 a1 a2 a3 a4 a5 a6 a7 a8 = record { model = a0; category = a1; software = a2; model_text = a3; maker_text = a4; label = a5; software_text = a6; personalities = a7; start = a8 }
 
-same_unit : {a0 b0 : ℕ} {a1 b1 : ℕ} {a2 b2 : ℕ} {a3 b3 : List ℕ} {a4 b4 : List ℕ} {a5 b5 : List ℕ} {a6 b6 : List ℕ} {a7 b7 : ArrayVec Personality 8 (Unit {0})} {a8 b8 : ℕ}
+pub same_unit : {a0 b0 : ℕ} {a1 b1 : ℕ} {a2 b2 : ℕ} {a3 b3 : List ℕ} {a4 b4 : List ℕ} {a5 b5 : List ℕ} {a6 b6 : List ℕ} {a7 b7 : ArrayVec Personality 8 (Unit {0})} {a8 b8 : ℕ}
     → a0 ≡ b0 → a1 ≡ b1 → a2 ≡ b2 → a3 ≡ b3 → a4 ≡ b4 → a5 ≡ b5 → a6 ≡ b6 → a7 ≡ b7 → a8 ≡ b8
     → unit_of a0 a1 a2 a3 a4 a5 a6 a7 a8 ≡ unit_of b0 b1 b2 b3 b4 b5 b6 b7 b8
 same_unit e0 e1 e2 e3 e4 e5 e6 e7 e8 = rw (e0, e1, e2, e3, e4, e5, e6, e7, e8) refl
@@ -155,10 +155,10 @@ one_sub slots t (Some (float f)) m n x y p q = absurd p
 one_sub slots t (Some (boolean b)) m n x y p q = absurd p
 one_sub slots t (Some (datetime dt)) m n x y p q = absurd p
 
-abbrev profile_of : DeviceUnit → DeviceUnit → ℕ → ℕ → List ℕ → ArrayVec ℕ 8 (Unit {0}) → ArrayVec Slot 46 (Unit {0}) → ArrayVec SensorDef 8 (Unit {0}) → ArrayVec SelfTest 8 (Unit {0}) → ArrayVec StatusText 8 (Unit {0}) → ℕ → Profile
+abbrev pub profile_of : DeviceUnit → DeviceUnit → ℕ → ℕ → List ℕ → ArrayVec ℕ 8 (Unit {0}) → ArrayVec Slot 46 (Unit {0}) → ArrayVec SensorDef 8 (Unit {0}) → ArrayVec SelfTest 8 (Unit {0}) → ArrayVec StatusText 8 (Unit {0}) → ℕ → Profile
 profile_of a0 a1 a2 a3 a4 a5 a6 a7 a8 a9 a10 = record { root = a0; sub = a1; subs = a2; boot = a3; boot_text = a4; languages = a5; slots = a6; sensors = a7; tests = a8; status_texts = a9; presets = a10 }
 
-same_profile : {a0 b0 : DeviceUnit} {a1 b1 : DeviceUnit} {a2 b2 : ℕ} {a3 b3 : ℕ} {a4 b4 : List ℕ} {a5 b5 : ArrayVec ℕ 8 (Unit {0})} {a6 b6 : ArrayVec Slot 46 (Unit {0})} {a7 b7 : ArrayVec SensorDef 8 (Unit {0})} {a8 b8 : ArrayVec SelfTest 8 (Unit {0})} {a9 b9 : ArrayVec StatusText 8 (Unit {0})} {a10 b10 : ℕ}
+pub same_profile : {a0 b0 : DeviceUnit} {a1 b1 : DeviceUnit} {a2 b2 : ℕ} {a3 b3 : ℕ} {a4 b4 : List ℕ} {a5 b5 : ArrayVec ℕ 8 (Unit {0})} {a6 b6 : ArrayVec Slot 46 (Unit {0})} {a7 b7 : ArrayVec SensorDef 8 (Unit {0})} {a8 b8 : ArrayVec SelfTest 8 (Unit {0})} {a9 b9 : ArrayVec StatusText 8 (Unit {0})} {a10 b10 : ℕ}
     → a0 ≡ b0 → a1 ≡ b1 → a2 ≡ b2 → a3 ≡ b3 → a4 ≡ b4 → a5 ≡ b5 → a6 ≡ b6 → a7 ≡ b7 → a8 ≡ b8 → a9 ≡ b9 → a10 ≡ b10
     → profile_of a0 a1 a2 a3 a4 a5 a6 a7 a8 a9 a10 ≡ profile_of b0 b1 b2 b3 b4 b5 b6 b7 b8 b9 b10
 same_profile e0 e1 e2 e3 e4 e5 e6 e7 e8 e9 e10 = rw (e0, e1, e2, e3, e4, e5, e6, e7, e8, e9, e10) refl
@@ -179,10 +179,10 @@ one_profile t x y p q =
     (ap (listed 8) (one_list t _ IsStatus 0 8 _ _ one_status p.statuses q.statuses))
     (one p.presets q.presets)
 
-abbrev fixture_of : Uid → Profile → Fixture
+abbrev pub fixture_of : Uid → Profile → Fixture
 fixture_of a0 a1 = record { uid = a0; profile = a1 }
 
-same_fixture : {a0 b0 : Uid} {a1 b1 : Profile}
+pub same_fixture : {a0 b0 : Uid} {a1 b1 : Profile}
     → a0 ≡ b0 → a1 ≡ b1
     → fixture_of a0 a1 ≡ fixture_of b0 b1
 same_fixture e0 e1 = rw (e0, e1) refl

@@ -15,8 +15,12 @@ mod parts;
 mod profile;
 mod refusal;
 mod unit;
+mod writing;
 
 pub use document::{FixtureError, fixture_of, profile_of};
 pub use fixture::Fixture;
-pub use laws::text_describes_one_fixture;
+pub use laws::{
+    fixtures_are_equal_by_value, profiles_are_equal_by_value, text_describes_one_fixture,
+};
 pub use refusal::{Entry, Name, Refusal, Wanted};
+pub use writing::{WriteError, to_toml};
