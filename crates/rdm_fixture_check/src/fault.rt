@@ -24,8 +24,7 @@ impl From<FixtureError> for Fault {
     }
 }
 
-/// `main` prints this form.
-impl fmt::Debug for Fault {
+impl fmt::Display for Fault {
     fn fmt<W: fmt::Write>(&self, f: &mut fmt::Formatter<W>) -> fmt::Result {
         match self {
             Fault::Io(error) => write!(f, "{error}"),

@@ -8,12 +8,24 @@ use fault::Fault;
 use rdm_device::{Profile, Unit};
 use rdm_fixture::{Fixture, profile_of};
 use std::io::Print;
+use std::process::ExitCode;
 use std::{io, str};
 
-fn main(rt: HostRuntime) -> Result<(), Fault> {
+fn main(rt: HostRuntime) -> ExitCode {
+    match check(&rt) {
+        Ok(()) => ExitCode::SUCCESS,
+        Err(fault) => {
+            let _ = eprintln!(rt; "error: {fault}");
+            ExitCode::FAILURE
+        }
+    }
+}
+
+/// Reads the file, and prints what it describes.
+fn check(rt: &(impl Input + Print + AllocGlobal)) -> Result<(), Fault> {
     let text = io::read_to_string(rt.alloc(), rt.reader())?;
     let fixture = profile_of(rt.alloc(), text.as_str())?;
-    show(&rt, &fixture)?;
+    show(rt, &fixture)?;
     Ok(())
 }
 

@@ -460,7 +460,11 @@ fn written(rt: HostRuntime) -> Result<(), Fail> {
     let mut fixture = profile_of(rt.alloc(), LEAST)?;
     fixture.profile.root.label = Text::of(b"a \"label\" \\");
     let text = to_toml(rt.alloc(), &fixture)?;
-    assert!(rt; text.as_str().contains("device_label = \"a \\\"label\\\" \\\\\"\n"), "{text}");
+    assert!(rt;
+        text.as_str()
+            .contains("device_label = \"a \\\"label\\\" \\\\\"\n"),
+        "{text}"
+    );
     fixture.profile.root.label = Text::of(b"two\nlines");
     assert!(rt; to_toml(rt.alloc(), &fixture).err() == Some(WriteError::Indescribable));
     fixture.profile.root.label = Text::new();
