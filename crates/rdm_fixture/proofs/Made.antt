@@ -1,0 +1,137 @@
+-- A device can be made with each profile that a table says.
+use Rattle.std.proofs.Common.{◌≡◌, ℕ, ◌<◌, ◌≤◌, pos, negsuc, Bool, true, false, if◌then◌else◌, List, [], ◌∷◌, length, Option, Some, None, All, refl, arith, codes}
+use Rattle.std.proofs.lemmas.Bool.{and_parts, leb-true}
+use Rattle.std.proofs.lemmas.Option.{same_Some}
+use Rattle.std.proofs.lemmas.List.Elements.{All-cons}
+use Rattle.rdm_device.specs.declared.profile.Personality.{Personality}
+use Rattle.rdm_device.specs.declared.profile.Profile.{Profile}
+use Rattle.rdm_device.specs.declared.profile.SelfTest.{SelfTest}
+use Rattle.rdm_device.specs.declared.profile.Unit.{Unit as DeviceUnit}
+use Rattle.rdm_device.specs.Device.Profiles.{IsGoodUnit, CanBeMade}
+use Rattle.toml.specs.Data.{Data, string, integer, float, boolean, datetime, array, table, Items, no_items, item, Members, get_member}
+use Rattle.rdm_fixture.specs.Values.{number}
+use Rattle.rdm_fixture.specs.Keys.{may, must, OfTable, EachIs, ListAt}
+use Rattle.rdm_fixture.specs.Format.{IsPersonality, IsSelfTest, IsUnit, SubDevices, LanguagesAt, IsProfile, slot_count}
+use Rattle.rdm_fixture.proofs.Entries.{slot_count-of}
+
+-- ---- numbers
+
+some_if : (b : Bool) (k n : ℕ) → (if b then Some k else None) ≡ Some n → (b ≡ true) × (k ≡ n)
+some_if true k n h = (refl, same_Some _ _ h)
+some_if false k n h = absurd (cc)
+
+number_range : (least most : ℕ) (d : Data) (n : ℕ) → number least most d ≡ Some n → (least ≤ n) × (n ≤ most)
+number_range least most (integer (pos k)) n h =
+    let (within, same) = some_if _ k n h in
+    let (low, high) = and_parts _ _ within in
+    let low : least ≤ k = leb-true least k low in
+    let high : k ≤ most = leb-true k most high in
+    (omega (arith, low, same), omega (arith, high, same))
+number_range least most (integer (negsuc k)) n h = absurd (cc)
+number_range least most (string s) n h = absurd (cc)
+number_range least most (float f) n h = absurd (cc)
+number_range least most (boolean b) n h = absurd (cc)
+number_range least most (datetime dt) n h = absurd (cc)
+number_range least most (array ds) n h = absurd (cc)
+number_range least most (table t) n h = absurd (cc)
+
+may_range : (default least most : ℕ) (found : Option Data) (n : ℕ) → least ≤ default → default ≤ most
+    → may default (number least most) found ≡ Some n → (least ≤ n) × (n ≤ most)
+may_range default least most None n low high h = let same = same_Some _ _ h in (omega (arith, same), omega (arith, same))
+may_range default least most (Some d) n low high h = number_range least most d n h
+
+must_range : (least most : ℕ) (found : Option Data) (n : ℕ) → must (number least most) found ≡ Some n → (least ≤ n) × (n ≤ most)
+must_range least most None n h = absurd (cc)
+must_range least most (Some d) n h = number_range least most d n h
+
+-- ---- lists
+
+all_none : {A : Type 0} (Q : A → Type 0) → All Q []
+all_none Q k d less = absurd (omega arith)
+
+all_said : {A : Type 0} (P : Data → A → Type 0) (Q : A → Type 0) → ((d : Data) (x : A) → P d x → Q x)
+    → (ds : Items) (xs : List A) → EachIs P ds xs → All Q xs
+all_said P Q gives no_items [] h = all_none Q
+all_said P Q gives no_items (x ∷ xs) h = absurd h
+all_said P Q gives (item d ds) [] h = absurd h
+all_said P Q gives (item d ds) (x ∷ xs) h = All-cons Q x xs (gives d x h.0) (all_said P Q gives ds xs h.1)
+
+all_at : {A : Type 0} (P : Data → A → Type 0) (Q : A → Type 0) → ((d : Data) (x : A) → P d x → Q x)
+    → (found : Option Data) (xs : List A) → ListAt P found xs → All Q xs
+all_at P Q gives None xs h = rw h (all_none Q)
+all_at P Q gives (Some (array ds)) xs h = all_said P Q gives ds xs h
+all_at P Q gives (Some (table t)) xs h = absurd h
+all_at P Q gives (Some (string s)) xs h = absurd h
+all_at P Q gives (Some (integer z)) xs h = absurd h
+all_at P Q gives (Some (float f)) xs h = absurd h
+all_at P Q gives (Some (boolean b)) xs h = absurd h
+all_at P Q gives (Some (datetime dt)) xs h = absurd h
+
+of_table : {A : Type 0} (P : Members → A → Type 0) (Q : A → Type 0) → ((t : Members) (x : A) → P t x → Q x)
+    → (d : Data) (x : A) → OfTable P d x → Q x
+of_table P Q gives (table t) x h = gives t x h
+of_table P Q gives (string s) x h = absurd h
+of_table P Q gives (integer z) x h = absurd h
+of_table P Q gives (float f) x h = absurd h
+of_table P Q gives (boolean b) x h = absurd h
+of_table P Q gives (datetime dt) x h = absurd h
+of_table P Q gives (array ds) x h = absurd h
+
+-- ---- devices
+
+fits : (slots most : ℕ) → slots ≤ most → (t : Members) (m : Personality) → IsPersonality slots t m → m.footprint ≤ most
+fits slots most less t m h = let (low, high) = must_range 0 slots (get_member (codes "dmx_footprint") t) _ h.footprint in omega (arith, high, less)
+
+good_unit : (slots most : ℕ) (t : Members) (u : DeviceUnit) → slots ≤ most → IsUnit slots t u → IsGoodUnit u most
+good_unit slots most t u less h =
+    let (low, high) = may_range 1 1 512 (get_member (codes "dmx_start_address") t) _ (omega arith) (omega arith) h.start in
+    let some = h.personalities.enough in
+    record {
+      personality = omega (arith, some);
+      start_least = low;
+      start_greatest = high;
+      footprints = all_at _ (λ m. m.footprint ≤ most) (of_table (IsPersonality slots) _ (fits slots most less)) (get_member (codes "personality") t) _ h.personalities.items;
+    }
+
+good_sub : (slots : ℕ) (t : Members) (found : Option Data) (n : ℕ) (u : DeviceUnit) → slots ≤ 512
+    → SubDevices slots t found n u → (n ≤ 512) × IsGoodUnit u 512
+good_sub slots t None n u less h = let none = h.0 in (omega (arith, none), good_unit slots 512 t u less h.1)
+good_sub slots t (Some (table s)) n u less h =
+    let (low, high) = must_range 0 512 (get_member (codes "count") s) _ h.count in (high, good_unit 512 512 s u (omega arith) h.unit)
+good_sub slots t (Some (array ds)) n u less h = absurd h
+good_sub slots t (Some (string s)) n u less h = absurd h
+good_sub slots t (Some (integer z)) n u less h = absurd h
+good_sub slots t (Some (float f)) n u less h = absurd h
+good_sub slots t (Some (boolean b)) n u less h = absurd h
+good_sub slots t (Some (datetime dt)) n u less h = absurd h
+
+some_language : (found : Option Data) (xs : List ℕ) → LanguagesAt found xs → 0 < length xs
+some_language None xs h = rw h (omega arith)
+some_language (Some (array ds)) xs h = let some = h.0 in omega (arith, some)
+some_language (Some (table t)) xs h = absurd h
+some_language (Some (string s)) xs h = absurd h
+some_language (Some (integer z)) xs h = absurd h
+some_language (Some (float f)) xs h = absurd h
+some_language (Some (boolean b)) xs h = absurd h
+some_language (Some (datetime dt)) xs h = absurd h
+
+numbered : (t : Members) (s : SelfTest) → IsSelfTest t s → (0 < s.number) × (s.number < 255)
+numbered t s h = let (low, high) = must_range 1 254 (get_member (codes "number") t) _ h.number in (omega (arith, low), omega (arith, high))
+
+pub made : (t : Members) (p : Profile) → IsProfile t p → CanBeMade p
+made t p h =
+    let count : length p.slots.items ≡ slot_count (get_member (codes "slot") t) = slot_count-of _ (get_member (codes "slot") t) _ h.slots.items in
+    let fit = h.slots.fit in
+    let (subs, sub) = good_sub _ t (get_member (codes "sub_devices") t) _ _ (omega (arith, count, fit)) h.sub in
+    let (low, high) = may_range 0 0 65534 (get_member (codes "presets") t) _ (omega arith) (omega arith) h.presets in (
+      subs,
+      record {
+        root = good_unit _ _ t p.root (omega (arith, count)) h.root;
+        sub = sub;
+        language = some_language (get_member (codes "languages") t) _ h.languages;
+        test_numbers = all_at _ (λ s. (0 < s.number) × (s.number < 255)) (of_table IsSelfTest _ numbered) (get_member (codes "self_test") t) _ h.tests.items;
+        tests_differ = h.tests_differ;
+        statuses_differ = h.statuses_differ;
+        presets = omega (arith, high);
+      },
+    )

@@ -1,0 +1,196 @@
+-- A table says one thing: two fixtures that it says are the same.
+use Rattle.std.proofs.Common.{◌≡◌, ℕ, ℤ, List, [], ◌∷◌, Option, Some, None, refl, sym, ap, ◌∙◌, subst}
+use Rattle.std.proofs.lemmas.Option.{same_Some}
+use Rattle.arrayvec.specs.declared.array_vec.ArrayVec.{ArrayVec}
+use Rattle.rdm_frame.specs.declared.uid.Uid.{Uid}
+use Rattle.rdm_device.specs.declared.profile.Personality.{Personality}
+use Rattle.rdm_device.specs.declared.profile.Profile.{Profile}
+use Rattle.rdm_device.specs.declared.profile.SelfTest.{SelfTest}
+use Rattle.rdm_device.specs.declared.profile.SensorDef.{SensorDef}
+use Rattle.rdm_device.specs.declared.profile.Slot.{Slot}
+use Rattle.rdm_device.specs.declared.profile.StatusText.{StatusText}
+use Rattle.rdm_device.specs.declared.profile.Unit.{Unit as DeviceUnit}
+use Rattle.toml.specs.Data.{Data, string, integer, float, boolean, datetime, array, table, no_items, item, Members, get_member}
+use Rattle.rdm_fixture.specs.declared.fixture.Fixture.{Fixture}
+use Rattle.rdm_fixture.specs.Describes.{Describes}
+use Rattle.rdm_fixture.specs.Keys.{OfTable, EachIs, ListAt, Lists}
+use Rattle.rdm_fixture.specs.Values.{language}
+use Rattle.rdm_fixture.specs.Format.{IsPersonality, IsSlot, IsSensor, IsSelfTest, IsStatus, IsUnit, SubDevices, LanguagesAt, IsProfile, IsFixture}
+
+-- what is said is one thing
+abbrev pub SaysOne : {S A : Type 0} → (S → A → Type 0) → Type 0
+SaysOne {S = S} {A = A} P = (s : S) (x y : A) → P s x → P s y → x ≡ y
+
+one : {A : Type 0} {o : Option A} {x y : A} → o ≡ Some x → o ≡ Some y → x ≡ y
+one p q = same_Some _ _ (sym p ∙ q)
+
+-- ---- lists
+
+one_of_table : {A : Type 0} (P : Members → A → Type 0) → SaysOne P → SaysOne (OfTable P)
+one_of_table P single (table t) x y p q = single t x y p q
+one_of_table P single (string s) x y p q = absurd p
+one_of_table P single (integer z) x y p q = absurd p
+one_of_table P single (float f) x y p q = absurd p
+one_of_table P single (boolean b) x y p q = absurd p
+one_of_table P single (datetime dt) x y p q = absurd p
+one_of_table P single (array ds) x y p q = absurd p
+
+one_each : {A : Type 0} (P : Data → A → Type 0) → SaysOne P → SaysOne (EachIs P)
+one_each P single no_items [] [] p q = refl
+one_each P single no_items [] (y ∷ ys) p q = absurd q
+one_each P single no_items (x ∷ xs) ys p q = absurd p
+one_each P single (item d ds) [] ys p q = absurd p
+one_each P single (item d ds) (x ∷ xs) [] p q = absurd q
+one_each P single (item d ds) (x ∷ xs) (y ∷ ys) p q =
+    ap (λ z. z ∷ xs) (single d x y p.0 q.0) ∙ ap (λ zs. y ∷ zs) (one_each P single ds xs ys p.1 q.1)
+
+one_at : {A : Type 0} (P : Data → A → Type 0) → SaysOne P → SaysOne (ListAt P)
+one_at P single None x y p q = p ∙ sym q
+one_at P single (Some (array ds)) x y p q = one_each P single ds x y p q
+one_at P single (Some (table t)) x y p q = absurd p
+one_at P single (Some (string s)) x y p q = absurd p
+one_at P single (Some (integer z)) x y p q = absurd p
+one_at P single (Some (float f)) x y p q = absurd p
+one_at P single (Some (boolean b)) x y p q = absurd p
+one_at P single (Some (datetime dt)) x y p q = absurd p
+
+pub one_list : {A : Type 0} (t : Members) (key : List ℕ) (P : Members → A → Type 0) (least most : ℕ) (xs ys : List A)
+    → SaysOne P → Lists t key (OfTable P) least most xs → Lists t key (OfTable P) least most ys → xs ≡ ys
+one_list t key P least most xs ys single p q =
+    one_at (OfTable P) (one_of_table P single) (get_member key t) xs ys p.items q.items
+
+one_languages : (found : Option Data) (xs ys : List ℕ) → LanguagesAt found xs → LanguagesAt found ys → xs ≡ ys
+one_languages None x y p q = p ∙ sym q
+one_languages (Some (array ds)) x y p q = one_each (λ d z. language d ≡ Some z) (λ d a b. one) ds x y p.2 q.2
+one_languages (Some (table t)) x y p q = absurd p
+one_languages (Some (string s)) x y p q = absurd p
+one_languages (Some (integer z)) x y p q = absurd p
+one_languages (Some (float f)) x y p q = absurd p
+one_languages (Some (boolean b)) x y p q = absurd p
+one_languages (Some (datetime dt)) x y p q = absurd p
+
+-- ---- the entries
+
+abbrev pub personality_of : ℕ → List ℕ → Personality
+personality_of a0 a1 = record { footprint = a0; name = a1 }
+
+pub same_personality : {a0 b0 : ℕ} {a1 b1 : List ℕ}
+    → a0 ≡ b0 → a1 ≡ b1
+    → personality_of a0 a1 ≡ personality_of b0 b1
+same_personality e0 e1 = rw (e0, e1) refl
+
+pub one_personality : (slots : ℕ) → SaysOne (IsPersonality slots)
+one_personality slots t x y p q = same_personality (one p.footprint q.footprint) (one p.name q.name)
+
+abbrev pub slot_of : ℕ → ℕ → ℕ → List ℕ → Slot
+slot_of a0 a1 a2 a3 = record { kind = a0; label = a1; value = a2; name = a3 }
+
+pub same_slot : {a0 b0 : ℕ} {a1 b1 : ℕ} {a2 b2 : ℕ} {a3 b3 : List ℕ}
+    → a0 ≡ b0 → a1 ≡ b1 → a2 ≡ b2 → a3 ≡ b3
+    → slot_of a0 a1 a2 a3 ≡ slot_of b0 b1 b2 b3
+same_slot e0 e1 e2 e3 = rw (e0, e1, e2, e3) refl
+
+pub one_slot : SaysOne IsSlot
+one_slot t x y p q = same_slot (one p.kind q.kind) (one p.label q.label) (one p.value q.value) (one p.name q.name)
+
+abbrev pub sensor_of : ℕ → ℕ → ℕ → ℤ → ℤ → ℤ → ℤ → ℕ → List ℕ → SensorDef
+sensor_of a0 a1 a2 a3 a4 a5 a6 a7 a8 = record { kind = a0; unit = a1; prefix = a2; low = a3; high = a4; normal_low = a5; normal_high = a6; support = a7; name = a8 }
+
+pub same_sensor : {a0 b0 : ℕ} {a1 b1 : ℕ} {a2 b2 : ℕ} {a3 b3 : ℤ} {a4 b4 : ℤ} {a5 b5 : ℤ} {a6 b6 : ℤ} {a7 b7 : ℕ} {a8 b8 : List ℕ}
+    → a0 ≡ b0 → a1 ≡ b1 → a2 ≡ b2 → a3 ≡ b3 → a4 ≡ b4 → a5 ≡ b5 → a6 ≡ b6 → a7 ≡ b7 → a8 ≡ b8
+    → sensor_of a0 a1 a2 a3 a4 a5 a6 a7 a8 ≡ sensor_of b0 b1 b2 b3 b4 b5 b6 b7 b8
+same_sensor e0 e1 e2 e3 e4 e5 e6 e7 e8 = rw (e0, e1, e2, e3, e4, e5, e6, e7, e8) refl
+
+pub one_sensor : SaysOne IsSensor
+one_sensor t x y p q =
+    same_sensor (one p.kind q.kind) (one p.unit q.unit) (one p.prefix q.prefix) (one p.low q.low) (one p.high q.high) (one p.normal_low q.normal_low) (one p.normal_high q.normal_high) (one p.support q.support) (one p.name q.name)
+
+abbrev pub self_test_of : ℕ → List ℕ → SelfTest
+self_test_of a0 a1 = record { number = a0; name = a1 }
+
+pub same_self_test : {a0 b0 : ℕ} {a1 b1 : List ℕ}
+    → a0 ≡ b0 → a1 ≡ b1
+    → self_test_of a0 a1 ≡ self_test_of b0 b1
+same_self_test e0 e1 = rw (e0, e1) refl
+
+pub one_self_test : SaysOne IsSelfTest
+one_self_test t x y p q = same_self_test (one p.number q.number) (one p.name q.name)
+
+abbrev pub status_of : ℕ → List ℕ → StatusText
+status_of a0 a1 = record { id = a0; text = a1 }
+
+pub same_status : {a0 b0 : ℕ} {a1 b1 : List ℕ}
+    → a0 ≡ b0 → a1 ≡ b1
+    → status_of a0 a1 ≡ status_of b0 b1
+same_status e0 e1 = rw (e0, e1) refl
+
+pub one_status : SaysOne IsStatus
+one_status t x y p q = same_status (one p.id q.id) (one p.text q.text)
+
+-- ---- the devices
+
+abbrev pub listed : {A : Type 0} (n : ℕ) → List A → ArrayVec A n (Unit {0})
+listed n xs = record { items = xs }
+
+abbrev pub unit_of : ℕ → ℕ → ℕ → List ℕ → List ℕ → List ℕ → List ℕ → ArrayVec Personality 8 (Unit {0}) → ℕ → DeviceUnit
+unit_of a0 a1 a2 a3 a4 a5 a6 a7 a8 = record { model = a0; category = a1; software = a2; model_text = a3; maker_text = a4; label = a5; software_text = a6; personalities = a7; start = a8 }
+
+pub same_unit : {a0 b0 : ℕ} {a1 b1 : ℕ} {a2 b2 : ℕ} {a3 b3 : List ℕ} {a4 b4 : List ℕ} {a5 b5 : List ℕ} {a6 b6 : List ℕ} {a7 b7 : ArrayVec Personality 8 (Unit {0})} {a8 b8 : ℕ}
+    → a0 ≡ b0 → a1 ≡ b1 → a2 ≡ b2 → a3 ≡ b3 → a4 ≡ b4 → a5 ≡ b5 → a6 ≡ b6 → a7 ≡ b7 → a8 ≡ b8
+    → unit_of a0 a1 a2 a3 a4 a5 a6 a7 a8 ≡ unit_of b0 b1 b2 b3 b4 b5 b6 b7 b8
+same_unit e0 e1 e2 e3 e4 e5 e6 e7 e8 = rw (e0, e1, e2, e3, e4, e5, e6, e7, e8) refl
+
+pub one_unit : (slots : ℕ) → SaysOne (IsUnit slots)
+one_unit slots t x y p q =
+    same_unit (one p.model q.model) (one p.category q.category) (one p.software q.software) (one p.model_text q.model_text) (one p.maker_text q.maker_text) (one p.label q.label) (one p.software_text q.software_text) (ap (listed 8) (one_list t _ (IsPersonality slots) 1 8 _ _ (one_personality slots) p.personalities q.personalities)) (one p.start q.start)
+
+pub one_sub : (slots : ℕ) (t : Members) (found : Option Data) (m n : ℕ) (x y : DeviceUnit)
+    → SubDevices slots t found m x → SubDevices slots t found n y → (m ≡ n) × (x ≡ y)
+one_sub slots t None m n x y p q = (p.0 ∙ sym q.0, one_unit slots t x y p.1 q.1)
+one_sub slots t (Some (table s)) m n x y p q = (one p.count q.count, one_unit 512 s x y p.unit q.unit)
+one_sub slots t (Some (array ds)) m n x y p q = absurd p
+one_sub slots t (Some (string s)) m n x y p q = absurd p
+one_sub slots t (Some (integer z)) m n x y p q = absurd p
+one_sub slots t (Some (float f)) m n x y p q = absurd p
+one_sub slots t (Some (boolean b)) m n x y p q = absurd p
+one_sub slots t (Some (datetime dt)) m n x y p q = absurd p
+
+abbrev pub profile_of : DeviceUnit → DeviceUnit → ℕ → ℕ → List ℕ → ArrayVec ℕ 8 (Unit {0}) → ArrayVec Slot 46 (Unit {0}) → ArrayVec SensorDef 8 (Unit {0}) → ArrayVec SelfTest 8 (Unit {0}) → ArrayVec StatusText 8 (Unit {0}) → ℕ → Profile
+profile_of a0 a1 a2 a3 a4 a5 a6 a7 a8 a9 a10 = record { root = a0; sub = a1; subs = a2; boot = a3; boot_text = a4; languages = a5; slots = a6; sensors = a7; tests = a8; status_texts = a9; presets = a10 }
+
+pub same_profile : {a0 b0 : DeviceUnit} {a1 b1 : DeviceUnit} {a2 b2 : ℕ} {a3 b3 : ℕ} {a4 b4 : List ℕ} {a5 b5 : ArrayVec ℕ 8 (Unit {0})} {a6 b6 : ArrayVec Slot 46 (Unit {0})} {a7 b7 : ArrayVec SensorDef 8 (Unit {0})} {a8 b8 : ArrayVec SelfTest 8 (Unit {0})} {a9 b9 : ArrayVec StatusText 8 (Unit {0})} {a10 b10 : ℕ}
+    → a0 ≡ b0 → a1 ≡ b1 → a2 ≡ b2 → a3 ≡ b3 → a4 ≡ b4 → a5 ≡ b5 → a6 ≡ b6 → a7 ≡ b7 → a8 ≡ b8 → a9 ≡ b9 → a10 ≡ b10
+    → profile_of a0 a1 a2 a3 a4 a5 a6 a7 a8 a9 a10 ≡ profile_of b0 b1 b2 b3 b4 b5 b6 b7 b8 b9 b10
+same_profile e0 e1 e2 e3 e4 e5 e6 e7 e8 e9 e10 = rw (e0, e1, e2, e3, e4, e5, e6, e7, e8, e9, e10) refl
+
+pub one_profile : SaysOne IsProfile
+one_profile t x y p q =
+    let subs : (x.subs ≡ y.subs) × (x.sub ≡ y.sub) = one_sub _ t _ _ _ _ _ p.sub q.sub in
+    same_profile
+    (one_unit _ t x.root y.root p.root q.root)
+    subs.1
+    subs.0
+    (one p.boot q.boot)
+    (one p.boot_text q.boot_text)
+    (ap (listed 8) (one_languages _ _ _ p.languages q.languages))
+    (ap (listed 46) (one_list t _ IsSlot 0 46 _ _ one_slot p.slots q.slots))
+    (ap (listed 8) (one_list t _ IsSensor 0 8 _ _ one_sensor p.sensors q.sensors))
+    (ap (listed 8) (one_list t _ IsSelfTest 0 8 _ _ one_self_test p.tests q.tests))
+    (ap (listed 8) (one_list t _ IsStatus 0 8 _ _ one_status p.statuses q.statuses))
+    (one p.presets q.presets)
+
+abbrev pub fixture_of : Uid → Profile → Fixture
+fixture_of a0 a1 = record { uid = a0; profile = a1 }
+
+pub same_fixture : {a0 b0 : Uid} {a1 b1 : Profile}
+    → a0 ≡ b0 → a1 ≡ b1
+    → fixture_of a0 a1 ≡ fixture_of b0 b1
+same_fixture e0 e1 = rw (e0, e1) refl
+
+pub one_fixture : SaysOne IsFixture
+one_fixture t x y p q = same_fixture (one p.own q.own) (one_profile t x.profile y.profile p.profile q.profile)
+
+pub one_text : SaysOne Describes
+one_text text x y p q =
+    let Says : Members → Type 0 = λ t. IsFixture t x in
+    one_fixture q.document x y (subst Says (one p.parsed q.parsed) p.fixture) q.fixture

@@ -1,0 +1,10 @@
+use Rattle.std.proofs.Common.{◌≡◌, take, length}
+use Rattle.toml.specs.View.{items_view}
+use Rattle.rdm_fixture.specs.Keys.{EachIs, OfTable}
+use Rattle.rdm_fixture.proofs.lists.entries_of.Given as goal
+
+abbrev pub invariant-loop-i : goal.invariant-loop-i
+invariant-loop-i g l = record {
+  read : EachIs (OfTable (g.P.Part.says l.slots)) (items_view (take l.i l.entries.items)) l.parts.items;
+  count : length l.parts.items ≡ l.i;
+}

@@ -1,0 +1,144 @@
+-- Which table is a fixture: each key, what it says, and its default. A key is named as the parameter or the field of
+-- E1.20 that it sets, in small letters.
+use Rattle.std.specs.Prelude.{◌≡◌, ◌≢◌, ℕ, ◌≤◌, pos, neg_ℤ, IsTrue, List, [], ◌∷◌, length, Option, Some, None, AllPairs, codes}
+use Rattle.toml.specs.Data.{Data, table, array, Members, get_member}
+use Rattle.rdm_device.specs.declared.profile.Personality.{Personality}
+use Rattle.rdm_device.specs.declared.profile.Profile.{Profile}
+use Rattle.rdm_device.specs.declared.profile.SelfTest.{SelfTest}
+use Rattle.rdm_device.specs.declared.profile.SensorDef.{SensorDef}
+use Rattle.rdm_device.specs.declared.profile.Slot.{Slot}
+use Rattle.rdm_device.specs.declared.profile.StatusText.{StatusText}
+use Rattle.rdm_device.specs.declared.profile.Unit.{Unit as DeviceUnit}
+use Rattle.rdm_fixture.specs.declared.fixture.Fixture.{Fixture}
+use Rattle.rdm_fixture.specs.Values.{number, signed, text, language, uid}
+use Rattle.rdm_fixture.specs.Keys.{Must, May, has_only, OfTable, EachIs, Lists, items_count}
+
+-- ---- the entries of lists
+
+abbrev pub personality_keys : List (List ℕ)
+personality_keys = codes "dmx_footprint" ∷ codes "description" ∷ []
+
+-- A personality uses no more slots than there are. Section 10.6.2.
+pub record IsPersonality (slots : ℕ) (t : Members) (m : Personality) : Type 0 where
+  pub keys : IsTrue (has_only personality_keys t)
+  pub footprint : Must t (codes "dmx_footprint") (number 0 slots) m.footprint
+  pub name : May t (codes "description") [] text m.name
+
+abbrev pub slot_keys : List (List ℕ)
+slot_keys = codes "type" ∷ codes "label_id" ∷ codes "default_value" ∷ codes "description" ∷ []
+
+-- Sections 10.6.4 to 10.6.6.
+pub record IsSlot (t : Members) (s : Slot) : Type 0 where
+  pub keys : IsTrue (has_only slot_keys t)
+  pub kind : May t (codes "type") 0 (number 0 0xFF) s.kind
+  pub label : Must t (codes "label_id") (number 0 0xFFFF) s.label
+  pub value : May t (codes "default_value") 0 (number 0 0xFF) s.value
+  pub name : May t (codes "description") [] text s.name
+
+abbrev pub sensor_keys : List (List ℕ)
+sensor_keys =
+    codes "type" ∷ codes "unit" ∷ codes "prefix" ∷ codes "range_minimum_value" ∷ codes "range_maximum_value"
+    ∷ codes "normal_minimum_value" ∷ codes "normal_maximum_value" ∷ codes "recorded_value_support"
+    ∷ codes "description" ∷ []
+
+-- Section 10.7.1.
+pub record IsSensor (t : Members) (s : SensorDef) : Type 0 where
+  pub keys : IsTrue (has_only sensor_keys t)
+  pub kind : Must t (codes "type") (number 0 0xFF) s.kind
+  pub unit : May t (codes "unit") 0 (number 0 0xFF) s.unit
+  pub prefix : May t (codes "prefix") 0 (number 0 0xFF) s.prefix
+  pub low : May t (codes "range_minimum_value") (neg_ℤ (pos 32768)) signed s.low
+  pub high : May t (codes "range_maximum_value") (pos 32767) signed s.high
+  pub normal_low : May t (codes "normal_minimum_value") (neg_ℤ (pos 32768)) signed s.normal_low
+  pub normal_high : May t (codes "normal_maximum_value") (pos 32767) signed s.normal_high
+  pub support : May t (codes "recorded_value_support") 0 (number 0 0xFF) s.support
+  pub name : May t (codes "description") [] text s.name
+
+abbrev pub self_test_keys : List (List ℕ)
+self_test_keys = codes "number" ∷ codes "description" ∷ []
+
+-- Section 10.11.2. The numbers 0 and 255 stand for no test and for all.
+pub record IsSelfTest (t : Members) (s : SelfTest) : Type 0 where
+  pub keys : IsTrue (has_only self_test_keys t)
+  pub number : Must t (codes "number") (number 1 254) s.number
+  pub name : May t (codes "description") [] text s.name
+
+abbrev pub status_keys : List (List ℕ)
+status_keys = codes "id" ∷ codes "description" ∷ []
+
+-- Section 10.3.3.
+pub record IsStatus (t : Members) (s : StatusText) : Type 0 where
+  pub keys : IsTrue (has_only status_keys t)
+  pub id : Must t (codes "id") (number 0 0xFFFF) s.id
+  pub text : May t (codes "description") [] text s.text
+
+-- ---- the root and the sub-devices
+
+-- the keys of each device
+abbrev pub unit_keys : List (List ℕ)
+unit_keys =
+    codes "device_model_id" ∷ codes "device_model_description" ∷ codes "manufacturer_label" ∷ codes "device_label"
+    ∷ codes "product_category" ∷ codes "software_version_id" ∷ codes "software_version_label"
+    ∷ codes "dmx_start_address" ∷ codes "personality" ∷ []
+
+-- What the root and a sub-device each say, where there are as many slots. Section 9.
+pub record IsUnit (slots : ℕ) (t : Members) (u : DeviceUnit) : Type 0 where
+  pub model : Must t (codes "device_model_id") (number 0 0xFFFF) u.model
+  pub model_text : May t (codes "device_model_description") [] text u.model_text
+  pub maker_text : May t (codes "manufacturer_label") [] text u.maker_text
+  pub label : May t (codes "device_label") [] text u.label
+  pub category : May t (codes "product_category") 0 (number 0 0xFFFF) u.category
+  pub software : May t (codes "software_version_id") 0 (number 0 0xFFFFFFFF) u.software
+  pub software_text : May t (codes "software_version_label") [] text u.software_text
+  pub start : May t (codes "dmx_start_address") 1 (number 1 512) u.start
+  pub personalities : Lists t (codes "personality") (OfTable (IsPersonality slots)) 1 8 u.personalities.items
+
+-- the sub-devices: how many there are, and what each starts as
+pub record IsSub (t : Members) (subs : ℕ) (u : DeviceUnit) : Type 0 where
+  pub keys : IsTrue (has_only (codes "count" ∷ unit_keys) t)
+  pub count : Must t (codes "count") (number 0 512) subs
+  pub unit : IsUnit 512 t u
+
+-- Without their table there are none, and what they would start as is the root.
+abbrev pub SubDevices : ℕ → Members → Option Data → ℕ → DeviceUnit → Type 0
+SubDevices slots t None count u = (count ≡ 0) × IsUnit slots t u
+SubDevices slots t (Some (table s)) count u = IsSub s count u
+SubDevices slots t (Some _) count u = ⊥
+
+-- ---- the whole
+
+-- how many slots the root has
+abbrev pub slot_count : Option Data → ℕ
+slot_count (Some (array ds)) = items_count ds
+slot_count _ = 0
+
+-- English is the language of a fixture that says nothing of it. Section 10.5.7.
+abbrev pub LanguagesAt : Option Data → List ℕ → Type 0
+LanguagesAt None xs = xs ≡ 0x656E ∷ []
+LanguagesAt (Some (array ds)) xs = (1 ≤ length xs) × (length xs ≤ 8) × EachIs (λ d x. language d ≡ Some x) ds xs
+LanguagesAt (Some _) xs = ⊥
+
+abbrev pub fixture_keys : List (List ℕ)
+fixture_keys =
+    codes "uid" ∷ codes "boot_software_version_id" ∷ codes "boot_software_version_label" ∷ codes "languages"
+    ∷ codes "presets" ∷ codes "slot" ∷ codes "sensor" ∷ codes "self_test" ∷ codes "status" ∷ codes "sub_devices"
+    ∷ unit_keys
+
+pub record IsProfile (t : Members) (p : Profile) : Type 0 where
+  pub root : IsUnit (slot_count (get_member (codes "slot") t)) t p.root
+  pub sub : SubDevices (slot_count (get_member (codes "slot") t)) t (get_member (codes "sub_devices") t) p.subs p.sub
+  pub boot : May t (codes "boot_software_version_id") 0 (number 0 0xFFFFFFFF) p.boot
+  pub boot_text : May t (codes "boot_software_version_label") [] text p.boot_text
+  pub languages : LanguagesAt (get_member (codes "languages") t) p.languages.items
+  pub slots : Lists t (codes "slot") (OfTable IsSlot) 0 46 p.slots.items
+  pub sensors : Lists t (codes "sensor") (OfTable IsSensor) 0 8 p.sensors.items
+  pub tests : Lists t (codes "self_test") (OfTable IsSelfTest) 0 8 p.tests.items
+  pub tests_differ : AllPairs (λ a b. a.number ≢ b.number) p.tests.items
+  pub statuses : Lists t (codes "status") (OfTable IsStatus) 0 8 p.status_texts.items
+  pub statuses_differ : AllPairs (λ a b. a.id ≢ b.id) p.status_texts.items
+  pub presets : May t (codes "presets") 0 (number 0 65534) p.presets
+
+pub record IsFixture (t : Members) (f : Fixture) : Type 0 where
+  pub keys : IsTrue (has_only fixture_keys t)
+  pub own : Must t (codes "uid") uid f.uid
+  pub profile : IsProfile t f.profile

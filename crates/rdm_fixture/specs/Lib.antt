@@ -1,0 +1,5 @@
+pub mod Values
+pub mod Keys
+pub mod Format
+pub mod Describes
+pub mod Cause

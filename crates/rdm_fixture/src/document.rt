@@ -1,0 +1,100 @@
+//! A text that describes a fixture.
+
+ghost use Rattle.std.specs.Prelude.{◌≡◌, ◌≢◌, ◌↔◌, None, IfOk, IfErr, IsSome};
+ghost use Rattle.toml.specs.Errors.{IsMemory};
+ghost use Rattle.toml.specs.Parse.{parse_document};
+ghost use Rattle.toml.specs.View.{table_view};
+ghost use Rattle.rdm_device.specs.Device.Profiles.{CanBeMade};
+ghost use Rattle.rdm_fixture.specs.Describes.{Describes, DescribesNothing};
+ghost use Rattle.rdm_fixture.specs.Cause.{IsCause};
+ghost use Rattle.rdm_fixture.specs.Format.{IsFixture};
+ghost use Rattle.rdm_fixture.specs.Keys.{Reads};
+
+use crate::keys::{only, own_uid};
+use crate::line::with_line;
+use crate::profile::profile;
+use crate::{Fixture, Refusal};
+use std::alloc::Global;
+use std::fmt;
+use thiserror::Error;
+use toml::Table;
+
+/// Why no fixture was read from a text.
+#[derive(Debug, Drop, Error)]
+pub enum FixtureError {
+    /// There is no memory to read it.
+    #[error("out of memory")]
+    OutOfMemory,
+    /// The text is no document of TOML.
+    #[error("{0}")]
+    Syntax(toml::de::Error),
+    /// The document is no fixture.
+    #[error("{0}")]
+    Refused(Refusal),
+}
+
+/// The fixture that the text describes.
+///
+/// It is refused exactly where it describes none: with `Syntax` where it is no document of TOML, else with the first
+/// key that doesn't say what it has to.
+pub fn profile_of(alloc: Global, text: &str) -> Result<Fixture, FixtureError>
+    ensures ok { IfOk result (Describes text.now) }
+    ensures made { IfOk result (λ f. CanBeMade f.profile) }
+    ensures refused { IfErr result (λ e. e ≢ FixtureError.OutOfMemory → DescribesNothing text.now) }
+    ensures document { IfErr result (IsCause (parse_document text.now)) }
+{
+    let table = match toml::table_from_str(alloc, text) {
+        Ok(table) => table,
+        Err(error) => return Err(not_read(error)),
+    };
+    match fixture_of(&table) {
+        Ok(fixture) => Ok(fixture),
+        Err(refusal) => Err(FixtureError::Refused(with_line(text, refusal))),
+    }
+}
+
+/// Why the text wasn't read: for want of memory, or since it is no document.
+fn not_read(error: toml::de::Error) -> FixtureError
+    ensures memory { (result ≡ FixtureError.OutOfMemory) ↔ IsMemory error }
+    ensures syntax { ¬ IsMemory error → result ≡ FixtureError.Syntax error }
+{
+    if error.is_memory() {
+        FixtureError::OutOfMemory
+    } else {
+        FixtureError::Syntax(error)
+    }
+}
+
+/// The fixture of a table, with no key besides those of the format.
+pub fn fixture_of(table: &Table) -> Result<Fixture, Refusal>
+    ensures read { Reads IsFixture (table_view table.now) result }
+    ensures made { IfOk result (λ f. CanBeMade f.profile) }
+{
+    only(
+        table,
+        &[
+            "uid",
+            "boot_software_version_id",
+            "boot_software_version_label",
+            "languages",
+            "presets",
+            "slot",
+            "sensor",
+            "self_test",
+            "status",
+            "sub_devices",
+            "device_model_id",
+            "device_model_description",
+            "manufacturer_label",
+            "device_label",
+            "product_category",
+            "software_version_id",
+            "software_version_label",
+            "dmx_start_address",
+            "personality",
+        ],
+    )?;
+    let uid = own_uid(table, "uid")?;
+    let profile = profile(table)?;
+    Ok(Fixture { uid, profile })
+}

@@ -1,0 +1,172 @@
+//! What a key of a table says.
+
+ghost use Rattle.std.specs.Prelude.{◌≡◌, ◌≤◌, ℕ, pos, IfOk, IsOk, IsTrue, ◌↔◌, [], map, option_map};
+ghost use Rattle.std.specs.Result.{result_ok};
+ghost use Rattle.std.specs.List.{list_any, list_all};
+ghost use Rattle.std.specs.Str.{bytes_eq};
+ghost use Rattle.toml.specs.Data.{get_member};
+ghost use Rattle.toml.specs.View.{view, table_view};
+ghost use Rattle.rdm_fixture.specs.Values as says;
+ghost use Rattle.rdm_fixture.specs.Keys.{must, may, has_only};
+
+use crate::refusal::{Refusal, Wanted};
+use rdm_frame::{Text, Uid};
+use toml::{Table, Value};
+
+/// What the key holds.
+pub(crate) fn find<'a>(table: &'a Table, key: &str) -> Option<&'a Value>
+    ensures { option_map (λ v. view v.now) result ≡ get_member key.now (table_view table.now) }
+{
+    table.get(key)
+}
+
+/// Refuses the first key that isn't one of these.
+pub(crate) fn only(table: &Table, keys: &[&str]) -> Result<(), Refusal>
+    ensures { IsOk result ↔ IsTrue (has_only (map (λ k. k.now) keys.now) (table_view table.now)) }
+{
+    for (key, _) in table.iter() {
+        if !is_one_of(key.as_str(), keys) {
+            return Err(Refusal::at(key.as_str(), Wanted::NoSuchKey));
+        }
+    }
+    Ok(())
+}
+
+/// Whether the key is one of these.
+fn is_one_of(key: &str, keys: &[&str]) -> bool
+    ensures { result ≡ list_any (λ k. bytes_eq key.now k.now) keys.now }
+{
+    keys.iter().any(|k| key == *k)
+}
+
+// ---- numbers
+
+/// The number of a key that has to be there.
+pub(crate) fn number(table: &Table, key: &str, least: u32, most: u32) -> Result<u32, Refusal>
+    ensures value { result_ok result ≡ must (says.number least most) (get_member key.now (table_view table.now)) }
+    ensures within { IfOk result (λ n. (least ≤ n) × (n ≤ most)) }
+{
+    match find(table, key) {
+        Some(value) => number_in(value, key, least, most),
+        None => Err(Refusal::at(key, Wanted::Key)),
+    }
+}
+
+/// The number of a key that may be left out.
+pub(crate) fn number_or(
+    table: &Table,
+    key: &str,
+    default: u32,
+    least: u32,
+    most: u32,
+) -> Result<u32, Refusal>
+    requires { (least ≤ default) × (default ≤ most) }
+    ensures value { result_ok result ≡ may default (says.number least most) (get_member key.now (table_view table.now)) }
+    ensures within { IfOk result (λ n. (least ≤ n) × (n ≤ most)) }
+{
+    match find(table, key) {
+        Some(value) => number_in(value, key, least, most),
+        None => Ok(default),
+    }
+}
+
+fn number_in(value: &Value, key: &str, least: u32, most: u32) -> Result<u32, Refusal>
+    ensures value { result_ok result ≡ says.number least most (view value.now) }
+    ensures within { IfOk result (λ n. (least ≤ n) × (n ≤ most)) }
+{
+    if let Value::Integer(z) = value
+        && *z >= i64::from(least)
+        && *z <= i64::from(most)
+    {
+        return Ok(*z as u32);
+    }
+    Err(Refusal::at(
+        key,
+        Wanted::Number {
+            least: i64::from(least),
+            most: i64::from(most),
+        },
+    ))
+}
+
+/// The signed number of 16 bits of a key that may be left out.
+pub(crate) fn signed_or(table: &Table, key: &str, default: i16) -> Result<i16, Refusal>
+    ensures { result_ok result ≡ may default says.signed (get_member key.now (table_view table.now)) }
+{
+    match find(table, key) {
+        Some(value) => signed_in(value, key),
+        None => Ok(default),
+    }
+}
+
+fn signed_in(value: &Value, key: &str) -> Result<i16, Refusal>
+    ensures { result_ok result ≡ says.signed (view value.now) }
+{
+    if let Value::Integer(z) = value
+        && *z >= -32768
+        && *z <= 32767
+    {
+        return Ok(*z as i16);
+    }
+    Err(Refusal::at(
+        key,
+        Wanted::Number {
+            least: -32768,
+            most: 32767,
+        },
+    ))
+}
+
+// ---- texts
+
+/// The text of a key that may be left out: it is empty then.
+pub(crate) fn text_or_none(table: &Table, key: &str) -> Result<Text, Refusal>
+    ensures { result_ok result ≡ may [] says.text (get_member key.now (table_view table.now)) }
+{
+    match find(table, key) {
+        Some(value) => text_in(value, key),
+        None => Ok(Text::new()),
+    }
+}
+
+fn text_in(value: &Value, key: &str) -> Result<Text, Refusal>
+    ensures { result_ok result ≡ says.text (view value.now) }
+{
+    if let Value::String(text) = value {
+        let bytes = text.as_bytes();
+        if bytes.len() <= 32 && are_printable(bytes) {
+            return Ok(Text::of(bytes));
+        }
+    }
+    Err(Refusal::at(key, Wanted::Text))
+}
+
+/// Whether every character is printable.
+fn are_printable(bytes: &[u8]) -> bool
+    ensures { result ≡ list_all says.is_printable bytes.now }
+{
+    bytes.iter().all(|b| (0x20..=0x7E).contains(b))
+}
+
+/// The UID of a key that has to be there.
+pub(crate) fn own_uid(table: &Table, key: &str) -> Result<Uid, Refusal>
+    ensures { result_ok result ≡ must says.uid (get_member key.now (table_view table.now)) }
+{
+    match find(table, key) {
+        Some(value) => uid_in(value).ok_or(Refusal::at(key, Wanted::Uid)),
+        None => Err(Refusal::at(key, Wanted::Key)),
+    }
+}
+
+fn uid_in(value: &Value) -> Option<Uid>
+    ensures { result ≡ says.uid (view value.now) }
+{
+    let Value::String(text) = value else {
+        return None;
+    };
+    let uid = Uid::from_text(text.as_bytes())?;
+    if uid.is_broadcast() {
+        return None;
+    }
+    Some(uid)
+}

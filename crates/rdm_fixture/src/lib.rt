@@ -1,0 +1,26 @@
+//! A fixture from a file: a document of TOML says what a device is made with, each parameter of ANSI E1.20-2010 under
+//! its name.
+//!
+//! `profile_of` reads the text, and refuses what isn't a fixture with the key and what was wanted there. The format is
+//! `specs/Format.antt`.
+#![tactic(auto)]
+
+mod document;
+mod fixture;
+mod keys;
+mod laws;
+mod line;
+mod lists;
+mod parts;
+mod profile;
+mod refusal;
+mod unit;
+mod writing;
+
+pub use document::{FixtureError, fixture_of, profile_of};
+pub use fixture::Fixture;
+pub use laws::{
+    fixtures_are_equal_by_value, profiles_are_equal_by_value, text_describes_one_fixture,
+};
+pub use refusal::{Entry, Name, Refusal, Wanted};
+pub use writing::{WriteError, to_toml};

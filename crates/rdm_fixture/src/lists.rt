@@ -1,0 +1,74 @@
+//! Lists of a table.
+
+ghost use Rattle.std.specs.Prelude.{◌≡◌, ◌≢◌, ◌≤◌, ◌↔◌, ℕ, List, IfOk, IsTrue, AllPairs, length, codes};
+ghost use Rattle.toml.specs.Data.{Members, get_member};
+ghost use Rattle.toml.specs.View.{view, array_view, table_view};
+ghost use Rattle.rdm_fixture.specs.Keys.{Reads, OfTable, EachIs, Lists};
+
+use crate::keys::find;
+use crate::refusal::{Refusal, Wanted};
+use arrayvec::ArrayVec;
+use toml::value::Array;
+use toml::{Table, Value};
+
+/// What an entry of a list of tables says, where the device has so many slots.
+pub(crate) trait Part: Default + Drop {
+    ghost says: { ℕ → Members → Self → Type 0 };
+
+    /// Reads the entry.
+    fn read(table: &Table, slots: u16) -> Result<Self, Refusal>
+        ensures { Reads (says slots) (table_view table.now) result };
+}
+
+/// The list at a key, of `least` entries or more.
+pub(crate) fn list<P: Part, const N: usize>(
+    table: &Table,
+    key: &str,
+    least: usize,
+    slots: u16,
+) -> Result<ArrayVec<P, N>, Refusal>
+    ensures { Reads (λ t xs. Lists t key.now (OfTable (P.says slots)) least N xs.items) (table_view table.now) result }
+{
+    let Some(value) = find(table, key) else {
+        if least > 0 {
+            return Err(Refusal::at(key, Wanted::Key));
+        }
+        return Ok(ArrayVec::new());
+    };
+    let Value::Array(entries) = value else {
+        return Err(Refusal::at(key, Wanted::List { least, most: N }));
+    };
+    if entries.len() < least || entries.len() > N {
+        return Err(Refusal::at(key, Wanted::List { least, most: N }));
+    }
+    entries_of(entries, key, slots)
+}
+
+/// The entries, one by one.
+fn entries_of<P: Part, const N: usize>(
+    entries: &Array,
+    key: &str,
+    slots: u16,
+) -> Result<ArrayVec<P, N>, Refusal>
+    requires { length entries.now.items ≤ N }
+    ensures { Reads (λ ds xs. EachIs (OfTable (P.says slots)) ds xs.items) (array_view entries.now) result }
+{
+    let mut parts = ArrayVec::new();
+    for (i, entry) in entries.iter().enumerate() {
+        match part_of(entry, key, slots) {
+            Ok(part) => parts.push(part),
+            Err(refusal) => return Err(refusal.in_entry(key, i + 1)),
+        }
+    }
+    Ok(parts)
+}
+
+/// The entry, which has to be a table.
+fn part_of<P: Part>(entry: &Value, key: &str, slots: u16) -> Result<P, Refusal>
+    ensures { Reads (OfTable (P.says slots)) (view entry.now) result }
+{
+    match entry {
+        Value::Table(table) => P::read(table, slots),
+        _ => Err(Refusal::at(key, Wanted::Table)),
+    }
+}

@@ -1,0 +1,91 @@
+//! The entries of the lists: personalities, slots, sensors, self tests and status IDs.
+
+ghost use Rattle.rdm_fixture.specs.Format.{IsPersonality, IsSlot, IsSensor, IsSelfTest, IsStatus};
+
+use crate::keys::{number, number_or, only, signed_or, text_or_none};
+use crate::lists::Part;
+use crate::refusal::Refusal;
+use rdm_device::{Personality, SelfTest, SensorDef, Slot, StatusText};
+use toml::Table;
+
+impl Part for Personality {
+    ghost says = { IsPersonality };
+
+    fn read(table: &Table, slots: u16) -> Result<Personality, Refusal> {
+        only(table, &["dmx_footprint", "description"])?;
+        Ok(Personality {
+            footprint: number(table, "dmx_footprint", 0, u32::from(slots))? as u16,
+            name: text_or_none(table, "description")?,
+        })
+    }
+}
+
+impl Part for Slot {
+    ghost says = { λ _. IsSlot };
+
+    fn read(table: &Table, _slots: u16) -> Result<Slot, Refusal> {
+        only(table, &["type", "label_id", "default_value", "description"])?;
+        Ok(Slot {
+            kind: number_or(table, "type", 0, 0, 0xFF)? as u8,
+            label: number(table, "label_id", 0, 0xFFFF)? as u16,
+            value: number_or(table, "default_value", 0, 0, 0xFF)? as u8,
+            name: text_or_none(table, "description")?,
+        })
+    }
+}
+
+impl Part for SensorDef {
+    ghost says = { λ _. IsSensor };
+
+    fn read(table: &Table, _slots: u16) -> Result<SensorDef, Refusal> {
+        only(
+            table,
+            &[
+                "type",
+                "unit",
+                "prefix",
+                "range_minimum_value",
+                "range_maximum_value",
+                "normal_minimum_value",
+                "normal_maximum_value",
+                "recorded_value_support",
+                "description",
+            ],
+        )?;
+        Ok(SensorDef {
+            kind: number(table, "type", 0, 0xFF)? as u8,
+            unit: number_or(table, "unit", 0, 0, 0xFF)? as u8,
+            prefix: number_or(table, "prefix", 0, 0, 0xFF)? as u8,
+            low: signed_or(table, "range_minimum_value", -32768)?,
+            high: signed_or(table, "range_maximum_value", 32767)?,
+            normal_low: signed_or(table, "normal_minimum_value", -32768)?,
+            normal_high: signed_or(table, "normal_maximum_value", 32767)?,
+            support: number_or(table, "recorded_value_support", 0, 0, 0xFF)? as u8,
+            name: text_or_none(table, "description")?,
+        })
+    }
+}
+
+impl Part for SelfTest {
+    ghost says = { λ _. IsSelfTest };
+
+    fn read(table: &Table, _slots: u16) -> Result<SelfTest, Refusal> {
+        only(table, &["number", "description"])?;
+        Ok(SelfTest {
+            number: number(table, "number", 1, 254)? as u8,
+            name: text_or_none(table, "description")?,
+        })
+    }
+}
+
+impl Part for StatusText {
+    ghost says = { λ _. IsStatus };
+
+    fn read(table: &Table, _slots: u16) -> Result<StatusText, Refusal> {
+        only(table, &["id", "description"])?;
+        Ok(StatusText {
+            id: number(table, "id", 0, 0xFFFF)? as u16,
+            text: text_or_none(table, "description")?,
+        })
+    }
+}

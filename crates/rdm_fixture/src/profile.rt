@@ -1,0 +1,145 @@
+//! What a device is made with.
+
+ghost use Rattle.std.specs.Prelude.{◌≡◌, ◌≢◌, ◌≤◌, ◌↔◌, ℕ, Some, IfOk, IsTrue, AllPairs, length, codes};
+ghost use Rattle.toml.specs.Data.{get_member};
+ghost use Rattle.toml.specs.View.{view, array_view, table_view};
+ghost use Rattle.rdm_fixture.specs.Format.{IsProfile, IsSlot, IsSelfTest, IsStatus, LanguagesAt, slot_count};
+ghost use Rattle.rdm_fixture.specs.Keys.{Reads, OfTable, EachIs, Lists};
+ghost use Rattle.rdm_fixture.specs.Values as says;
+
+use crate::keys::{find, number_or, text_or_none};
+use crate::lists::list;
+use crate::refusal::{Refusal, Wanted};
+use crate::unit::{sub_devices, unit};
+use arrayvec::ArrayVec;
+use rdm_device::{Profile, SelfTest, Slot, StatusText};
+use toml::value::Array;
+use toml::{Table, Value};
+
+/// The profile of a table, of which only the keys of a profile are looked at.
+pub(crate) fn profile(table: &Table) -> Result<Profile, Refusal>
+    ensures { Reads IsProfile (table_view table.now) result }
+{
+    let slots = slots(table)?;
+    let count = slots.len() as u16;
+    let root = unit(table, count)?;
+    let (subs, sub) = sub_devices(table, count)?;
+    Ok(Profile {
+        root,
+        sub,
+        subs,
+        boot: number_or(table, "boot_software_version_id", 0, 0, 0xFFFF_FFFF)?,
+        boot_text: text_or_none(table, "boot_software_version_label")?,
+        languages: languages(table)?,
+        slots,
+        sensors: list(table, "sensor", 0, 0)?,
+        tests: self_tests(table)?,
+        status_texts: status_texts(table)?,
+        presets: number_or(table, "presets", 0, 0, 65534)? as u16,
+    })
+}
+
+fn slots(table: &Table) -> Result<ArrayVec<Slot, 46>, Refusal>
+    ensures read { Reads (λ t xs. Lists t (codes "slot") (OfTable IsSlot) 0 46 xs.items) (table_view table.now) result }
+    ensures count { IfOk result (λ xs. length xs.items ≡ slot_count (get_member (codes "slot") (table_view table.now))) }
+{
+    list(table, "slot", 0, 0)
+}
+
+/// The languages, of which there is one at least.
+fn languages(table: &Table) -> Result<ArrayVec<u16, 8>, Refusal>
+    ensures { Reads (λ t xs. LanguagesAt (get_member (codes "languages") t) xs.items) (table_view table.now) result }
+{
+    let Some(value) = find(table, "languages") else {
+        let mut english = ArrayVec::new();
+        english.push(u16::from_be_bytes(*b"en"));
+        return Ok(english);
+    };
+    let Value::Array(codes) = value else {
+        return Err(Refusal::at("languages", Wanted::List { least: 1, most: 8 }));
+    };
+    if codes.is_empty() || codes.len() > 8 {
+        return Err(Refusal::at("languages", Wanted::List { least: 1, most: 8 }));
+    }
+    languages_of(codes)
+}
+
+fn languages_of(codes: &Array) -> Result<ArrayVec<u16, 8>, Refusal>
+    requires { length codes.now.items ≤ 8 }
+    ensures { Reads (λ ds xs. EachIs (λ d x. says.language d ≡ Some x) ds xs.items) (array_view codes.now) result }
+{
+    let mut languages = ArrayVec::new();
+    for code in codes {
+        let Some(language) = language_of(code) else {
+            return Err(Refusal::at("languages", Wanted::Language));
+        };
+        languages.push(language);
+    }
+    Ok(languages)
+}
+
+fn language_of(code: &Value) -> Option<u16>
+    ensures { result ≡ says.language (view code.now) }
+{
+    let Value::String(text) = code else {
+        return None;
+    };
+    match text.as_bytes() {
+        [a, b] if a.is_ascii_lowercase() && b.is_ascii_lowercase() => {
+            Some(u16::from_be_bytes([*a, *b]))
+        }
+        _ => None,
+    }
+}
+
+/// The self tests, of which no two have one number.
+fn self_tests(table: &Table) -> Result<ArrayVec<SelfTest, 8>, Refusal>
+    ensures { Reads (λ t xs. Lists t (codes "self_test") (OfTable IsSelfTest) 0 8 xs.items × AllPairs (λ a b. a.number ≢ b.number) xs.items) (table_view table.now) result }
+{
+    let tests = list(table, "self_test", 0, 0)?;
+    let again = test_again(tests.as_slice());
+    if again == 0 {
+        return Ok(tests);
+    }
+    Err(Refusal::at("number", Wanted::Other).in_entry("self_test", again))
+}
+
+/// A test, from 1, that has the number of an earlier one; 0 if there is none.
+fn test_again(tests: &[SelfTest]) -> usize
+    ensures { (result ≡ 0) ↔ AllPairs (λ a b. a.number ≢ b.number) tests.now }
+{
+    for i in 0..tests.len() {
+        for j in i + 1..tests.len() {
+            if tests[i].number == tests[j].number {
+                return j + 1;
+            }
+        }
+    }
+    0
+}
+
+/// The status IDs, of which no two are alike.
+fn status_texts(table: &Table) -> Result<ArrayVec<StatusText, 8>, Refusal>
+    ensures { Reads (λ t xs. Lists t (codes "status") (OfTable IsStatus) 0 8 xs.items × AllPairs (λ a b. a.id ≢ b.id) xs.items) (table_view table.now) result }
+{
+    let texts = list(table, "status", 0, 0)?;
+    let again = status_again(texts.as_slice());
+    if again == 0 {
+        return Ok(texts);
+    }
+    Err(Refusal::at("id", Wanted::Other).in_entry("status", again))
+}
+
+/// A status ID, from 1, that is an earlier one again; 0 if there is none.
+fn status_again(texts: &[StatusText]) -> usize
+    ensures { (result ≡ 0) ↔ AllPairs (λ a b. a.id ≢ b.id) texts.now }
+{
+    for i in 0..texts.len() {
+        for j in i + 1..texts.len() {
+            if texts[i].id == texts[j].id {
+                return j + 1;
+            }
+        }
+    }
+    0
+}

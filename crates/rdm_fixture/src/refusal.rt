@@ -1,0 +1,137 @@
+//! Why a table is no fixture, and where in it.
+
+use arrayvec::ArrayString;
+use std::fmt;
+
+/// The name of a key, of which the first 40 bytes are kept.
+pub type Name = ArrayString<40>;
+
+/// What was wanted of a key.
+#[derive(Clone, Copy, Debug, PartialEq, Eq)]
+pub enum Wanted {
+    /// It has to be there, and isn't.
+    Key,
+    /// It isn't to be there: the format has no such key.
+    NoSuchKey,
+    /// An integer of this range.
+    Number { least: i64, most: i64 },
+    /// A text of at most 32 printable ASCII characters.
+    Text,
+    /// A UID that is no broadcast.
+    Uid,
+    /// A language code of two small letters.
+    Language,
+    /// A list of so many entries.
+    List { least: usize, most: usize },
+    /// A table.
+    Table,
+    /// Another value than that of an earlier entry.
+    Other,
+}
+
+/// An entry of a list.
+#[derive(Debug, Drop, PartialEq, Eq)]
+pub struct Entry {
+    /// The key of the list.
+    pub list: Name,
+    /// Which of its entries it is, from 1.
+    pub number: usize,
+}
+
+/// Why a table is no fixture.
+#[derive(Debug, Drop, PartialEq, Eq)]
+pub struct Refusal {
+    /// Whether it is in the table of the sub-devices.
+    pub in_sub_devices: bool,
+    /// In which entry of which list it is, if in any.
+    pub entry: Option<Entry>,
+    /// The key.
+    pub key: Name,
+    /// What was wanted of it.
+    pub wanted: Wanted,
+    /// The line where the text has it, from 1: that of the key, or of its table where the key is missing. It is 0
+    /// where the line wasn't found.
+    pub line: usize,
+}
+
+impl Refusal {
+    /// At a key of the table that is read.
+    pub(crate) fn at(key: &str, wanted: Wanted) -> Refusal {
+        Refusal {
+            in_sub_devices: false,
+            entry: None,
+            key: name_of(key),
+            wanted,
+            line: 0,
+        }
+    }
+
+    /// The same in an entry of a list.
+    pub(crate) fn in_entry(self, list: &str, number: usize) -> Refusal {
+        let list = name_of(list);
+        Refusal {
+            entry: Some(Entry { list, number }),
+            ..self
+        }
+    }
+
+    /// The same in the table of the sub-devices.
+    pub(crate) fn in_sub_devices(self) -> Refusal {
+        Refusal {
+            in_sub_devices: true,
+            ..self
+        }
+    }
+
+    /// The same in this line of the text.
+    pub(crate) fn in_line(self, line: usize) -> Refusal {
+        Refusal { line, ..self }
+    }
+}
+
+/// As much of a key as is kept.
+fn name_of(key: &str) -> Name {
+    let mut name = Name::new();
+    for c in key.chars() {
+        if name.try_push(c).is_err() {
+            break;
+        }
+    }
+    name
+}
+
+impl fmt::Display for Refusal {
+    fn fmt<W: fmt::Write>(&self, f: &mut fmt::Formatter<W>) -> fmt::Result {
+        if self.line > 0 {
+            let line = self.line;
+            write!(f, "line {line}: ")?;
+        }
+        if self.in_sub_devices {
+            f.write_str("in [sub_devices], ")?;
+        }
+        if let Some(entry) = &self.entry {
+            let list = entry.list.as_str();
+            let number = entry.number;
+            write!(f, "in {list} {number}, ")?;
+        }
+        let key = self.key.as_str();
+        match self.wanted {
+            Wanted::Key => write!(f, "the key `{key}` is missing"),
+            Wanted::NoSuchKey => write!(f, "there is no key `{key}`"),
+            Wanted::Number { least, most } => {
+                write!(f, "`{key}` isn't an integer from {least} to {most}")
+            }
+            Wanted::Text => write!(
+                f,
+                "`{key}` isn't a text of at most 32 printable ASCII characters"
+            ),
+            Wanted::Uid => write!(f, "`{key}` isn't a UID of one device, as \"7FF0:00000001\""),
+            Wanted::Language => write!(f, "`{key}` isn't a language code of two small letters"),
+            Wanted::List { least, most } => {
+                write!(f, "`{key}` isn't a list of {least} to {most} entries")
+            }
+            Wanted::Table => write!(f, "`{key}` isn't a table"),
+            Wanted::Other => write!(f, "`{key}` is that of an earlier entry"),
+        }
+    }
+}

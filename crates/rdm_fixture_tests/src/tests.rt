@@ -1,0 +1,3 @@
+//! What no clause says: that the keys are those of docs/FIXTURE.md, and the words of the refusals.
+
+mod refusals;

@@ -1,0 +1,474 @@
+//! Texts, and what is told of each.
+
+use rdm_fixture::{WriteError, profile_of, to_toml};
+use rdm_frame::{Text, Uid};
+use std::alloc::Global;
+use std::process::Abort;
+use std::test::Fail;
+
+/// What a fixture has to say at least.
+const LEAST: &str =
+    "uid = \"7FF0:00000001\"\ndevice_model_id = 1\n[[personality]]\ndmx_footprint = 0\n";
+
+/// What is told of a text: nothing where it describes a fixture, which then has a text of its own.
+fn told(alloc: Global, text: &str) -> Result<String, Fail> {
+    match profile_of(alloc, text) {
+        Ok(fixture) => {
+            to_toml(alloc, &fixture)?;
+            Ok(String::new(alloc))
+        }
+        Err(error) => Ok(format!(in alloc; "{error}")?),
+    }
+}
+
+/// Reads the rows: keys before the least, tables after it, and what is told.
+fn try_rows(rt: &(impl Abort + AllocGlobal), rows: &[(&str, &str, &str)]) -> Result<(), Fail> {
+    for (before, after, expected) in rows {
+        let text = format!(in rt.alloc(); "{before}\n{LEAST}{after}")?;
+        let told = told(rt.alloc(), text.as_str())?;
+        assert!(rt; told.as_str() == *expected, "{before} {after}: {told}");
+    }
+    Ok(())
+}
+
+/// A key once for each wrong type, and one under and one over its range.
+#[test]
+fn numbers(rt: HostRuntime) -> Result<(), Fail> {
+    try_rows(
+        &rt,
+        &[
+            ("presets = 0", "", ""),
+            ("presets = 65534", "", ""),
+            (
+                "presets = 65535",
+                "",
+                "line 1: `presets` isn't an integer from 0 to 65534",
+            ),
+            (
+                "presets = -1",
+                "",
+                "line 1: `presets` isn't an integer from 0 to 65534",
+            ),
+            (
+                "presets = 1.0",
+                "",
+                "line 1: `presets` isn't an integer from 0 to 65534",
+            ),
+            (
+                "presets = \"1\"",
+                "",
+                "line 1: `presets` isn't an integer from 0 to 65534",
+            ),
+            (
+                "presets = true",
+                "",
+                "line 1: `presets` isn't an integer from 0 to 65534",
+            ),
+            (
+                "presets = [1]",
+                "",
+                "line 1: `presets` isn't an integer from 0 to 65534",
+            ),
+            ("dmx_start_address = 1", "", ""),
+            ("dmx_start_address = 512", "", ""),
+            (
+                "dmx_start_address = 0",
+                "",
+                "line 1: `dmx_start_address` isn't an integer from 1 to 512",
+            ),
+            (
+                "dmx_start_address = 513",
+                "",
+                "line 1: `dmx_start_address` isn't an integer from 1 to 512",
+            ),
+            ("product_category = 0xFFFF", "", ""),
+            (
+                "product_category = 0x10000",
+                "",
+                "line 1: `product_category` isn't an integer from 0 to 65535",
+            ),
+            ("software_version_id = 0xFFFFFFFF", "", ""),
+            (
+                "software_version_id = 0x100000000",
+                "",
+                "line 1: `software_version_id` isn't an integer from 0 to 4294967295",
+            ),
+            ("boot_software_version_id = 0xFFFFFFFF", "", ""),
+            (
+                "boot_software_version_id = 0x100000000",
+                "",
+                "line 1: `boot_software_version_id` isn't an integer from 0 to 4294967295",
+            ),
+            (
+                "",
+                "[[slot]]\nlabel_id = 0x10000",
+                "line 7: in slot 1, `label_id` isn't an integer from 0 to 65535",
+            ),
+            (
+                "",
+                "[[slot]]\nlabel_id = 1\ntype = 256",
+                "line 8: in slot 1, `type` isn't an integer from 0 to 255",
+            ),
+            (
+                "",
+                "[[slot]]\nlabel_id = 1\ndefault_value = 256",
+                "line 8: in slot 1, `default_value` isn't an integer from 0 to 255",
+            ),
+            (
+                "",
+                "[[sensor]]\ntype = 256",
+                "line 7: in sensor 1, `type` isn't an integer from 0 to 255",
+            ),
+            (
+                "",
+                "[[sensor]]\ntype = 0\nunit = 256",
+                "line 8: in sensor 1, `unit` isn't an integer from 0 to 255",
+            ),
+            (
+                "",
+                "[[sensor]]\ntype = 0\nprefix = 256",
+                "line 8: in sensor 1, `prefix` isn't an integer from 0 to 255",
+            ),
+            ("", "[[sensor]]\ntype = 0\nrange_minimum_value = -32768", ""),
+            (
+                "",
+                "[[sensor]]\ntype = 0\nrange_minimum_value = -32769",
+                "line 8: in sensor 1, `range_minimum_value` isn't an integer from -32768 to 32767",
+            ),
+            (
+                "",
+                "[[sensor]]\ntype = 0\nrange_maximum_value = 32768",
+                "line 8: in sensor 1, `range_maximum_value` isn't an integer from -32768 to 32767",
+            ),
+            (
+                "",
+                "[[sensor]]\ntype = 0\nnormal_minimum_value = 32768",
+                "line 8: in sensor 1, `normal_minimum_value` isn't an integer from -32768 to 32767",
+            ),
+            (
+                "",
+                "[[sensor]]\ntype = 0\nnormal_maximum_value = \"80\"",
+                "line 8: in sensor 1, `normal_maximum_value` isn't an integer from -32768 to 32767",
+            ),
+            (
+                "",
+                "[[sensor]]\ntype = 0\nrecorded_value_support = 256",
+                "line 8: in sensor 1, `recorded_value_support` isn't an integer from 0 to 255",
+            ),
+            (
+                "",
+                "[[self_test]]\nnumber = 0",
+                "line 7: in self_test 1, `number` isn't an integer from 1 to 254",
+            ),
+            (
+                "",
+                "[[self_test]]\nnumber = 255",
+                "line 7: in self_test 1, `number` isn't an integer from 1 to 254",
+            ),
+            (
+                "",
+                "[[self_test]]\nnumber = 1\n[[self_test]]\nnumber = 254",
+                "",
+            ),
+            (
+                "",
+                "[[status]]\nid = 0x10000",
+                "line 7: in status 1, `id` isn't an integer from 0 to 65535",
+            ),
+        ],
+    )
+}
+
+#[test]
+fn texts_and_keys(rt: HostRuntime) -> Result<(), Fail> {
+    try_rows(
+        &rt,
+        &[
+            ("device_label = \"\"", "", ""),
+            (
+                "device_label = \"an ASCII text of just 32 letters\"",
+                "",
+                "",
+            ),
+            (
+                "device_label = \"an ASCII text of only 33 letters.\"",
+                "",
+                "line 1: `device_label` isn't a text of at most 32 printable ASCII characters",
+            ),
+            (
+                "manufacturer_label = \"two\\nlines\"",
+                "",
+                "line 1: `manufacturer_label` isn't a text of at most 32 printable ASCII characters",
+            ),
+            ("software_version_label = \" ~\"", "", ""),
+            (
+                "software_version_label = \"\\u007F\"",
+                "",
+                "line 1: `software_version_label` isn't a text of at most 32 printable ASCII characters",
+            ),
+            (
+                "boot_software_version_label = \"Zürich\"",
+                "",
+                "line 1: `boot_software_version_label` isn't a text of at most 32 printable ASCII characters",
+            ),
+            (
+                "device_model_description = 1",
+                "",
+                "line 1: `device_model_description` isn't a text of at most 32 printable ASCII characters",
+            ),
+            (
+                "",
+                "description = 1",
+                "line 6: in personality 1, `description` isn't a text of at most 32 printable ASCII characters",
+            ),
+            ("languages = [\"en\", \"de\"]", "", ""),
+            (
+                "languages = []",
+                "",
+                "line 1: `languages` isn't a list of 1 to 8 entries",
+            ),
+            (
+                "languages = \"en\"",
+                "",
+                "line 1: `languages` isn't a list of 1 to 8 entries",
+            ),
+            (
+                "languages = [\"aa\", \"bb\", \"cc\", \"dd\", \"ee\", \"ff\", \"gg\", \"hh\"]",
+                "",
+                "",
+            ),
+            (
+                "languages = [\"aa\", \"bb\", \"cc\", \"dd\", \"ee\", \"ff\", \"gg\", \"hh\", \"ii\"]",
+                "",
+                "line 1: `languages` isn't a list of 1 to 8 entries",
+            ),
+            (
+                "languages = [\"EN\"]",
+                "",
+                "line 1: `languages` isn't a language code of two small letters",
+            ),
+            (
+                "languages = [\"eng\"]",
+                "",
+                "line 1: `languages` isn't a language code of two small letters",
+            ),
+            (
+                "languages = [1]",
+                "",
+                "line 1: `languages` isn't a language code of two small letters",
+            ),
+            ("preset = 1", "", "line 1: there is no key `preset`"),
+            (
+                "\"a key whose name is longer than forty letters\" = 1",
+                "",
+                "there is no key `a key whose name is longer than forty le`",
+            ),
+            (
+                "",
+                "footprint = 1",
+                "line 6: in personality 1, there is no key `footprint`",
+            ),
+            (
+                "",
+                "[[slot]]\nlabel = 1",
+                "line 7: in slot 1, there is no key `label`",
+            ),
+            (
+                "",
+                "[[sensor]]\ntype = 0\nlabel = 1",
+                "line 8: in sensor 1, there is no key `label`",
+            ),
+            (
+                "",
+                "[[self_test]]\nnumber = 1\nid = 1",
+                "line 8: in self_test 1, there is no key `id`",
+            ),
+            (
+                "",
+                "[[status]]\nid = 1\nnumber = 1",
+                "line 8: in status 1, there is no key `number`",
+            ),
+            (
+                "",
+                "[[slot]]\ntype = 1",
+                "line 6: in slot 1, the key `label_id` is missing",
+            ),
+            (
+                "",
+                "[[sensor]]\nunit = 1",
+                "line 6: in sensor 1, the key `type` is missing",
+            ),
+            (
+                "",
+                "[[self_test]]",
+                "line 6: in self_test 1, the key `number` is missing",
+            ),
+            (
+                "",
+                "[[status]]",
+                "line 6: in status 1, the key `id` is missing",
+            ),
+        ],
+    )
+}
+
+#[test]
+fn lists_and_sub_devices(rt: HostRuntime) -> Result<(), Fail> {
+    try_rows(
+        &rt,
+        &[
+            (
+                "",
+                "[[personality]]\n[[slot]]\nlabel_id = 1",
+                "line 6: in personality 2, the key `dmx_footprint` is missing",
+            ),
+            (
+                "",
+                "[[personality]]\ndmx_footprint = 1\n[[slot]]\nlabel_id = 1",
+                "",
+            ),
+            (
+                "",
+                "[[personality]]\ndmx_footprint = 2\n[[slot]]\nlabel_id = 1",
+                "line 7: in personality 2, `dmx_footprint` isn't an integer from 0 to 1",
+            ),
+            (
+                "slot = 1",
+                "",
+                "line 1: `slot` isn't a list of 0 to 46 entries",
+            ),
+            ("slot = [1]", "", "in slot 1, `slot` isn't a table"),
+            (
+                "",
+                "[[self_test]]\nnumber = 7\n[[self_test]]\nnumber = 8\n[[self_test]]\nnumber = 7",
+                "line 11: in self_test 3, `number` is that of an earlier entry",
+            ),
+            (
+                "",
+                "[[status]]\nid = 7\n[[status]]\nid = 7",
+                "line 9: in status 2, `id` is that of an earlier entry",
+            ),
+            ("sub_devices = 1", "", "line 1: `sub_devices` isn't a table"),
+            (
+                "",
+                "[sub_devices]\ndevice_model_id = 1",
+                "line 6: in [sub_devices], the key `count` is missing",
+            ),
+            (
+                "",
+                "[sub_devices]\ncount = 513",
+                "line 7: in [sub_devices], `count` isn't an integer from 0 to 512",
+            ),
+            (
+                "",
+                "[sub_devices]\ncount = 1",
+                "line 6: in [sub_devices], the key `device_model_id` is missing",
+            ),
+            (
+                "",
+                "[sub_devices]\ncount = 1\npresets = 1",
+                "line 8: in [sub_devices], there is no key `presets`",
+            ),
+            (
+                "",
+                "[sub_devices]\ncount = 1\ndevice_model_id = 1",
+                "line 6: in [sub_devices], the key `personality` is missing",
+            ),
+            (
+                "",
+                "[sub_devices]\ncount = 512\ndevice_model_id = 1\n[[sub_devices.personality]]\ndmx_footprint = 512",
+                "",
+            ),
+            (
+                "",
+                "[sub_devices]\ncount = 0\ndevice_model_id = 1\n[[sub_devices.personality]]\ndmx_footprint = 513",
+                "line 10: in [sub_devices], in personality 1, `dmx_footprint` isn't an integer from 0 to 512",
+            ),
+            (
+                "",
+                "[[personality]]\ndmx_footprint = 0\n[[personality]]\ndmx_footprint = 0\n[[personality]]\ndmx_footprint = 0\n[[personality]]\ndmx_footprint = 0\n[[personality]]\ndmx_footprint = 0\n[[personality]]\ndmx_footprint = 0\n[[personality]]\ndmx_footprint = 0",
+                "",
+            ),
+            (
+                "",
+                "[[personality]]\ndmx_footprint = 0\n[[personality]]\ndmx_footprint = 0\n[[personality]]\ndmx_footprint = 0\n[[personality]]\ndmx_footprint = 0\n[[personality]]\ndmx_footprint = 0\n[[personality]]\ndmx_footprint = 0\n[[personality]]\ndmx_footprint = 0\n[[personality]]\ndmx_footprint = 0",
+                "`personality` isn't a list of 1 to 8 entries",
+            ),
+        ],
+    )
+}
+
+/// Whole texts, of which none is a fixture.
+#[test]
+fn whole_texts(rt: HostRuntime) -> Result<(), Fail> {
+    let rows = [
+        ("", "the key `uid` is missing"),
+        (
+            "uid = \"7FF0:FFFFFFFF\"",
+            "line 1: `uid` isn't a UID of one device, as \"7FF0:00000001\"",
+        ),
+        (
+            "uid = \"7FF000000001\"",
+            "line 1: `uid` isn't a UID of one device, as \"7FF0:00000001\"",
+        ),
+        (
+            "uid = 1",
+            "line 1: `uid` isn't a UID of one device, as \"7FF0:00000001\"",
+        ),
+        (
+            "uid = \"7ff0:0000000a\"",
+            "the key `device_model_id` is missing",
+        ),
+        (
+            "uid = \"7FF0:00000001\"\ndevice_model_id = 65536",
+            "line 2: `device_model_id` isn't an integer from 0 to 65535",
+        ),
+        (
+            "uid = \"7FF0:00000001\"\ndevice_model_id = 0",
+            "the key `personality` is missing",
+        ),
+        (
+            "uid = \"7FF0:00000001\"\ndevice_model_id = 0\npersonality = []",
+            "line 3: `personality` isn't a list of 1 to 8 entries",
+        ),
+    ];
+    for (text, expected) in rows {
+        let told = told(rt.alloc(), text)?;
+        assert!(rt; told.as_str() == expected, "{text}: {told}");
+    }
+    let twice = told(rt.alloc(), "uid = 1\nuid = 2")?;
+    assert!(rt;
+        twice.as_str().starts_with("TOML parse error at line 2"),
+        "{twice}"
+    );
+    Ok(())
+}
+
+#[test]
+fn a_megabyte_of_comments(rt: HostRuntime) -> Result<(), Fail> {
+    let mut text = String::from_str(rt.alloc(), LEAST)?;
+    for _ in 0..32768 {
+        text.push_str("# thirty-two characters a line,\n")?;
+    }
+    assert_eq!(rt; told(rt.alloc(), text.as_str())?.as_str(), "");
+    Ok(())
+}
+
+/// What no file can say isn't written, and quotation marks are.
+#[test]
+fn written(rt: HostRuntime) -> Result<(), Fail> {
+    let mut fixture = profile_of(rt.alloc(), LEAST)?;
+    fixture.profile.root.label = Text::of(b"a \"label\" \\");
+    let text = to_toml(rt.alloc(), &fixture)?;
+    assert!(rt;
+        text.as_str()
+            .contains("device_label = \"a \\\"label\\\" \\\\\"\n"),
+        "{text}"
+    );
+    fixture.profile.root.label = Text::of(b"two\nlines");
+    assert!(rt; to_toml(rt.alloc(), &fixture).err() == Some(WriteError::Indescribable));
+    fixture.profile.root.label = Text::new();
+    fixture.uid = Uid::ALL;
+    assert!(rt; to_toml(rt.alloc(), &fixture).err() == Some(WriteError::Indescribable));
+    Ok(())
+}
