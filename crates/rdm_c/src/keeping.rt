@@ -1,11 +1,12 @@
 //! What a handle holds, taken out and put back.
 
-ghost use Rattle.std.specs.Prelude.{◌≡◌, Option, Some, None};
+ghost use Rattle.std.specs.Prelude.{◌≡◌, ◌≢◌, Option, Some, None};
 ghost use Rattle.std.specs.Option.{option_map};
 
 use crate::hold::Hold;
 use crate::party::Party;
 use crate::spot::Spot;
+use crate::status::Status;
 use std::alloc::Global;
 use std::mem;
 
@@ -29,6 +30,20 @@ pub(crate) fn put(hold: &mut Hold, party: Box<Party>)
     ensures { hold.new.held ≡ Some party.value }
 {
     mem::replace(hold, Hold::of(Spot::of(party))).discard();
+}
+
+/// Puts a party in the place of what a handle held, or says that there is no memory for it. The handle stays as it was then.
+pub(crate) fn replace(alloc: Global, hold: &mut Hold, party: Party) -> Status
+    ensures done { result ≡ Status.Done → hold.new.held ≡ Some party }
+    ensures refused { result ≢ Status.Done → hold.new ≡ hold.old }
+    ensures statuses { result ≢ Status.Done → result ≡ Status.OutOfMemory }
+{
+    let Ok(boxed) = Box::new(alloc, party) else {
+        return Status::OutOfMemory;
+    };
+    free(alloc, hold);
+    put(hold, boxed);
+    Status::Done
 }
 
 /// Gives up what a handle holds, if anything.

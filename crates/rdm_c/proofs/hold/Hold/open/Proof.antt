@@ -25,7 +25,6 @@ use Rattle.std.proofs.raw_atomic.Walks.{proved_at, leaves}
 use Rattle.std_alloc.specs.Box.Ownership.{box_owns}
 use Rattle.std_alloc.proofs.Pairs.{pair_val, pair_Typed}
 use Rattle.std_heap.specs.contracts.Global as heap
-
 use Rattle.rdm_c.specs.Held.{held_at, may_free}
 use Rattle.rdm_c.specs.contracts.party.Party as party
 use Rattle.rdm_c.specs.contracts.hold.Hold as hold
