@@ -1,0 +1,7 @@
+pub mod Held
+pub mod Statuses
+pub mod Jobs
+pub mod Outcomes
+pub mod Profiles
+pub mod Parties
+pub mod Messages

@@ -1,0 +1,40 @@
+-- Outcomes and reports as the numbers that C has of them.
+use Rattle.std.specs.Prelude.{ℕ, ◌==◌, if◌then◌else◌, Option, Some, None}
+use Rattle.std.specs.Option.{option_map}
+use Rattle.rdm_params.specs.declared.slow.outcome.Outcome.{Outcome}
+use Rattle.rdm_params.specs.declared.slow.outcome.Outcome.TheVariants.{Done, Reading, Failed}
+use Rattle.rdm_params.specs.declared.slow.status.Severity.{Severity}
+use Rattle.rdm_params.specs.declared.slow.status.Severity.TheVariants.{Advisory, Warning, Error, AdvisoryCleared, WarningCleared, ErrorCleared}
+use Rattle.rdm_outbox.specs.declared.job.Job.{Job}
+use Rattle.rdm_responder.specs.declared.report.Report.{Report}
+use Rattle.rdm_c.specs.declared.job.JobNumbers.{JobNumbers}
+use Rattle.rdm_c.specs.declared.outcome.OutcomeNumbers.{OutcomeNumbers}
+use Rattle.rdm_c.specs.Jobs.{job_in}
+
+-- The severity of a code. E1.20 table A-4.
+abbrev pub severity_in : ℕ → Option Severity
+severity_in code =
+    if code == 0x02 then Some Advisory
+    else if code == 0x03 then Some Warning
+    else if code == 0x04 then Some Error
+    else if code == 0x12 then Some AdvisoryCleared
+    else if code == 0x13 then Some WarningCleared
+    else if code == 0x14 then Some ErrorCleared else None
+
+abbrev pub failed_with : OutcomeNumbers → Severity → Outcome
+failed_with o severity = Failed severity o.id o.v1 o.v2
+
+-- The outcome that numbers stand for: a SET is done, a sensor gave a reading, or it failed.
+abbrev pub outcome_in : OutcomeNumbers → Option Outcome
+outcome_in o =
+    if o.kind == 0 then Some Done
+    else if o.kind == 1 then Some (Reading o.reading)
+    else if o.kind == 2 then option_map (failed_with o) (severity_in o.severity) else None
+
+abbrev pub report_of : Option Job → Option Outcome → Option Report
+report_of (Some job) (Some outcome) = Some (record { job = job; outcome = outcome })
+report_of _ _ = None
+
+-- the report that both stand for
+abbrev pub report_in : JobNumbers → OutcomeNumbers → Option Report
+report_in job outcome = report_of (job_in job) (outcome_in outcome)

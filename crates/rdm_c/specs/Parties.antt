@@ -1,0 +1,92 @@
+-- What stands behind a handle, and what C is told of a responder.
+use Rattle.std.specs.Prelude.{◌≡◌, ℕ, ◌==◌, if◌then◌else◌, Bool, true, false, List, take, length, nat_lt, Option, Some, None, IsSome}
+use Rattle.rdm_device.specs.declared.profile.Profile.{Profile}
+use Rattle.rdm_params.specs.declared.panel.Change.{Change}
+use Rattle.rdm_params.specs.declared.slow.message.Message.{Message}
+use Rattle.rdm_params.specs.declared.verdict.Verdict.{Verdict}
+use Rattle.rdm_params.specs.declared.verdict.Verdict.TheVariants.{Reply, Refuse}
+use Rattle.rdm_params.specs.Commands.Nacks.{nack_code}
+use Rattle.rdm_params.specs.Commands.Panel.{change_message}
+use Rattle.rdm_responder.specs.declared.report.Report.{Report}
+use Rattle.rdm_responder.specs.History.{History, Setup, Arrived, then_event}
+use Rattle.rdm_outbox.specs.Jobs.{has_place}
+use Rattle.rdm_responder.specs.Runs.{outbox_of}
+use Rattle.rdm_responder.specs.Rules.{account_of, answered}
+use Rattle.rdm_responder.specs.StandsFor.{StandsFor}
+use Rattle.rdm_bus.specs.Collecting.{State}
+use Rattle.rdm_c.specs.declared.party.Party.{Party}
+use Rattle.rdm_c.specs.declared.party.Party.TheVariants.{Responder, Collector}
+use Rattle.rdm_c.specs.declared.status.Status.{Status}
+use Rattle.rdm_c.specs.declared.status.Status.TheVariants as status
+use Rattle.rdm_c.specs.Statuses.{code_of}
+
+-- It is a responder, and stands for this history.
+abbrev pub IsFor : Party → History → Type 0
+IsFor (Responder station) h = StandsFor station.responder h
+IsFor (Collector collector) h = ⊥
+
+-- the handle holds a responder that stands for this history
+abbrev pub HeldFor : Option Party → History → Type 0
+HeldFor None h = ⊥
+HeldFor (Some party) h = IsFor party h
+
+-- It is a collector in this state.
+abbrev pub IsIn : Party → State → Type 0
+IsIn (Responder station) s = ⊥
+IsIn (Collector collector) s = collector ≡ s
+
+-- the handle holds a collector in this state
+abbrev pub HeldIn : Option Party → State → Type 0
+HeldIn None s = ⊥
+HeldIn (Some party) s = IsIn party s
+
+abbrev pub is_responder : Party → Bool
+is_responder (Responder station) = true
+is_responder (Collector collector) = false
+
+-- whether the handle holds a responder
+abbrev pub holds_responder : Option Party → Bool
+holds_responder None = false
+holds_responder (Some party) = is_responder party
+
+abbrev pub is_collector : Party → Bool
+is_collector (Responder station) = false
+is_collector (Collector collector) = true
+
+-- whether the handle holds a collector
+abbrev pub holds_collector : Option Party → Bool
+holds_collector None = false
+holds_collector (Some party) = is_collector party
+
+-- what a call comes to that nothing else can keep from being carried out
+abbrev pub found : Bool → Status
+found true = status.Done
+found false = status.Absent
+
+-- what a responder is set up with
+abbrev pub setup_of : ℕ → ℕ → Profile → ℕ → Setup
+setup_of maker device profile queue_size = record { uid = record { maker = maker; device = device }; profile = profile; queue_size = queue_size }
+
+-- whether the report leaves a status entry that is kept
+abbrev pub is_noted : History → Report → Bool
+is_noted h r = nat_lt (length (outbox_of h).noted) (length (outbox_of (then_event h (Arrived r))).noted)
+
+-- the bytes at the front, where this is 1
+abbrev pub told : ℕ → ℕ → List ℕ → Option (List ℕ)
+told there count bytes = answered (there == 1) (take count bytes)
+
+-- What a GET answers, as C is told it: the value at the front, or the reason of the refusal, or that there is no value
+-- since the command starts a job or fetches a message.
+abbrev pub GetTold : ℕ → ℕ → List ℕ → ℕ → Verdict → Type 0
+GetTold code count value reason (Reply body) = (code ≡ code_of status.Done) × (take count value ≡ body)
+GetTold code count value reason (Refuse nack) = (code ≡ code_of status.Refused) × (reason ≡ nack_code nack)
+GetTold code count value reason _ = code ≡ code_of status.NoValue
+
+abbrev pub in_range_told : Option Message → Status
+in_range_told None = status.OutOfRange
+in_range_told (Some message) = status.Done
+
+-- What a change at the menu comes to: there is no room for its message; or it is out of range, and changes nothing; or it is
+-- made.
+abbrev pub changed : History → Change → Status
+changed h c = if has_place (outbox_of h) then in_range_told (change_message (account_of h).parameters c) else status.NoRoom

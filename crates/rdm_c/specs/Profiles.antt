@@ -1,0 +1,73 @@
+-- The profile that a plain struct of C's stands for. A count that is greater than its array stands for the whole array.
+use Rattle.std.specs.Prelude.{ℕ, List, map, take}
+use Rattle.rdm_device.specs.declared.profile.Personality.{Personality}
+use Rattle.rdm_device.specs.declared.profile.Profile.{Profile}
+use Rattle.rdm_device.specs.declared.profile.SelfTest.{SelfTest}
+use Rattle.rdm_device.specs.declared.profile.SensorDef.{SensorDef}
+use Rattle.rdm_device.specs.declared.profile.Slot.{Slot}
+use Rattle.rdm_device.specs.declared.profile.StatusText.{StatusText}
+use Rattle.rdm_device.specs.declared.profile.Unit.{Unit as DeviceUnit}
+use Rattle.rdm_c.specs.declared.profile.TextNumbers.{TextNumbers}
+use Rattle.rdm_c.specs.declared.profile.PersonalityNumbers.{PersonalityNumbers}
+use Rattle.rdm_c.specs.declared.profile.SlotNumbers.{SlotNumbers}
+use Rattle.rdm_c.specs.declared.profile.SensorNumbers.{SensorNumbers}
+use Rattle.rdm_c.specs.declared.profile.SelfTestNumbers.{SelfTestNumbers}
+use Rattle.rdm_c.specs.declared.profile.StatusTextNumbers.{StatusTextNumbers}
+use Rattle.rdm_c.specs.declared.profile.UnitNumbers.{UnitNumbers}
+use Rattle.rdm_c.specs.declared.profile.ProfileNumbers.{ProfileNumbers}
+
+abbrev pub text_in : TextNumbers → List ℕ
+text_in t = take t.count t.bytes
+
+abbrev pub personality_in : PersonalityNumbers → Personality
+personality_in p = record { footprint = p.footprint; name = text_in p.name }
+
+abbrev pub slot_in : SlotNumbers → Slot
+slot_in s = record { kind = s.kind; label = s.label; value = s.value; name = text_in s.name }
+
+abbrev pub sensor_in : SensorNumbers → SensorDef
+sensor_in s = record {
+  kind = s.kind;
+  unit = s.unit;
+  prefix = s.prefix;
+  low = s.low;
+  high = s.high;
+  normal_low = s.normal_low;
+  normal_high = s.normal_high;
+  support = s.support;
+  name = text_in s.name;
+}
+
+abbrev pub test_in : SelfTestNumbers → SelfTest
+test_in t = record { number = t.number; name = text_in t.name }
+
+abbrev pub status_text_in : StatusTextNumbers → StatusText
+status_text_in s = record { id = s.id; text = text_in s.text }
+
+abbrev pub unit_in : UnitNumbers → DeviceUnit
+unit_in u = record {
+  model = u.model;
+  category = u.category;
+  software = u.software;
+  model_text = text_in u.model_text;
+  maker_text = text_in u.maker_text;
+  label = text_in u.label;
+  software_text = text_in u.software_text;
+  personalities = record { items = map personality_in (take u.personality_count u.personalities) };
+  start = u.start;
+}
+
+abbrev pub profile_in : ProfileNumbers → Profile
+profile_in p = record {
+  root = unit_in p.root;
+  sub = unit_in p.sub;
+  subs = p.subs;
+  boot = p.boot;
+  boot_text = text_in p.boot_text;
+  languages = record { items = take p.language_count p.languages };
+  slots = record { items = map slot_in (take p.slot_count p.slots) };
+  sensors = record { items = map sensor_in (take p.sensor_count p.sensors) };
+  tests = record { items = map test_in (take p.test_count p.tests) };
+  status_texts = record { items = map status_text_in (take p.status_text_count p.status_texts) };
+  presets = p.presets;
+}

@@ -1,0 +1,31 @@
+-- The codes of what became of a call, as the header lists them.
+use Rattle.std.specs.Prelude.{ℕ, Option, Some, None}
+use Rattle.rdm_bus.specs.declared.collector.AskError.{AskError}
+use Rattle.rdm_bus.specs.declared.collector.AskError.TheVariants as ask
+use Rattle.rdm_c.specs.declared.status.Status.{Status}
+use Rattle.rdm_c.specs.declared.status.Status.TheVariants.{Done, OutOfMemory, BadProfile, BadSize, BadUid, Absent, Astray, Unknown, Refused, NoValue, Reserved, Busy, TooLong, NoMore, NoRoom, OutOfRange}
+
+abbrev pub code_of : Status → ℕ
+code_of Done = 0
+code_of OutOfMemory = 1
+code_of BadProfile = 2
+code_of BadSize = 3
+code_of BadUid = 4
+code_of Absent = 5
+code_of Astray = 6
+code_of Unknown = 7
+code_of Refused = 8
+code_of NoValue = 9
+code_of Reserved = 10
+code_of Busy = 11
+code_of TooLong = 12
+code_of NoMore = 13
+code_of NoRoom = 14
+code_of OutOfRange = 15
+
+-- what a collector's refusal of a command is called, and what it is called that there is none
+abbrev pub of_refusal : Option AskError → Status
+of_refusal None = Done
+of_refusal (Some ask.Reserved) = Reserved
+of_refusal (Some ask.Busy) = Busy
+of_refusal (Some ask.TooLong) = TooLong

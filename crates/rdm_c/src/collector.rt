@@ -1,0 +1,184 @@
+//! The collector, as C calls it.
+
+ghost use Rattle.std.specs.Prelude.{◌≡◌, ◌≢◌, ◌↔◌, ◌≤◌, [], ◌∷◌, IfSome, IsSome, MatchOption, None, Some, drop, false, slice_get, take};
+ghost use Rattle.rdm_frame.specs.FrameText.{frame_text, IsFrame};
+ghost use Rattle.rdm_bus.specs.Collecting.{State, new_collector, refusal_of, poll_request, command_request, after_ask, after_poll, heard_in, after_hearing, without_transaction};
+ghost use Rattle.rdm_c.specs.Messages.{action_in, command_in, heard_code, message_in, want_in};
+ghost use Rattle.rdm_c.specs.Parties.{HeldIn, found, holds_collector};
+ghost use Rattle.rdm_c.specs.Statuses.{code_of, of_refusal};
+
+use crate::console;
+use crate::hold::Hold;
+use crate::keeping::{free, put, replace, take};
+use crate::message::{CommandNumbers, MessageNumbers, want_in};
+use crate::party::Party;
+use crate::status::Status;
+use rdm_bus::Collector;
+use rdm_frame::Uid;
+use std::alloc::Global;
+
+/// Makes a collector with this UID for the messages of the target, in the place of what the handle held. `wants` is the
+/// least severity of the status entries that it wants: 02 for advisories, 03 for warnings, 04 for errors (E1.20 table A-4).
+/// Any other is unknown; then, and where memory is refused, the handle stays as it was.
+#[unsafe(no_mangle)]
+pub extern "C" fn felosumay_collector_new(
+    alloc: Global,
+    collector: &mut Hold,
+    maker: u16,
+    device: u32,
+    target_maker: u16,
+    target_device: u32,
+    wants: u8,
+) -> u8
+    ensures made { IfSome (want_in wants) (λ want. result ≡ code_of Status.Done → HeldIn collector.new.held
+        (new_collector (record { maker = maker; device = device }) (record { maker = target_maker; device = target_device }) want)) }
+    ensures unknown { (result ≡ code_of Status.Unknown) ↔ (want_in wants ≡ None) }
+    ensures refused { result ≢ code_of Status.Done → collector.new ≡ collector.old }
+    ensures codes { result ≢ code_of Status.Done → result ≢ code_of Status.Unknown → result ≡ code_of Status.OutOfMemory }
+{
+    let Some(want) = want_in(wants) else {
+        return Status::Unknown.code();
+    };
+    let uid = Uid { maker, device };
+    let target = Uid {
+        maker: target_maker,
+        device: target_device,
+    };
+    let made = Collector::new(alloc, uid, target, want);
+    replace(alloc, collector, Party::Collector(made)).code()
+}
+
+/// Sends a command: its request stands at the front of `request` then, and a transaction is open.
+///
+/// The numbers are unknown where the command class is none of discovery, GET and SET, whatever the handle holds. The
+/// parameters QUEUED_MESSAGE and STATUS_MESSAGES are reserved for the collector; else it is busy while a transaction is
+/// open; else more than 231 bytes of data are too long. Nothing changes where it is refused.
+#[unsafe(no_mangle)]
+pub extern "C" fn felosumay_collector_ask(
+    alloc: Global,
+    collector: &mut Hold,
+    command: &CommandNumbers,
+    load: &[u8],
+    request: &mut [u8; 257],
+    count: &mut usize,
+) -> u8
+    ensures unknown { (result ≡ code_of Status.Unknown) ↔ (action_in command.now.command_class ≡ None) }
+    ensures absent { IfSome (command_in command.now load.now) (λ c.
+        (result ≡ code_of Status.Absent) ↔ (holds_collector collector.old.held ≡ false)) }
+    ensures refused { IfSome (command_in command.now load.now) (λ c. (s : State) → HeldIn collector.old.held s →
+        result ≡ code_of (of_refusal (refusal_of s c))) }
+    ensures sent { IfSome (command_in command.now load.now) (λ c. (s : State) → HeldIn collector.old.held s →
+        result ≡ code_of Status.Done → take count.new request.new ≡ frame_text (command_request s c)) }
+    ensures is_frame { IfSome (command_in command.now load.now) (λ c. (s : State) → HeldIn collector.old.held s →
+        result ≡ code_of Status.Done → IsFrame (command_request s c)) }
+    ensures after { IfSome (command_in command.now load.now) (λ c. (s : State) → HeldIn collector.old.held s →
+        result ≡ code_of Status.Done → HeldIn collector.new.held (after_ask s c)) }
+    ensures same { result ≢ code_of Status.Done → collector.new.held ≡ collector.old.held }
+{
+    let Some(command) = command.command(load) else {
+        return Status::Unknown.code();
+    };
+    let Some(mut party) = take(alloc, collector) else {
+        return Status::Absent.code();
+    };
+    let status = console::ask(&mut party, &command, request, count);
+    put(collector, party);
+    status.code()
+}
+
+/// Sends a poll for the target's next message, or for the last one again where the last poll wasn't answered: its request
+/// stands at the front of `request` then, and a transaction is open. It is busy while one is open; else memory for the
+/// answer may be refused. Nothing changes then.
+#[unsafe(no_mangle)]
+pub extern "C" fn felosumay_collector_poll(
+    alloc: Global,
+    collector: &mut Hold,
+    request: &mut [u8; 257],
+    count: &mut usize,
+) -> u8
+    ensures absent { (result ≡ code_of Status.Absent) ↔ (holds_collector collector.old.held ≡ false) }
+    ensures busy { (s : State) → HeldIn collector.old.held s → ((result ≡ code_of Status.Busy) ↔ IsSome s.transaction) }
+    ensures sent { (s : State) → HeldIn collector.old.held s → result ≡ code_of Status.Done →
+        take count.new request.new ≡ frame_text (poll_request s) }
+    ensures is_frame { (s : State) → HeldIn collector.old.held s → result ≡ code_of Status.Done → IsFrame (poll_request s) }
+    ensures after { (s : State) → HeldIn collector.old.held s → result ≡ code_of Status.Done →
+        HeldIn collector.new.held (after_poll s) }
+    ensures same { result ≢ code_of Status.Done → collector.new.held ≡ collector.old.held }
+    ensures codes { result ≢ code_of Status.Done → result ≢ code_of Status.Absent → result ≢ code_of Status.Busy →
+        result ≡ code_of Status.OutOfMemory }
+{
+    let Some(mut party) = take(alloc, collector) else {
+        return Status::Absent.code();
+    };
+    let status = console::poll(&mut party, request, count);
+    put(collector, party);
+    status.code()
+}
+
+/// Hears bytes, and tells what they are taken for: 0 for nothing, 1 for the message that answers the open poll, which is
+/// recorded, 2 for the reply to the open command.
+#[unsafe(no_mangle)]
+pub extern "C" fn felosumay_collector_hear(
+    alloc: Global,
+    collector: &mut Hold,
+    bytes: &[u8],
+    heard: &mut u8,
+) -> u8
+    ensures status { result ≡ code_of (found (holds_collector collector.old.held)) }
+    ensures heard { (s : State) → HeldIn collector.old.held s → heard.new ≡ heard_code (heard_in s bytes.now) }
+    ensures after { (s : State) → HeldIn collector.old.held s → HeldIn collector.new.held (after_hearing s bytes.now) }
+    ensures absent { result ≢ code_of Status.Done → collector.new.held ≡ collector.old.held }
+{
+    let Some(mut party) = take(alloc, collector) else {
+        return Status::Absent.code();
+    };
+    let status = console::hear(&mut party, bytes, heard);
+    put(collector, party);
+    status.code()
+}
+
+/// Ends the open transaction, if there is one, without an answer. A poll that ends so stays unanswered.
+#[unsafe(no_mangle)]
+pub extern "C" fn felosumay_collector_over(alloc: Global, collector: &mut Hold) -> u8
+    ensures status { result ≡ code_of (found (holds_collector collector.old.held)) }
+    ensures after { (s : State) → HeldIn collector.old.held s → HeldIn collector.new.held (without_transaction s) }
+    ensures absent { result ≢ code_of Status.Done → collector.new.held ≡ collector.old.held }
+{
+    let Some(mut party) = take(alloc, collector) else {
+        return Status::Absent.code();
+    };
+    let status = console::over(&mut party);
+    put(collector, party);
+    status.code()
+}
+
+/// Takes the first message that was recorded and not taken yet, and tells of it. There may be no more. The collector
+/// forgets a message that was taken, and later ones take its room.
+#[unsafe(no_mangle)]
+pub extern "C" fn felosumay_collector_next(
+    alloc: Global,
+    collector: &mut Hold,
+    message: &mut MessageNumbers,
+) -> u8
+    ensures next { (s : State) → HeldIn collector.old.held s → MatchOption (slice_get s.recorded 0) (result ≡ code_of Status.NoMore)
+        (λ m. (result ≡ code_of Status.Done) × (message_in message.new ≡ m)) }
+    ensures after { (s : State) → HeldIn collector.old.held s →
+        HeldIn collector.new.held (record s { recorded = drop 1 s.recorded }) }
+    ensures absent { holds_collector collector.old.held ≡ false →
+        (result ≡ code_of Status.Absent) × (collector.new.held ≡ collector.old.held) }
+{
+    let Some(mut party) = take(alloc, collector) else {
+        return Status::Absent.code();
+    };
+    let status = console::next(&mut party, message);
+    put(collector, party);
+    status.code()
+}
+
+/// Gives up the collector that the handle holds, if any, and its memory.
+#[unsafe(no_mangle)]
+pub extern "C" fn felosumay_collector_free(alloc: Global, collector: &mut Hold)
+    ensures { collector.new.held ≡ None }
+{
+    free(alloc, collector);
+}

@@ -1,0 +1,155 @@
+//! What a collector does for C.
+
+ghost use Rattle.std.specs.Prelude.{◌≡◌, ◌≢◌, ◌↔◌, [], ◌∷◌, IsSome, MatchOption, drop, false, slice_get, take};
+ghost use Rattle.rdm_frame.specs.FrameText.{frame_text, IsFrame};
+ghost use Rattle.rdm_bus.specs.Collecting.{State, refusal_of, poll_request, command_request, after_ask, after_poll, heard_in, after_hearing, without_transaction};
+ghost use Rattle.rdm_c.specs.Messages.{heard_code, message_in};
+ghost use Rattle.rdm_c.specs.Parties.{IsIn, found, is_collector};
+ghost use Rattle.rdm_c.specs.Statuses.{of_refusal};
+
+use crate::front::write_front;
+use crate::message::{MessageNumbers, heard_code};
+use crate::party::Party;
+use crate::status::Status;
+use rdm_bus::{AskError, Collector, Command, PollError};
+
+/// Sends a command: writes its request to the front.
+pub(crate) fn ask(
+    party: &mut Party,
+    command: &Command,
+    request: &mut [u8; 257],
+    count: &mut usize,
+) -> Status
+    ensures refused { (s : State) → IsIn party.old s → result ≡ of_refusal (refusal_of s command.now) }
+    ensures sent { (s : State) → IsIn party.old s → result ≡ Status.Done →
+        take count.new request.new ≡ frame_text (command_request s command.now) }
+    ensures is_frame { (s : State) → IsIn party.old s → result ≡ Status.Done → IsFrame (command_request s command.now) }
+    ensures after { (s : State) → IsIn party.old s → result ≡ Status.Done → IsIn party.new (after_ask s command.now) }
+    ensures same { result ≢ Status.Done → party.new ≡ party.old }
+    ensures absent { (result ≡ Status.Absent) ↔ (is_collector party.old ≡ false) }
+    ensures known { result ≢ Status.Unknown }
+{
+    match party {
+        Party::Responder(_) => Status::Absent,
+        Party::Collector(collector) => send(collector, command, request, count),
+    }
+}
+
+/// Sends a command, as `ask`.
+fn send(
+    collector: &mut Collector,
+    command: &Command,
+    request: &mut [u8; 257],
+    count: &mut usize,
+) -> Status
+    ensures refused { result ≡ of_refusal (refusal_of collector.old command.now) }
+    ensures sent { result ≡ Status.Done → take count.new request.new ≡ frame_text (command_request collector.old command.now) }
+    ensures is_frame { result ≡ Status.Done → IsFrame (command_request collector.old command.now) }
+    ensures after { result ≡ Status.Done → collector.new ≡ after_ask collector.old command.now }
+    ensures same { result ≢ Status.Done → collector.new ≡ collector.old }
+    ensures found { (result ≢ Status.Absent) × (result ≢ Status.Unknown) }
+{
+    match collector.ask(command) {
+        Ok(wire) => {
+            *count = write_front(wire.as_slice(), request);
+            Status::Done
+        }
+        Err(AskError::Reserved) => Status::Reserved,
+        Err(AskError::Busy) => Status::Busy,
+        Err(AskError::TooLong) => Status::TooLong,
+    }
+}
+
+/// Sends a poll: writes its request to the front.
+pub(crate) fn poll(party: &mut Party, request: &mut [u8; 257], count: &mut usize) -> Status
+    ensures busy { (s : State) → IsIn party.old s → ((result ≡ Status.Busy) ↔ IsSome s.transaction) }
+    ensures sent { (s : State) → IsIn party.old s → result ≡ Status.Done → take count.new request.new ≡ frame_text (poll_request s) }
+    ensures is_frame { (s : State) → IsIn party.old s → result ≡ Status.Done → IsFrame (poll_request s) }
+    ensures after { (s : State) → IsIn party.old s → result ≡ Status.Done → IsIn party.new (after_poll s) }
+    ensures same { result ≢ Status.Done → party.new ≡ party.old }
+    ensures absent { (result ≡ Status.Absent) ↔ (is_collector party.old ≡ false) }
+    ensures statuses { result ≢ Status.Done → result ≢ Status.Absent → result ≢ Status.Busy → result ≡ Status.OutOfMemory }
+{
+    match party {
+        Party::Responder(_) => Status::Absent,
+        Party::Collector(collector) => send_poll(collector, request, count),
+    }
+}
+
+/// Sends a poll, as `poll`.
+fn send_poll(collector: &mut Collector, request: &mut [u8; 257], count: &mut usize) -> Status
+    ensures busy { (result ≡ Status.Busy) ↔ IsSome collector.old.transaction }
+    ensures sent { result ≡ Status.Done → take count.new request.new ≡ frame_text (poll_request collector.old) }
+    ensures is_frame { result ≡ Status.Done → IsFrame (poll_request collector.old) }
+    ensures after { result ≡ Status.Done → collector.new ≡ after_poll collector.old }
+    ensures same { result ≢ Status.Done → collector.new ≡ collector.old }
+    ensures found { result ≢ Status.Absent }
+    ensures statuses { result ≢ Status.Done → result ≢ Status.Busy → result ≡ Status.OutOfMemory }
+{
+    match collector.poll() {
+        Ok(wire) => {
+            *count = write_front(wire.as_slice(), request);
+            Status::Done
+        }
+        Err(PollError::OutOfMemory) => Status::OutOfMemory,
+        Err(PollError::Busy) => Status::Busy,
+    }
+}
+
+/// Hears bytes, and tells what they are taken for.
+pub(crate) fn hear(party: &mut Party, bytes: &[u8], heard: &mut u8) -> Status
+    ensures status { result ≡ found (is_collector party.old) }
+    ensures heard { (s : State) → IsIn party.old s → heard.new ≡ heard_code (heard_in s bytes.now) }
+    ensures after { (s : State) → IsIn party.old s → IsIn party.new (after_hearing s bytes.now) }
+    ensures absent { result ≢ Status.Done → party.new ≡ party.old }
+{
+    match party {
+        Party::Responder(_) => Status::Absent,
+        Party::Collector(collector) => {
+            *heard = heard_code(collector.hear(bytes));
+            Status::Done
+        }
+    }
+}
+
+/// Ends the open transaction, if there is one, without an answer.
+pub(crate) fn over(party: &mut Party) -> Status
+    ensures status { result ≡ found (is_collector party.old) }
+    ensures after { (s : State) → IsIn party.old s → IsIn party.new (without_transaction s) }
+    ensures absent { result ≢ Status.Done → party.new ≡ party.old }
+{
+    match party {
+        Party::Responder(_) => Status::Absent,
+        Party::Collector(collector) => {
+            collector.over();
+            Status::Done
+        }
+    }
+}
+
+/// Takes the first message that was recorded, and tells of it.
+pub(crate) fn next(party: &mut Party, message: &mut MessageNumbers) -> Status
+    ensures next { (s : State) → IsIn party.old s → MatchOption (slice_get s.recorded 0) (result ≡ Status.NoMore)
+        (λ m. (result ≡ Status.Done) × (message_in message.new ≡ m)) }
+    ensures after { (s : State) → IsIn party.old s → IsIn party.new (record s { recorded = drop 1 s.recorded }) }
+    ensures absent { is_collector party.old ≡ false → (result ≡ Status.Absent) × (party.new ≡ party.old) }
+{
+    match party {
+        Party::Responder(_) => Status::Absent,
+        Party::Collector(collector) => take_first(collector, message),
+    }
+}
+
+/// Takes the first message, as `next`.
+fn take_first(collector: &mut Collector, message: &mut MessageNumbers) -> Status
+    ensures next { MatchOption (slice_get collector.old.recorded 0) (result ≡ Status.NoMore)
+        (λ m. (result ≡ Status.Done) × (message_in message.new ≡ m)) }
+    ensures after { collector.new ≡ record collector.old { recorded = drop 1 collector.old.recorded } }
+{
+    let Some(first) = collector.recorded().first() else {
+        return Status::NoMore;
+    };
+    message.tell(first);
+    collector.forget(1);
+    Status::Done
+}

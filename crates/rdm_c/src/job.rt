@@ -1,0 +1,129 @@
+//! A job as numbers.
+
+ghost use Rattle.std.specs.Prelude.{◌≡◌, Some};
+ghost use Rattle.std.specs.Option.{option_map};
+ghost use Rattle.rdm_c.specs.Jobs.{job_in, numbers_of, class_of, verb_in, started_in};
+
+use rdm_outbox::Job;
+use rdm_params::{Verb, Work, estimate_of, worker_of};
+
+/// The command class of a GET (E1.20 table A-1).
+const GET_COMMAND: u8 = 0x20;
+
+/// The command class of a SET (table A-1).
+const SET_COMMAND: u8 = 0x30;
+
+/// A slow command that was accepted. The header calls it `felosumay_job`.
+#[repr(C)]
+#[derive(Clone, Copy)]
+pub struct JobNumbers {
+    /// The number of the job: how many its worker was given before.
+    pub number: u32,
+    /// How long it takes, in tenths of a second, as the controller was told (E1.20 section 6.3.3).
+    pub estimate: u16,
+    /// The sub-device, or 0 for the root.
+    pub sub: u16,
+    /// The PID.
+    pub pid: u16,
+    /// The command class: GET or SET (table A-1).
+    pub command_class: u8,
+    /// The byte that was handed in.
+    pub argument: u8,
+    /// The worker whose job it is: 0 or 1.
+    pub worker: u8,
+}
+
+/// What became of bytes that were heard. The header calls it `felosumay_stepped`.
+#[repr(C)]
+#[derive(Clone, Copy)]
+pub struct SteppedNumbers {
+    /// How many bytes the reply has.
+    pub count: usize,
+    /// 1 where there is a reply, else 0.
+    pub replied: u8,
+    /// 1 where a job started, else 0.
+    pub started: u8,
+    /// The job that started.
+    pub job: JobNumbers,
+}
+
+impl JobNumbers {
+    /// The numbers of a job. They stand for just this job.
+    pub(crate) fn of(job: &Job) -> JobNumbers
+        ensures numbers { result ≡ numbers_of job.now }
+        ensures same { job_in result ≡ Some job.now }
+    {
+        JobNumbers {
+            number: job.number,
+            estimate: estimate_of(&job.work),
+            sub: job.work.sub,
+            pid: job.work.pid,
+            command_class: class_of(job.work.verb),
+            argument: job.work.arg,
+            worker: worker_of(&job.work),
+        }
+    }
+
+    /// The job that the numbers stand for, or `None` where the command class is neither GET's nor SET's. The estimate and
+    /// the worker follow from the rest, and aren't read.
+    pub(crate) fn job(&self) -> Option<Job>
+        ensures { result ≡ job_in self.now }
+    {
+        let verb = verb_in(self.command_class)?;
+        Some(Job {
+            number: self.number,
+            work: Work {
+                sub: self.sub,
+                pid: self.pid,
+                verb,
+                arg: self.argument,
+            },
+        })
+    }
+}
+
+impl SteppedNumbers {
+    /// Tells that there is neither a reply nor a job.
+    pub(crate) fn clear(&mut self)
+        ensures { self.new ≡ record self.old { count = 0; replied = 0; started = 0 } }
+    {
+        self.count = 0;
+        self.replied = 0;
+        self.started = 0;
+    }
+
+    /// Tells of the job that started, if one did.
+    pub(crate) fn tell_job(&mut self, job: Option<Job>)
+        ensures job { started_in self.new ≡ option_map numbers_of job }
+        ensures reply { (self.new.count ≡ self.old.count) × (self.new.replied ≡ self.old.replied) }
+    {
+        match job {
+            Some(job) => {
+                self.started = 1;
+                self.job = JobNumbers::of(&job);
+            }
+            None => self.started = 0,
+        }
+    }
+}
+
+/// The command class of a GET or a SET.
+fn class_of(verb: Verb) -> u8
+    ensures { result ≡ class_of verb }
+{
+    match verb {
+        Verb::Get => GET_COMMAND,
+        Verb::Set => SET_COMMAND,
+    }
+}
+
+/// The command of a command class, if it is a GET or a SET.
+fn verb_in(command_class: u8) -> Option<Verb>
+    ensures { result ≡ verb_in command_class }
+{
+    match command_class {
+        GET_COMMAND => Some(Verb::Get),
+        SET_COMMAND => Some(Verb::Set),
+        _ => None,
+    }
+}

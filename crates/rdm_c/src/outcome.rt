@@ -1,0 +1,72 @@
+//! The outcome of a job as numbers.
+
+ghost use Rattle.std.specs.Prelude.{◌≡◌};
+ghost use Rattle.rdm_c.specs.Outcomes.{severity_in, outcome_in, report_in};
+
+use crate::job::JobNumbers;
+use rdm_params::{Outcome, Severity};
+use rdm_responder::Report;
+
+/// How a job ended. The header calls it `felosumay_outcome`.
+#[repr(C)]
+#[derive(Clone, Copy)]
+pub struct OutcomeNumbers {
+    /// 0 where a SET is done, 1 where a sensor gave a reading, 2 where it failed.
+    pub kind: u8,
+    /// Where it failed: how bad it is (E1.20 table A-4).
+    pub severity: u8,
+    /// What the sensor measured.
+    pub reading: i16,
+    /// Where it failed: the status ID (section 10.3.3).
+    pub id: u16,
+    /// Where it failed: the first value that the text of the status ID names.
+    pub v1: u16,
+    /// Where it failed: the second value.
+    pub v2: u16,
+}
+
+impl OutcomeNumbers {
+    /// The outcome that the numbers stand for, if they do.
+    pub(crate) fn outcome(&self) -> Option<Outcome>
+        ensures { result ≡ outcome_in self.now }
+    {
+        match self.kind {
+            0 => Some(Outcome::Done),
+            1 => Some(Outcome::Reading(self.reading)),
+            2 => {
+                let severity = severity_in(self.severity)?;
+                Some(Outcome::Failed {
+                    severity,
+                    id: self.id,
+                    v1: self.v1,
+                    v2: self.v2,
+                })
+            }
+            _ => None,
+        }
+    }
+}
+
+/// The severity of a code (E1.20 table A-4).
+fn severity_in(code: u8) -> Option<Severity>
+    ensures { result ≡ severity_in code }
+{
+    match code {
+        0x02 => Some(Severity::Advisory),
+        0x03 => Some(Severity::Warning),
+        0x04 => Some(Severity::Error),
+        0x12 => Some(Severity::AdvisoryCleared),
+        0x13 => Some(Severity::WarningCleared),
+        0x14 => Some(Severity::ErrorCleared),
+        _ => None,
+    }
+}
+
+/// The report that the numbers of a job and of an outcome stand for, if both stand for something.
+pub(crate) fn report_in(job: &JobNumbers, outcome: &OutcomeNumbers) -> Option<Report>
+    ensures { result ≡ report_in job.now outcome.now }
+{
+    let job = job.job()?;
+    let outcome = outcome.outcome()?;
+    Some(Report { job, outcome })
+}

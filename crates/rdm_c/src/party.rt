@@ -1,0 +1,23 @@
+//! What stands behind a handle.
+
+use rdm_bus::Collector;
+use rdm_frame::Wire;
+use rdm_responder::Responder;
+
+/// A responder, and the room for the bytes of its replies.
+#[derive(Drop)]
+pub struct Station {
+    /// The device on the bus.
+    pub(crate) responder: Responder,
+    /// Where each reply is written first.
+    pub(crate) wire: Wire,
+}
+
+/// What stands behind a handle.
+#[derive(Drop)]
+pub enum Party {
+    /// A device on the bus.
+    Responder(Station),
+    /// A controller that collects the messages of a device.
+    Collector(Collector),
+}

@@ -1,0 +1,100 @@
+//! What C reads of a responder.
+
+ghost use Rattle.std.specs.Prelude.{◌≡◌, ◌≢◌, ◌==◌, false, length};
+ghost use Rattle.rdm_params.specs.Commands.Commands.{got};
+ghost use Rattle.rdm_outbox.specs.Jobs.{has_place, outstanding_count, waiting_of};
+ghost use Rattle.rdm_responder.specs.History.{History};
+ghost use Rattle.rdm_responder.specs.Rules.{account_of};
+ghost use Rattle.rdm_responder.specs.Runs.{outbox_of};
+ghost use Rattle.rdm_c.specs.Statuses.{code_of};
+ghost use Rattle.rdm_c.specs.Parties.{HeldFor, GetTold, found, holds_responder};
+
+use crate::hold::Hold;
+use crate::keeping::{put, take};
+use crate::station::{get, outstanding, room, waiting};
+use crate::status::Status;
+use std::alloc::Global;
+
+/// Reads a parameter, as a GET of this sub-device, PID and argument would: the value stands at the front of `value`, and
+/// `count` says how many bytes it has; or it is refused, and `reason` is the code of the NACK (E1.20 table A-17); or there
+/// is no value, since the command starts a job or fetches a message.
+#[unsafe(no_mangle)]
+pub extern "C" fn felosumay_responder_get(
+    alloc: Global,
+    responder: &mut Hold,
+    sub: u16,
+    pid: u16,
+    argument: &[u8],
+    value: &mut [u8; 231],
+    count: &mut usize,
+    reason: &mut u16,
+) -> u8
+    ensures told { (h : History) → HeldFor responder.old.held h →
+        GetTold result count.new value.new reason.new (got (account_of h).parameters sub pid argument.now) }
+    ensures absent { holds_responder responder.old.held ≡ false → result ≡ code_of Status.Absent }
+    ensures same { responder.new.held ≡ responder.old.held }
+{
+    let Some(party) = take(alloc, responder) else {
+        return Status::Absent.code();
+    };
+    let status = get(&party, sub, pid, argument, value, count, reason);
+    put(responder, party);
+    status.code()
+}
+
+/// Tells how many messages wait for the controller.
+#[unsafe(no_mangle)]
+pub extern "C" fn felosumay_responder_waiting(
+    alloc: Global,
+    responder: &mut Hold,
+    count: &mut usize,
+) -> u8
+    ensures status { result ≡ code_of (found (holds_responder responder.old.held)) }
+    ensures count { (h : History) → HeldFor responder.old.held h → count.new ≡ length (waiting_of (outbox_of h)) }
+    ensures same { responder.new.held ≡ responder.old.held }
+{
+    let Some(party) = take(alloc, responder) else {
+        return Status::Absent.code();
+    };
+    let status = waiting(&party, count);
+    put(responder, party);
+    status.code()
+}
+
+/// Tells how many jobs are outstanding.
+#[unsafe(no_mangle)]
+pub extern "C" fn felosumay_responder_outstanding(
+    alloc: Global,
+    responder: &mut Hold,
+    count: &mut usize,
+) -> u8
+    ensures status { result ≡ code_of (found (holds_responder responder.old.held)) }
+    ensures count { (h : History) → HeldFor responder.old.held h → count.new ≡ outstanding_count (outbox_of h) }
+    ensures same { responder.new.held ≡ responder.old.held }
+{
+    let Some(party) = take(alloc, responder) else {
+        return Status::Absent.code();
+    };
+    let status = outstanding(&party, count);
+    put(responder, party);
+    status.code()
+}
+
+/// Tells whether there is room for the message of a change at the fixture's own menu: `there` is 1 then, else 0.
+#[unsafe(no_mangle)]
+pub extern "C" fn felosumay_responder_room(
+    alloc: Global,
+    responder: &mut Hold,
+    there: &mut u8,
+) -> u8
+    ensures status { result ≡ code_of (found (holds_responder responder.old.held)) }
+    ensures room { (h : History) → HeldFor responder.old.held h → (there.new == 1) ≡ has_place (outbox_of h) }
+    ensures same { responder.new.held ≡ responder.old.held }
+{
+    let Some(party) = take(alloc, responder) else {
+        return Status::Absent.code();
+    };
+    let status = room(&party, there);
+    put(responder, party);
+    status.code()
+}

@@ -1,0 +1,183 @@
+//! The responder, as C calls it: made, given up, and what happens to it.
+
+ghost use Rattle.std.specs.Prelude.{◌≡◌, ◌≢◌, ◌↔◌, ◌≤◌, ◌==◌, None, Err, false, IfSome, IfOk, IfErr};
+ghost use Rattle.std.specs.Option.{option_map};
+ghost use Rattle.rdm_device.specs.Device.Demo.{demo};
+ghost use Rattle.rdm_device.specs.Device.Profiles.{CanBeMade};
+ghost use Rattle.rdm_responder.specs.History.{History, Heard, Arrived, empty_history, then_event};
+ghost use Rattle.rdm_responder.specs.Lawful.{IsLawful};
+ghost use Rattle.rdm_responder.specs.Rules.{reply_of, job_of};
+ghost use Rattle.rdm_responder.specs.StandsFor.{IsQueueSize, StandsFor};
+ghost use Rattle.rdm_c.specs.Statuses.{code_of};
+ghost use Rattle.rdm_c.specs.Jobs.{numbers_of, started_in};
+ghost use Rattle.rdm_c.specs.Outcomes.{report_in};
+ghost use Rattle.rdm_c.specs.Profiles.{profile_in};
+ghost use Rattle.rdm_c.specs.Parties.{HeldFor, found, holds_responder, is_noted, setup_of, told};
+
+use crate::hold::Hold;
+use crate::job::{JobNumbers, SteppedNumbers};
+use crate::keeping::{free, put, replace, take};
+use crate::outcome::{OutcomeNumbers, report_in};
+use crate::party::{Party, Station};
+use crate::profile::ProfileNumbers;
+use crate::station::{arrive, step};
+use crate::status::Status;
+use rdm_frame::{Uid, Wire};
+use rdm_params::Profile;
+use rdm_responder::{NewError, Responder};
+use std::alloc::Global;
+
+/// Makes a responder of this profile, in the place of what the handle held.
+///
+/// A UID that addresses more than one device is refused first, then a size that isn't 1 to 1,024, then a profile that
+/// breaks a rule or has more than 512 sub-devices, and last comes want of memory. Where it is refused, the handle stays
+/// as it was.
+#[unsafe(no_mangle)]
+pub extern "C" fn felosumay_responder_new(
+    alloc: Global,
+    responder: &mut Hold,
+    maker: u16,
+    device: u32,
+    profile: &ProfileNumbers,
+    queue_size: u16,
+) -> u8
+    ensures made { result ≡ code_of Status.Done → HeldFor responder.new.held (empty_history (setup_of maker device (profile_in profile.now) queue_size)) }
+    ensures bad_uid { (result ≡ code_of Status.BadUid) ↔ (device ≡ 0xFFFFFFFF) }
+    ensures bad_size { (result ≡ code_of Status.BadSize) ↔ ((device ≢ 0xFFFFFFFF) × ¬ IsQueueSize queue_size) }
+    ensures bad_profile { (result ≡ code_of Status.BadProfile)
+        ↔ ((device ≢ 0xFFFFFFFF) × IsQueueSize queue_size × ¬ CanBeMade (profile_in profile.now)) }
+    ensures codes { result ≤ 4 }
+    ensures refused { result ≢ code_of Status.Done → responder.new ≡ responder.old }
+{
+    let uid = Uid { maker, device };
+    start(alloc, responder, uid, profile.profile(), queue_size).code()
+}
+
+/// Makes a responder that is the demonstration fixture with so many sub-devices, in the place of what the handle held.
+///
+/// It is refused as `felosumay_responder_new` says, and a profile is bad only where there are more than 512 sub-devices.
+#[unsafe(no_mangle)]
+pub extern "C" fn felosumay_responder_demo(
+    alloc: Global,
+    responder: &mut Hold,
+    maker: u16,
+    device: u32,
+    subs: u16,
+    queue_size: u16,
+) -> u8
+    ensures made { result ≡ code_of Status.Done → HeldFor responder.new.held (empty_history (setup_of maker device (demo subs) queue_size)) }
+    ensures bad_uid { (result ≡ code_of Status.BadUid) ↔ (device ≡ 0xFFFFFFFF) }
+    ensures bad_size { (result ≡ code_of Status.BadSize) ↔ ((device ≢ 0xFFFFFFFF) × ¬ IsQueueSize queue_size) }
+    ensures bad_profile { (result ≡ code_of Status.BadProfile)
+        ↔ ((device ≢ 0xFFFFFFFF) × IsQueueSize queue_size × ¬ CanBeMade (demo subs)) }
+    ensures codes { result ≤ 4 }
+    ensures refused { result ≢ code_of Status.Done → responder.new ≡ responder.old }
+{
+    let uid = Uid { maker, device };
+    start(alloc, responder, uid, Profile::demo(subs), queue_size).code()
+}
+
+/// Hears bytes, and tells of the reply, whose bytes stand at the front of `reply` then, and of the job that started. The
+/// answer to discovery is a reply as any other.
+#[unsafe(no_mangle)]
+pub extern "C" fn felosumay_responder_step(
+    alloc: Global,
+    responder: &mut Hold,
+    bytes: &[u8],
+    reply: &mut [u8; 257],
+    stepped: &mut SteppedNumbers,
+) -> u8
+    ensures status { result ≡ code_of (found (holds_responder responder.old.held)) }
+    ensures reply { (h : History) → HeldFor responder.old.held h → told stepped.new.replied stepped.new.count reply.new ≡ reply_of h bytes.now }
+    ensures job { (h : History) → HeldFor responder.old.held h → started_in stepped.new ≡ option_map numbers_of (job_of h bytes.now) }
+    ensures stands { (h : History) → HeldFor responder.old.held h → HeldFor responder.new.held (then_event h (Heard bytes.now)) }
+    ensures absent { holds_responder responder.old.held ≡ false →
+        (responder.new.held ≡ responder.old.held) × (stepped.new.replied ≡ 0) × (stepped.new.started ≡ 0) }
+{
+    let Some(mut party) = take(alloc, responder) else {
+        stepped.clear();
+        return Status::Absent.code();
+    };
+    let status = step(&mut party, bytes, reply, stepped);
+    put(responder, party);
+    status.code()
+}
+
+/// Takes the report of a job, and says whether it noted a status entry: `kept` is 1 then, else 0.
+///
+/// The job is as `felosumay_responder_step` told of it. The numbers are unknown where they stand for no report, whatever
+/// the handle holds. It is astray where the report isn't of the oldest outstanding job of its worker, or its outcome
+/// doesn't fit the job. Nothing changes then.
+#[unsafe(no_mangle)]
+pub extern "C" fn felosumay_responder_arrive(
+    alloc: Global,
+    responder: &mut Hold,
+    job: &JobNumbers,
+    outcome: &OutcomeNumbers,
+    kept: &mut u8,
+) -> u8
+    ensures unknown { (result ≡ code_of Status.Unknown) ↔ (report_in job.now outcome.now ≡ None) }
+    ensures absent { IfSome (report_in job.now outcome.now) (λ r.
+        (result ≡ code_of Status.Absent) ↔ (holds_responder responder.old.held ≡ false)) }
+    ensures lawful { IfSome (report_in job.now outcome.now) (λ r. (h : History) → IsLawful h → HeldFor responder.old.held h →
+        ((result ≡ code_of Status.Done) ↔ IsLawful (then_event h (Arrived r)))) }
+    ensures stands { IfSome (report_in job.now outcome.now) (λ r. (h : History) → HeldFor responder.old.held h →
+        result ≡ code_of Status.Done → HeldFor responder.new.held (then_event h (Arrived r))) }
+    ensures kept { IfSome (report_in job.now outcome.now) (λ r. (h : History) → HeldFor responder.old.held h →
+        result ≡ code_of Status.Done → (kept.new == 1) ≡ is_noted h r) }
+    ensures same { result ≢ code_of Status.Done → responder.new.held ≡ responder.old.held }
+{
+    let Some(report) = report_in(job, outcome) else {
+        return Status::Unknown.code();
+    };
+    let Some(mut party) = take(alloc, responder) else {
+        return Status::Absent.code();
+    };
+    let status = arrive(&mut party, report, kept);
+    put(responder, party);
+    status.code()
+}
+
+/// Gives up the responder that the handle holds, if any, and its memory.
+#[unsafe(no_mangle)]
+pub extern "C" fn felosumay_responder_free(alloc: Global, responder: &mut Hold)
+    ensures { responder.new.held ≡ None }
+{
+    free(alloc, responder);
+}
+
+/// Makes a responder, in the place of what the handle held.
+fn start(alloc: Global, responder: &mut Hold, uid: Uid, profile: Profile, queue_size: u16) -> Status
+    ensures made { result ≡ Status.Done → HeldFor responder.new.held (empty_history (setup_of uid.maker uid.device profile queue_size)) }
+    ensures bad_uid { (result ≡ Status.BadUid) ↔ (uid.device ≡ 0xFFFFFFFF) }
+    ensures bad_size { (result ≡ Status.BadSize) ↔ ((uid.device ≢ 0xFFFFFFFF) × ¬ IsQueueSize queue_size) }
+    ensures bad_profile { (result ≡ Status.BadProfile) ↔ ((uid.device ≢ 0xFFFFFFFF) × IsQueueSize queue_size × ¬ CanBeMade profile) }
+    ensures codes { code_of result ≤ 4 }
+    ensures refused { result ≢ Status.Done → responder.new ≡ responder.old }
+{
+    match station(alloc, uid, profile, queue_size) {
+        Ok(made) => replace(alloc, responder, Party::Responder(made)),
+        Err(status) => status,
+    }
+}
+
+/// A responder with the room for its replies.
+fn station(alloc: Global, uid: Uid, profile: Profile, queue_size: u16) -> Result<Station, Status>
+    ensures made { IfOk result (λ s. StandsFor s.responder (empty_history (setup_of uid.maker uid.device profile queue_size))) }
+    ensures bad_uid { (result ≡ Err Status.BadUid) ↔ (uid.device ≡ 0xFFFFFFFF) }
+    ensures bad_size { (result ≡ Err Status.BadSize) ↔ ((uid.device ≢ 0xFFFFFFFF) × ¬ IsQueueSize queue_size) }
+    ensures bad_profile { (result ≡ Err Status.BadProfile)
+        ↔ ((uid.device ≢ 0xFFFFFFFF) × IsQueueSize queue_size × ¬ CanBeMade profile) }
+    ensures codes { IfErr result (λ status. (code_of status ≤ 4) × (status ≢ Status.Done)) }
+{
+    match Responder::new(alloc, uid, profile, queue_size) {
+        Ok(made) => Ok(Station {
+            responder: made,
+            wire: Wire::new(),
+        }),
+        Err(NewError::OutOfMemory) => Err(Status::OutOfMemory),
+        Err(NewError::BadProfile) => Err(Status::BadProfile),
+        Err(NewError::BadSize) => Err(Status::BadSize),
+        Err(NewError::BadUid) => Err(Status::BadUid),
+    }
+}

@@ -1,0 +1,67 @@
+//! What became of a call.
+
+ghost use Rattle.std.specs.Prelude.{◌≡◌};
+ghost use Rattle.rdm_c.specs.Statuses.{code_of};
+
+/// What became of a call, as `enum` of the header lists it.
+#[derive(Clone, Copy)]
+pub enum Status {
+    /// It was carried out.
+    Done,
+    /// Memory was refused.
+    OutOfMemory,
+    /// The profile breaks a rule, or has too many sub-devices.
+    BadProfile,
+    /// The size of the queue isn't 1 to 1,024.
+    BadSize,
+    /// The UID addresses more than one device.
+    BadUid,
+    /// The handle holds no such party.
+    Absent,
+    /// The report isn't of the oldest job of its worker, or its outcome doesn't fit.
+    Astray,
+    /// A number that was handed in stands for nothing.
+    Unknown,
+    /// The command is refused, and a reason is given.
+    Refused,
+    /// The command doesn't answer with a value.
+    NoValue,
+    /// Only the collector itself may ask for the parameter.
+    Reserved,
+    /// A transaction is open.
+    Busy,
+    /// There are more data than fit.
+    TooLong,
+    /// There is nothing more.
+    NoMore,
+    /// There is no room for one more message.
+    NoRoom,
+    /// A SET of the value would be out of range.
+    OutOfRange,
+}
+
+impl Status {
+    /// The code that C is told.
+    pub(crate) fn code(self) -> u8
+        ensures { result ≡ code_of self }
+    {
+        match self {
+            Status::Done => 0,
+            Status::OutOfMemory => 1,
+            Status::BadProfile => 2,
+            Status::BadSize => 3,
+            Status::BadUid => 4,
+            Status::Absent => 5,
+            Status::Astray => 6,
+            Status::Unknown => 7,
+            Status::Refused => 8,
+            Status::NoValue => 9,
+            Status::Reserved => 10,
+            Status::Busy => 11,
+            Status::TooLong => 12,
+            Status::NoMore => 13,
+            Status::NoRoom => 14,
+            Status::OutOfRange => 15,
+        }
+    }
+}
