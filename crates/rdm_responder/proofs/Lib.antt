@@ -4,3 +4,4 @@ pub mod Changes
 pub mod Lawfulness
 pub mod Runs
 pub mod Shown
+pub mod Room

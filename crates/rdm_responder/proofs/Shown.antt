@@ -33,11 +33,11 @@ use Rattle.rdm_responder.specs.StandsFor.{State, Shows}
 use Rattle.rdm_responder.proofs.Arrivals.{some_outstanding}
 
 -- no worker has ended more jobs than it was given, and no more messages were given than arrived
-record IsWithin (b : outbox.Account) : Type 0 where
+pub record IsWithin (b : outbox.Account) : Type 0 where
   pub ended : (w : ℕ) → ended_of w b.ended ≤ length (jobs_of w b.accepted)
   pub given : b.given ≤ length b.arrived
 
-either : (P : outbox.Account → Type 0) (c : Bool) (x y : outbox.Account) → P x → P y → P (cond c x y)
+pub either : (P : outbox.Account → Type 0) (c : Bool) (x y : outbox.Account) → P x → P y → P (cond c x y)
 either P true x y one two = one
 either P false x y one two = two
 
@@ -85,7 +85,7 @@ ends_at b worker w true e few some =
     subst (λ (k : ℕ). ended_of k b.ended + 1 ≤ length (jobs_of k b.accepted)) (eqb-true worker w e) (within_more (ended_of worker b.ended) (jobs_of worker b.accepted) some)
 ends_at b worker w false e few some = omega (arith, few)
 
-ended_one : (worker w : ℕ) (ws : List ℕ) → ended_of w (ws ++ worker ∷ []) ≡ ended_of w ws + cond (worker == w) 1 0
+pub ended_one : (worker w : ℕ) (ws : List ℕ) → ended_of w (ws ++ worker ∷ []) ≡ ended_of w ws + cond (worker == w) 1 0
 ended_one worker w ws = omega (arith, ended_sum w worker ws)
 
 arrives : (b : outbox.Account) (worker : ℕ) (m : Message) → 0 < length (outstanding_of b worker) → IsWithin b → IsWithin (after_arrive b worker m)
@@ -106,7 +106,7 @@ after_posting : (b : outbox.Account) (message : Option Message) → IsWithin b �
 after_posting b None is = is
 after_posting b (Some m) is = record { ended = is.ended; given = omega (arith, is.given, length-append b.arrived (m ∷ [])) }
 
-after_event : (a : Account) (e : Event) → MayHappen a e → IsWithin a.outbox → IsWithin (account_after a e).outbox
+pub after_event : (a : Account) (e : Event) → MayHappen a e → IsWithin a.outbox → IsWithin (account_after a e).outbox
 after_event a (Heard bytes) may is = after_request a (request_in a.setup.uid (frame_in bytes)) is
 after_event a (Arrived r) may is =
     after_the_outcome _ _ r.job.work r.outcome

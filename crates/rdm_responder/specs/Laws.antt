@@ -2,10 +2,11 @@
 use Rattle.std.specs.Prelude.{◌≡◌, ◌≤◌, length}
 use Rattle.rdm_outbox.specs.Account as outbox
 use Rattle.rdm_outbox.specs.Jobs.{jobs_of, ended_of}
+use Rattle.rdm_outbox.specs.State.{HasRoom}
 use Rattle.rdm_responder.specs.History.{History}
 use Rattle.rdm_responder.specs.Lawful.{IsLawful}
 use Rattle.rdm_responder.specs.Runs.{outbox_of}
-use Rattle.rdm_responder.specs.StandsFor.{State, StandsFor}
+use Rattle.rdm_responder.specs.StandsFor.{State, StandsFor, IsQueueSize}
 
 -- What `StandsFor` asks of jobs and messages beside equations: no worker has ended more jobs than it was given, and no more
 -- messages were given than arrived.
@@ -23,3 +24,9 @@ abbrev pub LawfulHistoriesHaveOneState : Type 0
 LawfulHistoriesHaveOneState =
     (h : History) → IsLawful h
     → (state : State) × StandsFor state h × ((other : State) → StandsFor other h → other ≡ state)
+
+-- And where the setup has room for 1 to 1,024 results that state has the room that an outbox keeps: jobs and messages are no
+-- more than there are places for, no worker was given more jobs than it may be, and at most 1,024 entries are to be shown.
+abbrev pub LawfulHistoriesHaveRoom : Type 0
+LawfulHistoriesHaveRoom =
+    (h : History) → IsLawful h → IsQueueSize h.setup.queue_size → (state : State) → StandsFor state h → HasRoom state.outbox

@@ -1,7 +1,7 @@
 //! Laws of histories, and of `==`, by which tests compare. Each is the contract of a call that does nothing.
 
 ghost use Rattle.std.specs.Prelude.{◌≡◌, ◌↔◌, IsTrue};
-ghost use Rattle.rdm_responder.specs.Laws.{LawfulHistoriesCanBeShown, LawfulHistoriesHaveOneState};
+ghost use Rattle.rdm_responder.specs.Laws.{LawfulHistoriesCanBeShown, LawfulHistoriesHaveOneState, LawfulHistoriesHaveRoom};
 
 use crate::{Arrival, Astray, NewError, NoRoom, Output, Report, Stepped};
 use rdm_frame::bytes_are_equal_by_value;
@@ -9,10 +9,12 @@ use rdm_outbox::jobs_are_equal_by_value;
 use rdm_params::{changes_are_equal_by_value, messages_are_equal_by_value};
 
 /// For every lawful history there is one state that stands for it, and no other: a history in which each report was of the
-/// oldest outstanding job of its worker ends no more jobs than were accepted, and gives no more messages than arrived.
+/// oldest outstanding job of its worker ends no more jobs than were accepted, and gives no more messages than arrived. That
+/// state has the room that an outbox keeps.
 pub fn lawful_histories_have_one_state()
     ensures shown { LawfulHistoriesCanBeShown }
     ensures state { LawfulHistoriesHaveOneState }
+    ensures room { LawfulHistoriesHaveRoom }
 {}
 
 /// Two reports are equal by `==` exactly where their jobs and their outcomes are.
