@@ -10,6 +10,25 @@ use std::test::Fail;
 const LEAST: &str =
     "uid = \"7FF0:00000001\"\ndevice_model_id = 1\n[[personality]]\ndmx_footprint = 0\n";
 
+/// With that of the least, as many personalities as there can be.
+const SEVEN_MORE: &str = "[[personality]]\ndmx_footprint = 0\n \
+    [[personality]]\ndmx_footprint = 0\n \
+    [[personality]]\ndmx_footprint = 0\n \
+    [[personality]]\ndmx_footprint = 0\n \
+    [[personality]]\ndmx_footprint = 0\n \
+    [[personality]]\ndmx_footprint = 0\n \
+    [[personality]]\ndmx_footprint = 0\n";
+
+/// And one more.
+const EIGHT_MORE: &str = "[[personality]]\ndmx_footprint = 0\n \
+    [[personality]]\ndmx_footprint = 0\n \
+    [[personality]]\ndmx_footprint = 0\n \
+    [[personality]]\ndmx_footprint = 0\n \
+    [[personality]]\ndmx_footprint = 0\n \
+    [[personality]]\ndmx_footprint = 0\n \
+    [[personality]]\ndmx_footprint = 0\n \
+    [[personality]]\ndmx_footprint = 0\n";
+
 /// What is told of a text: nothing where it describes a fixture, which then has a text of its own.
 fn told(alloc: Global, text: &str) -> Result<String, Fail> {
     match profile_of(alloc, text) {
@@ -384,14 +403,10 @@ fn lists_and_sub_devices(rt: HostRuntime) -> Result<(), Fail> {
                 "[sub_devices]\ncount = 0\ndevice_model_id = 1\n[[sub_devices.personality]]\ndmx_footprint = 513",
                 "line 10: in [sub_devices], in personality 1, `dmx_footprint` isn't an integer from 0 to 512",
             ),
+            ("", SEVEN_MORE, ""),
             (
                 "",
-                "[[personality]]\ndmx_footprint = 0\n[[personality]]\ndmx_footprint = 0\n[[personality]]\ndmx_footprint = 0\n[[personality]]\ndmx_footprint = 0\n[[personality]]\ndmx_footprint = 0\n[[personality]]\ndmx_footprint = 0\n[[personality]]\ndmx_footprint = 0",
-                "",
-            ),
-            (
-                "",
-                "[[personality]]\ndmx_footprint = 0\n[[personality]]\ndmx_footprint = 0\n[[personality]]\ndmx_footprint = 0\n[[personality]]\ndmx_footprint = 0\n[[personality]]\ndmx_footprint = 0\n[[personality]]\ndmx_footprint = 0\n[[personality]]\ndmx_footprint = 0\n[[personality]]\ndmx_footprint = 0",
+                EIGHT_MORE,
                 "`personality` isn't a list of 1 to 8 entries",
             ),
         ],
