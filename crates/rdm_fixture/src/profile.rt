@@ -94,7 +94,8 @@ fn language_of(code: &Value) -> Option<u16>
 
 /// The self tests, of which no two have one number.
 fn self_tests(table: &Table) -> Result<ArrayVec<SelfTest, 8>, Refusal>
-    ensures { Reads (λ t xs. Lists t (codes "self_test") (OfTable IsSelfTest) 0 8 xs.items × AllPairs (λ a b. a.number ≢ b.number) xs.items) (table_view table.now) result }
+    ensures { Reads (λ t xs. Lists t (codes "self_test") (OfTable IsSelfTest) 0 8 xs.items
+        × AllPairs (λ a b. a.number ≢ b.number) xs.items) (table_view table.now) result }
 {
     let tests = list(table, "self_test", 0, 0)?;
     let again = test_again(tests.as_slice());
@@ -120,7 +121,8 @@ fn test_again(tests: &[SelfTest]) -> usize
 
 /// The status IDs, of which no two are alike.
 fn status_texts(table: &Table) -> Result<ArrayVec<StatusText, 8>, Refusal>
-    ensures { Reads (λ t xs. Lists t (codes "status") (OfTable IsStatus) 0 8 xs.items × AllPairs (λ a b. a.id ≢ b.id) xs.items) (table_view table.now) result }
+    ensures { Reads (λ t xs. Lists t (codes "status") (OfTable IsStatus) 0 8 xs.items
+        × AllPairs (λ a b. a.id ≢ b.id) xs.items) (table_view table.now) result }
 {
     let texts = list(table, "status", 0, 0)?;
     let again = status_again(texts.as_slice());

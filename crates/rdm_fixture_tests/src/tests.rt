@@ -1,3 +1,34 @@
 //! What no clause says: that the keys are those of docs/FIXTURE.md, and the words of the refusals.
 
+mod numbers;
 mod refusals;
+
+use rdm_fixture::{profile_of, to_toml};
+use std::alloc::Global;
+use std::process::Abort;
+use std::test::Fail;
+
+/// What a fixture has to say at least.
+const LEAST: &str =
+    "uid = \"7FF0:00000001\"\ndevice_model_id = 1\n[[personality]]\ndmx_footprint = 0\n";
+
+/// What is told of a text: nothing where it describes a fixture, which then has a text of its own.
+fn told(alloc: Global, text: &str) -> Result<String, Fail> {
+    match profile_of(alloc, text) {
+        Ok(fixture) => {
+            to_toml(alloc, &fixture)?;
+            Ok(String::new(alloc))
+        }
+        Err(error) => Ok(format!(in alloc; "{error}")?),
+    }
+}
+
+/// Reads the rows: keys before the least, tables after it, and what is told.
+fn try_rows(rt: &(impl Abort + AllocGlobal), rows: &[(&str, &str, &str)]) -> Result<(), Fail> {
+    for (before, after, expected) in rows {
+        let text = format!(in rt.alloc(); "{before}\n{LEAST}{after}")?;
+        let told = told(rt.alloc(), text.as_str())?;
+        assert!(rt; told.as_str() == *expected, "{before} {after}: {told}");
+    }
+    Ok(())
+}

@@ -1,183 +1,28 @@
 //! Texts, and what is told of each.
 
+use super::{LEAST, told, try_rows};
 use rdm_fixture::{WriteError, profile_of, to_toml};
 use rdm_frame::{Text, Uid};
-use std::alloc::Global;
-use std::process::Abort;
 use std::test::Fail;
 
-/// What a fixture has to say at least.
-const LEAST: &str =
-    "uid = \"7FF0:00000001\"\ndevice_model_id = 1\n[[personality]]\ndmx_footprint = 0\n";
+/// With that of the least, as many personalities as there can be.
+const SEVEN_MORE: &str = "[[personality]]\ndmx_footprint = 0\n \
+    [[personality]]\ndmx_footprint = 0\n \
+    [[personality]]\ndmx_footprint = 0\n \
+    [[personality]]\ndmx_footprint = 0\n \
+    [[personality]]\ndmx_footprint = 0\n \
+    [[personality]]\ndmx_footprint = 0\n \
+    [[personality]]\ndmx_footprint = 0\n";
 
-/// What is told of a text: nothing where it describes a fixture, which then has a text of its own.
-fn told(alloc: Global, text: &str) -> Result<String, Fail> {
-    match profile_of(alloc, text) {
-        Ok(fixture) => {
-            to_toml(alloc, &fixture)?;
-            Ok(String::new(alloc))
-        }
-        Err(error) => Ok(format!(in alloc; "{error}")?),
-    }
-}
-
-/// Reads the rows: keys before the least, tables after it, and what is told.
-fn try_rows(rt: &(impl Abort + AllocGlobal), rows: &[(&str, &str, &str)]) -> Result<(), Fail> {
-    for (before, after, expected) in rows {
-        let text = format!(in rt.alloc(); "{before}\n{LEAST}{after}")?;
-        let told = told(rt.alloc(), text.as_str())?;
-        assert!(rt; told.as_str() == *expected, "{before} {after}: {told}");
-    }
-    Ok(())
-}
-
-/// A key once for each wrong type, and one under and one over its range.
-#[test]
-fn numbers(rt: HostRuntime) -> Result<(), Fail> {
-    try_rows(
-        &rt,
-        &[
-            ("presets = 0", "", ""),
-            ("presets = 65534", "", ""),
-            (
-                "presets = 65535",
-                "",
-                "line 1: `presets` isn't an integer from 0 to 65534",
-            ),
-            (
-                "presets = -1",
-                "",
-                "line 1: `presets` isn't an integer from 0 to 65534",
-            ),
-            (
-                "presets = 1.0",
-                "",
-                "line 1: `presets` isn't an integer from 0 to 65534",
-            ),
-            (
-                "presets = \"1\"",
-                "",
-                "line 1: `presets` isn't an integer from 0 to 65534",
-            ),
-            (
-                "presets = true",
-                "",
-                "line 1: `presets` isn't an integer from 0 to 65534",
-            ),
-            (
-                "presets = [1]",
-                "",
-                "line 1: `presets` isn't an integer from 0 to 65534",
-            ),
-            ("dmx_start_address = 1", "", ""),
-            ("dmx_start_address = 512", "", ""),
-            (
-                "dmx_start_address = 0",
-                "",
-                "line 1: `dmx_start_address` isn't an integer from 1 to 512",
-            ),
-            (
-                "dmx_start_address = 513",
-                "",
-                "line 1: `dmx_start_address` isn't an integer from 1 to 512",
-            ),
-            ("product_category = 0xFFFF", "", ""),
-            (
-                "product_category = 0x10000",
-                "",
-                "line 1: `product_category` isn't an integer from 0 to 65535",
-            ),
-            ("software_version_id = 0xFFFFFFFF", "", ""),
-            (
-                "software_version_id = 0x100000000",
-                "",
-                "line 1: `software_version_id` isn't an integer from 0 to 4294967295",
-            ),
-            ("boot_software_version_id = 0xFFFFFFFF", "", ""),
-            (
-                "boot_software_version_id = 0x100000000",
-                "",
-                "line 1: `boot_software_version_id` isn't an integer from 0 to 4294967295",
-            ),
-            (
-                "",
-                "[[slot]]\nlabel_id = 0x10000",
-                "line 7: in slot 1, `label_id` isn't an integer from 0 to 65535",
-            ),
-            (
-                "",
-                "[[slot]]\nlabel_id = 1\ntype = 256",
-                "line 8: in slot 1, `type` isn't an integer from 0 to 255",
-            ),
-            (
-                "",
-                "[[slot]]\nlabel_id = 1\ndefault_value = 256",
-                "line 8: in slot 1, `default_value` isn't an integer from 0 to 255",
-            ),
-            (
-                "",
-                "[[sensor]]\ntype = 256",
-                "line 7: in sensor 1, `type` isn't an integer from 0 to 255",
-            ),
-            (
-                "",
-                "[[sensor]]\ntype = 0\nunit = 256",
-                "line 8: in sensor 1, `unit` isn't an integer from 0 to 255",
-            ),
-            (
-                "",
-                "[[sensor]]\ntype = 0\nprefix = 256",
-                "line 8: in sensor 1, `prefix` isn't an integer from 0 to 255",
-            ),
-            ("", "[[sensor]]\ntype = 0\nrange_minimum_value = -32768", ""),
-            (
-                "",
-                "[[sensor]]\ntype = 0\nrange_minimum_value = -32769",
-                "line 8: in sensor 1, `range_minimum_value` isn't an integer from -32768 to 32767",
-            ),
-            (
-                "",
-                "[[sensor]]\ntype = 0\nrange_maximum_value = 32768",
-                "line 8: in sensor 1, `range_maximum_value` isn't an integer from -32768 to 32767",
-            ),
-            (
-                "",
-                "[[sensor]]\ntype = 0\nnormal_minimum_value = 32768",
-                "line 8: in sensor 1, `normal_minimum_value` isn't an integer from -32768 to 32767",
-            ),
-            (
-                "",
-                "[[sensor]]\ntype = 0\nnormal_maximum_value = \"80\"",
-                "line 8: in sensor 1, `normal_maximum_value` isn't an integer from -32768 to 32767",
-            ),
-            (
-                "",
-                "[[sensor]]\ntype = 0\nrecorded_value_support = 256",
-                "line 8: in sensor 1, `recorded_value_support` isn't an integer from 0 to 255",
-            ),
-            (
-                "",
-                "[[self_test]]\nnumber = 0",
-                "line 7: in self_test 1, `number` isn't an integer from 1 to 254",
-            ),
-            (
-                "",
-                "[[self_test]]\nnumber = 255",
-                "line 7: in self_test 1, `number` isn't an integer from 1 to 254",
-            ),
-            (
-                "",
-                "[[self_test]]\nnumber = 1\n[[self_test]]\nnumber = 254",
-                "",
-            ),
-            (
-                "",
-                "[[status]]\nid = 0x10000",
-                "line 7: in status 1, `id` isn't an integer from 0 to 65535",
-            ),
-        ],
-    )
-}
+/// And one more.
+const EIGHT_MORE: &str = "[[personality]]\ndmx_footprint = 0\n \
+    [[personality]]\ndmx_footprint = 0\n \
+    [[personality]]\ndmx_footprint = 0\n \
+    [[personality]]\ndmx_footprint = 0\n \
+    [[personality]]\ndmx_footprint = 0\n \
+    [[personality]]\ndmx_footprint = 0\n \
+    [[personality]]\ndmx_footprint = 0\n \
+    [[personality]]\ndmx_footprint = 0\n";
 
 #[test]
 fn texts_and_keys(rt: HostRuntime) -> Result<(), Fail> {
@@ -384,14 +229,10 @@ fn lists_and_sub_devices(rt: HostRuntime) -> Result<(), Fail> {
                 "[sub_devices]\ncount = 0\ndevice_model_id = 1\n[[sub_devices.personality]]\ndmx_footprint = 513",
                 "line 10: in [sub_devices], in personality 1, `dmx_footprint` isn't an integer from 0 to 512",
             ),
+            ("", SEVEN_MORE, ""),
             (
                 "",
-                "[[personality]]\ndmx_footprint = 0\n[[personality]]\ndmx_footprint = 0\n[[personality]]\ndmx_footprint = 0\n[[personality]]\ndmx_footprint = 0\n[[personality]]\ndmx_footprint = 0\n[[personality]]\ndmx_footprint = 0\n[[personality]]\ndmx_footprint = 0",
-                "",
-            ),
-            (
-                "",
-                "[[personality]]\ndmx_footprint = 0\n[[personality]]\ndmx_footprint = 0\n[[personality]]\ndmx_footprint = 0\n[[personality]]\ndmx_footprint = 0\n[[personality]]\ndmx_footprint = 0\n[[personality]]\ndmx_footprint = 0\n[[personality]]\ndmx_footprint = 0\n[[personality]]\ndmx_footprint = 0",
+                EIGHT_MORE,
                 "`personality` isn't a list of 1 to 8 entries",
             ),
         ],
