@@ -46,6 +46,23 @@ static felosumay_stepped ask(felosumay_collector *bus, felosumay_responder *fixt
     return stepped;
 }
 
+/* The controller fetches the next message that waits. */
+static felosumay_status fetch(felosumay_collector *bus, felosumay_responder *fixture) {
+    uint8_t request[FELOSUMAY_FRAME_BYTES], reply[FELOSUMAY_FRAME_BYTES], heard = FELOSUMAY_IGNORED;
+    felosumay_stepped stepped;
+    felosumay_message message;
+    size_t count = 0;
+    felosumay_status status = felosumay_collector_poll(bus, request, &count);
+    if (status != FELOSUMAY_DONE)
+        return status;
+    felosumay_responder_step(fixture, request, count, reply, &stepped);
+    felosumay_collector_hear(bus, reply, stepped.count, &heard);
+    status = felosumay_collector_next(bus, &message);
+    if (status == FELOSUMAY_DONE)
+        printf("fetched: class %02X, PID %04X, %zu bytes\n", message.command_class, message.pid, message.count);
+    return status;
+}
+
 /* A lamp is struck by a slow command: the reports that don't fit are refused, and the right one arrives once. */
 static void strike(felosumay_collector *bus, felosumay_responder *fixture) {
     const uint8_t on = 3;
@@ -68,8 +85,8 @@ static void strike(felosumay_collector *bus, felosumay_responder *fixture) {
 }
 
 /* A person changes the start address and the label at the menu, as long as there is room for the messages. */
-static void change(felosumay_collector *bus, felosumay_responder *fixture) {
-    const uint8_t advisory = 2, label[33] = "Right of stage";
+static felosumay_status change(felosumay_collector *bus, felosumay_responder *fixture) {
+    const uint8_t label[33] = "Right of stage";
     uint8_t room = 9;
     printf("start 513: %u\n", felosumay_responder_change_start(fixture, 513));
     printf("personality 2: %u\n", felosumay_responder_change_personality(fixture, 2));
@@ -77,9 +94,9 @@ static void change(felosumay_collector *bus, felosumay_responder *fixture) {
     printf("label: %u\n", felosumay_responder_change_label(fixture, label, 14));
     felosumay_responder_room(fixture, &room);
     printf("room %u, start 7: %u\n", room, felosumay_responder_change_start(fixture, 7));
-    ask(bus, fixture, 0x0020, FELOSUMAY_GET, &advisory, 1);
-    ask(bus, fixture, 0x0020, FELOSUMAY_GET, &advisory, 1);
+    felosumay_status status = fetch(bus, fixture);
     printf("start 7: %u\n", felosumay_responder_change_start(fixture, 7));
+    return status;
 }
 
 /* Discovery's answer is a reply as any other: it has 24 bytes, and is no frame. */
@@ -113,7 +130,7 @@ int main(void) {
         const uint8_t nothing = 0;
         ask(&bus, &fixture, 0x0082, FELOSUMAY_GET, &nothing, 0);
         strike(&bus, &fixture);
-        change(&bus, &fixture);
+        status = change(&bus, &fixture);
         discover(&bus, &fixture);
         read(&fixture);
         printf("a UID of all: %u\n", felosumay_responder_new(&fixture, MAKER, 0xFFFFFFFF, &PROFILE, QUEUE_SIZE));
