@@ -18,6 +18,7 @@ mod party;
 mod profile;
 mod reading;
 mod responder;
+mod sizes;
 mod spot;
 mod station;
 mod status;

@@ -1,0 +1,104 @@
+/* A console's program: a collector sends its user's commands to a device, and fetches the messages that wait there, over a
+ * bus that loses a reply. The demonstration fixture stands in for the device. docs/C.md reads it part by part. */
+#include "felosumay.h"
+#include <stdio.h>
+
+enum { MAKER = 0x7FF0, FIXTURE = 1, CONSOLE = 2, QUEUE_SIZE = 8 };
+
+/* One request to the device, and its reply, which may be lost. It says what the collector took the reply for. */
+static uint8_t exchange(felosumay_collector *console, felosumay_responder *device, const uint8_t *request, size_t count,
+                        int lost, felosumay_job *job) {
+    uint8_t reply[FELOSUMAY_FRAME_BYTES], heard = FELOSUMAY_IGNORED;
+    felosumay_stepped stepped = {0, 0, 0, {0, 0, 0, 0, 0, 0, 0}};
+    felosumay_responder_step(device, request, count, reply, &stepped);
+    if (stepped.started)
+        *job = stepped.job;
+    if (stepped.replied && !lost)
+        felosumay_collector_hear(console, reply, stepped.count, &heard);
+    else
+        felosumay_collector_over(console);
+    return heard;
+}
+
+/* The user strikes the lamp: the device starts a job, which fails. */
+static felosumay_status strike(felosumay_collector *console, felosumay_responder *device) {
+    const felosumay_command lamp = {FIXTURE, MAKER, 0, 0x0403, FELOSUMAY_SET}, queue = {FIXTURE, MAKER, 0, 0x0020, FELOSUMAY_GET},
+                            none = {FIXTURE, MAKER, 0, 0x0403, 0x99};
+    const felosumay_outcome failed = {FELOSUMAY_JOB_FAILED, 4, 0, 0x8001, 1, 2};
+    const uint8_t on[232] = {3};
+    uint8_t request[FELOSUMAY_FRAME_BYTES], kept = 0;
+    felosumay_job job = {0, 0, 0, 0, 0, 0, 0};
+    size_t count = 0;
+    printf("too long %u, reserved %u, unknown %u\n", felosumay_collector_ask(console, &lamp, on, 232, request, &count),
+           felosumay_collector_ask(console, &queue, on, 1, request, &count),
+           felosumay_collector_ask(console, &none, on, 1, request, &count));
+    felosumay_status status = felosumay_collector_ask(console, &lamp, on, 1, request, &count);
+    printf("poll while a command is open: %u\n", felosumay_collector_poll(console, request, &count));
+    printf("lamp %u: heard %u\n", status, exchange(console, device, request, count, 0, &job));
+    status = felosumay_responder_arrive(device, &job, &failed, &kept);
+    printf("arrive %u, kept %u\n", status, kept);
+    return status;
+}
+
+/* The console polls until an answer has no data: the first answer is lost, and asked for again. */
+static felosumay_status collect(felosumay_collector *console, felosumay_responder *device) {
+    uint8_t request[FELOSUMAY_FRAME_BYTES];
+    felosumay_job job = {0, 0, 0, 0, 0, 0, 0};
+    felosumay_message message;
+    size_t count = 0;
+    for (int round = 0; round < 4; round++) {
+        felosumay_status status = felosumay_collector_poll(console, request, &count);
+        if (status != FELOSUMAY_DONE)
+            return status;
+        printf("poll: heard %u\n", exchange(console, device, request, count, round == 0, &job));
+    }
+    while (felosumay_collector_next(console, &message) == FELOSUMAY_DONE) {
+        printf("message: class %02X, PID %04X, sub-device %u:", message.command_class, message.pid, message.sub);
+        for (size_t i = 0; i < message.count; i++)
+            printf(" %02X", message.bytes[i]);
+        printf("\n");
+    }
+    printf("next %u\n", felosumay_collector_next(console, &message));
+    return FELOSUMAY_DONE;
+}
+
+/* Ten thousand messages are collected and taken: the collector keeps none of them. */
+static felosumay_status run_on(felosumay_collector *console, felosumay_responder *device) {
+    uint8_t request[FELOSUMAY_FRAME_BYTES];
+    felosumay_job job = {0, 0, 0, 0, 0, 0, 0};
+    felosumay_message message;
+    size_t count = 0, taken = 0;
+    for (int round = 0; round < 10000; round++) {
+        felosumay_status status = felosumay_collector_poll(console, request, &count);
+        if (status != FELOSUMAY_DONE)
+            return status;
+        exchange(console, device, request, count, 0, &job);
+        taken += felosumay_collector_next(console, &message) == FELOSUMAY_DONE;
+    }
+    printf("taken %zu\n", taken);
+    return FELOSUMAY_DONE;
+}
+
+int main(void) {
+    felosumay_responder device = {0};
+    felosumay_collector console = {0};
+    felosumay_status status = felosumay_responder_demo(&device, MAKER, FIXTURE, 2, QUEUE_SIZE);
+    size_t waiting = 0;
+    if (status == FELOSUMAY_DONE)
+        status = felosumay_collector_new(&console, MAKER, CONSOLE, MAKER, FIXTURE, 2);
+    if (status == FELOSUMAY_DONE) {
+        status = strike(&console, &device);
+        if (status == FELOSUMAY_DONE)
+            status = collect(&console, &device);
+        if (status == FELOSUMAY_DONE)
+            status = run_on(&console, &device);
+        printf("want of 7: %u\n", felosumay_collector_new(&console, MAKER, CONSOLE, MAKER, FIXTURE, 7));
+        /* the compiler takes no collector for a responder; a cast is found out */
+        printf("mistaken %u\n", felosumay_responder_waiting((felosumay_responder *)&console, &waiting));
+    }
+    felosumay_collector_free(&console);
+    felosumay_responder_free(&device);
+    if (status != FELOSUMAY_DONE)
+        printf("status %u\n", status);
+    return status;
+}

@@ -1,0 +1,250 @@
+/* Felosumay: a responder and a collector for Remote Device Management (ANSI E1.20-2010).
+ *
+ * A handle starts as {0}. It belongs to the library from then on: never copy it, and never look behind its pointer or write
+ * it. Pointers are valid, also where a length is 0, and no two of one call overlap. Each handle is used by one thread and
+ * one call at a time. Those are the only duties: all else is tested, and a status says so. Where a call isn't DONE, what
+ * stands behind its other pointers has no meaning, unless the call says more. */
+#ifndef FELOSUMAY_H
+#define FELOSUMAY_H
+#include <stddef.h>
+#include <stdint.h>
+
+#ifdef __cplusplus
+extern "C" {
+#endif
+
+typedef struct { void *at; } felosumay_responder;
+typedef struct { void *at; } felosumay_collector;
+
+/* What became of a call. */
+typedef uint8_t felosumay_status;
+enum {
+    FELOSUMAY_DONE = 0,          /* it was carried out */
+    FELOSUMAY_OUT_OF_MEMORY = 1, /* memory was refused */
+    FELOSUMAY_BAD_PROFILE = 2,   /* the profile breaks a rule, or has more than 512 sub-devices */
+    FELOSUMAY_BAD_SIZE = 3,      /* the size of the queue isn't 1 to 1,024 */
+    FELOSUMAY_BAD_UID = 4,       /* the UID addresses more than one device */
+    FELOSUMAY_ABSENT = 5,        /* the handle holds no such party */
+    FELOSUMAY_ASTRAY = 6,        /* the report isn't of the oldest job of its worker, or its outcome doesn't fit */
+    FELOSUMAY_UNKNOWN = 7,       /* a number that was handed in stands for nothing */
+    FELOSUMAY_REFUSED = 8,       /* the command is refused, and a reason is given */
+    FELOSUMAY_NO_VALUE = 9,      /* the command doesn't answer with a value */
+    FELOSUMAY_RESERVED = 10,     /* QUEUED_MESSAGE and STATUS_MESSAGES are the collector's own */
+    FELOSUMAY_BUSY = 11,         /* a transaction is open */
+    FELOSUMAY_TOO_LONG = 12,     /* there are more data than a frame can carry, or a label is longer than 32 bytes */
+    FELOSUMAY_NO_MORE = 13,      /* there is nothing more */
+    FELOSUMAY_NO_ROOM = 14,      /* there is no room for one more message */
+    FELOSUMAY_OUT_OF_RANGE = 15  /* a SET of the value would be out of range */
+};
+
+enum {
+    FELOSUMAY_FRAME_BYTES = 257, /* the room that a request or a reply needs */
+    FELOSUMAY_VALUE_BYTES = 231  /* the room that parameter data need */
+};
+
+/* Command classes. */
+enum { FELOSUMAY_DISCOVERY = 0x10, FELOSUMAY_GET = 0x20, FELOSUMAY_SET = 0x30 };
+
+/* ---- what a responder is made with: a count that is greater than its array stands for the whole array */
+
+typedef struct {
+    uint8_t count;
+    uint8_t bytes[32];
+} felosumay_text;
+
+/* felosumay_text name = FELOSUMAY_TEXT("Moving head"); at most 31 letters */
+#define FELOSUMAY_TEXT(letters) { sizeof(letters) - 1, letters }
+
+typedef struct {
+    uint16_t footprint;
+    felosumay_text name;
+} felosumay_personality;
+
+typedef struct {
+    uint16_t label;
+    uint8_t kind;
+    uint8_t value;
+    felosumay_text name;
+} felosumay_slot;
+
+typedef struct {
+    int16_t low;
+    int16_t high;
+    int16_t normal_low;
+    int16_t normal_high;
+    uint8_t kind;
+    uint8_t unit;
+    uint8_t prefix;
+    uint8_t support;
+    felosumay_text name;
+} felosumay_sensor;
+
+typedef struct {
+    uint8_t number; /* neither 0 nor 255 */
+    felosumay_text name;
+} felosumay_self_test;
+
+typedef struct {
+    uint16_t id;
+    felosumay_text text;
+} felosumay_status_text;
+
+typedef struct {
+    uint32_t software;
+    uint16_t model;
+    uint16_t category;
+    uint16_t start; /* the DMX512 start address: 1 to 512 */
+    felosumay_text model_text;
+    felosumay_text maker_text;
+    felosumay_text label;
+    felosumay_text software_text;
+    uint8_t personality_count; /* at least 1 */
+    felosumay_personality personalities[8];
+} felosumay_unit;
+
+typedef struct {
+    felosumay_unit root;
+    felosumay_unit sub;
+    uint32_t boot;
+    uint16_t subs;    /* at most 512 */
+    uint16_t presets; /* below 65535 */
+    felosumay_text boot_text;
+    uint8_t language_count; /* at least 1 */
+    uint8_t slot_count;
+    uint8_t sensor_count;
+    uint8_t test_count;
+    uint8_t status_text_count;
+    uint16_t languages[8]; /* two letters each, the first in the upper byte */
+    felosumay_slot slots[46];
+    felosumay_sensor sensors[8];
+    felosumay_self_test tests[8];
+    felosumay_status_text status_texts[8];
+} felosumay_profile;
+
+/* ---- the responder */
+
+/* A slow command that was accepted. Keep it until it has ended, and hand it back with the outcome. */
+typedef struct {
+    uint32_t number;
+    uint16_t estimate; /* tenths of a second, as the controller was told */
+    uint16_t sub;      /* the sub-device, or 0 for the root */
+    uint16_t pid;
+    uint8_t command_class; /* FELOSUMAY_GET or FELOSUMAY_SET */
+    uint8_t argument;
+    uint8_t worker; /* 0 or 1: each worker's jobs end in order */
+} felosumay_job;
+
+typedef struct {
+    size_t count;    /* how many bytes the reply has */
+    uint8_t replied; /* 1 where there is a reply, else 0 */
+    uint8_t started; /* 1 where a job started, else 0 */
+    felosumay_job job;
+} felosumay_stepped;
+
+typedef struct {
+    uint8_t kind;     /* FELOSUMAY_JOB_DONE and so on */
+    uint8_t severity; /* where it failed: 02 advisory, 03 warning, 04 error; 12, 13, 14 where that is over */
+    int16_t reading;
+    uint16_t id;
+    uint16_t v1;
+    uint16_t v2;
+} felosumay_outcome;
+
+enum {
+    FELOSUMAY_JOB_DONE = 0,    /* a SET is done */
+    FELOSUMAY_JOB_READING = 1, /* a sensor gave this reading */
+    FELOSUMAY_JOB_FAILED = 2   /* it failed: a status entry with severity, ID and two values */
+};
+
+/* Makes a responder of this profile, or the demonstration fixture with so many sub-devices, in the place of what the handle
+ * held. Where it isn't DONE, the handle stays as it was. BAD_UID, BAD_SIZE, BAD_PROFILE, OUT_OF_MEMORY, in this order. */
+felosumay_status felosumay_responder_new(felosumay_responder *responder, uint16_t maker, uint32_t device,
+                                         const felosumay_profile *profile, uint16_t queue_size);
+felosumay_status felosumay_responder_demo(felosumay_responder *responder, uint16_t maker, uint32_t device, uint16_t subs,
+                                          uint16_t queue_size);
+
+/* Hears bytes. Where there is a reply, it stands at the front of `reply`; the answer to discovery is a reply as any other,
+ * and has no break before it. What stands behind the reply has no meaning. ABSENT: `replied` and `started` are 0 then. */
+felosumay_status felosumay_responder_step(felosumay_responder *responder, const uint8_t *bytes, size_t length,
+                                          uint8_t reply[FELOSUMAY_FRAME_BYTES], felosumay_stepped *stepped);
+
+/* Takes the report of a job. `kept` is 1 where it left a status entry that is kept, else 0. UNKNOWN, ABSENT, ASTRAY, in this
+ * order; nothing changes then. */
+felosumay_status felosumay_responder_arrive(felosumay_responder *responder, const felosumay_job *job,
+                                            const felosumay_outcome *outcome, uint8_t *kept);
+
+/* A person changes something at the fixture's own menu, and the message that tells the controller waits. TOO_LONG for a
+ * label, then ABSENT, NO_ROOM, OUT_OF_RANGE, in this order; nothing changes then. */
+felosumay_status felosumay_responder_change_start(felosumay_responder *responder, uint16_t start);
+felosumay_status felosumay_responder_change_personality(felosumay_responder *responder, uint8_t number);
+felosumay_status felosumay_responder_change_label(felosumay_responder *responder, const uint8_t *label, size_t length);
+
+/* Whether there is room for the message of a change: `there` is 1 then, else 0. ABSENT. */
+felosumay_status felosumay_responder_room(felosumay_responder *responder, uint8_t *there);
+
+/* Reads a parameter as a GET would. ABSENT; REFUSED, with the code of the NACK in `reason`; NO_VALUE where the command starts
+ * a job or fetches a message. Nothing changes. */
+felosumay_status felosumay_responder_get(felosumay_responder *responder, uint16_t sub, uint16_t pid, const uint8_t *argument,
+                                         size_t length, uint8_t value[FELOSUMAY_VALUE_BYTES], size_t *count,
+                                         uint16_t *reason);
+
+/* How many messages wait, and how many jobs are outstanding. ABSENT. */
+felosumay_status felosumay_responder_waiting(felosumay_responder *responder, size_t *count);
+felosumay_status felosumay_responder_outstanding(felosumay_responder *responder, size_t *count);
+
+/* Gives up what the handle holds, if anything. The handle is {0} again. */
+void felosumay_responder_free(felosumay_responder *responder);
+
+/* ---- the collector */
+
+typedef struct {
+    uint32_t device;
+    uint16_t maker;
+    uint16_t sub;
+    uint16_t pid;
+    uint8_t command_class;
+} felosumay_command;
+
+typedef struct {
+    size_t count;
+    uint16_t pid;
+    uint16_t sub;
+    uint8_t command_class;
+    uint8_t bytes[FELOSUMAY_VALUE_BYTES];
+} felosumay_message;
+
+/* What a collector takes bytes for. */
+enum { FELOSUMAY_IGNORED = 0, FELOSUMAY_MESSAGE = 1, FELOSUMAY_REPLY = 2 };
+
+/* Makes a collector, in the place of what the handle held. `wants` is 02 for status entries of every severity, 03 for warnings
+ * and errors, 04 for errors alone. UNKNOWN, OUT_OF_MEMORY, in this order; the handle stays as it was then. */
+felosumay_status felosumay_collector_new(felosumay_collector *collector, uint16_t maker, uint32_t device,
+                                         uint16_t target_maker, uint32_t target_device, uint8_t wants);
+
+/* Sends a command, or a poll for the target's next message: the request stands at the front of `request`, and a transaction
+ * is open. Of `ask` UNKNOWN, ABSENT, RESERVED, BUSY, TOO_LONG, and of `poll` ABSENT, BUSY, OUT_OF_MEMORY, in this order;
+ * nothing changes then. */
+felosumay_status felosumay_collector_ask(felosumay_collector *collector, const felosumay_command *command,
+                                         const uint8_t *load, size_t length, uint8_t request[FELOSUMAY_FRAME_BYTES],
+                                         size_t *count);
+felosumay_status felosumay_collector_poll(felosumay_collector *collector, uint8_t request[FELOSUMAY_FRAME_BYTES],
+                                          size_t *count);
+
+/* Hears bytes, and says what they are taken for. Discovery's answers are no frames, and are ignored. ABSENT. */
+felosumay_status felosumay_collector_hear(felosumay_collector *collector, const uint8_t *bytes, size_t length,
+                                          uint8_t *heard);
+
+/* Ends the open transaction, if there is one, without an answer. The next poll asks for the last message again where a poll
+ * ended so. ABSENT. */
+felosumay_status felosumay_collector_over(felosumay_collector *collector);
+
+/* Takes the first message that was recorded and not taken yet, and lets go of it. ABSENT, NO_MORE, in this order. */
+felosumay_status felosumay_collector_next(felosumay_collector *collector, felosumay_message *message);
+
+/* Gives up what the handle holds, if anything. The handle is {0} again. */
+void felosumay_collector_free(felosumay_collector *collector);
+
+#ifdef __cplusplus
+}
+#endif
+#endif

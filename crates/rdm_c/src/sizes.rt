@@ -1,0 +1,39 @@
+//! How many bytes the structs have that C hands in and out. `c/sizes.c` says the same of those in the header.
+
+use crate::hold::Hold;
+use crate::job::{JobNumbers, SteppedNumbers};
+use crate::message::{CommandNumbers, MessageNumbers};
+use crate::outcome::OutcomeNumbers;
+use crate::profile::{
+    PersonalityNumbers, ProfileNumbers, SelfTestNumbers, SensorNumbers, SlotNumbers,
+    StatusTextNumbers, TextNumbers, UnitNumbers,
+};
+use std::mem::size_of;
+
+const _: () = prove!(size_of::<Hold>() == 8);
+
+const _: () = prove!(size_of::<TextNumbers>() == 33);
+
+const _: () = prove!(size_of::<PersonalityNumbers>() == 36);
+
+const _: () = prove!(size_of::<SlotNumbers>() == 38);
+
+const _: () = prove!(size_of::<SensorNumbers>() == 46);
+
+const _: () = prove!(size_of::<SelfTestNumbers>() == 34);
+
+const _: () = prove!(size_of::<StatusTextNumbers>() == 36);
+
+const _: () = prove!(size_of::<UnitNumbers>() == 432);
+
+const _: () = prove!(size_of::<ProfileNumbers>() == 3604);
+
+const _: () = prove!(size_of::<JobNumbers>() == 16);
+
+const _: () = prove!(size_of::<SteppedNumbers>() == 32);
+
+const _: () = prove!(size_of::<OutcomeNumbers>() == 10);
+
+const _: () = prove!(size_of::<CommandNumbers>() == 12);
+
+const _: () = prove!(size_of::<MessageNumbers>() == 248);
