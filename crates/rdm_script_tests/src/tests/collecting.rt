@@ -1,6 +1,7 @@
 //! Scripts with a setup, polls and faults, and what they print.
 
 use rdm_crew::RunError;
+use rdm_script::ProgramError;
 
 /// Scripts beside what they print. The frames were worked out by hand from the packet format.
 pub(super) const PLAYED: [(&str, &str); 7] = [
@@ -116,15 +117,16 @@ end
 ];
 
 /// Scripts that can't be played to their end, and why.
-pub(super) const STOPPED: [(&str, RunError); 6] = [
-    ("setup 0 0 advisory", RunError::BadSetup),
-    ("setup 0 1025 advisory", RunError::BadSetup),
-    ("setup 513 8 advisory", RunError::BadSetup),
+pub(super) const STOPPED: [(&str, ProgramError); 6] = [
+    ("setup 0 0 advisory", BAD_SETUP),
+    ("setup 0 1025 advisory", BAD_SETUP),
+    ("setup 513 8 advisory", BAD_SETUP),
     // A bad setup comes before every step.
-    (
-        "setup 513 0 error\nget dev 0000 0020 02\n",
-        RunError::BadSetup,
-    ),
-    ("collect\nget dev 0000 0020 02\n", RunError::Reserved),
-    ("set dev 0000 0030 - lost-request\n", RunError::Reserved),
+    ("setup 513 0 error\nget dev 0000 0020 02\n", BAD_SETUP),
+    ("collect\nget dev 0000 0020 02\n", RESERVED),
+    ("set dev 0000 0030 - lost-request\n", RESERVED),
 ];
+
+const BAD_SETUP: ProgramError = ProgramError::Run(RunError::BadSetup);
+
+const RESERVED: ProgramError = ProgramError::Run(RunError::Reserved);

@@ -2,8 +2,10 @@
 
 use rdm_crew::RunError;
 use rdm_script::{ProgramError, ScriptError, report, run_program};
+use std::alloc::Global;
 use std::process::ExitCode;
-use std::test::Fail;
+use std::sync::Wait;
+use std::thread::Threads;
 
 /// Each error, the status of a program that ends so, and its line.
 const ENDINGS: [(ProgramError, u8, &str); 11] = [
@@ -53,24 +55,37 @@ const ENDINGS: [(ProgramError, u8, &str); 11] = [
 ];
 
 #[test]
-fn tells_each_error(rt: HostRuntime) -> Result<(), Fail> {
+fn tells_each_error(rt: HostRuntime) {
     for (error, status, line) in ENDINGS {
-        let mut errors = Vec::new(rt.alloc());
-        let code = report(&mut errors, Err(error));
+        let (code, errors) = reported(rt.alloc(), error);
         assert_eq!(rt; code, ExitCode::from(status), "{line}");
         assert_eq!(rt; errors.as_slice(), line.as_bytes());
     }
-    Ok(())
+}
+
+/// The exit status of an error, and what is written for it.
+fn reported(alloc: Global, error: ProgramError) -> (ExitCode, Vec<u8>) {
+    let mut errors = Vec::new(alloc);
+    let code = report(&mut errors, Err(error));
+    (code, errors)
 }
 
 #[test]
-fn tells_where_a_script_is_faulty(rt: HostRuntime) -> Result<(), Fail> {
-    let mut reader = b"get dev 0000 1000 -\nfoo\n".as_slice();
-    let mut written = Vec::new(rt.alloc());
-    let mut errors = Vec::new(rt.alloc());
-    let code = run_program(rt, rt.alloc(), &mut reader, &mut written, &mut errors);
+fn tells_where_a_script_is_faulty(rt: HostRuntime) {
+    let (code, written, errors) = ended(rt, rt.alloc(), b"get dev 0000 1000 -\nfoo\n");
     assert_eq!(rt; code, ExitCode::from(1));
     assert!(rt; written.is_empty());
     assert_eq!(rt; errors.as_slice(), b"error: line 2\n".as_slice());
-    Ok(())
+}
+
+/// The exit status of a program that plays a script, what it writes, and what it writes of errors.
+fn ended<T>(rt: T, alloc: Global, script: &[u8]) -> (ExitCode, Vec<u8>, Vec<u8>)
+where
+    T: Threads + Wait + Copy + Send + 'static,
+{
+    let mut reader = script;
+    let mut written = Vec::new(alloc);
+    let mut errors = Vec::new(alloc);
+    let code = run_program(rt, alloc, &mut reader, &mut written, &mut errors);
+    (code, written, errors)
 }

@@ -1,9 +1,9 @@
 //! The lines of changes at the device's own menu, which no script makes.
 
+use super::traces::prints_event;
 use rdm_bus::Event;
 use rdm_frame::Body;
 use rdm_params::{Change, Message, Plate};
-use rdm_script::trace_text;
 use std::test::Fail;
 
 /// A change, of which there is a message or not.
@@ -20,27 +20,33 @@ fn event_of(change: Change, told: bool) -> Event {
     }
 }
 
+/// Labels, whether there is a message, and the trace.
+const LABELS: [(&[u8], bool, &str); 3] = [
+    (b"Panel", true, "panel label 50616E656C\nend\n"),
+    (b"", true, "panel label -\nend\n"),
+    (b"", false, "panel label - refused\nend\n"),
+];
+
+/// The same of other changes.
+const CHANGES: [(Change, bool, &str); 4] = [
+    (Change::Start(101), true, "panel start 101\nend\n"),
+    (Change::Start(0), false, "panel start 0 refused\nend\n"),
+    (Change::Personality(2), true, "panel personality 2\nend\n"),
+    (
+        Change::Personality(9),
+        false,
+        "panel personality 9 refused\nend\n",
+    ),
+];
+
 #[test]
 fn prints_changes(rt: HostRuntime) -> Result<(), Fail> {
-    let label = Plate::new(b"Panel").ok_or("five bytes")?;
-    let empty = Plate::new(b"").ok_or("no bytes")?;
-    for (change, told, line) in [
-        (Change::Label(label), true, "panel label 50616E656C\n"),
-        (Change::Label(empty), true, "panel label -\n"),
-        (Change::Label(empty), false, "panel label - refused\n"),
-        (Change::Start(101), true, "panel start 101\n"),
-        (Change::Start(0), false, "panel start 0 refused\n"),
-        (Change::Personality(2), true, "panel personality 2\n"),
-        (
-            Change::Personality(9),
-            false,
-            "panel personality 9 refused\n",
-        ),
-    ] {
-        let mut expected = String::from_str(rt.alloc(), line)?;
-        expected.push_str("end\n")?;
-        let text = trace_text(rt.alloc(), &[event_of(change, told)], &[])?;
-        assert_eq!(rt; text.as_slice(), expected.as_bytes());
+    for (text, told, trace) in LABELS {
+        let label = Plate::new(text).ok_or("at most 32 bytes")?;
+        prints_event(&rt, rt.alloc(), event_of(Change::Label(label), told), trace)?;
+    }
+    for (change, told, trace) in CHANGES {
+        prints_event(&rt, rt.alloc(), event_of(change, told), trace)?;
     }
     Ok(())
 }

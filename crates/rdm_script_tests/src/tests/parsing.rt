@@ -3,13 +3,30 @@
 use rdm_bus::{Action, Command, Fault, Want};
 use rdm_crew::CrewStep;
 use rdm_frame::{Load, Uid};
-use rdm_script::{ScriptError, Setup, parse};
+use rdm_script::{Script, ScriptError, Setup, parse};
 use std::alloc::Global;
+use std::process::Abort;
 use std::test::Fail;
 
 /// The setup of a script.
 fn setup_in(alloc: Global, script: &str) -> Result<Setup, ScriptError> {
-    Ok(parse(alloc, script.as_bytes())?.setup)
+    match parse(alloc, script.as_bytes()) {
+        Ok(script) => Ok(script.setup),
+        Err(error) => Err(error),
+    }
+}
+
+/// The first faulty line of a script is this one.
+fn is_faulty(rt: &impl Abort, alloc: Global, script: &str, line: usize) {
+    let read = setup_in(alloc, script);
+    assert_eq!(rt; read, Err(ScriptError::Line(line)), "{script:?}");
+}
+
+/// The only step of a script that has the plain setup.
+fn step_in(rt: &impl Abort, alloc: Global, line: &str) -> Result<CrewStep, Fail> {
+    let Script { setup, mut steps } = parse(alloc, line.as_bytes())?;
+    assert_eq!(rt; (setup, steps.len()), (Setup::PLAIN, 1), "{line:?}");
+    Ok(steps.pop().ok_or("a step")?)
 }
 
 /// Scripts, and the setups that they say: sub-devices, room for results, and what is wanted.
@@ -47,7 +64,7 @@ const SETUPS: [(&str, u16, u16, Want); 12] = [
 ];
 
 #[test]
-fn reads_setups(rt: HostRuntime) -> Result<(), Fail> {
+fn reads_setups(rt: HostRuntime) {
     for (script, subs, queue_size, want) in SETUPS {
         let setup = Setup {
             subs,
@@ -56,16 +73,15 @@ fn reads_setups(rt: HostRuntime) -> Result<(), Fail> {
         };
         assert_eq!(rt; setup_in(rt.alloc(), script), Ok(setup), "{script:?}");
     }
-    Ok(())
 }
 
-/// What goes wrong at a step.
-fn fault_at(step: &CrewStep) -> Fault {
+/// Whether a step is a poll, and what goes wrong at it.
+fn fault_at(step: &CrewStep) -> (bool, Fault) {
     match step {
-        CrewStep::Ask(_, fault) => *fault,
-        CrewStep::Collect(fault) => *fault,
-        CrewStep::Draw => Fault::None,
-        CrewStep::Settle(_) | CrewStep::Panel(_) => Fault::None,
+        CrewStep::Ask(_, fault) => (false, *fault),
+        CrewStep::Collect(fault) => (true, *fault),
+        CrewStep::Draw => (false, Fault::None),
+        CrewStep::Settle(_) | CrewStep::Panel(_) => (false, Fault::None),
     }
 }
 
@@ -95,12 +111,9 @@ const FAULTS: [(&str, Fault); 13] = [
 #[test]
 fn reads_what_goes_wrong(rt: HostRuntime) -> Result<(), Fail> {
     for (line, fault) in FAULTS {
-        let script = parse(rt.alloc(), line.as_bytes())?;
-        assert_eq!(rt; script.setup, Setup::PLAIN, "{line:?}");
-        assert_eq!(rt; script.steps.len(), 1, "{line:?}");
-        let is_poll = matches!(script.steps[0], CrewStep::Collect(_));
-        assert_eq!(rt; is_poll, line.contains("collect"), "{line:?}");
-        assert_eq!(rt; fault_at(&script.steps[0]), fault, "{line:?}");
+        let step = step_in(&rt, rt.alloc(), line)?;
+        let expected = (line.contains("collect"), fault);
+        assert_eq!(rt; fault_at(&step), expected, "{line:?}");
     }
     Ok(())
 }
@@ -118,143 +131,136 @@ const ARRIVALS: [(&str, Option<u32>); 9] = [
     (" panel\t0000000007", Some(7)),
 ];
 
+/// Whether a step is a `panel`, and how often it may find nothing. A `draw` says no number.
+fn empties_at(step: &CrewStep) -> Option<(bool, Option<u32>)> {
+    match step {
+        CrewStep::Draw => Some((false, None)),
+        CrewStep::Settle(most) => Some((false, Some(*most))),
+        CrewStep::Panel(most) => Some((true, Some(*most))),
+        CrewStep::Ask(_, _) | CrewStep::Collect(_) => None,
+    }
+}
+
 #[test]
 fn reads_when_reports_arrive(rt: HostRuntime) -> Result<(), Fail> {
     for (line, empties) in ARRIVALS {
-        let script = parse(rt.alloc(), line.as_bytes())?;
-        let is_said = match empties {
-            None => matches!(script.steps.as_slice(), [CrewStep::Draw]),
-            Some(most) => matches!(
-                script.steps.as_slice(),
-                [CrewStep::Settle(n) | CrewStep::Panel(n)] if *n == most
-            ),
-        };
-        assert!(rt; is_said, "{line:?}");
-        let is_panel = matches!(script.steps.as_slice(), [CrewStep::Panel(_)]);
-        assert_eq!(rt; is_panel, line.contains("panel"), "{line:?}");
+        let step = step_in(&rt, rt.alloc(), line)?;
+        let expected = Some((line.contains("panel"), empties));
+        assert_eq!(rt; empties_at(&step), expected, "{line:?}");
     }
     Ok(())
 }
 
 /// Lines that no script has.
-const FAULTY: [&str; 75] = [
-    "setup",
-    "setup 0 8",
-    "setup 0 8 advisory 0",
-    "setup 0 8 advisory lost-reply",
-    "setup 65536 8 advisory",
-    "setup 0 65536 advisory",
-    "setup 4294967296 8 advisory",
-    "setup 00000000000 8 advisory",
-    "setup 0 00000000008 advisory",
-    "setup 9999999999 8 advisory",
-    "setup -1 8 advisory",
-    "setup +1 8 advisory",
-    "setup 0 +8 advisory",
-    "setup 1F 8 advisory",
-    "setup 0x1 8 advisory",
-    "setup 1_0 8 advisory",
-    "setup 0 8 all",
-    "setup 0 8 Advisory",
-    "setup 0 8 2",
-    "setup advisory 0 8",
-    "SETUP 0 8 advisory",
-    "Collect",
-    "collect -",
-    "collect dev",
-    "collect lost",
-    "collect LOST-REPLY",
-    "collect lost-request lost-reply",
-    "collect lost-request 1",
-    "collect lost-reply 1 1",
-    "collect bad-request",
-    "collect bad-request 1",
-    "collect bad-request 1 1 1",
-    "collect bad-request 256 1",
-    "collect bad-request 65536 1",
-    "collect bad-request 0 0",
-    "collect bad-request 0 256",
-    "collect bad-request 0 0000000000",
-    "collect bad-request 00000000000 1",
-    "collect bad-request -1 1",
-    "collect bad-reply",
-    "collect bad-reply 256 1",
-    "collect bad-reply 1 0",
-    "collect bad-reply 1 256",
-    "collect bad-reply 1 00000000001",
-    "collect bad-reply 1 a",
-    "collect bad-reply 1 +1",
-    "collect bad-reply 1 1 lost-reply",
-    "collect bad 1 1",
-    "Draw",
-    "draw 1",
-    "draw lost-reply",
-    "settle",
-    "settle 4294967296",
-    "settle 9999999999",
-    "settle 00000000001",
-    "settle +1",
-    "settle 1F",
-    "settle 1 1",
-    "settle 1 lost-reply",
-    "panel",
-    "panel 4294967296",
-    "panel -1",
-    "panel 1 1",
-    "Panel 1",
-    "lost-reply",
-    "bad-reply 1 1",
-    "lost-request collect",
-    "lost-request get dev 0000 1000 -",
-    "get dev 0000 1000 lost-request",
-    "get dev 0000 1000 lost-request -",
-    "get dev 0000 1000 - lost",
-    "get dev 0000 1000 - bad-request 1",
-    "get dev 0000 1000 - bad-request 1 0",
-    "get dev 0000 1000 - bad-request 1 2 3",
-    "get dev 0000 1000 - lost-reply lost-reply",
+const FAULTY: &str = "setup
+setup 0 8
+setup 0 8 advisory 0
+setup 0 8 advisory lost-reply
+setup 65536 8 advisory
+setup 0 65536 advisory
+setup 4294967296 8 advisory
+setup 00000000000 8 advisory
+setup 0 00000000008 advisory
+setup 9999999999 8 advisory
+setup -1 8 advisory
+setup +1 8 advisory
+setup 0 +8 advisory
+setup 1F 8 advisory
+setup 0x1 8 advisory
+setup 1_0 8 advisory
+setup 0 8 all
+setup 0 8 Advisory
+setup 0 8 2
+setup advisory 0 8
+SETUP 0 8 advisory
+Collect
+collect -
+collect dev
+collect lost
+collect LOST-REPLY
+collect lost-request lost-reply
+collect lost-request 1
+collect lost-reply 1 1
+collect bad-request
+collect bad-request 1
+collect bad-request 1 1 1
+collect bad-request 256 1
+collect bad-request 65536 1
+collect bad-request 0 0
+collect bad-request 0 256
+collect bad-request 0 0000000000
+collect bad-request 00000000000 1
+collect bad-request -1 1
+collect bad-reply
+collect bad-reply 256 1
+collect bad-reply 1 0
+collect bad-reply 1 256
+collect bad-reply 1 00000000001
+collect bad-reply 1 a
+collect bad-reply 1 +1
+collect bad-reply 1 1 lost-reply
+collect bad 1 1
+Draw
+draw 1
+draw lost-reply
+settle
+settle 4294967296
+settle 9999999999
+settle 00000000001
+settle +1
+settle 1F
+settle 1 1
+settle 1 lost-reply
+panel
+panel 4294967296
+panel -1
+panel 1 1
+Panel 1
+lost-reply
+bad-reply 1 1
+lost-request collect
+lost-request get dev 0000 1000 -
+get dev 0000 1000 lost-request
+get dev 0000 1000 lost-request -
+get dev 0000 1000 - lost
+get dev 0000 1000 - bad-request 1
+get dev 0000 1000 - bad-request 1 0
+get dev 0000 1000 - bad-request 1 2 3
+get dev 0000 1000 - lost-reply lost-reply
+";
+
+#[test]
+fn refuses_what_just_misses(rt: HostRuntime) {
+    for line in FAULTY.lines() {
+        is_faulty(&rt, rt.alloc(), line, 1);
+    }
+}
+
+/// Scripts beside their first faulty line. A setup is a line of a script only where no line before it says anything.
+const COUNTED: [(&str, usize); 6] = [
+    ("collect\nsetup 0 8 advisory\n", 2),
+    ("setup 0 8 advisory\nsetup 0 8 advisory", 2),
+    (
+        "# a comment\n\nsetup 0 8 advisory\n\ncollect\nsetup 1 1 error\nfoo",
+        6,
+    ),
+    ("# a comment\nget dev 0000 1000 -\nsetup 0 8 advisory", 3),
+    ("setup 0 8 advisory\n\nfoo\n", 3),
+    ("\n\nsetup 0 8\ncollect\nsetup 0 8 advisory", 3),
 ];
 
 #[test]
-fn refuses_what_just_misses(rt: HostRuntime) -> Result<(), Fail> {
-    for line in FAULTY {
-        assert_eq!(rt;
-            setup_in(rt.alloc(), line),
-            Err(ScriptError::Line(1)),
-            "{line:?}"
-        );
+fn names_the_first_faulty_line(rt: HostRuntime) {
+    for (script, number) in COUNTED {
+        is_faulty(&rt, rt.alloc(), script, number);
     }
-    Ok(())
 }
 
-#[test]
-fn names_the_first_faulty_line(rt: HostRuntime) -> Result<(), Fail> {
-    // A setup is a line of a script only where no line before it says anything.
-    let cases = [
-        ("collect\nsetup 0 8 advisory\n", 2),
-        ("setup 0 8 advisory\nsetup 0 8 advisory", 2),
-        (
-            "# a comment\n\nsetup 0 8 advisory\n\ncollect\nsetup 1 1 error\nfoo",
-            6,
-        ),
-        ("# a comment\nget dev 0000 1000 -\nsetup 0 8 advisory", 3),
-        ("setup 0 8 advisory\n\nfoo\n", 3),
-        ("\n\nsetup 0 8\ncollect\nsetup 0 8 advisory", 3),
-    ];
-    for (script, number) in cases {
-        assert_eq!(rt;
-            setup_in(rt.alloc(), script),
-            Err(ScriptError::Line(number)),
-            "{script:?}"
-        );
-    }
-    Ok(())
-}
+/// A script of one step, with letters of either case.
+const MIXED: &[u8] = b"set aBcD:Ef012345 Fa01 bcDE aBcDEf01 bad-reply 9 9";
 
 #[test]
 fn reads_digits_in_either_case(rt: HostRuntime) -> Result<(), Fail> {
-    let mut load = Load::new();
-    load.append(&[0xAB, 0xCD, 0xEF, 0x01]);
     let expected = Command {
         dst: Uid {
             maker: 0xABCD,
@@ -263,12 +269,9 @@ fn reads_digits_in_either_case(rt: HostRuntime) -> Result<(), Fail> {
         action: Action::Set,
         sub: 0xFA01,
         pid: 0xBCDE,
-        load,
+        load: Load::of(&[0xAB, 0xCD, 0xEF, 0x01]),
     };
-    let script = parse(
-        rt.alloc(),
-        b"set aBcD:Ef012345 Fa01 bcDE aBcDEf01 bad-reply 9 9",
-    )?;
+    let script = parse(rt.alloc(), MIXED)?;
     assert!(rt;
         matches!(script.steps.as_slice(), [CrewStep::Ask(command, _)] if *command == expected)
     );

@@ -1,6 +1,7 @@
 //! Scripts of commands on which nothing goes wrong, other ways to write one, and lines that no script has.
 
 use super::{FIRST_SCRIPT, FIRST_TRACE};
+use rdm_script::{ProgramError, ScriptError};
 
 /// Scripts beside what they print.
 pub(super) const PLAYED: [(&str, &str); 10] = [
@@ -127,54 +128,68 @@ end
 ];
 
 /// Other ways to write the first script.
-pub(super) const SPELLINGS: [&str; 7] = [
-    "get dev 0000 1000 -",
-    "get dev 0000 1000 -\r\n",
-    "\tget\tdev \t 0000\t1000 -\t\n",
-    "   get dev 0000 1000 -   \n",
-    "get 7FF0:00000001 0000 1000 -\n",
-    "# a comment\n\n \t\n  # another one\n#get dev\nget dev 0000 1000 -\n\n",
-    "\r\n#\r\nget dev 0000 1000 -\r\n",
+pub(super) const SPELLINGS: [(&str, &str); 7] = [
+    ("get dev 0000 1000 -", FIRST_TRACE),
+    ("get dev 0000 1000 -\r\n", FIRST_TRACE),
+    ("\tget\tdev \t 0000\t1000 -\t\n", FIRST_TRACE),
+    ("   get dev 0000 1000 -   \n", FIRST_TRACE),
+    ("get 7FF0:00000001 0000 1000 -\n", FIRST_TRACE),
+    (
+        "# a comment\n\n \t\n  # another one\n#get dev\nget dev 0000 1000 -\n\n",
+        FIRST_TRACE,
+    ),
+    ("\r\n#\r\nget dev 0000 1000 -\r\n", FIRST_TRACE),
 ];
 
 /// Lines that no script has.
-pub(super) const FAULTY: [&str; 30] = [
-    "foo",
-    "get",
-    "get dev 0000 1000",
-    "get dev 0000 1000 - -",
-    "get dev 0000 1000 0",
-    "get dev 0000 1000 012",
-    "get dev 0000 1000 0g",
-    "get dev 0000 1000 --",
-    "get dev 0000 1000 -00",
-    "get dev 0000 1000 0x00",
-    "get dev 000 1000 -",
-    "get dev 00000 1000 -",
-    "get dev 0000 100 -",
-    "get dev 0000 10000 -",
-    "get dev 0000 100G -",
-    "get dev -000 1000 -",
-    "get device 0000 1000 -",
-    "get DEV 0000 1000 -",
-    "get 7FF0 0000 1000 -",
-    "get 7FF0:0000001 0000 1000 -",
-    "get 7FF0:000000001 0000 1000 -",
-    "get 7FF0-00000001 0000 1000 -",
-    "get 7FF00:0000001 0000 1000 -",
-    "GET dev 0000 1000 -",
-    "get dev 0000 1000 - # no comment",
-    "get dev 0000 1000 -\rget",
-    // An LF is missing, so that nothing takes the carriage return away.
-    "get dev 0000 1000 -\r",
-    "DISC dev 0000 0002 -",
-    "disc dev 0000 0002",
-    "panel",
-];
+pub(super) const FAULTY: &str = "foo
+get
+get dev 0000 1000
+get dev 0000 1000 - -
+get dev 0000 1000 0
+get dev 0000 1000 012
+get dev 0000 1000 0g
+get dev 0000 1000 --
+get dev 0000 1000 -00
+get dev 0000 1000 0x00
+get dev 000 1000 -
+get dev 00000 1000 -
+get dev 0000 100 -
+get dev 0000 10000 -
+get dev 0000 100G -
+get dev -000 1000 -
+get device 0000 1000 -
+get DEV 0000 1000 -
+get 7FF0 0000 1000 -
+get 7FF0:0000001 0000 1000 -
+get 7FF0:000000001 0000 1000 -
+get 7FF0-00000001 0000 1000 -
+get 7FF00:0000001 0000 1000 -
+GET dev 0000 1000 -
+get dev 0000 1000 - # no comment
+DISC dev 0000 0002 -
+disc dev 0000 0002
+panel
+";
 
-/// Scripts beside the number of their first faulty line.
-pub(super) const COUNTED: [(&str, usize); 3] = [
-    ("get dev 0000 1000 -\nfoo\n", 2),
-    ("# a comment\n\nget dev 0000 1000 -\r\n\t\nfoo\nfoo\n", 5),
-    ("\n\n\nfoo", 4),
+/// Scripts beside their first faulty line.
+pub(super) const COUNTED: [(&str, ProgramError); 5] = [
+    (
+        "get dev 0000 1000 -\rget",
+        ProgramError::Script(ScriptError::Line(1)),
+    ),
+    // An LF is missing, so that nothing takes the carriage return away.
+    (
+        "get dev 0000 1000 -\r",
+        ProgramError::Script(ScriptError::Line(1)),
+    ),
+    (
+        "get dev 0000 1000 -\nfoo\n",
+        ProgramError::Script(ScriptError::Line(2)),
+    ),
+    (
+        "# a comment\n\nget dev 0000 1000 -\r\n\t\nfoo\nfoo\n",
+        ProgramError::Script(ScriptError::Line(5)),
+    ),
+    ("\n\n\nfoo", ProgramError::Script(ScriptError::Line(4))),
 ];

@@ -6,7 +6,9 @@ use rdm_script::{ProgramError, ScriptError, run_script};
 use std::alloc::Global;
 use std::io;
 use std::io::{Read, Write};
+use std::sync::Wait;
 use std::test::Fail;
+use std::thread::Threads;
 
 /// A script with a slow command.
 const SCRIPT: &str = "setup 0 8 advisory
@@ -123,12 +125,25 @@ fn taking(alloc: Global, most: usize, fails_after: Option<usize>) -> Sink {
     }
 }
 
+/// A script is played, from this reader to this writer.
+fn plays<T, R: Read>(
+    rt: T,
+    alloc: Global,
+    reader: &mut R,
+    writer: &mut Sink,
+) -> Result<(), ProgramError>
+where
+    T: Threads + Wait + Copy + Send + 'static,
+{
+    run_script(rt, alloc, reader, writer)
+}
+
 #[test]
 fn a_reader_that_fails_is_a_fault(rt: HostRuntime) {
     for count in 0..=SCRIPT.len() {
         let mut reader = dripping(Some(count));
         let mut writer = taking(rt.alloc(), 64, None);
-        let outcome = run_script(rt, rt.alloc(), &mut reader, &mut writer);
+        let outcome = plays(rt, rt.alloc(), &mut reader, &mut writer);
         assert_eq!(rt; outcome, Err(ProgramError::Read), "after {count}");
         // What failed isn't tried again.
         assert_eq!(rt; reader.calls, count + 1, "after {count}");
@@ -141,7 +156,7 @@ fn a_writer_that_fails_has_the_bytes_before(rt: HostRuntime) {
     for count in 0..TRACE.len() {
         let mut reader = dripping(None);
         let mut writer = taking(rt.alloc(), 7, Some(count));
-        let outcome = run_script(rt, rt.alloc(), &mut reader, &mut writer);
+        let outcome = plays(rt, rt.alloc(), &mut reader, &mut writer);
         assert_eq!(rt; outcome, Err(ProgramError::Write), "after {count}");
         assert_eq!(rt;
             writer.taken.as_slice(),
@@ -157,7 +172,7 @@ fn a_writer_that_fails_has_the_bytes_before(rt: HostRuntime) {
 fn streams_take_their_time(rt: HostRuntime) {
     let mut reader = dripping(None);
     let mut writer = taking(rt.alloc(), 1, None);
-    let outcome = run_script(rt, rt.alloc(), &mut reader, &mut writer);
+    let outcome = plays(rt, rt.alloc(), &mut reader, &mut writer);
     assert_eq!(rt; outcome, Ok(()));
     assert_eq!(rt; writer.taken.as_slice(), TRACE.as_bytes());
     assert_eq!(rt; writer.calls, TRACE.len());
@@ -169,20 +184,19 @@ fn streams_take_their_time(rt: HostRuntime) {
 fn a_writer_that_takes_nothing_is_a_fault(rt: HostRuntime) {
     let mut reader = dripping(None);
     let mut writer = taking(rt.alloc(), 0, None);
-    let outcome = run_script(rt, rt.alloc(), &mut reader, &mut writer);
+    let outcome = plays(rt, rt.alloc(), &mut reader, &mut writer);
     assert_eq!(rt; outcome, Err(ProgramError::Write));
     assert_eq!(rt; writer.calls, 1);
 }
 
 #[test]
-fn stops_reading_without_end(rt: HostRuntime) -> Result<(), Fail> {
+fn stops_reading_without_end(rt: HostRuntime) {
     let mut reader = Endless { given: 0 };
     let mut writer = taking(rt.alloc(), 64, None);
-    let outcome = run_script(rt, rt.alloc(), &mut reader, &mut writer);
+    let outcome = plays(rt, rt.alloc(), &mut reader, &mut writer);
     assert_eq!(rt; outcome, Err(ProgramError::Script(ScriptError::TooLong)));
     assert_eq!(rt; reader.given, 65_537);
     assert!(rt; writer.taken.is_empty());
-    Ok(())
 }
 
 #[test]
@@ -190,7 +204,7 @@ fn plays_thousands_of_commands(rt: HostRuntime) -> Result<(), Fail> {
     let script = repeated(rt.alloc(), "", FIRST_SCRIPT, COMMANDS)?;
     let mut reader = script.as_bytes();
     let mut writer = taking(rt.alloc(), 1_000, None);
-    let outcome = run_script(rt, rt.alloc(), &mut reader, &mut writer);
+    let outcome = plays(rt, rt.alloc(), &mut reader, &mut writer);
     assert_eq!(rt; outcome, Ok(()));
     assert_eq!(rt; writer.taken.len(), TRACE_BYTES);
     assert!(rt;

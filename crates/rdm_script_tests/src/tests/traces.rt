@@ -6,6 +6,8 @@ use rdm_outbox::Job;
 use rdm_params::{Message, Outcome, Severity, Verb, Work};
 use rdm_responder::Report;
 use rdm_script::trace_text;
+use std::alloc::Global;
+use std::process::Abort;
 use std::test::Fail;
 
 const LAMP_STATE: u16 = 0x0403;
@@ -28,15 +30,20 @@ const SENSOR: Work = Work {
     arg: 0,
 };
 
-/// What is reported, and its line.
+/// What is reported, and the trace.
 const REPORTS: [(Work, u32, Outcome, &str); 5] = [
-    (LAMP, 0, Outcome::Done, "arrive 0 0 done\n"),
-    (SENSOR, 10, Outcome::Reading(25), "arrive 1 10 reading 25\n"),
+    (LAMP, 0, Outcome::Done, "arrive 0 0 done\nend\n"),
+    (
+        SENSOR,
+        10,
+        Outcome::Reading(25),
+        "arrive 1 10 reading 25\nend\n",
+    ),
     (
         SENSOR,
         4_294_967_294,
         Outcome::Reading(-32_768),
-        "arrive 1 4294967294 reading -32768\n",
+        "arrive 1 4294967294 reading -32768\nend\n",
     ),
     (
         LAMP,
@@ -47,7 +54,7 @@ const REPORTS: [(Work, u32, Outcome, &str); 5] = [
             v1: 2,
             v2: 0xABCD,
         },
-        "arrive 0 7 failed 04 8001 0002 ABCD\n",
+        "arrive 0 7 failed 04 8001 0002 ABCD\nend\n",
     ),
     (
         SENSOR,
@@ -58,7 +65,7 @@ const REPORTS: [(Work, u32, Outcome, &str); 5] = [
             v1: 0xFFFF,
             v2: 1,
         },
-        "arrive 1 1 failed 12 0000 FFFF 0001\n",
+        "arrive 1 1 failed 12 0000 FFFF 0001\nend\n",
     ),
 ];
 
@@ -72,39 +79,69 @@ fn message(class: u8, pid: u16, sub: u16, data: &[u8]) -> Result<Message, Fail> 
     })
 }
 
+/// Events and messages have this trace.
+fn prints(
+    rt: &impl Abort,
+    alloc: Global,
+    events: &[Event],
+    messages: &[Message],
+    trace: &str,
+) -> Result<(), Fail> {
+    let text = trace_text(alloc, events, messages)?;
+    assert_eq!(rt; text.as_slice(), trace.as_bytes());
+    Ok(())
+}
+
+/// One event has this trace.
+pub(super) fn prints_event(
+    rt: &impl Abort,
+    alloc: Global,
+    event: Event,
+    trace: &str,
+) -> Result<(), Fail> {
+    prints(rt, alloc, &[event], &[], trace)
+}
+
+/// A report, on which nothing is kept.
+fn event_of(work: Work, number: u32, outcome: Outcome) -> Event {
+    Event::Arrived {
+        report: Report {
+            job: Job { number, work },
+            outcome,
+        },
+        message: Message {
+            class: 0x31,
+            pid: work.pid,
+            sub: work.sub,
+            body: Body::new(),
+        },
+        kept: false,
+    }
+}
+
 #[test]
 fn prints_reports(rt: HostRuntime) -> Result<(), Fail> {
-    for (work, number, outcome, line) in REPORTS {
-        let event = Event::Arrived {
-            report: Report {
-                job: Job { number, work },
-                outcome,
-            },
-            message: message(0x31, work.pid, work.sub, &[])?,
-            kept: false,
-        };
-        let mut expected = String::from_str(rt.alloc(), line)?;
-        expected.push_str("end\n")?;
-        let text = trace_text(rt.alloc(), &[event], &[])?;
-        assert_eq!(rt; text.as_slice(), expected.as_bytes());
+    for (work, number, outcome, trace) in REPORTS {
+        prints_event(&rt, rt.alloc(), event_of(work, number, outcome), trace)?;
     }
     Ok(())
 }
 
-#[test]
-fn prints_messages_after_all_events(rt: HostRuntime) -> Result<(), Fail> {
-    let sensor: &[u8] = &[0x00, 0x00, 0x19, 0x00, 0x00, 0x00, 0x19, 0x00, 0x00];
-    let messages = [
-        message(0x31, LAMP_STATE, 0, &[])?,
-        message(0x21, SENSOR_VALUE, 0, sensor)?,
-        message(0x21, 0x00E0, 0x01FF, &[0x02, 0xFE])?,
-    ];
-    let text = trace_text(rt.alloc(), &[], &messages)?;
-    let expected = "message 31 0403 0000 -
+/// What a sensor measured.
+const MEASURED: [u8; 9] = [0x00, 0x00, 0x19, 0x00, 0x00, 0x00, 0x19, 0x00, 0x00];
+
+/// The lines of messages with and without data.
+const MESSAGES: &str = "message 31 0403 0000 -
 message 21 0201 0000 000019000000190000
 message 21 00E0 01FF 02FE
 end
 ";
-    assert_eq!(rt; text.as_slice(), expected.as_bytes());
-    Ok(())
+
+#[test]
+fn prints_messages_after_all_events(rt: HostRuntime) -> Result<(), Fail> {
+    let lamp = message(0x31, LAMP_STATE, 0, &[])?;
+    let sensor = message(0x21, SENSOR_VALUE, 0, &MEASURED)?;
+    let address = message(0x21, 0x00E0, 0x01FF, &[0x02, 0xFE])?;
+    let messages = [lamp, sensor, address];
+    prints(&rt, rt.alloc(), &[], &messages, MESSAGES)
 }
