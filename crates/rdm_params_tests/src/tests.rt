@@ -97,15 +97,17 @@ fn plays(rt: &impl Abort, devices: &mut Devices, steps: &[Step<'_>]) {
     }
 }
 
+const RUNS: [&[Run]; 5] = [
+    &devices::RUNS,
+    &rows::RUNS,
+    &scalars::RUNS,
+    &slow::RUNS,
+    &thresholds::RUNS,
+];
+
 #[test]
 fn commands_are_answered_as_expected(rt: HostRuntime) {
-    for runs in [
-        devices::RUNS.as_slice(),
-        rows::RUNS.as_slice(),
-        scalars::RUNS.as_slice(),
-        slow::RUNS.as_slice(),
-        thresholds::RUNS.as_slice(),
-    ] {
+    for runs in RUNS {
         for (subs, steps) in runs {
             let mut devices = demo(&rt, rt.alloc(), *subs);
             assert_eq!(rt; devices.sub_devices(), usize::from(*subs));

@@ -15,8 +15,8 @@ pub(super) fn answers(rt: &impl Abort, devices: &mut Devices, rows: &[Answered])
             Get => devices.get_into(0, *pid, bytes, &mut body),
             Set => devices.set_into(0, *pid, bytes, &mut body),
         };
-        assert_eq!(rt; told, *answer, "{verb:?} {pid:04X} {bytes:?}");
-        assert_eq!(rt; body.as_slice(), *beside, "{verb:?} {pid:04X} {bytes:?}");
+        let told = (told, body.as_slice());
+        assert_eq!(rt; told, (*answer, *beside), "{verb:?} {pid:04X} {bytes:?}");
     }
 }
 

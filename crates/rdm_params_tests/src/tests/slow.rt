@@ -117,6 +117,15 @@ const WORKS: [(u16, Verb, u8, u16, [bool; 3]); 10] = [
     (0x0015, Get, 1, 0, [false, false, false]),
 ];
 
+/// Whether `Done`, a reading and `FAILED` can be the outcome.
+fn outcomes_of(work: &Work) -> [bool; 3] {
+    [
+        fits(work, &Outcome::Done),
+        fits(work, &Outcome::Reading(1)),
+        fits(work, &FAILED),
+    ]
+}
+
 #[test]
 fn each_work_has_its_worker_and_its_outcomes(rt: HostRuntime) {
     for (pid, verb, worker, estimate, fitting) in WORKS {
@@ -126,12 +135,7 @@ fn each_work_has_its_worker_and_its_outcomes(rt: HostRuntime) {
             verb,
             arg: 0,
         };
-        let outcomes = [
-            fits(&work, &Outcome::Done),
-            fits(&work, &Outcome::Reading(1)),
-            fits(&work, &FAILED),
-        ];
-        let told = (worker_of(&work), estimate_of(&work), outcomes);
+        let told = (worker_of(&work), estimate_of(&work), outcomes_of(&work));
         assert_eq!(rt; told, (worker, estimate, fitting), "{pid:04X}");
     }
 }
