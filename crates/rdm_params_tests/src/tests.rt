@@ -1,10 +1,13 @@
 //! What no clause says: that the clauses say what the standard and the profile mean. The expected bytes are worked
 //! out by hand.
 
+use Expected::{Clear, Queue, Refuse, Reply, Start, Status};
+use Nack::{DataOutOfRange, FormatError, SubDeviceOutOfRange, UnknownPid, UnsupportedCommandClass};
+use Verb::{Get, Set};
 use rdm_frame::{Body, Text};
 use rdm_params::*;
+use std::alloc::Global;
 use std::process::Abort;
-use std::test::Fail;
 
 mod devices;
 mod panel;
@@ -16,69 +19,99 @@ mod thresholds;
 mod values;
 mod words;
 
-/// A PID, the data of a command, and the data of its reply.
-type Replied<'a> = (u16, &'a [u8], &'a [u8]);
-
-/// A PID and the data of a command that is refused.
-type Refused<'a> = (u16, &'a [u8]);
-
-fn demo(rt: &HostRuntime) -> Result<Devices, Fail> {
-    made(rt, Profile::demo(0))
+/// What comes of a command.
+#[derive(Clone, Copy)]
+enum Expected<'a> {
+    /// It is carried out, and this is the data of the reply.
+    Reply(&'a [u8]),
+    /// It starts a job that is handed this byte.
+    Start(u8),
+    /// It asks for the next message that waits, or for the last one.
+    Queue(Ask),
+    /// It asks for status entries, or for the last message.
+    Status(Ask),
+    /// It clears the list of status entries.
+    Clear,
+    Refuse(Nack),
 }
 
-fn made(rt: &HostRuntime, profile: Profile) -> Result<Devices, Fail> {
-    Ok(
-        Devices::new(rt.alloc(), profile)
-            .ok()
-            .ok_or("a good profile")?,
-    )
+/// A command: to the root or a sub-device, of a PID, with these data; and what must come of it.
+type Step<'a> = (Verb, u16, u16, &'a [u8], Expected<'a>);
+
+/// How many sub-devices the demonstration device has, and what is asked of it.
+type Run = (u16, &'static [Step<'static>]);
+
+fn demo(rt: &impl Abort, alloc: Global, subs: u16) -> Devices {
+    made(rt, alloc, Profile::demo(subs))
 }
 
-fn text(bytes: &[u8]) -> Result<Text, Fail> {
-    Ok(Text::from_slice(bytes).ok_or("a short text")?)
+fn made(rt: &impl Abort, alloc: Global, profile: Profile) -> Devices {
+    Devices::new(alloc, profile).expect(rt, "a good profile")
 }
 
-fn reply(bytes: &[u8]) -> Result<Verdict, Fail> {
-    Ok(Verdict::Reply(Body::from_slice(bytes).ok_or("a short list")?))
+fn body(rt: &impl Abort, bytes: &[u8]) -> Body {
+    Body::from_slice(bytes).expect(rt, "a short list")
 }
 
-fn gets(rt: &impl Abort, devices: &Devices, sub: u16, cases: &[Replied<'_>]) -> Result<(), Fail> {
-    for (pid, data, want) in cases {
-        let verdict = devices.get(sub, *pid, data);
-        assert_eq!(rt; verdict, reply(want)?, "GET {pid:04X} {data:?}");
-    }
-    Ok(())
-}
-
-fn sets(
-    rt: &impl Abort,
-    devices: &mut Devices,
-    sub: u16,
-    cases: &[Replied<'_>],
-) -> Result<(), Fail> {
-    for (pid, data, want) in cases {
-        let verdict = devices.set(sub, *pid, data);
-        assert_eq!(rt; verdict, reply(want)?, "SET {pid:04X} {data:?}");
-    }
-    Ok(())
-}
-
-fn refuses_gets(rt: &impl Abort, devices: &Devices, sub: u16, want: Nack, cases: &[Refused<'_>]) {
-    for (pid, data) in cases {
-        let verdict = devices.get(sub, *pid, data);
-        assert_eq!(rt; verdict, Verdict::Refuse(want), "GET {pid:04X} {data:?}");
+fn message(rt: &impl Abort, class: u8, pid: u16, sub: u16, bytes: &[u8]) -> Message {
+    let body = body(rt, bytes);
+    Message {
+        class,
+        pid,
+        sub,
+        body,
     }
 }
 
-fn refuses_sets(
-    rt: &impl Abort,
-    devices: &mut Devices,
-    sub: u16,
-    want: Nack,
-    cases: &[Refused<'_>],
-) {
-    for (pid, data) in cases {
-        let verdict = devices.set(sub, *pid, data);
-        assert_eq!(rt; verdict, Verdict::Refuse(want), "SET {pid:04X} {data:?}");
+/// The verdict that a step expects.
+fn verdict(rt: &impl Abort, step: &Step<'_>) -> Verdict {
+    let (verb, sub, pid, _, expected) = *step;
+    match expected {
+        Reply(bytes) => Verdict::Reply(body(rt, bytes)),
+        Start(arg) => Verdict::Start(Work {
+            sub,
+            pid,
+            verb,
+            arg,
+        }),
+        Queue(ask) => Verdict::Queue(ask),
+        Status(ask) => Verdict::Status(ask),
+        Clear => Verdict::Clear,
+        Refuse(nack) => Verdict::Refuse(nack),
+    }
+}
+
+/// Asks devices, step by step.
+fn plays(rt: &impl Abort, devices: &mut Devices, steps: &[Step<'_>]) {
+    for step in steps {
+        let (verb, sub, pid, bytes, _) = *step;
+        let told = match verb {
+            Get => devices.get(sub, pid, bytes),
+            Set => devices.set(sub, pid, bytes),
+        };
+        assert_eq!(rt;
+            told,
+            verdict(rt, step),
+            "{verb:?} {sub:04X} {pid:04X} {bytes:?}"
+        );
+    }
+}
+
+const RUNS: [&[Run]; 5] = [
+    &devices::RUNS,
+    &rows::RUNS,
+    &scalars::RUNS,
+    &slow::RUNS,
+    &thresholds::RUNS,
+];
+
+#[test]
+fn commands_are_answered_as_expected(rt: HostRuntime) {
+    for runs in RUNS {
+        for (subs, steps) in runs {
+            let mut devices = demo(&rt, rt.alloc(), *subs);
+            assert_eq!(rt; devices.sub_devices(), usize::from(*subs));
+            plays(&rt, &mut devices, steps);
+        }
     }
 }

@@ -1,14 +1,13 @@
 //! What is done with a system on which a test plays, and what must come of it.
 
-use super::{CONTROLLER, DEVICE, command};
-use rdm_bus::{Action, Collector, Event, Fault, Heard, Step, System, Want};
+use super::{CONTROLLER, DEVICE, command, printed, words_for};
+use rdm_bus::{Action, Collector, Event, Fault, Heard, PlayError, Step, System, Want};
 use rdm_frame::Wire;
 use rdm_outbox::Job;
 use rdm_params::{Change, Message, Outcome, Plate, Profile};
 use rdm_responder::{Report, Responder};
 use std::alloc::Global;
 use std::process::Abort;
-use std::test::Fail;
 
 pub(super) const LAMP_STATE: u16 = 0x0403;
 
@@ -33,142 +32,157 @@ pub(super) enum Act {
 }
 
 /// A new system of a device without sub-devices, with room for `queue_size` results of slow commands.
-pub(super) fn system(alloc: Global, queue_size: u16) -> Result<System, Fail> {
-    let Ok(responder) = Responder::new(alloc, DEVICE, Profile::demo(0), queue_size) else {
-        return Err("a responder".into());
-    };
+pub(super) fn system(rt: &impl Abort, alloc: Global, queue_size: u16) -> System {
+    let responder = Responder::new(alloc, DEVICE, Profile::demo(0), queue_size);
     let collector = Collector::new(alloc, CONTROLLER, DEVICE, Want::Advisory);
-    Ok(System::new(alloc, responder, collector))
+    System::new(alloc, responder.expect(rt, "a responder"), collector)
 }
 
 /// The job that started at this place of the trace's jobs.
-fn job_at(system: &System, at: usize) -> Result<Job, Fail> {
+fn job_at(rt: &impl Abort, system: &System, at: usize) -> Job {
     let mut before = at;
     for event in system.trace() {
         if let Event::Bus { job: Some(job), .. } = event {
             if before == 0 {
-                return Ok(*job);
+                return *job;
             }
             before -= 1;
         }
     }
-    Err("a job".into())
+    panic!(rt; "a job")
+}
+
+/// The report that a job is done.
+fn done(job: Job) -> Report {
+    Report {
+        job,
+        outcome: Outcome::Done,
+    }
+}
+
+/// The same work with the next number.
+fn next(job: Job) -> Job {
+    Job {
+        number: job.number.wrapping_add(1),
+        work: job.work,
+    }
 }
 
 /// The step that an act is.
-fn step_of(system: &System, act: Act, fault: Fault) -> Result<Step, Fail> {
-    let step = match act {
-        Act::Get(pid) => Step::Ask(command(Action::Get, pid, &[])?, fault),
-        Act::Set(pid, data) => Step::Ask(command(Action::Set, pid, data)?, fault),
+fn step_of(rt: &impl Abort, system: &System, act: Act, fault: Fault) -> Step {
+    match act {
+        Act::Get(pid) => Step::Ask(command(rt, Action::Get, pid, &[]), fault),
+        Act::Set(pid, bytes) => Step::Ask(command(rt, Action::Set, pid, bytes), fault),
         Act::Collect => Step::Collect(fault),
-        Act::Ends(at) => Step::Arrive(Report {
-            job: job_at(system, at)?,
-            outcome: Outcome::Done,
-        }),
-        Act::IsAstray(at) => {
-            let job = job_at(system, at)?;
-            Step::Arrive(Report {
-                job: Job {
-                    number: job.number.wrapping_add(1),
-                    work: job.work,
-                },
-                outcome: Outcome::Done,
-            })
-        }
+        Act::Ends(at) => Step::Arrive(done(job_at(rt, system, at))),
+        Act::IsAstray(at) => Step::Arrive(done(next(job_at(rt, system, at)))),
         Act::Start(start) => Step::Change(Change::Start(start)),
         Act::Personality(number) => Step::Change(Change::Personality(number)),
         Act::Label(text) => {
-            let plate = Plate::new(text).ok_or("at most 32 bytes")?;
+            let plate = Plate::new(text).expect(rt, "at most 32 bytes");
             Step::Change(Change::Label(plate))
         }
-    };
-    Ok(step)
+    }
 }
 
-/// Plays an act, and says why it was refused, if it was.
+/// Plays an act, which may be refused.
 pub(super) fn play(
-    alloc: Global,
+    rt: &impl Abort,
     system: &mut System,
     act: Act,
     fault: Fault,
-) -> Result<String, Fail> {
-    let step = step_of(system, act, fault)?;
+) -> Result<(), PlayError> {
+    let step = step_of(rt, system, act, fault);
     if let Some(0) = step.fault().raise() {
-        return Err("a slot that is raised".into());
+        panic!(rt; "a slot that isn't raised")
     }
-    match system.play(&step) {
-        Ok(()) => Ok(String::new(alloc)),
-        Err(refusal) => Ok(format!(in alloc; "{refusal}")?),
-    }
+    system.play(&step)
 }
 
 /// The bytes from the slot of the transaction number on.
-fn printed(alloc: Global, wire: &Wire) -> Result<String, Fail> {
-    let slots = wire.as_slice().get(15..).ok_or("a frame")?;
-    Ok(hex::encode_upper(alloc, slots)?)
+fn from_number(rt: &impl Abort, alloc: Global, wire: &Wire) -> String {
+    let slots = wire.as_slice().get(15..).expect(rt, "a frame");
+    printed(rt, alloc, slots)
+}
+
+/// What a reply was taken for.
+fn name_of(heard: &Option<Heard>) -> &'static str {
+    match heard {
+        Some(Heard::Message) => "message",
+        Some(Heard::Reply) => "reply",
+        Some(Heard::Ignored) => "ignored",
+        None => "nothing",
+    }
+}
+
+/// A request, its reply, and what this was taken for.
+fn exchanged(
+    rt: &impl Abort,
+    alloc: Global,
+    sent: &Wire,
+    reply: &Option<Wire>,
+    heard: &Option<Heard>,
+) -> String {
+    let sent = from_number(rt, alloc, sent);
+    let reply = match reply {
+        Some(reply) => from_number(rt, alloc, reply),
+        None => words_for(rt, alloc, &"-"),
+    };
+    let heard = name_of(heard);
+    format!(in alloc; "{sent} {reply} {heard}").expect(rt, "memory")
 }
 
 /// What happened: the request, the reply, and what it was taken for; that a report arrived; or the message of a change,
 /// if there is one.
-fn happened(alloc: Global, event: &Event) -> Result<String, Fail> {
-    let (sent, reply, heard) = match event {
+fn happened(rt: &impl Abort, alloc: Global, event: &Event) -> String {
+    match event {
         Event::Bus {
             sent,
             reply,
             heard,
             ..
-        } => (sent, reply, heard),
-        Event::Arrived { .. } => return Ok(format!(in alloc; "arrived")?),
+        } => exchanged(rt, alloc, sent, reply, heard),
+        Event::Arrived { .. } => words_for(rt, alloc, &"arrived"),
         Event::Changed {
             message: Some(message),
             ..
-        } => return text_of(alloc, message),
-        Event::Changed { message: None, .. } => return Ok(format!(in alloc; "refused")?),
-    };
-    let sent = printed(alloc, sent)?;
-    let reply = match reply {
-        Some(reply) => printed(alloc, reply)?,
-        None => format!(in alloc; "-")?,
-    };
-    let heard = match heard {
-        Some(Heard::Message) => "message",
-        Some(Heard::Reply) => "reply",
-        Some(Heard::Ignored) => "ignored",
-        None => "nothing",
-    };
-    Ok(format!(in alloc; "{sent} {reply} {heard}")?)
+        } => text_of(rt, alloc, message),
+        Event::Changed { message: None, .. } => words_for(rt, alloc, &"refused"),
+    }
+}
+
+/// Plays an act, and tells what happened, or why nothing did.
+fn told(rt: &impl Abort, alloc: Global, system: &mut System, act: Act, fault: Fault) -> String {
+    let before = system.trace().len();
+    let played = play(rt, system, act, fault);
+    match (system.trace().get(before), played) {
+        (Some(event), _) => happened(rt, alloc, event),
+        (None, Err(refusal)) => words_for(rt, alloc, &refusal),
+        (None, Ok(())) => String::new(alloc),
+    }
 }
 
 /// An act, what goes wrong, and what happens, or why nothing does.
 pub(super) type Turn = (Act, Fault, &'static str);
 
-/// Plays turns on a new system, each beside what must come of it, and counts the messages that were recorded.
-pub(super) fn recorded_in(
-    rt: &impl Abort,
-    alloc: Global,
-    queue_size: u16,
-    turns: &[Turn],
-) -> Result<usize, Fail> {
-    let mut system = system(alloc, queue_size)?;
+/// The room for results, what is done, and how many messages are recorded.
+pub(super) type Run = (u16, &'static [Turn], usize);
+
+/// Plays the turns of a run on a new system, each beside what must come of it.
+pub(super) fn plays(rt: &impl Abort, alloc: Global, (queue_size, turns, recorded): Run) {
+    let mut system = system(rt, alloc, queue_size);
     for (act, fault, expected) in turns {
-        let before = system.trace().len();
-        let refusal = play(alloc, &mut system, *act, *fault)?;
-        let said = match system.trace().get(before) {
-            Some(event) => happened(alloc, event)?,
-            None => refusal,
-        };
-        assert_eq!(rt; said.as_str(), *expected, "{act:?}");
+        let told = told(rt, alloc, &mut system, *act, *fault);
+        assert_eq!(rt; told.as_str(), *expected, "{act:?}");
     }
-    Ok(system.recorded().len())
+    assert_eq!(rt; system.recorded().len(), recorded, "{turns:?}");
 }
 
 /// What a message says: its class, parameter ID, sub-device and data.
-pub(super) fn text_of(alloc: Global, message: &Message) -> Result<String, Fail> {
-    let data = hex::encode_upper(alloc, message.body.as_slice())?;
-    Ok(format!(in alloc;
-        "{:02X} {:04X} {:04X} {data}",
-        message.class, message.pid, message.sub
-    )?)
+pub(super) fn text_of(rt: &impl Abort, alloc: Global, message: &Message) -> String {
+    let body = printed(rt, alloc, message.body.as_slice());
+    let (class, pid, sub) = (message.class, message.pid, message.sub);
+    format!(in alloc; "{class:02X} {pid:04X} {sub:04X} {body}").expect(rt, "memory")
 }
 
 /// A SET of LAMP_STATE to on, in the first transaction.

@@ -1,8 +1,7 @@
 //! Changes at the device's own menu, worked out by hand: which are refused, and how the controller hears of the others.
 
-use super::acts::{Act, LAMP_ON, Turn, recorded_in};
+use super::acts::{Act, LAMP_ON, Run, Turn};
 use rdm_bus::Fault;
-use std::test::Fail;
 
 const DMX_PERSONALITY: u16 = 0x00E0;
 
@@ -100,23 +99,10 @@ const ONE_BY_ONE: [Turn; 5] = [
     ),
 ];
 
-/// The room for results, what is done, and how many messages are recorded.
-const RUNS: [(u16, &[Turn], usize); 5] = [
+pub(super) const RUNS: [Run; 5] = [
     (8, &OUT_OF_RANGE, 1),
     (1, &NO_ROOM, 2),
     (8, &LABELS, 2),
     (8, &BETWEEN_LOSS_AND_REPEAT, 2),
     (1, &ONE_BY_ONE, 2),
 ];
-
-#[test]
-fn the_controller_hears_of_changes_in_order(rt: HostRuntime) -> Result<(), Fail> {
-    for (queue_size, turns, recorded) in RUNS {
-        assert_eq!(rt;
-            recorded_in(&rt, rt.alloc(), queue_size, turns)?,
-            recorded,
-            "{turns:?}"
-        );
-    }
-    Ok(())
-}

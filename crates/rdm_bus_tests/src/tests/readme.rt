@@ -1,6 +1,6 @@
 //! The console of the README and the menu of its fixture, as its text has them. What is sent was worked out by hand.
 
-use super::{CONTROLLER as CONSOLE, DEVICE as FIXTURE, command};
+use super::{CONTROLLER as CONSOLE, DEVICE as FIXTURE, bytes_of, command};
 use rdm_bus::{Action, Collector, Heard, Want};
 use rdm_frame::{Body, Wire};
 use rdm_params::{Change, Message, Profile};
@@ -64,7 +64,7 @@ fn a_console_collects_over_its_own_port(rt: HostRuntime) -> Result<(), Fail> {
         alloc: rt.alloc(),
         sent: 0,
     };
-    let set_lamp_on = command(Action::Set, 0x0403, &[1])?;
+    let set_lamp_on = command(&rt, Action::Set, 0x0403, &[1]);
 
     let mut console = Collector::new(rt.alloc(), CONSOLE, FIXTURE, Want::Advisory);
     // A command of the user. The reply is ACK_TIMER: the result will wait in the fixture's queue.
@@ -104,11 +104,11 @@ fn a_fixture_tells_what_its_menu_changed(rt: HostRuntime) -> Result<(), Fail> {
         class: 0x21,
         pid: 0x00F0,
         sub: 0,
-        body: Body::from_slice(&[0, 101]).ok_or("two bytes")?,
+        body: Body::of(&[0, 101]),
     };
-    let queued_message = hex::decode(rt.alloc(), QUEUED_MESSAGE)?;
-    let message = hex::decode(rt.alloc(), START_ADDRESS_MESSAGE)?;
-    let start_address_message = Wire::from_slice(&message).ok_or("a frame")?;
+    let queued_message = bytes_of(&rt, rt.alloc(), QUEUED_MESSAGE);
+    let message = bytes_of(&rt, rt.alloc(), START_ADDRESS_MESSAGE);
+    let start_address_message = Wire::from_slice(&message).expect(&rt, "a frame");
 
     // There is room for one message.
     let mut responder = Responder::new(rt.alloc(), FIXTURE, Profile::demo(0), 1)?;

@@ -1,7 +1,10 @@
 //! The words that errors print.
 
+use super::words_for;
 use rdm_bus::{AskError, PlayError, PollError};
-use std::test::Fail;
+use std::alloc::Global;
+use std::fmt::Display;
+use std::process::Abort;
 
 /// Why a command isn't sent, and the words for it.
 const ASK_ERRORS: [(AskError, &str); 3] = [
@@ -25,28 +28,20 @@ const PLAY_ERRORS: [(PlayError, &str); 5] = [
     (PlayError::NoRoom, "no room"),
 ];
 
+/// An error prints these words.
+fn prints(rt: &impl Abort, alloc: Global, error: &impl Display, words: &str) {
+    assert_eq!(rt; words_for(rt, alloc, error).as_str(), words);
+}
+
 #[test]
-fn errors_say_what_is_wrong(rt: HostRuntime) -> Result<(), Fail> {
+fn errors_say_what_is_wrong(rt: HostRuntime) {
     for (error, words) in ASK_ERRORS {
-        assert_eq!(rt;
-            format!(in rt.alloc(); "{error}")?.as_str(),
-            words,
-            "{error:?}"
-        );
+        prints(&rt, rt.alloc(), &error, words);
     }
     for (error, words) in POLL_ERRORS {
-        assert_eq!(rt;
-            format!(in rt.alloc(); "{error}")?.as_str(),
-            words,
-            "{error:?}"
-        );
+        prints(&rt, rt.alloc(), &error, words);
     }
     for (error, words) in PLAY_ERRORS {
-        assert_eq!(rt;
-            format!(in rt.alloc(); "{error}")?.as_str(),
-            words,
-            "{error:?}"
-        );
+        prints(&rt, rt.alloc(), &error, words);
     }
-    Ok(())
 }

@@ -2,107 +2,120 @@
 
 use super::*;
 
-#[test]
-fn a_reply_takes_the_place_of_the_last(rt: HostRuntime) -> Result<(), Fail> {
-    let mut devices = demo(&rt)?;
-    let mut body = Body::from_slice(b"Fixture").ok_or("too long")?;
-    assert_eq!(rt; devices.set_into(0, 0x1000, &[1], &mut body), Answer::Done);
-    assert_eq!(rt; body.as_slice(), b"".as_slice());
-    assert_eq!(rt; devices.get_into(0, 0x1000, &[], &mut body), Answer::Done);
-    assert_eq!(rt; body.as_slice(), [1].as_slice());
-    let refused = devices.get_into(0, 0x1000, &[1], &mut body);
-    assert_eq!(rt; refused, Answer::Refused(Nack::FormatError));
-    assert_eq!(rt; body.as_slice(), b"".as_slice());
-    let (sub, pid, verb, arg) = (0, 0x0403, Verb::Set, 1);
-    let work = Work {
-        sub,
-        pid,
-        verb,
-        arg,
-    };
-    let started = devices.set_into(0, 0x0403, &[1], &mut body);
-    let (worker, estimate) = (0, 50);
-    assert_eq!(rt;
-        started,
-        Answer::Starts {
-            work,
-            worker,
-            estimate
-        }
-    );
-    let label = Body::from_slice(b"Fixture").ok_or("too long")?;
-    assert_eq!(rt; Answer::Done.with(label), reply(b"Fixture")?);
-    Ok(())
+pub(super) const RUNS: [Run; 3] = [(2, &OWN_VALUES), (0, &NO_SUB_DEVICE), (3, &ALL_CALL)];
+
+/// A command to the root, its answer, and the data that stand beside the answer in place of others.
+type Answered = (Verb, u16, &'static [u8], Answer, &'static [u8]);
+
+/// Asks the root, each time with other data in the place of a reply's.
+pub(super) fn answers(rt: &impl Abort, devices: &mut Devices, rows: &[Answered]) {
+    for (verb, pid, bytes, answer, beside) in rows {
+        let mut body = Body::of(b"Fixture");
+        let told = match verb {
+            Get => devices.get_into(0, *pid, bytes, &mut body),
+            Set => devices.set_into(0, *pid, bytes, &mut body),
+        };
+        let told = (told, body.as_slice());
+        assert_eq!(rt; told, (*answer, *beside), "{verb:?} {pid:04X} {bytes:?}");
+    }
 }
 
-#[test]
-fn each_device_has_its_own_values(rt: HostRuntime) -> Result<(), Fail> {
-    let mut devices = made(&rt, Profile::demo(2))?;
-    assert_eq!(rt; devices.sub_devices(), 2);
-    sets(&rt, &mut devices, 2, &[(0x1000, &[1], &[])])?;
-    for (sub, identify) in [(0, 0), (1, 0), (2, 1)] {
-        gets(&rt, &devices, sub, &[(0x1000, &[], &[identify])])?;
-    }
-    let missing = Nack::SubDeviceOutOfRange;
-    refuses_gets(&rt, &devices, 3, missing, &[(0x1000, &[])]);
-    refuses_gets(&rt, &devices, 0xFFFF, missing, &[(0x1000, &[])]);
-    refuses_sets(&rt, &mut devices, 3, missing, &[(0x1000, &[1])]);
-    refuses_gets(&rt, &devices, 1, Nack::UnknownPid, &[(0x0400, &[])]);
-    refuses_sets(&rt, &mut devices, 1, Nack::UnknownPid, &[(0x0090, &[])]);
-    Ok(())
-}
+/// SET LAMP_STATE to on starts a job.
+const LAMP_ON: Answer = Answer::Starts {
+    work: Work {
+        sub: 0,
+        pid: 0x0403,
+        verb: Set,
+        arg: 1,
+    },
+    worker: 0,
+    estimate: 50,
+};
+
+const ANSWERED: [Answered; 4] = [
+    (Set, 0x1000, &[1], Answer::Done, &[]),
+    (Get, 0x1000, &[], Answer::Done, &[1]),
+    (Get, 0x1000, &[1], Answer::Refused(FormatError), &[]),
+    (Set, 0x0403, &[1], LAMP_ON, &[]),
+];
 
 #[test]
-fn all_call_is_for_every_sub_device(rt: HostRuntime) -> Result<(), Fail> {
-    let mut root = demo(&rt)?;
-    let missing = Nack::SubDeviceOutOfRange;
-    refuses_sets(&rt, &mut root, 0xFFFF, missing, &[(0x1000, &[1])]);
-    let mut devices = made(&rt, Profile::demo(3))?;
-    sets(&rt, &mut devices, 0xFFFF, &[(0x1000, &[1], &[])])?;
-    for (sub, identify) in [(0, 0), (1, 1), (2, 1), (3, 1)] {
-        gets(&rt, &devices, sub, &[(0x1000, &[], &[identify])])?;
-    }
-    let refused: [(u16, &[u8], Nack); 4] = [
-        (0x0403, &[1], missing),
-        (0x0403, &[9], Nack::DataOutOfRange),
-        (0x1000, &[], Nack::FormatError),
-        (0x0400, &[], Nack::UnknownPid),
-    ];
-    for (pid, data, want) in refused {
-        refuses_sets(&rt, &mut devices, 0xFFFF, want, &[(pid, data)]);
-    }
-    Ok(())
+fn a_reply_takes_the_place_of_the_last(rt: HostRuntime) {
+    answers(&rt, &mut demo(&rt, rt.alloc(), 0), &ANSWERED);
+    let label = Answer::Done.with(Body::of(b"Fixture"));
+    assert_eq!(rt; label, Verdict::Reply(Body::of(b"Fixture")));
+    assert_eq!(rt; Answer::Clears.with(Body::new()), Verdict::Clear);
 }
+
+/// Each device has its own values.
+const OWN_VALUES: [Step<'static>; 9] = [
+    (Set, 2, 0x1000, &[1], Reply(&[])),
+    (Get, 0, 0x1000, &[], Reply(&[0])),
+    (Get, 1, 0x1000, &[], Reply(&[0])),
+    (Get, 2, 0x1000, &[], Reply(&[1])),
+    (Get, 3, 0x1000, &[], Refuse(SubDeviceOutOfRange)),
+    (Get, 0xFFFF, 0x1000, &[], Refuse(SubDeviceOutOfRange)),
+    (Set, 3, 0x1000, &[1], Refuse(SubDeviceOutOfRange)),
+    (Get, 1, 0x0400, &[], Refuse(UnknownPid)),
+    (Set, 1, 0x0090, &[], Refuse(UnknownPid)),
+];
+
+/// All-call is for every sub-device, and for none where there are none.
+const NO_SUB_DEVICE: [Step<'static>; 1] = [(
+    Set,
+    0xFFFF,
+    0x1000,
+    &[1],
+    Refuse(SubDeviceOutOfRange),
+)];
+
+const ALL_CALL: [Step<'static>; 9] = [
+    (Set, 0xFFFF, 0x1000, &[1], Reply(&[])),
+    (Get, 0, 0x1000, &[], Reply(&[0])),
+    (Get, 1, 0x1000, &[], Reply(&[1])),
+    (Get, 2, 0x1000, &[], Reply(&[1])),
+    (Get, 3, 0x1000, &[], Reply(&[1])),
+    (Set, 0xFFFF, 0x0403, &[1], Refuse(SubDeviceOutOfRange)),
+    (Set, 0xFFFF, 0x0403, &[9], Refuse(DataOutOfRange)),
+    (Set, 0xFFFF, 0x1000, &[], Refuse(FormatError)),
+    (Set, 0xFFFF, 0x0400, &[], Refuse(UnknownPid)),
+];
+
+/// All-call changes all or none: the third cell has a personality without slots first, and then none has.
+const NONE_CHANGES: [Step<'static>; 5] = [
+    (Set, 3, 0x00E0, &[2], Reply(&[])),
+    (Set, 0xFFFF, 0x00F0, &[0, 9], Refuse(DataOutOfRange)),
+    (Get, 1, 0x00F0, &[], Reply(&[0, 1])),
+    (Get, 2, 0x00F0, &[], Reply(&[0, 1])),
+    (Get, 3, 0x00F0, &[], Reply(&[0xFF, 0xFF])),
+];
+
+const ALL_CHANGE: [Step<'static>; 4] = [
+    (Set, 0xFFFF, 0x00E0, &[1], Reply(&[])),
+    (Set, 0xFFFF, 0x00F0, &[0, 9], Reply(&[])),
+    (Get, 3, 0x00F0, &[], Reply(&[0, 9])),
+    (Get, 0, 0x00F0, &[], Reply(&[0, 1])),
+];
 
 /// Three cells, each with a second personality that uses no slots.
-fn cells(rt: &HostRuntime) -> Result<Devices, Fail> {
+fn cells(rt: &impl Abort) -> Profile {
     let mut profile = Profile::demo(3);
     let blank = Personality::default();
+    assert!(rt; profile.sub.personalities.try_push(blank).is_ok());
     profile
-        .sub
-        .personalities
-        .try_push(blank)
-        .ok()
-        .ok_or("room")?;
-    made(rt, profile)
+}
+
+/// Whether start address 9 is in range for a SET there.
+fn takes_9(devices: &Devices, sub: u16) -> bool {
+    devices.in_range(sub, Kind::DmxStartAddress, Set, &Value::Word(9))
 }
 
 #[test]
-fn all_call_changes_all_or_none(rt: HostRuntime) -> Result<(), Fail> {
-    let mut devices = cells(&rt)?;
-    sets(&rt, &mut devices, 3, &[(0x00E0, &[2], &[])])?;
-    let out = Nack::DataOutOfRange;
-    refuses_sets(&rt, &mut devices, 0xFFFF, out, &[(0x00F0, &[0, 9])]);
-    for (sub, low) in [(1, [0, 1]), (2, [0, 1]), (3, [0xFF, 0xFF])] {
-        gets(&rt, &devices, sub, &[(0x00F0, &[], &low)])?;
-    }
-    let start = Value::Word(9);
-    assert!(rt; !devices.in_range(0xFFFF, Kind::DmxStartAddress, Verb::Set, &start));
-    assert!(rt; devices.in_range(1, Kind::DmxStartAddress, Verb::Set, &start));
-    let taken: [Replied<'_>; 2] = [(0x00E0, &[1], &[]), (0x00F0, &[0, 9], &[])];
-    sets(&rt, &mut devices, 0xFFFF, &taken)?;
-    gets(&rt, &devices, 3, &[(0x00F0, &[], &[0, 9])])?;
-    gets(&rt, &devices, 0, &[(0x00F0, &[], &[0, 1])])
+fn all_call_changes_all_or_none(rt: HostRuntime) {
+    let mut devices = made(&rt, rt.alloc(), cells(&rt));
+    plays(&rt, &mut devices, &NONE_CHANGES);
+    assert!(rt; !takes_9(&devices, 0xFFFF) && takes_9(&devices, 1));
+    plays(&rt, &mut devices, &ALL_CHANGE);
 }
 
 /// The longest text.
@@ -139,74 +152,107 @@ const DEFAULTS: [u8; 138] = [
     0x00, 0x00, 0x2B, 0x00, 0x00, 0x2C, 0x00, 0x00, 0x2D, 0x00,
 ];
 
+fn longest() -> Text {
+    Text::of(&LONGEST)
+}
+
 /// A profile with as much of everything as there can be.
-fn greatest(rt: &impl Abort) -> Result<Profile, Fail> {
+fn greatest(rt: &impl Abort) -> Profile {
     let mut profile = Profile::demo(512);
     for number in 3..9 {
-        let (name, footprint) = (text(&LONGEST)?, 46);
-        let personality = Personality { footprint, name };
-        assert!(rt; profile.root.personalities.try_push(personality).is_ok());
-        assert!(rt; profile.languages.try_push(0x6161 + number as u16).is_ok());
-        add_named(rt, &mut profile, number)?;
+        add_mode(rt, &mut profile, number);
+        add_named(rt, &mut profile, number);
     }
     for _ in 5..46 {
         let mut slot = Slot::default();
-        slot.name = text(&LONGEST)?;
+        slot.name = longest();
         assert!(rt; profile.slots.try_push(slot).is_ok());
     }
-    profile.root.model_text = text(&LONGEST)?;
-    profile.boot_text = text(&LONGEST)?;
-    Ok(profile)
+    profile.root.model_text = longest();
+    profile.boot_text = longest();
+    profile
+}
+
+/// Adds a personality and a language.
+fn add_mode(rt: &impl Abort, profile: &mut Profile, number: u8) {
+    let (name, footprint) = (longest(), 46);
+    let personality = Personality { footprint, name };
+    assert!(rt; profile.root.personalities.try_push(personality).is_ok());
+    assert!(rt; profile.languages.try_push(0x6161 + number as u16).is_ok());
 }
 
 /// Adds a self test, a status text and a sensor.
-fn add_named(rt: &impl Abort, profile: &mut Profile, number: u8) -> Result<(), Fail> {
-    let name = text(&LONGEST)?;
+fn add_named(rt: &impl Abort, profile: &mut Profile, number: u8) {
+    let name = longest();
     assert!(rt; profile.tests.try_push(SelfTest { number, name }).is_ok());
-    let (id, text_of_id) = (0x9000 + number as u16, text(&LONGEST)?);
-    let status = StatusText {
-        id,
-        text: text_of_id,
-    };
-    assert!(rt; profile.status_texts.try_push(status).is_ok());
+    let (id, text) = (0x9000 + number as u16, longest());
+    assert!(rt;
+        profile
+            .status_texts
+            .try_push(StatusText { id, text })
+            .is_ok()
+    );
     let mut sensor = SensorDef::default();
-    sensor.name = text(&LONGEST)?;
+    sensor.name = longest();
     assert!(rt; profile.sensors.try_push(sensor).is_ok());
-    Ok(())
 }
 
-/// What the greatest profile's root replies.
-const GREATEST: [Replied<'static>; 12] = [
-    (0x0031, &[0x90, 0x08], &LONGEST),
-    (0x0050, &[], &rows::AT_ROOT),
+/// What the devices of the greatest profile reply, with the last personality.
+const GREATEST: [Step<'static>; 15] = [
+    (Set, 0, 0x00E0, &[8], Reply(&[])),
+    (Get, 0, 0x0031, &[0x90, 0x08], Reply(&LONGEST)),
+    (Get, 0, 0x0050, &[], Reply(&rows::AT_ROOT)),
     (
+        Get,
+        0,
         0x0060,
         &[],
-        &[1, 0, 0, 0x11, 1, 2, 0, 0, 1, 0, 0, 46, 8, 8, 0, 1, 2, 0, 8],
+        Reply(&[1, 0, 0, 0x11, 1, 2, 0, 0, 1, 0, 0, 46, 8, 8, 0, 1, 2, 0, 8]),
     ),
-    (0x0080, &[], &LONGEST),
-    (0x00A0, &[], b"endeadaeafagahai"),
-    (0x00C2, &[], &LONGEST),
-    (0x00E1, &[8], b"\x08\0\x2ETTTTTTTTTTTTTTTTTTTTTTTTTTTTTTTT"),
-    (0x0120, &[], &INFOS),
-    (0x0121, &[0, 45], b"\0\x2DTTTTTTTTTTTTTTTTTTTTTTTTTTTTTTTT"),
-    (0x0122, &[], &DEFAULTS),
+    (Get, 0, 0x0080, &[], Reply(&LONGEST)),
+    (Get, 0, 0x00A0, &[], Reply(b"endeadaeafagahai")),
+    (Get, 0, 0x00C2, &[], Reply(&LONGEST)),
     (
+        Get,
+        0,
+        0x00E1,
+        &[8],
+        Reply(b"\x08\0\x2ETTTTTTTTTTTTTTTTTTTTTTTTTTTTTTTT"),
+    ),
+    (Get, 0, 0x0120, &[], Reply(&INFOS)),
+    (
+        Get,
+        0,
+        0x0121,
+        &[0, 45],
+        Reply(b"\0\x2DTTTTTTTTTTTTTTTTTTTTTTTTTTTTTTTT"),
+    ),
+    (Get, 0, 0x0122, &[], Reply(&DEFAULTS)),
+    (
+        Get,
+        0,
         0x0200,
         &[7],
-        b"\x07\0\0\0\0\0\0\0\0\0\0\0\0TTTTTTTTTTTTTTTTTTTTTTTTTTTTTTTT",
+        Reply(b"\x07\0\0\0\0\0\0\0\0\0\0\0\0TTTTTTTTTTTTTTTTTTTTTTTTTTTTTTTT"),
     ),
-    (0x1021, &[8], b"\x08TTTTTTTTTTTTTTTTTTTTTTTTTTTTTTTT"),
+    (
+        Get,
+        0,
+        0x1021,
+        &[8],
+        Reply(b"\x08TTTTTTTTTTTTTTTTTTTTTTTTTTTTTTTT"),
+    ),
+    (
+        Get,
+        512,
+        0x0060,
+        &[],
+        Reply(&[1, 0, 0, 0x12, 1, 2, 0, 0, 1, 0, 0, 1, 1, 1, 0, 1, 2, 0, 0]),
+    ),
+    (Get, 513, 0x0060, &[], Refuse(SubDeviceOutOfRange)),
 ];
 
 #[test]
-fn the_greatest_profile_is_read_whole(rt: HostRuntime) -> Result<(), Fail> {
-    let mut devices = made(&rt, greatest(&rt)?)?;
-    sets(&rt, &mut devices, 0, &[(0x00E0, &[8], &[])])?;
-    gets(&rt, &devices, 0, &GREATEST)?;
-    let info = [1, 0, 0, 0x12, 1, 2, 0, 0, 1, 0, 0, 1, 1, 1, 0, 1, 2, 0, 0];
-    gets(&rt, &devices, 512, &[(0x0060, &[], &info)])?;
-    let missing = Nack::SubDeviceOutOfRange;
-    refuses_gets(&rt, &devices, 513, missing, &[(0x0060, &[])]);
-    Ok(())
+fn the_greatest_profile_is_read_whole(rt: HostRuntime) {
+    plays(&rt, &mut made(&rt, rt.alloc(), greatest(&rt)), &GREATEST);
 }

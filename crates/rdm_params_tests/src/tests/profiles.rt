@@ -2,9 +2,10 @@
 
 use super::*;
 
-/// A rule that a profile breaks.
+/// What is altered in a profile.
 #[derive(Clone, Copy, Debug)]
-enum Broken {
+enum Altered {
+    Nothing,
     RootStart(u16),
     SubStart(u16),
     NoRootPersonality,
@@ -21,88 +22,76 @@ enum Broken {
     Presets(u16),
 }
 
-const BAD: [Broken; 15] = [
-    Broken::RootStart(0),
-    Broken::RootStart(513),
-    Broken::SubStart(0),
-    Broken::SubStart(513),
-    Broken::NoRootPersonality,
-    Broken::NoSubPersonality,
-    Broken::SubFootprint(513),
-    Broken::NoLanguage,
-    Broken::Slots(4),
-    Broken::TestNumber(0),
-    Broken::TestNumber(255),
-    Broken::TestNumber(1),
-    Broken::TestNumber(2),
-    Broken::StatusId(0x8001),
-    Broken::Presets(65535),
+const BAD: Option<NewError> = Some(NewError::BadProfile);
+
+const MANY: Option<NewError> = Some(NewError::TooManySubs);
+
+/// How many sub-devices there are, what is altered, and why the profile is refused, if it is.
+const PROFILES: [(u16, Altered, Option<NewError>); 25] = [
+    (0, Altered::RootStart(0), BAD),
+    (0, Altered::RootStart(513), BAD),
+    (0, Altered::SubStart(0), BAD),
+    (0, Altered::SubStart(513), BAD),
+    (0, Altered::NoRootPersonality, BAD),
+    (0, Altered::NoSubPersonality, BAD),
+    (0, Altered::SubFootprint(513), BAD),
+    (0, Altered::NoLanguage, BAD),
+    (0, Altered::Slots(4), BAD),
+    (0, Altered::TestNumber(0), BAD),
+    (0, Altered::TestNumber(255), BAD),
+    (0, Altered::TestNumber(1), BAD),
+    (0, Altered::TestNumber(2), BAD),
+    (0, Altered::StatusId(0x8001), BAD),
+    (0, Altered::Presets(65535), BAD),
+    (0, Altered::Presets(0), None),
+    (0, Altered::Presets(4096), None),
+    (0, Altered::Presets(65534), None),
+    (0, Altered::Nothing, None),
+    (1, Altered::Nothing, None),
+    (2, Altered::Nothing, None),
+    (511, Altered::Nothing, None),
+    (512, Altered::Nothing, None),
+    (513, Altered::Nothing, MANY),
+    // Sub-devices are counted first.
+    (513, Altered::Presets(65535), MANY),
 ];
 
-fn breaking(rt: &impl Abort, rule: Broken) -> Profile {
-    let mut profile = Profile::demo(0);
-    match rule {
-        Broken::RootStart(start) => profile.root.start = start,
-        Broken::SubStart(start) => profile.sub.start = start,
-        Broken::NoRootPersonality => profile.root.personalities.clear(),
-        Broken::NoSubPersonality => profile.sub.personalities.clear(),
-        Broken::SubFootprint(footprint) => {
+/// The profile of the demonstration device with so many sub-devices, and one change.
+fn profile_with(rt: &impl Abort, subs: u16, change: Altered) -> Profile {
+    let mut profile = Profile::demo(subs);
+    match change {
+        Altered::Nothing => (),
+        Altered::RootStart(start) => profile.root.start = start,
+        Altered::SubStart(start) => profile.sub.start = start,
+        Altered::NoRootPersonality => profile.root.personalities.clear(),
+        Altered::NoSubPersonality => profile.sub.personalities.clear(),
+        Altered::SubFootprint(footprint) => {
             let mut wide = Personality::default();
             wide.footprint = footprint;
             assert!(rt; profile.sub.personalities.try_push(wide).is_ok());
         }
-        Broken::NoLanguage => profile.languages.clear(),
-        Broken::Slots(count) => profile.slots.truncate(count),
-        Broken::TestNumber(number) => {
+        Altered::NoLanguage => profile.languages.clear(),
+        Altered::Slots(count) => profile.slots.truncate(count),
+        Altered::TestNumber(number) => {
             let mut test = SelfTest::default();
             test.number = number;
             assert!(rt; profile.tests.try_push(test).is_ok());
         }
-        Broken::StatusId(id) => {
+        Altered::StatusId(id) => {
             let mut status = StatusText::default();
             status.id = id;
             assert!(rt; profile.status_texts.try_push(status).is_ok());
         }
-        Broken::Presets(presets) => profile.presets = presets,
+        Altered::Presets(presets) => profile.presets = presets,
     }
     profile
 }
 
-fn fault(rt: &HostRuntime, profile: Profile) -> Option<NewError> {
-    Devices::new(rt.alloc(), profile).err()
-}
-
 #[test]
-fn bad_profiles_are_refused(rt: HostRuntime) {
-    for rule in BAD {
-        let profile = breaking(&rt, rule);
-        assert_eq!(rt; fault(&rt, profile), Some(NewError::BadProfile), "{rule:?}");
+fn profiles_that_break_a_rule_are_refused(rt: HostRuntime) {
+    for (subs, change, expected) in PROFILES {
+        let profile = profile_with(&rt, subs, change);
+        let refusal = Devices::new(rt.alloc(), profile).err();
+        assert_eq!(rt; refusal, expected, "{subs} {change:?}");
     }
-}
-
-#[test]
-fn good_profiles_are_taken_whatever_their_numbers(rt: HostRuntime) {
-    for presets in [0, 4096, 65534] {
-        let mut profile = Profile::demo(0);
-        profile.presets = presets;
-        assert_eq!(rt; fault(&rt, profile), None, "{presets}");
-    }
-}
-
-#[test]
-fn sub_devices_are_counted_first(rt: HostRuntime) {
-    let many = Some(NewError::TooManySubs);
-    for (subs, want) in [
-        (0, None),
-        (1, None),
-        (2, None),
-        (511, None),
-        (512, None),
-        (513, many),
-    ] {
-        assert_eq!(rt; fault(&rt, Profile::demo(subs)), want, "{subs}");
-    }
-    let mut bad = Profile::demo(513);
-    bad.presets = 65535;
-    assert_eq!(rt; fault(&rt, bad), many);
 }

@@ -2,6 +2,13 @@
 
 use super::*;
 
+pub(super) const RUNS: [Run; 4] = [
+    (2, &TEXTS),
+    (1, &LABELS),
+    (0, &PERSONALITIES),
+    (0, &SENSORS),
+];
+
 /// What the root lists as supported, and a sub-device.
 pub(crate) const AT_ROOT: [u8; 72] = [
     0x00, 0x20, 0x00, 0x30, 0x00, 0x31, 0x00, 0x32, 0x00, 0x33, 0x00, 0x80, 0x00, 0x81, 0x00, 0x82,
@@ -16,190 +23,191 @@ const AT_SUB: [u8; 22] = [
     0x04, 0x03, 0x04, 0x04, 0x10, 0x10,
 ];
 
-/// What the root of the demo fixture replies, with two sub-devices.
-const ROOT_TEXTS: [Replied<'static>; 12] = [
-    (0x0050, &[], &AT_ROOT),
+/// What the root of the demo fixture replies, with two sub-devices, and what a sub-device of it replies.
+const TEXTS: [Step<'static>; 23] = [
+    (Get, 0, 0x0050, &[], Reply(&AT_ROOT)),
     (
-        0x0060,
-        &[],
-        &[1, 0, 0, 0x11, 1, 2, 0, 0, 1, 0, 0, 3, 1, 2, 0, 1, 0, 2, 2],
-    ),
-    (0x0080, &[], b"Moving head"),
-    (0x0081, &[], b"Prototype"),
-    (0x0082, &[], b"Fixture"),
-    (0x00A0, &[], b"ende"),
-    (0x00C0, &[], b"1.0"),
-    (0x00C1, &[], &[0, 0, 0, 1]),
-    (0x00C2, &[], b"Boot 1.0"),
-    (0x0031, &[0x80, 0x01], b"Lamp failed to strike"),
-    (0x0031, &[0x80, 0x02], b"Self test failed"),
-    (0x1021, &[2], b"\x02Motors"),
-];
-
-/// What a sub-device of it replies.
-const SUB_TEXTS: [Replied<'static>; 6] = [
-    (0x0050, &[], &AT_SUB),
-    (
-        0x0060,
-        &[],
-        &[1, 0, 0, 0x12, 1, 2, 0, 0, 1, 0, 0, 1, 1, 1, 0, 1, 0, 2, 0],
-    ),
-    (0x0080, &[], b"Cell module"),
-    (0x0081, &[], b"Prototype"),
-    (0x0082, &[], b"Cell"),
-    (0x00C0, &[], b"1.0"),
-];
-
-#[test]
-fn texts_and_lists(rt: HostRuntime) -> Result<(), Fail> {
-    let devices = made(&rt, Profile::demo(2))?;
-    gets(&rt, &devices, 0, &ROOT_TEXTS)?;
-    gets(&rt, &devices, 1, &SUB_TEXTS)?;
-    let past: [Refused<'_>; 3] = [(0x0031, &[0x80, 0x03]), (0x1021, &[0]), (0x1021, &[3])];
-    refuses_gets(&rt, &devices, 0, Nack::DataOutOfRange, &past);
-    let short: [Refused<'_>; 2] = [(0x0031, &[0x80]), (0x1021, &[])];
-    refuses_gets(&rt, &devices, 0, Nack::FormatError, &short);
-    Ok(())
-}
-
-#[test]
-fn rows_that_are_only_read(rt: HostRuntime) -> Result<(), Fail> {
-    let mut devices = made(&rt, Profile::demo(1))?;
-    let class = Nack::UnsupportedCommandClass;
-    for pid in [0x0050, 0x0060, 0x0080, 0x0081, 0x00C0] {
-        refuses_sets(&rt, &mut devices, 0, class, &[(pid, &[])]);
-        refuses_gets(&rt, &devices, 0, Nack::FormatError, &[(pid, &[0])]);
-        refuses_sets(&rt, &mut devices, 0xFFFF, class, &[(pid, &[])]);
-    }
-    let root = [
-        0x0020, 0x0030, 0x0031, 0x00A0, 0x00C2, 0x0120, 0x0121, 0x0122, 0x0200, 0x1021,
-    ];
-    for pid in root {
-        refuses_sets(&rt, &mut devices, 0, class, &[(pid, &[])]);
-        refuses_gets(&rt, &devices, 0, Nack::FormatError, &[(pid, &[0, 0, 0])]);
-        refuses_gets(&rt, &devices, 1, Nack::UnknownPid, &[(pid, &[])]);
-        refuses_sets(&rt, &mut devices, 0xFFFF, Nack::UnknownPid, &[(pid, &[])]);
-    }
-    refuses_sets(&rt, &mut devices, 0, class, &[(0x00E1, &[1])]);
-    refuses_gets(&rt, &devices, 0, class, &[(0x0202, &[0])]);
-    Ok(())
-}
-
-#[test]
-fn labels_have_up_to_32_bytes(rt: HostRuntime) -> Result<(), Fail> {
-    let mut devices = made(&rt, Profile::demo(1))?;
-    let longest = [0x41; 32];
-    sets(&rt, &mut devices, 0, &[(0x0082, &longest, &[])])?;
-    refuses_sets(
-        &rt,
-        &mut devices,
+        Get,
         0,
-        Nack::FormatError,
-        &[(0x0082, &[0x41; 33])],
-    );
-    gets(&rt, &devices, 0, &[(0x0082, &[], &longest)])?;
-    sets(&rt, &mut devices, 1, &[(0x0082, &[0xFF, 0], &[])])?;
-    gets(&rt, &devices, 1, &[(0x0082, &[], &[0xFF, 0])])?;
-    sets(&rt, &mut devices, 0, &[(0x0082, &[], &[])])?;
-    gets(&rt, &devices, 0, &[(0x0082, &[], &[])])
+        0x0060,
+        &[],
+        Reply(&[1, 0, 0, 0x11, 1, 2, 0, 0, 1, 0, 0, 3, 1, 2, 0, 1, 0, 2, 2]),
+    ),
+    (Get, 0, 0x0080, &[], Reply(b"Moving head")),
+    (Get, 0, 0x0081, &[], Reply(b"Prototype")),
+    (Get, 0, 0x0082, &[], Reply(b"Fixture")),
+    (Get, 0, 0x00A0, &[], Reply(b"ende")),
+    (Get, 0, 0x00C0, &[], Reply(b"1.0")),
+    (Get, 0, 0x00C1, &[], Reply(&[0, 0, 0, 1])),
+    (Get, 0, 0x00C2, &[], Reply(b"Boot 1.0")),
+    (
+        Get,
+        0,
+        0x0031,
+        &[0x80, 0x01],
+        Reply(b"Lamp failed to strike"),
+    ),
+    (Get, 0, 0x0031, &[0x80, 0x02], Reply(b"Self test failed")),
+    (Get, 0, 0x1021, &[2], Reply(b"\x02Motors")),
+    (Get, 1, 0x0050, &[], Reply(&AT_SUB)),
+    (
+        Get,
+        1,
+        0x0060,
+        &[],
+        Reply(&[1, 0, 0, 0x12, 1, 2, 0, 0, 1, 0, 0, 1, 1, 1, 0, 1, 0, 2, 0]),
+    ),
+    (Get, 1, 0x0080, &[], Reply(b"Cell module")),
+    (Get, 1, 0x0081, &[], Reply(b"Prototype")),
+    (Get, 1, 0x0082, &[], Reply(b"Cell")),
+    (Get, 1, 0x00C0, &[], Reply(b"1.0")),
+    (Get, 0, 0x0031, &[0x80, 0x03], Refuse(DataOutOfRange)),
+    (Get, 0, 0x1021, &[0], Refuse(DataOutOfRange)),
+    (Get, 0, 0x1021, &[3], Refuse(DataOutOfRange)),
+    (Get, 0, 0x0031, &[0x80], Refuse(FormatError)),
+    (Get, 0, 0x1021, &[], Refuse(FormatError)),
+];
+
+/// Parameters of every device, and of the root alone, that are only read.
+const READ: [u16; 5] = [0x0050, 0x0060, 0x0080, 0x0081, 0x00C0];
+
+const READ_AT_ROOT: [u16; 10] = [
+    0x0020, 0x0030, 0x0031, 0x00A0, 0x00C2, 0x0120, 0x0121, 0x0122, 0x0200, 0x1021,
+];
+
+/// A row without SET, and one without GET.
+const ONE_CLASS: [Step<'static>; 2] = [
+    (Set, 0, 0x00E1, &[1], Refuse(UnsupportedCommandClass)),
+    (Get, 0, 0x0202, &[0], Refuse(UnsupportedCommandClass)),
+];
+
+#[test]
+fn rows_that_are_only_read(rt: HostRuntime) {
+    let mut devices = demo(&rt, rt.alloc(), 1);
+    let class = Refuse(UnsupportedCommandClass);
+    for pid in READ {
+        let refused: [Step<'_>; 3] = [
+            (Set, 0, pid, &[], class),
+            (Get, 0, pid, &[0], Refuse(FormatError)),
+            (Set, 0xFFFF, pid, &[], class),
+        ];
+        plays(&rt, &mut devices, &refused);
+    }
+    for pid in READ_AT_ROOT {
+        let refused: [Step<'_>; 4] = [
+            (Set, 0, pid, &[], class),
+            (Get, 0, pid, &[0, 0, 0], Refuse(FormatError)),
+            (Get, 1, pid, &[], Refuse(UnknownPid)),
+            (Set, 0xFFFF, pid, &[], Refuse(UnknownPid)),
+        ];
+        plays(&rt, &mut devices, &refused);
+    }
+    plays(&rt, &mut devices, &ONE_CLASS);
 }
+
+const LONGEST: [u8; 32] = [0x41; 32];
+
+/// Labels have up to 32 bytes.
+const LABELS: [Step<'static>; 7] = [
+    (Set, 0, 0x0082, &LONGEST, Reply(&[])),
+    (Set, 0, 0x0082, &[0x41; 33], Refuse(FormatError)),
+    (Get, 0, 0x0082, &[], Reply(&LONGEST)),
+    (Set, 1, 0x0082, &[0xFF, 0], Reply(&[])),
+    (Get, 1, 0x0082, &[], Reply(&[0xFF, 0])),
+    (Set, 0, 0x0082, &[], Reply(&[])),
+    (Get, 0, 0x0082, &[], Reply(&[])),
+];
 
 /// What the root replies of its slots with its first personality, and with its second.
-const FIRST_PERSONALITY: [Replied<'static>; 6] = [
-    (0x00E0, &[], &[1, 2]),
-    (0x0120, &[], &[0, 0, 0, 0, 1, 0, 1, 0, 1, 1, 0, 2, 0, 1, 2]),
-    (0x0122, &[], &[0, 0, 0, 0, 1, 0x80, 0, 2, 0x80]),
-    (0x0121, &[0, 2], b"\0\x02Tilt"),
-    (0x00E1, &[1], b"\x01\0\x03Basic"),
-    (0x00E1, &[2], b"\x02\0\x05Fine"),
-];
-
-const SECOND_PERSONALITY: [Replied<'static>; 3] = [
-    (0x00E0, &[], &[2, 2]),
-    (0x0121, &[0, 4], b"\0\x04Tilt fine"),
+const PERSONALITIES: [Step<'static>; 18] = [
+    (Get, 0, 0x00E0, &[], Reply(&[1, 2])),
     (
+        Get,
+        0,
+        0x0120,
+        &[],
+        Reply(&[0, 0, 0, 0, 1, 0, 1, 0, 1, 1, 0, 2, 0, 1, 2]),
+    ),
+    (
+        Get,
+        0,
         0x0122,
         &[],
-        &[0, 0, 0, 0, 1, 0x80, 0, 2, 0x80, 0, 3, 0, 0, 4, 0],
+        Reply(&[0, 0, 0, 0, 1, 0x80, 0, 2, 0x80]),
     ),
+    (Get, 0, 0x0121, &[0, 2], Reply(b"\0\x02Tilt")),
+    (Get, 0, 0x00E1, &[1], Reply(b"\x01\0\x03Basic")),
+    (Get, 0, 0x00E1, &[2], Reply(b"\x02\0\x05Fine")),
+    (Get, 0, 0x0121, &[0, 3], Refuse(DataOutOfRange)),
+    (Get, 0, 0x00E1, &[0], Refuse(DataOutOfRange)),
+    (Get, 0, 0x00E1, &[3], Refuse(DataOutOfRange)),
+    (Get, 0, 0x00E1, &[], Refuse(FormatError)),
+    (Set, 0, 0x00E0, &[0], Refuse(DataOutOfRange)),
+    (Set, 0, 0x00E0, &[3], Refuse(DataOutOfRange)),
+    (Set, 0, 0x00E0, &[], Refuse(FormatError)),
+    (Set, 0, 0x00E0, &[2], Reply(&[])),
+    (Get, 0, 0x00E0, &[], Reply(&[2, 2])),
+    (Get, 0, 0x0121, &[0, 4], Reply(b"\0\x04Tilt fine")),
+    (
+        Get,
+        0,
+        0x0122,
+        &[],
+        Reply(&[0, 0, 0, 0, 1, 0x80, 0, 2, 0x80, 0, 3, 0, 0, 4, 0]),
+    ),
+    (Get, 0, 0x0121, &[0, 5], Refuse(DataOutOfRange)),
+];
+
+/// Sensors that there are, and that there aren't.
+const SENSORS: [Step<'static>; 19] = [
+    (
+        Get,
+        0,
+        0x0200,
+        &[0],
+        Reply(b"\0\0\x01\0\xFF\xEC\0\x78\0\0\0\x50\x03Lamp temperature"),
+    ),
+    (Get, 0, 0x0200, &[2], Refuse(DataOutOfRange)),
+    (Get, 0, 0x0200, &[0xFF], Refuse(DataOutOfRange)),
+    (Get, 0, 0x0201, &[2], Refuse(DataOutOfRange)),
+    (Get, 0, 0x0201, &[0xFF], Refuse(DataOutOfRange)),
+    (Get, 0, 0x0201, &[], Refuse(FormatError)),
+    (Get, 0, 0x0201, &[1], Start(1)),
+    (Set, 0, 0x0201, &[1], Reply(&[1, 0, 0, 0, 0, 0, 0, 0, 0])),
+    (
+        Set,
+        0,
+        0x0201,
+        &[0xFF],
+        Reply(&[0xFF, 0, 0, 0, 0, 0, 0, 0, 0]),
+    ),
+    (Set, 0, 0x0202, &[0], Reply(&[])),
+    (Set, 0, 0x0202, &[0xFF], Reply(&[])),
+    (Set, 0, 0x0201, &[2], Refuse(DataOutOfRange)),
+    (Set, 0, 0x0201, &[0xFE], Refuse(DataOutOfRange)),
+    (Set, 0, 0x0202, &[2], Refuse(DataOutOfRange)),
+    (Set, 0, 0x0202, &[0xFE], Refuse(DataOutOfRange)),
+    (Set, 0, 0x0201, &[], Refuse(FormatError)),
+    (Set, 0, 0x0202, &[], Refuse(FormatError)),
+    (Set, 1, 0x0201, &[0], Refuse(SubDeviceOutOfRange)),
+    (Set, 1, 0x0202, &[0], Refuse(SubDeviceOutOfRange)),
+];
+
+/// Without sensors there are not all.
+const NO_SENSORS: [Step<'static>; 2] = [
+    (Set, 0, 0x0201, &[0xFF], Refuse(DataOutOfRange)),
+    (Set, 0, 0x0202, &[0xFF], Refuse(DataOutOfRange)),
 ];
 
 #[test]
-fn personalities_decide_the_slots(rt: HostRuntime) -> Result<(), Fail> {
-    let mut devices = demo(&rt)?;
-    let out = Nack::DataOutOfRange;
-    gets(&rt, &devices, 0, &FIRST_PERSONALITY)?;
-    let past: [Refused<'_>; 3] = [(0x0121, &[0, 3]), (0x00E1, &[0]), (0x00E1, &[3])];
-    refuses_gets(&rt, &devices, 0, out, &past);
-    refuses_gets(&rt, &devices, 0, Nack::FormatError, &[(0x00E1, &[])]);
-    let past: [Refused<'_>; 2] = [(0x00E0, &[0]), (0x00E0, &[3])];
-    refuses_sets(&rt, &mut devices, 0, out, &past);
-    refuses_sets(&rt, &mut devices, 0, Nack::FormatError, &[(0x00E0, &[])]);
-    sets(&rt, &mut devices, 0, &[(0x00E0, &[2], &[])])?;
-    gets(&rt, &devices, 0, &SECOND_PERSONALITY)?;
-    refuses_gets(&rt, &devices, 0, out, &[(0x0121, &[0, 5])]);
-    Ok(())
-}
-
-/// GETs of sensors that are out of range, and SETs.
-const NO_SENSOR: [Refused<'static>; 4] = [
-    (0x0200, &[2]),
-    (0x0200, &[0xFF]),
-    (0x0201, &[2]),
-    (0x0201, &[0xFF]),
-];
-
-const NO_SENSORS: [Refused<'static>; 4] = [
-    (0x0201, &[2]),
-    (0x0201, &[0xFE]),
-    (0x0202, &[2]),
-    (0x0202, &[0xFE]),
-];
-
-/// SETs of sensors that are carried out.
-const RESETS: [Replied<'static>; 4] = [
-    (0x0201, &[1], &[1, 0, 0, 0, 0, 0, 0, 0, 0]),
-    (0x0201, &[0xFF], &[0xFF, 0, 0, 0, 0, 0, 0, 0, 0]),
-    (0x0202, &[0], &[]),
-    (0x0202, &[0xFF], &[]),
-];
-
-#[test]
-fn sensors(rt: HostRuntime) -> Result<(), Fail> {
-    let mut devices = demo(&rt)?;
-    let lamp = b"\0\0\x01\0\xFF\xEC\0\x78\0\0\0\x50\x03Lamp temperature";
-    gets(&rt, &devices, 0, &[(0x0200, &[0], lamp)])?;
-    refuses_gets(&rt, &devices, 0, Nack::DataOutOfRange, &NO_SENSOR);
-    refuses_gets(&rt, &devices, 0, Nack::FormatError, &[(0x0201, &[])]);
-    let (sub, pid, verb, arg) = (0, 0x0201, Verb::Get, 1);
-    let work = Work {
-        sub,
-        pid,
-        verb,
-        arg,
-    };
-    assert_eq!(rt; devices.get(0, 0x0201, &[1]), Verdict::Start(work));
-    sets(&rt, &mut devices, 0, &RESETS)?;
-    refuses_sets(&rt, &mut devices, 0, Nack::DataOutOfRange, &NO_SENSORS);
-    let short: [Refused<'_>; 2] = [(0x0201, &[]), (0x0202, &[])];
-    refuses_sets(&rt, &mut devices, 0, Nack::FormatError, &short);
-    let at_sub: [Refused<'_>; 2] = [(0x0201, &[0]), (0x0202, &[0])];
-    refuses_sets(&rt, &mut devices, 1, Nack::SubDeviceOutOfRange, &at_sub);
-    Ok(())
-}
-
-#[test]
-fn without_sensors_there_are_not_all(rt: HostRuntime) -> Result<(), Fail> {
+fn without_sensors_there_are_not_all(rt: HostRuntime) {
     let mut profile = Profile::demo(0);
     profile.sensors.clear();
-    let mut devices = made(&rt, profile)?;
-    let all: [Refused<'_>; 2] = [(0x0201, &[0xFF]), (0x0202, &[0xFF])];
-    refuses_sets(&rt, &mut devices, 0, Nack::DataOutOfRange, &all);
-    Ok(())
+    plays(&rt, &mut made(&rt, rt.alloc(), profile), &NO_SENSORS);
 }
 
 /// What FACTORY_DEFAULTS sets back: each with another value, and with the first.
-const SET_BACK: [Replied<'static>; 10] = [
+const SET_BACK: [(u16, &[u8], &[u8]); 10] = [
     (0x0082, b"x", b"Fixture"),
     (0x00B0, b"de", b"en"),
     (0x00E0, &[2], &[1, 2]),
@@ -212,27 +220,31 @@ const SET_BACK: [Replied<'static>; 10] = [
     (0x0602, &[1], &[0]),
 ];
 
+/// What it keeps.
+const KEPT: [Step<'static>; 9] = [
+    (Set, 0, 0x0033, &[4], Reply(&[])),
+    (Set, 0, 0x0400, &[0, 0, 0, 7], Reply(&[])),
+    (Set, 0, 0x1000, &[1], Reply(&[])),
+    (Get, 0, 0x0090, &[], Reply(&[1])),
+    (Set, 0, 0x0090, &[], Reply(&[])),
+    (Get, 0, 0x0033, &[], Reply(&[4])),
+    (Get, 0, 0x0400, &[], Reply(&[0, 0, 0, 7])),
+    (Get, 0, 0x1000, &[], Reply(&[1])),
+    (Set, 0, 0x0090, &[0], Refuse(FormatError)),
+];
+
 #[test]
-fn factory_defaults_are_ten_values(rt: HostRuntime) -> Result<(), Fail> {
-    let mut devices = demo(&rt)?;
+fn factory_defaults_are_ten_values(rt: HostRuntime) {
+    let mut devices = demo(&rt, rt.alloc(), 0);
     for (pid, other, first) in SET_BACK {
-        gets(&rt, &devices, 0, &[(0x0090, &[], &[1])])?;
-        sets(&rt, &mut devices, 0, &[(pid, other, &[])])?;
-        gets(&rt, &devices, 0, &[(0x0090, &[], &[0])])?;
-        sets(&rt, &mut devices, 0, &[(0x0090, &[], &[])])?;
-        gets(&rt, &devices, 0, &[(pid, &[], first)])?;
+        let steps: [Step<'_>; 5] = [
+            (Get, 0, 0x0090, &[], Reply(&[1])),
+            (Set, 0, pid, other, Reply(&[])),
+            (Get, 0, 0x0090, &[], Reply(&[0])),
+            (Set, 0, 0x0090, &[], Reply(&[])),
+            (Get, 0, pid, &[], Reply(first)),
+        ];
+        plays(&rt, &mut devices, &steps);
     }
-    let kept: [Replied<'_>; 3] = [
-        (0x0033, &[4], &[]),
-        (0x0400, &[0, 0, 0, 7], &[]),
-        (0x1000, &[1], &[]),
-    ];
-    sets(&rt, &mut devices, 0, &kept)?;
-    gets(&rt, &devices, 0, &[(0x0090, &[], &[1])])?;
-    sets(&rt, &mut devices, 0, &[(0x0090, &[], &[])])?;
-    for (pid, stored, _) in kept {
-        gets(&rt, &devices, 0, &[(pid, &[], stored)])?;
-    }
-    refuses_sets(&rt, &mut devices, 0, Nack::FormatError, &[(0x0090, &[0])]);
-    Ok(())
+    plays(&rt, &mut devices, &KEPT);
 }

@@ -2,44 +2,47 @@
 
 use super::*;
 
+pub(super) const RUNS: [Run; 1] = [(0, &UNKNOWN)];
+
 /// Each row: what it shows at the start.
-const SHOWN: [Replied<'static>; 19] = [
-    (0x0033, &[], &[2]),
-    (0x00B0, &[], b"en"),
-    (0x00C1, &[], &[0, 0, 0, 1]),
-    (0x00F0, &[], &[0, 1]),
-    (0x0400, &[], &[0, 0, 0, 0]),
-    (0x0401, &[], &[0, 0, 0, 0]),
-    (0x0402, &[], &[0, 0, 0, 0]),
-    (0x0403, &[], &[0]),
-    (0x0404, &[], &[0]),
-    (0x0405, &[], &[0, 0, 0, 0]),
-    (0x0500, &[], &[0]),
-    (0x0501, &[], &[0xFF]),
-    (0x0600, &[], &[0]),
-    (0x0601, &[], &[0]),
-    (0x0602, &[], &[0]),
-    (0x1000, &[], &[0]),
-    (0x1010, &[], &[0xFF]),
-    (0x1020, &[], &[0]),
-    (0x1031, &[], &[0, 0, 0]),
+const SHOWN: [Step<'static>; 19] = [
+    (Get, 0, 0x0033, &[], Reply(&[2])),
+    (Get, 0, 0x00B0, &[], Reply(b"en")),
+    (Get, 0, 0x00C1, &[], Reply(&[0, 0, 0, 1])),
+    (Get, 0, 0x00F0, &[], Reply(&[0, 1])),
+    (Get, 0, 0x0400, &[], Reply(&[0, 0, 0, 0])),
+    (Get, 0, 0x0401, &[], Reply(&[0, 0, 0, 0])),
+    (Get, 0, 0x0402, &[], Reply(&[0, 0, 0, 0])),
+    (Get, 0, 0x0403, &[], Reply(&[0])),
+    (Get, 0, 0x0404, &[], Reply(&[0])),
+    (Get, 0, 0x0405, &[], Reply(&[0, 0, 0, 0])),
+    (Get, 0, 0x0500, &[], Reply(&[0])),
+    (Get, 0, 0x0501, &[], Reply(&[0xFF])),
+    (Get, 0, 0x0600, &[], Reply(&[0])),
+    (Get, 0, 0x0601, &[], Reply(&[0])),
+    (Get, 0, 0x0602, &[], Reply(&[0])),
+    (Get, 0, 0x1000, &[], Reply(&[0])),
+    (Get, 0, 0x1010, &[], Reply(&[0xFF])),
+    (Get, 0, 0x1020, &[], Reply(&[0])),
+    (Get, 0, 0x1031, &[], Reply(&[0, 0, 0])),
 ];
 
 #[test]
-fn every_row_shows_its_first_value(rt: HostRuntime) -> Result<(), Fail> {
-    let devices = demo(&rt)?;
-    gets(&rt, &devices, 0, &SHOWN)?;
-    let missing = Nack::SubDeviceOutOfRange;
-    for (pid, data, _) in SHOWN {
-        refuses_gets(&rt, &devices, 0, Nack::FormatError, &[(pid, &[0])]);
-        refuses_gets(&rt, &devices, 1, missing, &[(pid, data)]);
-        refuses_gets(&rt, &devices, 0xFFFF, missing, &[(pid, data)]);
+fn every_row_shows_its_first_value(rt: HostRuntime) {
+    let mut devices = demo(&rt, rt.alloc(), 0);
+    plays(&rt, &mut devices, &SHOWN);
+    for (_, _, pid, _, _) in SHOWN {
+        let refused: [Step<'_>; 3] = [
+            (Get, 0, pid, &[0], Refuse(FormatError)),
+            (Get, 1, pid, &[], Refuse(SubDeviceOutOfRange)),
+            (Get, 0xFFFF, pid, &[], Refuse(SubDeviceOutOfRange)),
+        ];
+        plays(&rt, &mut devices, &refused);
     }
-    Ok(())
 }
 
 /// Each row that takes a value: the least and the greatest.
-const ENDS: [Replied<'static>; 15] = [
+const ENDS: [(u16, &[u8], &[u8]); 15] = [
     (0x0033, &[0], &[4]),
     (0x00B0, b"en", b"de"),
     (0x00F0, &[0, 1], &[2, 0]),
@@ -58,137 +61,130 @@ const ENDS: [Replied<'static>; 15] = [
 ];
 
 #[test]
-fn every_row_takes_the_ends_of_its_range(rt: HostRuntime) -> Result<(), Fail> {
-    let mut devices = demo(&rt)?;
-    let missing = Nack::SubDeviceOutOfRange;
+fn every_row_takes_the_ends_of_its_range(rt: HostRuntime) {
+    let mut devices = demo(&rt, rt.alloc(), 0);
     for (pid, least, greatest) in ENDS {
-        for taken in [least, greatest] {
-            sets(&rt, &mut devices, 0, &[(pid, taken, &[])])?;
-            gets(&rt, &devices, 0, &[(pid, &[], taken)])?;
-        }
-        refuses_sets(&rt, &mut devices, 1, missing, &[(pid, greatest)]);
-        refuses_sets(&rt, &mut devices, 0xFFFF, missing, &[(pid, greatest)]);
+        let steps: [Step<'_>; 6] = [
+            (Set, 0, pid, least, Reply(&[])),
+            (Get, 0, pid, &[], Reply(least)),
+            (Set, 0, pid, greatest, Reply(&[])),
+            (Get, 0, pid, &[], Reply(greatest)),
+            (Set, 1, pid, greatest, Refuse(SubDeviceOutOfRange)),
+            (Set, 0xFFFF, pid, greatest, Refuse(SubDeviceOutOfRange)),
+        ];
+        plays(&rt, &mut devices, &steps);
     }
     // No SET changed what another row shows.
     for (pid, _, greatest) in ENDS {
-        gets(&rt, &devices, 0, &[(pid, &[], greatest)])?;
+        plays(&rt, &mut devices, &[(Get, 0, pid, &[], Reply(greatest))]);
     }
-    Ok(())
 }
 
-/// Values that are past the range of a row.
-const PAST: [Refused<'static>; 21] = [
-    (0x0033, &[1]),
-    (0x0033, &[5]),
-    (0x00B0, b"eo"),
-    (0x00B0, b"em"),
-    (0x00F0, &[0, 0]),
-    (0x00F0, &[2, 1]),
-    (0x0403, &[4]),
-    (0x0403, &[0xFF]),
-    (0x0404, &[4]),
-    (0x0500, &[3]),
-    (0x0600, &[2]),
-    (0x0601, &[2]),
-    (0x0602, &[2]),
-    (0x1000, &[2]),
-    (0x1010, &[3]),
-    (0x1010, &[0xFE]),
-    (0x1020, &[3]),
-    (0x1020, &[0xFE]),
-    (0x1031, &[0, 5, 0x80]),
-    (0x1031, &[0xFF, 0xFE, 0]),
-    (0x1031, &[1, 0, 0]),
+/// SETs of values that are past the range of a row.
+const PAST: [Step<'static>; 21] = [
+    (Set, 0, 0x0033, &[1], Refuse(DataOutOfRange)),
+    (Set, 0, 0x0033, &[5], Refuse(DataOutOfRange)),
+    (Set, 0, 0x00B0, b"eo", Refuse(DataOutOfRange)),
+    (Set, 0, 0x00B0, b"em", Refuse(DataOutOfRange)),
+    (Set, 0, 0x00F0, &[0, 0], Refuse(DataOutOfRange)),
+    (Set, 0, 0x00F0, &[2, 1], Refuse(DataOutOfRange)),
+    (Set, 0, 0x0403, &[4], Refuse(DataOutOfRange)),
+    (Set, 0, 0x0403, &[0xFF], Refuse(DataOutOfRange)),
+    (Set, 0, 0x0404, &[4], Refuse(DataOutOfRange)),
+    (Set, 0, 0x0500, &[3], Refuse(DataOutOfRange)),
+    (Set, 0, 0x0600, &[2], Refuse(DataOutOfRange)),
+    (Set, 0, 0x0601, &[2], Refuse(DataOutOfRange)),
+    (Set, 0, 0x0602, &[2], Refuse(DataOutOfRange)),
+    (Set, 0, 0x1000, &[2], Refuse(DataOutOfRange)),
+    (Set, 0, 0x1010, &[3], Refuse(DataOutOfRange)),
+    (Set, 0, 0x1010, &[0xFE], Refuse(DataOutOfRange)),
+    (Set, 0, 0x1020, &[3], Refuse(DataOutOfRange)),
+    (Set, 0, 0x1020, &[0xFE], Refuse(DataOutOfRange)),
+    (Set, 0, 0x1031, &[0, 5, 0x80], Refuse(DataOutOfRange)),
+    (Set, 0, 0x1031, &[0xFF, 0xFE, 0], Refuse(DataOutOfRange)),
+    (Set, 0, 0x1031, &[1, 0, 0], Refuse(DataOutOfRange)),
 ];
 
 /// SETs of another length than the row's.
-const ANOTHER_LENGTH: [Refused<'static>; 3] = [
-    (0x00B0, b"e"),
-    (0x0400, &[0, 0, 0]),
-    (0x1031, &[0, 5]),
+const ANOTHER_LENGTH: [Step<'static>; 3] = [
+    (Set, 0, 0x00B0, b"e", Refuse(FormatError)),
+    (Set, 0, 0x0400, &[0, 0, 0], Refuse(FormatError)),
+    (Set, 0, 0x1031, &[0, 5], Refuse(FormatError)),
 ];
 
 #[test]
-fn every_row_refuses_what_is_past_its_range(rt: HostRuntime) -> Result<(), Fail> {
-    let mut devices = demo(&rt)?;
-    refuses_sets(&rt, &mut devices, 0, Nack::DataOutOfRange, &PAST);
-    gets(&rt, &devices, 0, &SHOWN)
-}
-
-#[test]
-fn every_row_refuses_another_length(rt: HostRuntime) -> Result<(), Fail> {
-    let mut devices = demo(&rt)?;
-    for (pid, empty, _) in SHOWN {
+fn every_row_refuses_another_length(rt: HostRuntime) {
+    let mut devices = demo(&rt, rt.alloc(), 0);
+    for (_, _, pid, _, _) in SHOWN {
         let reason = if pid == 0x00C1 {
-            Nack::UnsupportedCommandClass
+            UnsupportedCommandClass
         } else {
-            Nack::FormatError
+            FormatError
         };
-        let refused: [Refused<'_>; 2] = [(pid, empty), (pid, &[0xEE, 0xEE, 0xEE, 0xEE, 0xEE])];
-        refuses_sets(&rt, &mut devices, 0, reason, &refused);
+        let refused: [Step<'_>; 2] = [
+            (Set, 0, pid, &[], Refuse(reason)),
+            (Set, 0, pid, &[0xEE, 0xEE, 0xEE, 0xEE, 0xEE], Refuse(reason)),
+        ];
+        plays(&rt, &mut devices, &refused);
     }
-    refuses_sets(&rt, &mut devices, 0, Nack::FormatError, &ANOTHER_LENGTH);
-    gets(&rt, &devices, 0, &SHOWN)
+    plays(&rt, &mut devices, &ANOTHER_LENGTH);
+    plays(&rt, &mut devices, &SHOWN);
 }
 
-#[test]
-fn unknown_parameters_are_refused(rt: HostRuntime) -> Result<(), Fail> {
-    let mut devices = demo(&rt)?;
-    refuses_sets(&rt, &mut devices, 0, Nack::UnknownPid, &[(0x0015, &[])]);
-    refuses_gets(&rt, &devices, 0, Nack::UnknownPid, &[(0x0015, &[])]);
-    let missing = Nack::SubDeviceOutOfRange;
-    refuses_gets(&rt, &devices, 1, missing, &[(0x0015, &[])]);
-    Ok(())
-}
+/// Parameters that aren't in the table.
+const UNKNOWN: [Step<'static>; 3] = [
+    (Set, 0, 0x0015, &[], Refuse(UnknownPid)),
+    (Get, 0, 0x0015, &[], Refuse(UnknownPid)),
+    (Get, 1, 0x0015, &[], Refuse(SubDeviceOutOfRange)),
+];
+
+/// Slow commands start jobs.
+const STARTED: [Step<'static>; 8] = [
+    (Set, 0, 0x0403, &[0], Start(0)),
+    (Set, 0, 0x0403, &[3], Start(3)),
+    (Set, 0, 0x1010, &[0], Start(0)),
+    (Set, 0, 0x1010, &[2], Start(2)),
+    (Set, 0, 0x1010, &[0xFF], Start(0xFF)),
+    (Set, 0, 0x1020, &[0], Start(0)),
+    (Set, 0, 0x1020, &[2], Start(2)),
+    (Set, 0, 0x1020, &[0xFF], Start(0xFF)),
+];
 
 #[test]
-fn slow_commands_start_jobs_and_change_nothing(rt: HostRuntime) -> Result<(), Fail> {
-    let mut devices = demo(&rt)?;
-    let (sub, verb) = (0, Verb::Set);
-    let started = [
-        (0x0403, 0),
-        (0x0403, 3),
-        (0x1010, 0),
-        (0x1010, 2),
-        (0x1010, 0xFF),
-        (0x1020, 0),
-        (0x1020, 2),
-        (0x1020, 0xFF),
-    ];
-    for (pid, arg) in started {
-        let work = Work {
-            sub,
-            pid,
-            verb,
-            arg,
-        };
-        assert_eq!(rt; devices.set(0, pid, &[arg]), Verdict::Start(work));
+fn neither_refusals_nor_slow_commands_change_a_row(rt: HostRuntime) {
+    for steps in [PAST.as_slice(), &STARTED] {
+        let mut devices = demo(&rt, rt.alloc(), 0);
+        plays(&rt, &mut devices, steps);
+        plays(&rt, &mut devices, &SHOWN);
     }
-    gets(&rt, &devices, 0, &SHOWN)
 }
 
+/// Without slots there is no start address.
+const NO_SLOTS: [Step<'static>; 2] = [
+    (Get, 0, 0x00F0, &[], Reply(&[0xFF, 0xFF])),
+    (Set, 0, 0x00F0, &[0, 1], Refuse(DataOutOfRange)),
+];
+
 #[test]
-fn without_slots_there_is_no_start_address(rt: HostRuntime) -> Result<(), Fail> {
+fn without_slots_there_is_no_start_address(rt: HostRuntime) {
     let mut profile = Profile::demo(0);
     profile.root.personalities.clear();
     let blank = profile.root.personalities.try_push(Personality::default());
     assert!(rt; blank.is_ok());
-    let mut devices = made(&rt, profile)?;
-    gets(&rt, &devices, 0, &[(0x00F0, &[], &[0xFF, 0xFF])])?;
-    let out = Nack::DataOutOfRange;
-    refuses_sets(&rt, &mut devices, 0, out, &[(0x00F0, &[0, 1])]);
-    Ok(())
+    plays(&rt, &mut made(&rt, rt.alloc(), profile), &NO_SLOTS);
 }
 
+/// Without presets there are off and all.
+const NO_PRESETS: [Step<'static>; 4] = [
+    (Set, 0, 0x1031, &[0, 0, 7], Reply(&[])),
+    (Set, 0, 0x1031, &[0xFF, 0xFF, 7], Reply(&[])),
+    (Get, 0, 0x1031, &[], Reply(&[0xFF, 0xFF, 7])),
+    (Set, 0, 0x1031, &[0, 1, 7], Refuse(DataOutOfRange)),
+];
+
 #[test]
-fn without_presets_there_are_off_and_all(rt: HostRuntime) -> Result<(), Fail> {
+fn without_presets_there_are_off_and_all(rt: HostRuntime) {
     let mut profile = Profile::demo(0);
     profile.presets = 0;
-    let mut devices = made(&rt, profile)?;
-    let taken: [Replied<'_>; 2] = [(0x1031, &[0, 0, 7], &[]), (0x1031, &[0xFF, 0xFF, 7], &[])];
-    sets(&rt, &mut devices, 0, &taken)?;
-    gets(&rt, &devices, 0, &[(0x1031, &[], &[0xFF, 0xFF, 7])])?;
-    let out = Nack::DataOutOfRange;
-    refuses_sets(&rt, &mut devices, 0, out, &[(0x1031, &[0, 1, 7])]);
-    Ok(())
+    plays(&rt, &mut made(&rt, rt.alloc(), profile), &NO_PRESETS);
 }

@@ -2,6 +2,8 @@
 
 use super::*;
 
+pub(super) const RUNS: [Run; 1] = [(1, &ASKED)];
+
 const FAILED: Outcome = Outcome::Failed {
     severity: Severity::Error,
     id: 0x8001,
@@ -9,155 +11,153 @@ const FAILED: Outcome = Outcome::Failed {
     v2: 0,
 };
 
-/// The message at the end of a job that can end so.
-fn ended(devices: &mut Devices, work: &Work, outcome: Outcome) -> Option<Message> {
-    if !fits(work, &outcome) {
-        return None;
+/// A job ends so, as it can, and its message is of this class and has these data.
+fn ends(
+    rt: &impl Abort,
+    devices: &mut Devices,
+    work: &Work,
+    outcome: Outcome,
+    class: u8,
+    bytes: &[u8],
+) {
+    let fitting = fits(work, &outcome);
+    assert!(rt; fitting, "{work:?}");
+    if fitting {
+        let told = devices.commit(work, outcome);
+        assert_eq!(rt; told, message(rt, class, work.pid, work.sub, bytes));
     }
-    Some(devices.commit(work, outcome))
 }
 
-fn is_message(message: &Option<Message>, class: u8, work: &Work, body: &[u8]) -> bool {
-    match message {
-        Some(message) => {
-            message.class == class
-                && message.pid == work.pid
-                && message.sub == work.sub
-                && message.body.as_slice() == body
-        }
-        None => false,
-    }
-}
+/// Slow SETs: the PID, the sub-device, the byte that is set, and what a GET shows before the job is done and after it.
+const SETS: [(u16, u16, u8, u8, u8); 5] = [
+    (0x0403, 0, 2, 0, 2),
+    (0x0403, 1, 3, 0, 3),
+    (0x1010, 0, 1, 0xFF, 1),
+    (0x1010, 1, 0, 0xFF, 0),
+    (0x1020, 0, 2, 0, 1),
+];
+
+/// What another sub-device shows after them.
+const ANOTHER: [Step<'static>; 2] = [
+    (Get, 2, 0x0403, &[], Reply(&[0])),
+    (Get, 2, 0x1010, &[], Reply(&[0xFF])),
+];
 
 #[test]
-fn a_slow_set_changes_its_device_when_it_is_done(rt: HostRuntime) -> Result<(), Fail> {
-    let mut devices = made(&rt, Profile::demo(2))?;
-    let sets: [(u16, u16, u8, u8, u8); 5] = [
-        (0x0403, 0, 2, 0, 2),
-        (0x0403, 1, 3, 0, 3),
-        (0x1010, 0, 1, 0xFF, 1),
-        (0x1010, 1, 0, 0xFF, 0),
-        (0x1020, 0, 2, 0, 1),
-    ];
-    for (pid, sub, arg, before, after) in sets {
+fn a_slow_set_changes_its_device_when_it_is_done(rt: HostRuntime) {
+    let mut devices = demo(&rt, rt.alloc(), 2);
+    for (pid, sub, arg, before, after) in SETS {
         let work = Work {
             sub,
             pid,
-            verb: Verb::Set,
+            verb: Set,
             arg,
         };
-        let failed = ended(&mut devices, &work, FAILED);
-        assert!(rt; is_message(&failed, 0x21, &work, &[before]), "{failed:?}");
-        gets(&rt, &devices, sub, &[(pid, &[], &[before])])?;
-        let done = ended(&mut devices, &work, Outcome::Done);
-        assert!(rt; is_message(&done, 0x31, &work, &[]), "{done:?}");
-        gets(&rt, &devices, sub, &[(pid, &[], &[after])])?;
-        let failed = ended(&mut devices, &work, FAILED);
-        assert!(rt; is_message(&failed, 0x21, &work, &[after]), "{failed:?}");
+        ends(&rt, &mut devices, &work, FAILED, 0x21, &[before]);
+        plays(&rt, &mut devices, &[(Get, sub, pid, &[], Reply(&[before]))]);
+        ends(&rt, &mut devices, &work, Outcome::Done, 0x31, &[]);
+        plays(&rt, &mut devices, &[(Get, sub, pid, &[], Reply(&[after]))]);
+        ends(&rt, &mut devices, &work, FAILED, 0x21, &[after]);
     }
-    gets(&rt, &devices, 2, &[(0x0403, &[], &[0])])?;
-    gets(&rt, &devices, 2, &[(0x1010, &[], &[0xFF])])?;
-    Ok(())
+    plays(&rt, &mut devices, &ANOTHER);
 }
 
+/// Sensors, how their measurements end, and what is told.
+const MEASURED: [(u8, Outcome, &[u8]); 5] = [
+    (
+        1,
+        Outcome::Reading(-5),
+        &[1, 0xFF, 0xFB, 0xFF, 0xFB, 0, 0, 0, 0],
+    ),
+    (
+        1,
+        Outcome::Reading(25),
+        &[1, 0, 25, 0xFF, 0xFB, 0, 25, 0, 0],
+    ),
+    (1, FAILED, &[1, 0, 25, 0xFF, 0xFB, 0, 25, 0, 0]),
+    (0, FAILED, &[0, 0, 0, 0, 0, 0, 0, 0, 0]),
+    (0, Outcome::Reading(25), &[0, 0, 25, 0, 0, 0, 25, 0, 0]),
+];
+
+/// Then all that the sensor shows is set to its present value.
+const RESET: [Step<'static>; 1] = [(
+    Set,
+    0,
+    0x0201,
+    &[1],
+    Reply(&[1, 0, 25, 0, 25, 0, 25, 0, 25]),
+)];
+
 #[test]
-fn a_sensor_shows_what_it_measured(rt: HostRuntime) -> Result<(), Fail> {
-    let mut devices = demo(&rt)?;
-    let ends: [(u8, Outcome, [u8; 9]); 5] = [
-        (
-            1,
-            Outcome::Reading(-5),
-            [1, 0xFF, 0xFB, 0xFF, 0xFB, 0, 0, 0, 0],
-        ),
-        (1, Outcome::Reading(25), [1, 0, 25, 0xFF, 0xFB, 0, 25, 0, 0]),
-        (1, FAILED, [1, 0, 25, 0xFF, 0xFB, 0, 25, 0, 0]),
-        (0, FAILED, [0, 0, 0, 0, 0, 0, 0, 0, 0]),
-        (0, Outcome::Reading(25), [0, 0, 25, 0, 0, 0, 25, 0, 0]),
-    ];
-    for (arg, outcome, body) in ends {
+fn a_sensor_shows_what_it_measured(rt: HostRuntime) {
+    let mut devices = demo(&rt, rt.alloc(), 0);
+    for (arg, outcome, bytes) in MEASURED {
         let work = Work {
             sub: 0,
             pid: 0x0201,
-            verb: Verb::Get,
+            verb: Get,
             arg,
         };
-        let message = ended(&mut devices, &work, outcome);
-        assert!(rt; is_message(&message, 0x21, &work, &body), "{message:?}");
+        ends(&rt, &mut devices, &work, outcome, 0x21, bytes);
     }
-    let reset = devices.set(0, 0x0201, &[1]);
-    assert_eq!(rt; reset, reply(&[1, 0, 25, 0, 25, 0, 25, 0, 25])?);
-    Ok(())
+    plays(&rt, &mut devices, &RESET);
+}
+
+/// The worker of a work, how long it takes, and whether `Done`, a reading and `FAILED` can be its outcome.
+const WORKS: [(u16, Verb, u8, u16, [bool; 3]); 10] = [
+    (0x0403, Set, 0, 50, [true, false, true]),
+    (0x1010, Set, 0, 20, [true, false, true]),
+    (0x1020, Set, 1, 100, [true, false, true]),
+    (0x0201, Get, 1, 5, [false, true, true]),
+    (0x0201, Set, 1, 0, [false, false, false]),
+    (0x0403, Get, 1, 0, [false, false, false]),
+    (0x1000, Set, 1, 0, [false, false, false]),
+    (0x0020, Get, 1, 0, [false, false, false]),
+    (0x0030, Get, 1, 0, [false, false, false]),
+    (0x0015, Get, 1, 0, [false, false, false]),
+];
+
+/// Whether `Done`, a reading and `FAILED` can be the outcome.
+fn outcomes_of(work: &Work) -> [bool; 3] {
+    [
+        fits(work, &Outcome::Done),
+        fits(work, &Outcome::Reading(1)),
+        fits(work, &FAILED),
+    ]
 }
 
 #[test]
-fn each_work_has_its_worker_and_its_outcomes(rt: HostRuntime) -> Result<(), Fail> {
-    let works: [(u16, Verb, u8, u16, [bool; 3]); 10] = [
-        (0x0403, Verb::Set, 0, 50, [true, false, true]),
-        (0x1010, Verb::Set, 0, 20, [true, false, true]),
-        (0x1020, Verb::Set, 1, 100, [true, false, true]),
-        (0x0201, Verb::Get, 1, 5, [false, true, true]),
-        (0x0201, Verb::Set, 1, 0, [false, false, false]),
-        (0x0403, Verb::Get, 1, 0, [false, false, false]),
-        (0x1000, Verb::Set, 1, 0, [false, false, false]),
-        (0x0020, Verb::Get, 1, 0, [false, false, false]),
-        (0x0030, Verb::Get, 1, 0, [false, false, false]),
-        (0x0015, Verb::Get, 1, 0, [false, false, false]),
-    ];
-    for (pid, verb, worker, estimate, fitting) in works {
+fn each_work_has_its_worker_and_its_outcomes(rt: HostRuntime) {
+    for (pid, verb, worker, estimate, fitting) in WORKS {
         let work = Work {
             sub: 0,
             pid,
             verb,
             arg: 0,
         };
-        assert_eq!(rt; worker_of(&work), worker, "{pid:04X}");
-        assert_eq!(rt; estimate_of(&work), estimate, "{pid:04X}");
-        assert_eq!(rt; fits(&work, &Outcome::Done), fitting[0], "{pid:04X}");
-        assert_eq!(rt; fits(&work, &Outcome::Reading(1)), fitting[1], "{pid:04X}");
-        assert_eq!(rt; fits(&work, &FAILED), fitting[2], "{pid:04X}");
-    }
-    Ok(())
-}
-
-fn asked(verdict: &Verdict) -> Option<(u16, Ask)> {
-    match verdict {
-        Verdict::Queue(ask) => Some((0x0020, *ask)),
-        Verdict::Status(ask) => Some((0x0030, *ask)),
-        _ => None,
+        let told = (worker_of(&work), estimate_of(&work), outcomes_of(&work));
+        assert_eq!(rt; told, (worker, estimate, fitting), "{pid:04X}");
     }
 }
 
-#[test]
-fn two_parameters_ask_for_what_waits(rt: HostRuntime) -> Result<(), Fail> {
-    let devices = made(&rt, Profile::demo(1))?;
-    let types = [
-        (1, Ask::Last),
-        (2, Ask::Advisory),
-        (3, Ask::Warning),
-        (4, Ask::Error),
-    ];
-    for (status_type, ask) in types {
-        for pid in [0x0020, 0x0030] {
-            let verdict = devices.get(0, pid, &[status_type]);
-            assert_eq!(rt; asked(&verdict), Some((pid, ask)), "{verdict:?}");
-        }
-    }
-    let none = devices.get(0, 0x0030, &[0]);
-    assert_eq!(rt; asked(&none), Some((0x0030, Ask::None)), "{none:?}");
-    let refused: [(u16, u16, &[u8], Nack); 9] = [
-        (0, 0x0020, &[0], Nack::DataOutOfRange),
-        (0, 0x0020, &[5], Nack::DataOutOfRange),
-        (0, 0x0030, &[5], Nack::DataOutOfRange),
-        (0, 0x0020, &[], Nack::FormatError),
-        (0, 0x0030, &[], Nack::FormatError),
-        (0, 0x0030, &[1, 1], Nack::FormatError),
-        (1, 0x0020, &[2], Nack::UnknownPid),
-        (1, 0x0030, &[2], Nack::UnknownPid),
-        (2, 0x0020, &[2], Nack::SubDeviceOutOfRange),
-    ];
-    for (sub, pid, bytes, nack) in refused {
-        let verdict = devices.get(sub, pid, bytes);
-        assert_eq!(rt; verdict, Verdict::Refuse(nack));
-    }
-    Ok(())
-}
+/// Two parameters ask for what waits.
+const ASKED: [Step<'static>; 18] = [
+    (Get, 0, 0x0020, &[1], Queue(Ask::Last)),
+    (Get, 0, 0x0030, &[1], Status(Ask::Last)),
+    (Get, 0, 0x0020, &[2], Queue(Ask::Advisory)),
+    (Get, 0, 0x0030, &[2], Status(Ask::Advisory)),
+    (Get, 0, 0x0020, &[3], Queue(Ask::Warning)),
+    (Get, 0, 0x0030, &[3], Status(Ask::Warning)),
+    (Get, 0, 0x0020, &[4], Queue(Ask::Error)),
+    (Get, 0, 0x0030, &[4], Status(Ask::Error)),
+    (Get, 0, 0x0030, &[0], Status(Ask::None)),
+    (Get, 0, 0x0020, &[0], Refuse(DataOutOfRange)),
+    (Get, 0, 0x0020, &[5], Refuse(DataOutOfRange)),
+    (Get, 0, 0x0030, &[5], Refuse(DataOutOfRange)),
+    (Get, 0, 0x0020, &[], Refuse(FormatError)),
+    (Get, 0, 0x0030, &[], Refuse(FormatError)),
+    (Get, 0, 0x0030, &[1, 1], Refuse(FormatError)),
+    (Get, 1, 0x0020, &[2], Refuse(UnknownPid)),
+    (Get, 1, 0x0030, &[2], Refuse(UnknownPid)),
+    (Get, 2, 0x0020, &[2], Refuse(SubDeviceOutOfRange)),
+];

@@ -1,6 +1,9 @@
 //! CLEAR_STATUS_ID, and which status entries are noted.
 
+use super::devices::answers;
 use super::*;
+
+pub(super) const RUNS: [Run; 1] = [(1, &CLEARING)];
 
 fn entry(sub: u16, severity: Severity) -> Entry {
     let (id, v1, v2) = (0x8001, 0, 0);
@@ -13,81 +16,94 @@ fn entry(sub: u16, severity: Severity) -> Entry {
     }
 }
 
-#[test]
-fn clearing_is_a_set_at_the_root(rt: HostRuntime) -> Result<(), Fail> {
-    let mut devices = made(&rt, Profile::demo(1))?;
-    assert_eq!(rt; devices.set(0, 0x0032, &[]), Verdict::Clear);
-    let mut body = Body::from_slice(b"Fixture").ok_or("a short list")?;
-    assert_eq!(rt; devices.set_into(0, 0x0032, &[], &mut body), Answer::Clears);
-    assert_eq!(rt; body.as_slice(), b"".as_slice());
-    assert_eq!(rt; Answer::Clears.with(body), Verdict::Clear);
-    let class = Nack::UnsupportedCommandClass;
-    refuses_gets(&rt, &devices, 0, class, &[(0x0032, &[])]);
-    refuses_sets(&rt, &mut devices, 0, Nack::FormatError, &[(0x0032, &[0])]);
-    let missing = Nack::UnknownPid;
-    refuses_sets(&rt, &mut devices, 1, missing, &[(0x0032, &[])]);
-    refuses_sets(&rt, &mut devices, 0xFFFF, missing, &[(0x0032, &[])]);
-    refuses_gets(&rt, &devices, 1, missing, &[(0x0032, &[])]);
-    Ok(())
-}
+/// Clearing is a SET at the root.
+const CLEARING: [Step<'static>; 6] = [
+    (Set, 0, 0x0032, &[], Clear),
+    (Get, 0, 0x0032, &[], Refuse(UnsupportedCommandClass)),
+    (Set, 0, 0x0032, &[0], Refuse(FormatError)),
+    (Set, 1, 0x0032, &[], Refuse(UnknownPid)),
+    (Set, 0xFFFF, 0x0032, &[], Refuse(UnknownPid)),
+    (Get, 1, 0x0032, &[], Refuse(UnknownPid)),
+];
 
 #[test]
-fn an_entry_is_noted_from_the_threshold_on(rt: HostRuntime) -> Result<(), Fail> {
-    let mut devices = demo(&rt)?;
-    let thresholds = [
-        (0, false, false, false),
-        (2, true, true, true),
-        (3, false, true, true),
-        (4, false, false, true),
-    ];
-    for (threshold, advisory, warning, error) in thresholds {
-        sets(&rt, &mut devices, 0, &[(0x0033, &[threshold], &[])])?;
+fn clearing_is_answered_without_data(rt: HostRuntime) {
+    let clears = [(Set, 0x0032, [].as_slice(), Answer::Clears, [].as_slice())];
+    answers(&rt, &mut demo(&rt, rt.alloc(), 1), &clears);
+}
+
+/// Thresholds, and whether an advisory, a warning and an error are noted, and that one is cleared.
+const THRESHOLDS: [(u8, bool, bool, bool); 4] = [
+    (0, false, false, false),
+    (2, true, true, true),
+    (3, false, true, true),
+    (4, false, false, true),
+];
+
+#[test]
+fn an_entry_is_noted_from_the_threshold_on(rt: HostRuntime) {
+    let mut devices = demo(&rt, rt.alloc(), 0);
+    for (threshold, advisory, warning, error) in THRESHOLDS {
+        plays(
+            &rt,
+            &mut devices,
+            &[(Set, 0, 0x0033, &[threshold], Reply(&[]))],
+        );
         let entries = [
-            (Severity::Advisory, advisory),
-            (Severity::AdvisoryCleared, advisory),
-            (Severity::Warning, warning),
-            (Severity::WarningCleared, warning),
-            (Severity::Error, error),
-            (Severity::ErrorCleared, error),
+            (0, Severity::Advisory, advisory),
+            (0, Severity::AdvisoryCleared, advisory),
+            (0, Severity::Warning, warning),
+            (0, Severity::WarningCleared, warning),
+            (0, Severity::Error, error),
+            (0, Severity::ErrorCleared, error),
         ];
-        for (severity, noted) in entries {
-            let told = devices.notes(&entry(0, severity));
-            assert_eq!(rt; told, noted, "{severity:?} from {threshold} on");
-        }
+        notes(&rt, &devices, &entries);
     }
-    Ok(())
+}
+
+/// Whether entries are noted: of these devices, and of this severity.
+fn notes(rt: &impl Abort, devices: &Devices, entries: &[(u16, Severity, bool)]) {
+    for (sub, severity, noted) in entries {
+        let told = devices.notes(&entry(*sub, *severity));
+        assert_eq!(rt; told, *noted, "{sub} {severity:?}");
+    }
 }
 
 /// Whether a warning is noted of the root and of the sub-devices 1 to 3; it never is of devices that there aren't.
 fn warnings(rt: &impl Abort, devices: &Devices, [root, first, second, third]: [bool; 4]) {
     let entries = [
-        (0, root),
-        (1, first),
-        (2, second),
-        (3, third),
-        (4, false),
-        (0xFFFF, false),
+        (0, Severity::Warning, root),
+        (1, Severity::Warning, first),
+        (2, Severity::Warning, second),
+        (3, Severity::Warning, third),
+        (4, Severity::Warning, false),
+        (0xFFFF, Severity::Warning, false),
     ];
-    for (sub, noted) in entries {
-        let told = devices.notes(&entry(sub, Severity::Warning));
-        assert_eq!(rt; told, noted, "{sub}");
-    }
+    notes(rt, devices, &entries);
 }
 
+/// The threshold of the sub-devices becomes 4.
+const ALL_CELLS: [Step<'static>; 6] = [
+    (Set, 0xFFFF, 0x0033, &[4], Reply(&[])),
+    (Get, 0, 0x0033, &[], Reply(&[2])),
+    (Get, 1, 0x0033, &[], Reply(&[4])),
+    (Get, 2, 0x0033, &[], Reply(&[4])),
+    (Get, 3, 0x0033, &[], Reply(&[4])),
+    (Set, 0xFFFF, 0x0033, &[1], Refuse(DataOutOfRange)),
+];
+
+/// That of the root becomes 0, and that of the second sub-device 3.
+const TWO: [Step<'static>; 2] = [
+    (Set, 0, 0x0033, &[0], Reply(&[])),
+    (Set, 2, 0x0033, &[3], Reply(&[])),
+];
+
 #[test]
-fn each_device_has_its_own_threshold(rt: HostRuntime) -> Result<(), Fail> {
-    let mut devices = made(&rt, Profile::demo(3))?;
+fn each_device_has_its_own_threshold(rt: HostRuntime) {
+    let mut devices = demo(&rt, rt.alloc(), 3);
     warnings(&rt, &devices, [true, true, true, true]);
-    sets(&rt, &mut devices, 0xFFFF, &[(0x0033, &[4], &[])])?;
-    gets(&rt, &devices, 0, &[(0x0033, &[], &[2])])?;
-    for sub in [1, 2, 3] {
-        gets(&rt, &devices, sub, &[(0x0033, &[], &[4])])?;
-    }
-    let out = Nack::DataOutOfRange;
-    refuses_sets(&rt, &mut devices, 0xFFFF, out, &[(0x0033, &[1])]);
+    plays(&rt, &mut devices, &ALL_CELLS);
     warnings(&rt, &devices, [true, false, false, false]);
-    sets(&rt, &mut devices, 0, &[(0x0033, &[0], &[])])?;
-    sets(&rt, &mut devices, 2, &[(0x0033, &[3], &[])])?;
+    plays(&rt, &mut devices, &TWO);
     warnings(&rt, &devices, [false, false, true, false]);
-    Ok(())
 }

@@ -2,27 +2,42 @@
 
 use super::*;
 
+const CODES: [(Nack, u16); 6] = [
+    (UnknownPid, 0),
+    (FormatError, 1),
+    (UnsupportedCommandClass, 5),
+    (DataOutOfRange, 6),
+    (Nack::BufferFull, 7),
+    (SubDeviceOutOfRange, 9),
+];
+
+const KINDS: [(u16, Option<Kind>); 3] = [
+    (0x1000, Some(Kind::IdentifyDevice)),
+    (0x1001, None),
+    (0x0032, Some(Kind::ClearStatusId)),
+];
+
+const NAMES: [(Kind, &str); 3] = [
+    (
+        Kind::SubDeviceStatusReportThreshold,
+        "SUB_DEVICE_STATUS_REPORT_THRESHOLD",
+    ),
+    (Kind::DmxStartAddress, "DMX_START_ADDRESS"),
+    (Kind::PerformSelfTest, "PERFORM_SELFTEST"),
+];
+
 #[test]
 fn codes_and_kinds(rt: HostRuntime) {
-    let codes = [
-        (Nack::UnknownPid, 0),
-        (Nack::FormatError, 1),
-        (Nack::UnsupportedCommandClass, 5),
-        (Nack::DataOutOfRange, 6),
-        (Nack::BufferFull, 7),
-        (Nack::SubDeviceOutOfRange, 9),
-    ];
-    for (nack, code) in codes {
+    for (nack, code) in CODES {
         assert_eq!(rt; nack.code(), code);
     }
-    assert_eq!(rt; kind_of(0x1000), Some(Kind::IdentifyDevice));
-    assert_eq!(rt; kind_of(0x1001), None);
-    assert_eq!(rt; kind_of(0x0032), Some(Kind::ClearStatusId));
-    let threshold = Kind::SubDeviceStatusReportThreshold;
-    assert_eq!(rt; threshold.name(), "SUB_DEVICE_STATUS_REPORT_THRESHOLD");
+    for (pid, kind) in KINDS {
+        assert_eq!(rt; kind_of(pid), kind);
+    }
+    for (kind, name) in NAMES {
+        assert_eq!(rt; kind.name(), name);
+    }
     assert_eq!(rt; Kind::DmxStartAddress.pid(), 0x00F0);
-    assert_eq!(rt; Kind::DmxStartAddress.name(), "DMX_START_ADDRESS");
-    assert_eq!(rt; Kind::PerformSelfTest.name(), "PERFORM_SELFTEST");
 }
 
 #[test]
@@ -35,113 +50,107 @@ fn values_are_read_and_written(rt: HostRuntime) {
     assert_eq!(rt; none.err(), Some(Nack::FormatError));
 }
 
+/// At the root or a sub-device, whether a value is in range for a GET or SET.
+const RANGES: [(u16, Kind, Verb, Value, bool); 7] = [
+    (0, Kind::DmxStartAddress, Set, Value::Word(512), true),
+    (0, Kind::DmxStartAddress, Set, Value::Word(513), false),
+    (0, Kind::DmxStartAddress, Set, Value::Byte(1), false),
+    (0, Kind::DmxStartAddress, Set, Value::Pair(1, 2), false),
+    (0, Kind::DmxStartAddress, Get, Value::Nothing, true),
+    (1, Kind::DmxStartAddress, Get, Value::Nothing, false),
+    (0, Kind::BootSoftwareVersionId, Set, Value::Nothing, false),
+];
+
 #[test]
-fn a_range_is_asked_for_without_a_command(rt: HostRuntime) -> Result<(), Fail> {
-    let devices = demo(&rt)?;
-    let start = Kind::DmxStartAddress;
-    let cases = [
-        (0, start, Verb::Set, Value::Word(512), true),
-        (0, start, Verb::Set, Value::Word(513), false),
-        (0, start, Verb::Set, Value::Byte(1), false),
-        (0, start, Verb::Set, Value::Pair(1, 2), false),
-        (0, start, Verb::Get, Value::Nothing, true),
-        (1, start, Verb::Get, Value::Nothing, false),
-        (
-            0,
-            Kind::BootSoftwareVersionId,
-            Verb::Set,
-            Value::Nothing,
-            false,
-        ),
-    ];
-    for (sub, kind, verb, value, want) in &cases {
-        assert_eq!(rt;
-            devices.in_range(*sub, *kind, *verb, value),
-            *want,
-            "{value:?}"
-        );
+fn a_range_is_asked_for_without_a_command(rt: HostRuntime) {
+    let devices = demo(&rt, rt.alloc(), 0);
+    for (sub, kind, verb, value, expected) in &RANGES {
+        let told = devices.in_range(*sub, *kind, *verb, value);
+        assert_eq!(rt; told, *expected, "{value:?}");
     }
-    Ok(())
+}
+
+/// Numbers, and how they are written.
+const NUMBERS: [(Value, &[u8]); 8] = [
+    (Value::Nothing, &[]),
+    (Value::Byte(7), &[7]),
+    (Value::Word(0x0102), &[1, 2]),
+    (Value::Long(0x0102_0304), &[1, 2, 3, 4]),
+    (Value::Pair(1, 2), &[1, 2]),
+    (
+        Value::Preset {
+            mode: 0x0102,
+            level: 3,
+        },
+        &[1, 2, 3],
+    ),
+    (
+        Value::Reading {
+            number: 7,
+            present: -2,
+            lowest: -3,
+            highest: 4,
+            recorded: 5,
+        },
+        &[7, 0xFF, 0xFE, 0xFF, 0xFD, 0, 4, 0, 5],
+    ),
+    (
+        Value::Info {
+            protocol: 0x0100,
+            model: 2,
+            category: 3,
+            software: 4,
+            footprint: 0x0506,
+            personality: 6,
+            personalities: 7,
+            start: 8,
+            subs: 9,
+            sensors: 10,
+        },
+        &[1, 0, 0, 2, 0, 3, 0, 0, 0, 4, 5, 6, 6, 7, 0, 8, 0, 9, 10],
+    ),
+];
+
+/// Sensor 8.
+fn sensor() -> Value {
+    Value::Sensor {
+        number: 8,
+        def: SensorDef {
+            kind: 1,
+            unit: 2,
+            prefix: 3,
+            low: -1,
+            high: 2,
+            normal_low: -32768,
+            normal_high: 32767,
+            support: 4,
+            name: Text::of(b"S"),
+        },
+    }
+}
+
+/// A value is written so.
+fn writes(rt: &impl Abort, value: Value, bytes: &[u8]) {
+    assert_eq!(rt; write_value(&value).as_slice(), bytes, "{value:?}");
 }
 
 #[test]
-fn each_form_is_written_field_by_field(rt: HostRuntime) -> Result<(), Fail> {
-    let block = Body::from_slice(&[9, 8]).ok_or("a short list")?;
-    let (mode, footprint, number, level) = (0x0102, 0x0506, 7, 3);
-    let def = SensorDef {
-        kind: 1,
-        unit: 2,
-        prefix: 3,
-        low: -1,
-        high: 2,
-        normal_low: -32768,
-        normal_high: 32767,
-        support: 4,
-        name: text(b"S")?,
-    };
-    let reading = Value::Reading {
-        number,
-        present: -2,
-        lowest: -3,
-        highest: 4,
-        recorded: 5,
-    };
-    let info = Value::Info {
-        protocol: 0x0100,
-        model: 2,
-        category: 3,
-        software: 4,
-        footprint,
-        personality: 6,
-        personalities: 7,
-        start: 8,
-        subs: 9,
-        sensors: 10,
-    };
-    let name = text(b"N")?;
-    let slot_name = text(b"O")?;
-    let mode_name = text(b"M")?;
-    let (offset, sensor) = (0x0304, 8);
-    let cases: [(Value, &[u8]); 14] = [
-        (Value::Nothing, &[]),
-        (Value::Byte(7), &[7]),
-        (Value::Word(0x0102), &[1, 2]),
-        (Value::Long(0x0102_0304), &[1, 2, 3, 4]),
-        (Value::Pair(1, 2), &[1, 2]),
-        (Value::Label(text(b"hi")?), b"hi"),
-        (Value::Preset { mode, level }, &[1, 2, 3]),
-        (Value::Named { number, name }, b"\x07N"),
-        (
-            Value::SlotName {
-                offset,
-                name: slot_name,
-            },
-            b"\x03\x04O",
-        ),
-        (
-            Value::Mode {
-                number,
-                footprint,
-                name: mode_name,
-            },
-            b"\x07\x05\x06M",
-        ),
-        (reading, &[7, 0xFF, 0xFE, 0xFF, 0xFD, 0, 4, 0, 5]),
-        (
-            Value::Sensor {
-                number: sensor,
-                def,
-            },
-            &[8, 1, 2, 3, 0xFF, 0xFF, 0, 2, 0x80, 0, 0x7F, 0xFF, 4, 83],
-        ),
-        (
-            info,
-            &[1, 0, 0, 2, 0, 3, 0, 0, 0, 4, 5, 6, 6, 7, 0, 8, 0, 9, 10],
-        ),
-        (Value::Block(block), &[9, 8]),
-    ];
-    for (value, want) in &cases {
-        assert_eq!(rt; write_value(value).as_slice(), *want);
+fn each_form_is_written_field_by_field(rt: HostRuntime) {
+    for (value, bytes) in NUMBERS {
+        writes(&rt, value, bytes);
     }
-    Ok(())
+    writes(&rt, Value::Label(Text::of(b"hi")), b"hi");
+    writes(&rt, Value::Block(Body::of(&[9, 8])), &[9, 8]);
+    let (number, name) = (7, Text::of(b"N"));
+    writes(&rt, Value::Named { number, name }, b"\x07N");
+    let (offset, name) = (0x0304, Text::of(b"O"));
+    writes(&rt, Value::SlotName { offset, name }, b"\x03\x04O");
+    let mode = Value::Mode {
+        number: 7,
+        footprint: 0x0506,
+        name: Text::of(b"M"),
+    };
+    writes(&rt, mode, b"\x07\x05\x06M");
+    let slots = [8, 1, 2, 3, 0xFF, 0xFF, 0, 2, 0x80, 0, 0x7F, 0xFF, 4, 83];
+    writes(&rt, sensor(), &slots);
 }

@@ -10,13 +10,9 @@ const NEW_ERRORS: [(NewError, &str); 3] = [
 ];
 
 #[test]
-fn errors_say_what_is_wrong(rt: HostRuntime) -> Result<(), Fail> {
+fn errors_say_what_is_wrong(rt: HostRuntime) {
     for (error, words) in NEW_ERRORS {
-        assert_eq!(rt;
-            format!(in rt.alloc(); "{error}")?.as_str(),
-            words,
-            "{error:?}"
-        );
+        let said = format!(in rt.alloc(); "{error}").expect(&rt, "memory");
+        assert_eq!(rt; said.as_str(), words);
     }
-    Ok(())
 }
