@@ -128,6 +128,8 @@ impl Devices {
 
     /// What a GET answers, as `get`, with the data of the reply in `body`, and none where it isn't `Done`. What stood
     /// there before is gone.
+    // Inlined into each caller, since a call would hand the argument on through memory.
+    #[inline(always)]
     pub fn get_into(&self, sub: u16, pid: u16, data: &[u8], body: &mut Body) -> Answer
         ensures answer { verdict_with result body.new ≡ got self.now sub pid data.now }
         ensures job { NamesItsJob result }
