@@ -47,9 +47,12 @@ pub(crate) fn step(
 
 /// Hears bytes, as `step`.
 fn hear(station: &mut Station, bytes: &[u8], reply: &mut [u8; 257], stepped: &mut SteppedNumbers)
-    ensures reply { (h : History) → StandsFor station.old.responder h → told stepped.new.replied stepped.new.count reply.new ≡ reply_of h bytes.now }
-    ensures job { (h : History) → StandsFor station.old.responder h → started_in stepped.new ≡ option_map numbers_of (job_of h bytes.now) }
-    ensures stands { (h : History) → StandsFor station.old.responder h → StandsFor station.new.responder (then_event h (Heard bytes.now)) }
+    ensures reply { (h : History) → StandsFor station.old.responder h →
+        told stepped.new.replied stepped.new.count reply.new ≡ reply_of h bytes.now }
+    ensures job { (h : History) → StandsFor station.old.responder h →
+        started_in stepped.new ≡ option_map numbers_of (job_of h bytes.now) }
+    ensures stands { (h : History) → StandsFor station.old.responder h →
+        StandsFor station.new.responder (then_event h (Heard bytes.now)) }
 {
     let outcome = station.responder.step_into(bytes, &mut station.wire);
     stepped.clear();
@@ -63,7 +66,8 @@ fn hear(station: &mut Station, bytes: &[u8], reply: &mut [u8; 257], stepped: &mu
 /// Takes the report of a job, and says whether it noted a status entry.
 pub(crate) fn arrive(party: &mut Party, report: Report, kept: &mut u8) -> Status
     ensures absent { (result ≡ Status.Absent) ↔ (is_responder party.old ≡ false) }
-    ensures lawful { (h : History) → IsLawful h → IsFor party.old h → ((result ≡ Status.Done) ↔ IsLawful (then_event h (Arrived report))) }
+    ensures lawful { (h : History) → IsLawful h → IsFor party.old h →
+        ((result ≡ Status.Done) ↔ IsLawful (then_event h (Arrived report))) }
     ensures stands { (h : History) → IsFor party.old h → result ≡ Status.Done → IsFor party.new (then_event h (Arrived report)) }
     ensures kept { (h : History) → IsFor party.old h → result ≡ Status.Done → (kept.new == 1) ≡ is_noted h report }
     ensures same { result ≢ Status.Done → party.new ≡ party.old }
@@ -81,7 +85,8 @@ fn take_report(station: &mut Station, report: Report, kept: &mut u8) -> Status
         ((result ≡ Status.Done) ↔ IsLawful (then_event h (Arrived report))) }
     ensures stands { (h : History) → StandsFor station.old.responder h → result ≡ Status.Done →
         StandsFor station.new.responder (then_event h (Arrived report)) }
-    ensures kept { (h : History) → StandsFor station.old.responder h → result ≡ Status.Done → (kept.new == 1) ≡ is_noted h report }
+    ensures kept { (h : History) → StandsFor station.old.responder h → result ≡ Status.Done →
+        (kept.new == 1) ≡ is_noted h report }
     ensures same { result ≢ Status.Done → station.new ≡ station.old }
     ensures statuses { result ≢ Status.Done → result ≡ Status.Astray }
 {
@@ -133,7 +138,8 @@ pub(crate) fn get(
     count: &mut usize,
     reason: &mut u16,
 ) -> Status
-    ensures told { (h : History) → IsFor party.now h → GetTold (code_of result) count.new value.new reason.new (got (account_of h).parameters sub pid argument.now) }
+    ensures told { (h : History) → IsFor party.now h →
+        GetTold (code_of result) count.new value.new reason.new (got (account_of h).parameters sub pid argument.now) }
     ensures absent { is_responder party.now ≡ false → result ≡ Status.Absent }
 {
     let Party::Responder(station) = party else {
