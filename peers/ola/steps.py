@@ -15,7 +15,7 @@ import shlex
 
 from line import UID, UNIVERSE, Fault, run_client
 
-CLIENTS = {"get": "ola_rdm_get", "set": "ola_rdm_set", "discover": "ola_rdm_discover"}
+CLIENTS = {"get": "ola_rdm_get", "set": "ola_rdm_set", "discover": "ola_rdm_discover", "slots": "ola_set_dmx"}
 DESTINATIONS = {"all": "ffff:ffffffff", "maker": "7ff0:ffffffff"}
 RESPONSE_TYPES = {0: "ACK", 1: "ACK_TIMER", 2: "NACK_REASON"}
 OLAS_DEFINITIONS = pathlib.Path("/usr/share/ola/pids/pids.proto")
@@ -74,6 +74,8 @@ def client_words(asked, definitions):
     command, *words = [part for word in shlex.split(asked) for part in repeated(word)]
     if command == "discover":
         return [CLIENTS[command], "--universe", UNIVERSE, *words]
+    if command == "slots":
+        return [CLIENTS[command], "--universe", UNIVERSE, "--dmx", *words]
     to, kind, options = UID, STANDARD, []
     while words and words[0].startswith("-"):
         option = words.pop(0)
