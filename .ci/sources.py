@@ -217,7 +217,7 @@ def defining_file(crate, parts, path):
 def is_seen(f, everything):
     """Whether an `impl` of a trait is one for callers: it converts from no private type of the crate."""
     source = re.search(r"<(\w+)>", f.block)
-    hidden = rf"(?m)^pub\(\w+\) (?:struct|enum) {source[1]}\b" if source else "$^"
+    hidden = rf"(?m)^(?:pub\(\w+\) )?(?:struct|enum) {source[1]}\b" if source else "$^"
     return not any(re.search(hidden, file.read_text()) for file in {g.file for g in everything})
 
 
