@@ -79,7 +79,7 @@ impl Rule {
     }
 
     /// Whether its task can have its outcome.
-    fn suits(&self) -> bool
+    pub fn suits(&self) -> bool
         ensures { result ≡ suits self.now.task self.now.outcome }
     {
         match (self.task, self.outcome) {
