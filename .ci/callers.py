@@ -155,21 +155,32 @@ class Place:
         return next(iter(told)) if len(told) == 1 else None
 
 
-def excerpt(lines, first):
-    """The statement around a line: up to its start, down to where its brackets close, of at most six lines."""
-    while first > 0 and lines[first].lstrip().startswith((".", "?", "&&", "||")):
+def excerpt(lines, line):
+    """The statement around a line, or the lines of the call alone where the statement is long."""
+    first = line
+    while first > 0 and not ends_statement(lines[first - 1]):
         first -= 1
-    last, depth = first, 0
-    while last < len(lines):
+    whole = statement(lines, first)
+    if len(whole) > MOST_LINES or len(whole) <= line - first:
+        whole = statement(lines, line)
+    cut = min(len(text) - len(text.lstrip()) for text in whole if text.strip())
+    return shortened([text[cut:] for text in whole])
+
+
+def ends_statement(line):
+    """Whether a statement may begin after a line: not after `assert_eq!(rt;`, whose bracket is open."""
+    return bool(re.search(r"([;{}]|//.*|^)$", line.strip())) and not (line.endswith(";") and line.count("(") > line.count(")"))
+
+
+def statement(lines, first):
+    """The lines from the first to the one where its brackets are closed and no method follows."""
+    depth = 0
+    for last in range(first, len(lines)):
         depth += sum(lines[last].count(c) for c in "([{") - sum(lines[last].count(c) for c in ")]}")
         further = last + 1 < len(lines) and lines[last + 1].lstrip().startswith((".", "&&", "||"))
         if depth <= 0 and not further:
             break
-        last += 1
-    found = lines[first : last + 1]
-    cut = min(len(line) - len(line.lstrip()) for line in found if line.strip())
-    found = [line[cut:] for line in found]
-    return shortened(found)
+    return lines[first : last + 1]
 
 
 def shortened(lines):

@@ -222,7 +222,7 @@ def is_seen(f, everything):
 
 
 def public_calls(crate):
-    """The public functions of a crate, with the module path of each: free ones, methods of public types, and what traits promise of these."""
+    """The public functions of a crate, each with its module path: free ones, methods of public types, and what these promise by traits."""
     items, _ = public_items(crate)
     everything = [f for file in files_of(crate) for f in functions_of(crate, file)]
     found = []
