@@ -5,10 +5,29 @@
 //! writes it. No line is lost: one that is neither is shown as it stands. `docs/WORDS.md` has the forms.
 #![tactic(auto)]
 
+mod class;
+mod cut;
+mod device_info;
+mod digits;
+mod discovery;
+mod form;
+mod frame_words;
+mod header;
 mod known;
+mod layout;
 mod line_words;
+mod lists;
+mod place;
+mod report;
+mod sensors;
 mod short;
+mod slots;
+mod statuses;
+pub mod tables;
+mod text;
 mod trace_line;
+mod trace_words;
+mod values;
 
 pub use known::Known;
 pub use line_words::{put_line_words, words};
