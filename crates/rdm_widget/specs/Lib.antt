@@ -1,0 +1,4 @@
+pub mod Framing
+pub mod Desks
+pub mod Protocol
+pub mod Serving
