@@ -30,6 +30,7 @@ plain_encoded c plain = by (ltb c 128) (ltb c 2048) (ltb c 65536)
   where
     next : (n : ℕ) → IsPlain (128 + n % 64)
     next n = high (128 + n % 64) (omega arith)
+
     by : (x y z : Bool) → All IsPlain (cond x (c ∷ []) (cond y ((192 + c / 64) ∷ (128 + c % 64) ∷ []) (cond z ((224 + c / 4096) ∷ (128 + (c / 64) % 64) ∷ (128 + c % 64) ∷ []) ((240 + c / 262144) ∷ (128 + (c / 4096) % 64) ∷ (128 + (c / 64) % 64) ∷ (128 + c % 64) ∷ []))))
     by true y z = one c plain
     by false true z = two (192 + c / 64) (128 + c % 64) (high (192 + c / 64) (omega arith)) (next c)

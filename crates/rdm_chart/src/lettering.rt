@@ -10,7 +10,7 @@ const SIZE: u64 = 13;
 /// The lines of a text in so much room. A line that is longer breaks between words, and a word that is longer than a line
 /// breaks in itself.
 ///
-/// Nothing says which font a reader has: the room of a letter is that in Helvetica, rounded up.
+/// Nothing says which font a reader has: the room of a letter is about that in Helvetica.
 pub(crate) fn broken_lines(alloc: Global, text: &str, room: Px) -> Result<Vec<String>, AllocError> {
     let mut lines = Broken {
         alloc,
