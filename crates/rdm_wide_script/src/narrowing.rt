@@ -1,0 +1,125 @@
+//! From a script as people write it to the same in the words of rdm_script.
+
+ghost use Rattle.std.specs.Prelude.{◌≡◌, ◌≢◌, ℕ, List, ◌==◌, ◌<◌, length, count_by, position, IfOk, IfErr, OnOk, IfSome};
+ghost use Rattle.rdm_crew.specs.declared.step.CrewStep.{CrewStep as TheStep};
+ghost use Rattle.rdm_script.specs.declared.script.Setup.{Setup as TheSetup};
+ghost use Rattle.rdm_script.specs.Spelling.{IsScript};
+ghost use Rattle.rdm_wide_script.specs.declared.refusal.WideError.TheVariants.{OutOfMemory};
+
+use crate::line::{Asked, Line, line_in};
+use crate::refusal::{Refusal, WideError};
+use crate::words::{Word, words_of};
+use rdm_frame::digits::digit;
+use rdm_script::{ScriptError, parse};
+use std::alloc::{AllocError, Global};
+
+/// How many bytes a script may have.
+const MOST_BYTES: usize = 65_536;
+
+/// The script in the words of rdm_script, line by line.
+pub fn narrowed(alloc: Global, text: &[u8]) -> Result<Vec<u8>, WideError>
+    // A script of rdm_script stays as it is.
+    ensures narrow { (setup : TheSetup) (steps : List TheStep) → IsScript text.now setup steps →
+        IfOk result (λ narrow. narrow.items ≡ text.now) }
+    // But for want of memory, none of those is refused.
+    ensures refused { (setup : TheSetup) (steps : List TheStep) → IsScript text.now setup steps →
+        IfErr result (λ e. e ≡ OutOfMemory) }
+    // It has as many lines as before.
+    ensures lines { IfOk result (λ narrow. count_by (λ b. b == 10) narrow.items ≡ count_by (λ b. b == 10) text.now) }
+{
+    if text.len() > MOST_BYTES {
+        return Err(WideError::TooLong);
+    }
+    match parse(alloc, text) {
+        Ok(_) => Ok(text.to_vec(alloc)?),
+        Err(ScriptError::OutOfMemory) => Err(WideError::OutOfMemory),
+        Err(_) => lines_narrowed(alloc, text),
+    }
+}
+
+/// Each line in the words of rdm_script.
+fn lines_narrowed(alloc: Global, text: &[u8]) -> Result<Vec<u8>, WideError>
+    ensures lines { IfOk result (λ narrow. count_by (λ b. b == 10) narrow.items ≡ count_by (λ b. b == 10) text.now) }
+{
+    let mut out = Vec::with_capacity(alloc, text.len())?;
+    let mut rest = text;
+    let mut number = 1;
+    let mut begun = false;
+    while let Some(end) = rest.iter().position(|b| *b == b'\n') {
+        begun = put_line(&mut out, without_return(&rest[..end]), number, begun)?;
+        out.push(b'\n')?;
+        rest = &rest[end + 1..];
+        number = number.saturating_add(1);
+    }
+    put_line(&mut out, rest, number, begun)?;
+    Ok(out)
+}
+
+/// Puts a line in the words of rdm_script at the end, and tells whether a line has now said anything.
+fn put_line(
+    out: &mut Vec<u8>,
+    line: &[u8],
+    number: usize,
+    begun: bool,
+) -> Result<bool, WideError> {
+    let words = words_of(line);
+    match line_in(words.as_slice(), begun) {
+        Ok(Line::Command(asked)) => {
+            put_command(out, words.as_slice(), &asked)?;
+            Ok(true)
+        }
+        Ok(said) => {
+            out.extend_from_slice(line)?;
+            Ok(begun || !matches!(said, Line::Nothing))
+        }
+        Err(wrong) => Err(WideError::Refused(Refusal::at(
+            number,
+            line,
+            words.as_slice().get(wrong.index),
+            wrong.wanted,
+        ))),
+    }
+}
+
+/// Puts a command in the words of rdm_script at the end.
+fn put_command(out: &mut Vec<u8>, words: &[Word<'_>], asked: &Asked) -> Result<(), AllocError> {
+    for (index, word) in words.iter().enumerate() {
+        if index > 0 {
+            out.push(b' ')?;
+        }
+        match index {
+            2 => put_digits(out, &asked.sub.to_be_bytes())?,
+            3 => put_digits(out, &asked.pid.to_be_bytes())?,
+            4 => put_load(out, asked.load.as_slice())?,
+            _ => out.extend_from_slice(word.text)?,
+        }
+    }
+    Ok(())
+}
+
+/// Puts the data of a command at the end: a hyphen where there are none.
+fn put_load(out: &mut Vec<u8>, load: &[u8]) -> Result<(), AllocError> {
+    if load.is_empty() {
+        out.push(b'-')?;
+        Ok(())
+    } else {
+        put_digits(out, load)
+    }
+}
+
+/// Puts two hexadecimal digits for each byte at the end.
+fn put_digits(out: &mut Vec<u8>, bytes: &[u8]) -> Result<(), AllocError> {
+    for byte in bytes {
+        out.push(digit(byte / 16))?;
+        out.push(digit(byte % 16))?;
+    }
+    Ok(())
+}
+
+/// A line without the carriage return at its end, if it has one.
+fn without_return(line: &[u8]) -> &[u8] {
+    match line {
+        [front @ .., b'\r'] => front,
+        _ => line,
+    }
+}
