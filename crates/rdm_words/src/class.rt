@@ -1,0 +1,52 @@
+//! What a frame does (E1.20 table A-1).
+
+use rdm_frame::standard::{
+    DISCOVERY_COMMAND, DISCOVERY_COMMAND_RESPONSE, GET_COMMAND, GET_COMMAND_RESPONSE, SET_COMMAND,
+    SET_COMMAND_RESPONSE,
+};
+
+/// A command class.
+#[derive(Clone, Copy)]
+pub(crate) enum Class {
+    Discovery,
+    DiscoveryResponse,
+    Get,
+    GetResponse,
+    Set,
+    SetResponse,
+}
+
+impl Class {
+    /// The command class with this code.
+    pub(crate) fn of(code: u8) -> Option<Class> {
+        Some(match code {
+            DISCOVERY_COMMAND => Class::Discovery,
+            DISCOVERY_COMMAND_RESPONSE => Class::DiscoveryResponse,
+            GET_COMMAND => Class::Get,
+            GET_COMMAND_RESPONSE => Class::GetResponse,
+            SET_COMMAND => Class::Set,
+            SET_COMMAND_RESPONSE => Class::SetResponse,
+            _ => return None,
+        })
+    }
+
+    /// Its name.
+    pub(crate) fn name(self) -> &'static str {
+        match self {
+            Class::Discovery => "DISCOVERY",
+            Class::DiscoveryResponse => "DISCOVERY response",
+            Class::Get => "GET",
+            Class::GetResponse => "GET response",
+            Class::Set => "SET",
+            Class::SetResponse => "SET response",
+        }
+    }
+
+    /// Whether it is that of a reply.
+    pub(crate) fn is_response(self) -> bool {
+        match self {
+            Class::DiscoveryResponse | Class::GetResponse | Class::SetResponse => true,
+            Class::Discovery | Class::Get | Class::Set => false,
+        }
+    }
+}

@@ -1,0 +1,83 @@
+//! The words of discovery (E1.20 section 7).
+
+use crate::text::put_hex;
+use crate::values::put_data;
+use rdm_frame::{Uid, disc_reply, uid_at};
+use std::alloc::AllocError;
+use std::fmt::Write;
+
+/// How many bytes of the preamble stand before the separator in the answer to DISC_UNIQUE_BRANCH (section 7.5). Some of them
+/// may be missing.
+const PREAMBLE: usize = 7;
+
+/// Between which UIDs devices are looked for.
+pub(crate) fn put_branch(text: &mut String, data: &[u8]) -> Result<(), AllocError> {
+    if data.len() != 12 {
+        return put_data(text, data);
+    }
+    let (low, high) = (uid_at(data, 0), uid_at(data, 6));
+    write!(text, "from {low} to {high}")
+}
+
+/// What a device says of itself that is muted, or no longer: its control field and, where it has one, the binding UID.
+pub(crate) fn put_muted(text: &mut String, data: &[u8]) -> Result<(), AllocError> {
+    let [high, low, binding @ ..] = data else {
+        return put_data(text, data);
+    };
+    text.push_str("control field ")?;
+    put_hex(text, &[*high, *low])?;
+    put_flags(text, *low)?;
+    match binding.len() {
+        0 => Ok(()),
+        6 => {
+            let uid = uid_at(binding, 0);
+            write!(text, ", binding UID {uid}")
+        }
+        _ => {
+            text.push_str(", ")?;
+            put_data(text, binding)
+        }
+    }
+}
+
+/// The flags of a control field.
+fn put_flags(text: &mut String, flags: u8) -> Result<(), AllocError> {
+    put_flag(text, flags, 0x01, ", managed proxy")?;
+    put_flag(text, flags, 0x02, ", sub-device")?;
+    put_flag(text, flags, 0x04, ", boot loader")?;
+    put_flag(text, flags, 0x08, ", proxied device")
+}
+
+fn put_flag(text: &mut String, flags: u8, flag: u8, words: &str) -> Result<(), AllocError> {
+    if flags & flag == 0 {
+        return Ok(());
+    }
+    text.push_str(words)
+}
+
+/// The UID of the device that answers DISC_UNIQUE_BRANCH with these bytes, or `None` where they are no such answer.
+pub(crate) fn branch_uid(bytes: &[u8]) -> Option<Uid> {
+    let coded = without_preamble(bytes);
+    let [_, a, b, c, d, e, f, g, h, i, j, k, l, ..] = coded else {
+        return None;
+    };
+    let uid = [a & b, c & d, e & f, g & h, i & j, k & l];
+    let uid = uid_at(&uid, 0);
+    if &disc_reply(uid)[PREAMBLE..] == coded {
+        Some(uid)
+    } else {
+        None
+    }
+}
+
+/// The bytes from the separator on: at most seven bytes of the preamble stand before it.
+fn without_preamble(bytes: &[u8]) -> &[u8] {
+    let mut rest = bytes;
+    for _ in 0..PREAMBLE {
+        match rest {
+            [0xFE, more @ ..] => rest = more,
+            _ => break,
+        }
+    }
+    rest
+}

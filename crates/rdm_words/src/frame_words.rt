@@ -1,0 +1,91 @@
+//! The words of a frame: a line of its header, and lines of its data below.
+
+use crate::Known;
+use crate::class::Class;
+use crate::discovery::branch_uid;
+use crate::form::{Form, Layout};
+use crate::header::{put_request, put_response, put_stranger};
+use crate::layout::layout_of;
+use crate::lists::put_entries;
+use crate::text::put_hex;
+use crate::values::{put_data, put_value};
+use rdm_frame::standard::{ACK_TIMER, NACK_REASON};
+use rdm_frame::{FrameError, FrameView, decode_view};
+use std::alloc::AllocError;
+use std::fmt::Write;
+
+/// What stands before a line of data.
+const DATA_LINE: &str = "\n  ";
+
+/// The words of bytes from the bus.
+pub(crate) fn put_bytes_words(
+    text: &mut String,
+    bytes: &[u8],
+    known: &Known<'_>,
+) -> Result<(), AllocError> {
+    match decode_view(bytes) {
+        Ok(frame) => put_frame(text, &frame, known),
+        Err(error) => put_other(text, bytes, error),
+    }
+}
+
+/// Bytes that are no frame: the answer to DISC_UNIQUE_BRANCH, or bytes that are shown as they are.
+fn put_other(text: &mut String, bytes: &[u8], error: FrameError) -> Result<(), AllocError> {
+    if let Some(uid) = branch_uid(bytes) {
+        return write!(text, "{uid} answers: DISC_UNIQUE_BRANCH");
+    }
+    write!(text, "no frame ({error}): ")?;
+    put_hex(text, bytes)
+}
+
+fn put_frame(
+    text: &mut String,
+    frame: &FrameView<'_>,
+    known: &Known<'_>,
+) -> Result<(), AllocError> {
+    let Some(class) = Class::of(frame.class) else {
+        put_stranger(text, frame)?;
+        return put_plain_line(text, frame.body);
+    };
+    if !class.is_response() {
+        put_request(text, class, frame)?;
+        let layout = layout_of(Some(class), frame.pid);
+        return put_data_lines(text, layout, frame.body, &known.at(frame.dst));
+    }
+    put_response(text, class, frame)?;
+    match (frame.port, frame.body) {
+        // These data stand in the header.
+        (ACK_TIMER | NACK_REASON, [_, _]) => Ok(()),
+        (ACK_TIMER | NACK_REASON, data) => put_plain_line(text, data),
+        (_, data) => {
+            let layout = layout_of(Some(class), frame.pid);
+            put_data_lines(text, layout, data, &known.at(frame.src))
+        }
+    }
+}
+
+/// The lines of data, if there is something to say.
+pub(crate) fn put_data_lines(
+    text: &mut String,
+    layout: Layout,
+    data: &[u8],
+    known: &Known<'_>,
+) -> Result<(), AllocError> {
+    match layout.form {
+        Form::Nothing => put_plain_line(text, data),
+        Form::List(list) => put_entries(text, list, data, known),
+        _ => {
+            text.push_str(DATA_LINE)?;
+            put_value(text, layout, data, known)
+        }
+    }
+}
+
+/// A line of data that have no words, if there are any.
+fn put_plain_line(text: &mut String, data: &[u8]) -> Result<(), AllocError> {
+    if data.is_empty() {
+        return Ok(());
+    }
+    text.push_str(DATA_LINE)?;
+    put_data(text, data)
+}

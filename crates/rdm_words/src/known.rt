@@ -1,0 +1,58 @@
+//! What is known of a fixture beforehand.
+
+use rdm_device::{Profile, SensorDef, StatusText};
+use rdm_frame::Uid;
+
+/// What is known of the fixture that frames speak of, and doesn't stand in the frames: the units of its sensors, and what
+/// its own status IDs mean. It is used for the frames of that fixture alone, and for the lines of a trace that say nothing of
+/// a device.
+#[derive(Clone, Copy)]
+pub struct Known<'a> {
+    uid: Option<Uid>,
+    sensors: &'a [SensorDef],
+    status_texts: &'a [StatusText],
+}
+
+impl<'a> Known<'a> {
+    /// Nothing: numbers stand where the standard has no name.
+    pub fn nothing() -> Known<'a> {
+        Known {
+            uid: None,
+            sensors: &[],
+            status_texts: &[],
+        }
+    }
+
+    /// The fixture with this UID and this profile.
+    pub fn of(uid: Uid, profile: &'a Profile) -> Known<'a> {
+        Known {
+            uid: Some(uid),
+            sensors: profile.sensors.as_slice(),
+            status_texts: profile.status_texts.as_slice(),
+        }
+    }
+
+    /// What is known of the device with this UID.
+    pub(crate) fn at(&self, uid: Uid) -> Known<'a> {
+        if self.uid == Some(uid) {
+            *self
+        } else {
+            Known::nothing()
+        }
+    }
+
+    /// The sensor with this number.
+    pub(crate) fn sensor(&self, number: u8) -> Option<&'a SensorDef> {
+        self.sensors.get(usize::from(number))
+    }
+
+    /// The text of a status ID of the fixture's own.
+    pub(crate) fn status_text(&self, id: u16) -> Option<&'a [u8]> {
+        for status in self.status_texts {
+            if status.id == id {
+                return Some(status.text.as_slice());
+            }
+        }
+        None
+    }
+}

@@ -1,0 +1,35 @@
+//! What frames of RDM and traces say, in words (ANSI E1.20-2010): who asks whom, the parameter by its name, and the data by
+//! their fields, units and enumerations.
+//!
+//! `words` reads a whole text, of which each line is a line of a trace or a frame in hexadecimal digits, as a sniffer
+//! writes it. No line is lost: one that is neither is shown as it stands. `docs/WORDS.md` has the forms.
+#![tactic(auto)]
+
+mod class;
+mod cut;
+mod device_info;
+mod digits;
+mod discovery;
+mod form;
+mod frame_words;
+mod header;
+mod known;
+mod layout;
+mod line_words;
+mod lists;
+mod place;
+mod report;
+mod sensors;
+mod short;
+mod slots;
+mod statuses;
+pub mod tables;
+mod text;
+mod trace_line;
+mod trace_words;
+mod values;
+
+pub use known::Known;
+pub use line_words::{put_line_words, words};
+pub use short::{put_reply_words, put_request_words};
+pub use trace_line::{JobName, TraceLine, trace_line};

@@ -1,0 +1,14 @@
+//! Where in a device.
+
+use rdm_frame::standard::{ROOT_DEVICE, SUB_DEVICE_ALL_CALL};
+use std::alloc::AllocError;
+use std::fmt::Write;
+
+/// The root, a sub-device, or all of them (E1.20 section 6.2.9).
+pub(crate) fn put_place(text: &mut String, sub: u16) -> Result<(), AllocError> {
+    match sub {
+        ROOT_DEVICE => text.push_str("root"),
+        SUB_DEVICE_ALL_CALL => text.push_str("all sub-devices"),
+        _ => write!(text, "sub-device {sub}"),
+    }
+}

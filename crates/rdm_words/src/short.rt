@@ -1,0 +1,142 @@
+//! What a frame says in a few words, for a picture.
+
+use crate::Known;
+use crate::class::Class;
+use crate::device_info::put_product_in_short;
+use crate::discovery::branch_uid;
+use crate::form::{Form, Layout};
+use crate::header::put_response_type;
+use crate::layout::layout_of;
+use crate::place::put_place;
+use crate::sensors::put_sensor_in_short;
+use crate::tables::parameters::parameter;
+use crate::tables::replies::nack_reason;
+use crate::values::put_value;
+use rdm_frame::standard::{ACK, ACK_TIMER, NACK_REASON, ROOT_DEVICE};
+use rdm_frame::{FrameView, decode_view};
+use std::alloc::AllocError;
+use std::fmt::Write;
+
+/// The most bytes of the words of data.
+const LONGEST_VALUE: usize = 64;
+
+/// Puts what a request says at the end, in one line of at most some 80 characters without its line end, as `GET DEVICE_INFO`
+/// or `SET DMX_START_ADDRESS: 101`. Bytes that are no frame are named as such.
+pub fn put_request_words(
+    out: &mut Vec<u8>,
+    bytes: &[u8],
+    known: &Known<'_>,
+) -> Result<(), AllocError> {
+    let mut text = String::new(*out.allocator());
+    match decode_view(bytes) {
+        Ok(frame) => put_request(&mut text, &frame, &known.at(frame.dst))?,
+        Err(error) => write!(text, "no frame: {error}")?,
+    }
+    out.extend_from_slice(text.as_bytes())
+}
+
+/// Puts what a reply says at the end, in one line of at most some 80 characters without its line end, as `ACK`,
+/// `ACK_TIMER 5.0 s` or `NACK: data out of range`. Bytes that are no frame and no answer to discovery are named as such.
+pub fn put_reply_words(
+    out: &mut Vec<u8>,
+    bytes: &[u8],
+    known: &Known<'_>,
+) -> Result<(), AllocError> {
+    let mut text = String::new(*out.allocator());
+    match decode_view(bytes) {
+        Ok(frame) => put_reply(&mut text, &frame, &known.at(frame.src))?,
+        Err(error) => match branch_uid(bytes) {
+            Some(uid) => write!(text, "{uid}")?,
+            None => write!(text, "no frame: {error}")?,
+        },
+    }
+    out.extend_from_slice(text.as_bytes())
+}
+
+fn put_request(
+    text: &mut String,
+    frame: &FrameView<'_>,
+    known: &Known<'_>,
+) -> Result<(), AllocError> {
+    match Class::of(frame.class) {
+        Some(class) => {
+            text.push_str(class.name())?;
+            put_subject(text, frame)?;
+            put_short_value(text, class, frame, known)
+        }
+        None => put_unknown(text, frame),
+    }
+}
+
+fn put_reply(
+    text: &mut String,
+    frame: &FrameView<'_>,
+    known: &Known<'_>,
+) -> Result<(), AllocError> {
+    let Some(class) = Class::of(frame.class) else {
+        return put_unknown(text, frame);
+    };
+    match (frame.port, frame.body) {
+        (ACK, _) => {
+            text.push_str("ACK")?;
+            put_subject(text, frame)?;
+            put_short_value(text, class, frame, known)
+        }
+        (NACK_REASON, [a, b]) => put_reason(text, u16::from_be_bytes([*a, *b])),
+        _ => put_response_type(text, frame.port, frame.body),
+    }
+}
+
+/// Why a request is refused.
+fn put_reason(text: &mut String, code: u16) -> Result<(), AllocError> {
+    match nack_reason(code) {
+        Some(reason) => write!(text, "NACK: {reason}"),
+        None => write!(text, "NACK: reason {code:04X}"),
+    }
+}
+
+/// A frame with a command class that the standard doesn't have.
+fn put_unknown(text: &mut String, frame: &FrameView<'_>) -> Result<(), AllocError> {
+    let class = frame.class;
+    write!(text, "command class {class:02X}")?;
+    put_subject(text, frame)
+}
+
+/// The parameter, and the sub-device where it isn't the root.
+fn put_subject(text: &mut String, frame: &FrameView<'_>) -> Result<(), AllocError> {
+    let pid = frame.pid;
+    match parameter(pid) {
+        Some(name) => write!(text, " {name}")?,
+        None => write!(text, " {pid:04X}")?,
+    }
+    if frame.sub == ROOT_DEVICE {
+        return Ok(());
+    }
+    text.push_str(", ")?;
+    put_place(text, frame.sub)
+}
+
+/// A colon and the data, if there are any.
+fn put_short_value(
+    text: &mut String,
+    class: Class,
+    frame: &FrameView<'_>,
+    known: &Known<'_>,
+) -> Result<(), AllocError> {
+    let data = frame.body;
+    let form = layout_of(Some(class), frame.pid).form;
+    if data.is_empty() && !matches!(form, Form::List(_)) {
+        return Ok(());
+    }
+    let mut value = String::new(*text.allocator());
+    match form {
+        Form::DeviceInfo => put_product_in_short(&mut value, data)?,
+        Form::SensorDefinition => put_sensor_in_short(&mut value, data)?,
+        _ => put_value(&mut value, Layout { noun: "", form }, data, known)?,
+    }
+    if value.len() > LONGEST_VALUE {
+        let slots = data.len();
+        return write!(text, ": {slots} slots of data");
+    }
+    write!(text, ": {value}")
+}

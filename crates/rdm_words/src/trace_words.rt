@@ -1,0 +1,142 @@
+//! The words of the lines of a trace.
+
+use crate::class::Class;
+use crate::frame_words::{put_bytes_words, put_data_lines};
+use crate::header::put_parameter;
+use crate::layout::layout_of;
+use crate::place::put_place;
+use crate::statuses::{Status, put_failure};
+use crate::text::put_quoted;
+use crate::{JobName, Known, TraceLine};
+use rdm_bus::{Fault, Heard};
+use rdm_params::{Change, Message, Outcome};
+use std::alloc::AllocError;
+use std::fmt::Write;
+
+/// The words of a line of a trace.
+pub(crate) fn put_trace_line(
+    text: &mut String,
+    line: &TraceLine,
+    known: &Known<'_>,
+) -> Result<(), AllocError> {
+    match line {
+        TraceLine::Send { bytes, fault } => {
+            put_bytes_words(text, bytes.as_slice(), known)?;
+            put_fault(text, *fault)
+        }
+        TraceLine::Reply(Some(bytes)) => put_bytes_words(text, bytes.as_slice(), known),
+        TraceLine::Reply(None) => text.push_str("no reply"),
+        TraceLine::Job(job) => {
+            put_job(text, job)?;
+            text.push_str(" starts")
+        }
+        TraceLine::Heard(heard) => text.push_str(heard_words(*heard)),
+        TraceLine::Arrive { job, outcome } => {
+            put_job(text, job)?;
+            put_outcome(text, *outcome, known)
+        }
+        TraceLine::Panel { change, refused } => put_panel(text, change, *refused),
+        TraceLine::Message(message) => put_message(text, message, known),
+        TraceLine::End => text.push_str("end of the trace"),
+    }
+}
+
+/// What goes wrong with a transaction, on a line of its own.
+fn put_fault(text: &mut String, fault: Fault) -> Result<(), AllocError> {
+    match fault {
+        Fault::None => Ok(()),
+        Fault::LostRequest => text.push_str("\n  the request is lost"),
+        Fault::LostReply => text.push_str("\n  the reply is lost"),
+        Fault::BadRequest(slot, raise) => {
+            write!(
+                text,
+                "\n  the request is altered: slot {slot} raised by {raise}"
+            )
+        }
+        Fault::BadReply(slot, raise) => {
+            write!(
+                text,
+                "\n  the reply is altered: slot {slot} raised by {raise}"
+            )
+        }
+    }
+}
+
+fn put_job(text: &mut String, job: &JobName) -> Result<(), AllocError> {
+    let (worker, number) = (job.worker, job.number);
+    write!(text, "job {number} of worker {worker}")
+}
+
+/// What the controller took a reply for.
+fn heard_words(heard: Option<Heard>) -> &'static str {
+    match heard {
+        Some(Heard::Message) => "the controller records the message",
+        Some(Heard::Reply) => "the controller has its reply",
+        Some(Heard::Ignored) => "the controller ignores what it hears",
+        None => "the controller hears nothing",
+    }
+}
+
+/// How a job ended.
+fn put_outcome(text: &mut String, outcome: Outcome, known: &Known<'_>) -> Result<(), AllocError> {
+    match outcome {
+        Outcome::Done => text.push_str(" is done"),
+        Outcome::Reading(value) => write!(text, " has measured {value}"),
+        Outcome::Failed {
+            severity,
+            id,
+            v1,
+            v2,
+        } => {
+            text.push_str(" has failed: ")?;
+            let status = Status {
+                sub: 0,
+                severity: severity.code(),
+                id,
+                first: v1,
+                second: v2,
+            };
+            put_failure(text, &status, known)
+        }
+    }
+}
+
+/// A change at the fixture's own menu.
+fn put_panel(text: &mut String, change: &Change, refused: bool) -> Result<(), AllocError> {
+    text.push_str("at the fixture's menu: ")?;
+    match change {
+        Change::Start(start) => write!(text, "DMX start address {start}")?,
+        Change::Personality(number) => write!(text, "personality {number}")?,
+        Change::Label(label) => {
+            text.push_str("device label ")?;
+            put_quoted(text, label.as_slice())?;
+        }
+    }
+    if refused {
+        return text.push_str(", refused");
+    }
+    Ok(())
+}
+
+/// A message that the controller recorded.
+fn put_message(text: &mut String, message: &Message, known: &Known<'_>) -> Result<(), AllocError> {
+    text.push_str("recorded: ")?;
+    let class = Class::of(message.class);
+    match class {
+        Some(class) => text.push_str(class.name())?,
+        None => {
+            let code = message.class;
+            write!(text, "command class {code:02X}")?;
+        }
+    }
+    text.push(' ')?;
+    put_parameter(text, message.pid)?;
+    text.push_str(", ")?;
+    put_place(text, message.sub)?;
+    put_data_lines(
+        text,
+        layout_of(class, message.pid),
+        message.body.as_slice(),
+        known,
+    )
+}
