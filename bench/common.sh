@@ -30,3 +30,21 @@ find_compiler() {
         exit 1
     fi
 }
+
+# The C functions that a static library calls: they lie beside the page that rt doc names.
+c_archive() {
+    printf '%s/c/liblibc_c.a\n' "$(dirname "$(rt doc)")"
+}
+
+# Builds $made/driver, which hears the rows of a file of frames in-process, over the library of crates/rdm_bench.
+build_driver() {
+    build_library "$made/lib.log"
+    "$compiler" -std=c11 -D_POSIX_C_SOURCE=200809L -O3 -Wall -Wextra \
+        -Wl,--wrap=malloc,--wrap=calloc,--wrap=realloc \
+        "$bench/driver.c" "$crate/out/librdm_bench.a" "$(c_archive)" -o "$made/driver"
+}
+
+# How many instructions a program executes, with these arguments.
+instructions_of() {
+    valgrind --tool=callgrind --callgrind-out-file=/dev/null "$@" 2>&1 >/dev/null | sed -n 's/.*Collected : //p'
+}

@@ -1,0 +1,42 @@
+//! A loop of writes.
+
+ghost use Rattle.std.specs.Prelude.{◌≡◌, ◌≤◌, ℕ, length, take, OnOk, OnErr, MatchResult};
+ghost use Rattle.std.specs.Io.KnownBytes.{Keeps, Appends};
+
+use std::io::Write;
+use thiserror::Error;
+
+/// A writer that failed, or took no byte.
+#[derive(Clone, Copy, Debug, PartialEq, Eq, Error)]
+#[error("write")]
+pub struct WriteFault;
+
+/// Writes all of the bytes, in as many writes as the writer wants. After a write that failed or took no byte, none is
+/// tried again.
+pub fn write_all<W: Write>(writer: &mut W, bytes: &[u8]) -> Result<(), WriteFault>
+    ensures ok { OnOk result (Appends (W.contents writer.old) (W.contents writer.new) bytes.now) }
+    // Where it failed, a front of the bytes is written.
+    ensures front { OnErr result ((count : ℕ) × Appends (W.contents writer.old) (W.contents writer.new) (take count bytes.now)) }
+{
+    let mut written = 0;
+    while written < bytes.len() {
+        let count = write_some(writer, &bytes[written..])?;
+        if count == 0 {
+            return Err(WriteFault);
+        }
+        written += count;
+    }
+    Ok(())
+}
+
+/// One write. A write that fails is a fault.
+fn write_some<W: Write>(writer: &mut W, bytes: &[u8]) -> Result<usize, WriteFault>
+    ensures bytes { MatchResult result
+        (λ count. (count ≤ length bytes.now) × Appends (W.contents writer.old) (W.contents writer.new) (take count bytes.now))
+        (λ _. Keeps (W.contents writer.old) (W.contents writer.new)) }
+{
+    match writer.write(bytes) {
+        Ok(count) => Ok(count),
+        Err(_) => Err(WriteFault),
+    }
+}

@@ -1,0 +1,73 @@
+//! What is answered to a message.
+
+ghost use Rattle.std.specs.Prelude.{◌≡◌, ◌≤◌, ℕ, List, length, IfOk};
+
+use crate::desk::Desk;
+use crate::framing::{MessageView, Packet, packet_of};
+use rdm_frame::{Bytes, Wire};
+
+/// From the host: which parameters the interface has. To the host: these.
+const PARAMETERS: u8 = 3;
+
+/// To the host: bytes that came from the line.
+const FROM_LINE: u8 = 5;
+
+/// From the host: an RDM request for the line.
+const REQUEST: u8 = 7;
+
+/// From the host: which serial number the interface has. To the host: this.
+const SERIAL_NUMBER: u8 = 10;
+
+/// From the host: an RDM discovery request for the line.
+const DISCOVERY: u8 = 11;
+
+/// To the host: nothing came from the line, or nothing more.
+const TIMEOUT: u8 = 12;
+
+/// Firmware 2.4, a break of 9 and a mark of 1 times 10.67 µs, and 40 packets a second.
+const PARAMETER_BYTES: [u8; 5] = [0x04, 0x02, 9, 1, 40];
+
+const SERIAL_BYTES: [u8; 4] = [0x01, 0x00, 0x00, 0x00];
+
+/// The bytes of the answer to a message that comes now.
+pub(crate) fn answer(desk: &mut Desk, now: u64, message: &MessageView<'_>) -> Packet {
+    match message.label {
+        PARAMETERS => packet_of(PARAMETERS, &PARAMETER_BYTES),
+        SERIAL_NUMBER => packet_of(SERIAL_NUMBER, &SERIAL_BYTES),
+        REQUEST => answer_request(desk, now, message.body),
+        DISCOVERY => answer_discovery(desk, now, message.body),
+        _ => Bytes::new(),
+    }
+}
+
+/// The answer to a request for the line: the reply, or that none came.
+fn answer_request(desk: &mut Desk, now: u64, request: &[u8]) -> Packet {
+    let mut reply = Wire::new();
+    if desk.hear(now, request, &mut reply) {
+        from_line(&reply)
+    } else {
+        packet_of(TIMEOUT, &[])
+    }
+}
+
+/// The answer to a discovery request: the reply, if one came, and the end.
+fn answer_discovery(desk: &mut Desk, now: u64, request: &[u8]) -> Packet {
+    let mut reply = Wire::new();
+    let mut packet = if desk.hear(now, request, &mut reply) {
+        from_line(&reply)
+    } else {
+        Bytes::new()
+    };
+    packet.append(packet_of(TIMEOUT, &[]).as_slice());
+    packet
+}
+
+/// The message with what came from the line. Its first byte says that nothing went wrong.
+fn from_line(reply: &Wire) -> Packet
+    ensures { length result ≤ 263 }
+{
+    let mut body: Bytes<258> = Bytes::new();
+    body.append(&[0]);
+    body.append(reply.as_slice());
+    packet_of(FROM_LINE, body.as_slice())
+}
