@@ -9,7 +9,10 @@ mod fixture;
 mod play;
 mod source;
 mod system;
+mod telling;
 mod usage;
+mod widget;
+mod words;
 
 use clap::ArgMatches;
 use clap::error::ErrorKind;
@@ -20,7 +23,7 @@ use std::process::ExitCode;
 use system::System;
 
 fn main(rt: HostRuntime) -> ExitCode {
-    let words = match words(rt) {
+    let words = match command_line(rt) {
         Ok(words) => words,
         Err(fault) => return end(rt, &fault),
     };
@@ -35,7 +38,7 @@ fn main(rt: HostRuntime) -> ExitCode {
 }
 
 /// The words of the command line.
-fn words<'a>(rt: HostRuntime) -> Result<Vec<String>, Fault<'a>> {
+fn command_line<'a>(rt: HostRuntime) -> Result<Vec<String>, Fault<'a>> {
     let args = match env::args(&rt) {
         Ok(args) => args,
         Err(_) => return Err(Fault::Words),
@@ -47,7 +50,9 @@ fn words<'a>(rt: HostRuntime) -> Result<Vec<String>, Fault<'a>> {
 fn run<'a, S: System>(rt: S, matches: &ArgMatches<'a>) -> Result<(), Fault<'a>> {
     match matches.subcommand() {
         Some(("play", asked)) => play::run(rt, asked),
+        Some(("words", asked)) => words::run(rt, asked),
         Some(("fixture", asked)) => fixture::run(rt, asked),
+        Some(("widget", asked)) => widget::run(rt, asked),
         _ => Ok(()),
     }
 }

@@ -14,24 +14,14 @@ const MOST_DATA: usize = 231;
 /// first command that can't be sent, or the one `settle` that there is.
 pub fn stopped_line(script: &[u8], error: RunError) -> Option<usize> {
     let mut found = None;
-    let mut number = 1usize;
-    let mut rest = script;
-    while !rest.is_empty() {
-        let end = rest.iter().position(|b| *b == b'\n').unwrap_or(rest.len());
-        if stops_at(&rest[..end], error) {
-            if found.is_some() {
-                return None;
-            }
-            found = Some(number);
-            if error != RunError::Unsettled {
-                return found;
+    for (index, line) in script.split(|b| *b == b'\n').enumerate() {
+        if stops_at(line, error) {
+            match found {
+                None if error == RunError::Unsettled => found = index.checked_add(1),
+                None => return index.checked_add(1),
+                Some(_) => return None,
             }
         }
-        if end == rest.len() {
-            return found;
-        }
-        rest = &rest[end + 1..];
-        number = number.saturating_add(1);
     }
     found
 }
