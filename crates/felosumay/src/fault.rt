@@ -39,8 +39,8 @@ pub enum Fault<'a> {
     NoText(&'a str),
     /// A file is no document of TOML.
     Syntax(&'a str, toml::de::Error),
-    /// A file is no fixture.
-    Fixture(&'a str, Refusal),
+    /// A file is no fixture, by this line of it if it is known (else 0).
+    Fixture(&'a str, usize, Refusal),
     /// There can be no device of the fixture.
     NoDevice,
 }
@@ -71,7 +71,10 @@ impl<'a> Fault<'a> {
         match error {
             FixtureError::OutOfMemory => Fault::Memory,
             FixtureError::Syntax(error) => Fault::Syntax(name, error),
-            FixtureError::Refused(refusal) => Fault::Fixture(name, refusal),
+            FixtureError::Refused(refusal) => {
+                let line = refusal.line;
+                Fault::Fixture(name, line, Refusal { line: 0, ..refusal })
+            }
         }
     }
 
@@ -82,7 +85,7 @@ impl<'a> Fault<'a> {
             | Fault::NoScript(_, _)
             | Fault::NoText(_)
             | Fault::Syntax(_, _)
-            | Fault::Fixture(_, _)
+            | Fault::Fixture(_, _, _)
             | Fault::NoDevice => 1,
             Fault::Memory => 2,
             Fault::Stopped(_, _, _) => 3,
@@ -139,7 +142,8 @@ impl fmt::Display for Fault<'_> {
             Fault::Stopped(name, line, error) => write_stop(f, name, *line, *error),
             Fault::NoText(name) => write!(f, "{name}: no text in UTF-8"),
             Fault::Syntax(name, error) => write!(f, "{name}: {error}"),
-            Fault::Fixture(name, refusal) => write!(f, "{name}: {refusal}"),
+            Fault::Fixture(name, 0, refusal) => write!(f, "{name}: {refusal}"),
+            Fault::Fixture(name, line, refusal) => write!(f, "{name}:{line}: {refusal}"),
             Fault::NoDevice => f.write_str("error: there can be no such device"),
         }
     }

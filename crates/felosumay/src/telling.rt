@@ -51,7 +51,7 @@ fn tell_unit(rt: &impl Print, kind: &str, unit: &Unit) -> io::Result<()> {
     for (index, personality) in unit.personalities.iter().enumerate() {
         let name = words(&personality.name);
         let footprint = personality.footprint;
-        println!(rt; "  personality {}: \"{name}\", {footprint} slots", index + 1)?;
+        println!(rt; "  personality {}: \"{name}\", footprint {footprint}", index + 1)?;
     }
     Ok(())
 }
@@ -87,7 +87,8 @@ fn tell_sensor(rt: &impl Print, number: usize, sensor: &SensorDef) -> io::Result
     let known = sensor_type(*kind).unwrap_or("sensor type");
     print!(rt; "  sensor {number}: \"{name}\", {known} ({kind:02X})")?;
     match (unit_prefix(*prefix), sensor_unit(*unit)) {
-        (Some(prefix), Some(unit)) => print!(rt; " in \"{prefix}{unit}\"")?,
+        (Some(""), Some("")) => {}
+        (Some(prefix), Some(unit)) => print!(rt; " in {prefix}{unit}")?,
         _ => print!(rt; " in unit {unit:02X} with prefix {prefix:02X}")?,
     }
     println!(rt; ", range {low} to {high}, normally {normal_low} to {normal_high}")

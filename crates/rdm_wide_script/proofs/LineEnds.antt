@@ -1,7 +1,8 @@
 -- How many lines of a text are ended, piece by piece.
-use Rattle.std.proofs.Common.{◌≡◌, ℕ, ◌+◌, ◌==◌, List, length, take, drop, position, Some, None, ap, arith, ◌∙◌, sym}
+use Rattle.std.proofs.Common.{◌≡◌, ℕ, ◌+◌, ◌==◌, cond, List, [], ◌∷◌, ◌++◌, length, take, drop, position, Some, None, ap, arith, ◌∙◌, sym}
 use Rattle.std.specs.List.{slice_split}
 use Rattle.std.proofs.lemmas.List.Splits.{length-slice_split}
+use Rattle.std.proofs.lemmas.List.Sums.{sum_by-append}
 use Rattle.rdm_script.proofs.Pieces.{pieces_more, pieces_last}
 use Rattle.rdm_wide_script.specs.Lines.{line_ends}
 
@@ -16,3 +17,7 @@ pub ends_none : (text : List ℕ) → position (λ b. b == 10) text ≡ None →
 ends_none text h =
     let pieces = ap length (pieces_last (λ b. b == 10) text h) in
     omega (arith, pieces, length-slice_split (λ b. b == 10) text)
+
+-- one more line is ended
+pub ends_push : (text : List ℕ) → line_ends (text ++ 10 ∷ []) ≡ line_ends text + 1
+ends_push text = sum_by-append (λ b. cond (b == 10) 1 0) text (10 ∷ [])

@@ -42,6 +42,7 @@ pub(crate) fn pid_in(word: &[u8]) -> Option<u16> {
 /// The data that a word says: a hyphen for none, two hexadecimal digits for each byte, or a text in double quotes.
 pub(crate) fn load_in(word: &[u8]) -> Result<Load, Wanted> {
     match word {
+        [] => Err(Wanted::Load),
         b"-" => Ok(Load::new()),
         [b'"', text @ .., b'"'] => text_load(text),
         [b'"', ..] => Err(Wanted::QuoteEnd),

@@ -1,6 +1,6 @@
 //! From a script as people write it to the same in the words of rdm_script.
 
-ghost use Rattle.std.specs.Prelude.{◌≡◌, ◌≢◌, ℕ, List, ◌==◌, ◌<◌, length, position, IfOk, IfErr, OnOk, IfSome};
+ghost use Rattle.std.specs.Prelude.{◌≡◌, ◌≢◌, ℕ, List, ◌==◌, ◌<◌, length, position, true, IfOk, IfErr, OnOk, IfSome, MatchResult};
 ghost use Rattle.rdm_crew.specs.declared.step.CrewStep.{CrewStep as TheStep};
 ghost use Rattle.rdm_script.specs.declared.script.Setup.{Setup as TheSetup};
 ghost use Rattle.rdm_script.specs.Spelling.{IsScript};
@@ -15,9 +15,6 @@ use rdm_frame::digits::digit;
 use rdm_script::{ScriptError, parse};
 use std::alloc::{AllocError, Global};
 
-/// How many bytes a script may have.
-const MOST_BYTES: usize = 65_536;
-
 /// The script in the words of rdm_script, line by line.
 pub fn narrowed(alloc: Global, text: &[u8]) -> Result<Vec<u8>, WideError>
     // A script of rdm_script stays as it is.
@@ -29,14 +26,32 @@ pub fn narrowed(alloc: Global, text: &[u8]) -> Result<Vec<u8>, WideError>
     // It has as many lines as before.
     ensures lines { IfOk result (λ narrow. line_ends narrow.items ≡ line_ends text.now) }
 {
-    if text.len() > MOST_BYTES {
-        return Err(WideError::TooLong);
+    if is_narrow(alloc, text)? {
+        copied(alloc, text)
+    } else {
+        lines_narrowed(alloc, text)
     }
+}
+
+/// Whether a text is a script of rdm_script.
+fn is_narrow(alloc: Global, text: &[u8]) -> Result<bool, WideError>
+    ensures { (setup : TheSetup) (steps : List TheStep) → IsScript text.now setup steps →
+        MatchResult result (λ narrow. narrow ≡ true) (λ e. e ≡ OutOfMemory) }
+{
     match parse(alloc, text) {
-        Ok(_) => Ok(text.to_vec(alloc)?),
+        Ok(_) => Ok(true),
         Err(ScriptError::OutOfMemory) => Err(WideError::OutOfMemory),
-        Err(_) => lines_narrowed(alloc, text),
+        Err(ScriptError::TooLong) => Err(WideError::TooLong),
+        Err(ScriptError::Line(_)) => Ok(false),
     }
+}
+
+/// The text again.
+fn copied(alloc: Global, text: &[u8]) -> Result<Vec<u8>, WideError>
+    ensures ok { IfOk result (λ copy. copy.items ≡ text.now) }
+    ensures err { IfErr result (λ e. e ≡ OutOfMemory) }
+{
+    Ok(text.to_vec(alloc)?)
 }
 
 /// Each line in the words of rdm_script.

@@ -1,5 +1,8 @@
 //! Why bytes are no script, and where.
 
+ghost use Rattle.std.specs.Prelude.{◌≡◌};
+ghost use Rattle.rdm_wide_script.specs.declared.refusal.WideError.TheVariants.{OutOfMemory};
+
 use crate::words::Word;
 use arrayvec::ArrayVec;
 use std::alloc::{AllocError, AllocFailed};
@@ -186,12 +189,16 @@ impl fmt::Display for WideError {
 impl Error for WideError {}
 
 impl<T: Drop> From<AllocFailed<T>> for WideError {
+    ghost from_gives = { λ _ e. e ≡ OutOfMemory };
+
     fn from(_error: AllocFailed<T>) -> WideError {
         WideError::OutOfMemory
     }
 }
 
 impl From<AllocError> for WideError {
+    ghost from_gives = { λ _ e. e ≡ OutOfMemory };
+
     fn from(_error: AllocError) -> WideError {
         WideError::OutOfMemory
     }
