@@ -1,0 +1,114 @@
+//! The looks that things have, as classes of the style sheet.
+
+/// How an element looks.
+#[derive(Clone, Copy)]
+pub(crate) enum Class {
+    /// The page itself.
+    Page,
+    /// The text above the chart.
+    Title,
+    /// The text above the recorded messages.
+    Section,
+    /// The head of the responder.
+    Device,
+    /// The head of any other party.
+    Party,
+    /// The name in a head.
+    Name,
+    /// A lifeline.
+    Life,
+    /// The line above a transaction.
+    Rule,
+    /// The number of a transaction, or of a recorded message.
+    Count,
+    /// The words of a request.
+    Request,
+    /// Any other words.
+    Words,
+    /// A remark, and one that ends where it is put.
+    Note,
+    NoteBefore,
+    /// An arrow, and its tip.
+    Arrow,
+    Tip,
+    /// The arrow of what is altered on the way, and its tip.
+    Altered,
+    AlteredTip,
+    /// The arrow of what is lost on the way, and the cross at its end.
+    Lost,
+    Cross,
+    /// The tag of a recorded message, and the words in it.
+    Tag,
+    TagName,
+}
+
+impl Class {
+    /// Its name in the style sheet.
+    pub(crate) fn name(self) -> &'static str {
+        match self {
+            Class::Page => "page",
+            Class::Title => "title",
+            Class::Section => "section",
+            Class::Device => "device",
+            Class::Party => "party",
+            Class::Name => "name",
+            Class::Life => "life",
+            Class::Rule => "rule",
+            Class::Count => "count",
+            Class::Request => "request",
+            Class::Words => "words",
+            Class::Note => "note",
+            Class::NoteBefore => "note before",
+            Class::Arrow => "arrow",
+            Class::Tip => "tip",
+            Class::Altered => "arrow altered",
+            Class::AlteredTip => "tip altered-tip",
+            Class::Lost => "arrow lost",
+            Class::Cross => "cross",
+            Class::Tag => "tag",
+            Class::TagName => "tag-name",
+        }
+    }
+}
+
+/// The style sheet: for a light page, and then what is different on a dark one.
+pub(crate) const STYLE: &str = "<style>
+text { font: 13px Helvetica, Arial, sans-serif; fill: #1e293b; }
+.page { fill: #f1f5f9; stroke: #94a3b8; stroke-width: 2; }
+.title { font-size: 17px; font-weight: bold; }
+.section { font-size: 15px; font-weight: bold; }
+.device { fill: #bfdbfe; stroke: #2563eb; }
+.party { fill: #fde3b8; stroke: #a16207; }
+.name { font-size: 14px; font-weight: bold; text-anchor: middle; }
+.life { stroke: #64748b; stroke-width: 1.5; stroke-dasharray: 4 4; }
+.rule { stroke: #cbd5e1; }
+.count { fill: #64748b; }
+.request { font-weight: bold; }
+.note { font-size: 12px; font-style: italic; fill: #64748b; }
+.before { text-anchor: end; }
+.arrow { stroke: #334155; stroke-width: 2; fill: none; }
+.tip { fill: #334155; }
+.altered { stroke: #b45309; stroke-dasharray: 8 5; }
+.altered-tip { fill: #b45309; }
+.lost { stroke: #b91c1c; }
+.cross { stroke: #b91c1c; stroke-width: 2.5; fill: none; }
+.tag { fill: #dcfce7; stroke: #15803d; }
+.tag-name { font-size: 12px; text-anchor: middle; fill: #14532d; }
+@media (prefers-color-scheme: dark) {
+text { fill: #e2e8f0; }
+.page { fill: #0f172a; stroke: #475569; }
+.device { fill: #1e3a8a; stroke: #60a5fa; }
+.party { fill: #713f12; stroke: #eab308; }
+.life { stroke: #94a3b8; }
+.rule { stroke: #334155; }
+.count, .note { fill: #94a3b8; }
+.arrow { stroke: #cbd5e1; }
+.tip { fill: #cbd5e1; }
+.altered { stroke: #fbbf24; }
+.altered-tip { fill: #fbbf24; }
+.lost, .cross { stroke: #f87171; }
+.tag { fill: #14532d; stroke: #4ade80; }
+.tag-name { fill: #dcfce7; }
+}
+</style>
+";

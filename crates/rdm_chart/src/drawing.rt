@@ -1,0 +1,149 @@
+//! A chart that is being drawn, from the top downwards.
+
+use crate::arrow::Arrow;
+use crate::cast::Cast;
+use crate::class::Class;
+use crate::heads::draw_heads;
+use crate::layout::{
+    BASE, BELOW_ARROW, CONTROLLER_X, GAP, HEAD_HEIGHT, LINE_HEIGHT, PADDING, Px, RESPONDER_X, TOP,
+    WORK_X,
+};
+use crate::lettering::broken_lines;
+use crate::lines::Line;
+use crate::recorded::draw_message;
+use crate::svg::Svg;
+use crate::transaction::{draw_heard, draw_reply, draw_request};
+use crate::wording::line_words;
+use crate::work::{draw_change, draw_job, draw_report};
+use rdm_bus::Fault;
+use rdm_words::{Known, TraceLine};
+use std::alloc::{AllocError, Global};
+
+/// A chart that is drawn so far.
+#[derive(Drop)]
+pub(crate) struct Drawing {
+    /// Those who take part.
+    pub(crate) cast: Cast,
+    /// What lies behind the lifelines.
+    pub(crate) back: Svg,
+    /// What lies before them.
+    pub(crate) front: Svg,
+    /// How far the chart reaches.
+    pub(crate) y: Px,
+    /// How far the lifelines reach, once they have ended.
+    pub(crate) lives_to: Option<Px>,
+    /// How many transactions are drawn.
+    pub(crate) transactions: u64,
+    /// What goes wrong with the last of them.
+    pub(crate) fault: Fault,
+    /// Whether there is room on the right of the last arrow, as beside a reply.
+    pub(crate) has_room_beside: bool,
+    /// How many messages the controller has recorded.
+    pub(crate) recorded: u64,
+    /// How many of them are listed below the lifelines.
+    pub(crate) listed: u64,
+}
+
+/// The words of an arrow: how they look, and a remark below them, which may be empty.
+#[derive(Clone, Copy)]
+pub(crate) struct Label<'a> {
+    pub(crate) class: Class,
+    pub(crate) words: &'a str,
+    pub(crate) note: &'a str,
+}
+
+impl Drawing {
+    /// The heads of those who take part.
+    pub(crate) fn new(alloc: Global, cast: Cast) -> Result<Self, AllocError> {
+        let mut front = Svg::new(alloc);
+        draw_heads(alloc, &mut front, &cast, TOP)?;
+        Ok(Drawing {
+            cast,
+            back: Svg::new(alloc),
+            front,
+            y: TOP + HEAD_HEIGHT + GAP,
+            lives_to: None,
+            transactions: 0,
+            fault: Fault::None,
+            has_room_beside: false,
+            recorded: 0,
+            listed: 0,
+        })
+    }
+
+    /// Draws what a line says.
+    pub(crate) fn draw(
+        &mut self,
+        alloc: Global,
+        line: &Line<'_>,
+        known: &Known<'_>,
+    ) -> Result<(), AllocError> {
+        match &line.said {
+            TraceLine::Send { bytes, fault } => {
+                draw_request(self, alloc, bytes.as_slice(), *fault, known)
+            }
+            TraceLine::Reply(reply) => draw_reply(self, alloc, reply, known),
+            TraceLine::Job(job) => draw_job(self, alloc, *job),
+            TraceLine::Heard(heard) => draw_heard(self, alloc, *heard),
+            TraceLine::Arrive { job, .. } => {
+                let words = line_words(alloc, line.text, known)?;
+                draw_report(self, alloc, *job, words.as_str())
+            }
+            TraceLine::Panel { refused, .. } => {
+                let words = line_words(alloc, line.text, known)?;
+                draw_change(self, alloc, *refused, words.as_str())
+            }
+            TraceLine::Message(_) => {
+                let words = line_words(alloc, line.text, known)?;
+                draw_message(self, alloc, words.as_str())
+            }
+            TraceLine::End => Ok(()),
+        }
+    }
+
+    /// Goes down by so much.
+    pub(crate) fn skip(&mut self, height: Px) {
+        self.y = self.y.saturating_add(height);
+    }
+
+    /// Draws an arrow below what is drawn, with its label above it.
+    pub(crate) fn draw_arrow(
+        &mut self,
+        alloc: Global,
+        arrow: Arrow,
+        label: Label<'_>,
+    ) -> Result<(), AllocError> {
+        let left = arrow.left();
+        let x = left.saturating_add(PADDING);
+        self.skip(GAP);
+        let lines = broken_lines(alloc, label.words, room_beside(left))?;
+        for line in &lines {
+            self.draw_text(label.class, x, line.as_str())?;
+        }
+        if !label.note.is_empty() {
+            self.draw_text(Class::Note, x, label.note)?;
+        }
+        self.skip(arrow.room_above());
+        arrow.draw(&mut self.front, self.y)?;
+        self.skip(BELOW_ARROW);
+        self.has_room_beside = false;
+        Ok(())
+    }
+
+    /// Draws a line of text below what is drawn.
+    pub(crate) fn draw_text(&mut self, class: Class, x: Px, words: &str) -> Result<(), AllocError> {
+        self.front
+            .text(class, x, self.y.saturating_add(BASE), words)?;
+        self.skip(LINE_HEIGHT);
+        Ok(())
+    }
+}
+
+/// How much room words have between a lifeline and the next.
+fn room_beside(left: Px) -> Px {
+    if left == CONTROLLER_X {
+        RESPONDER_X - CONTROLLER_X - 2 * PADDING
+    } else {
+        WORK_X - RESPONDER_X - 2 * PADDING
+    }
+}

@@ -1,0 +1,29 @@
+//! The trace of a script as a picture: a sequence chart in SVG, with a lifeline for the controller, the responder, the
+//! workers that occur and the fixture's own panel.
+//!
+//! `chart` draws it: an arrow for each request and reply with its words, which `rdm_words` finds; jobs, reports and changes
+//! between the responder and the others; and what the controller recorded at its side. The picture follows the reader's
+//! preference for light or dark, and has no script in it.
+#![tactic(auto)]
+
+mod arrow;
+mod cast;
+mod charting;
+mod class;
+mod drawing;
+mod escape;
+mod heads;
+mod laws;
+mod layout;
+mod lettering;
+mod lines;
+mod page;
+mod recorded;
+mod svg;
+mod transaction;
+mod wording;
+mod work;
+
+pub use charting::{ChartError, chart};
+pub use escape::put_escaped;
+pub use laws::escaped_text_has_no_tags;

@@ -1,0 +1,45 @@
+//! The list of the messages that the controller recorded.
+
+use crate::class::Class;
+use crate::drawing::Drawing;
+use crate::layout::{BASE, GAP, MARGIN};
+use crate::lettering::broken_lines;
+use crate::page::width_of;
+use std::alloc::{AllocError, Global};
+
+/// Lists a message below the lifelines, which end there.
+pub(crate) fn draw_message(
+    drawing: &mut Drawing,
+    alloc: Global,
+    words: &str,
+) -> Result<(), AllocError> {
+    end_lives(drawing)?;
+    drawing.listed = drawing.listed.saturating_add(1);
+    let number = drawing.listed;
+    let count = format!(in alloc; "{number}")?;
+    let base = drawing.y.saturating_add(BASE);
+    drawing
+        .front
+        .text(Class::Count, MARGIN + GAP, base, count.as_str())?;
+    let room = width_of(&drawing.cast).saturating_sub(4 * MARGIN);
+    let lines = broken_lines(alloc, words, room)?;
+    for line in &lines {
+        drawing.draw_text(Class::Words, 3 * MARGIN, line.as_str())?;
+    }
+    drawing.skip(GAP / 2);
+    Ok(())
+}
+
+/// Ends the lifelines, and writes what comes below them.
+fn end_lives(drawing: &mut Drawing) -> Result<(), AllocError> {
+    if drawing.lives_to.is_some() {
+        return Ok(());
+    }
+    drawing.skip(2 * GAP);
+    drawing.lives_to = Some(drawing.y);
+    drawing.skip(GAP);
+    drawing.draw_text(Class::Section, MARGIN, "What the controller recorded")?;
+    drawing.skip(GAP);
+    drawing.has_room_beside = false;
+    Ok(())
+}

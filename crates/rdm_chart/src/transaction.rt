@@ -1,0 +1,160 @@
+//! Transactions on the bus: a request, its reply, and what the controller took this for.
+
+use crate::arrow::{Arrow, Passage};
+use crate::class::Class;
+use crate::drawing::{Drawing, Label};
+use crate::heads::draw_heads;
+use crate::layout::{
+    BASE, BELOW_ARROW, CONTROLLER_X, GAP, HEAD_HEIGHT, HEADS_EVERY, LINE_HEIGHT, MARGIN, PADDING,
+    RESPONDER_X, TAG_HEIGHT, TAG_WIDTH,
+};
+use crate::page::width_of;
+use crate::svg::Area;
+use crate::wording::{reply_words, request_words};
+use rdm_bus::{Fault, Heard};
+use rdm_frame::Wire;
+use rdm_words::Known;
+use std::alloc::{AllocError, Global};
+
+/// Draws a request below what is drawn, as the beginning of a transaction.
+pub(crate) fn draw_request(
+    drawing: &mut Drawing,
+    alloc: Global,
+    bytes: &[u8],
+    fault: Fault,
+    known: &Known<'_>,
+) -> Result<(), AllocError> {
+    begin_transaction(drawing, alloc)?;
+    drawing.fault = fault;
+    let passage = match fault {
+        Fault::LostRequest => Passage::Lost,
+        Fault::BadRequest(_, _) => Passage::Altered,
+        Fault::None | Fault::LostReply | Fault::BadReply(_, _) => Passage::Whole,
+    };
+    let words = request_words(alloc, bytes, known)?;
+    let note = note_of(alloc, fault, passage)?;
+    let arrow = Arrow {
+        from: CONTROLLER_X,
+        to: RESPONDER_X,
+        passage,
+    };
+    let label = Label {
+        class: Class::Request,
+        words: words.as_str(),
+        note: note.as_str(),
+    };
+    drawing.draw_arrow(alloc, arrow, label)
+}
+
+/// Draws a line above a transaction, and its number, counted from 0 as transaction numbers are.
+fn begin_transaction(drawing: &mut Drawing, alloc: Global) -> Result<(), AllocError> {
+    let number = drawing.transactions;
+    if number > 0 && number.is_multiple_of(HEADS_EVERY) {
+        drawing.skip(2 * GAP);
+        draw_heads(alloc, &mut drawing.front, &drawing.cast, drawing.y)?;
+        drawing.skip(HEAD_HEIGHT);
+    }
+    drawing.skip(GAP);
+    let right = width_of(&drawing.cast).saturating_sub(MARGIN);
+    drawing.back.across(Class::Rule, MARGIN, right, drawing.y)?;
+    let text = format!(in alloc; "{number}")?;
+    let base = drawing.y.saturating_add(GAP + BASE);
+    drawing
+        .front
+        .text(Class::Count, MARGIN + GAP, base, text.as_str())?;
+    drawing.transactions = number.saturating_add(1);
+    Ok(())
+}
+
+/// What goes wrong, in words, or nothing.
+fn note_of(alloc: Global, fault: Fault, passage: Passage) -> Result<String, AllocError> {
+    match (passage, fault) {
+        (Passage::Lost, _) => String::from_str(alloc, "lost on the way"),
+        (Passage::Altered, Fault::BadRequest(slot, raise) | Fault::BadReply(slot, raise)) => {
+            format!(in alloc; "altered on the way: slot {slot} raised by {raise}")
+        }
+        _ => Ok(String::new(alloc)),
+    }
+}
+
+/// Draws a reply below what is drawn, or a remark that there is none.
+pub(crate) fn draw_reply(
+    drawing: &mut Drawing,
+    alloc: Global,
+    reply: &Option<Wire>,
+    known: &Known<'_>,
+) -> Result<(), AllocError> {
+    let Some(bytes) = reply else {
+        return draw_silence(drawing);
+    };
+    let fault = drawing.fault;
+    let passage = match fault {
+        Fault::LostReply => Passage::Lost,
+        Fault::BadReply(_, _) => Passage::Altered,
+        Fault::None | Fault::LostRequest | Fault::BadRequest(_, _) => Passage::Whole,
+    };
+    let words = reply_words(alloc, bytes.as_slice(), known)?;
+    let note = note_of(alloc, fault, passage)?;
+    let arrow = Arrow {
+        from: RESPONDER_X,
+        to: CONTROLLER_X,
+        passage,
+    };
+    let label = Label {
+        class: Class::Words,
+        words: words.as_str(),
+        note: note.as_str(),
+    };
+    drawing.draw_arrow(alloc, arrow, label)?;
+    drawing.has_room_beside = true;
+    Ok(())
+}
+
+/// A remark that a device which heard the request doesn't reply.
+fn draw_silence(drawing: &mut Drawing) -> Result<(), AllocError> {
+    drawing.has_room_beside = false;
+    if drawing.fault == Fault::LostRequest {
+        return Ok(());
+    }
+    drawing.skip(GAP);
+    drawing.draw_text(Class::NoteBefore, RESPONDER_X - PADDING, "no reply")?;
+    drawing.skip(BELOW_ARROW);
+    Ok(())
+}
+
+/// Draws what the controller took a reply for, at its side.
+pub(crate) fn draw_heard(
+    drawing: &mut Drawing,
+    alloc: Global,
+    heard: Option<Heard>,
+) -> Result<(), AllocError> {
+    match heard {
+        Some(Heard::Message) => draw_tag(drawing, alloc),
+        Some(Heard::Ignored) => {
+            let base = drawing.y.saturating_sub(2);
+            drawing
+                .front
+                .text(Class::NoteBefore, CONTROLLER_X - PADDING, base, "ignored")
+        }
+        Some(Heard::Reply) | None => Ok(()),
+    }
+}
+
+/// Draws a tag that says which message is recorded.
+fn draw_tag(drawing: &mut Drawing, alloc: Global) -> Result<(), AllocError> {
+    drawing.recorded = drawing.recorded.saturating_add(1);
+    let number = drawing.recorded;
+    let area = Area {
+        x: CONTROLLER_X - GAP - TAG_WIDTH,
+        y: drawing.y.saturating_sub(BELOW_ARROW + TAG_HEIGHT / 2),
+        width: TAG_WIDTH,
+        height: TAG_HEIGHT,
+    };
+    drawing.front.area(Class::Tag, area, 4)?;
+    let name = format!(in alloc; "recorded {number}")?;
+    let centre = CONTROLLER_X - GAP - TAG_WIDTH / 2;
+    let base = area.y.saturating_add(LINE_HEIGHT - 2);
+    drawing
+        .front
+        .text(Class::TagName, centre, base, name.as_str())
+}

@@ -1,0 +1,97 @@
+//! What no clause says: what is drawn of a trace, and how one is read that isn't whole.
+
+use rdm_chart::{ChartError, chart, put_escaped};
+use rdm_words::Known;
+use std::alloc::Global;
+use std::str;
+use std::test::Fail;
+
+/// A command whose reply is lost, and one whose request is altered; a job and its report; a change that is refused; and
+/// what the controller recorded.
+const TRACE: &[u8] = b"send CC01197FF0000000017FF000000002000100000030040301010401 lost-reply
+reply CC011A7FF0000000027FF00000000100010000003104030200320435
+job 0 0
+heard nothing
+arrive 0 0 done
+panel personality 9 refused
+send CC01187FF0000000017FF0000000020601000002200082000471 bad-request 20 16
+reply none
+heard nothing
+send CC01197FF0000000017FF00000000201010000002000200102040C
+reply CC01187FF0000000027FF00000000101000000003104030003FF
+heard message
+message 31 0403 0000 -
+end
+";
+
+#[test]
+fn texts_are_escaped(rt: HostRuntime) -> Result<(), Fail> {
+    let mut markup = String::from_str(rt.alloc(), "<text>")?;
+    put_escaped(&mut markup, "a<b> & \"20 °C\"\t\r\u{1F}\u{FFFF}'")?;
+    let expected = "<text>a&lt;b&gt; &amp; &quot;20 °C&quot;\t\u{FFFD}\u{FFFD}\u{FFFD}'";
+    assert_eq!(rt; markup.as_str(), expected);
+    Ok(())
+}
+
+/// How often a part stands in the chart of a trace.
+fn count(alloc: Global, trace: &[u8], part: &str) -> Result<usize, Fail> {
+    let svg = chart(alloc, trace, &Known::nothing())?;
+    let text = str::from_utf8(svg.as_slice())?;
+    Ok(text.split(part).count().saturating_sub(1))
+}
+
+#[test]
+fn each_message_has_its_arrow(rt: HostRuntime) -> Result<(), Fail> {
+    for (part, expected) in [
+        ("class=\"name\"", 4),
+        ("class=\"rule\"", 3),
+        ("class=\"arrow\"", 5),
+        ("class=\"arrow altered\"", 1),
+        ("class=\"arrow lost\"", 2),
+        ("class=\"cross\"", 2),
+        ("recorded 1</text>", 1),
+        ("SET LAMP_STATE", 1),
+        ("slot 20 raised by 16", 1),
+    ] {
+        let found = count(rt.alloc(), TRACE, part)?;
+        assert_eq!(rt; found, expected, "{part}");
+    }
+    Ok(())
+}
+
+#[test]
+fn a_trace_is_drawn_as_far_as_it_goes(rt: HostRuntime) -> Result<(), Fail> {
+    let mut whole = 0usize;
+    for (end, byte) in TRACE.iter().enumerate() {
+        if *byte == b'\n' {
+            whole = whole.saturating_add(1);
+        }
+        let Some(front) = TRACE.get(..end) else {
+            continue;
+        };
+        let drawn = chart(rt.alloc(), front, &Known::nothing());
+        assert!(rt; drawn.is_ok(), "cut behind {whole} lines, at {end}");
+    }
+    Ok(())
+}
+
+/// What comes of a trace.
+fn outcome(alloc: Global, trace: &[u8]) -> Result<(), ChartError> {
+    chart(alloc, trace, &Known::nothing())?;
+    Ok(())
+}
+
+#[test]
+fn a_line_of_no_trace_is_refused(rt: HostRuntime) {
+    for (trace, expected) in [
+        (b"".as_slice(), Ok(())),
+        (b"end", Ok(())),
+        (b"end\r\n", Ok(())),
+        (b"\nend\n", Err(ChartError::Line(1))),
+        (b"end\nget dev 0000 1000 -\n", Err(ChartError::Line(2))),
+        (b"end\nget dev 0000 1000 -", Ok(())),
+        (b"send CC0\n", Err(ChartError::Line(1))),
+    ] {
+        assert_eq!(rt; outcome(rt.alloc(), trace), expected);
+    }
+}
