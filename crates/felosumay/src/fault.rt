@@ -29,10 +29,14 @@ pub enum Fault<'a> {
     ReadInput,
     /// Standard output wasn't written.
     Write,
+    /// A file wasn't written.
+    File(&'a str, io::Error),
     /// A file is no script.
     Script(&'a str, rdm_wide_script::Refusal),
     /// A file is no script, and more isn't known.
     NoScript(&'a str, ScriptError),
+    /// A file is no trace: this line, counted from 1, is none of one.
+    NoTrace(&'a str, usize),
     /// The run of a script stops, at this line if it is known.
     Stopped(&'a str, Option<usize>, RunError),
     /// A file is no text.
@@ -84,12 +88,17 @@ impl<'a> Fault<'a> {
             Fault::Script(_, _)
             | Fault::NoScript(_, _)
             | Fault::NoText(_)
+            | Fault::NoTrace(_, _)
             | Fault::Syntax(_, _)
             | Fault::Fixture(_, _, _)
             | Fault::NoDevice => 1,
             Fault::Memory => 2,
             Fault::Stopped(_, _, _) => 3,
-            Fault::Clock | Fault::Read(_, _) | Fault::ReadInput | Fault::Write => 4,
+            Fault::Clock
+            | Fault::Read(_, _)
+            | Fault::ReadInput
+            | Fault::Write
+            | Fault::File(_, _) => 4,
             Fault::Words | Fault::TooManySubs(_) => BAD_USAGE,
         }
     }
@@ -134,12 +143,15 @@ impl fmt::Display for Fault<'_> {
             }
             Fault::Memory => f.write_str("error: out of memory"),
             Fault::Clock => f.write_str("error: clock"),
-            Fault::Read(name, error) => write!(f, "error: {name}: {error}"),
+            Fault::Read(name, error) | Fault::File(name, error) => {
+                write!(f, "error: {name}: {error}")
+            }
             Fault::ReadInput => f.write_str("error: read"),
             Fault::Write => f.write_str("error: write"),
             Fault::Script(name, refusal) => write!(f, "{name}:{refusal}"),
             Fault::NoScript(name, error) => write!(f, "{name}: {error}"),
             Fault::Stopped(name, line, error) => write_stop(f, name, *line, *error),
+            Fault::NoTrace(name, line) => write!(f, "{name}:{line}: this is no line of a trace"),
             Fault::NoText(name) => write!(f, "{name}: no text in UTF-8"),
             Fault::Syntax(name, error) => write!(f, "{name}: {error}"),
             Fault::Fixture(name, 0, refusal) => write!(f, "{name}: {refusal}"),

@@ -3,8 +3,7 @@
 use crate::fault::Fault;
 use crate::source::Source;
 use crate::system::System;
-use crate::telling;
-use crate::usage;
+use crate::{telling, usage};
 use clap::ArgMatches;
 use rdm_device::Profile;
 use rdm_fixture::{Fixture, profile_of};

@@ -4,6 +4,7 @@
 //! What it prints where nothing else is asked for is exactly what rdm_play prints.
 #![tactic(auto)]
 
+mod chart;
 mod fault;
 mod fixture;
 mod play;
@@ -51,6 +52,7 @@ fn run<'a, S: System>(rt: S, matches: &ArgMatches<'a>) -> Result<(), Fault<'a>> 
     match matches.subcommand() {
         Some(("play", asked)) => play::run(rt, asked),
         Some(("words", asked)) => words::run(rt, asked),
+        Some(("chart", asked)) => chart::run(rt, asked),
         Some(("fixture", asked)) => fixture::run(rt, asked),
         Some(("widget", asked)) => widget::run(rt, asked),
         _ => Ok(()),

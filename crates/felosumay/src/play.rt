@@ -1,14 +1,14 @@
-//! `felosumay play`: a script is played, and its trace printed, or its words.
+//! `felosumay play`: a script is played, and its trace printed, or its words, and drawn.
 
+use crate::chart::{draw, save};
 use crate::fault::Fault;
-use crate::fixture;
-use crate::source::Source;
+use crate::source::{Source, print};
 use crate::system::System;
-use crate::usage;
+use crate::words::say;
+use crate::{fixture, usage};
 use clap::ArgMatches;
 use rdm_script::{ProgramError, run_script};
 use rdm_wide_script::narrowed;
-use rdm_words::{Known, words};
 use std::io;
 use std::io::Write;
 
@@ -23,32 +23,35 @@ pub fn run<'a, S: System>(rt: S, asked: &ArgMatches<'a>) -> Result<(), Fault<'a>
         Ok(script) => script,
         Err(error) => return Err(Fault::script(source.name(), error)),
     };
-    let played = if asked.get_flag(usage::WORDS) {
-        print_words(rt, script.as_slice())
+    let file = asked.get_str(usage::CHART);
+    let in_words = asked.get_flag(usage::WORDS);
+    if file.is_none() && !in_words {
+        return play(rt, script.as_slice(), &mut io::writer(&rt)).map_err(|error| Fault::played(
+            source.name(),
+            script.as_slice(),
+            error,
+        ));
+    }
+    let mut trace = Vec::new(rt.alloc());
+    play(rt, script.as_slice(), &mut trace).map_err(|error| Fault::played(
+        source.name(),
+        script.as_slice(),
+        error,
+    ))?;
+    let fixture = fixture::demonstration();
+    if let Some(path) = file {
+        let picture = draw(rt, source.name(), trace.as_slice(), &fixture)?;
+        save(rt, path, picture.as_slice())?;
+    }
+    if in_words {
+        say(rt, trace.as_slice(), &fixture)
     } else {
-        play(rt, script.as_slice(), &mut io::writer(&rt))
-    };
-    played.map_err(|error| Fault::played(source.name(), script.as_slice(), error))
+        print(rt, trace.as_slice())
+    }
 }
 
 /// Plays a script, and writes its trace.
 fn play<S: System, W: Write>(rt: S, script: &[u8], writer: &mut W) -> Result<(), ProgramError> {
     let mut reader = script;
     run_script(rt, rt.alloc(), &mut reader, writer)
-}
-
-/// Plays a script, and prints the words of its trace.
-fn print_words<S: System>(rt: S, script: &[u8]) -> Result<(), ProgramError> {
-    let mut trace = Vec::new(rt.alloc());
-    play(rt, script, &mut trace)?;
-    let known = fixture::demonstration();
-    let words = words(
-        rt.alloc(),
-        trace.as_slice(),
-        &Known::of(known.uid, &known.profile),
-    )?;
-    match io::writer(&rt).write_all(words.as_slice()) {
-        Ok(()) => Ok(()),
-        Err(_) => Err(ProgramError::Write),
-    }
 }

@@ -1,10 +1,10 @@
-//! Where text comes from.
+//! Where text comes from, and where it goes.
 
 use crate::fault::Fault;
 use crate::system::System;
 use std::alloc::Global;
-use std::fs;
-use std::io::Read;
+use std::io::{Read, Write};
+use std::{fs, io};
 
 /// A file, or standard input.
 #[derive(Clone, Copy, PartialEq, Eq)]
@@ -46,5 +46,13 @@ impl<'a> Source<'a> {
             Ok(_) => Ok(bytes),
             Err(error) => Err(Fault::Read(self.name(), error)),
         }
+    }
+}
+
+/// Writes a text to standard output.
+pub fn print<'a, S: System>(rt: S, text: &[u8]) -> Result<(), Fault<'a>> {
+    match io::writer(&rt).write_all(text) {
+        Ok(()) => Ok(()),
+        Err(_) => Err(Fault::Write),
     }
 }

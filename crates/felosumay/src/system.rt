@@ -6,12 +6,29 @@ use std::thread::Threads;
 use std::time::Clock;
 
 /// Files, the standard streams, memory, and threads to wait for.
-pub trait System:
-    Files + Input + Print + Eprint + AllocGlobal + Clock + Threads + Wait + Copy + Send + 'static
-{
-}
+pub trait System: Files
+    + Input
+    + Print
+    + Eprint
+    + AllocGlobal
+    + Clock
+    + Threads
+    + Wait
+    + Copy
+    + Send
+    + 'static {}
 
-impl<T> System for T where
-    T: Files + Input + Print + Eprint + AllocGlobal + Clock + Threads + Wait + Copy + Send + 'static
-{
-}
+impl<T> System for T
+where
+    T: Files
+        + Input
+        + Print
+        + Eprint
+        + AllocGlobal
+        + Clock
+        + Threads
+        + Wait
+        + Copy
+        + Send
+        + 'static,
+{}

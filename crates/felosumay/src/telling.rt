@@ -51,14 +51,22 @@ fn tell_unit(rt: &impl Print, kind: &str, unit: &Unit) -> io::Result<()> {
     for (index, personality) in unit.personalities.iter().enumerate() {
         let name = words(&personality.name);
         let footprint = personality.footprint;
-        println!(rt; "  personality {}: \"{name}\", footprint {footprint}", index + 1)?;
+        println!(rt;
+            "  personality {}: \"{name}\", footprint {footprint}",
+            index + 1
+        )?;
     }
     Ok(())
 }
 
 /// Prints what a DMX512 slot is for.
 fn tell_slot(rt: &impl Print, number: usize, slot: &Slot) -> io::Result<()> {
-    let Slot { kind, label, value, .. } = slot;
+    let Slot {
+        kind,
+        label,
+        value,
+        ..
+    } = slot;
     let name = words(&slot.name);
     let known = slot_type(*kind).unwrap_or("slot type");
     print!(rt; "  slot {number}: \"{name}\", {known} ({kind:02X})")?;

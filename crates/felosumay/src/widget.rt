@@ -1,9 +1,8 @@
 //! `felosumay widget`: a virtual fixture on standard input and output.
 
 use crate::fault::Fault;
-use crate::fixture;
 use crate::system::System;
-use crate::usage;
+use crate::{fixture, usage};
 use clap::ArgMatches;
 use rdm_widget::{Desk, RealClock, serve};
 use std::io;

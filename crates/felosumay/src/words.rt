@@ -1,14 +1,12 @@
 //! `felosumay words`: what a trace or frames say, in words.
 
 use crate::fault::Fault;
-use crate::fixture;
-use crate::source::Source;
+use crate::source::{Source, print};
 use crate::system::System;
-use crate::usage;
+use crate::{fixture, usage};
 use clap::ArgMatches;
+use rdm_fixture::Fixture;
 use rdm_words::{Known, words};
-use std::io;
-use std::io::Write;
 
 /// How many bytes of a trace are read: 64 MiB.
 pub const MOST_READ: u64 = 67108864;
@@ -18,13 +16,12 @@ pub fn run<'a, S: System>(rt: S, asked: &ArgMatches<'a>) -> Result<(), Fault<'a>
     let known = fixture::asked_for(rt, asked)?;
     let source = Source::named(asked.get_str(usage::INPUT));
     let trace = source.read(rt, MOST_READ)?;
-    let words = words(
-        rt.alloc(),
-        trace.as_slice(),
-        &Known::of(known.uid, &known.profile),
-    )?;
-    match io::writer(&rt).write_all(words.as_slice()) {
-        Ok(()) => Ok(()),
-        Err(_) => Err(Fault::Write),
-    }
+    say(rt, trace.as_slice(), &known)
+}
+
+/// Prints the words of a trace.
+pub fn say<'a, S: System>(rt: S, trace: &[u8], fixture: &Fixture) -> Result<(), Fault<'a>> {
+    let known = Known::of(fixture.uid, &fixture.profile);
+    let words = words(rt.alloc(), trace, &known)?;
+    print(rt, words.as_slice())
 }

@@ -73,12 +73,7 @@ fn lines_narrowed(alloc: Global, text: &[u8]) -> Result<Vec<u8>, WideError>
 }
 
 /// Puts a line in the words of rdm_script at the end, and tells whether a line has now said anything.
-fn put_line(
-    out: &mut Vec<u8>,
-    line: &[u8],
-    number: usize,
-    begun: bool,
-) -> Result<bool, WideError>
+fn put_line(out: &mut Vec<u8>, line: &[u8], number: usize, begun: bool) -> Result<bool, WideError>
     ensures lines { OnOk result (line_ends out.new.items ≡ line_ends out.old.items) }
 {
     let words = words_of(line);

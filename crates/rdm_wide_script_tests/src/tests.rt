@@ -1,7 +1,7 @@
 //! What wide lines are in narrow words, what is told of faulty ones, and where runs stop.
 
-use rdm_wide_script::{narrowed, stopped_line};
 use rdm_crew::RunError;
+use rdm_wide_script::{narrowed, stopped_line};
 use std::process::Abort;
 use std::test::Fail;
 
@@ -28,13 +28,28 @@ fn wide_words(rt: HostRuntime) -> Result<(), Fail> {
             ("get dev 0000  1000 -", "get dev 0000  1000 -"),
             ("get dev 0000 IDENTIFY_DEVICE -", "get dev 0000 1000 -"),
             ("get dev root QUEUED_MESSAGE 01", "get dev 0000 0020 01"),
-            ("\tget dev 0 PRESET_PLAYBACK  - lost-reply", "get dev 0000 1031 - lost-reply"),
+            (
+                "\tget dev 0 PRESET_PLAYBACK  - lost-reply",
+                "get dev 0000 1031 - lost-reply",
+            ),
             ("get all 512 1000 -", "get all 0200 1000 -"),
-            ("get all 0100 1000 -\nget dev 100 1000 -", "get all 0100 1000 -\nget dev 0064 1000 -"),
-            ("set dev 0000 0082 \"Front truss 1\"", "set dev 0000 0082 46726F6E742074727573732031"),
+            (
+                "get all 0100 1000 -\nget dev 100 1000 -",
+                "get all 0100 1000 -\nget dev 0064 1000 -",
+            ),
+            (
+                "set dev 0000 0082 \"Front truss 1\"",
+                "set dev 0000 0082 46726F6E742074727573732031",
+            ),
             ("set dev 0000 0082 \"\"", "set dev 0000 0082 -"),
-            ("set dev 0000 0082 \"# \" bad-reply 3 1\r\n", "set dev 0000 0082 2320 bad-reply 3 1\n"),
-            ("set 7ff0:00000001 root 0082 ab", "set 7ff0:00000001 0000 0082 AB"),
+            (
+                "set dev 0000 0082 \"# \" bad-reply 3 1\r\n",
+                "set dev 0000 0082 2320 bad-reply 3 1\n",
+            ),
+            (
+                "set 7ff0:00000001 root 0082 ab",
+                "set 7ff0:00000001 0000 0082 AB",
+            ),
         ],
     )
 }
@@ -109,15 +124,12 @@ fn refusals(rt: HostRuntime) -> Result<(), Fail> {
                 "collect bad-reply 256 1",
                 "1:19: \"256\" is no slot: 0 to 255",
             ),
+            ("collect bad-reply 1 0", "1:21: \"0\" is no raise: 1 to 255"),
             (
-                "collect bad-reply 1 0",
-                "1:21: \"0\" is no raise: 1 to 255",
+                "draw now",
+                "1:6: \"now\" is a word too many: the end of the line",
             ),
-            ("draw now", "1:6: \"now\" is a word too many: the end of the line"),
-            (
-                "settle",
-                "1:7: a word is missing: 0 to 4294967295",
-            ),
+            ("settle", "1:7: a word is missing: 0 to 4294967295"),
             (
                 "panel -1",
                 "1:7: \"-1\" is no number of looks: 0 to 4294967295",
@@ -129,7 +141,8 @@ fn refusals(rt: HostRuntime) -> Result<(), Fail> {
 /// The line at which a run stops.
 #[test]
 fn stops(rt: HostRuntime) -> Result<(), Fail> {
-    let script = b"# so\nsetup 600 8 error\nget dev root DEVICE_INFO -\nsettle 3\nget dev root 0030 00\nget dev 0000 0020 01";
+    let script =
+        b"# so\nsetup 600 8 error\nget dev root DEVICE_INFO -\nsettle 3\nget dev root 0030 00\nget dev 0000 0020 01";
     for (error, line) in [
         (RunError::BadSetup, Some(2)),
         (RunError::Unsettled, Some(4)),
@@ -138,6 +151,9 @@ fn stops(rt: HostRuntime) -> Result<(), Fail> {
     ] {
         assert_eq!(rt; stopped_line(script, error), line);
     }
-    assert_eq!(rt; stopped_line(b"settle 1\nsettle 2\n", RunError::Unsettled), None);
+    assert_eq!(rt;
+        stopped_line(b"settle 1\nsettle 2\n", RunError::Unsettled),
+        None
+    );
     Ok(())
 }

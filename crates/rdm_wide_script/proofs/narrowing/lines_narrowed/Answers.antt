@@ -10,7 +10,7 @@ loop-end-preserved c =
     let behind = c.in-Some.end + 1 in
     record {
       lines = rw (take_all (length rest - behind) (drop behind rest) (omega (arith, length-drop behind rest)), c.in_ok-push.ensures.items)
-        (omega (arith, ends_push c.put_line.new.out.items, c.in_ok-begun.ensures.lines, ends_more rest c.in-Some.end (sym c.in-Some.ensures.end), c.loop-end.invariant.lines));
+          (omega (arith, ends_push c.put_line.new.out.items, c.in_ok-begun.ensures.lines, ends_more rest c.in-Some.end (sym c.in-Some.ensures.end), c.loop-end.invariant.lines));
       within = omega (arith, length-drop behind rest, c.in-Some.ensures.within, c.loop-end.invariant.within);
     }
 
