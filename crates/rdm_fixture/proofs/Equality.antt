@@ -15,6 +15,8 @@ use Rattle.rdm_device.specs.declared.profile.SensorDef.{SensorDef}
 use Rattle.rdm_device.specs.declared.profile.Slot.{Slot}
 use Rattle.rdm_device.specs.declared.profile.StatusText.{StatusText}
 use Rattle.rdm_device.specs.declared.profile.Unit.{Unit as DeviceUnit}
+use Rattle.rdm_outcomes.specs.declared.rule.Rule.{Rule}
+use Rattle.rdm_outcomes.specs.contracts.rule.RulePartialEq.TheImpl as rules
 use Rattle.rdm_fixture.specs.declared.fixture.Fixture.{Fixture}
 use Rattle.rdm_fixture.proofs.OneFixture.{listed, same_personality, same_slot, same_sensor, same_self_test, same_status, same_unit, same_profile, same_fixture}
 use lib.Pointwise.{pointwise}
@@ -124,12 +126,15 @@ profile_decides a b =
     iff_decides _ there (λ e. (ap (λ (h : Profile). h.root) e, (ap (λ (h : Profile). h.sub) e, (ap (λ (h : Profile). h.subs) e, (ap (λ (h : Profile). h.boot) e, (ap (λ (h : Profile). h.boot_text) e, (ap (λ (h : Profile). h.languages) e, (ap (λ (h : Profile). h.slots) e, (ap (λ (h : Profile). h.sensors) e, (ap (λ (h : Profile). h.tests) e, (ap (λ (h : Profile). h.status_texts) e, ap (λ (h : Profile). h.presets) e)))))))))))
     (and_decides _ _ (unit_decides a.root b.root) (and_decides _ _ (unit_decides a.sub b.sub) (and_decides _ _ (Decides-eqb a.subs b.subs) (and_decides _ _ (Decides-eqb a.boot b.boot) (and_decides _ _ (text_decides a.boot_text b.boot_text) (and_decides _ _ (list_decides 8 Decides-eqb a.languages b.languages) (and_decides _ _ (list_decides 46 slot_decides a.slots b.slots) (and_decides _ _ (list_decides 8 sensor_decides a.sensors b.sensors) (and_decides _ _ (list_decides 8 self_test_decides a.tests b.tests) (and_decides _ _ (list_decides 8 status_decides a.status_texts b.status_texts) (Decides-eqb a.presets b.presets)))))))))))
 
+abbrev rule_eq : Rule → Rule → Bool
+rule_eq = rules.ghosts.eq
+
 abbrev pub fixture_eq : Fixture → Fixture → Bool
 fixture_eq a b =
-    uid_eq a.uid b.uid && profile_eq a.profile b.profile
+    uid_eq a.uid b.uid && (profile_eq a.profile b.profile && list_eq 32 rule_eq a.outcomes b.outcomes)
 
-pub fixture_decides : (a b : Fixture) → Decides (fixture_eq a b) (a ≡ b)
-fixture_decides a b =
-    let there : ((a.uid ≡ b.uid) × (a.profile ≡ b.profile)) → a ≡ b = λ e. same_fixture e.0 e.1 in
-    iff_decides _ there (λ e. (ap (λ (h : Fixture). h.uid) e, ap (λ (h : Fixture). h.profile) e))
-    (and_decides _ _ (uid_decides a.uid b.uid) (profile_decides a.profile b.profile))
+pub fixture_decides : ((a b : Rule) → Decides (rule_eq a b) (a ≡ b)) → (a b : Fixture) → Decides (fixture_eq a b) (a ≡ b)
+fixture_decides rule a b =
+    let there : ((a.uid ≡ b.uid) × ((a.profile ≡ b.profile) × (a.outcomes ≡ b.outcomes))) → a ≡ b = λ e. same_fixture e.0 e.1.0 e.1.1 in
+    iff_decides _ there (λ e. (ap (λ (h : Fixture). h.uid) e, (ap (λ (h : Fixture). h.profile) e, ap (λ (h : Fixture). h.outcomes) e)))
+    (and_decides _ _ (uid_decides a.uid b.uid) (and_decides _ _ (profile_decides a.profile b.profile) (list_decides 32 rule a.outcomes b.outcomes)))

@@ -10,11 +10,15 @@ use Rattle.rdm_device.specs.declared.profile.SensorDef.{SensorDef}
 use Rattle.rdm_device.specs.declared.profile.Slot.{Slot}
 use Rattle.rdm_device.specs.declared.profile.StatusText.{StatusText}
 use Rattle.rdm_device.specs.declared.profile.Unit.{Unit as DeviceUnit}
+use Rattle.rdm_params.specs.declared.slow.outcome.Outcome.{Outcome}
+use Rattle.rdm_outcomes.specs.declared.rule.Rule.{Rule}
+use Rattle.rdm_outcomes.specs.declared.rule.Task.{Task}
 use Rattle.toml.specs.Data.{Data, string, integer, float, boolean, datetime, array, table, no_items, item, Members, get_member}
 use Rattle.rdm_fixture.specs.declared.fixture.Fixture.{Fixture}
 use Rattle.rdm_fixture.specs.Describes.{Describes}
 use Rattle.rdm_fixture.specs.Keys.{OfTable, EachIs, ListAt, Lists}
 use Rattle.rdm_fixture.specs.Values.{language}
+use Rattle.rdm_fixture.specs.Outcomes.{IsOutcome}
 use Rattle.rdm_fixture.specs.Format.{IsPersonality, IsSlot, IsSensor, IsSelfTest, IsStatus, IsUnit, SubDevices, LanguagesAt, IsProfile, IsFixture}
 
 -- what is said is one thing
@@ -179,16 +183,33 @@ one_profile t x y p q =
     (ap (listed 8) (one_list t _ IsStatus 0 8 _ _ one_status p.statuses q.statuses))
     (one p.presets q.presets)
 
-abbrev pub fixture_of : Uid → Profile → Fixture
-fixture_of a0 a1 = record { uid = a0; profile = a1 }
+-- ---- the outcomes
 
-pub same_fixture : {a0 b0 : Uid} {a1 b1 : Profile}
-    → a0 ≡ b0 → a1 ≡ b1
-    → fixture_of a0 a1 ≡ fixture_of b0 b1
-same_fixture e0 e1 = rw (e0, e1) refl
+abbrev pub rule_of : Task → Option ℕ → Option ℕ → Outcome → Rule
+rule_of a0 a1 a2 a3 = record { task = a0; value = a1; turn = a2; outcome = a3 }
+
+same_rule : {a0 b0 : Task} {a1 b1 : Option ℕ} {a2 b2 : Option ℕ} {a3 b3 : Outcome}
+    → a0 ≡ b0 → a1 ≡ b1 → a2 ≡ b2 → a3 ≡ b3
+    → rule_of a0 a1 a2 a3 ≡ rule_of b0 b1 b2 b3
+same_rule e0 e1 e2 e3 = rw (e0, e1, e2, e3) refl
+
+pub one_rule : SaysOne IsOutcome
+one_rule t x y p q = same_rule (one p.task q.task) (one p.value q.value) (one p.turn q.turn) (one p.outcome q.outcome)
+
+-- ---- the whole
+
+abbrev pub fixture_of : Uid → Profile → ArrayVec Rule 32 (Unit {0}) → Fixture
+fixture_of a0 a1 a2 = record { uid = a0; profile = a1; outcomes = a2 }
+
+pub same_fixture : {a0 b0 : Uid} {a1 b1 : Profile} {a2 b2 : ArrayVec Rule 32 (Unit {0})}
+    → a0 ≡ b0 → a1 ≡ b1 → a2 ≡ b2
+    → fixture_of a0 a1 a2 ≡ fixture_of b0 b1 b2
+same_fixture e0 e1 e2 = rw (e0, e1, e2) refl
 
 pub one_fixture : SaysOne IsFixture
-one_fixture t x y p q = same_fixture (one p.own q.own) (one_profile t x.profile y.profile p.profile q.profile)
+one_fixture t x y p q =
+    same_fixture (one p.own q.own) (one_profile t x.profile y.profile p.profile q.profile)
+    (ap (listed 32) (one_list t _ IsOutcome 0 32 _ _ one_rule p.outcomes q.outcomes))
 
 pub one_text : SaysOne Describes
 one_text text x y p q =

@@ -10,6 +10,7 @@ use Rattle.rdm_device.specs.declared.profile.Slot.{Slot}
 use Rattle.rdm_device.specs.declared.profile.StatusText.{StatusText}
 use Rattle.rdm_device.specs.declared.profile.Unit.{Unit as DeviceUnit}
 use Rattle.rdm_fixture.specs.declared.fixture.Fixture.{Fixture}
+use Rattle.rdm_fixture.specs.Outcomes.{IsOutcome}
 use Rattle.rdm_fixture.specs.Values.{number, signed, text, language, uid}
 use Rattle.rdm_fixture.specs.Keys.{Must, May, has_only, OfTable, EachIs, Lists, items_count}
 
@@ -121,8 +122,8 @@ LanguagesAt (Some _) xs = ⊥
 abbrev pub fixture_keys : List (List ℕ)
 fixture_keys =
     codes "uid" ∷ codes "boot_software_version_id" ∷ codes "boot_software_version_label" ∷ codes "languages"
-    ∷ codes "presets" ∷ codes "slot" ∷ codes "sensor" ∷ codes "self_test" ∷ codes "status" ∷ codes "sub_devices"
-    ∷ unit_keys
+    ∷ codes "presets" ∷ codes "slot" ∷ codes "sensor" ∷ codes "self_test" ∷ codes "status" ∷ codes "outcome"
+    ∷ codes "sub_devices" ∷ unit_keys
 
 pub record IsProfile (t : Members) (p : Profile) : Type 0 where
   pub root : IsUnit (slot_count (get_member (codes "slot") t)) t p.root
@@ -142,3 +143,4 @@ pub record IsFixture (t : Members) (f : Fixture) : Type 0 where
   pub keys : IsTrue (has_only fixture_keys t)
   pub own : Must t (codes "uid") uid f.uid
   pub profile : IsProfile t f.profile
+  pub outcomes : Lists t (codes "outcome") (OfTable IsOutcome) 0 32 f.outcomes.items

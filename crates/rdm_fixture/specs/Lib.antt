@@ -1,5 +1,6 @@
 pub mod Values
 pub mod Keys
+pub mod Outcomes
 pub mod Format
 pub mod Describes
 pub mod Cause

@@ -12,7 +12,9 @@ ghost use Rattle.rdm_fixture.specs.Keys.{Reads};
 
 use crate::keys::{only, own_uid};
 use crate::line::with_line;
+use crate::lists::list;
 use crate::profile::profile;
+use crate::unit::and_unit_keys;
 use crate::{Fixture, Refusal};
 use std::alloc::Global;
 use std::fmt;
@@ -72,7 +74,7 @@ pub fn fixture_of(table: &Table) -> Result<Fixture, Refusal>
 {
     only(
         table,
-        &[
+        and_unit_keys!(
             "uid",
             "boot_software_version_id",
             "boot_software_version_label",
@@ -82,19 +84,16 @@ pub fn fixture_of(table: &Table) -> Result<Fixture, Refusal>
             "sensor",
             "self_test",
             "status",
-            "sub_devices",
-            "device_model_id",
-            "device_model_description",
-            "manufacturer_label",
-            "device_label",
-            "product_category",
-            "software_version_id",
-            "software_version_label",
-            "dmx_start_address",
-            "personality",
-        ],
+            "outcome",
+            "sub_devices"
+        ),
     )?;
     let uid = own_uid(table, "uid")?;
     let profile = profile(table)?;
-    Ok(Fixture { uid, profile })
+    let outcomes = list(table, "outcome", 0, 0)?;
+    Ok(Fixture {
+        uid,
+        profile,
+        outcomes,
+    })
 }

@@ -1,6 +1,6 @@
 //! What a key of a table says.
 
-ghost use Rattle.std.specs.Prelude.{◌≡◌, ◌≤◌, ℕ, pos, IfOk, IsOk, IsTrue, ◌↔◌, [], map, option_map};
+ghost use Rattle.std.specs.Prelude.{◌≡◌, ◌≤◌, ℕ, pos, IfOk, IfSome, IsOk, IsTrue, ◌↔◌, [], map, option_map};
 ghost use Rattle.std.specs.Result.{result_ok};
 ghost use Rattle.std.specs.List.{list_any, list_all};
 ghost use Rattle.std.specs.Str.{bytes_eq};
@@ -74,19 +74,30 @@ fn number_in(value: &Value, key: &str, least: u32, most: u32) -> Result<u32, Ref
     ensures value { result_ok result ≡ says.number least most (view value.now) }
     ensures within { IfOk result (λ n. (least ≤ n) × (n ≤ most)) }
 {
+    match integer_in(value, least, most) {
+        Some(n) => Ok(n),
+        None => Err(Refusal::at(
+            key,
+            Wanted::Number {
+                least: i64::from(least),
+                most: i64::from(most),
+            },
+        )),
+    }
+}
+
+/// The integer of a value, where it is one of this range.
+pub(crate) fn integer_in(value: &Value, least: u32, most: u32) -> Option<u32>
+    ensures value { result ≡ says.number least most (view value.now) }
+    ensures within { IfSome result (λ n. (least ≤ n) × (n ≤ most)) }
+{
     if let Value::Integer(z) = value
         && *z >= i64::from(least)
         && *z <= i64::from(most)
     {
-        return Ok(*z as u32);
+        return Some(*z as u32);
     }
-    Err(Refusal::at(
-        key,
-        Wanted::Number {
-            least: i64::from(least),
-            most: i64::from(most),
-        },
-    ))
+    None
 }
 
 /// The signed number of 16 bits of a key that may be left out.
@@ -102,19 +113,29 @@ pub(crate) fn signed_or(table: &Table, key: &str, default: i16) -> Result<i16, R
 fn signed_in(value: &Value, key: &str) -> Result<i16, Refusal>
     ensures { result_ok result ≡ says.signed (view value.now) }
 {
+    match integer16_in(value) {
+        Some(z) => Ok(z),
+        None => Err(Refusal::at(
+            key,
+            Wanted::Number {
+                least: -32768,
+                most: 32767,
+            },
+        )),
+    }
+}
+
+/// The integer of a value, where it is one of 16 bits.
+pub(crate) fn integer16_in(value: &Value) -> Option<i16>
+    ensures { result ≡ says.signed (view value.now) }
+{
     if let Value::Integer(z) = value
         && *z >= -32768
         && *z <= 32767
     {
-        return Ok(*z as i16);
+        return Some(*z as i16);
     }
-    Err(Refusal::at(
-        key,
-        Wanted::Number {
-            least: -32768,
-            most: 32767,
-        },
-    ))
+    None
 }
 
 // ---- texts

@@ -5,6 +5,7 @@ ghost use Rattle.rdm_fixture.specs.Describes.{Describes};
 
 use crate::Fixture;
 use rdm_device::Profile;
+use rdm_outcomes::rules_are_equal_by_value;
 
 /// No text describes two fixtures.
 pub fn text_describes_one_fixture()
@@ -16,7 +17,9 @@ pub fn profiles_are_equal_by_value()
     ensures { (p q : Profile) → IsTrue (⟦<Profile as PartialEq>⟧.eq p q) ↔ (p ≡ q) }
 {}
 
-/// Two fixtures are equal by `==` exactly where their UIDs and their profiles are.
+/// Two fixtures are equal by `==` exactly where their UIDs, their profiles and their outcomes are.
 pub fn fixtures_are_equal_by_value()
     ensures { (f g : Fixture) → IsTrue (⟦<Fixture as PartialEq>⟧.eq f g) ↔ (f ≡ g) }
-{}
+{
+    rules_are_equal_by_value();
+}

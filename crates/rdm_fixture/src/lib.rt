@@ -11,6 +11,7 @@ mod keys;
 mod laws;
 mod line;
 mod lists;
+mod outcomes;
 mod parts;
 mod profile;
 mod refusal;

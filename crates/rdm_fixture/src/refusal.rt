@@ -27,6 +27,18 @@ pub enum Wanted {
     Table,
     /// Another value than that of an earlier entry.
     Other,
+    /// `true`.
+    True,
+    /// A parameter whose command is a job.
+    Task,
+    /// How bad a failure is.
+    Severity,
+    /// An outcome: there is none.
+    Outcome,
+    /// Nothing: the outcome is told already.
+    OneOutcome,
+    /// An outcome that the parameter can have.
+    Suiting,
 }
 
 /// An entry of a list.
@@ -83,6 +95,14 @@ impl Refusal {
         }
     }
 
+    /// The same, where the key is one of another outcome than that of its entry.
+    pub(crate) fn beside_an_outcome(self) -> Refusal {
+        Refusal {
+            wanted: Wanted::OneOutcome,
+            ..self
+        }
+    }
+
     /// The same in this line of the text.
     pub(crate) fn in_line(self, line: usize) -> Refusal {
         Refusal { line, ..self }
@@ -132,6 +152,15 @@ impl fmt::Display for Refusal {
             }
             Wanted::Table => write!(f, "`{key}` isn't a table"),
             Wanted::Other => write!(f, "`{key}` is that of an earlier entry"),
+            Wanted::True => write!(f, "`{key}` isn't true"),
+            Wanted::Task => write!(
+                f,
+                "`{key}` isn't LAMP_STATE, POWER_STATE, PERFORM_SELFTEST or SENSOR_VALUE"
+            ),
+            Wanted::Severity => write!(f, "`{key}` isn't advisory, warning or error"),
+            Wanted::Outcome => write!(f, "there is none of `done`, `reading` and `severity`"),
+            Wanted::OneOutcome => write!(f, "`{key}` stands beside another outcome"),
+            Wanted::Suiting => write!(f, "`{key}` is no outcome of this parameter"),
         }
     }
 }

@@ -12,6 +12,26 @@ use crate::refusal::{Refusal, Wanted};
 use rdm_device::Unit;
 use toml::{Table, Value};
 
+/// These keys, and those that the root and the sub-devices each have.
+macro_rules! and_unit_keys {
+    ($($own:literal),+) => {
+        &[
+            $($own,)+
+            "device_model_id",
+            "device_model_description",
+            "manufacturer_label",
+            "device_label",
+            "product_category",
+            "software_version_id",
+            "software_version_label",
+            "dmx_start_address",
+            "personality",
+        ]
+    };
+}
+
+pub(crate) use and_unit_keys;
+
 /// A device whose personalities have so many slots at most.
 pub(crate) fn unit(table: &Table, slots: u16) -> Result<Unit, Refusal>
     ensures { Reads (IsUnit slots) (table_view table.now) result }
@@ -49,21 +69,7 @@ pub(crate) fn sub_devices(table: &Table, slots: u16) -> Result<(u16, Unit), Refu
 fn counted_unit(table: &Table) -> Result<(u16, Unit), Refusal>
     ensures { Reads (λ t s. IsSub t s.0 s.1) (table_view table.now) result }
 {
-    only(
-        table,
-        &[
-            "count",
-            "device_model_id",
-            "device_model_description",
-            "manufacturer_label",
-            "device_label",
-            "product_category",
-            "software_version_id",
-            "software_version_label",
-            "dmx_start_address",
-            "personality",
-        ],
-    )?;
+    only(table, and_unit_keys!("count"))?;
     let count = number(table, "count", 0, 512)? as u16;
     Ok((count, unit(table, 512)?))
 }

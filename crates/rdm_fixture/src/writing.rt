@@ -7,6 +7,7 @@ mod text;
 
 use crate::document::{FixtureError, profile_of};
 use crate::fixture::Fixture;
+use crate::laws::fixtures_are_equal_by_value;
 use std::alloc::Global;
 use text::text_of;
 use thiserror::Error;
@@ -43,6 +44,7 @@ fn same_or_none(text: String, read: &Fixture, fixture: &Fixture) -> Result<Strin
     requires { Describes (string_bytes text) read.now }
     ensures { IfOk result (λ text. Describes (string_bytes text) fixture.now) }
 {
+    fixtures_are_equal_by_value();
     if *read == *fixture {
         Ok(text)
     } else {

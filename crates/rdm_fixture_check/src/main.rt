@@ -3,10 +3,13 @@
 #![tactic(auto)]
 
 mod fault;
+mod outcomes;
 
 use fault::Fault;
+use outcomes::show_outcomes;
 use rdm_device::{Profile, Unit};
 use rdm_fixture::{Fixture, profile_of};
+use rdm_outcomes::demo_rules;
 use std::io::Print;
 use std::process::ExitCode;
 use std::{io, str};
@@ -50,7 +53,8 @@ fn show(rt: &impl Print, fixture: &Fixture) -> io::Result<()> {
     if subs > 0 {
         show_unit(rt, "sub-device", &profile.sub)?;
     }
-    if *profile == Profile::demo(subs) {
+    show_outcomes(rt, fixture.outcomes.as_slice())?;
+    if *profile == Profile::demo(subs) && fixture.outcomes == demo_rules() {
         println!(rt; "It is the demonstration fixture, on which scripts are played.")?;
     }
     Ok(())

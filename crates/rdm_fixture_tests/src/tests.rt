@@ -1,7 +1,8 @@
 //! What no clause says: that the keys are those of docs/FIXTURE.md, and the words of the refusals.
 
-mod numbers;
+mod outcomes;
 mod refusals;
+mod values;
 
 use rdm_fixture::{profile_of, to_toml};
 use std::alloc::Global;

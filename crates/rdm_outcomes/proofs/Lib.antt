@@ -1,0 +1,4 @@
+mod Counting
+mod Fitting
+mod DemoRules
+mod RuleEquality

@@ -26,11 +26,11 @@ suits _ Done = true
 
 abbrev pub is_value : Option ℕ → ℕ → Bool
 is_value None value = true
-is_value (Some only) value = only == value
+is_value (Some only) value = value == only
 
 -- a rule speaks of a job: it is of its task, and for its value, if it has one
 abbrev pub is_for : Rule → Job → Bool
-is_for rule job = (pid_of rule.task == job.work.pid) && is_value rule.value job.work.arg
+is_for rule job = (job.work.pid == pid_of rule.task) && is_value rule.value job.work.arg
 
 -- it is the turn of what comes after so many
 abbrev pub is_turn : Option ℕ → ℕ → Bool

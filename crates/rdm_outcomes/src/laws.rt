@@ -10,7 +10,8 @@ ghost use Rattle.rdm_outcomes.specs.declared.rule.Rule.{Rule as TheRule};
 ghost use Rattle.rdm_outcomes.specs.Outcomes.{CanEnd};
 ghost use Rattle.rdm_outcomes.specs.Demo.{demo_rules, demo_outcome};
 
-use crate::Rule;
+use crate::{Rule, Task};
+use rdm_params::outcomes_are_equal_by_value;
 
 /// Whatever the rules, what they give for the job of a slow command is an outcome that it can have.
 pub fn outcomes_fit()
@@ -23,7 +24,15 @@ pub fn demo_rules_end_jobs()
     ensures { (job : TheJob) (outcome : TheOutcome) → CanEnd demo_rules job outcome ↔ (outcome ≡ demo_outcome job) }
 {}
 
+/// Two tasks are equal by `==` exactly where they are the same.
+pub fn tasks_are_equal_by_value()
+    ensures { (a b : Task) → IsTrue (⟦<Task as PartialEq>⟧.eq a b) ↔ (a ≡ b) }
+{}
+
 /// Two rules are equal by `==` exactly where all their fields are.
 pub fn rules_are_equal_by_value()
     ensures { (a b : Rule) → IsTrue (⟦<Rule as PartialEq>⟧.eq a b) ↔ (a ≡ b) }
-{}
+{
+    tasks_are_equal_by_value();
+    outcomes_are_equal_by_value();
+}

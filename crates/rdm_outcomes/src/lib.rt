@@ -11,6 +11,8 @@ mod planned;
 mod rule;
 
 pub use demo::demo_rules;
-pub use laws::{demo_rules_end_jobs, outcomes_fit, rules_are_equal_by_value};
+pub use laws::{
+    demo_rules_end_jobs, outcomes_fit, rules_are_equal_by_value, tasks_are_equal_by_value,
+};
 pub use planned::{Counted, Planned};
 pub use rule::{MOST_RULES, Rule, Task};

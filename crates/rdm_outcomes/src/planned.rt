@@ -1,9 +1,9 @@
 //! How jobs end, one after another.
 
-ghost use Rattle.std.specs.Prelude.{◌≡◌, List, ◌++◌, ◌∷◌, [], map};
+ghost use Rattle.std.specs.Prelude.{◌≡◌, List, ◌++◌, ◌∷◌, [], map, find, option_copied};
 ghost use Rattle.rdm_outbox.specs.declared.job.Job.{Job as TheJob};
 ghost use Rattle.rdm_outcomes.specs.declared.rule.Rule.{Rule as TheRule};
-ghost use Rattle.rdm_outcomes.specs.Outcomes.{outcome_of, outcome_at, usual_outcome, note, HasEnded};
+ghost use Rattle.rdm_outcomes.specs.Outcomes.{outcome_of, outcome_at, usual_outcome, holds, note, HasEnded};
 
 use crate::rule::{MOST_RULES, Rule};
 use arrayvec::ArrayVec;
@@ -32,7 +32,7 @@ impl Planned {
         ensures { HasEnded result rules.now.items [] }
     {
         let mut counted = ArrayVec::new();
-        for rule in rules {
+        for rule in rules.iter() {
             counted.push(Counted {
                 rule: *rule,
                 seen: 0,
@@ -48,39 +48,51 @@ impl Planned {
         ensures counts { (rules : List TheRule) (before : List TheJob) → HasEnded self.old rules before →
             (result ≡ outcome_of rules before job.now) × HasEnded self.new rules (before ++ job.now ∷ []) }
     {
-        let outcome = self.outcome(job);
-        self.note(job);
+        let outcome = outcome_at(self.counted.as_slice(), job);
+        note_all(self.counted.as_mut_slice(), job);
         outcome
-    }
-
-    /// How a job ends now.
-    fn outcome(&self, job: &Job) -> Outcome
-        ensures { result ≡ outcome_at self.now.counted.items job.now }
-    {
-        match self.counted.iter().find(|c| c.rule.holds(c.seen, job)) {
-            Some(counted) => counted.rule.outcome,
-            None => usual(job),
-        }
-    }
-
-    /// Counts a job that has ended.
-    fn note(&mut self, job: &Job)
-        ensures { self.new.counted.items ≡ map (note job.now) self.old.counted.items }
-    {
-        for counted in &mut self.counted {
-            counted.note(job);
-        }
     }
 }
 
 impl Counted {
-    /// Counts a job, if the rule speaks of it.
-    fn note(&mut self, job: &Job)
-        ensures { self.new ≡ note job.now self.old }
+    /// The rule once a job has ended: it is counted if the rule speaks of it.
+    fn after(self, job: &Job) -> Counted
+        ensures { result ≡ note job.now self }
     {
         if self.rule.is_for(job) {
-            self.seen = self.seen.saturating_add(1);
+            Counted {
+                rule: self.rule,
+                seen: self.seen.saturating_add(1),
+            }
+        } else {
+            self
         }
+    }
+}
+
+/// How a job ends now.
+fn outcome_at(counted: &[Counted], job: &Job) -> Outcome
+    ensures { result ≡ outcome_at counted.now job.now }
+{
+    match first_for(counted, job) {
+        Some(counted) => counted.rule.outcome,
+        None => usual(job),
+    }
+}
+
+/// The first rule that says how a job ends.
+fn first_for<'a>(counted: &'a [Counted], job: &Job) -> Option<&'a Counted>
+    ensures { option_copied result ≡ find (λ c. holds c.rule c.seen job.now) counted.now }
+{
+    counted.iter().find(|c| c.rule.holds(c.seen, job))
+}
+
+/// Counts a job that has ended.
+fn note_all(counted: &mut [Counted], job: &Job)
+    ensures { counted.new ≡ map (note job.now) counted.old }
+{
+    for each in counted.iter_mut() {
+        *each = each.after(job);
     }
 }
 

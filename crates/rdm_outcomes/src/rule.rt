@@ -68,7 +68,7 @@ impl Rule {
     pub fn is_for(&self, job: &Job) -> bool
         ensures { result ≡ is_for self.now job.now }
     {
-        self.task.pid() == job.work.pid && self.value.is_none_or(|value| value == job.work.arg)
+        job.work.pid == self.task.pid() && self.value.is_none_or(|value| job.work.arg == value)
     }
 
     /// Whether the rule says how a job ends that comes after so many that it speaks of.
@@ -79,7 +79,7 @@ impl Rule {
     }
 
     /// Whether its task can have its outcome.
-    fn suits(&self) -> bool
+    pub fn suits(&self) -> bool
         ensures { result ≡ suits self.now.task self.now.outcome }
     {
         match (self.task, self.outcome) {

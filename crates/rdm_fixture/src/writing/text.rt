@@ -3,6 +3,8 @@
 use crate::fixture::Fixture;
 use rdm_device::{Personality, Profile, SensorDef, Unit};
 use rdm_frame::Text;
+use rdm_outcomes::{Rule, Task};
+use rdm_params::{Outcome, Severity};
 use std::alloc::{AllocError, Global};
 use std::fmt::Write;
 
@@ -23,6 +25,9 @@ pub(super) fn text_of(alloc: Global, fixture: &Fixture) -> Result<String, AllocE
         push_sensor(&mut text, sensor)?;
     }
     push_tests_and_statuses(&mut text, profile)?;
+    for rule in fixture.outcomes.as_slice() {
+        push_rule(&mut text, rule)?;
+    }
     // Without the table there are no sub-devices, and they would start as the root.
     if profile.subs > 0 || profile.sub != profile.root {
         let subs = profile.subs;
@@ -129,6 +134,50 @@ fn push_tests_and_statuses(text: &mut String, profile: &Profile) -> Result<(), A
         push_text(text, "description", &status.text)?;
     }
     Ok(())
+}
+
+/// How jobs end. The severity of what is over has no name, so a rule with it isn't read back.
+fn push_rule(text: &mut String, rule: &Rule) -> Result<(), AllocError> {
+    let task = task_name(rule.task);
+    write!(text, "\n[[outcome]]\nparameter = \"{task}\"\n")?;
+    if let Some(value) = rule.value {
+        write!(text, "value = {value}\n")?;
+    }
+    if let Some(job) = rule.turn {
+        write!(text, "job = {job}\n")?;
+    }
+    match rule.outcome {
+        Outcome::Done => text.push_str("done = true\n"),
+        Outcome::Reading(reading) => write!(text, "reading = {reading}\n"),
+        Outcome::Failed {
+            severity,
+            id,
+            v1,
+            v2,
+        } => {
+            let severity = severity_name(severity);
+            write!(text, "severity = \"{severity}\"\nstatus_id = 0x{id:04X}\n")?;
+            write!(text, "data_value_1 = {v1}\ndata_value_2 = {v2}\n")
+        }
+    }
+}
+
+fn task_name(task: Task) -> &'static str {
+    match task {
+        Task::LampState => "LAMP_STATE",
+        Task::PowerState => "POWER_STATE",
+        Task::PerformSelfTest => "PERFORM_SELFTEST",
+        Task::SensorValue => "SENSOR_VALUE",
+    }
+}
+
+fn severity_name(severity: Severity) -> &'static str {
+    match severity {
+        Severity::Advisory => "advisory",
+        Severity::Warning => "warning",
+        Severity::Error => "error",
+        _ => "",
+    }
 }
 
 /// A key with a text, which is left out where it is empty.

@@ -2,4 +2,4 @@ use Rattle.rdm_fixture.proofs.Equality.{fixture_decides}
 use Rattle.rdm_fixture.proofs.laws.fixtures_are_equal_by_value.Goals as goal
 
 pub returns : goal.returns
-returns c = fixture_decides
+returns c = fixture_decides c.rules_are_equal_by_value.ensures

@@ -1,0 +1,145 @@
+//! How jobs end: what may stand in a rule, and what is told of anything else.
+
+use super::{LEAST, told, try_rows};
+use rdm_fixture::{WriteError, profile_of, to_toml};
+use rdm_outcomes::demo_rules;
+use rdm_params::{Outcome, Severity};
+use std::test::Fail;
+
+#[test]
+fn parameters_and_keys(rt: HostRuntime) -> Result<(), Fail> {
+    try_rows(
+        &rt,
+        &[
+            (
+                "",
+                "[[outcome]]\nparameter = \"LAMP_STATE\"\ndone = true",
+                "",
+            ),
+            (
+                "",
+                "[[outcome]]\nparameter = \"PERFORM_SELFTEST\"\nseverity = \"advisory\"\nstatus_id = 1",
+                "",
+            ),
+            (
+                "",
+                "[[outcome]]\ndone = true",
+                "line 6: in outcome 1, the key `parameter` is missing",
+            ),
+            (
+                "",
+                "[[outcome]]\nparameter = \"LAMP\"\ndone = true",
+                "line 7: in outcome 1, `parameter` isn't LAMP_STATE, POWER_STATE, PERFORM_SELFTEST or SENSOR_VALUE",
+            ),
+            (
+                "",
+                "[[outcome]]\nparameter = 0x0403\ndone = true",
+                "line 7: in outcome 1, `parameter` isn't LAMP_STATE, POWER_STATE, PERFORM_SELFTEST or SENSOR_VALUE",
+            ),
+            (
+                "",
+                "[[outcome]]\nparameter = \"LAMP_STATE\"\nturn = 1\ndone = true",
+                "line 8: in outcome 1, there is no key `turn`",
+            ),
+            ("", "[[outcomes]]", "there is no key `outcomes`"),
+            (
+                "outcome = true",
+                "",
+                "line 1: `outcome` isn't a list of 0 to 32 entries",
+            ),
+        ],
+    )
+}
+
+#[test]
+fn what_jobs_come_to(rt: HostRuntime) -> Result<(), Fail> {
+    try_rows(
+        &rt,
+        &[
+            (
+                "",
+                "[[outcome]]\nparameter = \"LAMP_STATE\"",
+                "line 6: in outcome 1, there is none of `done`, `reading` and `severity`",
+            ),
+            (
+                "",
+                "[[outcome]]\nparameter = \"LAMP_STATE\"\ndone = false",
+                "line 8: in outcome 1, `done` isn't true",
+            ),
+            (
+                "",
+                "[[outcome]]\nparameter = \"LAMP_STATE\"\ndone = 1",
+                "line 8: in outcome 1, `done` isn't true",
+            ),
+            (
+                "",
+                "[[outcome]]\nparameter = \"LAMP_STATE\"\ndone = true\nreading = 1",
+                "line 9: in outcome 1, `reading` stands beside another outcome",
+            ),
+            (
+                "",
+                "[[outcome]]\nparameter = \"SENSOR_VALUE\"\nreading = 1\nseverity = \"error\"",
+                "line 9: in outcome 1, `severity` stands beside another outcome",
+            ),
+            (
+                "",
+                "[[outcome]]\nparameter = \"LAMP_STATE\"\nreading = 1",
+                "line 8: in outcome 1, `reading` is no outcome of this parameter",
+            ),
+            (
+                "",
+                "[[outcome]]\nparameter = \"SENSOR_VALUE\"\ndone = true",
+                "line 8: in outcome 1, `done` is no outcome of this parameter",
+            ),
+            (
+                "",
+                "[[outcome]]\nparameter = \"LAMP_STATE\"\nseverity = \"fatal\"\nstatus_id = 1",
+                "line 8: in outcome 1, `severity` isn't advisory, warning or error",
+            ),
+            (
+                "",
+                "[[outcome]]\nparameter = \"LAMP_STATE\"\nseverity = 4\nstatus_id = 1",
+                "line 8: in outcome 1, `severity` isn't advisory, warning or error",
+            ),
+            (
+                "",
+                "[[outcome]]\nparameter = \"LAMP_STATE\"\nseverity = \"warning\"",
+                "line 6: in outcome 1, the key `status_id` is missing",
+            ),
+        ],
+    )
+}
+
+#[test]
+fn how_many(rt: HostRuntime) -> Result<(), Fail> {
+    let mut text = String::from_str(rt.alloc(), LEAST)?;
+    for _ in 0..32 {
+        text.push_str("[[outcome]]\nparameter = \"LAMP_STATE\"\ndone = true\n")?;
+    }
+    assert_eq!(rt; told(rt.alloc(), text.as_str())?.as_str(), "");
+    text.push_str("[[outcome]]\nparameter = \"LAMP_STATE\"\ndone = true\n")?;
+    assert_eq!(rt;
+        told(rt.alloc(), text.as_str())?.as_str(),
+        "`outcome` isn't a list of 0 to 32 entries"
+    );
+    Ok(())
+}
+
+/// The rules of the demonstration are written, and one that fails with what is over isn't.
+#[test]
+fn written(rt: HostRuntime) -> Result<(), Fail> {
+    let mut fixture = profile_of(rt.alloc(), LEAST)?;
+    fixture.outcomes = demo_rules();
+    let text = to_toml(rt.alloc(), &fixture)?;
+    assert!(rt; profile_of(rt.alloc(), text.as_str())? == fixture, "{text}");
+    for rule in fixture.outcomes.as_mut_slice().iter_mut() {
+        rule.outcome = Outcome::Failed {
+            severity: Severity::ErrorCleared,
+            id: 1,
+            v1: 0,
+            v2: 0,
+        };
+    }
+    assert!(rt; to_toml(rt.alloc(), &fixture).err() == Some(WriteError::Indescribable));
+    Ok(())
+}

@@ -1,0 +1,34 @@
+-- `==` of rules.
+use Rattle.std.proofs.Common.{◌≡◌, ℕ, Bool, ◌&&◌, Option, Some, None, refl, ap}
+use Rattle.std.specs.Bool.{Decides}
+use Rattle.std.specs.Option.{option_eq}
+use Rattle.std.specs.Prelude.{nat_eq}
+use Rattle.std.proofs.lemmas.Bool.Decides.{Decides-and, Decides-like, Decides-eqb}
+use Rattle.rdm_params.specs.declared.slow.outcome.Outcome.{Outcome}
+use Rattle.rdm_params.specs.contracts.slow.outcome.OutcomePartialEq.TheImpl as outcomes
+use Rattle.rdm_outcomes.specs.declared.rule.Rule.{Rule}
+use Rattle.rdm_outcomes.specs.declared.rule.Task.{Task}
+use Rattle.rdm_outcomes.specs.contracts.rule.RulePartialEq.TheImpl as rules
+use Rattle.rdm_outcomes.specs.contracts.rule.TaskPartialEq.TheImpl as tasks
+
+some_is : (x y : ℕ) → Some x ≡ Some y → x ≡ y
+some_is x y e = cc
+
+option_decides : (a b : Option ℕ) → Decides (option_eq nat_eq a b) (a ≡ b)
+option_decides None None = (λ _. refl, λ _. refl)
+option_decides None (Some y) = (λ e. absurd cc, λ e. absurd cc)
+option_decides (Some x) None = (λ e. absurd cc, λ e. absurd cc)
+option_decides (Some x) (Some y) = Decides-like (nat_eq x y) (ap Some) (some_is x y) (Decides-eqb x y)
+
+abbrev rule_of : Task → Option ℕ → Option ℕ → Outcome → Rule
+rule_of task value turn outcome = record { task = task; value = value; turn = turn; outcome = outcome }
+
+same_rule : (t u : Task) (v w : Option ℕ) (m n : Option ℕ) (o p : Outcome) → t ≡ u → v ≡ w → m ≡ n → o ≡ p → rule_of t v m o ≡ rule_of u w n p
+same_rule t u v w m n o p e f g h = rw (e, f, g, h) refl
+
+pub rule_decides : ((a b : Task) → Decides (tasks.ghosts.eq a b) (a ≡ b)) → ((a b : Outcome) → Decides (outcomes.ghosts.eq a b) (a ≡ b))
+    → (a b : Rule) → Decides (rules.ghosts.eq a b) (a ≡ b)
+rule_decides task outcome a b =
+    Decides-like _ (λ e. same_rule a.task b.task a.value b.value a.turn b.turn a.outcome b.outcome e.0 e.1.0 e.1.1.0 e.1.1.1)
+    (λ e. (ap (λ (r : Rule). r.task) e, (ap (λ (r : Rule). r.value) e, (ap (λ (r : Rule). r.turn) e, ap (λ (r : Rule). r.outcome) e))))
+    (Decides-and _ _ (task a.task b.task) (Decides-and _ _ (option_decides a.value b.value) (Decides-and _ _ (option_decides a.turn b.turn) (outcome a.outcome b.outcome))))
