@@ -8,6 +8,7 @@ use clap::ArgMatches;
 use rdm_device::Profile;
 use rdm_fixture::{Fixture, profile_of};
 use rdm_frame::Uid;
+use rdm_outcomes::demo_rules;
 use std::str;
 
 /// How many bytes of a fixture file are read: 1 MiB.
@@ -42,6 +43,7 @@ pub fn demonstration() -> Fixture {
     Fixture {
         uid: DEVICE,
         profile: Profile::demo(0),
+        outcomes: demo_rules(),
     }
 }
 

@@ -7,6 +7,7 @@
 mod chart;
 mod fault;
 mod fixture;
+mod outcomes;
 mod play;
 mod source;
 mod system;

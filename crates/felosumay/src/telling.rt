@@ -1,5 +1,6 @@
 //! What a controller will find of a fixture, in words.
 
+use crate::outcomes::tell_outcomes;
 use rdm_device::{Profile, SensorDef, Slot, Unit};
 use rdm_fixture::Fixture;
 use rdm_frame::Text;
@@ -21,6 +22,7 @@ pub fn tell(rt: &impl Print, fixture: &Fixture) -> io::Result<()> {
         tell_sensor(rt, number, sensor)?;
     }
     tell_rest(rt, profile)?;
+    tell_outcomes(rt, fixture.outcomes.as_slice())?;
     match profile.subs {
         0 => println!(rt; "no sub-devices"),
         subs => {
