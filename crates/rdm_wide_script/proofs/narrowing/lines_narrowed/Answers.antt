@@ -1,6 +1,5 @@
-use Rattle.std.proofs.Common.{◌+◌, ◌-◌, length, drop, arith, refl, sym}
+use Rattle.std.proofs.Common.{◌+◌, ◌-◌, length, drop, arith, sym}
 use Rattle.std.proofs.lemmas.List.{take_all, length-drop}
-use Rattle.rdm_wide_script.specs.Lines.{line_ends}
 use Rattle.rdm_wide_script.proofs.LineEnds.{ends_more, ends_none, ends_push}
 use Rattle.rdm_wide_script.proofs.narrowing.lines_narrowed.Goals as goal
 
