@@ -39,6 +39,8 @@ pub(crate) enum Form {
     SensorDefinition,
     /// What a sensor has measured (section 10.7.2).
     SensorValue,
+    /// The number of a self test, none or all of them (section 10.11).
+    SelfTest,
     /// A self test with its text (section 10.11).
     SelfTestText,
     /// A preset and its level (section 10.11).
@@ -67,6 +69,8 @@ pub(crate) enum List {
 pub(crate) enum Codes {
     /// Whether something is on.
     Switch,
+    /// Whether something is so.
+    Truth,
     /// Whether a display is inverted (section 10.9).
     DisplayInvert,
     /// Status types (table A-4).
@@ -75,8 +79,6 @@ pub(crate) enum Codes {
     LampState,
     /// When a lamp is switched on (table A-9).
     LampOnMode,
-    /// Self tests (table A-10).
-    SelfTest,
     /// Power states (table A-11).
     PowerState,
 }

@@ -46,7 +46,7 @@ fn get_layout(kind: Kind) -> Layout {
         Kind::DmxPersonalityDescription => named("personality", Form::Number),
         Kind::SlotDescription => plain(Form::Slot),
         Kind::SensorDefinition | Kind::SensorValue => plain(Form::Sensor),
-        Kind::SelfTestDescription => code("self test", Codes::SelfTest),
+        Kind::SelfTestDescription => plain(Form::SelfTest),
         _ => NOTHING,
     }
 }
@@ -57,7 +57,7 @@ fn set_layout(kind: Kind) -> Layout {
         Kind::FactoryDefaults | Kind::ClearStatusId => NOTHING,
         Kind::DmxPersonality => named("personality", Form::Number),
         Kind::SensorValue | Kind::RecordSensors => plain(Form::Sensor),
-        Kind::PerformSelfTest => code("self test", Codes::SelfTest),
+        Kind::PerformSelfTest => plain(Form::SelfTest),
         _ => value_layout(kind),
     }
 }
@@ -73,9 +73,9 @@ fn set_reply_layout(kind: Kind) -> Layout {
 /// The data of a response to a GET.
 fn get_reply_layout(kind: Kind) -> Layout {
     match kind {
-        Kind::FactoryDefaults => code("factory defaults", Codes::Switch),
+        Kind::FactoryDefaults => code("factory defaults in use", Codes::Truth),
         Kind::DmxPersonality => plain(Form::Personality),
-        Kind::PerformSelfTest => code("self test", Codes::Switch),
+        Kind::PerformSelfTest => code("self test active", Codes::Truth),
         Kind::StatusMessages => plain(Form::List(List::Statuses)),
         Kind::SupportedParameters => plain(Form::List(List::Parameters)),
         Kind::DeviceInfo => plain(Form::DeviceInfo),

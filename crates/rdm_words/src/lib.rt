@@ -25,11 +25,11 @@ mod slots;
 mod statuses;
 pub mod tables;
 mod text;
-mod trace_line;
+mod trace;
 mod trace_words;
 mod values;
 
 pub use known::Known;
 pub use line_words::{put_line_words, words};
 pub use short::{put_reply_words, put_request_words};
-pub use trace_line::{JobName, TraceLine, trace_line};
+pub use trace::{JobName, TraceLine, trace_line};

@@ -1,64 +1,98 @@
 //! The words of lines, one by one and of a whole text.
 
-ghost use Rattle.std.specs.Prelude.{◌<◌, length, IfSome};
+ghost use Rattle.std.specs.Prelude.{◌≡◌, ◌<◌, ◌==◌, ℕ, List, [], ◌∷◌, ◌++◌, length, position, IfOk, IfSome, OnOk, string_bytes};
+ghost use Rattle.std.specs.Str.Lines.{lines, strip_carriage_return as without_return};
+ghost use Rattle.rdm_words.specs.Said.{Says, SayInTurn};
 
 use crate::Known;
 use crate::digits::wire_in;
 use crate::frame_words::put_bytes_words;
 use crate::text::put_escaped;
-use crate::trace_line::trace_line;
+use crate::trace::trace_line;
 use crate::trace_words::put_trace_line;
 use std::alloc::{AllocError, Global};
 
 /// The words of each line of a text, in order. A line ends with LF, before which a CR is dropped; the last LF may be
 /// missing. Fails only where memory is refused.
-pub fn words(alloc: Global, text: &[u8], known: &Known<'_>) -> Result<Vec<u8>, AllocError> {
+pub fn words(alloc: Global, text: &[u8], known: &Known<'_>) -> Result<Vec<u8>, AllocError>
+    ensures said { IfOk result (λ out. SayInTurn (lines text.now) out.items) }
+{
     let mut out = Vec::new(alloc);
     let mut rest = text;
     while let Some(end) = line_end(rest) {
         put_line_words(&mut out, without_return(&rest[..end]), known)?;
         rest = &rest[end + 1..];
     }
-    if !rest.is_empty() {
-        put_line_words(&mut out, rest, known)?;
+    if rest.is_empty() {
+        return Ok(out);
     }
+    put_line_words(&mut out, rest, known)?;
     Ok(out)
 }
 
 /// Puts the words of one line at the end: one or more lines of text, each of which ends with LF. The line, without its line
 /// end, is one of a trace, or a frame in hexadecimal digits of either case, with spaces between the bytes or without. Any
 /// other line is shown as it stands. Fails only where memory is refused.
-pub fn put_line_words(out: &mut Vec<u8>, line: &[u8], known: &Known<'_>) -> Result<(), AllocError> {
+pub fn put_line_words(out: &mut Vec<u8>, line: &[u8], known: &Known<'_>) -> Result<(), AllocError>
+    ensures said { OnOk result ((own : List ℕ) × Says line.now own × (out.new.items ≡ out.old.items ++ own)) }
+{
     let mut text = String::new(*out.allocator());
-    put_line(&mut text, line, known)?;
-    out.extend_from_slice(text.as_bytes())?;
-    out.extend_from_slice(b"\n")
-}
-
-/// The words of a line, without the last line end. An empty line has none.
-fn put_line(text: &mut String, line: &[u8], known: &Known<'_>) -> Result<(), AllocError> {
-    if line.is_empty() {
+    put_read(&mut text, line, known)?;
+    if !text.is_empty() {
+        put_whole(out, text.as_bytes())?;
         return Ok(());
     }
+    if line.is_empty() {
+        put_whole(out, b"")?;
+        return Ok(());
+    }
+    put_unread(&mut text, line)?;
+    put_whole(out, text.as_bytes())?;
+    Ok(())
+}
+
+/// The words of a line, without the last line end, or none where it is neither a line of a trace nor a frame.
+fn put_read(text: &mut String, line: &[u8], known: &Known<'_>) -> Result<(), AllocError> {
     if let Some(said) = trace_line(line) {
         return put_trace_line(text, &said, known);
     }
-    if let Some(bytes) = wire_in(line) {
-        return put_bytes_words(text, bytes.as_slice(), known);
+    match wire_in(line) {
+        Some(bytes) => put_bytes_words(text, bytes.as_slice(), known),
+        None => Ok(()),
     }
+}
+
+/// A line that isn't read, as it stands.
+fn put_unread(text: &mut String, line: &[u8]) -> Result<(), AllocError>
+    ensures { OnOk result (0 < length (string_bytes text.new)) }
+{
+    let mut shown = String::new(*text.allocator());
+    put_escaped(&mut shown, line)?;
     text.push_str("not read: ")?;
-    put_escaped(text, line)
+    text.push_str(shown.as_str())?;
+    Ok(())
+}
+
+/// A line of its own, with these words.
+fn put_whole(out: &mut Vec<u8>, words: &[u8]) -> Result<(), AllocError>
+    ensures { OnOk result (out.new.items ≡ out.old.items ++ (words.now ++ 10 ∷ [])) }
+{
+    out.extend_from_slice(words)?;
+    out.extend_from_slice(b"\n")
 }
 
 /// Where the first line ends, if an LF ends it.
 fn line_end(text: &[u8]) -> Option<usize>
+    ensures end { result ≡ position (λ b. b == 10) text.now }
     ensures within { IfSome result (λ end. end < length text.now) }
 {
     text.iter().position(|b| *b == b'\n')
 }
 
 /// A line without the carriage return at its end, if it has one.
-fn without_return(line: &[u8]) -> &[u8] {
+fn without_return(line: &[u8]) -> &[u8]
+    ensures { result.now ≡ without_return line.now }
+{
     match line {
         [front @ .., b'\r'] => front,
         _ => line,

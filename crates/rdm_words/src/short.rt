@@ -1,5 +1,7 @@
 //! What a frame says in a few words, for a picture.
 
+ghost use Rattle.std.specs.Prelude.{◌≡◌, ℕ, List, ◌++◌, OnOk};
+
 use crate::Known;
 use crate::class::Class;
 use crate::device_info::put_product_in_short;
@@ -26,7 +28,9 @@ pub fn put_request_words(
     out: &mut Vec<u8>,
     bytes: &[u8],
     known: &Known<'_>,
-) -> Result<(), AllocError> {
+) -> Result<(), AllocError>
+    ensures kept { OnOk result ((own : List ℕ) × (out.new.items ≡ out.old.items ++ own)) }
+{
     let mut text = String::new(*out.allocator());
     match decode_view(bytes) {
         Ok(frame) => put_request(&mut text, &frame, &known.at(frame.dst))?,
@@ -37,11 +41,9 @@ pub fn put_request_words(
 
 /// Puts what a reply says at the end, in one line of at most some 80 characters without its line end, as `ACK`,
 /// `ACK_TIMER 5.0 s` or `NACK: data out of range`. Bytes that are no frame and no answer to discovery are named as such.
-pub fn put_reply_words(
-    out: &mut Vec<u8>,
-    bytes: &[u8],
-    known: &Known<'_>,
-) -> Result<(), AllocError> {
+pub fn put_reply_words(out: &mut Vec<u8>, bytes: &[u8], known: &Known<'_>) -> Result<(), AllocError>
+    ensures kept { OnOk result ((own : List ℕ) × (out.new.items ≡ out.old.items ++ own)) }
+{
     let mut text = String::new(*out.allocator());
     match decode_view(bytes) {
         Ok(frame) => put_reply(&mut text, &frame, &known.at(frame.src))?,

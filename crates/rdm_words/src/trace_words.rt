@@ -45,18 +45,18 @@ pub(crate) fn put_trace_line(
 fn put_fault(text: &mut String, fault: Fault) -> Result<(), AllocError> {
     match fault {
         Fault::None => Ok(()),
-        Fault::LostRequest => text.push_str("\n  the request is lost"),
-        Fault::LostReply => text.push_str("\n  the reply is lost"),
+        Fault::LostRequest => text.push_str("\n  fault: the request is lost"),
+        Fault::LostReply => text.push_str("\n  fault: the reply is lost"),
         Fault::BadRequest(slot, raise) => {
             write!(
                 text,
-                "\n  the request is altered: slot {slot} raised by {raise}"
+                "\n  fault: slot {slot} of the request is raised by {raise}"
             )
         }
         Fault::BadReply(slot, raise) => {
             write!(
                 text,
-                "\n  the reply is altered: slot {slot} raised by {raise}"
+                "\n  fault: slot {slot} of the reply is raised by {raise}"
             )
         }
     }

@@ -9,7 +9,7 @@ use crate::sensors::{put_sensor, put_sensor_definition, put_sensor_value};
 use crate::slots::{put_slot, put_slot_text};
 use crate::statuses::put_status_id;
 use crate::tables::settings::{
-    display_invert, lamp_on_mode, lamp_state, power_state, preset, self_test, switch,
+    display_invert, lamp_on_mode, lamp_state, power_state, preset, self_test, switch, truth,
 };
 use crate::tables::statuses::status_type;
 use crate::text::{put_hex, put_quoted};
@@ -35,6 +35,7 @@ pub(crate) fn put_value(
         Form::StartAddress => put_start_address(text, noun, data),
         Form::Personality => put_personality(text, data),
         Form::PersonalityText => put_personality_text(text, data),
+        Form::SelfTest => put_self_test(text, data),
         Form::SelfTestText => put_self_test_text(text, data),
         Form::Preset => put_preset(text, data),
         Form::DeviceInfo => put_device_info(text, data),
@@ -123,29 +124,26 @@ pub(crate) fn put_coded(
 fn name_of(codes: Codes, code: u8) -> Option<&'static str> {
     match codes {
         Codes::Switch => switch(code),
+        Codes::Truth => truth(code),
         Codes::DisplayInvert => display_invert(code),
         Codes::StatusType => status_type(code),
         Codes::LampState => lamp_state(code),
         Codes::LampOnMode => lamp_on_mode(code),
-        Codes::SelfTest => self_test(code),
         Codes::PowerState => power_state(code),
     }
 }
 
 fn put_languages(text: &mut String, noun: &str, data: &[u8]) -> Result<(), AllocError> {
     put_noun(text, noun)?;
-    let mut rest = data;
-    while let [a, b, more @ ..] = rest {
-        put_quoted(text, &[*a, *b])?;
-        if !more.is_empty() {
+    let mut is_first = true;
+    for language in data.chunks(2) {
+        if !is_first {
             text.push(' ')?;
         }
-        rest = more;
+        put_quoted(text, language)?;
+        is_first = false;
     }
-    if rest.is_empty() {
-        return Ok(());
-    }
-    put_data(text, rest)
+    Ok(())
 }
 
 /// A start address. FFFF stands for a device that uses no slots.
@@ -176,6 +174,17 @@ fn put_personality_text(text: &mut String, data: &[u8]) -> Result<(), AllocError
     write!(text, "personality {number}: ")?;
     put_quoted(text, name)?;
     write!(text, ", footprint {footprint}")
+}
+
+/// The number of a self test, none or all of them.
+fn put_self_test(text: &mut String, data: &[u8]) -> Result<(), AllocError> {
+    let [number] = data else {
+        return put_data(text, data);
+    };
+    match self_test(*number) {
+        Some(name) => write!(text, "self test {name} ({number:02X})"),
+        None => write!(text, "self test {number}"),
+    }
 }
 
 fn put_self_test_text(text: &mut String, data: &[u8]) -> Result<(), AllocError> {

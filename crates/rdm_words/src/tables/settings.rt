@@ -63,6 +63,15 @@ pub fn display_invert(code: u8) -> Option<&'static str> {
     })
 }
 
+/// Whether something is so.
+pub fn truth(code: u8) -> Option<&'static str> {
+    Some(match code {
+        0x00 => "no",
+        0x01 => "yes",
+        _ => return None,
+    })
+}
+
 /// Whether something is on.
 pub fn switch(code: u8) -> Option<&'static str> {
     Some(match code {
