@@ -17,7 +17,6 @@ use Rattle.rdm_frame.proofs.NumberSpellings.{long, word_read, word_again, uid_sp
 use Rattle.rdm_bus.specs.declared.command.Action.{Action}
 use Rattle.rdm_bus.specs.declared.command.Action.TheVariants.{Disc, Get, Set}
 use Rattle.rdm_bus.specs.declared.command.Command.{Command}
-use Rattle.rdm_script.specs.Parties.{device}
 use Rattle.rdm_script.specs.Grammar.{action_in, destination_in, load_in, command_in}
 use Rattle.rdm_script.specs.Spelling.{SpellsDestination, SpellsLoad, SpellsAction}
 
@@ -40,15 +39,15 @@ guarded false o z h = absurd cc
 
 -- ---- whom a command is for
 
-destination_read : (text : List ℕ) (u : Uid) → destination_in text ≡ Some u → SpellsDestination text u
+destination_read : (dev : Uid) (text : List ℕ) (u : Uid) → destination_in dev text ≡ Some u → SpellsDestination dev text u
 unfolding destination_in
-destination_read text u e =
-    elim (chosen (bytes_eq text (codes "dev")) (Some device) _ (Some u) e) [
-      | inl h ↦ inl ((bytes_eq-Decides text (codes "dev")).0 h.0, sym (same_Some device u h.1))
+destination_read dev text u e =
+    elim (chosen (bytes_eq text (codes "dev")) (Some dev) _ (Some u) e) [
+      | inl h ↦ inl ((bytes_eq-Decides text (codes "dev")).0 h.0, sym (same_Some dev u h.1))
       | inr h ↦ inr (elim (chosen (bytes_eq text (codes "all")) (Some all_devices) _ (Some u) h.1) [
         | inl k ↦ inl ((bytes_eq-Decides text (codes "all")).0 k.0, sym (same_Some all_devices u k.1))
-        | inr k ↦ inr (elim (chosen (bytes_eq text (codes "maker")) (Some (all_of device.maker)) _ (Some u) k.1) [
-          | inl m ↦ inl ((bytes_eq-Decides text (codes "maker")).0 m.0, sym (same_Some (all_of device.maker) u m.1))
+        | inr k ↦ inr (elim (chosen (bytes_eq text (codes "maker")) (Some (all_of dev.maker)) _ (Some u) k.1) [
+          | inl m ↦ inl ((bytes_eq-Decides text (codes "maker")).0 m.0, sym (same_Some (all_of dev.maker) u m.1))
           | inr m ↦ inr ((uid_spelled text u).0 m.1)
         ])
       ])
@@ -61,12 +60,12 @@ differs text name h = not_true (bytes_eq text name) (λ e. h (ap length ((bytes_
 thirteen : (text : List ℕ) (u : Uid) → SpellsUid text u → length text ≡ 13
 thirteen text u s = let kept : length (map upper text) ≡ length text = rw length-map refl in sym kept ∙ ap length s.printed
 
-destination_again : (text : List ℕ) (u : Uid) → SpellsDestination text u → destination_in text ≡ Some u
+destination_again : (dev : Uid) (text : List ℕ) (u : Uid) → SpellsDestination dev text u → destination_in dev text ≡ Some u
 unfolding destination_in
-destination_again text u (inl h) = rw (h.0, h.1) refl
-destination_again text u (inr (inl h)) = rw (h.0, h.1) refl
-destination_again text u (inr (inr (inl h))) = rw (h.0, h.1) refl
-destination_again text u (inr (inr (inr s))) =
+destination_again dev text u (inl h) = rw (h.0, h.1) refl
+destination_again dev text u (inr (inl h)) = rw (h.0, h.1) refl
+destination_again dev text u (inr (inr (inl h))) = rw (h.0, h.1) refl
+destination_again dev text u (inr (inr (inr s))) =
     let n = thirteen text u s in
     rw (differs text (codes "dev") (λ e. omega arith), differs text (codes "all") (λ e. omega arith), differs text (codes "maker") (λ e. omega arith)) ((uid_spelled text u).1 s)
 
@@ -111,25 +110,25 @@ action_again text Set s = rw s refl
 -- ---- a command
 
 -- the five words of a command, one by one
-pub record SpellsWords (w0 w1 w2 w3 w4 : List ℕ) (c : Command) : Type 0 where
+pub record SpellsWords (dev : Uid) (w0 w1 w2 w3 w4 : List ℕ) (c : Command) : Type 0 where
   pub action : SpellsAction w0 c.action
-  pub destination : SpellsDestination w1 c.dst
+  pub destination : SpellsDestination dev w1 c.dst
   pub sub : SpellsNumber w16 w2 c.sub
   pub pid : SpellsNumber w16 w3 c.pid
   pub load : SpellsLoad w4 c.load
 
-pub command_read : (action dst sub pid load : List ℕ) (c : Command) → command_in action dst sub pid load ≡ Some c → SpellsWords action dst sub pid load c
+pub command_read : (dev : Uid) (action dst sub pid load : List ℕ) (c : Command) → command_in dev action dst sub pid load ≡ Some c → SpellsWords dev action dst sub pid load c
 unfolding command_in
-command_read action dst sub pid load c e =
-    option_and_then_some (λ a. destination_in dst >>= λ d. number_in w16 sub >>= λ s. number_in w16 pid >>= λ p. load_in load >>= λ l. Some (record { dst = d; action = a; sub = s; pid = p; load = l })) (action_in action) c e (λ a is_a e1.
-    option_and_then_some (λ d. number_in w16 sub >>= λ s. number_in w16 pid >>= λ p. load_in load >>= λ l. Some (record { dst = d; action = a; sub = s; pid = p; load = l })) (destination_in dst) c e1 (λ d is_d e2.
+command_read dev action dst sub pid load c e =
+    option_and_then_some (λ a. destination_in dev dst >>= λ d. number_in w16 sub >>= λ s. number_in w16 pid >>= λ p. load_in load >>= λ l. Some (record { dst = d; action = a; sub = s; pid = p; load = l })) (action_in action) c e (λ a is_a e1.
+    option_and_then_some (λ d. number_in w16 sub >>= λ s. number_in w16 pid >>= λ p. load_in load >>= λ l. Some (record { dst = d; action = a; sub = s; pid = p; load = l })) (destination_in dev dst) c e1 (λ d is_d e2.
     option_and_then_some (λ s. number_in w16 pid >>= λ p. load_in load >>= λ l. Some (record { dst = d; action = a; sub = s; pid = p; load = l })) (number_in w16 sub) c e2 (λ s is_s e3.
     option_and_then_some (λ p. load_in load >>= λ l. Some (record { dst = d; action = a; sub = s; pid = p; load = l })) (number_in w16 pid) c e3 (λ p is_p e4.
     option_and_then_some (λ l. Some (record { dst = d; action = a; sub = s; pid = p; load = l })) (load_in load) c e4 (λ l is_l made.
     let one : Command = record { dst = d; action = a; sub = s; pid = p; load = l } in
-    subst (λ (x : Command). SpellsWords action dst sub pid load x) (same_Some one c made) (record { action = action_read action a is_a; destination = destination_read dst d is_d; sub = word_read sub s is_s; pid = word_read pid p is_p; load = load_read load l is_l }))))))
+    subst (λ (x : Command). SpellsWords dev action dst sub pid load x) (same_Some one c made) (record { action = action_read action a is_a; destination = destination_read dev dst d is_d; sub = word_read sub s is_s; pid = word_read pid p is_p; load = load_read load l is_l }))))))
 
-pub command_again : (action dst sub pid load : List ℕ) (c : Command) → SpellsWords action dst sub pid load c → command_in action dst sub pid load ≡ Some c
+pub command_again : (dev : Uid) (action dst sub pid load : List ℕ) (c : Command) → SpellsWords dev action dst sub pid load c → command_in dev action dst sub pid load ≡ Some c
 unfolding command_in
-command_again action dst sub pid load c s =
-    rw (action_again action c.action s.action, destination_again dst c.dst s.destination, word_again sub c.sub s.sub, word_again pid c.pid s.pid, load_again load c.load s.load) refl
+command_again dev action dst sub pid load c s =
+    rw (action_again action c.action s.action, destination_again dev dst c.dst s.destination, word_again sub c.sub s.sub, word_again pid c.pid s.pid, load_again load c.load s.load) refl

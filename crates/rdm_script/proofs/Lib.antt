@@ -1,11 +1,12 @@
 pub mod CommandSpellings
 pub mod DecimalSpellings
-pub mod DemoFits
+pub mod DemoScene
 pub mod Failing
 pub mod LineSpellings
 pub mod Lines
 pub mod Pieces
+pub mod Reading
 pub mod ScriptSpellings
-pub mod StreamLemmas
 pub mod Stopping
+pub mod Widening
 pub mod Words

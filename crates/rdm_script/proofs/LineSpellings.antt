@@ -7,6 +7,7 @@ use Rattle.std.proofs.lemmas.Bool.{eqb-true, leb-true, le-leb}
 use Rattle.std.proofs.lemmas.Bool.Decides.{nat_tests}
 use Rattle.std.proofs.lemmas.Option.{option_and_then_some, same_Some, cond_some}
 use Rattle.std.proofs.lemmas.Slice.Eq.{bytes_eq-Decides}
+use Rattle.rdm_frame.specs.declared.uid.Uid.{Uid}
 use Rattle.rdm_frame.specs.DigitReading.{◌>>=◌}
 use Rattle.rdm_bus.specs.declared.command.Action.{Action}
 use Rattle.rdm_bus.specs.declared.command.Action.TheVariants.{Disc, Get, Set}
@@ -115,21 +116,21 @@ fault_again words (fault.BadReply k x) s = three_again (codes "bad-reply") words
 
 -- ---- a step
 
-command_step_read : (words : List (List ℕ)) (step : CrewStep) → command_step_in words ≡ Some step → SpellsStep words step
+command_step_read : (dev : Uid) (words : List (List ℕ)) (step : CrewStep) → command_step_in dev words ≡ Some step → SpellsStep dev words step
 unfolding command_step_in asked
-command_step_read words step e =
-    let said = command_in (word words 0) (word words 1) (word words 2) (word words 3) (word words 4) in
+command_step_read dev words step e =
+    let said = command_in dev (word words 0) (word words 1) (word words 2) (word words 3) (word words 4) in
     let g = guarded (leb 5 (length words)) (asked said (fault_in (drop 5 words))) step e in
     option_and_then_some (λ c. fault_in (drop 5 words) >>= λ f. Some (Ask c f)) said step g.1 (λ c is_c rest.
     option_and_then_some (λ f. Some (Ask c f)) (fault_in (drop 5 words)) step rest (λ f is_f made.
-    let s = command_read (word words 0) (word words 1) (word words 2) (word words 3) (word words 4) c is_c in
-    let spelled : SpellsCommand words c = record { five = leb-true _ _ g.0; action = s.action; destination = s.destination; sub = s.sub; pid = s.pid; load = s.load } in
-    subst (λ (x : CrewStep). SpellsStep words x) (same_Some (Ask c f) step made) (spelled, fault_read (drop 5 words) f is_f)))
+    let s = command_read dev (word words 0) (word words 1) (word words 2) (word words 3) (word words 4) c is_c in
+    let spelled : SpellsCommand dev words c = record { five = leb-true _ _ g.0; action = s.action; destination = s.destination; sub = s.sub; pid = s.pid; load = s.load } in
+    subst (λ (x : CrewStep). SpellsStep dev words x) (same_Some (Ask c f) step made) (spelled, fault_read (drop 5 words) f is_f)))
 
-command_step_again : (words : List (List ℕ)) (c : Command) (f : Fault) → SpellsCommand words c → SpellsFault (drop 5 words) f → command_step_in words ≡ Some (Ask c f)
+command_step_again : (dev : Uid) (words : List (List ℕ)) (c : Command) (f : Fault) → SpellsCommand dev words c → SpellsFault (drop 5 words) f → command_step_in dev words ≡ Some (Ask c f)
 unfolding command_step_in asked
-command_step_again words c f s wrong =
-    let said = command_again (word words 0) (word words 1) (word words 2) (word words 3) (word words 4) c (record { action = s.action; destination = s.destination; sub = s.sub; pid = s.pid; load = s.load }) in
+command_step_again dev words c f s wrong =
+    let said = command_again dev (word words 0) (word words 1) (word words 2) (word words 3) (word words 4) c (record { action = s.action; destination = s.destination; sub = s.sub; pid = s.pid; load = s.load }) in
     rw (le-leb 5 (length words) s.five, said, fault_again (drop 5 words) f wrong) refl
 
 mapped : (o : Option Fault) (step : CrewStep) → option_map (λ f. Collect f) o ≡ Some step → (f : Fault) × (o ≡ Some f) × (Collect f ≡ step)
@@ -160,27 +161,27 @@ empties_read name words n e is_n =
     let read = number_read 4294967295 (word words 1) n is_n in
     record { two = eqb-true _ _ tests.0; named = named (word words 0) name tests.1; empties = read.0; empties_fit = read.1 }
 
-pub step_read : (words : List (List ℕ)) (step : CrewStep) → step_in words ≡ Some step → SpellsStep words step
+pub step_read : (dev : Uid) (words : List (List ℕ)) (step : CrewStep) → step_in dev words ≡ Some step → SpellsStep dev words step
 unfolding step_in
-step_read words step e =
+step_read dev words step e =
     elim (chosen (bytes_eq (word words 0) (codes "collect")) (option_map (λ f. Collect f) (fault_in (drop 1 words))) _ (Some step) e) [
       | inl h ↦
           let p = mapped (fault_in (drop 1 words)) step h.1 in
-          subst (λ (x : CrewStep). SpellsStep words x) p.2 (named (word words 0) (codes "collect") h.0, fault_read (drop 1 words) p.0 p.1)
+          subst (λ (x : CrewStep). SpellsStep dev words x) p.2 (named (word words 0) (codes "collect") h.0, fault_read (drop 1 words) p.0 p.1)
       | inr h ↦
           elim (chosen (eqb (length words) 1 && bytes_eq (word words 0) (codes "draw")) (Some Draw) _ (Some step) h.1) [
-            | inl k ↦ subst (λ (x : CrewStep). SpellsStep words x) (same_Some Draw step k.1) (draw_read words k.0)
+            | inl k ↦ subst (λ (x : CrewStep). SpellsStep dev words x) (same_Some Draw step k.1) (draw_read words k.0)
             | inr k ↦
                 elim (chosen (eqb (length words) 2 && bytes_eq (word words 0) (codes "settle")) (option_map (λ n. Settle n) (number_up_to 4294967295 (word words 1))) _ (Some step) k.1) [
                   | inl l ↦
                       let p = counted (λ n. Settle n) (number_up_to 4294967295 (word words 1)) step l.1 in
-                      subst (λ (x : CrewStep). SpellsStep words x) p.2 (empties_read (codes "settle") words p.0 l.0 p.1)
+                      subst (λ (x : CrewStep). SpellsStep dev words x) p.2 (empties_read (codes "settle") words p.0 l.0 p.1)
                   | inr l ↦
                       elim (chosen (eqb (length words) 2 && bytes_eq (word words 0) (codes "panel")) (option_map (λ n. Panel n) (number_up_to 4294967295 (word words 1))) _ (Some step) l.1) [
                         | inl m ↦
                             let p = counted (λ n. Panel n) (number_up_to 4294967295 (word words 1)) step m.1 in
-                            subst (λ (x : CrewStep). SpellsStep words x) p.2 (empties_read (codes "panel") words p.0 m.0 p.1)
-                        | inr m ↦ command_step_read words step m.1
+                            subst (λ (x : CrewStep). SpellsStep dev words x) p.2 (empties_read (codes "panel") words p.0 m.0 p.1)
+                        | inr m ↦ command_step_read dev words step m.1
                       ]
                 ]
           ]
@@ -191,16 +192,16 @@ no_poll text Disc s = rw s refl
 no_poll text Get s = rw s refl
 no_poll text Set s = rw s refl
 
-pub step_again : (words : List (List ℕ)) (step : CrewStep) → SpellsStep words step → step_in words ≡ Some step
+pub step_again : (dev : Uid) (words : List (List ℕ)) (step : CrewStep) → SpellsStep dev words step → step_in dev words ≡ Some step
 unfolding step_in
-step_again words (Ask c f) s =
+step_again dev words (Ask c f) s =
     let not_one : eqb (length words) 1 ≡ false = let long = s.0.five in grind (arith, nat_tests) in
     let not_two : eqb (length words) 2 ≡ false = let long = s.0.five in grind (arith, nat_tests) in
-    rw (no_poll (word words 0) c.action s.0.action, not_one, not_two) (command_step_again words c f s.0 s.1)
-step_again words (Collect f) s = rw (s.0, fault_again (drop 1 words) f s.1) refl
-step_again words Draw s = rw s refl
-step_again words (Settle n) s = rw (s.named, s.two, number_again 4294967295 (word words 1) n s.empties s.empties_fit) refl
-step_again words (Panel n) s = rw (s.named, s.two, number_again 4294967295 (word words 1) n s.empties s.empties_fit) refl
+    rw (no_poll (word words 0) c.action s.0.action, not_one, not_two) (command_step_again dev words c f s.0 s.1)
+step_again dev words (Collect f) s = rw (s.0, fault_again (drop 1 words) f s.1) refl
+step_again dev words Draw s = rw s refl
+step_again dev words (Settle n) s = rw (s.named, s.two, number_again 4294967295 (word words 1) n s.empties s.empties_fit) refl
+step_again dev words (Panel n) s = rw (s.named, s.two, number_again 4294967295 (word words 1) n s.empties s.empties_fit) refl
 
 -- ---- a setup
 
@@ -253,12 +254,12 @@ no_setup words h = no_setup_at (setup_in words) (λ s e. h s (setup_read words s
 pub setup_isnt_skipped : (words : List (List ℕ)) (s : Setup) → SpellsSetup words s → is_skipped words ≡ false
 setup_isnt_skipped words s h = rw (h.four, h.named) refl
 
-pub setup_is_no_step : (words : List (List ℕ)) (s : Setup) (step : CrewStep) → SpellsSetup words s → SpellsStep words step → ⊥
-setup_is_no_step words s (Ask c f) h k = omega (arith, h.four, k.0.five)
-setup_is_no_step words s (Collect f) h k = let same : codes "collect" ≡ codes "setup" = sym k.0 ∙ h.named in let lens : length (codes "collect") ≡ length (codes "setup") = ap length same in omega (arith, lens)
-setup_is_no_step words s Draw h k = let lens : length words ≡ 1 = ap length k in omega (arith, h.four, lens)
-setup_is_no_step words s (Settle n) h k = omega (arith, h.four, k.two)
-setup_is_no_step words s (Panel n) h k = omega (arith, h.four, k.two)
+pub setup_is_no_step : (dev : Uid) (words : List (List ℕ)) (s : Setup) (step : CrewStep) → SpellsSetup words s → SpellsStep dev words step → ⊥
+setup_is_no_step dev words s (Ask c f) h k = omega (arith, h.four, k.0.five)
+setup_is_no_step dev words s (Collect f) h k = let same : codes "collect" ≡ codes "setup" = sym k.0 ∙ h.named in let lens : length (codes "collect") ≡ length (codes "setup") = ap length same in omega (arith, lens)
+setup_is_no_step dev words s Draw h k = let lens : length words ≡ 1 = ap length k in omega (arith, h.four, lens)
+setup_is_no_step dev words s (Settle n) h k = omega (arith, h.four, k.two)
+setup_is_no_step dev words s (Panel n) h k = omega (arith, h.four, k.two)
 
 -- ---- a line
 
@@ -266,93 +267,93 @@ said : (o : Option CrewStep) (step : CrewStep) → option_map_or (λ (x : CrewSt
 said None step e = absurd cc
 said (Some other) step e = let same : other ≡ step = cc in ap (λ (x : CrewStep). Some x) same
 
-pub line_read : (words : List (List ℕ)) (step : CrewStep) → line_in words ≡ Says step → (is_skipped words ≡ false) × SpellsStep words step
+pub line_read : (dev : Uid) (words : List (List ℕ)) (step : CrewStep) → line_in dev words ≡ Says step → (is_skipped words ≡ false) × SpellsStep dev words step
 unfolding line_in
-line_read words step e =
+line_read dev words step e =
     elim (chosen (is_skipped words) Skipped _ (Says step) e) [
       | inl h ↦ let never : Skipped ≡ Says step = h.1 in absurd cc
-      | inr h ↦ (h.0, step_read words step (said (step_in words) step h.1))
+      | inr h ↦ (h.0, step_read dev words step (said (step_in dev words) step h.1))
     ]
 
-pub line_again : (words : List (List ℕ)) (step : CrewStep) → is_skipped words ≡ false → SpellsStep words step → line_in words ≡ Says step
+pub line_again : (dev : Uid) (words : List (List ℕ)) (step : CrewStep) → is_skipped words ≡ false → SpellsStep dev words step → line_in dev words ≡ Says step
 unfolding line_in
-line_again words step out s = rw (out, step_again words step s) refl
+line_again dev words step out s = rw (out, step_again dev words step s) refl
 
-pub said_skipped : (words : List (List ℕ)) → is_skipped words ≡ true → line_in words ≡ Skipped
+pub said_skipped : (dev : Uid) (words : List (List ℕ)) → is_skipped words ≡ true → line_in dev words ≡ Skipped
 unfolding line_in
-said_skipped words h = rw h refl
+said_skipped dev words h = rw h refl
 
 -- what a line says that isn't skipped
-spoken_at : (words : List (List ℕ)) (o : Option CrewStep) → step_in words ≡ o → (option_map_or (λ (x : CrewStep). Says x) o Faulty ≡ Faulty) ⊎ ((step : CrewStep) × (option_map_or (λ (x : CrewStep). Says x) o Faulty ≡ Says step) × SpellsStep words step)
-spoken_at words None e = inl refl
-spoken_at words (Some step) e = inr (step, refl, step_read words step e)
+spoken_at : (dev : Uid) (words : List (List ℕ)) (o : Option CrewStep) → step_in dev words ≡ o → (option_map_or (λ (x : CrewStep). Says x) o Faulty ≡ Faulty) ⊎ ((step : CrewStep) × (option_map_or (λ (x : CrewStep). Says x) o Faulty ≡ Says step) × SpellsStep dev words step)
+spoken_at dev words None e = inl refl
+spoken_at dev words (Some step) e = inr (step, refl, step_read dev words step e)
 
-pub spoken : (words : List (List ℕ)) → is_skipped words ≡ false → (line_in words ≡ Faulty) ⊎ ((step : CrewStep) × (line_in words ≡ Says step) × SpellsStep words step)
+pub spoken : (dev : Uid) (words : List (List ℕ)) → is_skipped words ≡ false → (line_in dev words ≡ Faulty) ⊎ ((step : CrewStep) × (line_in dev words ≡ Says step) × SpellsStep dev words step)
 unfolding line_in
-spoken words out = rw out (spoken_at words (step_in words) refl)
+spoken dev words out = rw out (spoken_at dev words (step_in dev words) refl)
 
 -- the first line that isn't skipped
-pub first_is : (words : List (List ℕ)) → setup_in words ≡ None → first_line_in words ≡ line_in words
+pub first_is : (dev : Uid) (words : List (List ℕ)) → setup_in words ≡ None → first_line_in dev words ≡ line_in dev words
 unfolding first_line_in
-first_is words none = rw none refl
+first_is dev words none = rw none refl
 
-pub first_sets : (words : List (List ℕ)) (s : Setup) → SpellsSetup words s → first_line_in words ≡ Sets s
+pub first_sets : (dev : Uid) (words : List (List ℕ)) (s : Setup) → SpellsSetup words s → first_line_in dev words ≡ Sets s
 unfolding first_line_in
-first_sets words s h = rw (setup_again words s h) refl
+first_sets dev words s h = rw (setup_again words s h) refl
 
-pub first_skipped : (words : List (List ℕ)) → is_skipped words ≡ true → first_line_in words ≡ Skipped
-first_skipped words h =
+pub first_skipped : (dev : Uid) (words : List (List ℕ)) → is_skipped words ≡ true → first_line_in dev words ≡ Skipped
+first_skipped dev words h =
     let none = no_setup words (λ s k. let never : true ≡ false = sym h ∙ setup_isnt_skipped words s k in absurd cc) in
-    first_is words none ∙ said_skipped words h
+    first_is dev words none ∙ said_skipped dev words h
 
-pub first_says : (words : List (List ℕ)) (step : CrewStep) → is_skipped words ≡ false → SpellsStep words step → first_line_in words ≡ Says step
-first_says words step out s = first_is words (no_setup words (λ t k. setup_is_no_step words t step k s)) ∙ line_again words step out s
+pub first_says : (dev : Uid) (words : List (List ℕ)) (step : CrewStep) → is_skipped words ≡ false → SpellsStep dev words step → first_line_in dev words ≡ Says step
+first_says dev words step out s = first_is dev words (no_setup words (λ t k. setup_is_no_step dev words t step k s)) ∙ line_again dev words step out s
 
 -- what the first line is read as
 unsaid_at : (o : Option CrewStep) (s : Setup) → option_map_or (λ (x : CrewStep). Says x) o Faulty ≡ Sets s → ⊥
 unsaid_at None s e = cc
 unsaid_at (Some step) s e = cc
 
-unsaid : (words : List (List ℕ)) (s : Setup) → line_in words ≡ Sets s → ⊥
+unsaid : (dev : Uid) (words : List (List ℕ)) (s : Setup) → line_in dev words ≡ Sets s → ⊥
 unfolding line_in
-unsaid words s e =
+unsaid dev words s e =
     elim (chosen (is_skipped words) Skipped _ (Sets s) e) [
       | inl h ↦ let never : Skipped ≡ Sets s = h.1 in absurd cc
-      | inr h ↦ unsaid_at (step_in words) s h.1
+      | inr h ↦ unsaid_at (step_in dev words) s h.1
     ]
 
-read_first : (words : List (List ℕ)) (o : Option Setup) (step : CrewStep) → setup_in words ≡ o → option_map_or (λ (s : Setup). Sets s) o (line_in words) ≡ Says step → line_in words ≡ Says step
-read_first words None step e h = h
-read_first words (Some s) step e h = absurd (let never : Sets s ≡ Says step = h in cc)
+read_first : (dev : Uid) (words : List (List ℕ)) (o : Option Setup) (step : CrewStep) → setup_in words ≡ o → option_map_or (λ (s : Setup). Sets s) o (line_in dev words) ≡ Says step → line_in dev words ≡ Says step
+read_first dev words None step e h = h
+read_first dev words (Some s) step e h = absurd (let never : Sets s ≡ Says step = h in cc)
 
-pub first_read : (words : List (List ℕ)) (step : CrewStep) → first_line_in words ≡ Says step → (is_skipped words ≡ false) × SpellsStep words step
+pub first_read : (dev : Uid) (words : List (List ℕ)) (step : CrewStep) → first_line_in dev words ≡ Says step → (is_skipped words ≡ false) × SpellsStep dev words step
 unfolding first_line_in
-first_read words step e = line_read words step (read_first words (setup_in words) step refl e)
+first_read dev words step e = line_read dev words step (read_first dev words (setup_in words) step refl e)
 
-read_set : (words : List (List ℕ)) (o : Option Setup) (s : Setup) → option_map_or (λ (t : Setup). Sets t) o (line_in words) ≡ Sets s → o ≡ Some s
-read_set words None s h = absurd (unsaid words s h)
-read_set words (Some t) s h = let same : t ≡ s = cc in ap (λ (x : Setup). Some x) same
+read_set : (dev : Uid) (words : List (List ℕ)) (o : Option Setup) (s : Setup) → option_map_or (λ (t : Setup). Sets t) o (line_in dev words) ≡ Sets s → o ≡ Some s
+read_set dev words None s h = absurd (unsaid dev words s h)
+read_set dev words (Some t) s h = let same : t ≡ s = cc in ap (λ (x : Setup). Some x) same
 
-pub sets_read : (words : List (List ℕ)) (s : Setup) → first_line_in words ≡ Sets s → SpellsSetup words s
+pub sets_read : (dev : Uid) (words : List (List ℕ)) (s : Setup) → first_line_in dev words ≡ Sets s → SpellsSetup words s
 unfolding first_line_in
-sets_read words s e = setup_read words s (read_set words (setup_in words) s e)
+sets_read dev words s e = setup_read words s (read_set dev words (setup_in words) s e)
 
 -- whether a line says anything tells whether it is skipped
-begun_spoken : (words : List (List ℕ)) (line : Line) → (line ≡ Faulty) ⊎ ((step : CrewStep) × (line ≡ Says step) × SpellsStep words step) → begun_after false line ≡ true
-begun_spoken words line (inl h) = rw h refl
-begun_spoken words line (inr h) = rw h.1 refl
+begun_spoken : (dev : Uid) (words : List (List ℕ)) (line : Line) → (line ≡ Faulty) ⊎ ((step : CrewStep) × (line ≡ Says step) × SpellsStep dev words step) → begun_after false line ≡ true
+begun_spoken dev words line (inl h) = rw h refl
+begun_spoken dev words line (inr h) = rw h.1 refl
 
-first_begins_at : (words : List (List ℕ)) (b : Bool) → is_skipped words ≡ b → begun_after false (line_in words) ≡ not b
-first_begins_at words true e = ap (begun_after false) (said_skipped words e)
-first_begins_at words false e = begun_spoken words (line_in words) (spoken words e)
+first_begins_at : (dev : Uid) (words : List (List ℕ)) (b : Bool) → is_skipped words ≡ b → begun_after false (line_in dev words) ≡ not b
+first_begins_at dev words true e = ap (begun_after false) (said_skipped dev words e)
+first_begins_at dev words false e = begun_spoken dev words (line_in dev words) (spoken dev words e)
 
-first_set_at : (words : List (List ℕ)) (o : Option Setup) → setup_in words ≡ o → begun_after false (option_map_or (λ (s : Setup). Sets s) o (line_in words)) ≡ not (is_skipped words)
-first_set_at words None e = first_begins_at words (is_skipped words) refl
-first_set_at words (Some s) e = ap not (sym (setup_isnt_skipped words s (setup_read words s e)))
+first_set_at : (dev : Uid) (words : List (List ℕ)) (o : Option Setup) → setup_in words ≡ o → begun_after false (option_map_or (λ (s : Setup). Sets s) o (line_in dev words)) ≡ not (is_skipped words)
+first_set_at dev words None e = first_begins_at dev words (is_skipped words) refl
+first_set_at dev words (Some s) e = ap not (sym (setup_isnt_skipped words s (setup_read words s e)))
 
-pub first_begins : (words : List (List ℕ)) → begun_after false (first_line_in words) ≡ not (is_skipped words)
+pub first_begins : (dev : Uid) (words : List (List ℕ)) → begun_after false (first_line_in dev words) ≡ not (is_skipped words)
 unfolding first_line_in
-first_begins words = first_set_at words (setup_in words) refl
+first_begins dev words = first_set_at dev words (setup_in words) refl
 
 -- no later line sets anything
 keeps_at : (o : Option CrewStep) (s : Setup) → setup_after s (option_map_or (λ (x : CrewStep). Says x) o Faulty) ≡ s
@@ -363,6 +364,6 @@ keeps_either : (b : Bool) (o : Option CrewStep) (s : Setup) → setup_after s (c
 keeps_either true o s = refl
 keeps_either false o s = keeps_at o s
 
-pub keeps_setup : (words : List (List ℕ)) (s : Setup) → setup_after s (line_in words) ≡ s
+pub keeps_setup : (dev : Uid) (words : List (List ℕ)) (s : Setup) → setup_after s (line_in dev words) ≡ s
 unfolding line_in
-keeps_setup words s = keeps_either (is_skipped words) (step_in words) s
+keeps_setup dev words s = keeps_either (is_skipped words) (step_in dev words) s

@@ -5,6 +5,7 @@ use Rattle.std.proofs.lemmas.List.{map_push, length-map, take-append-le, take_al
 use Rattle.std.proofs.lemmas.Bool.{le-leb}
 use Rattle.std.proofs.lemmas.Bool.Decides.{nat_tests}
 use Rattle.std.proofs.lemmas.List.Elements.{filter-append}
+use Rattle.rdm_frame.specs.declared.uid.Uid.{Uid}
 use Rattle.rdm_script.proofs.Pieces.{pieces_more, pieces_last}
 use Rattle.rdm_script.specs.Grammar.{is_blank, is_word, words_of, fault_in, setup_in, command_step_in, step_in, line_in, first_line_in, line_at}
 
@@ -68,50 +69,50 @@ fault_long words long =
     let more : eqb (length words) 3 ≡ false = grind (arith, nat_tests) in
     rw (some, many, more) refl
 
-command_front : (a b c d e : List ℕ) (xs ys : List (List ℕ)) → fault_in xs ≡ fault_in ys → command_step_in (a ∷ b ∷ c ∷ d ∷ e ∷ xs) ≡ command_step_in (a ∷ b ∷ c ∷ d ∷ e ∷ ys)
+command_front : (dev : Uid) (a b c d e : List ℕ) (xs ys : List (List ℕ)) → fault_in xs ≡ fault_in ys → command_step_in dev (a ∷ b ∷ c ∷ d ∷ e ∷ xs) ≡ command_step_in dev (a ∷ b ∷ c ∷ d ∷ e ∷ ys)
 unfolding command_step_in
-command_front a b c d e xs ys same =
+command_front dev a b c d e xs ys same =
     let long : leb 5 (length (a ∷ b ∷ c ∷ d ∷ e ∷ xs)) ≡ true = le-leb 5 _ (omega arith) in
     let long' : leb 5 (length (a ∷ b ∷ c ∷ d ∷ e ∷ ys)) ≡ true = le-leb 5 _ (omega arith) in
     rw (long, long', same) refl
 
-step_front : (a b c d e : List ℕ) (xs ys : List (List ℕ)) → 4 ≤ length xs → 4 ≤ length ys → step_in (a ∷ b ∷ c ∷ d ∷ e ∷ xs) ≡ step_in (a ∷ b ∷ c ∷ d ∷ e ∷ ys)
+step_front : (dev : Uid) (a b c d e : List ℕ) (xs ys : List (List ℕ)) → 4 ≤ length xs → 4 ≤ length ys → step_in dev (a ∷ b ∷ c ∷ d ∷ e ∷ xs) ≡ step_in dev (a ∷ b ∷ c ∷ d ∷ e ∷ ys)
 unfolding step_in
-step_front a b c d e xs ys long long' =
+step_front dev a b c d e xs ys long long' =
     let not_one : eqb (length (a ∷ b ∷ c ∷ d ∷ e ∷ xs)) 1 ≡ false = grind (arith, nat_tests) in
     let not_one' : eqb (length (a ∷ b ∷ c ∷ d ∷ e ∷ ys)) 1 ≡ false = grind (arith, nat_tests) in
     let not_two : eqb (length (a ∷ b ∷ c ∷ d ∷ e ∷ xs)) 2 ≡ false = grind (arith, nat_tests) in
     let not_two' : eqb (length (a ∷ b ∷ c ∷ d ∷ e ∷ ys)) 2 ≡ false = grind (arith, nat_tests) in
-    rw (not_one, not_one', not_two, not_two', fault_long (b ∷ c ∷ d ∷ e ∷ xs) (omega arith), fault_long (b ∷ c ∷ d ∷ e ∷ ys) (omega arith), command_front a b c d e xs ys (fault_long xs long ∙ sym (fault_long ys long'))) refl
+    rw (not_one, not_one', not_two, not_two', fault_long (b ∷ c ∷ d ∷ e ∷ xs) (omega arith), fault_long (b ∷ c ∷ d ∷ e ∷ ys) (omega arith), command_front dev a b c d e xs ys (fault_long xs long ∙ sym (fault_long ys long'))) refl
 
 setup_long : (words : List (List ℕ)) → 5 ≤ length words → setup_in words ≡ None
 unfolding setup_in
 setup_long words long = let many : eqb (length words) 4 ≡ false = grind (arith, nat_tests) in rw many refl
 
-line_long : (a b c d e : List ℕ) (xs ys : List (List ℕ)) → 4 ≤ length xs → 4 ≤ length ys → line_in (a ∷ b ∷ c ∷ d ∷ e ∷ xs) ≡ line_in (a ∷ b ∷ c ∷ d ∷ e ∷ ys)
+line_long : (dev : Uid) (a b c d e : List ℕ) (xs ys : List (List ℕ)) → 4 ≤ length xs → 4 ≤ length ys → line_in dev (a ∷ b ∷ c ∷ d ∷ e ∷ xs) ≡ line_in dev (a ∷ b ∷ c ∷ d ∷ e ∷ ys)
 unfolding line_in
-line_long a b c d e xs ys long long' =
+line_long dev a b c d e xs ys long long' =
     let some : eqb (length (a ∷ b ∷ c ∷ d ∷ e ∷ xs)) 0 ≡ false = grind (arith, nat_tests) in
     let some' : eqb (length (a ∷ b ∷ c ∷ d ∷ e ∷ ys)) 0 ≡ false = grind (arith, nat_tests) in
-    rw (some, some', step_front a b c d e xs ys long long') refl
+    rw (some, some', step_front dev a b c d e xs ys long long') refl
 
-first_long : (a b c d e : List ℕ) (xs ys : List (List ℕ)) → 4 ≤ length xs → 4 ≤ length ys → first_line_in (a ∷ b ∷ c ∷ d ∷ e ∷ xs) ≡ first_line_in (a ∷ b ∷ c ∷ d ∷ e ∷ ys)
+first_long : (dev : Uid) (a b c d e : List ℕ) (xs ys : List (List ℕ)) → 4 ≤ length xs → 4 ≤ length ys → first_line_in dev (a ∷ b ∷ c ∷ d ∷ e ∷ xs) ≡ first_line_in dev (a ∷ b ∷ c ∷ d ∷ e ∷ ys)
 unfolding first_line_in
-first_long a b c d e xs ys long long' =
-    rw (setup_long (a ∷ b ∷ c ∷ d ∷ e ∷ xs) (omega arith), setup_long (a ∷ b ∷ c ∷ d ∷ e ∷ ys) (omega arith), line_long a b c d e xs ys long long') refl
+first_long dev a b c d e xs ys long long' =
+    rw (setup_long (a ∷ b ∷ c ∷ d ∷ e ∷ xs) (omega arith), setup_long (a ∷ b ∷ c ∷ d ∷ e ∷ ys) (omega arith), line_long dev a b c d e xs ys long long') refl
 
-at_long : (begun : Bool) (a b c d e : List ℕ) (xs ys : List (List ℕ)) → 4 ≤ length xs → 4 ≤ length ys → line_at begun (a ∷ b ∷ c ∷ d ∷ e ∷ xs) ≡ line_at begun (a ∷ b ∷ c ∷ d ∷ e ∷ ys)
-at_long true a b c d e xs ys long long' = line_long a b c d e xs ys long long'
-at_long false a b c d e xs ys long long' = first_long a b c d e xs ys long long'
+at_long : (dev : Uid) (begun : Bool) (a b c d e : List ℕ) (xs ys : List (List ℕ)) → 4 ≤ length xs → 4 ≤ length ys → line_at dev begun (a ∷ b ∷ c ∷ d ∷ e ∷ xs) ≡ line_at dev begun (a ∷ b ∷ c ∷ d ∷ e ∷ ys)
+at_long dev true a b c d e xs ys long long' = line_long dev a b c d e xs ys long long'
+at_long dev false a b c d e xs ys long long' = first_long dev a b c d e xs ys long long'
 
-pub line_in_front : (begun : Bool) (words : List (List ℕ)) → line_at begun (take 9 words) ≡ line_at begun words
-line_in_front begun [] = refl
-line_in_front begun (a ∷ []) = refl
-line_in_front begun (a ∷ b ∷ []) = refl
-line_in_front begun (a ∷ b ∷ c ∷ []) = refl
-line_in_front begun (a ∷ b ∷ c ∷ d ∷ []) = refl
-line_in_front begun (a ∷ b ∷ c ∷ d ∷ e ∷ []) = refl
-line_in_front begun (a ∷ b ∷ c ∷ d ∷ e ∷ f ∷ []) = refl
-line_in_front begun (a ∷ b ∷ c ∷ d ∷ e ∷ f ∷ g ∷ []) = refl
-line_in_front begun (a ∷ b ∷ c ∷ d ∷ e ∷ f ∷ g ∷ h ∷ []) = refl
-line_in_front begun (a ∷ b ∷ c ∷ d ∷ e ∷ f ∷ g ∷ h ∷ i ∷ more) = at_long begun a b c d e (f ∷ g ∷ h ∷ i ∷ []) (f ∷ g ∷ h ∷ i ∷ more) (omega arith) (omega arith)
+pub line_in_front : (dev : Uid) (begun : Bool) (words : List (List ℕ)) → line_at dev begun (take 9 words) ≡ line_at dev begun words
+line_in_front dev begun [] = refl
+line_in_front dev begun (a ∷ []) = refl
+line_in_front dev begun (a ∷ b ∷ []) = refl
+line_in_front dev begun (a ∷ b ∷ c ∷ []) = refl
+line_in_front dev begun (a ∷ b ∷ c ∷ d ∷ []) = refl
+line_in_front dev begun (a ∷ b ∷ c ∷ d ∷ e ∷ []) = refl
+line_in_front dev begun (a ∷ b ∷ c ∷ d ∷ e ∷ f ∷ []) = refl
+line_in_front dev begun (a ∷ b ∷ c ∷ d ∷ e ∷ f ∷ g ∷ []) = refl
+line_in_front dev begun (a ∷ b ∷ c ∷ d ∷ e ∷ f ∷ g ∷ h ∷ []) = refl
+line_in_front dev begun (a ∷ b ∷ c ∷ d ∷ e ∷ f ∷ g ∷ h ∷ i ∷ more) = at_long dev begun a b c d e (f ∷ g ∷ h ∷ i ∷ []) (f ∷ g ∷ h ∷ i ∷ more) (omega arith) (omega arith)

@@ -1,22 +1,11 @@
--- The parts of the demonstration: how each job ends, and what its panel offers.
-use Rattle.std.specs.Prelude.{ℕ, ◌+◌, ◌==◌, ◌&&◌, pos, Option, Some, None, codes, if◌then◌else◌}
-use Rattle.rdm_params.specs.declared.slow.outcome.Outcome.{Outcome}
-use Rattle.rdm_params.specs.declared.slow.outcome.Outcome.TheVariants.{Done, Reading, Failed}
-use Rattle.rdm_params.specs.declared.slow.status.Severity.TheVariants.{Warning, Error}
+-- The demonstration: its fixture, how its jobs end, and what its panel offers.
+use Rattle.std.specs.Prelude.{◌≡◌, ℕ, ◌==◌, Option, Some, None, codes, if◌then◌else◌}
+use Rattle.rdm_device.specs.Device.Demo.{demo}
 use Rattle.rdm_params.specs.declared.panel.Change.{Change}
 use Rattle.rdm_params.specs.declared.panel.Change.TheVariants.{Start, Personality, Label}
-use Rattle.rdm_outbox.specs.declared.job.Job.{Job}
-
--- The first worker's part: the lamp fails to strike (LAMP_STATE, E1.20 section 10.8.4), and every other job is done.
-abbrev pub lamp_outcome : Job → Outcome
-lamp_outcome j = if (j.work.pid == 0x0403) && (j.work.arg == 2) then Failed Error 0x8001 2 0 else Done
-
--- The second worker's part: each sensor measures 25 and its own number (SENSOR_VALUE, section 10.7.2), the second self test
--- fails (PERFORM_SELFTEST, section 10.11.3), and every other job is done.
-abbrev pub test_outcome : Job → Outcome
-test_outcome j =
-    if j.work.pid == 0x0201 then Reading (pos (25 + j.work.arg))
-    else (if (j.work.pid == 0x1020) && (j.work.arg == 2) then Failed Warning 0x8002 2 0 else Done)
+use Rattle.rdm_outcomes.specs.Demo.{demo_outcome}
+use Rattle.rdm_script.specs.Parties.{demo_device}
+use Rattle.rdm_script.specs.Scene.{Scene}
 
 -- The changes at the panel, in order: a label, a start address, a personality that the fixture hasn't got, and one that it
 -- has (DEVICE_LABEL, DMX_START_ADDRESS and DMX_PERSONALITY, sections 10.5.5, 10.6.3 and 10.6.1).
@@ -26,3 +15,14 @@ panel_change number =
     else (if number == 1 then Some (Start 101)
     else (if number == 2 then Some (Personality 9)
     else (if number == 3 then Some (Personality 2) else None)))
+
+-- The moving head of the demonstration, with as many sub-devices as there can be (E1.20 section 9). Both workers end a
+-- job in the one way that rdm_outcomes says.
+abbrev pub demo_scene : Scene
+demo_scene = record {
+  device = demo_device;
+  profile = demo 512;
+  first = λ job outcome. outcome ≡ demo_outcome job;
+  second = λ job outcome. outcome ≡ demo_outcome job;
+  offers = λ number change. panel_change number ≡ Some change;
+}

@@ -1,4 +1,5 @@
--- How a script is read, by lines and words: the reader's view of what Spelling.antt defines.
+-- How a script is read, by lines and words: the reader's view of what Spelling.antt defines. `dev` is the UID of the
+-- device that the script is played on.
 use Rattle.std.specs.Prelude.{◌≡◌, ◌≢◌, ℕ, ◌-◌, ◌<◌, ◌≤◌, Bool, true, not, ◌||◌, ◌==◌, ◌&&◌, if◌then◌else◌, List, [], ◌∷◌, length, fold, drop, take, filter, map, slice_index, slice_index_or, slice_get, Option, Some, None, nat_le, All, codes}
 use Rattle.std.specs.Option.{option_map, option_map_or}
 use Rattle.std.specs.Int.{w16}
@@ -22,7 +23,7 @@ use Rattle.rdm_script.specs.declared.grammar.line.Line.{Line}
 use Rattle.rdm_script.specs.declared.grammar.line.Line.TheVariants.{Skipped, Sets, Says, Faulty}
 use Rattle.rdm_script.specs.declared.grammar.parsing.ScriptError.{ScriptError}
 use Rattle.rdm_script.specs.declared.grammar.parsing.ScriptError.TheVariants as errors
-use Rattle.rdm_script.specs.Parties.{device, plain_setup}
+use Rattle.rdm_script.specs.Parties.{plain_setup}
 use Rattle.rdm_script.specs.Decimals.{number_up_to}
 
 abbrev pub word : List (List ℕ) → ℕ → List ℕ
@@ -38,11 +39,11 @@ action_in word =
     else None))
 
 -- the device of the script, every device, every device of its manufacturer, or a UID
-unfoldable pub destination_in : List ℕ → Option Uid
-destination_in word =
-    if bytes_eq word (codes "dev") then Some device
+unfoldable pub destination_in : Uid → List ℕ → Option Uid
+destination_in dev word =
+    if bytes_eq word (codes "dev") then Some dev
     else (if bytes_eq word (codes "all") then Some all_devices
-    else (if bytes_eq word (codes "maker") then Some (all_of device.maker)
+    else (if bytes_eq word (codes "maker") then Some (all_of dev.maker)
     else uid_in word))
 
 -- a hyphen for no data, or the digits of at most 255 bytes
@@ -50,10 +51,10 @@ unfoldable pub load_in : List ℕ → Option (List ℕ)
 load_in word = if bytes_eq word (codes "-") then Some [] else (if nat_le (length word) 510 then bytes_in word else None)
 
 -- an action, a destination, a sub-device, a PID and the data
-unfoldable pub command_in : List ℕ → List ℕ → List ℕ → List ℕ → List ℕ → Option Command
-command_in action dst sub pid load = do
+unfoldable pub command_in : Uid → List ℕ → List ℕ → List ℕ → List ℕ → List ℕ → Option Command
+command_in dev action dst sub pid load = do
   a ← action_in action
-  d ← destination_in dst
+  d ← destination_in dev dst
   s ← number_in w16 sub
   p ← number_in w16 pid
   l ← load_in load
@@ -137,33 +138,33 @@ asked command fault = do
   Some (Ask c f)
 
 -- five words of a command, and what goes wrong
-unfoldable pub command_step_in : List (List ℕ) → Option CrewStep
-command_step_in words =
-    if nat_le 5 (length words) then asked (command_in (word words 0) (word words 1) (word words 2) (word words 3) (word words 4)) (fault_in (drop 5 words))
+unfoldable pub command_step_in : Uid → List (List ℕ) → Option CrewStep
+command_step_in dev words =
+    if nat_le 5 (length words) then asked (command_in dev (word words 0) (word words 1) (word words 2) (word words 3) (word words 4)) (fault_in (drop 5 words))
     else None
 
 -- a poll, one report, reports until no job is outstanding, a change at the panel, or a command
-unfoldable pub step_in : List (List ℕ) → Option CrewStep
-step_in words =
+unfoldable pub step_in : Uid → List (List ℕ) → Option CrewStep
+step_in dev words =
     if bytes_eq (word words 0) (codes "collect") then option_map (λ f. Collect f) (fault_in (drop 1 words))
     else (if (length words == 1) && bytes_eq (word words 0) (codes "draw") then Some Draw
     else (if (length words == 2) && bytes_eq (word words 0) (codes "settle") then option_map (λ n. Settle n) (number_up_to 4294967295 (word words 1))
     else (if (length words == 2) && bytes_eq (word words 0) (codes "panel") then option_map (λ n. Panel n) (number_up_to 4294967295 (word words 1))
-    else command_step_in words)))
+    else command_step_in dev words)))
 
 -- What the words of a line say.
-unfoldable pub line_in : List (List ℕ) → Line
-line_in words =
+unfoldable pub line_in : Uid → List (List ℕ) → Line
+line_in dev words =
     if is_skipped words then Skipped
-    else option_map_or (λ step. Says step) (step_in words) Faulty
+    else option_map_or (λ step. Says step) (step_in dev words) Faulty
 
 -- What they say where no line before says anything: a setup may stand there.
-unfoldable pub first_line_in : List (List ℕ) → Line
-first_line_in words = option_map_or (λ setup. Sets setup) (setup_in words) (line_in words)
+unfoldable pub first_line_in : Uid → List (List ℕ) → Line
+first_line_in dev words = option_map_or (λ setup. Sets setup) (setup_in words) (line_in dev words)
 
 -- whether a line before says anything tells which of the two it is
-abbrev pub line_at : Bool → List (List ℕ) → Line
-line_at begun words = if begun then line_in words else first_line_in words
+abbrev pub line_at : Uid → Bool → List (List ℕ) → Line
+line_at dev begun words = if begun then line_in dev words else first_line_in dev words
 
 -- ---- a script
 
@@ -178,13 +179,13 @@ unfoldable pub lines_of : List ℕ → List (List ℕ)
 lines_of text = without_returns (slice_split (λ b. b == 10) text)
 
 -- what each line says
-abbrev pub said_later : List (List ℕ) → List Line
-said_later lines = map (λ line. line_in (words_of line)) lines
+abbrev pub said_later : Uid → List (List ℕ) → List Line
+said_later dev lines = map (λ line. line_in dev (words_of line)) lines
 
 -- What each line says: the first one that isn't skipped may be a setup.
-abbrev pub said_by : List (List ℕ) → List Line
-said_by [] = []
-said_by (line ∷ more) = first_line_in (words_of line) ∷ (if is_skipped (words_of line) then said_by more else said_later more)
+abbrev pub said_by : Uid → List (List ℕ) → List Line
+said_by dev [] = []
+said_by dev (line ∷ more) = first_line_in dev (words_of line) ∷ (if is_skipped (words_of line) then said_by dev more else said_later dev more)
 
 abbrev pub steps_of_line : Line → List CrewStep
 steps_of_line Skipped = []
@@ -219,12 +220,12 @@ pub record IsFirstFaulty (said : List Line) (number : ℕ) : Type 0 where
   pub front : All (λ line. line ≢ Faulty) (take (number - 1) said)
 
 -- The reader's view of a script: no line is read as faulty, and this setup and these steps are what is read.
-pub record IsRead (text : List ℕ) (setup : Setup) (steps : List CrewStep) : Type 0 where
+pub record IsRead (dev : Uid) (text : List ℕ) (setup : Setup) (steps : List CrewStep) : Type 0 where
   pub within : length text ≤ 65536
-  pub says : AreSaid (said_by (lines_of text)) setup steps
+  pub says : AreSaid (said_by dev (lines_of text)) setup steps
 
 -- Why a text is no script: it is too long, or else it has a first faulty line.
-abbrev pub Refuses : ScriptError → List ℕ → Type 0
-Refuses errors.OutOfMemory text = Unit {0}
-Refuses errors.TooLong text = 65536 < length text
-Refuses (errors.Line number) text = (length text ≤ 65536) × IsFirstFaulty (said_by (lines_of text)) number
+abbrev pub Refuses : Uid → ScriptError → List ℕ → Type 0
+Refuses dev errors.OutOfMemory text = Unit {0}
+Refuses dev errors.TooLong text = 65536 < length text
+Refuses dev (errors.Line number) text = (length text ≤ 65536) × IsFirstFaulty (said_by dev (lines_of text)) number

@@ -4,6 +4,8 @@ pub mod ErrorLine
 pub mod Grammar
 pub mod Parties
 pub mod Program
+pub mod Rules
 pub mod Running
+pub mod Scene
 pub mod Spelling
 pub mod TraceText

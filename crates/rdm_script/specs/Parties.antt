@@ -3,11 +3,11 @@ use Rattle.rdm_frame.specs.declared.uid.Uid.{Uid}
 use Rattle.rdm_bus.specs.declared.want.Want.TheVariants.{Advisory}
 use Rattle.rdm_script.specs.declared.script.Setup.{Setup}
 
--- 7FF0:00000001
-abbrev pub device : Uid
-device = record { maker = 0x7FF0; device = 0x00000001 }
+-- the device of the demonstration, 7FF0:00000001
+abbrev pub demo_device : Uid
+demo_device = record { maker = 0x7FF0; device = 0x00000001 }
 
--- 7FF0:00000002
+-- the controller, 7FF0:00000002
 abbrev pub controller : Uid
 controller = record { maker = 0x7FF0; device = 0x00000002 }
 

@@ -13,43 +13,44 @@ use Rattle.rdm_script.specs.declared.program.ProgramError.{ProgramError}
 use Rattle.rdm_script.specs.declared.program.ProgramError.TheVariants.{Read, Script, Memory, Run, Write}
 use Rattle.rdm_script.specs.Grammar.{Refuses}
 use Rattle.rdm_script.specs.Spelling.{IsScript}
-use Rattle.rdm_script.specs.Running.{IsGoodSetup, IsScriptRun, Stops}
+use Rattle.rdm_script.specs.Running.{IsGood, IsScriptRun, Stops}
+use Rattle.rdm_script.specs.Scene.{Scene}
 use Rattle.rdm_script.specs.TraceText.{trace_text}
 
--- The output is the text of what happens when the script that the input is gets played on a device that has just been
--- switched on, with the parts of the demonstration, and of what the controller recorded then.
-pub record IsTraceOf (input output : List ℕ) : Type 0 where
+-- The output is the text of what happens when the script that the input is gets played on the device of the scene, which
+-- has just been switched on, with its parts and its panel, and of what the controller recorded then.
+pub record IsTraceOf (scene : Scene) (input output : List ℕ) : Type 0 where
   pub setup : Setup
   pub steps : List CrewStep
   pub events : List Event
-  pub spelled : IsScript input setup steps
-  pub good : IsGoodSetup setup
-  pub run : IsScriptRun setup steps events
+  pub spelled : IsScript scene.device input setup steps
+  pub good : IsGood scene setup
+  pub run : IsScriptRun scene setup steps events
   pub written : output ≡ trace_text events (recorded events)
 
 -- The input is a script that isn't played to its end, and this is the reason.
-pub record IsStopped (input : List ℕ) (e : RunError) : Type 0 where
+pub record IsStopped (scene : Scene) (input : List ℕ) (e : RunError) : Type 0 where
   pub setup : Setup
   pub steps : List CrewStep
-  pub spelled : IsScript input setup steps
-  pub because : Stops e setup steps
+  pub spelled : IsScript scene.device input setup steps
+  pub because : Stops scene e setup steps
 
 -- Why there is no trace of the input. Want of memory is told as such, and never as a fault of the script or the run.
-abbrev pub IsFailure : ProgramError → List ℕ → Type 0
-IsFailure Read input = Unit {0}
-IsFailure (Script e) input = Refuses e input × (e ≢ script.OutOfMemory)
-IsFailure Memory input = Unit {0}
-IsFailure (Run e) input = IsStopped input e × (e ≢ run.OutOfMemory)
-IsFailure Write input = Unit {0}
+abbrev pub IsFailure : Scene → ProgramError → List ℕ → Type 0
+IsFailure scene Read input = Unit {0}
+IsFailure scene (Script e) input = Refuses scene.device e input × (e ≢ script.OutOfMemory)
+IsFailure scene Memory input = Unit {0}
+IsFailure scene (Run e) input = IsStopped scene input e × (e ≢ run.OutOfMemory)
+IsFailure scene Write input = Unit {0}
 
 -- What a failure leaves on the output: nothing, but where the writer failed a front of the text.
-abbrev pub Leaves : ProgramError → Option (List ℕ) → Option (List ℕ) → Option (List ℕ) → Type 0
-Leaves Read input old new = Keeps old new
-Leaves (Script e) input old new = Keeps old new
-Leaves Memory input old new = Keeps old new
-Leaves (Run e) input old new = Keeps old new
-Leaves Write input old new =
-    IfSome input (λ bytes. (text : List ℕ) × (count : ℕ) × IsTraceOf bytes text × Appends old new (take count text))
+abbrev pub Leaves : Scene → ProgramError → Option (List ℕ) → Option (List ℕ) → Option (List ℕ) → Type 0
+Leaves scene Read input old new = Keeps old new
+Leaves scene (Script e) input old new = Keeps old new
+Leaves scene Memory input old new = Keeps old new
+Leaves scene (Run e) input old new = Keeps old new
+Leaves scene Write input old new =
+    IfSome input (λ bytes. (text : List ℕ) × (count : ℕ) × IsTraceOf scene bytes text × Appends old new (take count text))
 
 -- the exit status of a program that fails so
 abbrev pub status_of : ProgramError → ℕ

@@ -1,5 +1,5 @@
 -- What a script is: how its lines spell a setup and steps, word by word. Bytes are spelled as a trace prints them, with
--- digits of either case.
+-- digits of either case. `dev` is the UID of the device that the script is played on.
 use Rattle.std.specs.Prelude.{◌≡◌, true, false, ℕ, ◌<◌, ◌≤◌, ◌⊎◌, List, [], ◌∷◌, length, drop, map, codes}
 use Rattle.std.specs.Int.{w16}
 use Rattle.rdm_frame.specs.declared.uid.Uid.{Uid}
@@ -17,15 +17,16 @@ use Rattle.rdm_crew.specs.declared.step.CrewStep.{CrewStep}
 use Rattle.rdm_crew.specs.declared.step.CrewStep.TheVariants.{Ask, Collect, Draw, Settle, Panel}
 use Rattle.rdm_script.specs.declared.script.Setup.{Setup}
 use Rattle.rdm_script.specs.Decimals.{SpellsDecimal}
-use Rattle.rdm_script.specs.Parties.{device, plain_setup}
+use Rattle.rdm_script.specs.Parties.{plain_setup}
 use Rattle.rdm_script.specs.Grammar.{word, is_skipped, words_of, lines_of}
 
--- The word says whom a command is for: by a name, or by a UID.
-abbrev pub SpellsDestination : List ℕ → Uid → Type 0
-SpellsDestination text u =
-    ((text ≡ codes "dev") × (u ≡ device)) ⊎
+-- The word says whom a command is for: by a name, or by a UID. The names are those of the device that the script is
+-- played on, of every device, and of every device of its manufacturer.
+abbrev pub SpellsDestination : Uid → List ℕ → Uid → Type 0
+SpellsDestination dev text u =
+    ((text ≡ codes "dev") × (u ≡ dev)) ⊎
     (((text ≡ codes "all") × (u ≡ all_devices)) ⊎
-    (((text ≡ codes "maker") × (u ≡ all_of device.maker)) ⊎ SpellsUid text u))
+    (((text ≡ codes "maker") × (u ≡ all_of dev.maker)) ⊎ SpellsUid text u))
 
 -- The word is the data of a command: a hyphen for none, or at most 255 bytes.
 abbrev pub SpellsLoad : List ℕ → List ℕ → Type 0
@@ -38,10 +39,10 @@ SpellsAction text Get = text ≡ codes "get"
 SpellsAction text Set = text ≡ codes "set"
 
 -- The first five words of a line say this command.
-pub record SpellsCommand (words : List (List ℕ)) (c : Command) : Type 0 where
+pub record SpellsCommand (dev : Uid) (words : List (List ℕ)) (c : Command) : Type 0 where
   pub five : 5 ≤ length words
   pub action : SpellsAction (word words 0) c.action
-  pub destination : SpellsDestination (word words 1) c.dst
+  pub destination : SpellsDestination dev (word words 1) c.dst
   pub sub : SpellsNumber w16 (word words 2) c.sub
   pub pid : SpellsNumber w16 (word words 3) c.pid
   pub load : SpellsLoad (word words 4) c.load
@@ -72,12 +73,12 @@ pub record SpellsEmpties (name : List ℕ) (words : List (List ℕ)) (n : ℕ) :
   pub empties_fit : n ≤ 4294967295
 
 -- The words of a line say this step.
-abbrev pub SpellsStep : List (List ℕ) → CrewStep → Type 0
-SpellsStep words (Ask c f) = SpellsCommand words c × SpellsFault (drop 5 words) f
-SpellsStep words (Collect f) = (word words 0 ≡ codes "collect") × SpellsFault (drop 1 words) f
-SpellsStep words Draw = words ≡ codes "draw" ∷ []
-SpellsStep words (Settle empties) = SpellsEmpties (codes "settle") words empties
-SpellsStep words (Panel empties) = SpellsEmpties (codes "panel") words empties
+abbrev pub SpellsStep : Uid → List (List ℕ) → CrewStep → Type 0
+SpellsStep dev words (Ask c f) = SpellsCommand dev words c × SpellsFault (drop 5 words) f
+SpellsStep dev words (Collect f) = (word words 0 ≡ codes "collect") × SpellsFault (drop 1 words) f
+SpellsStep dev words Draw = words ≡ codes "draw" ∷ []
+SpellsStep dev words (Settle empties) = SpellsEmpties (codes "settle") words empties
+SpellsStep dev words (Panel empties) = SpellsEmpties (codes "panel") words empties
 
 -- The word says which messages the controller wants.
 abbrev pub SpellsWant : List ℕ → Want → Type 0
@@ -98,20 +99,20 @@ pub record SpellsSetup (words : List (List ℕ)) (s : Setup) : Type 0 where
 
 -- What lines say, each taken by its words: a line without words or a comment says nothing, and every other one says the
 -- step that its words spell.
-abbrev pub SpellSteps : List (List (List ℕ)) → List CrewStep → Type 0
-SpellSteps [] steps = steps ≡ []
-SpellSteps (words ∷ more) steps =
-    ((is_skipped words ≡ true) × SpellSteps more steps) ⊎
-    ((is_skipped words ≡ false) × (step : CrewStep) × (rest : List CrewStep) × (steps ≡ step ∷ rest) × SpellsStep words step × SpellSteps more rest)
+abbrev pub SpellSteps : Uid → List (List (List ℕ)) → List CrewStep → Type 0
+SpellSteps dev [] steps = steps ≡ []
+SpellSteps dev (words ∷ more) steps =
+    ((is_skipped words ≡ true) × SpellSteps dev more steps) ⊎
+    ((is_skipped words ≡ false) × (step : CrewStep) × (rest : List CrewStep) × (steps ≡ step ∷ rest) × SpellsStep dev words step × SpellSteps dev more rest)
 
 -- The lines say this setup, and then these steps. Before the setup stand only lines that say nothing.
-abbrev pub SpellSetupAndSteps : List (List (List ℕ)) → Setup → List CrewStep → Type 0
-SpellSetupAndSteps [] setup steps = ⊥
-SpellSetupAndSteps (words ∷ more) setup steps =
-    ((is_skipped words ≡ true) × SpellSetupAndSteps more setup steps) ⊎ (SpellsSetup words setup × SpellSteps more steps)
+abbrev pub SpellSetupAndSteps : Uid → List (List (List ℕ)) → Setup → List CrewStep → Type 0
+SpellSetupAndSteps dev [] setup steps = ⊥
+SpellSetupAndSteps dev (words ∷ more) setup steps =
+    ((is_skipped words ≡ true) × SpellSetupAndSteps dev more setup steps) ⊎ (SpellsSetup words setup × SpellSteps dev more steps)
 
 -- The text is a script of this setup and these steps: it has at most 65,536 bytes, and its lines say them in order. A
 -- script that says no setup has the plain one.
-pub record IsScript (text : List ℕ) (setup : Setup) (steps : List CrewStep) : Type 0 where
+pub record IsScript (dev : Uid) (text : List ℕ) (setup : Setup) (steps : List CrewStep) : Type 0 where
   pub within : length text ≤ 65536
-  pub says : SpellSetupAndSteps (map words_of (lines_of text)) setup steps ⊎ ((setup ≡ plain_setup) × SpellSteps (map words_of (lines_of text)) steps)
+  pub says : SpellSetupAndSteps dev (map words_of (lines_of text)) setup steps ⊎ ((setup ≡ plain_setup) × SpellSteps dev (map words_of (lines_of text)) steps)

@@ -1,68 +1,42 @@
-//! The parts of the demonstration: each ends a job as the job alone says. And its panel, which offers four changes.
+//! The fixture of the demonstration: its jobs end by rules, and its panel offers four changes.
 
-use rdm_crew::{Panel, Part};
-use rdm_outbox::Job;
-use rdm_params::{Change, Outcome, Plate, Severity};
+ghost use Rattle.std.specs.Prelude.{◌≡◌};
+ghost use Rattle.rdm_device.specs.Device.Demo.{demo};
+ghost use Rattle.rdm_outcomes.specs.Demo as says;
+ghost use Rattle.rdm_script.specs.Parties.{demo_device};
+ghost use Rattle.rdm_script.specs.Rules.{rules_of};
 
-const SENSOR_VALUE: u16 = 0x0201;
+use crate::parties::DEVICE;
+use crate::rules::RuledPart;
+use crate::stage::Stage;
+use rdm_crew::Panel;
+use rdm_outcomes::demo_rules;
+use rdm_params::{Change, Plate, Profile};
 
-const LAMP_STATE: u16 = 0x0403;
+/// How many sub-devices there can be at most (E1.20 section 9).
+const MOST_SUBS: u16 = 512;
 
-const PERFORM_SELFTEST: u16 = 0x1020;
-
-/// Does the jobs of the first worker. The lamp fails to strike; every other job is done.
-#[derive(Drop)]
-pub(crate) struct LampPart;
-
-impl Part for LampPart {
-    ghost use Rattle.std.specs.Prelude.{◌≡◌};
-    ghost use Rattle.rdm_script.specs.DemoParts.{lamp_outcome};
-
-    ghost gives = { λ part job outcome. outcome ≡ lamp_outcome job };
-
-    fn work(&mut self, job: &Job) -> Outcome {
-        if job.work.pid == LAMP_STATE && job.work.arg == 2 {
-            return Outcome::Failed {
-                severity: Severity::Error,
-                id: 0x8001,
-                v1: 2,
-                v2: 0,
-            };
-        }
-        Outcome::Done
+/// The moving head of the demonstration.
+pub(crate) fn demo_stage() -> Stage<RuledPart, RuledPart, DemoPanel>
+    ensures device { result.device ≡ demo_device }
+    ensures profile { result.profile ≡ demo 512 }
+    ensures first { rules_of result.first ≡ says.demo_rules }
+    ensures second { rules_of result.second ≡ says.demo_rules }
+{
+    let rules = demo_rules();
+    Stage {
+        device: DEVICE,
+        profile: Profile::demo(MOST_SUBS),
+        first: RuledPart::new(&rules),
+        second: RuledPart::new(&rules),
+        panel: DemoPanel,
     }
 }
 
-/// Does the jobs of the second worker. Sensor s measures 25 + s, and the second self test fails; every other job is done.
-#[derive(Drop)]
-pub(crate) struct TestPart;
-
-impl Part for TestPart {
-    ghost use Rattle.std.specs.Prelude.{◌≡◌};
-    ghost use Rattle.rdm_script.specs.DemoParts.{test_outcome};
-
-    ghost gives = { λ part job outcome. outcome ≡ test_outcome job };
-
-    fn work(&mut self, job: &Job) -> Outcome {
-        if job.work.pid == SENSOR_VALUE {
-            return Outcome::Reading(25 + i16::from(job.work.arg));
-        }
-        if job.work.pid == PERFORM_SELFTEST && job.work.arg == 2 {
-            return Outcome::Failed {
-                severity: Severity::Warning,
-                id: 0x8002,
-                v1: 2,
-                v2: 0,
-            };
-        }
-        Outcome::Done
-    }
-}
-
-/// What a person changes at the fixture's own menu: a label, a start address, a personality that the fixture hasn't got, and
-/// one that it has.
-#[derive(Drop)]
-pub(crate) struct DemoPanel;
+/// What a person changes at the fixture's own menu: a label, a start address, a personality that the moving head hasn't got,
+/// and one that it has.
+#[derive(Debug, Drop)]
+pub struct DemoPanel;
 
 impl Panel for DemoPanel {
     ghost use Rattle.std.specs.Prelude.{◌≡◌, Some};

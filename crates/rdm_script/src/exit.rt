@@ -3,6 +3,7 @@
 ghost use Rattle.std.specs.Prelude.{◌≡◌, ◌≢◌, ℕ, List, OnOk, IfSome};
 ghost use Rattle.std.specs.Io.KnownBytes.{Keeps, Appends, IsAtEnd};
 ghost use Rattle.std.specs.Process.{exit_status};
+ghost use Rattle.rdm_script.specs.DemoParts.{demo_scene};
 ghost use Rattle.rdm_script.specs.ErrorLine.{error_line};
 ghost use Rattle.rdm_script.specs.Program.{IsTraceOf, IsFailure, Leaves, status_of, outcome_status};
 ghost use Rattle.rdm_script.specs.declared.program.ProgramError.{ProgramError as TheError};
@@ -28,13 +29,13 @@ where
     T: Threads + Wait + Copy + Send + 'static,
     // Status 0: the whole input was read, its trace was written, and no error line.
     ensures done { exit_status result ≡ 0 → IfSome (R.remaining reader.old) (λ input. (text : List ℕ) ×
-        IsTraceOf input text × Appends (W.contents writer.old) (W.contents writer.new) text) }
+        IsTraceOf demo_scene input text × Appends (W.contents writer.old) (W.contents writer.new) text) }
     ensures whole { exit_status result ≡ 0 → IsAtEnd (R.remaining reader.new) }
     ensures silent { exit_status result ≡ 0 → Keeps (E.contents errors.old) (E.contents errors.new) }
     // Every other status is that of an error which has its cause in the input, and no byte of its line goes to the output.
     ensures failed { exit_status result ≢ 0 → (e : TheError) × (exit_status result ≡ status_of e) ×
-        IfSome (R.remaining reader.old) (IsFailure e) ×
-        Leaves e (R.remaining reader.old) (W.contents writer.old) (W.contents writer.new) }
+        IfSome (R.remaining reader.old) (IsFailure demo_scene e) ×
+        Leaves demo_scene e (R.remaining reader.old) (W.contents writer.old) (W.contents writer.new) }
 {
     report(errors, run_script(rt, alloc, reader, writer))
 }

@@ -8,4 +8,4 @@ pub(crate) mod parsing;
 mod words;
 
 pub(crate) use parsing::MOST_BYTES;
-pub use parsing::{ScriptError, parse};
+pub use parsing::{ScriptError, parse, parse_for};

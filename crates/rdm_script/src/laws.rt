@@ -1,6 +1,7 @@
-//! Laws of the script language, over every byte list. Each is the contract of a call that does nothing.
+//! Laws of the script language, over every byte list and every device. Each is the contract of a call that does nothing.
 
 ghost use Rattle.std.specs.Prelude.{◌≡◌, ◌↔◌, ℕ, List, IsTrue, false};
+ghost use Rattle.rdm_frame.specs.declared.uid.Uid.{Uid as TheUid};
 ghost use Rattle.rdm_crew.specs.declared.step.CrewStep.{CrewStep as TheStep};
 ghost use Rattle.rdm_script.specs.Spelling.{SpellsStep, SpellsSetup, IsScript};
 ghost use Rattle.rdm_script.specs.Grammar.{is_skipped, line_in, first_line_in, Refuses};
@@ -13,23 +14,23 @@ use crate::{ProgramError, ScriptError, Setup};
 
 /// No byte list is two scripts.
 pub fn text_is_one_script()
-    ensures { (text : List ℕ) (s t : TheSetup) (a b : List TheStep) →
-        IsScript text s a → IsScript text t b → (s ≡ t) × (a ≡ b) }
+    ensures { (dev : TheUid) (text : List ℕ) (s t : TheSetup) (a b : List TheStep) →
+        IsScript dev text s a → IsScript dev text t b → (s ≡ t) × (a ≡ b) }
 {}
 
 /// No byte list is both a script and refused, but for want of memory.
 pub fn script_is_never_refused()
-    ensures { (text : List ℕ) (setup : TheSetup) (steps : List TheStep) (e : Refusal) →
-        IsScript text setup steps → Refuses e text → e ≡ OutOfMemory }
+    ensures { (dev : TheUid) (text : List ℕ) (setup : TheSetup) (steps : List TheStep) (e : Refusal) →
+        IsScript dev text setup steps → Refuses dev e text → e ≡ OutOfMemory }
 {}
 
 /// A line says exactly what its words spell: a step, unless it is skipped, and in the first line a setup.
 pub fn line_says_what_its_words_spell()
-    ensures step { (words : List (List ℕ)) (step : TheStep) →
-        (line_in words ≡ Says step) ↔ ((is_skipped words ≡ false) × SpellsStep words step) }
-    ensures first_step { (words : List (List ℕ)) (step : TheStep) →
-        (first_line_in words ≡ Says step) ↔ ((is_skipped words ≡ false) × SpellsStep words step) }
-    ensures setup { (words : List (List ℕ)) (setup : TheSetup) → (first_line_in words ≡ Sets setup) ↔ SpellsSetup words setup }
+    ensures step { (dev : TheUid) (words : List (List ℕ)) (step : TheStep) →
+        (line_in dev words ≡ Says step) ↔ ((is_skipped words ≡ false) × SpellsStep dev words step) }
+    ensures first_step { (dev : TheUid) (words : List (List ℕ)) (step : TheStep) →
+        (first_line_in dev words ≡ Says step) ↔ ((is_skipped words ≡ false) × SpellsStep dev words step) }
+    ensures setup { (dev : TheUid) (words : List (List ℕ)) (setup : TheSetup) → (first_line_in dev words ≡ Sets setup) ↔ SpellsSetup words setup }
 {}
 
 /// Two setups are equal by `==` exactly where each of their fields is.

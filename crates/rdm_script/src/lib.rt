@@ -1,9 +1,10 @@
 //! Scripts of RDM commands: they are read, played on a responder that has just been switched on, and told as a trace
 //! of the bytes that went over the bus.
 //!
-//! `run_script` does all of it, for any reader and writer, and `run_program` ends a program with what came of it. The
-//! language stands in `specs/Spelling.antt`, how a run is set up and why it stops in `specs/Running.antt`, how its jobs end
-//! in `specs/DemoParts.antt`, and the text in `specs/TraceText.antt`. What a run is, rdm_crew says.
+//! `run_script` does all of it, for any reader and writer, on the fixture of the demonstration, `run_script_on` on any
+//! other, and `run_program` ends a program with what came of it. The
+//! language stands in `specs/Spelling.antt`, how a run is set up and why it stops in `specs/Running.antt`, the
+//! demonstration in `specs/DemoParts.antt`, and the text in `specs/TraceText.antt`. What a run is, rdm_crew says.
 #![tactic(auto)]
 
 mod demo;
@@ -12,18 +13,23 @@ mod grammar;
 mod laws;
 mod parties;
 mod program;
+mod rules;
 mod running;
 mod script;
+mod stage;
 mod streams;
 mod trace;
 
+pub use demo::DemoPanel;
 pub use exit::{report, run_program, write_error_line};
-pub use grammar::{ScriptError, parse};
+pub use grammar::{ScriptError, parse, parse_for};
 pub use laws::{
     line_says_what_its_words_spell, program_errors_are_equal_by_value,
     script_errors_are_equal_by_value, script_is_never_refused, setups_are_equal_by_value,
     text_is_one_script,
 };
-pub use program::{ProgramError, run_script};
+pub use program::{ProgramError, run_script, run_script_on};
+pub use rules::{RuledPart, ruled_parts_fit};
 pub use script::{Script, Setup};
+pub use stage::Stage;
 pub use trace::trace_text;

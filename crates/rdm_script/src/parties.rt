@@ -2,7 +2,7 @@
 
 use rdm_frame::Uid;
 
-/// The device of a script.
+/// The device of the demonstration.
 pub(crate) const DEVICE: Uid = Uid {
     maker: 0x7FF0,
     device: 0x0000_0001,

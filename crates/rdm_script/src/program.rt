@@ -2,14 +2,21 @@
 
 ghost use Rattle.std.specs.Prelude.{◌≡◌, ◌≢◌, ℕ, List, take, OnOk, IfOk, IfErr, IfSome};
 ghost use Rattle.std.specs.Io.KnownBytes.{Keeps, Appends, IsAtEnd};
+ghost use Rattle.rdm_crew.specs.RunTrace.{FitsFor};
+ghost use Rattle.rdm_script.specs.DemoParts.{demo_scene};
+ghost use Rattle.rdm_script.specs.Scene.{scene_of};
 ghost use Rattle.rdm_script.specs.Program.{IsTraceOf, IsFailure, status_of, fault_of_script, fault_of_run};
 ghost use Rattle.rdm_script.specs.declared.program.ProgramError.TheVariants.{Memory, Read as ReadFault, Write as WriteFault};
 
-use crate::grammar::{ScriptError, parse};
+use crate::demo::demo_stage;
+use crate::grammar::{ScriptError, parse_for};
+use crate::rules::ruled_parts_fit;
 use crate::running::play_steps;
-use crate::streams::{read_input, write_text};
+use crate::stage::Stage;
+use crate::streams::read_input;
 use crate::trace::trace_text;
-use rdm_crew::RunError;
+use rdm_crew::{Panel, Part, RunError};
+use rdm_outcomes::demo_rules_end_jobs;
 use std::alloc::{AllocError, Global};
 use std::error::Error;
 use std::fmt;
@@ -100,8 +107,16 @@ impl From<RunError> for ProgramError {
     }
 }
 
-/// Reads a script to its end, plays it, and then writes the text of its trace. The device's jobs are done by two workers, each
-/// on a thread of its own.
+impl From<rdm_streams::WriteFault> for ProgramError {
+    ghost from_gives = { λ _ e. e ≡ WriteFault };
+
+    fn from(_fault: rdm_streams::WriteFault) -> ProgramError {
+        ProgramError::Write
+    }
+}
+
+/// Reads a script to its end, plays it on the fixture of the demonstration, and then writes the text of its trace. The
+/// device's jobs are done by two workers, each on a thread of its own.
 ///
 /// A read that gives no byte is the end of the input, and at most 65,537 bytes are read. A write that takes no byte
 /// is a fault of the writer.
@@ -115,30 +130,75 @@ where
     T: Threads + Wait + Copy + Send + 'static,
     // What is written is the text of the trace of what is read, and nothing else.
     ensures ok { OnOk result (IfSome (R.remaining reader.old) (λ input. (text : List ℕ) ×
-        IsTraceOf input text × Appends (W.contents writer.old) (W.contents writer.new) text)) }
+        IsTraceOf demo_scene input text × Appends (W.contents writer.old) (W.contents writer.new) text)) }
     // The whole input is read.
     ensures whole { OnOk result (IsAtEnd (R.remaining reader.new)) }
     // Unless the writer failed, nothing is written.
     ensures silent { IfErr result (λ e. e ≢ WriteFault → Keeps (W.contents writer.old) (W.contents writer.new)) }
     // Where it failed, a front of the text is written.
     ensures front { result ≡ Err WriteFault → IfSome (R.remaining reader.old) (λ input. (text : List ℕ) × (count : ℕ) ×
-        IsTraceOf input text × Appends (W.contents writer.old) (W.contents writer.new) (take count text)) }
+        IsTraceOf demo_scene input text × Appends (W.contents writer.old) (W.contents writer.new) (take count text)) }
     // Each failure has its cause in the input.
-    ensures err { IfErr result (λ e. IfSome (R.remaining reader.old) (IsFailure e)) }
+    ensures err { IfErr result (λ e. IfSome (R.remaining reader.old) (IsFailure demo_scene e)) }
+{
+    // What the parts give fits their jobs, and is what the jobs of the demonstration come to.
+    ruled_parts_fit();
+    demo_rules_end_jobs();
+    run_script_on(rt, alloc, reader, writer, demo_stage())
+}
+
+/// Reads a script to its end, plays it on any fixture, and then writes the text of its trace, as `run_script` does.
+///
+/// The script may name at most as many sub-devices as the fixture has: more are told as a bad setup, before anything is
+/// played. Where it says nothing of them, the device has none.
+pub fn run_script_on<T, R: Read, W: Write, P, Q, N>(
+    rt: T,
+    alloc: Global,
+    reader: &mut R,
+    writer: &mut W,
+    stage: Stage<P, Q, N>,
+) -> Result<(), ProgramError>
+where
+    T: Threads + Wait + Copy + Send + 'static,
+    P: Part + Send + 'static,
+    Q: Part + Send + 'static,
+    N: Panel + Send + 'static,
+    requires fits { FitsFor 0 (P.gives stage.first) × FitsFor 1 (Q.gives stage.second) }
+    ensures ok { OnOk result (IfSome (R.remaining reader.old) (λ input. (text : List ℕ) ×
+        IsTraceOf (scene_of P.gives Q.gives N.offers stage) input text ×
+        Appends (W.contents writer.old) (W.contents writer.new) text)) }
+    ensures whole { OnOk result (IsAtEnd (R.remaining reader.new)) }
+    ensures silent { IfErr result (λ e. e ≢ WriteFault → Keeps (W.contents writer.old) (W.contents writer.new)) }
+    ensures front { result ≡ Err WriteFault → IfSome (R.remaining reader.old) (λ input. (text : List ℕ) × (count : ℕ) ×
+        IsTraceOf (scene_of P.gives Q.gives N.offers stage) input text ×
+        Appends (W.contents writer.old) (W.contents writer.new) (take count text)) }
+    ensures err { IfErr result (λ e. IfSome (R.remaining reader.old)
+        (IsFailure (scene_of P.gives Q.gives N.offers stage) e)) }
 {
     let input = read_input(alloc, reader)?;
-    let text = play(rt, alloc, &input)?;
-    write_text(writer, &text)
+    let text = play(rt, alloc, &input, stage)?;
+    rdm_streams::write_all(writer, &text)?;
+    Ok(())
 }
 
 /// The text of the trace of a script.
-fn play<T>(rt: T, alloc: Global, input: &[u8]) -> Result<Vec<u8>, ProgramError>
+fn play<T, P, Q, N>(
+    rt: T,
+    alloc: Global,
+    input: &[u8],
+    stage: Stage<P, Q, N>,
+) -> Result<Vec<u8>, ProgramError>
 where
     T: Threads + Wait + Copy + Send + 'static,
-    ensures ok { IfOk result (λ text. IsTraceOf input.now text.items) }
-    ensures err { IfErr result (λ e. IsFailure e input.now × (e ≢ ReadFault) × (e ≢ WriteFault)) }
+    P: Part + Send + 'static,
+    Q: Part + Send + 'static,
+    N: Panel + Send + 'static,
+    requires fits { FitsFor 0 (P.gives stage.first) × FitsFor 1 (Q.gives stage.second) }
+    ensures ok { IfOk result (λ text. IsTraceOf (scene_of P.gives Q.gives N.offers stage) input.now text.items) }
+    ensures err { IfErr result (λ e. IsFailure (scene_of P.gives Q.gives N.offers stage) e input.now ×
+        (e ≢ ReadFault) × (e ≢ WriteFault)) }
 {
-    let script = parse(alloc, input)?;
-    let trace = play_steps(rt, alloc, script.setup, &script.steps)?;
+    let script = parse_for(alloc, stage.device, input)?;
+    let trace = play_steps(rt, alloc, script.setup, &script.steps, stage)?;
     Ok(trace_text(alloc, trace.events(), trace.recorded())?)
 }

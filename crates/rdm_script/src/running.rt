@@ -1,16 +1,17 @@
-//! A run: the steps of a script are played on a device that has just been switched on, and the parts of the demonstration do
-//! its jobs.
+//! A run: the steps of a script are played on a device that has just been switched on.
 
 ghost use Rattle.std.specs.Prelude.{◌≡◌, ◌↔◌, IfOk, IfErr, OnOk, IsErrOf};
 ghost use Rattle.rdm_bus.specs.BusLaws.{BusLaws, recorded};
-ghost use Rattle.rdm_crew.specs.RunTrace.{HaveFaults};
-ghost use Rattle.rdm_crew.specs.Setups.{switched_on, IsBadSetup};
-ghost use Rattle.rdm_script.specs.Running.{crew_setup, IsGoodSetup, IsScriptRun, Stops};
+ghost use Rattle.rdm_crew.specs.RunTrace.{HaveFaults, FitsFor};
+ghost use Rattle.rdm_crew.specs.Setups.{switched_on};
+ghost use Rattle.rdm_script.specs.Running.{crew_setup, IsBad, IsGood, IsScriptRun, Stops};
+ghost use Rattle.rdm_script.specs.Scene.{scene_of};
 
-use crate::demo::{DemoPanel, LampPart, TestPart};
-use crate::parties::{CONTROLLER, DEVICE};
+use crate::parties::CONTROLLER;
 use crate::script::Setup;
-use rdm_crew::{CrewStep, RunError, Trace};
+use crate::stage::Stage;
+use rdm_crew::{CrewStep, Panel, Part, RunError, Trace};
+use rdm_frame::Uid;
 use rdm_params::Profile;
 use std::alloc::Global;
 use std::sync::Wait;
@@ -19,43 +20,55 @@ use std::thread::Threads;
 /// Plays the steps on a device that has just been switched on, and gives what has happened.
 ///
 /// A setup of which there can be no device is refused first.
-pub(crate) fn play_steps<T>(
+pub(crate) fn play_steps<T, P, Q, N>(
     rt: T,
     alloc: Global,
     setup: Setup,
     steps: &[CrewStep],
+    stage: Stage<P, Q, N>,
 ) -> Result<Trace, RunError>
 where
     T: Threads + Wait + Copy + Send + 'static,
+    P: Part + Send + 'static,
+    Q: Part + Send + 'static,
+    N: Panel + Send + 'static,
+    requires fits { FitsFor 0 (P.gives stage.first) × FitsFor 1 (Q.gives stage.second) }
     requires faults { HaveFaults steps.now }
     // What happened is a run of these steps, and both laws of a collector hold of it.
-    ensures trace { IfOk result (λ trace. IsScriptRun setup steps.now trace.events) }
+    ensures trace { IfOk result (λ trace. IsScriptRun (scene_of P.gives Q.gives N.offers stage) setup steps.now trace.events) }
     ensures recorded { IfOk result (λ trace. trace.recorded ≡ recorded trace.events) }
-    ensures laws { IfOk result (λ trace. BusLaws (switched_on (crew_setup setup)) trace.events) }
-    ensures good { OnOk result (IsGoodSetup setup) }
-    ensures bad_setup { IsErrOf result RunError.BadSetup ↔ IsBadSetup (crew_setup setup) }
-    ensures err { IfErr result (λ e. Stops e setup steps.now) }
+    ensures laws { IfOk result (λ trace. BusLaws (switched_on (crew_setup stage.device stage.profile setup)) trace.events) }
+    ensures good { OnOk result (IsGood (scene_of P.gives Q.gives N.offers stage) setup) }
+    ensures bad_setup { IsErrOf result RunError.BadSetup ↔ IsBad (scene_of P.gives Q.gives N.offers stage) setup }
+    ensures err { IfErr result (λ e. Stops (scene_of P.gives Q.gives N.offers stage) e setup steps.now) }
 {
+    if stage.profile.subs < setup.subs {
+        return Err(RunError::BadSetup);
+    }
+    let crew_setup = crew_setup(stage.device, stage.profile, setup);
     rdm_crew::run(
         rt,
         alloc,
-        crew_setup(setup),
+        crew_setup,
         steps,
-        LampPart,
-        TestPart,
-        DemoPanel,
+        stage.first,
+        stage.second,
+        stage.panel,
     )
 }
 
 /// The device and the controller of a script.
-fn crew_setup(setup: Setup) -> rdm_crew::Setup
-    ensures { result ≡ crew_setup setup }
+fn crew_setup(device: Uid, profile: Profile, setup: Setup) -> rdm_crew::Setup
+    ensures { result ≡ crew_setup device profile setup }
 {
     rdm_crew::Setup {
-        device: DEVICE,
+        device,
         controller: CONTROLLER,
         want: setup.want,
-        profile: Profile::demo(setup.subs),
+        profile: Profile {
+            subs: setup.subs,
+            ..profile
+        },
         queue_size: setup.queue_size,
     }
 }

@@ -1,13 +1,13 @@
-//! Readers and writers: all that a reader gives, and a text written whole.
+//! Readers: all that one gives, up to one byte more than a script may have.
 
-ghost use Rattle.std.specs.Prelude.{◌≡◌, ◌+◌, ◌≤◌, ◌++◌, ℕ, [], length, take, vec_len, vec_capacity, OnOk, OnErr, ◌⊎◌, IfOk, IfErr, MatchResult};
-ghost use Rattle.std.specs.Io.KnownBytes.{Keeps, Appends, Consumes, IsAtEnd, ReadConsumes};
-ghost use Rattle.rdm_script.specs.declared.program.ProgramError.TheVariants.{Memory, Read as ReadFault, Write as WriteFault};
+ghost use Rattle.std.specs.Prelude.{◌≡◌, ◌+◌, ◌≤◌, ◌++◌, [], length, vec_len, vec_capacity, OnOk, ◌⊎◌, IfOk, IfErr};
+ghost use Rattle.std.specs.Io.KnownBytes.{Consumes, IsAtEnd, ReadConsumes};
+ghost use Rattle.rdm_script.specs.declared.program.ProgramError.TheVariants.{Memory, Read as ReadFault};
 
 use crate::grammar::MOST_BYTES;
 use crate::program::ProgramError;
 use std::alloc::Global;
-use std::io::{Read, Write};
+use std::io::Read;
 
 /// How many bytes are read at most: one more than a script may have.
 const MOST_READ: usize = MOST_BYTES + 1;
@@ -66,34 +66,5 @@ fn read_some<R: Read>(reader: &mut R, piece: &mut [u8]) -> Result<usize, Program
     match reader.read(piece) {
         Ok(count) => Ok(count),
         Err(_) => Err(ProgramError::Read),
-    }
-}
-
-/// Writes the whole text, in as many writes as the writer wants.
-pub(crate) fn write_text<W: Write>(writer: &mut W, text: &[u8]) -> Result<(), ProgramError>
-    ensures ok { OnOk result (Appends (W.contents writer.old) (W.contents writer.new) text.now) }
-    ensures front { OnErr result ((count : ℕ) × Appends (W.contents writer.old) (W.contents writer.new) (take count text.now)) }
-    ensures err { IfErr result (λ e. e ≡ WriteFault) }
-{
-    let mut written = 0;
-    while written < text.len() {
-        let count = write_some(writer, &text[written..])?;
-        if count == 0 {
-            return Err(ProgramError::Write);
-        }
-        written += count;
-    }
-    Ok(())
-}
-
-/// One write. A write that fails is a fault.
-fn write_some<W: Write>(writer: &mut W, bytes: &[u8]) -> Result<usize, ProgramError>
-    ensures bytes { MatchResult result
-        (λ count. (count ≤ length bytes.now) × Appends (W.contents writer.old) (W.contents writer.new) (take count bytes.now))
-        (λ e. (e ≡ WriteFault) × Keeps (W.contents writer.old) (W.contents writer.new)) }
-{
-    match writer.write(bytes) {
-        Ok(count) => Ok(count),
-        Err(_) => Err(ProgramError::Write),
     }
 }

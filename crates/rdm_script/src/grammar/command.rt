@@ -3,25 +3,25 @@
 ghost use Rattle.std.specs.Prelude.{◌≡◌};
 ghost use Rattle.rdm_script.specs.Grammar.{action_in, destination_in, load_in, command_in};
 
-use crate::parties::DEVICE;
 use rdm_bus::{Action, Command};
 use rdm_frame::digits::{bytes_in, word_in};
 use rdm_frame::{Load, Uid};
 
-/// The command that five words say.
+/// The command that five words say, to a device of this UID among others.
 #[tactic(auto, unfolding(crate::specs::Grammar::command_in))]
 pub(crate) fn command_in(
+    device: Uid,
     action: &[u8],
     dst: &[u8],
     sub: &[u8],
     pid: &[u8],
     load: &[u8],
 ) -> Option<Command>
-    ensures { result ≡ command_in action.now dst.now sub.now pid.now load.now }
+    ensures { result ≡ command_in device action.now dst.now sub.now pid.now load.now }
 {
     Some(Command {
         action: action_in(action)?,
-        dst: destination_in(dst)?,
+        dst: destination_in(device, dst)?,
         sub: word_in(sub)?,
         pid: word_in(pid)?,
         load: load_in(load)?,
@@ -43,17 +43,17 @@ fn action_in(word: &[u8]) -> Option<Action>
     }
 }
 
-/// Whom a command is for: a name or a UID.
+/// Whom a command is for: a name, of which two are of this device, or a UID.
 #[tactic(auto, unfolding(crate::specs::Grammar::destination_in))]
-fn destination_in(word: &[u8]) -> Option<Uid>
-    ensures { result ≡ destination_in word.now }
+fn destination_in(device: Uid, word: &[u8]) -> Option<Uid>
+    ensures { result ≡ destination_in device word.now }
 {
     if word == b"dev".as_slice() {
-        Some(DEVICE)
+        Some(device)
     } else if word == b"all".as_slice() {
         Some(Uid::ALL)
     } else if word == b"maker".as_slice() {
-        Some(Uid::all_of(DEVICE.maker))
+        Some(Uid::all_of(device.maker))
     } else {
         Uid::from_text(word)
     }

@@ -2,10 +2,10 @@ use Rattle.rdm_script.proofs.LineSpellings.{line_read, line_again, first_read, f
 use Rattle.rdm_script.proofs.laws.line_says_what_its_words_spell.Goals as goal
 
 pub returns-clause-step : goal.returns-clause-step
-returns-clause-step c = λ words step. (line_read words step, λ s. line_again words step s.0 s.1)
+returns-clause-step c = λ dev words step. (line_read dev words step, λ s. line_again dev words step s.0 s.1)
 
 pub returns-clause-first_step : goal.returns-clause-first_step
-returns-clause-first_step c = λ words step. (first_read words step, λ s. first_says words step s.0 s.1)
+returns-clause-first_step c = λ dev words step. (first_read dev words step, λ s. first_says dev words step s.0 s.1)
 
 pub returns-clause-setup : goal.returns-clause-setup
-returns-clause-setup c = λ words setup. (sets_read words setup, first_sets words setup)
+returns-clause-setup c = λ dev words setup. (sets_read dev words setup, first_sets dev words setup)

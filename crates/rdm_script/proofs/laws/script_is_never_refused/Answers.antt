@@ -1,5 +1,6 @@
 use Rattle.std.proofs.Common.{◌≡◌, ℕ, ◌-◌, List, arith, refl}
 use Rattle.std.proofs.lemmas.Option.{slice_get_within, get_or_from_slice_get}
+use Rattle.rdm_frame.specs.declared.uid.Uid.{Uid}
 use Rattle.rdm_crew.specs.declared.step.CrewStep.{CrewStep}
 use Rattle.rdm_script.specs.declared.grammar.line.Line.TheVariants.{Faulty}
 use Rattle.rdm_script.specs.declared.script.Setup.{Setup}
@@ -9,12 +10,12 @@ use Rattle.rdm_script.specs.Grammar.{said_by, lines_of, IsRead, Refuses}
 use Rattle.rdm_script.proofs.ScriptSpellings.{script_read}
 use Rattle.rdm_script.proofs.laws.script_is_never_refused.Goals as goal
 
-never : (text : List ℕ) (setup : Setup) (steps : List CrewStep) (e : ScriptError) → IsRead text setup steps → Refuses e text → e ≡ OutOfMemory
-never text setup steps OutOfMemory read refused = refl
-never text setup steps TooLong read refused = absurd (omega (arith, read.within, refused))
-never text setup steps (Line number) read refused =
-    let said = said_by (lines_of text) in
+never : (dev : Uid) (text : List ℕ) (setup : Setup) (steps : List CrewStep) (e : ScriptError) → IsRead dev text setup steps → Refuses dev e text → e ≡ OutOfMemory
+never dev text setup steps OutOfMemory read refused = refl
+never dev text setup steps TooLong read refused = absurd (omega (arith, read.within, refused))
+never dev text setup steps (Line number) read refused =
+    let said = said_by dev (lines_of text) in
     absurd (read.says.faultless (number - 1) Faulty (slice_get_within said (number - 1) Faulty refused.1.faulty) (get_or_from_slice_get said (number - 1) Faulty Faulty refused.1.faulty))
 
 pub returns : goal.returns
-returns c = λ text setup steps e spelled refused. never text setup steps e (script_read text setup steps spelled) refused
+returns c = λ dev text setup steps e spelled refused. never dev text setup steps e (script_read dev text setup steps spelled) refused

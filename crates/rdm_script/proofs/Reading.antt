@@ -1,0 +1,80 @@
+-- What is so of the bytes that were read is so of the whole input.
+use Rattle.std.proofs.Common.{◌≡◌, ◌≢◌, ℕ, ◌+◌, ◌<◌, ◌≤◌, List, [], ◌++◌, length, take, Option, Some, None, IfSome, refl, sym, ap, subst, ◌∙◌, arith}
+use Rattle.std.proofs.lemmas.List.{append-nil, length-append}
+use Rattle.std.specs.Io.KnownBytes.{Appends, Consumes, IsAtEnd}
+use Rattle.rdm_crew.specs.declared.error.RunError.{RunError}
+use Rattle.rdm_crew.specs.declared.error.RunError.TheVariants as run
+use Rattle.rdm_crew.specs.declared.step.CrewStep.{CrewStep}
+use Rattle.rdm_script.specs.declared.grammar.parsing.ScriptError.TheVariants as script
+use Rattle.rdm_script.specs.declared.program.ProgramError.{ProgramError}
+use Rattle.rdm_script.specs.declared.program.ProgramError.TheVariants.{Read, Script, Memory, Run, Write}
+use Rattle.rdm_script.specs.declared.script.Setup.{Setup}
+use Rattle.rdm_script.specs.Program.{IsTraceOf, IsStopped, IsFailure, fault_of_run}
+use Rattle.rdm_script.specs.Running.{Stops}
+use Rattle.rdm_script.specs.Scene.{Scene}
+use Rattle.rdm_script.specs.Spelling.{IsScript}
+
+-- where the reader was read to its end
+known : (P : List ℕ → Type 0) (before after : Option (List ℕ)) (items : List ℕ) → Consumes before after items → IsAtEnd after → P items → IfSome before P
+known P None after items took ended h = tt
+known P (Some bytes) None items took ended h = absurd took
+known P (Some bytes) (Some rest) items took ended h =
+    let whole : bytes ≡ items = took ∙ ap (λ (xs : List ℕ). items ++ xs) ended ∙ append-nil items in
+    subst P (sym whole) h
+
+-- where too much was read for a script
+too_long : (before after : Option (List ℕ)) (items : List ℕ) → Consumes before after items → 65536 < length items → IfSome before (λ input. 65536 < length input)
+too_long None after items took long = tt
+too_long (Some bytes) None items took long = absurd took
+too_long (Some bytes) (Some rest) items took long =
+    let more : length bytes ≡ length items + length rest = ap length took ∙ length-append items rest in
+    omega (arith, more, long)
+
+each : (P Q : List ℕ → Type 0) → ((input : List ℕ) → P input → Q input) → (o : Option (List ℕ)) → IfSome o P → IfSome o Q
+each P Q more None h = tt
+each P Q more (Some input) h = more input h
+
+always : (P : List ℕ → Type 0) → ((input : List ℕ) → P input) → (o : Option (List ℕ)) → IfSome o P
+always P holds None = tt
+always P holds (Some input) = holds input
+
+-- the reader was read to its end, unless there is more than a script may have
+abbrev pub IsInput : Option (List ℕ) → Option (List ℕ) → List ℕ → Type 0
+IsInput before after items = Consumes before after items × (length items ≤ 65536 → IsAtEnd after)
+
+pub failed_input : (scene : Scene) (e : ProgramError) (before after : Option (List ℕ)) (items : List ℕ) → IsInput before after items → IsFailure scene e items → IfSome before (IsFailure scene e)
+failed_input scene Read before after items input h = always (IsFailure scene Read) (λ i. tt) before
+failed_input scene (Script script.OutOfMemory) before after items input h = absurd (h.1 refl)
+failed_input scene (Script script.TooLong) before after items input h =
+    each (λ i. 65536 < length i) (IsFailure scene (Script script.TooLong)) (λ i long. (long, h.1)) before (too_long before after items input.0 h.0)
+failed_input scene (Script (script.Line n)) before after items input h =
+    known (IsFailure scene (Script (script.Line n))) before after items input.0 (input.1 h.0.0) h
+failed_input scene Memory before after items input h = always (IsFailure scene Memory) (λ i. tt) before
+failed_input scene (Run e) before after items input h = known (IsFailure scene (Run e)) before after items input.0 (input.1 h.0.spelled.within) h
+failed_input scene Write before after items input h = always (IsFailure scene Write) (λ i. tt) before
+
+pub traced_input : (scene : Scene) (before after old new : Option (List ℕ)) (items text : List ℕ) → IsInput before after items → IsTraceOf scene items text → Appends old new text
+    → IfSome before (λ input. (t : List ℕ) × IsTraceOf scene input t × Appends old new t)
+traced_input scene before after old new items text input trace wrote =
+    known (λ i. (t : List ℕ) × IsTraceOf scene i t × Appends old new t) before after items input.0 (input.1 trace.spelled.within) (text, trace, wrote)
+
+pub front_input : (scene : Scene) (before after old new : Option (List ℕ)) (items text : List ℕ) → IsInput before after items → IsTraceOf scene items text → (count : ℕ) × Appends old new (take count text)
+    → IfSome before (λ input. (t : List ℕ) × (count : ℕ) × IsTraceOf scene input t × Appends old new (take count t))
+front_input scene before after old new items text input trace wrote =
+    known (λ i. (t : List ℕ) × (count : ℕ) × IsTraceOf scene i t × Appends old new (take count t)) before after items input.0 (input.1 trace.spelled.within) (text, wrote.0, trace, wrote.1)
+
+-- ---- a run that stopped
+
+stopped_as : (scene : Scene) (input : List ℕ) (fault : RunError) → IsStopped scene input fault → IsFailure scene (fault_of_run fault) input × (fault_of_run fault ≢ Read) × (fault_of_run fault ≢ Write)
+stopped_as scene input run.OutOfMemory h = (tt, λ e. cc, λ e. cc)
+stopped_as scene input run.Reserved h = ((h, λ e. cc), λ e. cc, λ e. cc)
+stopped_as scene input run.TooLong h = ((h, λ e. cc), λ e. cc, λ e. cc)
+stopped_as scene input run.Unsettled h = ((h, λ e. cc), λ e. cc, λ e. cc)
+stopped_as scene input run.Astray h = ((h, λ e. cc), λ e. cc, λ e. cc)
+stopped_as scene input run.Missing h = ((h, λ e. cc), λ e. cc, λ e. cc)
+stopped_as scene input run.BadSetup h = ((h, λ e. cc), λ e. cc, λ e. cc)
+
+pub run_fails : (scene : Scene) (input : List ℕ) (setup : Setup) (steps : List CrewStep) (fault : RunError) (e : ProgramError) → IsScript scene.device input setup steps → Stops scene fault setup steps
+    → e ≡ fault_of_run fault → IsFailure scene e input × (e ≢ Read) × (e ≢ Write)
+run_fails scene input setup steps fault e spelled because is =
+    subst (λ (x : ProgramError). IsFailure scene x input × (x ≢ Read) × (x ≢ Write)) (sym is) (stopped_as scene input fault (record { setup = setup; steps = steps; spelled = spelled; because = because }))

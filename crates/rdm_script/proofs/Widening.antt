@@ -1,0 +1,119 @@
+-- What happens on a scene happens on each scene of the same device that gives at least as much.
+use Rattle.std.proofs.Common.{◌≡◌, ◌<◌, ◌⊎◌, ℕ, suc, List, [], ◌∷◌, take, Option, Some, None, Result, Ok, Err, OnOk, IfErr, IfSome, subst}
+use Rattle.std.specs.Bool.{⊤}
+use Rattle.std.specs.Io.KnownBytes.{Appends}
+use Rattle.rdm_frame.specs.declared.uid.Uid.{Uid}
+use Rattle.rdm_device.specs.declared.profile.Profile.{Profile}
+use Rattle.rdm_params.specs.declared.panel.Change.{Change}
+use Rattle.rdm_params.specs.declared.slow.outcome.Outcome.{Outcome}
+use Rattle.rdm_outbox.specs.declared.job.Job.{Job}
+use Rattle.rdm_responder.specs.declared.report.Report.{Report}
+use Rattle.rdm_bus.specs.declared.event.Event.{Event}
+use Rattle.rdm_crew.specs.declared.error.RunError.{RunError}
+use Rattle.rdm_crew.specs.declared.error.RunError.TheVariants as run
+use Rattle.rdm_crew.specs.declared.step.CrewStep.{CrewStep}
+use Rattle.rdm_crew.specs.RunTrace.{IsCut, IsAnswered}
+use Rattle.rdm_crew.specs.Setups.{IsBadSetup, switched_on}
+use Rattle.rdm_crew.specs.Watchers.{AreOffered}
+use Rattle.rdm_crew.specs.Workers.{Answers}
+use Rattle.rdm_script.specs.declared.program.ProgramError.{ProgramError}
+use Rattle.rdm_script.specs.declared.program.ProgramError.TheVariants.{Read, Script, Memory, Run, Write}
+use Rattle.rdm_script.specs.declared.script.Setup.{Setup}
+use Rattle.rdm_script.specs.Grammar.{Refuses}
+use Rattle.rdm_script.specs.Program.{IsTraceOf, IsStopped, IsFailure}
+use Rattle.rdm_script.specs.Running.{crew_setup, IsBad, IsGood, Stops}
+use Rattle.rdm_script.specs.Scene.{Scene}
+use Rattle.rdm_script.specs.Spelling.{IsScript}
+
+pub record IsWider (s t : Scene) : Type 0 where
+  pub device : s.device ≡ t.device
+  pub profile : s.profile ≡ t.profile
+  pub first : (j : Job) (o : Outcome) → s.first j o → t.first j o
+  pub second : (j : Job) (o : Outcome) → s.second j o → t.second j o
+  pub offers : (n : ℕ) (c : Change) → s.offers n c → t.offers n c
+
+-- what hangs on the device alone
+moved : (P : Uid → Profile → Type 0) (s t : Scene) → IsWider s t → P s.device s.profile → P t.device t.profile
+moved P s t w h = subst (P t.device) w.profile (subst (λ (d : Uid). P d s.profile) w.device h)
+
+answers_wider : (f g : Job → Outcome → Type 0) → ((j : Job) (o : Outcome) → f j o → g j o) → (js : List Job) (rs : List Report) → Answers f js rs → Answers g js rs
+answers_wider f g wider js [] h = tt
+answers_wider f g wider [] (r ∷ rs) h = absurd h
+answers_wider f g wider (j ∷ js) (r ∷ rs) h = (h.0, wider j r.outcome h.1, answers_wider f g wider js rs h.2)
+
+answered_wider : (worker : ℕ) (f g : Job → Outcome → Type 0) → ((j : Job) (o : Outcome) → f j o → g j o) → (events : List Event) → IsAnswered worker f events → IsAnswered worker g events
+answered_wider worker f g wider events a = record { answers = answers_wider f g wider _ _ a.answers; all = a.all }
+
+offered_wider : (f g : ℕ → Change → Type 0) → ((n : ℕ) (c : Change) → f n c → g n c) → (n : ℕ) (cs : List Change) → AreOffered f n cs → AreOffered g n cs
+offered_wider f g wider n [] h = tt
+offered_wider f g wider n (c ∷ cs) h = (wider n c h.0, offered_wider f g wider (suc n) cs h.1)
+
+good_wider : (s t : Scene) (setup : Setup) → IsWider s t → IsGood s setup → IsGood t setup
+good_wider s t setup w h = moved (λ (d : Uid) (p : Profile). ¬ ((p.subs < setup.subs) ⊎ IsBadSetup (crew_setup d p setup))) s t w h
+
+bad_wider : (s t : Scene) (setup : Setup) → IsWider s t → IsBad s setup → IsBad t setup
+bad_wider s t setup w h = moved (λ (d : Uid) (p : Profile). (p.subs < setup.subs) ⊎ IsBadSetup (crew_setup d p setup)) s t w h
+
+trace_wider : (s t : Scene) → IsWider s t → (input text : List ℕ) → IsTraceOf s input text → IsTraceOf t input text
+trace_wider s t w input text h = record {
+  setup = h.setup;
+  steps = h.steps;
+  events = h.events;
+  spelled = subst (λ (d : Uid). IsScript d input h.setup h.steps) w.device h.spelled;
+  good = good_wider s t h.setup w h.good;
+  run = record {
+    cut = moved (λ (d : Uid) (p : Profile). IsCut (switched_on (crew_setup d p h.setup)) h.steps h.events) s t w h.run.cut;
+    first = answered_wider 0 s.first t.first w.first h.events h.run.first;
+    second = answered_wider 1 s.second t.second w.second h.events h.run.second;
+    changes = offered_wider s.offers t.offers w.offers 0 _ h.run.changes;
+  };
+  written = h.written;
+}
+
+stops_wider : (s t : Scene) (e : RunError) (setup : Setup) (steps : List CrewStep) → IsWider s t → Stops s e setup steps → Stops t e setup steps
+stops_wider s t run.OutOfMemory setup steps w h = tt
+stops_wider s t run.Reserved setup steps w h = (good_wider s t setup w h.0, h.1)
+stops_wider s t run.TooLong setup steps w h = (good_wider s t setup w h.0, h.1)
+stops_wider s t run.Unsettled setup steps w h = (good_wider s t setup w h.0, h.1)
+stops_wider s t run.Astray setup steps w h = absurd h
+stops_wider s t run.Missing setup steps w h = absurd h
+stops_wider s t run.BadSetup setup steps w h = bad_wider s t setup w h
+
+stopped_wider : (s t : Scene) (input : List ℕ) (e : RunError) → IsWider s t → IsStopped s input e → IsStopped t input e
+stopped_wider s t input e w h = record {
+  setup = h.setup;
+  steps = h.steps;
+  spelled = subst (λ (d : Uid). IsScript d input h.setup h.steps) w.device h.spelled;
+  because = stops_wider s t e h.setup h.steps w h.because;
+}
+
+failure_wider : (s t : Scene) (e : ProgramError) (input : List ℕ) → IsWider s t → IsFailure s e input → IsFailure t e input
+failure_wider s t Read input w h = tt
+failure_wider s t (Script e) input w h = (subst (λ (d : Uid). Refuses d e input) w.device h.0, h.1)
+failure_wider s t Memory input w h = tt
+failure_wider s t (Run e) input w h = (stopped_wider s t input e w h.0, h.1)
+failure_wider s t Write input w h = tt
+
+-- ---- of what a program has done
+
+pub traced_wider : (s t : Scene) → IsWider s t → (r : Result ⊤ ProgramError) (known old new : Option (List ℕ))
+    → OnOk r (IfSome known (λ input. (text : List ℕ) × IsTraceOf s input text × Appends old new text))
+    → OnOk r (IfSome known (λ input. (text : List ℕ) × IsTraceOf t input text × Appends old new text))
+traced_wider s t w (Ok done) None old new h = tt
+traced_wider s t w (Ok done) (Some input) old new h = (h.0, trace_wider s t w input h.0 h.1, h.2)
+traced_wider s t w (Err e) known old new h = tt
+
+pub front_wider : (s t : Scene) → IsWider s t → (known old new : Option (List ℕ))
+    → IfSome known (λ input. (text : List ℕ) × (count : ℕ) × IsTraceOf s input text × Appends old new (take count text))
+    → IfSome known (λ input. (text : List ℕ) × (count : ℕ) × IsTraceOf t input text × Appends old new (take count text))
+front_wider s t w None old new h = tt
+front_wider s t w (Some input) old new h = (h.0, h.1, trace_wider s t w input h.0 h.2, h.3)
+
+failed_with : (s t : Scene) → IsWider s t → (e : ProgramError) (known : Option (List ℕ)) → IfSome known (IsFailure s e) → IfSome known (IsFailure t e)
+failed_with s t w e None h = tt
+failed_with s t w e (Some input) h = failure_wider s t e input w h
+
+pub failed_wider : (s t : Scene) → IsWider s t → (r : Result ⊤ ProgramError) (known : Option (List ℕ))
+    → IfErr r (λ e. IfSome known (IsFailure s e)) → IfErr r (λ e. IfSome known (IsFailure t e))
+failed_wider s t w (Ok done) known h = tt
+failed_wider s t w (Err e) known h = failed_with s t w e known h

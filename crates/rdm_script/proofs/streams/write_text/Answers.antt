@@ -1,9 +1,0 @@
-use Rattle.std.proofs.Common.{refl, arith}
-use Rattle.rdm_script.proofs.StreamLemmas.{appends_more}
-use Rattle.rdm_script.proofs.streams.write_text.Goals as goal
-
-pub loop-written-preserved : goal.loop-written-preserved
-loop-written-preserved g c = record {
-  front = appends_more _ _ _ c.args.text.now _ c.loop-written.written c.in_ok-count.count refl c.loop-written.invariant.front c.in_ok-count.ensures.bytes.1;
-  within = omega (arith, c.in_ok-count.ensures.bytes.0);
-}

@@ -1,0 +1,8 @@
+-- Parts whose jobs end by rules.
+use Rattle.std.specs.Prelude.{List, map}
+use Rattle.rdm_outcomes.specs.declared.rule.Rule.{Rule}
+use Rattle.rdm_script.specs.declared.rules.RuledPart.{RuledPart}
+
+-- the rules of a part, in order: the first that speaks of a job says how it ends
+abbrev pub rules_of : RuledPart → List Rule
+rules_of part = map (λ c. c.rule) part.planned.counted.items

@@ -1,0 +1,49 @@
+//! Parts whose jobs end by rules.
+
+ghost use Rattle.std.specs.Prelude.{◌≡◌};
+ghost use Rattle.rdm_crew.specs.RunTrace.{FitsFor};
+ghost use Rattle.rdm_outcomes.specs.Outcomes.{CanEnd};
+ghost use Rattle.rdm_script.specs.Rules.{rules_of};
+ghost use Rattle.rdm_script.specs.declared.rules.RuledPart.{RuledPart as ThePart};
+
+use arrayvec::ArrayVec;
+use rdm_crew::Part;
+use rdm_outbox::Job;
+use rdm_outcomes::{MOST_RULES, Planned, Rule, outcomes_fit};
+use rdm_params::Outcome;
+
+/// Does the jobs of a worker as rules say.
+#[derive(Debug, Drop)]
+pub struct RuledPart {
+    planned: Planned,
+}
+
+impl RuledPart {
+    /// A part of these rules that has done no job yet.
+    pub fn new(rules: &ArrayVec<Rule, MOST_RULES>) -> RuledPart
+        ensures { rules_of result ≡ rules.now.items }
+    {
+        RuledPart {
+            planned: Planned::new(rules),
+        }
+    }
+}
+
+impl Part for RuledPart {
+    ghost use Rattle.rdm_outcomes.specs.Outcomes.{CanEnd};
+    ghost use Rattle.rdm_script.specs.Rules.{rules_of};
+
+    ghost gives = { λ part job outcome. CanEnd (rules_of part) job outcome };
+
+    fn work(&mut self, job: &Job) -> Outcome {
+        self.planned.end(job)
+    }
+}
+
+/// Whatever its rules, a part gives outcomes that fit the jobs of either worker. It is the contract of a call that does
+/// nothing.
+pub fn ruled_parts_fit()
+    ensures { (part : ThePart) → FitsFor 0 (CanEnd (rules_of part)) × FitsFor 1 (CanEnd (rules_of part)) }
+{
+    outcomes_fit();
+}

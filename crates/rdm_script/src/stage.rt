@@ -1,0 +1,19 @@
+//! What a script is played on.
+
+use rdm_frame::Uid;
+use rdm_params::Profile;
+
+/// A fixture, and what does its work while a script is played.
+#[derive(Debug, Drop)]
+pub struct Stage<P, Q, N> {
+    /// The UID of the device (E1.20 section 5). The words `dev` and `maker` of a script speak of it.
+    pub device: Uid,
+    /// What the device is. It has as many sub-devices as the script says, at most as many as stand here.
+    pub profile: Profile,
+    /// Does the jobs of the first worker.
+    pub first: P,
+    /// Does the jobs of the second worker.
+    pub second: Q,
+    /// Offers what a person changes at the fixture's own menu.
+    pub panel: N,
+}
