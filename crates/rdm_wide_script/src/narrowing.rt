@@ -11,34 +11,35 @@ use crate::fault::text_at;
 use crate::line::{Asked, Line, line_in};
 use crate::refusal::{Refusal, WideError};
 use crate::words::{Word, words_of};
+use rdm_frame::Uid;
 use rdm_frame::digits::digit;
-use rdm_script::{ScriptError, parse};
+use rdm_script::{ScriptError, parse_for};
 use std::alloc::{AllocError, Global};
 
-/// The script in the words of rdm_script, line by line.
-pub fn narrowed(alloc: Global, text: &[u8]) -> Result<Vec<u8>, WideError>
+/// The script in the words of rdm_script, line by line. It is to be played on the device with this UID.
+pub fn narrowed(alloc: Global, device: Uid, text: &[u8]) -> Result<Vec<u8>, WideError>
     // A script of rdm_script stays as it is.
-    ensures narrow { (setup : TheSetup) (steps : List TheStep) → IsScript text.now setup steps →
+    ensures narrow { (setup : TheSetup) (steps : List TheStep) → IsScript device text.now setup steps →
         IfOk result (λ narrow. narrow.items ≡ text.now) }
     // But for want of memory, none of those is refused.
-    ensures refused { (setup : TheSetup) (steps : List TheStep) → IsScript text.now setup steps →
+    ensures refused { (setup : TheSetup) (steps : List TheStep) → IsScript device text.now setup steps →
         IfErr result (λ e. e ≡ OutOfMemory) }
     // It has as many lines as before.
     ensures lines { IfOk result (λ narrow. line_ends narrow.items ≡ line_ends text.now) }
 {
-    if is_narrow(alloc, text)? {
+    if is_narrow(alloc, device, text)? {
         copied(alloc, text)
     } else {
         lines_narrowed(alloc, text)
     }
 }
 
-/// Whether a text is a script of rdm_script.
-fn is_narrow(alloc: Global, text: &[u8]) -> Result<bool, WideError>
-    ensures { (setup : TheSetup) (steps : List TheStep) → IsScript text.now setup steps →
+/// Whether a text is a script of rdm_script, for the device with this UID.
+fn is_narrow(alloc: Global, device: Uid, text: &[u8]) -> Result<bool, WideError>
+    ensures { (setup : TheSetup) (steps : List TheStep) → IsScript device text.now setup steps →
         MatchResult result (λ narrow. narrow ≡ true) (λ e. e ≡ OutOfMemory) }
 {
-    match parse(alloc, text) {
+    match parse_for(alloc, device, text) {
         Ok(_) => Ok(true),
         Err(ScriptError::OutOfMemory) => Err(WideError::OutOfMemory),
         Err(ScriptError::TooLong) => Err(WideError::TooLong),

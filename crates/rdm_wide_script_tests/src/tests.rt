@@ -1,14 +1,21 @@
 //! What wide lines are in narrow words, what is told of faulty ones, and where runs stop.
 
 use rdm_crew::RunError;
+use rdm_frame::Uid;
 use rdm_wide_script::{narrowed, stopped_line};
 use std::process::Abort;
 use std::test::Fail;
 
+/// The device of the scripts.
+const DEVICE: Uid = Uid {
+    maker: 0x7FF0,
+    device: 0x0000_0001,
+};
+
 /// What each text is narrowed to, or what is told of it.
 fn try_rows(rt: &(impl Abort + AllocGlobal), rows: &[(&str, &str)]) -> Result<(), Fail> {
     for (text, wanted) in rows {
-        let told = match narrowed(rt.alloc(), text.as_bytes()) {
+        let told = match narrowed(rt.alloc(), DEVICE, text.as_bytes()) {
             Ok(narrow) => String::from_utf8(narrow)?,
             Err(error) => format!(in rt.alloc(); "{error}")?,
         };
