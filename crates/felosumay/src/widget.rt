@@ -4,6 +4,7 @@ use crate::fault::Fault;
 use crate::system::System;
 use crate::{fixture, usage};
 use clap::ArgMatches;
+use rdm_fixture::Fixture;
 use rdm_widget::{Desk, RealClock, serve};
 use std::io;
 
@@ -20,7 +21,12 @@ pub fn run<'a, S: System>(rt: S, asked: &ArgMatches<'a>) -> Result<(), Fault<'a>
         fixture.profile.subs = subs;
     }
     let speed = asked.get_one::<u32>(usage::SPEED).unwrap_or(1);
-    let mut desk = match Desk::new(rt.alloc(), fixture.uid, fixture.profile, QUEUE_SIZE) {
+    let Fixture {
+        uid,
+        profile,
+        outcomes,
+    } = fixture;
+    let mut desk = match Desk::new(rt.alloc(), uid, profile, QUEUE_SIZE, &outcomes) {
         Ok(desk) => desk,
         Err(error) => return Err(Fault::from(error)),
     };

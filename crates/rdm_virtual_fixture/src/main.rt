@@ -10,6 +10,7 @@ mod options;
 use fault::Fault;
 use options::Options;
 use rdm_frame::Uid;
+use rdm_outcomes::demo_rules;
 use rdm_params::Profile;
 use rdm_widget::{Desk, RealClock, serve};
 use std::io;
@@ -38,7 +39,7 @@ fn main(rt: HostRuntime) -> ExitCode {
 fn run(rt: &HostRuntime) -> Result<(), Fault> {
     let options = Options::read(rt)?;
     let profile = Profile::demo(options.subs);
-    let mut desk = Desk::new(rt.alloc(), DEVICE, profile, QUEUE_SIZE)?;
+    let mut desk = Desk::new(rt.alloc(), DEVICE, profile, QUEUE_SIZE, &demo_rules())?;
     let mut clock = RealClock::start(rt, options.speed)?;
     serve(&mut rt.reader(), &mut io::writer(rt), &mut clock, &mut desk)?;
     Ok(())

@@ -1,1 +1,4 @@
-pub mod Fronts
+pub mod Framing
+pub mod Desks
+pub mod Protocol
+pub mod Serving

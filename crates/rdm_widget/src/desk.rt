@@ -1,91 +1,156 @@
-//! The fixture: a responder, and when its jobs end.
+//! The fixture: a responder whose slow commands take their time.
+
+ghost use Rattle.std.specs.Prelude.{◌≡◌, ◌≢◌, ◌↔◌, ℕ, Some, IsOk, IfOk, OnOk, OnErr, IfErr, IsErrOf};
+ghost use Rattle.rdm_params.specs.Device.Profiles.{CanBeMade};
+ghost use Rattle.rdm_params.specs.Slow.Work.{worker_of};
+ghost use Rattle.rdm_outbox.specs.Jobs.{outstanding_count};
+ghost use Rattle.rdm_responder.specs.History.{Changed, then_event};
+ghost use Rattle.rdm_responder.specs.Lawful.{IsLawful, MayChange};
+ghost use Rattle.rdm_responder.specs.Rules.{account_of, answered, reply_of};
+ghost use Rattle.rdm_responder.specs.Runs.{IsChange, outbox_of};
+ghost use Rattle.rdm_responder.specs.StandsFor.{IsQueueSize, StandsFor};
+ghost use Rattle.rdm_widget.specs.Desks.{Situation, IsIn, switched_on, oldest_of, first_ended, after_report, after_next, after_several, begun, ready, after_heard, after_panel};
 
 mod ending;
 
-use crate::outcomes::outcome_of;
-use ending::{Ended, earlier, ended_by};
+use arrayvec::ArrayVec;
+use ending::{Ended, earlier, ended_by, since_after, since_when};
 use rdm_frame::{Uid, Wire};
-use rdm_outbox::Job;
-use rdm_params::{Change, Message, Profile, worker_of};
+use rdm_outcomes::{MOST_RULES, Planned, Rule, outcomes_fit};
+use rdm_params::{Change, Message, Profile, started_work_is_its_command};
 use rdm_responder::{NewError, NoRoom, Report, Responder};
 use std::alloc::Global;
 
-/// A fixture: a responder whose slow commands take their time.
+/// A fixture: a responder, and the workers that do its slow commands in their time. It keeps no queue of its own.
 #[derive(Debug, Drop)]
 pub struct Desk {
     responder: Responder,
+    // How jobs end.
+    planned: Planned,
     // Since when each worker is at its oldest job, in milliseconds.
     first_since: u64,
     second_since: u64,
 }
 
 impl Desk {
-    /// A fixture.
+    /// A fixture with this UID and profile, with room for so many results of slow commands, whose jobs end by these rules.
+    ///
+    /// It is refused as `Responder::new` refuses it.
     pub fn new(
         alloc: Global,
         uid: Uid,
         profile: Profile,
         queue_size: u16,
-    ) -> Result<Desk, NewError> {
-        Ok(Desk {
-            responder: Responder::new(alloc, uid, profile, queue_size)?,
-            first_since: 0,
-            second_since: 0,
-        })
+        rules: &ArrayVec<Rule, MOST_RULES>,
+    ) -> Result<Desk, NewError>
+        ensures desk { IfOk result (λ d.
+            IsIn d (switched_on rules.now.items (record { uid = uid; profile = profile; queue_size = queue_size }))) }
+        ensures bad_uid { IsErrOf result NewError.BadUid ↔ (uid.device ≡ 0xFFFFFFFF) }
+        ensures bad_size { IsErrOf result NewError.BadSize ↔ ((uid.device ≢ 0xFFFFFFFF) × ¬ IsQueueSize queue_size) }
+        ensures bad_profile { IsErrOf result NewError.BadProfile
+            ↔ ((uid.device ≢ 0xFFFFFFFF) × IsQueueSize queue_size × ¬ CanBeMade profile) }
+    {
+        match Responder::new(alloc, uid, profile, queue_size) {
+            Ok(responder) => Ok(Desk {
+                responder,
+                planned: Planned::new(rules),
+                first_since: 0,
+                second_since: 0,
+            }),
+            Err(error) => Err(error),
+        }
     }
 
-    /// A change at the fixture's own menu. Its message waits to be told as any other.
-    pub fn change(&mut self, change: Change) -> Result<Option<Message>, NoRoom> {
+    /// Changes a parameter of the root, as a person does at the fixture's own menu. The message of it waits to be told as any
+    /// other, and is the result; where there is no room for it the change comes back, as `Responder::change` says.
+    pub fn change(&mut self, change: Change) -> Result<Option<Message>, NoRoom>
+        ensures lawful { (s : Situation) → IsLawful s.history → IsIn self.old s →
+            (IsOk result ↔ IsLawful (then_event s.history (Changed change))) }
+        ensures change { IfOk result (λ message. (s : Situation) → IsIn self.old s → IsChange s.history change message) }
+        ensures desk { OnOk result ((s : Situation) → IsIn self.old s → IsIn self.new (after_panel s change)) }
+        ensures no_room { IfErr result (λ refused. (refused.change ≡ change)
+            × ((s : Situation) → IsIn self.old s → ¬ MayChange (account_of s.history))) }
+        ensures same { OnErr result (self.new ≡ self.old) }
+    {
         self.responder.change(change)
     }
 
-    /// The responder.
-    pub fn responder(&self) -> &Responder {
+    /// The responder: what the fixture's parameters are now, and what waits for the controller.
+    pub fn responder(&self) -> &Responder
+        ensures { (s : Situation) → IsIn self.now s → StandsFor result.now s.history }
+    {
         &self.responder
     }
 
-    /// Hears a request at this time.
-    pub(crate) fn hear(&mut self, now: u64, request: &[u8], reply: &mut Wire) -> bool {
+    /// Hears a request on the line at this time, and says whether there is a reply, whose bytes are put into `reply`.
+    pub(crate) fn hear(&mut self, now: u64, request: &[u8], reply: &mut Wire) -> bool
+        ensures reply { (s : Situation) → IsIn self.old s → answered result reply.new ≡ reply_of (ready now s).history request.now }
+        ensures desk { (s : Situation) → IsIn self.old s → IsIn self.new (after_heard (ready now s) request.now) }
+    {
         self.make_ready(now);
         self.responder.step_into(request, reply).replied
     }
 
-    /// Hands in the reports of all jobs that have ended by now.
-    fn make_ready(&mut self, now: u64) {
-        for _ in 0..self.responder.outstanding() {
-            self.report_next(now);
-        }
+    /// Hands in the reports of all jobs that have ended by now. A worker that has none left may begin one.
+    fn make_ready(&mut self, now: u64)
+        ensures { (s : Situation) → IsIn self.old s → IsIn self.new (ready now s) }
+    {
+        self.report_ended(now);
         self.begin(now);
     }
 
-    /// Hands in the report of the job that ended first, if one has ended by now.
-    fn report_next(&mut self, now: u64) {
-        let first = ended_by(now, self.first_since, self.responder.oldest(0));
-        let second = ended_by(now, self.second_since, self.responder.oldest(1));
-        if let Some(ended) = earlier(first, second) {
-            self.report(&ended);
+    /// Hands in the reports of all jobs that have ended by now, in the order in which they ended.
+    fn report_ended(&mut self, now: u64)
+        ensures { (s : Situation) → IsIn self.old s →
+            IsIn self.new (after_several (outstanding_count (outbox_of s.history)) now s) }
+    {
+        let most = self.responder.outstanding();
+        for _turn in 0..most {
+            self.report_next(now);
         }
     }
 
-    /// Hands in the report of a job. Its worker goes on with the next one.
-    fn report(&mut self, ended: &Ended) {
-        let job = ended.job;
-        if worker_of(&job.work) == 0 {
-            self.first_since = ended.at;
-        } else {
-            self.second_since = ended.at;
+    /// Hands in the report of the job that ended first, if one has ended by now.
+    fn report_next(&mut self, now: u64)
+        ensures { (s : Situation) → IsIn self.old s → IsIn self.new (after_next now s) }
+    {
+        match self.first_ended(now) {
+            Some(ended) => self.report(&ended),
+            None => {}
         }
-        let outcome = outcome_of(&job);
+    }
+
+    /// Of both workers the job that ended first, if one has ended by now.
+    fn first_ended(&self, now: u64) -> Option<Ended>
+        ensures { (s : Situation) → IsIn self.now s → result ≡ first_ended now s }
+    {
+        let first = ended_by(now, self.first_since, self.responder.oldest(0));
+        let second = ended_by(now, self.second_since, self.responder.oldest(1));
+        earlier(first, second)
+    }
+
+    /// Hands in the report of the oldest job of a worker, which has ended. The worker goes on with its next one.
+    fn report(&mut self, ended: &Ended)
+        ensures { (s : Situation) → IsIn self.old s →
+            oldest_of s.history (worker_of ended.now.job.work) ≡ Some ended.now.job → IsIn self.new (after_report s ended.now) }
+    {
+        started_work_is_its_command();
+        outcomes_fit();
+        let job = ended.job;
+        let outcome = self.planned.end(&job);
+        // It is the oldest job of its worker, and the rules give what fits it: no such report is astray.
         let _ = self.responder.arrive(Report { job, outcome });
+        self.first_since = since_after(0, ended, self.first_since);
+        self.second_since = since_after(1, ended, self.second_since);
     }
 
     /// A worker without a job may begin one now.
-    fn begin(&mut self, now: u64) {
-        if self.responder.oldest(0).is_none() {
-            self.first_since = now;
-        }
-        if self.responder.oldest(1).is_none() {
-            self.second_since = now;
-        }
+    fn begin(&mut self, now: u64)
+        ensures { (s : Situation) → IsIn self.old s → IsIn self.new (begun now s) }
+    {
+        let first = self.responder.oldest(0);
+        let second = self.responder.oldest(1);
+        self.first_since = since_when(now, self.first_since, first);
+        self.second_since = since_when(now, self.second_since, second);
     }
 }

@@ -1,7 +1,7 @@
 //! Messages of the interface, and their bytes: 0x7E, the label, the length of the body (low byte first), the body, and 0xE7.
 
-ghost use Rattle.std.specs.Prelude.{◌≡◌, ◌≤◌, ◌<◌, ◌+◌, ℕ, List, length, IfOk};
-ghost use Rattle.rdm_widget.specs.Fronts.{size_of_front};
+ghost use Rattle.std.specs.Prelude.{◌≡◌, ◌≤◌, length, slice_index};
+ghost use Rattle.rdm_widget.specs.Framing.{IsFront, message_bytes};
 
 use rdm_frame::Bytes;
 
@@ -13,6 +13,9 @@ pub(crate) const MOST_BYTES: usize = 605;
 
 /// How many bytes of a message aren't its body.
 pub(crate) const FRAME_BYTES: usize = 5;
+
+/// How many bytes of a message come before its body.
+const HEAD_BYTES: usize = 4;
 
 const START: u8 = 0x7E;
 
@@ -43,7 +46,7 @@ pub enum Front<'a> {
 
 /// What stands at the front of these bytes.
 pub fn front_of(bytes: &[u8]) -> Front<'_>
-    ensures { size_of_front result ≤ length bytes.now }
+    ensures { IsFront bytes.now result }
 {
     if bytes.is_empty() {
         return Front::Unfinished;
@@ -51,37 +54,39 @@ pub fn front_of(bytes: &[u8]) -> Front<'_>
     if bytes[0] != START {
         return Front::Stray;
     }
-    if bytes.len() < 4 {
+    if bytes.len() < HEAD_BYTES {
         return Front::Unfinished;
     }
-    body_of(bytes)
+    front_with_head(bytes)
 }
 
-/// What stands at the front of these bytes, which begin with the start of a message and its length.
-fn body_of(bytes: &[u8]) -> Front<'_>
-    requires { 4 ≤ length bytes.now }
-    ensures { size_of_front result ≤ length bytes.now }
+/// What stands at the front of these bytes, which begin as a message does and reach beyond its length.
+fn front_with_head(bytes: &[u8]) -> Front<'_>
+    requires head { 4 ≤ length bytes.now }
+    requires start { slice_index bytes.now 0 ≡ 0x7E }
+    ensures { IsFront bytes.now result }
 {
     let size = usize::from(bytes[2]) + 256 * usize::from(bytes[3]);
     if size > MOST_BODY {
         return Front::Stray;
     }
-    if bytes.len() < size + FRAME_BYTES {
+    let tail = &bytes[HEAD_BYTES..];
+    if tail.len() <= size {
         return Front::Unfinished;
     }
-    if bytes[size + 4] != END {
+    if tail[size] != END {
         return Front::Stray;
     }
     Front::Whole(MessageView {
         label: bytes[1],
-        body: &bytes[4..size + 4],
+        body: &tail[..size],
     })
 }
 
 /// The bytes of the message with this label and this body.
 pub fn packet_of(label: u8, body: &[u8]) -> Packet
     requires { length body.now ≤ 600 }
-    ensures { length result ≡ length body.now + 5 }
+    ensures { result ≡ message_bytes (record { label = label; body = body.now }) }
 {
     let size = body.len();
     let mut packet = Bytes::new();

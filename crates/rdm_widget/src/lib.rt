@@ -4,15 +4,17 @@
 //! `serve` answers each message of a stream, by a clock on which the fixture's slow commands take their time.
 #![tactic(auto)]
 
+mod answering;
 mod clock;
 mod desk;
 mod framing;
-mod outcomes;
+mod laws;
 mod protocol;
+mod reading;
 mod serving;
-mod streams;
 
 pub use clock::{Clock, RealClock};
 pub use desk::Desk;
 pub use framing::{Front, MOST_BODY, MessageView, Packet, front_of, packet_of};
+pub use laws::{no_job_is_overdue, stream_holds_one_list, written_messages_are_read_back};
 pub use serving::{ServeError, serve};

@@ -1,6 +1,10 @@
 //! What is answered to a message.
 
-ghost use Rattle.std.specs.Prelude.{◌≡◌, ◌≤◌, ℕ, List, length, IfOk};
+ghost use Rattle.std.specs.Prelude.{◌≡◌, ◌≤◌, length};
+ghost use Rattle.rdm_responder.specs.Rules.{reply_of};
+ghost use Rattle.rdm_widget.specs.Desks.{Situation, IsIn, ready, after_heard};
+ghost use Rattle.rdm_widget.specs.Framing.{bytes_of, message_bytes, message_in};
+ghost use Rattle.rdm_widget.specs.Protocol as says;
 
 use crate::desk::Desk;
 use crate::framing::{MessageView, Packet, packet_of};
@@ -30,7 +34,10 @@ const PARAMETER_BYTES: [u8; 5] = [0x04, 0x02, 9, 1, 40];
 const SERIAL_BYTES: [u8; 4] = [0x01, 0x00, 0x00, 0x00];
 
 /// The bytes of the answer to a message that comes now.
-pub(crate) fn answer(desk: &mut Desk, now: u64, message: &MessageView<'_>) -> Packet {
+pub(crate) fn answer(desk: &mut Desk, now: u64, message: &MessageView<'_>) -> Packet
+    ensures bytes { (s : Situation) → IsIn desk.old s → result ≡ bytes_of (says.answer_to now s (message_in message.now)) }
+    ensures desk { (s : Situation) → IsIn desk.old s → IsIn desk.new (says.after_message now s (message_in message.now)) }
+{
     match message.label {
         PARAMETERS => packet_of(PARAMETERS, &PARAMETER_BYTES),
         SERIAL_NUMBER => packet_of(SERIAL_NUMBER, &SERIAL_BYTES),
@@ -41,7 +48,11 @@ pub(crate) fn answer(desk: &mut Desk, now: u64, message: &MessageView<'_>) -> Pa
 }
 
 /// The answer to a request for the line: the reply, or that none came.
-fn answer_request(desk: &mut Desk, now: u64, request: &[u8]) -> Packet {
+fn answer_request(desk: &mut Desk, now: u64, request: &[u8]) -> Packet
+    ensures bytes { (s : Situation) → IsIn desk.old s →
+        result ≡ bytes_of (says.answer_of_line (reply_of (ready now s).history request.now)) }
+    ensures desk { (s : Situation) → IsIn desk.old s → IsIn desk.new (after_heard (ready now s) request.now) }
+{
     let mut reply = Wire::new();
     if desk.hear(now, request, &mut reply) {
         from_line(&reply)
@@ -51,20 +62,26 @@ fn answer_request(desk: &mut Desk, now: u64, request: &[u8]) -> Packet {
 }
 
 /// The answer to a discovery request: the reply, if one came, and the end.
-fn answer_discovery(desk: &mut Desk, now: u64, request: &[u8]) -> Packet {
+fn answer_discovery(desk: &mut Desk, now: u64, request: &[u8]) -> Packet
+    ensures bytes { (s : Situation) → IsIn desk.old s →
+        result ≡ bytes_of (says.answer_of_discovery (reply_of (ready now s).history request.now)) }
+    ensures desk { (s : Situation) → IsIn desk.old s → IsIn desk.new (after_heard (ready now s) request.now) }
+{
     let mut reply = Wire::new();
-    let mut packet = if desk.hear(now, request, &mut reply) {
-        from_line(&reply)
+    let end = packet_of(TIMEOUT, &[]);
+    if desk.hear(now, request, &mut reply) {
+        let mut packet = from_line(&reply);
+        packet.append(end.as_slice());
+        packet
     } else {
-        Bytes::new()
-    };
-    packet.append(packet_of(TIMEOUT, &[]).as_slice());
-    packet
+        end
+    }
 }
 
 /// The message with what came from the line. Its first byte says that nothing went wrong.
 fn from_line(reply: &Wire) -> Packet
-    ensures { length result ≤ 263 }
+    ensures bytes { result ≡ message_bytes (says.from_line reply.now) }
+    ensures size { length result ≤ 263 }
 {
     let mut body: Bytes<258> = Bytes::new();
     body.append(&[0]);

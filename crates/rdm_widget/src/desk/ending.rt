@@ -1,21 +1,36 @@
 //! When jobs end.
 
-use rdm_outbox::Job;
-use rdm_params::estimate_of;
+ghost use Rattle.std.specs.Prelude.{◌≡◌};
+ghost use Rattle.rdm_widget.specs.Desks as says;
 
-/// A job that has ended, and when.
+use rdm_outbox::Job;
+use rdm_params::{estimate_of, worker_of};
+
+/// A job that has ended.
 #[derive(Clone, Copy, Debug)]
 pub(crate) struct Ended {
+    /// The job.
     pub(crate) job: Job,
+    /// When it ended, in milliseconds.
     pub(crate) at: u64,
 }
 
-/// The job at which a worker is since then, where it has ended by now.
-pub(crate) fn ended_by(now: u64, since: u64, job: Option<Job>) -> Option<Ended> {
-    let job = job?;
-    let passed = now.checked_sub(since)?;
-    let span = u64::from(estimate_of(&job.work)) * 100;
-    if passed < span {
+/// The job at which its worker is since then, where it has ended by now.
+pub(crate) fn ended_by(now: u64, since: u64, job: Option<Job>) -> Option<Ended>
+    ensures { result ≡ says.ended_by now since job }
+{
+    match job {
+        Some(job) => end_by(now, since, job),
+        None => None,
+    }
+}
+
+/// This job, where it has ended by now.
+fn end_by(now: u64, since: u64, job: Job) -> Option<Ended>
+    ensures { result ≡ says.ended_by now since (Some job) }
+{
+    let span = 100 * u64::from(estimate_of(&job.work));
+    if since > now || now - since < span {
         return None;
     }
     Some(Ended {
@@ -24,17 +39,34 @@ pub(crate) fn ended_by(now: u64, since: u64, job: Option<Job>) -> Option<Ended> 
     })
 }
 
-/// The one of both that ended first, and the first where they ended at once.
-pub(crate) fn earlier(first: Option<Ended>, second: Option<Ended>) -> Option<Ended> {
+/// The one that ended first, and that of the first worker where both ended at once.
+pub(crate) fn earlier(first: Option<Ended>, second: Option<Ended>) -> Option<Ended>
+    ensures { result ≡ says.earlier first second }
+{
     match (first, second) {
-        (Some(first), Some(second)) => {
-            if second.at < first.at {
-                Some(second)
-            } else {
-                Some(first)
-            }
-        }
+        (Some(first), Some(second)) => Some(if second.at < first.at { second } else { first }),
+        (Some(first), None) => Some(first),
         (None, second) => second,
-        (first, None) => first,
+    }
+}
+
+/// Since when a worker is at its oldest job, once this job has ended.
+pub(crate) fn since_after(worker: u8, ended: &Ended, since: u64) -> u64
+    ensures { result ≡ says.since_after worker ended.now since }
+{
+    if worker_of(&ended.job.work) == worker {
+        ended.at
+    } else {
+        since
+    }
+}
+
+/// Since when a worker is at its oldest job: without one, since now.
+pub(crate) fn since_when(now: u64, since: u64, job: Option<Job>) -> u64
+    ensures { result ≡ says.since_when now since job }
+{
+    match job {
+        Some(_) => since,
+        None => now,
     }
 }

@@ -1,0 +1,6 @@
+pub mod Frames
+pub mod Pieces
+pub mod Turns
+pub mod Reports
+pub mod Ready
+pub mod Ends

@@ -1,0 +1,18 @@
+use Rattle.std.proofs.Common.{List, sym, subst}
+use Rattle.rdm_outbox.specs.declared.job.Job.{Job}
+use Rattle.rdm_outcomes.specs.Outcomes.{HasEnded}
+use Rattle.rdm_widget.specs.Desks.{ready}
+use Rattle.rdm_widget.proofs.Reports.{reported-heard}
+use Rattle.rdm_widget.proofs.desk.Desk.hear.Goals as goal
+
+pub returns-clause-desk : goal.returns-clause-desk
+returns-clause-desk c = λ s is.
+    let made = c.make_ready.ensures s is in
+    record {
+      responder = c.step_into.ensures.stands (ready c.args.now s).history made.responder;
+      planned =
+          subst (λ (l : List Job). HasEnded c.make_ready.new.self.planned (ready c.args.now s).rules l)
+          (sym (reported-heard (ready c.args.now s).history.events c.args.request.now)) made.planned;
+      first = made.first;
+      second = made.second;
+    }

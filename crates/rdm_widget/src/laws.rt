@@ -1,0 +1,21 @@
+//! Laws of streams and of time. Each is the contract of a call that does nothing.
+
+ghost use Rattle.std.specs.Prelude.{◌≡◌, ℕ, List};
+ghost use Rattle.std.specs.List.{All};
+ghost use Rattle.rdm_widget.specs.Desks.{ReportsAreHandedIn};
+ghost use Rattle.rdm_widget.specs.Framing.{Message, IsMessage, Holds, bytes_of};
+
+/// A stream of bytes holds one list of messages.
+pub fn stream_holds_one_list()
+    ensures { (stream : List ℕ) (messages others : List Message) → Holds stream messages → Holds stream others → messages ≡ others }
+{}
+
+/// Messages that are written, one after another, are read back.
+pub fn written_messages_are_read_back()
+    ensures { (messages : List Message) → All IsMessage messages → Holds (bytes_of messages) messages }
+{}
+
+/// Once the reports are handed in, as they are before each request, no job that is outstanding has ended by now.
+pub fn no_job_is_overdue()
+    ensures { ReportsAreHandedIn }
+{}

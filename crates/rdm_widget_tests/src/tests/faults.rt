@@ -1,0 +1,67 @@
+//! Lines that fail.
+
+use super::serve_at;
+use rdm_widget::ServeError;
+use std::io;
+use std::io::{ErrorKind, Read, Write};
+
+/// A line that is interrupted, gives a message that asks for the serial number, and then fails.
+#[derive(Drop)]
+struct Line {
+    turn: u8,
+    last: ErrorKind,
+}
+
+impl Read for Line {
+    fn read(&mut self, buf: &mut [u8]) -> io::Result<usize> {
+        self.turn = self.turn.saturating_add(1);
+        match self.turn {
+            1 | 3 => Err(io::Error::from(ErrorKind::Interrupted)),
+            2 if buf.len() >= 5 => {
+                buf[..5].copy_from_slice(&[0x7E, 10, 0, 0, 0xE7]);
+                Ok(5)
+            }
+            _ => Err(io::Error::from(self.last)),
+        }
+    }
+}
+
+/// A writer that takes so many bytes, and then none.
+#[derive(Drop)]
+struct Full {
+    room: usize,
+    taken: usize,
+}
+
+impl Write for Full {
+    fn write(&mut self, buf: &[u8]) -> io::Result<usize> {
+        let count = buf.len().min(self.room);
+        self.room -= count;
+        self.taken = self.taken.saturating_add(count);
+        Ok(count)
+    }
+
+    fn flush(&mut self) -> io::Result<()> {
+        Ok(())
+    }
+}
+
+/// How many bytes the writer takes, why serving ends, and how many bytes are written.
+const FAULTS: [(usize, ServeError, usize); 3] = [
+    (100, ServeError::Read, 9),
+    (9, ServeError::Read, 9),
+    (4, ServeError::Write, 4),
+];
+
+#[test]
+fn an_interrupted_read_is_tried_again(rt: HostRuntime) {
+    for (room, fault, taken) in FAULTS {
+        let mut line = Line {
+            turn: 0,
+            last: ErrorKind::Other,
+        };
+        let mut writer = Full { room, taken: 0 };
+        assert_eq!(rt; serve_at(&rt, &mut line, &mut writer, &[]), Err(fault));
+        assert_eq!(rt; writer.taken, taken);
+    }
+}
