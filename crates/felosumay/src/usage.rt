@@ -46,6 +46,15 @@ fn command<'a>(alloc: Global) -> Result<Command<'a>, Error> {
 
 /// `felosumay play`.
 fn play<'a>(alloc: Global) -> Result<Command<'a>, Error> {
+    let script = input(
+        alloc,
+        "SCRIPT",
+        "The script; standard input without it, or for -",
+    );
+    let fixture = fixture_file(
+        alloc,
+        "The fixture that it is played on; that of the demonstration without it",
+    );
     let words = Arg::new(alloc, WORDS)
         .long("words")
         .action(ArgAction::SetTrue)
@@ -58,11 +67,8 @@ fn play<'a>(alloc: Global) -> Result<Command<'a>, Error> {
     Ok(
         Command::new(alloc, "play")
             .about("Plays a script on a fixture, and prints the trace")
-            .arg(input(
-                alloc,
-                "SCRIPT",
-                "The script; standard input without it, or for -",
-            ))?
+            .arg(script)?
+            .arg(fixture)?
             .arg(words)?
             .arg(chart)?,
     )

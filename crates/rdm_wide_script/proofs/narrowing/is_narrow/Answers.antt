@@ -3,7 +3,7 @@ use Rattle.rdm_wide_script.proofs.narrowing.is_narrow.Goals.{in-Ok, in-Err-OutOf
 use Rattle.rdm_wide_script.proofs.narrowing.is_narrow.Goals as goal
 
 pub returns : goal.returns
-returns c = λ setup steps h. elim c.match-parse.branch [
+returns c = λ setup steps h. elim c.match-parse_for.branch [
   | in-Ok w ↦ rw w.result-is refl
   | in-Err-OutOfMemory w ↦ rw w.result-is refl
   | in-Err-TooLong w ↦ let e = w.in-Err-TooLong.ensures.only setup steps h in absurd cc
