@@ -24,20 +24,32 @@ struct Met {
 pub(crate) fn lane_of_one(alloc: Global) -> Result<Tally, Fault> {
     let mut tally = Tally::NONE;
     for _ in 0..TRIES {
-        for (capacity, posts, limit) in [(0, 2, 2), (2_049, 2, 2), (2, 4, 2), (2, 2, 0)] {
-            let bad = lane::<u32>(alloc, capacity, posts, limit);
-            check(matches!(&bad, Err(LaneError::BadSize)), "a bad size")?;
-        }
-        match lane::<u32>(alloc, 2, 2, 2) {
-            Ok(ends) => {
-                check(ends.posts.len() == 2, "two posts")?;
-                return Ok(tally);
-            }
+        check(no_lanes(alloc), "a lane of a bad size")?;
+        match posts_of_lane(alloc) {
+            Ok(posts) => return check(posts == 2, "two posts").map(|()| tally),
             Err(LaneError::OutOfMemory) => tally.refused(),
             Err(LaneError::BadSize) => return Err(OTHER),
         }
     }
     Err(ALWAYS)
+}
+
+/// There is no lane of no place or of 2,049, of 4 posts for 2 places, or of no item for a post.
+fn no_lanes(alloc: Global) -> bool {
+    is_bad_size(alloc, 0, 2, 2)
+        && is_bad_size(alloc, 2_049, 2, 2)
+        && is_bad_size(alloc, 2, 4, 2)
+        && is_bad_size(alloc, 2, 2, 0)
+}
+
+fn is_bad_size(alloc: Global, capacity: usize, posts: u32, limit: u32) -> bool {
+    let ends = lane::<u32>(alloc, capacity, posts, limit);
+    matches!(&ends, Err(LaneError::BadSize))
+}
+
+/// How many posts a lane of two has.
+fn posts_of_lane(alloc: Global) -> Result<usize, LaneError> {
+    Ok(lane::<u32>(alloc, 2, 2, 2)?.posts.len())
 }
 
 /// Puts and takes items. Where a put is refused the item comes back, and the next put has its number.

@@ -24,30 +24,28 @@ pub(crate) const CONTROLLER: Uid = Uid {
 pub(crate) fn devices(alloc: Global) -> Result<Tally, Fault> {
     let mut tally = Tally::NONE;
     for _ in 0..TRIES {
-        let many = Devices::new(alloc, Profile::demo(513));
-        check(
-            matches!(&many, Err(DevicesError::TooManySubs)),
-            "513 sub-devices",
-        )?;
-        let bad = Devices::new(alloc, without_start());
-        check(
-            matches!(&bad, Err(DevicesError::BadProfile)),
-            "no start address",
-        )?;
-        match Devices::new(alloc, Profile::demo(2)) {
-            Ok(devices) => {
-                let read = devices.get(2, 0x1000, &[]);
-                check(
-                    matches!(&read, Verdict::Reply(body) if body.as_slice() == [0_u8].as_slice()),
-                    "sub-device 2",
-                )?;
-                return Ok(tally);
-            }
+        check(no_devices(alloc), "devices of a bad profile")?;
+        match has_sub_device_2(alloc) {
+            Ok(has) => return check(has, "sub-device 2").map(|()| tally),
             Err(DevicesError::OutOfMemory) => tally.refused(),
             Err(_) => return Err(OTHER),
         }
     }
     Err(ALWAYS)
+}
+
+/// There are no devices with 513 sub-devices, and none that begin at no address.
+fn no_devices(alloc: Global) -> bool {
+    let many = Devices::new(alloc, Profile::demo(513));
+    let bad = Devices::new(alloc, without_start());
+    matches!(&many, Err(DevicesError::TooManySubs)) && matches!(&bad, Err(DevicesError::BadProfile))
+}
+
+/// Whether the second of two sub-devices is there.
+fn has_sub_device_2(alloc: Global) -> Result<bool, DevicesError> {
+    let devices = Devices::new(alloc, Profile::demo(2))?;
+    let read = devices.get(2, 0x1000, &[]);
+    Ok(matches!(&read, Verdict::Reply(body) if body.as_slice() == [0_u8].as_slice()))
 }
 
 /// A profile that breaks a rule: start addresses are counted from 1.
@@ -69,15 +67,9 @@ const LAMP: Work = Work {
 pub(crate) fn outbox(alloc: Global) -> Result<Tally, Fault> {
     let mut tally = Tally::NONE;
     for _ in 0..TRIES {
-        for (q, jobs) in [(0, 1), (1_025, 1), (2, 0)] {
-            let bad = Outbox::new(alloc, q, jobs);
-            check(matches!(&bad, Err(OutboxError::BadSize)), "a bad size")?;
-        }
+        check(no_outboxes(alloc), "an outbox of a bad size")?;
         match Outbox::new(alloc, 2, 1) {
-            Ok(outbox) => {
-                serves(outbox)?;
-                return Ok(tally);
-            }
+            Ok(outbox) => return serves(outbox).map(|()| tally),
             Err(OutboxError::OutOfMemory) => tally.refused(),
             Err(OutboxError::BadSize) => return Err(OTHER),
         }
@@ -85,12 +77,30 @@ pub(crate) fn outbox(alloc: Global) -> Result<Tally, Fault> {
     Err(ALWAYS)
 }
 
+/// There is no outbox for no result, for more than 1,024, or for no job.
+fn no_outboxes(alloc: Global) -> bool {
+    is_bad_size(alloc, 0, 1) && is_bad_size(alloc, 1_025, 1) && is_bad_size(alloc, 2, 0)
+}
+
+fn is_bad_size(alloc: Global, queue_size: u16, jobs: u32) -> bool {
+    let outbox = Outbox::new(alloc, queue_size, jobs);
+    matches!(&outbox, Err(OutboxError::BadSize))
+}
+
 /// The outbox takes a job, gives its message, and has then no job left for that worker.
 fn serves(outbox: Outbox) -> Result<(), Fault> {
     let mut outbox = outbox;
-    check(number(&mut outbox) == Some(0), "the first job")?;
+    check(
+        number(&mut outbox) == Some(0) && gives(&mut outbox),
+        "the first job and its message",
+    )?;
+    check(number(&mut outbox).is_none(), "a second job")
+}
+
+/// Whether the message of its one job comes out of an outbox.
+fn gives(outbox: &mut Outbox) -> bool {
     if outbox.oldest(0).is_none() {
-        return Err(Fault::Wrong("an outstanding job"));
+        return false;
     }
     outbox.arrive(
         0,
@@ -102,8 +112,7 @@ fn serves(outbox: Outbox) -> Result<(), Fault> {
         },
     );
     let given = outbox.dispense(Ask::Advisory);
-    check(given.fresh && given.message.pid == 0x0403, "its message")?;
-    check(number(&mut outbox).is_none(), "a second job")
+    given.fresh && given.message.pid == 0x0403
 }
 
 /// Reserves a job, and says its number.
@@ -115,22 +124,24 @@ fn number(outbox: &mut Outbox) -> Option<u32> {
 pub(crate) fn responder(alloc: Global) -> Result<Tally, Fault> {
     let mut tally = Tally::NONE;
     for _ in 0..TRIES {
-        let broadcast = Responder::new(alloc, Uid::ALL, Profile::demo(1), 8);
-        check(matches!(&broadcast, Err(NewError::BadUid)), "a broadcast")?;
-        let bad_size = Responder::new(alloc, DEVICE, Profile::demo(1), 0);
-        check(matches!(&bad_size, Err(NewError::BadSize)), "no room")?;
-        let bad = Responder::new(alloc, DEVICE, Profile::demo(513), 8);
-        check(matches!(&bad, Err(NewError::BadProfile)), "a bad profile")?;
+        check(no_responders(alloc), "a responder that can't be")?;
         match Responder::new(alloc, DEVICE, Profile::demo(1), 8) {
-            Ok(responder) => {
-                answers(responder)?;
-                return Ok(tally);
-            }
+            Ok(responder) => return answers(responder).map(|()| tally),
             Err(NewError::OutOfMemory) => tally.refused(),
             Err(_) => return Err(OTHER),
         }
     }
     Err(ALWAYS)
+}
+
+/// There is no responder with a broadcast for its UID, with room for no result, or with 513 sub-devices.
+fn no_responders(alloc: Global) -> bool {
+    let broadcast = Responder::new(alloc, Uid::ALL, Profile::demo(1), 8);
+    let no_room = Responder::new(alloc, DEVICE, Profile::demo(1), 0);
+    let many = Responder::new(alloc, DEVICE, Profile::demo(513), 8);
+    matches!(&broadcast, Err(NewError::BadUid))
+        && matches!(&no_room, Err(NewError::BadSize))
+        && matches!(&many, Err(NewError::BadProfile))
 }
 
 /// Requests for QUEUED_MESSAGE, each with its sub-device and data, and the replies from the transaction number on.
@@ -157,26 +168,31 @@ const QUEUED: [(u16, &[u8], &[u8]); 4] = [
 fn answers(responder: Responder) -> Result<(), Fault> {
     let mut responder = responder;
     let mut tn = 0_u8;
-    for (sub, data, expected) in QUEUED {
-        let request = encode(&Frame {
-            dst: DEVICE,
-            src: CONTROLLER,
-            tn,
-            port: 1,
-            count: 0,
-            sub,
-            class: 0x20,
-            pid: 0x0020,
-            body: Body::from_slice(data).ok_or(OTHER)?,
-        });
-        let (reply, job) = responder.step(request.as_slice());
-        check(job.is_none(), "a job")?;
-        let reply = reply.ok_or(OTHER)?;
-        check(
-            reply.as_slice().get(15..) == Some(expected),
-            "another reply",
-        )?;
+    for (sub, data, expected) in &QUEUED {
+        let body = Body::from_slice(data).ok_or(OTHER)?;
+        let holds = answers_one(&mut responder, tn, *sub, body, expected);
+        check(holds, "another reply")?;
         tn = tn.saturating_add(1);
     }
     Ok(())
+}
+
+/// Whether the responder answers QUEUED_MESSAGE with these data so, and starts no job.
+fn answers_one(responder: &mut Responder, tn: u8, sub: u16, body: Body, expected: &[u8]) -> bool {
+    let request = encode(&Frame {
+        dst: DEVICE,
+        src: CONTROLLER,
+        tn,
+        port: 1,
+        count: 0,
+        sub,
+        class: 0x20,
+        pid: 0x0020,
+        body,
+    });
+    let (reply, job) = responder.step(request.as_slice());
+    match &reply {
+        Some(reply) => job.is_none() && reply.as_slice().get(15..) == Some(expected),
+        None => false,
+    }
 }

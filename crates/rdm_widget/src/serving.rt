@@ -44,7 +44,7 @@ pub fn serve<R: Read, W: Write, C: Clock>(
     // Where the reader failed, all messages of what was read before are answered.
     ensures read { result ≡ Err ReadFault → (s : Situation) → IsIn desk.old s → IsServed C.tells clock.old clock.new
         (R.remaining reader.old) (R.remaining reader.new) (W.contents writer.old) (W.contents writer.new) s desk.new }
-    // Where the writer failed, all messages before one are answered, and a front of the answer to that one is written.
+    // Where the writer failed, a front of the answers to the messages so far is written.
     ensures write { result ≡ Err WriteFault → (s : Situation) → IsIn desk.old s → IsCutShort C.tells clock.old clock.new
         (R.remaining reader.old) (R.remaining reader.new) (W.contents writer.old) (W.contents writer.new) s desk.new }
 {

@@ -82,9 +82,9 @@ fn request(rest: &[u8]) -> Option<TraceLine> {
 fn fault_in(words: &[u8]) -> Option<Fault> {
     let (name, rest) = first_word(words);
     match name {
-        b"" => Some(Fault::None),
-        b"lost-request" => Some(Fault::LostRequest),
-        b"lost-reply" => Some(Fault::LostReply),
+        b"" if rest.is_empty() => Some(Fault::None),
+        b"lost-request" if rest.is_empty() => Some(Fault::LostRequest),
+        b"lost-reply" if rest.is_empty() => Some(Fault::LostReply),
         b"bad-request" => {
             let (slot, raise) = raise_in(rest)?;
             Some(Fault::BadRequest(slot, raise))

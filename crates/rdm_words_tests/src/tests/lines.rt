@@ -134,6 +134,9 @@ not read: # a comment
 CC0
 not read: CC0
 
+send CC01 lost-reply twice
+not read: send CC01 lost-reply twice
+
 arrive 0
 not read: arrive 0
 
