@@ -1,0 +1,86 @@
+//! The program for people: it plays a script, tells what frames say, draws them, checks a fixture file, and is a virtual
+//! fixture on a line.
+//!
+//! What it prints where nothing else is asked for is exactly what rdm_play prints.
+#![tactic(auto)]
+
+mod chart;
+mod fault;
+mod fixture;
+mod outcomes;
+mod play;
+mod source;
+mod system;
+mod telling;
+mod usage;
+mod widget;
+mod words;
+
+use clap::ArgMatches;
+use clap::error::ErrorKind;
+use fault::Fault;
+use std::env;
+use std::io::IsTerminal;
+use std::process::ExitCode;
+use system::System;
+
+fn main(rt: HostRuntime) -> ExitCode {
+    let words = match command_line(rt) {
+        Ok(words) => words,
+        Err(fault) => return end(rt, &fault),
+    };
+    let matches = match usage::matches(rt.alloc(), words.as_slice()) {
+        Ok(matches) => matches,
+        Err(error) => return end_of_usage(rt, &error),
+    };
+    match run(rt, &matches) {
+        Ok(()) => ExitCode::SUCCESS,
+        Err(fault) => end(rt, &fault),
+    }
+}
+
+/// The words of the command line.
+fn command_line<'a>(rt: HostRuntime) -> Result<Vec<String>, Fault<'a>> {
+    let args = match env::args(&rt) {
+        Ok(args) => args,
+        Err(_) => return Err(Fault::Words),
+    };
+    Ok(args.collect(rt.alloc())?)
+}
+
+/// Does what the command line asks for.
+fn run<'a, S: System>(rt: S, matches: &ArgMatches<'a>) -> Result<(), Fault<'a>> {
+    match matches.subcommand() {
+        Some(("play", asked)) => play::run(rt, asked),
+        Some(("words", asked)) => words::run(rt, asked),
+        Some(("chart", asked)) => chart::run(rt, asked),
+        Some(("fixture", asked)) => fixture::run(rt, asked),
+        Some(("widget", asked)) => widget::run(rt, asked),
+        _ => Ok(()),
+    }
+}
+
+/// Tells on standard error why the program couldn't do its work.
+fn end(rt: HostRuntime, fault: &Fault<'_>) -> ExitCode {
+    let coloured = rt.stderr().is_terminal();
+    // Nobody is left to be told where this can't be written.
+    let _ = if coloured {
+        eprintln!(rt; "\u{1b}[31m{fault}\u{1b}[0m")
+    } else {
+        eprintln!(rt; "{fault}")
+    };
+    ExitCode::from(fault.status())
+}
+
+/// Prints a help page or the version that was asked for, or tells what is wrong with the command line.
+fn end_of_usage(rt: HostRuntime, error: &clap::Error) -> ExitCode {
+    let printed = error.print(&rt);
+    match error.kind() {
+        ErrorKind::DisplayHelp | ErrorKind::DisplayVersion => match printed {
+            Ok(()) => ExitCode::SUCCESS,
+            Err(_) => ExitCode::from(4),
+        },
+        ErrorKind::OutOfMemory => ExitCode::from(2),
+        _ => ExitCode::from(fault::BAD_USAGE),
+    }
+}

@@ -1,0 +1,27 @@
+//! `felosumay words`: what a trace or frames say, in words.
+
+use crate::fault::Fault;
+use crate::source::{Source, print};
+use crate::system::System;
+use crate::{fixture, usage};
+use clap::ArgMatches;
+use rdm_fixture::Fixture;
+use rdm_words::{Known, words};
+
+/// How many bytes of a trace are read: 64 MiB.
+pub const MOST_READ: u64 = 67108864;
+
+/// Reads the trace that is named, and prints its words.
+pub fn run<'a, S: System>(rt: S, asked: &ArgMatches<'a>) -> Result<(), Fault<'a>> {
+    let known = fixture::asked_for(rt, asked)?;
+    let source = Source::named(asked.get_str(usage::INPUT));
+    let trace = source.read(rt, MOST_READ)?;
+    say(rt, trace.as_slice(), &known)
+}
+
+/// Prints the words of a trace.
+pub fn say<'a, S: System>(rt: S, trace: &[u8], fixture: &Fixture) -> Result<(), Fault<'a>> {
+    let known = Known::of(fixture.uid, &fixture.profile);
+    let words = words(rt.alloc(), trace, &known)?;
+    print(rt, words.as_slice())
+}
