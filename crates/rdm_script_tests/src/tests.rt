@@ -8,7 +8,6 @@ mod parsing;
 mod plain;
 mod readme;
 mod scripts;
-mod staged;
 mod streams;
 mod traces;
 mod working;

@@ -20,7 +20,7 @@ where
 }
 
 /// The outcome of a script that ends so.
-pub(super) fn outcome_of(ends: Ends) -> Result<(), ProgramError> {
+fn outcome_of(ends: Ends) -> Result<(), ProgramError> {
     match ends {
         Ends::Prints(_) | Ends::Plays => Ok(()),
         Ends::Stops(error) => Err(error),
@@ -28,7 +28,7 @@ pub(super) fn outcome_of(ends: Ends) -> Result<(), ProgramError> {
 }
 
 /// Whether this is what a script writes that ends so.
-pub(super) fn is_written(written: &[u8], ends: Ends) -> bool {
+fn is_written(written: &[u8], ends: Ends) -> bool {
     match ends {
         Ends::Prints(trace) => written == trace.as_bytes(),
         Ends::Plays => !written.is_empty(),
