@@ -15,8 +15,8 @@ import steps
 from line import Fault, line
 
 # At this speed no job takes longer than a millisecond, so each has ended when the next client asks.
-FAST = ("--speed", "10000", "--subs", "2")
-REAL = ("--speed", "1", "--subs", "0")
+FAST = ("widget", "--speed", "10000", "--subs", "2")
+REAL = ("widget", "--speed", "1", "--subs", "0")
 LAMP_SECONDS = 5.0
 POLL = "get --frame queued_message Error"
 NOTHING_WAITS = ["frame ACK 21 0030 0000 -"]
