@@ -1,6 +1,6 @@
 //! Runs with two workers and a panel.
 
-ghost use Rattle.std.specs.Prelude.{◌≡◌, ◌∷◌, [], true};
+ghost use Rattle.std.specs.Prelude.{◌≡◌, true};
 ghost use Rattle.rdm_params.specs.Slow.Outcome.{ends};
 ghost use Rattle.rdm_crew.specs.RunTrace.{HaveFaults};
 
@@ -155,7 +155,7 @@ where
 {
     let mut tally = Tally::NONE;
     let steps = [
-        asks(0x0403, 1),
+        CrewStep::Ask(command(0x0403, 1), Goes::None),
         CrewStep::Settle(PATIENCE),
         CrewStep::Collect(Goes::None),
         CrewStep::Collect(Goes::None),
@@ -180,9 +180,9 @@ where
 {
     let mut tally = Tally::NONE;
     let steps = [
-        asks(0x0403, 1),
-        asks(0x0403, 0),
-        asks(0x0201, 0),
+        CrewStep::Ask(command(0x0403, 1), Goes::None),
+        CrewStep::Ask(command(0x0403, 0), Goes::None),
+        CrewStep::Ask(command(0x0201, 0), Goes::None),
         CrewStep::Settle(PATIENCE),
     ];
     let trace = ended(rt, alloc, &steps, &mut tally)?.ok().ok_or(OTHER)?;
@@ -228,15 +228,15 @@ where
     T: Threads + Wait + Copy + Send + 'static,
 {
     let steps = [
-        asks(0x0403, 1),
-        asks(0x0403, 0),
-        asks(0x0403, 1),
-        asks(0x0403, 0),
-        asks(0x0201, 0),
-        asks(0x0201, 0),
-        asks(0x0201, 0),
-        asks(0x0201, 0),
-        asks(0x0020, 2),
+        CrewStep::Ask(command(0x0403, 1), Goes::None),
+        CrewStep::Ask(command(0x0403, 0), Goes::None),
+        CrewStep::Ask(command(0x0403, 1), Goes::None),
+        CrewStep::Ask(command(0x0403, 0), Goes::None),
+        CrewStep::Ask(command(0x0201, 0), Goes::None),
+        CrewStep::Ask(command(0x0201, 0), Goes::None),
+        CrewStep::Ask(command(0x0201, 0), Goes::None),
+        CrewStep::Ask(command(0x0201, 0), Goes::None),
+        CrewStep::Ask(command(0x0020, 2), Goes::None),
     ];
     let answer = ended(rt, alloc, &steps, tally)?;
     check(
@@ -249,17 +249,13 @@ fn settles_or_not<T>(rt: T, alloc: Global, tally: &mut Tally) -> Result<(), Faul
 where
     T: Threads + Wait + Copy + Send + 'static,
 {
-    let steps = [asks(0x0403, 1), CrewStep::Settle(0)];
+    let steps = [
+        CrewStep::Ask(command(0x0403, 1), Goes::None),
+        CrewStep::Settle(0),
+    ];
     let answer = ended(rt, alloc, &steps, tally)?;
     check(
         matches!(&answer, Ok(_) | Err(RunError::Unsettled)),
         "a settle",
     )
-}
-
-/// A command to the root of the device, with which nothing goes wrong.
-fn asks(pid: u16, value: u8) -> CrewStep
-    ensures { HaveFaults (result ∷ []) }
-{
-    CrewStep::Ask(command(pid, value), Goes::None)
 }
