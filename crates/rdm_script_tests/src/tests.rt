@@ -8,6 +8,7 @@ mod parsing;
 mod plain;
 mod readme;
 mod scripts;
+mod staged;
 mod streams;
 mod traces;
 mod working;

@@ -20,7 +20,7 @@ where
 }
 
 /// The outcome of a script that ends so.
-fn outcome_of(ends: Ends) -> Result<(), ProgramError> {
+pub(super) fn outcome_of(ends: Ends) -> Result<(), ProgramError> {
     match ends {
         Ends::Prints(_) | Ends::Plays => Ok(()),
         Ends::Stops(error) => Err(error),
@@ -28,7 +28,7 @@ fn outcome_of(ends: Ends) -> Result<(), ProgramError> {
 }
 
 /// Whether this is what a script writes that ends so.
-fn is_written(written: &[u8], ends: Ends) -> bool {
+pub(super) fn is_written(written: &[u8], ends: Ends) -> bool {
     match ends {
         Ends::Prints(trace) => written == trace.as_bytes(),
         Ends::Plays => !written.is_empty(),
