@@ -30,7 +30,8 @@ pub fn line_says_what_its_words_spell()
         (line_in dev words ≡ Says step) ↔ ((is_skipped words ≡ false) × SpellsStep dev words step) }
     ensures first_step { (dev : TheUid) (words : List (List ℕ)) (step : TheStep) →
         (first_line_in dev words ≡ Says step) ↔ ((is_skipped words ≡ false) × SpellsStep dev words step) }
-    ensures setup { (dev : TheUid) (words : List (List ℕ)) (setup : TheSetup) → (first_line_in dev words ≡ Sets setup) ↔ SpellsSetup words setup }
+    ensures setup { (dev : TheUid) (words : List (List ℕ)) (setup : TheSetup) →
+        (first_line_in dev words ≡ Sets setup) ↔ SpellsSetup words setup }
 {}
 
 /// Two setups are equal by `==` exactly where each of their fields is.

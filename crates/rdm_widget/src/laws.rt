@@ -7,7 +7,8 @@ ghost use Rattle.rdm_widget.specs.Framing.{Message, IsMessage, Holds, bytes_of};
 
 /// A stream of bytes holds one list of messages.
 pub fn stream_holds_one_list()
-    ensures { (stream : List ℕ) (messages others : List Message) → Holds stream messages → Holds stream others → messages ≡ others }
+    ensures { (stream : List ℕ) (messages others : List Message) →
+        Holds stream messages → Holds stream others → messages ≡ others }
 {}
 
 /// Messages that are written, one after another, are read back.
