@@ -1,6 +1,7 @@
 //! The lines of a trace.
 
 use crate::ChartError;
+use rdm_streams::without_return;
 use rdm_words::{TraceLine, trace_line};
 use std::alloc::Global;
 
@@ -31,12 +32,4 @@ pub(crate) fn lines_of(alloc: Global, trace: &[u8]) -> Result<Vec<Line<'_>>, Cha
         }
     }
     Ok(lines)
-}
-
-/// The line without the CR at its end, if there is one.
-fn without_return(line: &[u8]) -> &[u8] {
-    match line.split_last() {
-        Some((b'\r', front)) => front,
-        _ => line,
-    }
 }

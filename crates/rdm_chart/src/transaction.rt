@@ -32,18 +32,25 @@ pub(crate) fn draw_request(
         Fault::None | Fault::LostReply | Fault::BadReply(_, _) => Passage::Whole,
     };
     let words = request_words(alloc, bytes, known)?;
-    let note = note_of(alloc, fault, passage)?;
     let arrow = Arrow {
         from: CONTROLLER_X,
         to: RESPONDER_X,
         passage,
     };
-    let label = Label {
-        class: Class::Request,
-        words: words.as_str(),
-        note: note.as_str(),
-    };
-    drawing.draw_arrow(alloc, arrow, label)
+    draw_frame(drawing, alloc, arrow, Class::Request, words.as_str())
+}
+
+/// Draws a frame on its way, with its words and what goes wrong.
+fn draw_frame(
+    drawing: &mut Drawing,
+    alloc: Global,
+    arrow: Arrow,
+    class: Class,
+    words: &str,
+) -> Result<(), AllocError> {
+    let note = note_of(alloc, drawing.fault, arrow.passage)?;
+    let note = note.as_str();
+    drawing.draw_arrow(alloc, arrow, Label { class, words, note })
 }
 
 /// Draws a line above a transaction, and its number, counted from 0 as transaction numbers are.
@@ -87,25 +94,18 @@ pub(crate) fn draw_reply(
     let Some(bytes) = reply else {
         return draw_silence(drawing);
     };
-    let fault = drawing.fault;
-    let passage = match fault {
+    let passage = match drawing.fault {
         Fault::LostReply => Passage::Lost,
         Fault::BadReply(_, _) => Passage::Altered,
         Fault::None | Fault::LostRequest | Fault::BadRequest(_, _) => Passage::Whole,
     };
     let words = reply_words(alloc, bytes.as_slice(), known)?;
-    let note = note_of(alloc, fault, passage)?;
     let arrow = Arrow {
         from: RESPONDER_X,
         to: CONTROLLER_X,
         passage,
     };
-    let label = Label {
-        class: Class::Words,
-        words: words.as_str(),
-        note: note.as_str(),
-    };
-    drawing.draw_arrow(alloc, arrow, label)?;
+    draw_frame(drawing, alloc, arrow, Class::Words, words.as_str())?;
     drawing.has_room_beside = true;
     Ok(())
 }

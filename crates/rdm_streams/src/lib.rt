@@ -1,6 +1,8 @@
-//! Bytes written whole, to a writer that takes as many at once as it wants.
+//! Bytes written whole, to a writer that takes as many at once as it wants, and bytes that were read taken apart into lines.
 #![tactic(auto)]
 
+mod lines;
 mod writing;
 
+pub use lines::{line_end, without_return};
 pub use writing::{WriteFault, write_all};

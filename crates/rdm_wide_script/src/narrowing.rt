@@ -14,6 +14,7 @@ use crate::words::{Word, words_of};
 use rdm_frame::Uid;
 use rdm_frame::digits::digit;
 use rdm_script::{ScriptError, parse_for};
+use rdm_streams::{line_end, without_return};
 use std::alloc::{AllocError, Global};
 
 /// The script in the words of rdm_script, line by line. It is to be played on the device with this UID.
@@ -151,20 +152,4 @@ fn put_text(out: &mut Vec<u8>, text: &[u8]) -> Result<(), AllocError>
         }
     }
     Ok(())
-}
-
-/// Where the first line ends, if an LF ends it.
-fn line_end(text: &[u8]) -> Option<usize>
-    ensures end { result ≡ position (λ b. b == 10) text.now }
-    ensures within { IfSome result (λ end. end < length text.now) }
-{
-    text.iter().position(|b| *b == b'\n')
-}
-
-/// A line without the carriage return at its end, if it has one.
-fn without_return(line: &[u8]) -> &[u8] {
-    match line {
-        [front @ .., b'\r'] => front,
-        _ => line,
-    }
 }

@@ -1,7 +1,7 @@
 //! The words of lines, one by one and of a whole text.
 
 ghost use Rattle.std.specs.Prelude.{◌≡◌, ◌<◌, ◌==◌, ℕ, List, [], ◌∷◌, ◌++◌, length, position, IfOk, IfSome, OnOk, string_bytes};
-ghost use Rattle.std.specs.Str.Lines.{lines, strip_carriage_return as without_return};
+ghost use Rattle.std.specs.Str.Lines.{lines};
 ghost use Rattle.rdm_words.specs.Said.{Says, SayInTurn};
 
 use crate::Known;
@@ -10,6 +10,7 @@ use crate::frame_words::put_bytes_words;
 use crate::text::put_escaped;
 use crate::trace::trace_line;
 use crate::trace_words::put_trace_line;
+use rdm_streams::{line_end, without_return};
 use std::alloc::{AllocError, Global};
 
 /// The words of each line of a text, in order. A line ends with LF, before which a CR is dropped; the last LF may be
@@ -79,22 +80,4 @@ fn put_whole(out: &mut Vec<u8>, words: &[u8]) -> Result<(), AllocError>
 {
     out.extend_from_slice(words)?;
     out.extend_from_slice(b"\n")
-}
-
-/// Where the first line ends, if an LF ends it.
-fn line_end(text: &[u8]) -> Option<usize>
-    ensures end { result ≡ position (λ b. b == 10) text.now }
-    ensures within { IfSome result (λ end. end < length text.now) }
-{
-    text.iter().position(|b| *b == b'\n')
-}
-
-/// A line without the carriage return at its end, if it has one.
-fn without_return(line: &[u8]) -> &[u8]
-    ensures { result.now ≡ without_return line.now }
-{
-    match line {
-        [front @ .., b'\r'] => front,
-        _ => line,
-    }
 }

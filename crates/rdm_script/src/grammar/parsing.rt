@@ -1,7 +1,6 @@
 //! From the bytes of a script to its setup and its steps.
 
 ghost use Rattle.std.specs.Prelude.{◌≡◌, ◌≢◌, ℕ, ◌+◌, ◌^◌, ◌<◌, ◌≤◌, ◌==◌, List, [], ◌++◌, length, count_by, position, vec_len, vec_capacity, IfSome, OnOk, IfOk, IfErr, MatchResult};
-ghost use Rattle.std.specs.Str.Lines.{strip_carriage_return as without_return};
 ghost use Rattle.rdm_crew.specs.declared.step.CrewStep.{CrewStep as TheStep};
 ghost use Rattle.rdm_crew.specs.RunTrace.{HaveFaults};
 ghost use Rattle.rdm_script.specs.declared.script.Setup.{Setup as TheSetup};
@@ -16,6 +15,7 @@ use super::words::words_of;
 use crate::parties::DEVICE;
 use crate::script::{Script, Setup};
 use rdm_frame::Uid;
+use rdm_streams::{line_end, without_return};
 use std::alloc::{AllocError, Global};
 use std::error::Error;
 use std::fmt;
@@ -204,23 +204,5 @@ fn line_of(device: Uid, line: &[u8], begun: bool) -> Line
         line_in(device, words.as_slice())
     } else {
         first_line_in(device, words.as_slice())
-    }
-}
-
-/// Where the first line ends, if an LF ends it.
-fn line_end(text: &[u8]) -> Option<usize>
-    ensures end { result ≡ position (λ b. b == 10) text.now }
-    ensures within { IfSome result (λ end. end < length text.now) }
-{
-    text.iter().position(|b| *b == b'\n')
-}
-
-/// A line without the carriage return at its end, if it has one.
-fn without_return(line: &[u8]) -> &[u8]
-    ensures { result.now ≡ without_return line.now }
-{
-    match line {
-        [front @ .., b'\r'] => front,
-        _ => line,
     }
 }

@@ -11,7 +11,7 @@ loop-end-preserved c =
     let behind = c.in-Some.end + 1 in
     let said = c.in_ok-put_line_words.ensures.said in
     rw (take_all (length rest - behind) (drop behind rest) (omega (arith, length-drop behind rest)), said.2)
-    (said_more text rest c.without_return.result.now c.loop-end.out.items said.0 c.in-Some.end (sym c.in-Some.ensures.end) c.without_return.ensures said.1 c.loop-end.invariant)
+    (said_more text rest c.without_return.result.now c.loop-end.out.items said.0 c.in-Some.end (sym c.in-Some.ensures.end) c.without_return.ensures.front said.1 c.loop-end.invariant)
 
 pub returns-then-is_empty : goal.returns-then-is_empty
 returns-then-is_empty c =
