@@ -1,5 +1,5 @@
 -- Which table is a rule: the jobs that it speaks of, and what they come to.
-use Rattle.std.specs.Prelude.{◌≡◌, ℕ, true, IsTrue, List, [], ◌∷◌, ◌++◌, Option, Some, None, option_map, if◌then◌else◌, codes}
+use Rattle.std.specs.Prelude.{◌≡◌, ℕ, true, IsTrue, List, [], ◌∷◌, Option, Some, None, option_map, if◌then◌else◌, codes}
 use Rattle.std.specs.Str.{bytes_eq}
 use Rattle.toml.specs.Data.{Data, string, boolean, Members, get_member}
 use Rattle.rdm_params.specs.declared.slow.outcome.Outcome.{Outcome}

@@ -1,5 +1,5 @@
 -- What rules give is an outcome that the slow command can have.
-use Rattle.std.proofs.Common.{◌≡◌, ℕ, ℤ, pos, ◌+◌, ◌==◌, ◌&&◌, Bool, true, false, cond, List, [], ◌∷◌, Option, Some, None, refl, subst, ◌∙◌, sym, ap}
+use Rattle.std.proofs.Common.{◌≡◌, ℕ, ℤ, pos, ◌+◌, ◌==◌, ◌&&◌, Bool, true, false, cond, List, [], ◌∷◌, Option, Some, None, refl, subst, sym}
 use Rattle.std.specs.List.{AllByRecursion}
 use Rattle.std.specs.Prelude.{find}
 use Rattle.std.proofs.lemmas.Bool.{and_parts, eqb-true}
@@ -17,7 +17,7 @@ use Rattle.rdm_outcomes.specs.declared.planned.Counted.{Counted}
 use Rattle.rdm_outcomes.specs.declared.rule.Rule.{Rule}
 use Rattle.rdm_outcomes.specs.declared.rule.Task.{Task}
 use Rattle.rdm_outcomes.specs.declared.rule.Task.TheVariants.{LampState, PowerState, PerformSelfTest, SensorValue}
-use Rattle.rdm_outcomes.specs.Outcomes.{pid_of, suits, holds, is_for, outcome_by, outcome_at, usual_outcome, CanEnd}
+use Rattle.rdm_outcomes.specs.Outcomes.{pid_of, suits, holds, is_for, outcome_by, outcome_at, CanEnd}
 
 -- ---- the slow commands of the table: GET SENSOR_VALUE, and SETs of other parameters
 

@@ -1,4 +1,4 @@
-use Rattle.std.proofs.Common.{rules, arith}
+use Rattle.std.proofs.Common.{rules}
 use Rattle.std.proofs.lemmas.List.Edits.{map_over_more}
 use Rattle.rdm_outcomes.specs.Outcomes.{note}
 use Rattle.rdm_outcomes.proofs.planned.note_all.Goals as goal

@@ -1,4 +1,4 @@
-use Rattle.std.proofs.Common.{◌≡◌, [], map, take, length}
+use Rattle.std.proofs.Common.{◌≡◌, [], map, take}
 use Rattle.rdm_outcomes.specs.Outcomes.{counted_in}
 use Rattle.rdm_outcomes.proofs.planned.Planned.new.Given as goal
 
