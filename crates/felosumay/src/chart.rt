@@ -3,7 +3,7 @@
 use crate::fault::Fault;
 use crate::source::{Source, print};
 use crate::system::System;
-use crate::words::MOST_READ;
+use crate::words::MOST_BYTES;
 use crate::{fixture, usage};
 use clap::ArgMatches;
 use rdm_chart::{ChartError, chart};
@@ -15,7 +15,7 @@ use std::fs;
 pub fn run<'a, S: System>(rt: S, asked: &ArgMatches<'a>) -> Result<(), Fault<'a>> {
     let fixture = fixture::asked_for(rt, asked)?;
     let source = Source::named(asked.get_str(usage::INPUT));
-    let trace = source.read(rt, MOST_READ)?;
+    let trace = source.read(rt, MOST_BYTES)?;
     let picture = draw(rt, source.name(), trace.as_slice(), &fixture)?;
     match asked.get_str(usage::OUTPUT) {
         None | Some("-") => print(rt, picture.as_slice()),

@@ -25,6 +25,8 @@ pub enum Fault<'a> {
     Clock,
     /// A file, or standard input, wasn't read.
     Read(&'a str, io::Error),
+    /// A file, or standard input, has more bytes than this.
+    TooLong(&'a str, u64),
     /// Standard input wasn't read.
     ReadInput,
     /// Standard output wasn't written.
@@ -85,7 +87,8 @@ impl<'a> Fault<'a> {
     /// The exit status, by the table of docs/FELOSUMAY.md.
     pub fn status(&self) -> u8 {
         match self {
-            Fault::Script(_, _)
+            Fault::TooLong(_, _)
+            | Fault::Script(_, _)
             | Fault::NoScript(_, _)
             | Fault::NoText(_)
             | Fault::NoTrace(_, _)
@@ -146,6 +149,7 @@ impl fmt::Display for Fault<'_> {
             Fault::Read(name, error) | Fault::File(name, error) => {
                 write!(f, "error: {name}: {error}")
             }
+            Fault::TooLong(name, most) => write!(f, "{name}: more than {most} bytes"),
             Fault::ReadInput => f.write_str("error: read"),
             Fault::Write => f.write_str("error: write"),
             Fault::Script(name, refusal) => write!(f, "{name}:{refusal}"),

@@ -11,8 +11,8 @@ use rdm_frame::Uid;
 use rdm_outcomes::demo_rules;
 use std::str;
 
-/// How many bytes of a fixture file are read: 1 MiB.
-const MOST_READ: u64 = 1048576;
+/// How many bytes a fixture file may have: 1 MiB.
+const MOST_BYTES: u64 = 1048576;
 
 /// The UID of the demonstration fixture.
 const DEVICE: Uid = Uid {
@@ -49,7 +49,7 @@ pub fn demonstration() -> Fixture {
 
 /// Reads a fixture.
 fn read<'a, S: System>(rt: S, source: Source<'a>) -> Result<Fixture, Fault<'a>> {
-    let bytes = source.read(rt, MOST_READ)?;
+    let bytes = source.read(rt, MOST_BYTES)?;
     let Ok(text) = str::from_utf8(bytes.as_slice()) else {
         return Err(Fault::NoText(source.name()));
     };

@@ -20,13 +20,13 @@ use rdm_wide_script::narrowed;
 use std::io;
 use std::io::Write;
 
-/// How many bytes of a script are read: one more than it may have.
-const MOST_READ: u64 = 65537;
+/// How many bytes a script may have: 64 KiB.
+const MOST_BYTES: u64 = 65536;
 
 /// Plays the script that is named, and prints what is asked for.
 pub fn run<'a, S: System>(rt: S, asked: &ArgMatches<'a>) -> Result<(), Fault<'a>> {
     let source = Source::named(asked.get_str(usage::INPUT));
-    let text = source.read(rt, MOST_READ)?;
+    let text = source.read(rt, MOST_BYTES)?;
     let device = fixture::asked_for(rt, asked)?.uid;
     let script = match narrowed(rt.alloc(), device, text.as_slice()) {
         Ok(script) => script,

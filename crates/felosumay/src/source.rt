@@ -32,17 +32,20 @@ impl<'a> Source<'a> {
         }
     }
 
-    /// All of its bytes, or as many of them as are wanted at most.
+    /// All of its bytes. More of them than `most` are refused.
     pub fn read<S: System>(self, rt: S, most: u64) -> Result<Vec<u8>, Fault<'a>> {
         let mut bytes = Vec::new(rt.alloc());
+        // One byte more is read, which shows that there are too many.
+        let limit = most.saturating_add(1);
         let read = match self {
-            Source::Input => rt.reader().take(most).read_to_end(&mut bytes),
+            Source::Input => rt.reader().take(limit).read_to_end(&mut bytes),
             Source::File(path) => match fs::open(&rt, path) {
-                Ok(file) => file.take(most).read_to_end(&mut bytes),
+                Ok(file) => file.take(limit).read_to_end(&mut bytes),
                 Err(error) => Err(error),
             },
         };
         match read {
+            Ok(_) if bytes.len() as u64 > most => Err(Fault::TooLong(self.name(), most)),
             Ok(_) => Ok(bytes),
             Err(error) => Err(Fault::Read(self.name(), error)),
         }

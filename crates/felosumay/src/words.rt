@@ -8,14 +8,14 @@ use clap::ArgMatches;
 use rdm_fixture::Fixture;
 use rdm_words::{Known, words};
 
-/// How many bytes of a trace are read: 64 MiB.
-pub const MOST_READ: u64 = 67108864;
+/// How many bytes a trace may have: 64 MiB.
+pub const MOST_BYTES: u64 = 67108864;
 
 /// Reads the trace that is named, and prints its words.
 pub fn run<'a, S: System>(rt: S, asked: &ArgMatches<'a>) -> Result<(), Fault<'a>> {
     let known = fixture::asked_for(rt, asked)?;
     let source = Source::named(asked.get_str(usage::INPUT));
-    let trace = source.read(rt, MOST_READ)?;
+    let trace = source.read(rt, MOST_BYTES)?;
     say(rt, trace.as_slice(), &known)
 }
 
