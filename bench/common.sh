@@ -15,7 +15,7 @@ refuse() {
 # standard error for each function that is proved; where something fails, the end of the log.
 build_library() {
     local log=$1
-    echo "proving and building crates/rdm_bench: ten minutes and more the first time" >&2
+    echo "proving and building crates/rdm_bench: some five minutes the first time" >&2
     if ! (cd "$crate" && rt lib) 2>&1 | tee "$log" | sed -un '/^checked /p' >&2; then
         tail -n 40 "$log" >&2
         exit 1
