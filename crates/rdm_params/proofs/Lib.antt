@@ -11,5 +11,4 @@ pub mod RowFacts
 pub mod Rows
 pub mod StaysAccepted
 pub mod SubSteps
-pub mod Supported
 pub mod TwoWorkers

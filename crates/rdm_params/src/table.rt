@@ -1,7 +1,7 @@
 //! The table of parameters, one line a row, in the order of the PIDs.
 //!
 //! A row names its `Kind`, its PID, where it is (`both`: the root and every sub-device; `root`: the root alone), its
-//! GET and its SET. `rows!(group, use! (arguments))` hands the rows of a group to the macro of one use.
+//! GET and its SET. `rows!(use! (arguments))` hands the rows to the macro of one use.
 //!
 //! - GET: `none`; `(reads SOURCE)`; `(asks FORM (RANGE) REPLY)`, which hands in data;
 //!   `(measures FORM (RANGE) WORKER ESTIMATE REPLY)`, which a job of that worker carries out, with an estimate in
@@ -22,72 +22,44 @@ pub(crate) mod store;
 pub(crate) mod within;
 
 macro_rules! rows {
-    (status, $use:ident! $args:tt) => {
+    ($use:ident! $args:tt) => {
         $use! { $args
             (QueuedMessage 0x0020 root (fetches byte (a_message_type) FromQueue) none)
             (StatusMessages 0x0030 root (fetches byte (below 5) FromStatus) none)
             (StatusIdDescription 0x0031 root (asks word (a_status) status_text) none)
             (ClearStatusId 0x0032 root none (clears nothing (any)))
             (SubDeviceStatusReportThreshold 0x0033 both (reads (common byte report_threshold)) (takes byte (a_threshold) (common report_threshold)))
-        }
-    };
-    (product, $use:ident! $args:tt) => {
-        $use! { $args
             (SupportedParameters 0x0050 both (reads (listed)) none)
             (DeviceInfo 0x0060 both (reads (computed device_info)) none)
             (DeviceModelDescription 0x0080 both (reads (unit text model_text)) none)
             (ManufacturerLabel 0x0081 both (reads (unit text maker_text)) none)
             (DeviceLabel 0x0082 both (reads (common text label)) (takes label (any) (common label)))
             (FactoryDefaults 0x0090 root (reads (computed at_factory_defaults)) (sets nothing (any) (common_set_back own_set_back) none))
-        }
-    };
-    (software, $use:ident! $args:tt) => {
-        $use! { $args
             (LanguageCapabilities 0x00A0 root (reads (computed languages)) none)
             (Language 0x00B0 root (reads (own word language)) (takes word (a_language) (own language)))
             (SoftwareVersionLabel 0x00C0 both (reads (unit text software_text)) none)
             (BootSoftwareVersionId 0x00C1 root (reads (profile long boot)) none)
             (BootSoftwareVersionLabel 0x00C2 root (reads (profile text boot_text)) none)
-        }
-    };
-    (dmx, $use:ident! $args:tt) => {
-        $use! { $args
             (DmxPersonality 0x00E0 both (reads (computed personality_of_all)) (takes byte (a_personality) (common personality)))
             (DmxPersonalityDescription 0x00E1 both (asks byte (a_personality) personality_described) none)
             (DmxStartAddress 0x00F0 both (reads (computed start_address)) (takes word (a_start) (common start)))
             (SlotInfo 0x0120 root (reads (computed slot_infos)) none)
             (SlotDescription 0x0121 root (asks word (a_slot) slot_described) none)
             (DefaultSlotValue 0x0122 root (reads (computed slot_defaults)) none)
-        }
-    };
-    (sensing, $use:ident! $args:tt) => {
-        $use! { $args
             (SensorDefinition 0x0200 root (asks byte (a_sensor) sensor_described) none)
             (SensorValue 0x0201 root (measures byte (a_sensor) 1 5 sensor_measured) (sets byte (sensors) (none sensors_reset) sensor_measured))
             (RecordSensors 0x0202 root none (sets byte (sensors) (none sensors_recorded) none))
-        }
-    };
-    (usage, $use:ident! $args:tt) => {
-        $use! { $args
             (DeviceHours 0x0400 root (reads (own long device_hours)) (takes long (any) (own device_hours)))
             (LampHours 0x0401 both (reads (common long lamp_hours)) (takes long (any) (common lamp_hours)))
             (LampStrikes 0x0402 both (reads (common long lamp_strikes)) (takes long (any) (common lamp_strikes)))
             (LampState 0x0403 both (reads (common byte lamp_state)) (starts byte (below 4) 0 50 (common lamp_state)))
             (LampOnMode 0x0404 both (reads (common byte lamp_on_mode)) (takes byte (below 4) (common lamp_on_mode)))
             (DevicePowerCycles 0x0405 root (reads (own long power_cycles)) (takes long (any) (own power_cycles)))
-        }
-    };
-    (display, $use:ident! $args:tt) => {
-        $use! { $args
             (DisplayInvert 0x0500 root (reads (own byte display_invert)) (takes byte (below 3) (own display_invert)))
             (DisplayLevel 0x0501 root (reads (own byte display_level)) (takes byte (any) (own display_level)))
             (PanInvert 0x0600 root (reads (own byte pan_invert)) (takes byte (below 2) (own pan_invert)))
             (TiltInvert 0x0601 root (reads (own byte tilt_invert)) (takes byte (below 2) (own tilt_invert)))
             (PanTiltSwap 0x0602 root (reads (own byte pan_tilt_swap)) (takes byte (below 2) (own pan_tilt_swap)))
-        }
-    };
-    (control, $use:ident! $args:tt) => {
-        $use! { $args
             (IdentifyDevice 0x1000 both (reads (common byte identify)) (takes byte (below 2) (common identify)))
             (PowerState 0x1010 both (reads (common byte power_state)) (starts byte (a_power_state) 0 20 (common power_state)))
             (PerformSelfTest 0x1020 root (reads (computed self_test_runs)) (starts byte (a_self_test) 1 100 (own self_test)))
@@ -97,9 +69,4 @@ macro_rules! rows {
     };
 }
 
-macro_rules! kinds {
-    (() $(($kind:ident $pid:tt $at:ident $get:tt $set:tt))*) => { $(Kind::$kind)|* };
-}
-
-pub(crate) use kinds;
 pub(crate) use rows;

@@ -2,10 +2,10 @@
 
 ghost use Rattle.std.specs.Prelude.{◌≡◌};
 ghost use Rattle.rdm_params.specs.Table.Kinds.{pid_of};
-ghost use Rattle.rdm_params.specs.Table.Rows.{row_of, row_in, command_in, status, product, software, dmx, sensing, usage, display, control};
+ghost use Rattle.rdm_params.specs.Table.Rows.{row_of, command_in};
 ghost use Rattle.rdm_params.specs.Table.Uses.{read};
 
-use crate::table::{kinds, rows};
+use crate::table::rows;
 use crate::{Kind, Nack, Value, Verb};
 use rdm_device::Argument;
 use rdm_device::columns::forms;
@@ -17,7 +17,6 @@ macro_rules! read_rows {
                 Verb::Get => read_command!($get $data),
                 Verb::Set => read_command!($set $data),
             },)*
-            _ => Err(Nack::FormatError),
         }
     };
 }
@@ -46,70 +45,5 @@ pub fn read_value(kind: Kind, verb: Verb, data: &[u8]) -> Result<Value, Nack>
 pub(crate) fn read_argument(kind: Kind, verb: Verb, data: &[u8]) -> Result<Argument<'_>, Nack>
     ensures { result ≡ read (command_in (row_of (pid_of kind)) verb) data.now }
 {
-    match kind {
-        rows!(status, kinds!()) => read_status(kind, verb, data),
-        rows!(product, kinds!()) => read_product(kind, verb, data),
-        rows!(software, kinds!()) => read_software(kind, verb, data),
-        rows!(dmx, kinds!()) => read_dmx(kind, verb, data),
-        rows!(sensing, kinds!()) => read_sensing(kind, verb, data),
-        rows!(usage, kinds!()) => read_usage(kind, verb, data),
-        rows!(display, kinds!()) => read_display(kind, verb, data),
-        rows!(control, kinds!()) => read_control(kind, verb, data),
-    }
-}
-
-#[inline(always)]
-fn read_status(kind: Kind, verb: Verb, data: &[u8]) -> Result<Argument<'_>, Nack>
-    ensures { result ≡ read (command_in (row_in status (pid_of kind)) verb) data.now }
-{
-    rows!(status, read_rows!(kind verb data))
-}
-
-#[inline(always)]
-fn read_product(kind: Kind, verb: Verb, data: &[u8]) -> Result<Argument<'_>, Nack>
-    ensures { result ≡ read (command_in (row_in product (pid_of kind)) verb) data.now }
-{
-    rows!(product, read_rows!(kind verb data))
-}
-
-#[inline(always)]
-fn read_software(kind: Kind, verb: Verb, data: &[u8]) -> Result<Argument<'_>, Nack>
-    ensures { result ≡ read (command_in (row_in software (pid_of kind)) verb) data.now }
-{
-    rows!(software, read_rows!(kind verb data))
-}
-
-#[inline(always)]
-fn read_dmx(kind: Kind, verb: Verb, data: &[u8]) -> Result<Argument<'_>, Nack>
-    ensures { result ≡ read (command_in (row_in dmx (pid_of kind)) verb) data.now }
-{
-    rows!(dmx, read_rows!(kind verb data))
-}
-
-#[inline(always)]
-fn read_sensing(kind: Kind, verb: Verb, data: &[u8]) -> Result<Argument<'_>, Nack>
-    ensures { result ≡ read (command_in (row_in sensing (pid_of kind)) verb) data.now }
-{
-    rows!(sensing, read_rows!(kind verb data))
-}
-
-#[inline(always)]
-fn read_usage(kind: Kind, verb: Verb, data: &[u8]) -> Result<Argument<'_>, Nack>
-    ensures { result ≡ read (command_in (row_in usage (pid_of kind)) verb) data.now }
-{
-    rows!(usage, read_rows!(kind verb data))
-}
-
-#[inline(always)]
-fn read_display(kind: Kind, verb: Verb, data: &[u8]) -> Result<Argument<'_>, Nack>
-    ensures { result ≡ read (command_in (row_in display (pid_of kind)) verb) data.now }
-{
-    rows!(display, read_rows!(kind verb data))
-}
-
-#[inline(always)]
-fn read_control(kind: Kind, verb: Verb, data: &[u8]) -> Result<Argument<'_>, Nack>
-    ensures { result ≡ read (command_in (row_in control (pid_of kind)) verb) data.now }
-{
-    rows!(control, read_rows!(kind verb data))
+    rows!(read_rows!(kind verb data))
 }
