@@ -9,6 +9,7 @@ pub mod Plates
 pub mod ReadBack
 pub mod RowFacts
 pub mod Rows
+pub mod Suited
 pub mod StaysAccepted
 pub mod SubSteps
 pub mod TwoWorkers

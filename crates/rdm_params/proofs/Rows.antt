@@ -1,8 +1,10 @@
--- The row that is found for a PID has what every row has.
-use Rattle.std.proofs.Common.{◌≡◌, ℕ, ◌==◌, Bool, true, false, cond, List, [], ◌∷◌, Option, Some, refl, subst}
-use Rattle.std.specs.List.{AllByRecursion}
+-- The row that is found for a PID has what every row has, and its commands too.
+use Rattle.std.proofs.Common.{◌≡◌, ℕ, ◌==◌, Bool, true, false, cond, ◌&&◌, List, [], ◌∷◌, Option, Some, None, refl, subst}
+use Rattle.std.specs.List.{AllByRecursion, list_all}
 use Rattle.std.proofs.lemmas.Bool.{eqb-true}
-use Rattle.rdm_params.specs.Table.Rows.{Row, row_in}
+use Rattle.rdm_params.specs.declared.kind.Verb.{Verb}
+use Rattle.rdm_params.specs.declared.kind.Verb.TheVariants.{Get, Set}
+use Rattle.rdm_params.specs.Table.Rows.{Command, Row, row_in, command_in}
 
 abbrev some : Row → Option Row
 some r = Some r
@@ -17,3 +19,23 @@ found_at P x pid r later has rest false h e = rest e
 pub found : (P : Row → Type 0) (rows : List Row) (pid : ℕ) (r : Row) → AllByRecursion P rows → row_in rows pid ≡ Some r → P r × (r.pid ≡ pid)
 found P [] pid r all e = absurd cc
 found P (x ∷ xs) pid r all e = found_at P x pid r (row_in xs pid) all.0 (found P xs pid r all.1) (x.pid == pid) refl e
+
+both : (a b : Bool) → (a && b) ≡ true → (a ≡ true) × (b ≡ true)
+both true true h = (refl, refl)
+both true false h = absurd cc
+both false b h = absurd cc
+
+of_verb : (test : Option Command → Bool) (r : Row) (verb : Verb) → (test r.get ≡ true) × (test r.set ≡ true) → test (command_in (Some r) verb) ≡ true
+of_verb test r Get h = h.0
+of_verb test r Set h = h.1
+
+either : (test : Option Command → Bool) (verb : Verb) (here : Bool) (r : Row) (later : Option Row) → test (command_in (Some r) verb) ≡ true → test (command_in later verb) ≡ true → test (command_in (cond here (Some r) later) verb) ≡ true
+either test verb true r later a b = a
+either test verb false r later a b = b
+
+-- A test that both commands of each row pass, and no command, is passed by the command that is found for a PID.
+pub holds : (test : Option Command → Bool) (rows : List Row) (pid : ℕ) (verb : Verb) → test None ≡ true → list_all (λ r. test r.get && test r.set) rows ≡ true → test (command_in (row_in rows pid) verb) ≡ true
+holds test [] pid verb none all = none
+holds test (r ∷ rows) pid verb none all =
+    let parts = both (test r.get && test r.set) (list_all (λ r. test r.get && test r.set) rows) all in
+    either test verb (r.pid == pid) r (row_in rows pid) (of_verb test r verb (both (test r.get) (test r.set) parts.0)) (holds test rows pid verb none parts.1)

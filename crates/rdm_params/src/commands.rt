@@ -7,30 +7,29 @@ ghost use Rattle.std.specs.List.{list_all};
 ghost use Rattle.std.specs.Option.{option_map, option_map_or};
 ghost use Rattle.rdm_params.specs.declared.kind.Verb.TheVariants.{Set};
 ghost use Rattle.rdm_params.specs.declared.verdict.Verdict.TheVariants.{Refuse};
-ghost use Rattle.rdm_params.specs.Commands.Commands.{suits, got, answer_to_set, after_set, in_range, answered, work};
+ghost use Rattle.rdm_params.specs.Commands.Commands.{got, answer_to_set, after_set, in_range, answered, work};
 ghost use Rattle.rdm_params.specs.Commands.Commands.{addressed, command_of, carried_out, is_all_call, sub_spot};
 ghost use Rattle.rdm_params.specs.Table.Kinds.{pid_of};
 ghost use Rattle.rdm_device.specs.Device.Parameters.{parameters_of};
 ghost use Rattle.rdm_device.specs.Device.Profiles.{IsGoodProfile};
 ghost use Rattle.rdm_device.specs.Device.Values.{byte_or_0};
 ghost use Rattle.rdm_params.specs.Views.Verdicts.{verdict_with, NamesItsJob};
-ghost use Rattle.rdm_params.specs.Table.Uses.{access, way_of, in_range_of, reply};
-ghost use Rattle.rdm_params.specs.Table.Rows.{row_of};
+ghost use Rattle.rdm_params.specs.Table.Uses.{way_of, in_range_of, reply};
 ghost use Rattle.rdm_params.specs.Slow.Asks.{ask_of};
 
 mod commit;
 mod panel;
+mod suited;
 mod thresholds;
 
 use crate::commands::sub_devices::{all_in_range, start_each, store_at, store_each};
 use crate::slow::Way;
 use crate::table::access::check_access;
-use crate::table::dispatch::way_of;
-use crate::table::read::read_argument;
+use crate::table::find::{Found, find};
 use crate::table::respond::reply_into;
 use crate::table::store::{store_common, store_own};
 use crate::table::within::is_in_range;
-use crate::{Answer, Ask, Kind, Nack, Profile, Value, Verb, Verdict, Work, kind_of};
+use crate::{Answer, Ask, Kind, Nack, Profile, Value, Verb, Verdict, Work};
 use rdm_device::{Argument, Common, Own, Place, is_good};
 use rdm_frame::Body;
 use rdm_frame::standard::SUB_DEVICE_ALL_CALL;
@@ -200,11 +199,9 @@ impl Devices {
         let place = self
             .first_place(sub, Verb::Get)
             .ok_or(Nack::SubDeviceOutOfRange)?;
-        let kind = known(pid, sub == 0, Verb::Get)?;
-        let value = read_argument(kind, Verb::Get, data)?;
-        let way = way_of(kind, Verb::Get);
-        self.suits(sub, kind, Verb::Get, way, &place, &value)?;
-        Ok(answer(sub, kind, Verb::Get, way, Some(place), &value, body))
+        let found = find(pid, sub == 0, Verb::Get)?;
+        let value = self.suited(sub, Verb::Get, found, &place, data)?;
+        Ok(answer(sub, Verb::Get, found, Some(place), &value, body))
     }
 
     /// What a SET answers, or the first reason to refuse it.
@@ -221,40 +218,14 @@ impl Devices {
         let place = self
             .first_place(sub, Verb::Set)
             .ok_or(Nack::SubDeviceOutOfRange)?;
-        let kind = known(pid, sub == 0, Verb::Set)?;
-        let value = read_argument(kind, Verb::Set, data)?;
-        let way = way_of(kind, Verb::Set);
-        self.suits(sub, kind, Verb::Set, way, &place, &value)?;
-        if !way.is_by_job() {
-            self.carry_out(sub, kind, &value);
+        let found = find(pid, sub == 0, Verb::Set)?;
+        let value = self.suited(sub, Verb::Set, found, &place, data)?;
+        if !found.way.is_by_job() {
+            self.carry_out(sub, found.kind, &value);
         }
         // The reply tells what the write left, and the write had to end the borrow of the first place.
         let place = self.first_place(sub, Verb::Set);
-        Ok(answer(sub, kind, Verb::Set, way, place, &value, body))
-    }
-
-    /// Whether a command can be carried out with this value, or the first reason why not.
-    #[inline(always)]
-    fn suits(
-        &self,
-        sub: u16,
-        kind: Kind,
-        verb: Verb,
-        way: Way,
-        place: &Place<'_>,
-        value: &Argument<'_>,
-    ) -> Result<(), Nack>
-        requires first { slice_get (addressed self.now sub verb) 0 ≡ Some place.now }
-        requires way { way ≡ way_of (command_of (pid_of kind) verb) }
-        ensures { result ≡ suits self.now sub (pid_of kind) verb value.now }
-    {
-        if !self.is_in_range_at(sub, kind, verb, place, value) {
-            return Err(Nack::DataOutOfRange);
-        }
-        if is_all_call(sub, verb) && way.is_by_job() {
-            return Err(Nack::SubDeviceOutOfRange);
-        }
-        Ok(())
+        Ok(answer(sub, Verb::Set, found, place, &value, body))
     }
 
     /// Whether a value is in range at each device that a command is for, of which this is the first place.
@@ -329,48 +300,36 @@ impl Devices {
     }
 }
 
-/// The parameter of a PID, at the root or else at a sub-device, which must have it, and it the command.
-#[inline(always)]
-fn known(pid: u16, is_root: bool, verb: Verb) -> Result<Kind, Nack>
-    ensures ok { IfOk result (λ kind. (pid_of kind ≡ pid) × (access (row_of pid) is_root verb ≡ Ok tt)) }
-    ensures err { IfErr result (λ nack. access (row_of pid) is_root verb ≡ Err nack) }
-{
-    let kind = kind_of(pid).ok_or(Nack::UnknownPid)?;
-    check_access(kind, is_root, verb)?;
-    Ok(kind)
-}
-
-/// What an accepted command answers in this way, if this is the first device that it is for.
+/// What an accepted command answers, if this is the first device that it is for.
 #[inline(always)]
 fn answer(
     sub: u16,
-    kind: Kind,
     verb: Verb,
-    way: Way,
+    found: Found,
     place: Option<Place<'_>>,
     value: &Argument<'_>,
     body: &mut Body,
 ) -> Answer
     requires empty { body.old ≡ [] }
-    requires way { way ≡ way_of (command_of (pid_of kind) verb) }
-    ensures answer { verdict_with result body.new ≡ answered way
-        (option_map_or (λ spot. reply (command_of (pid_of kind) verb) spot value.now) place.entry [])
-        (work sub (pid_of kind) verb value.now) (ask_of (byte_or_0 value.now)) }
+    requires way { found.way ≡ way_of (command_of (pid_of found.kind) verb) }
+    ensures answer { verdict_with result body.new ≡ answered found.way
+        (option_map_or (λ spot. reply (command_of (pid_of found.kind) verb) spot value.now) place.entry [])
+        (work sub (pid_of found.kind) verb value.now) (ask_of (byte_or_0 value.now)) }
     ensures job { NamesItsJob result }
     ensures empty { result ≢ Answer.Done → body.new ≡ [] }
 {
     let arg = value.byte().unwrap_or(0);
-    match way {
+    match found.way {
         Way::AtOnce => {
             if let Some(place) = place {
-                reply_into(kind, verb, &place, value, body);
+                reply_into(found.kind, verb, &place, value, body);
             }
             Answer::Done
         }
         Way::ByJob { worker, estimate } => Answer::Starts {
             work: Work {
                 sub,
-                pid: kind.pid(),
+                pid: found.kind.pid(),
                 verb,
                 arg,
             },

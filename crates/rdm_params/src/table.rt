@@ -15,6 +15,7 @@
 
 pub(crate) mod access;
 pub(crate) mod dispatch;
+pub(crate) mod find;
 pub(crate) mod list;
 pub(crate) mod read;
 pub(crate) mod respond;

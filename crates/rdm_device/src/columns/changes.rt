@@ -15,6 +15,7 @@ use arrayvec::ArrayVec;
 
 /// Sets back what FACTORY_DEFAULTS sets back of the values that every device keeps.
 #[tactic(auto, unfolding(crate::specs::Views::State::common_entries, crate::specs::Device::Parameters::common_at_start, crate::specs::Device::Parameters::own_at_start))]
+#[inline(never)]
 pub fn common_set_back(profile: &Profile, common: &mut Common)
     ensures { (v : Value) → IsChanged set_back v profile.now (common_entries common.old) (common_entries common.new) }
 {
@@ -26,6 +27,7 @@ pub fn common_set_back(profile: &Profile, common: &mut Common)
 
 /// Sets back what FACTORY_DEFAULTS sets back of the values that the root alone keeps.
 #[tactic(auto, unfolding(crate::specs::Views::State::own_entries, crate::specs::Device::Parameters::common_at_start, crate::specs::Device::Parameters::own_at_start), using(crate::proofs::Sensors::sensors_stay))]
+#[inline(never)]
 pub fn own_set_back(profile: &Profile, value: &Argument<'_>, own: &mut Own)
     ensures { IsChanged set_back value.now profile.now (own_entries own.old) (own_entries own.new) }
 {
@@ -40,6 +42,7 @@ pub fn own_set_back(profile: &Profile, value: &Argument<'_>, own: &mut Own)
 
 /// Makes the lowest, the highest and the recorded value of the named sensors the present one.
 #[tactic(auto, unfolding(crate::specs::Views::State::own_entries))]
+#[inline(never)]
 pub fn sensors_reset(profile: &Profile, value: &Argument<'_>, own: &mut Own)
     ensures { IsChanged sensors_reset value.now profile.now (own_entries own.old) (own_entries own.new) }
 {
@@ -48,6 +51,7 @@ pub fn sensors_reset(profile: &Profile, value: &Argument<'_>, own: &mut Own)
 
 /// Makes the recorded value of the named sensors the present one.
 #[tactic(auto, unfolding(crate::specs::Views::State::own_entries))]
+#[inline(never)]
 pub fn sensors_recorded(profile: &Profile, value: &Argument<'_>, own: &mut Own)
     ensures { IsChanged sensors_recorded value.now profile.now (own_entries own.old) (own_entries own.new) }
 {

@@ -57,6 +57,7 @@ pub fn a_status(place: &Place<'_>, value: &Argument<'_>) -> bool
 }
 
 /// Whether one of the texts has this status ID.
+#[inline(never)]
 fn has_status(texts: &[StatusText], id: u16) -> bool
     ensures { result ≡ list_any (λ t. t.id == id) texts.now }
 {
@@ -64,7 +65,7 @@ fn has_status(texts: &[StatusText], id: u16) -> bool
 }
 
 /// A language of the profile.
-#[inline]
+#[inline(never)]
 pub fn a_language(place: &Place<'_>, value: &Argument<'_>) -> bool
     ensures { result ≡ a_language word place.now value.now }
 {
@@ -166,6 +167,7 @@ pub fn a_self_test(place: &Place<'_>, value: &Argument<'_>) -> bool
 }
 
 /// Whether one of the tests has this number.
+#[inline(never)]
 fn has_test(tests: &[SelfTest], number: u8) -> bool
     ensures { result ≡ list_any (λ t. t.number == number) tests.now }
 {

@@ -28,6 +28,7 @@ use rdm_frame::Body;
 const PROTOCOL_VERSION: u16 = 0x0100;
 
 /// The meaning of a status ID.
+#[inline(never)]
 pub fn status_text(place: &Place<'_>, value: &Argument<'_>, body: &mut Body)
     requires { body.old ≡ [] }
     ensures { body.new ≡ status_text place.now value.now }
@@ -46,6 +47,7 @@ fn status_of(texts: &[StatusText], id: u16) -> Option<&StatusText>
 
 /// What the device is.
 #[tactic(auto, unfolding(crate::specs::Views::State::common_entries))]
+#[inline(never)]
 pub fn device_info(place: &Place<'_>, body: &mut Body)
     requires { body.old ≡ [] }
     ensures { body.new ≡ device_info place.now }
@@ -76,6 +78,7 @@ fn sensor_count(place: &Place<'_>) -> u8
 
 /// 1 where each parameter that FACTORY_DEFAULTS sets back has the value that it starts with, else 0.
 #[tactic(auto, unfolding(crate::specs::Views::State::common_entries, crate::specs::Views::State::own_entries, crate::specs::Device::Parameters::common_at_start, crate::specs::Device::Parameters::own_at_start), using(crate::proofs::Words::never))]
+#[inline(never)]
 pub fn at_factory_defaults(place: &Place<'_>, body: &mut Body)
     requires { body.old ≡ [] }
     ensures { body.new ≡ at_factory_defaults place.now }
@@ -115,7 +118,7 @@ fn same(stored: &[u8], first: &[u8]) -> bool
 
 /// The current personality, and how many there are.
 #[tactic(auto, unfolding(crate::specs::Views::State::common_entries))]
-#[inline]
+#[inline(never)]
 pub fn personality_of_all(place: &Place<'_>, body: &mut Body)
     requires { body.old ≡ [] }
     ensures { body.new ≡ personality_of_all place.now }
@@ -127,6 +130,7 @@ pub fn personality_of_all(place: &Place<'_>, body: &mut Body)
 }
 
 /// What a personality uses and is called.
+#[inline(never)]
 pub fn personality_described(place: &Place<'_>, value: &Argument<'_>, body: &mut Body)
     requires { body.old ≡ [] }
     ensures { body.new ≡ personality_described place.now value.now }
@@ -141,7 +145,7 @@ pub fn personality_described(place: &Place<'_>, value: &Argument<'_>, body: &mut
 }
 
 /// The DMX512 start address, or FFFF where the device uses no slots.
-#[inline]
+#[inline(never)]
 pub fn start_address(place: &Place<'_>, body: &mut Body)
     requires { body.old ≡ [] }
     ensures { body.new ≡ start_address place.now }
@@ -168,6 +172,7 @@ fn start_number(place: &Place<'_>) -> u16
 }
 
 /// What a slot is called.
+#[inline(never)]
 pub fn slot_described(place: &Place<'_>, value: &Argument<'_>, body: &mut Body)
     requires { body.old ≡ [] }
     ensures { body.new ≡ slot_described place.now value.now }
@@ -180,6 +185,7 @@ pub fn slot_described(place: &Place<'_>, value: &Argument<'_>, body: &mut Body)
 }
 
 /// What a sensor measures.
+#[inline(never)]
 pub fn sensor_described(place: &Place<'_>, value: &Argument<'_>, body: &mut Body)
     requires { body.old ≡ [] }
     ensures { body.new ≡ sensor_described place.now value.now }
@@ -193,6 +199,7 @@ pub fn sensor_described(place: &Place<'_>, value: &Argument<'_>, body: &mut Body
 
 /// What a sensor measured, or FF and eight 00 for all sensors.
 #[tactic(auto, unfolding(crate::specs::Views::State::common_entries, crate::specs::Views::State::own_entries))]
+#[inline(never)]
 pub fn sensor_measured(place: &Place<'_>, value: &Argument<'_>, body: &mut Body)
     requires { body.old ≡ [] }
     ensures { body.new ≡ sensor_measured place.now value.now }
@@ -244,7 +251,7 @@ fn reading(number: u8, measured: Measured) -> Value
 
 /// 1 where the self test that was last switched on isn't off, else 0.
 #[tactic(auto, unfolding(crate::specs::Views::State::common_entries, crate::specs::Views::State::own_entries))]
-#[inline]
+#[inline(never)]
 pub fn self_test_runs(place: &Place<'_>, body: &mut Body)
     requires { body.old ≡ [] }
     ensures { body.new ≡ self_test_runs place.now }
@@ -256,6 +263,7 @@ pub fn self_test_runs(place: &Place<'_>, body: &mut Body)
 }
 
 /// What a self test is called.
+#[inline(never)]
 pub fn self_test_described(place: &Place<'_>, value: &Argument<'_>, body: &mut Body)
     requires { body.old ≡ [] }
     ensures { body.new ≡ self_test_described place.now value.now }

@@ -78,14 +78,30 @@ suits p sub pid verb value = do
   in_range ← check (list_all (λ spot. in_range_of (command_of pid verb) spot value) (addressed p sub verb)) DataOutOfRange
   check (not (is_all_call sub verb && is_slow (command_of pid verb))) SubDeviceOutOfRange
 
--- Rules 6 to 11: the value that a command hands in, or the first reason to refuse it. Rule 9, between the parameter and the
--- range, is that the data have the length of the command.
+-- Rules 9 and 10 at one device: the value that the data hand in there. Rule 9 is that they have the length of the command.
+abbrev pub handed_in : Option Command → Spot → List ℕ → Result Value Nack
+handed_in command spot bytes = do
+  value ← read command bytes
+  in_range ← check (in_range_of command spot value) DataOutOfRange
+  Ok value
+
+-- the value, if the devices that are addressed take it
+abbrev pub taken : Parameters → ℕ → ℕ → Verb → Value → Result Value Nack
+taken p sub pid verb value = do
+  fits ← suits p sub pid verb value
+  Ok value
+
+-- Rules 9 to 11: the value that the data hand in at all devices that are addressed.
+abbrev pub suited : Parameters → ℕ → ℕ → Verb → List ℕ → Result Value Nack
+suited p sub pid verb bytes = do
+  value ← read (command_of pid verb) bytes
+  taken p sub pid verb value
+
+-- Rules 6 to 11: the value that a command hands in, or the first reason to refuse it.
 unfoldable pub accepted : Parameters → ℕ → ℕ → Verb → List ℕ → Result Value Nack
 accepted p sub pid verb bytes = do
   found ← known p sub pid verb
-  value ← read (command_of pid verb) bytes
-  fits ← suits p sub pid verb value
-  Ok value
+  suited p sub pid verb bytes
 
 -- Whether a value is in the range of a command at each device that it addresses; it is not where there is none, or
 -- where these have no such parameter or command.

@@ -10,7 +10,7 @@ use Rattle.rdm_device.specs.declared.value.Value.{Value}
 use Rattle.rdm_device.specs.Columns.Changes.{Change}
 use Rattle.rdm_device.specs.Device.Map.{Entry, update}
 use Rattle.rdm_device.specs.Device.Spot.{Spot}
-use Rattle.rdm_device.specs.Columns.Forms.{Form, has_length, value_in}
+use Rattle.rdm_device.specs.Columns.Forms.{Form, nothing, has_length, value_in}
 use Rattle.rdm_params.specs.Table.Rows.{Row, Command, command_in}
 
 -- whether the device has the parameter, and the parameter the command
@@ -29,6 +29,16 @@ read_as form bytes = if has_length form (length bytes) then Ok (value_in form by
 abbrev pub read : Option Command → List ℕ → Result Value Nack
 read None bytes = Err FormatError
 read (Some c) bytes = read_as c.form bytes
+
+-- whether a form is that of a command that hands in no data
+abbrev pub is_nothing : Form → Bool
+is_nothing nothing = true
+is_nothing _ = false
+
+-- whether there is the command, and it hands in no data
+abbrev pub is_bare : Option Command → Bool
+is_bare None = false
+is_bare (Some c) = is_nothing c.form
 
 -- the way in which the command is answered
 abbrev pub way_of : Option Command → Way

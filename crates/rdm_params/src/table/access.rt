@@ -30,6 +30,8 @@ macro_rules! at_place {
     (root $is_root:ident) => { $is_root };
 }
 
+pub(crate) use at_place;
+
 macro_rules! has_command {
     (none) => { false };
     ($command:tt) => { true };

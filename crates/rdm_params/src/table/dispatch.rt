@@ -32,6 +32,8 @@ macro_rules! way_command {
     ($command:tt) => { Way::AtOnce };
 }
 
+pub(crate) use way_command;
+
 /// The way in which the command is answered.
 #[tactic(auto, unfolding(crate::specs::Table::Rows::row_of, crate::specs::Table::Rows::table))]
 pub(crate) fn way_of(kind: Kind, verb: Verb) -> Way

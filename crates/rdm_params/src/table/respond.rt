@@ -1,6 +1,7 @@
 //! What a command answers.
 
-ghost use Rattle.std.specs.Prelude.{◌≡◌, []};
+ghost use Rattle.std.specs.Prelude.{◌≡◌, [], ◌∷◌, ◌++◌};
+ghost use Rattle.rdm_device.specs.Device.Values.{word_slots, long_slots};
 ghost use Rattle.rdm_params.specs.Table.Kinds.{pid_of};
 ghost use Rattle.rdm_params.specs.Table.Rows.{row_of, command_in};
 ghost use Rattle.rdm_params.specs.Table.Uses.{reply};
@@ -10,7 +11,7 @@ use crate::table::rows;
 use crate::{Kind, Verb};
 use rdm_device::columns::replies;
 use rdm_device::{Argument, Place};
-use rdm_frame::Body;
+use rdm_frame::{Body, Text};
 
 macro_rules! reply_rows {
     (($kind:ident $verb:ident $place:ident $value:ident $body:ident) $(($name:ident $pid:tt $at:ident $get:tt $set:tt))*) => {
@@ -51,13 +52,10 @@ macro_rules! source {
 
 macro_rules! typed {
     (byte $body:ident ($field:expr)) => { $body.append(&[$field]) };
-    (word $body:ident ($field:expr)) => { $body.append(&$field.to_be_bytes()) };
-    (long $body:ident ($field:expr)) => { $body.append(&$field.to_be_bytes()) };
-    (preset $body:ident ($field:expr)) => {{
-        $body.append(&$field.0.to_be_bytes());
-        $body.append(&[$field.1])
-    }};
-    (text $body:ident ($field:expr)) => { $body.append($field.as_slice()) };
+    (word $body:ident ($field:expr)) => { put_word($body, $field) };
+    (long $body:ident ($field:expr)) => { put_long($body, $field) };
+    (preset $body:ident ($field:expr)) => { put_preset($body, $field) };
+    (text $body:ident ($field:expr)) => { put_text($body, &$field) };
 }
 
 /// Writes what a command answers at a device, which has carried it out, where nothing is yet.
@@ -73,4 +71,43 @@ pub(crate) fn reply_into(
     ensures { body.new ≡ reply (command_in (row_of (pid_of kind)) verb) place.now value.now }
 {
     rows!(reply_rows!(kind verb place value body))
+}
+
+// What follows are calls: if their bytes lay among those of `reply_into`, each reply would clear them all first.
+
+/// Writes a 16-bit number, most significant byte first, where nothing is yet.
+#[inline(never)]
+fn put_word(body: &mut Body, number: u16)
+    requires { body.old ≡ [] }
+    ensures { body.new ≡ word_slots number }
+{
+    body.append(&number.to_be_bytes());
+}
+
+/// Writes a 32-bit number, most significant byte first, where nothing is yet.
+#[inline(never)]
+fn put_long(body: &mut Body, number: u32)
+    requires { body.old ≡ [] }
+    ensures { body.new ≡ long_slots number }
+{
+    body.append(&number.to_be_bytes());
+}
+
+/// Writes a preset and its level, where nothing is yet.
+#[inline(never)]
+fn put_preset(body: &mut Body, preset: (u16, u8))
+    requires { body.old ≡ [] }
+    ensures { body.new ≡ word_slots preset.0 ++ preset.1 ∷ [] }
+{
+    body.append(&preset.0.to_be_bytes());
+    body.append(&[preset.1]);
+}
+
+/// Writes a text, where nothing is yet.
+#[inline(never)]
+fn put_text(body: &mut Body, text: &Text)
+    requires { body.old ≡ [] }
+    ensures { body.new ≡ text.now }
+{
+    body.append(text.as_slice());
 }

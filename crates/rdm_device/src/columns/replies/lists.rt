@@ -10,6 +10,7 @@ use crate::device::footprint::footprint;
 use rdm_frame::Body;
 
 /// The codes of the languages.
+#[inline(never)]
 pub fn languages(place: &Place<'_>, body: &mut Body)
     requires { body.old ≡ [] }
     ensures { body.new ≡ languages place.now }
@@ -29,6 +30,7 @@ fn write_codes(languages: &[u16], list: &mut Body)
 }
 
 /// Of each slot that the current personality uses: the offset, the type and the label ID.
+#[inline(never)]
 pub fn slot_infos(place: &Place<'_>, body: &mut Body)
     requires { body.old ≡ [] }
     ensures { body.new ≡ slot_infos 0 (used_slots place.now) }
@@ -51,6 +53,7 @@ fn write_infos(slots: &[Slot], list: &mut Body)
 }
 
 /// Of each slot that the current personality uses: the offset and the value when none is received.
+#[inline(never)]
 pub fn slot_defaults(place: &Place<'_>, body: &mut Body)
     requires { body.old ≡ [] }
     ensures { body.new ≡ slot_defaults 0 (used_slots place.now) }

@@ -1,0 +1,83 @@
+//! What commands hand in.
+
+ghost use Rattle.std.specs.Prelude.{Some, ◌≡◌, slice_get, true};
+ghost use Rattle.rdm_params.specs.Commands.Commands.{suited, taken, handed_in, addressed, command_of, is_all_call};
+ghost use Rattle.rdm_params.specs.Table.Kinds.{pid_of};
+ghost use Rattle.rdm_params.specs.Table.Uses.{way_of, is_bare};
+
+use super::{Devices, is_all_call};
+use crate::commands::sub_devices::all_in_range;
+use crate::table::find::Found;
+use crate::table::read::read_argument;
+use crate::table::within::is_in_range;
+use crate::{Nack, Verb};
+use rdm_device::columns::forms;
+use rdm_device::{Argument, Place};
+
+impl Devices {
+    /// What the data of a command hand in, if the devices that it is for can take that, or the first reason why not.
+    #[inline(always)]
+    #[tactic(auto, using(crate::proofs::Suited::one_device, crate::proofs::Suited::refused_first, crate::proofs::Suited::handed_first))]
+    pub(super) fn suited<'a>(
+        &self,
+        sub: u16,
+        verb: Verb,
+        found: Found,
+        place: &Place<'_>,
+        data: &'a [u8],
+    ) -> Result<Argument<'a>, Nack>
+        requires first { slice_get (addressed self.now sub verb) 0 ≡ Some place.now }
+        requires way { found.way ≡ way_of (command_of (pid_of found.kind) verb) }
+        requires bare { found.is_bare ≡ is_bare (command_of (pid_of found.kind) verb) }
+        ensures { result ≡ suited self.now sub (pid_of found.kind) verb data.now }
+    {
+        let value = handed_in(verb, found, place, data)?;
+        if is_all_call(sub, verb) {
+            return self.taken_by_each(sub, verb, found, value);
+        }
+        Ok(value)
+    }
+
+    /// A value that every sub-device can take at once, or the first reason why not.
+    fn taken_by_each<'a>(
+        &self,
+        sub: u16,
+        verb: Verb,
+        found: Found,
+        value: Argument<'a>,
+    ) -> Result<Argument<'a>, Nack>
+        requires all { is_all_call sub verb ≡ true }
+        requires way { found.way ≡ way_of (command_of (pid_of found.kind) verb) }
+        ensures { result ≡ taken self.now sub (pid_of found.kind) verb value.entry }
+    {
+        if !all_in_range(&self.profile, found.kind, verb, &self.subs, &value) {
+            return Err(Nack::DataOutOfRange);
+        }
+        if found.way.is_by_job() {
+            return Err(Nack::SubDeviceOutOfRange);
+        }
+        Ok(value)
+    }
+}
+
+/// What the data of a command hand in, if that is in range at the device.
+#[inline(always)]
+#[tactic(auto, using(crate::proofs::Suited::bare_command))]
+fn handed_in<'a>(
+    verb: Verb,
+    found: Found,
+    place: &Place<'_>,
+    data: &'a [u8],
+) -> Result<Argument<'a>, Nack>
+    requires { found.is_bare ≡ is_bare (command_of (pid_of found.kind) verb) }
+    ensures { result ≡ handed_in (command_of (pid_of found.kind) verb) place.now data.now }
+{
+    if found.is_bare {
+        return forms::nothing(data).ok_or(Nack::FormatError);
+    }
+    let value = read_argument(found.kind, verb, data)?;
+    if !is_in_range(found.kind, verb, place, &value) {
+        return Err(Nack::DataOutOfRange);
+    }
+    Ok(value)
+}

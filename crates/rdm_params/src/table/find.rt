@@ -1,0 +1,68 @@
+//! The parameter of a PID, which the device must have, and which must have the command.
+
+ghost use Rattle.std.specs.Prelude.{◌≡◌, IfOk, IfErr, Ok, Err};
+ghost use Rattle.rdm_params.specs.Commands.Commands.{command_of};
+ghost use Rattle.rdm_params.specs.Table.Kinds.{pid_of};
+ghost use Rattle.rdm_params.specs.Table.Rows.{row_of};
+ghost use Rattle.rdm_params.specs.Table.Uses.{access, way_of, is_bare};
+
+use crate::slow::Way;
+use crate::table::access::at_place;
+use crate::table::dispatch::way_command;
+use crate::table::rows;
+use crate::{Kind, Nack, Verb};
+
+/// A command that a device has.
+#[derive(Clone, Copy)]
+pub(crate) struct Found {
+    /// The parameter.
+    pub(crate) kind: Kind,
+    /// How the command is answered.
+    pub(crate) way: Way,
+    /// Whether it hands in no data, and so has no range to ask about.
+    pub(crate) is_bare: bool,
+}
+
+macro_rules! found_rows {
+    (($pid:ident $is_root:ident $verb:ident) $(($name:ident $number:tt $at:ident $get:tt $set:tt))*) => {
+        match $pid {
+            $($number => {
+                if !at_place!($at $is_root) {
+                    return Err(Nack::UnknownPid);
+                }
+                match $verb {
+                    Verb::Get => found_command!($name $get),
+                    Verb::Set => found_command!($name $set),
+                }
+            })*
+            _ => Err(Nack::UnknownPid),
+        }
+    };
+}
+
+macro_rules! found_command {
+    ($name:ident none) => { Err(Nack::UnsupportedCommandClass) };
+    ($name:ident $command:tt) => {
+        Ok(Found { kind: Kind::$name, way: way_command!($command), is_bare: is_bare!($command) })
+    };
+}
+
+macro_rules! is_bare {
+    ((reads $source:tt)) => { true };
+    (($command:ident nothing (any) $($rest:tt)*)) => { true };
+    ($command:tt) => { false };
+}
+
+/// The command that the root, or else a sub-device, has for a PID, or the first reason to refuse it.
+// One look at the table for the parameter, the right to it, the way and the form.
+#[inline(always)]
+#[tactic(auto, unfolding(crate::specs::Table::Rows::row_of, crate::specs::Table::Rows::table))]
+pub(crate) fn find(pid: u16, is_root: bool, verb: Verb) -> Result<Found, Nack>
+    ensures kind { IfOk result (λ found. pid_of found.kind ≡ pid) }
+    ensures way { IfOk result (λ found. found.way ≡ way_of (command_of pid verb)) }
+    ensures bare { IfOk result (λ found. found.is_bare ≡ is_bare (command_of pid verb)) }
+    ensures ok { IfOk result (λ found. access (row_of pid) is_root verb ≡ Ok tt) }
+    ensures err { IfErr result (λ nack. access (row_of pid) is_root verb ≡ Err nack) }
+{
+    rows!(found_rows!(pid is_root verb))
+}
