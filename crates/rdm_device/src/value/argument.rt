@@ -2,7 +2,7 @@
 
 ghost use Rattle.std.specs.Prelude.{◌≡◌, ◌≤◌, length, Some, None, if◌then◌else◌};
 ghost use Rattle.rdm_device.specs.declared.value.Value.TheVariants.{Nothing, Byte, Word, Label};
-ghost use Rattle.rdm_device.specs.Columns.Forms.{nothing, has_form, is_of_a_form};
+ghost use Rattle.rdm_device.specs.Columns.Forms.{nothing, label, has_form, is_of_a_form};
 ghost use Rattle.rdm_device.specs.Device.Values.{byte_in, word_in, long_in, preset_in, label_in};
 
 use crate::Value;
@@ -126,6 +126,14 @@ impl<'a> Argument<'a> {
         ensures { result ≡ has_form nothing self.now }
     {
         matches!(&self.handed, Handed::Nothing)
+    }
+
+    /// Whether the value is a text.
+    #[inline]
+    pub fn is_label(&self) -> bool
+        ensures { result ≡ has_form label self.now }
+    {
+        matches!(&self.handed, Handed::Label(_))
     }
 
     /// The 8-bit number, if the value is one.

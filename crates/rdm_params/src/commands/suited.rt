@@ -1,9 +1,9 @@
 //! What commands hand in.
 
-ghost use Rattle.std.specs.Prelude.{Some, ◌≡◌, slice_get, true};
+ghost use Rattle.std.specs.Prelude.{Some, ◌≡◌, ◌≤◌, length, slice_get, true, IfSome};
 ghost use Rattle.rdm_params.specs.Commands.Commands.{suited, taken, handed_in, addressed, command_of, is_all_call};
 ghost use Rattle.rdm_params.specs.Table.Kinds.{pid_of};
-ghost use Rattle.rdm_params.specs.Table.Uses.{way_of, is_bare};
+ghost use Rattle.rdm_params.specs.Table.Uses.{way_of, is_bare, in_range_of};
 
 use super::{Devices, is_all_call};
 use crate::commands::sub_devices::all_in_range;
@@ -38,7 +38,7 @@ impl Devices {
         Ok(value)
     }
 
-    /// A value that every sub-device can take at once, or the first reason why not.
+    /// A value that every sub-device can take at once, if the first can, or the first reason why not.
     fn taken_by_each<'a>(
         &self,
         sub: u16,
@@ -47,10 +47,13 @@ impl Devices {
         value: Argument<'a>,
     ) -> Result<Argument<'a>, Nack>
         requires all { is_all_call sub verb ≡ true }
+        requires some { 1 ≤ length self.now.subs }
+        requires first { IfSome (slice_get (addressed self.now sub verb) 0) (λ spot. in_range_of (command_of (pid_of found.kind) verb) spot value ≡ true) }
         requires way { found.way ≡ way_of (command_of (pid_of found.kind) verb) }
         ensures { result ≡ taken self.now sub (pid_of found.kind) verb value.entry }
     {
-        if !all_in_range(&self.profile, found.kind, verb, &self.subs, &value) {
+        // The first has been asked.
+        if !all_in_range(&self.profile, found.kind, verb, &self.subs[1..], &value) {
             return Err(Nack::DataOutOfRange);
         }
         if found.way.is_by_job() {

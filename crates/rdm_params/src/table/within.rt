@@ -25,6 +25,7 @@ macro_rules! range_command {
     (none $place:ident $value:ident) => { false };
     ((reads $source:tt) $place:ident $value:ident) => { $value.is_nothing() };
     (($command:ident nothing (any) $($rest:tt)*) $place:ident $value:ident) => { $value.is_nothing() };
+    (($command:ident label (any) $($rest:tt)*) $place:ident $value:ident) => { $value.is_label() };
     (($command:ident $form:ident (any) $($rest:tt)*) $place:ident $value:ident) => { $value.$form().is_some() };
     (($command:ident $form:ident ($range:ident $($limit:literal)?) $($rest:tt)*) $place:ident $value:ident) => {
         ranges::$range($place, $value $(, $limit)?)
