@@ -39,6 +39,8 @@ impl Devices {
     }
 
     /// A value that every sub-device can take at once, if the first can, or the first reason why not.
+    // A call, so that the other commands don't make room for it.
+    #[inline(never)]
     fn taken_by_each<'a>(
         &self,
         sub: u16,
