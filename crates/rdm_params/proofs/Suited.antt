@@ -1,5 +1,5 @@
 -- What a command hands in, at the devices that it addresses.
-use Rattle.std.proofs.Common.{◌≡◌, ℕ, ◌-◌, ◌==◌, ◌&&◌, ◌||◌, not, Bool, true, false, cond, List, [], ◌∷◌, length, map, Option, Some, None, Result, Ok, Err, refl, sym, ap, subst}
+use Rattle.std.proofs.Common.{◌≡◌, ℕ, ◌-◌, ◌==◌, ◌&&◌, ◌||◌, not, Bool, true, false, cond, List, [], ◌∷◌, length, map, Option, Some, None, Result, Ok, Err, refl, sym, ap, subst, ◌∙◌}
 use Rattle.std.specs.Prelude.{slice_get, option_to_list}
 use Rattle.std.specs.List.{list_all}
 use Rattle.rdm_params.specs.declared.kind.Verb.{Verb}
@@ -7,7 +7,7 @@ use Rattle.rdm_params.specs.declared.nack.Nack.{Nack}
 use Rattle.rdm_params.specs.declared.nack.Nack.TheVariants.{DataOutOfRange, SubDeviceOutOfRange, FormatError}
 use Rattle.rdm_device.specs.declared.value.Value.{Value}
 use Rattle.rdm_device.specs.declared.value.Value.TheVariants.{Nothing}
-use Rattle.rdm_params.specs.Commands.Commands.{command_of, addressed, root_spot, sub_spot, is_all_call, suited, taken, handed_in, check, ◌>>=◌}
+use Rattle.rdm_params.specs.Commands.Commands.{command_of, addressed, root_spot, sub_spot, is_all_call, suited, suits, taken, handed_in, check, ◌>>=◌}
 use Rattle.rdm_device.specs.Columns.Forms.{Form, nothing, byte, word, long, preset, label, has_length}
 use Rattle.rdm_device.specs.Columns.Ranges.{Range}
 use Rattle.rdm_device.specs.Device.Map.{Entry}
@@ -122,6 +122,20 @@ handed_at : (r : Result Value Nack) (test : Value → Bool) (v : Value) → (r >
 handed_at (Err n) test v e = e
 handed_at (Ok w) test v e = handed_here (test w) w v e
 
-pub handed_first : (p : Parameters) (sub pid : ℕ) (verb : Verb) (spot : Spot) (bytes : List ℕ) (v : Value) → handed_in (command_of pid verb) spot bytes ≡ Ok v → suited p sub pid verb bytes ≡ taken p sub pid verb v
+handed_first : (p : Parameters) (sub pid : ℕ) (verb : Verb) (spot : Spot) (bytes : List ℕ) (v : Value) → handed_in (command_of pid verb) spot bytes ≡ Ok v → suited p sub pid verb bytes ≡ taken p sub pid verb v
 handed_first p sub pid verb spot bytes v e =
     ap (λ (r : Result Value Nack). r >>= taken p sub pid verb) (handed_at (read (command_of pid verb) bytes) (in_range_of (command_of pid verb) spot) v e)
+
+refused : (r : Result (Unit {0}) Nack) (v : Value) (nack : Nack) → r ≡ Err nack → (r >>= (λ u. Ok v)) ≡ Err nack
+refused (Ok u) v nack e = absurd cc
+refused (Err n) v nack e = cc
+
+fits : (r : Result (Unit {0}) Nack) (v : Value) (u : Unit {0}) → r ≡ Ok u → (r >>= (λ u. Ok v)) ≡ Ok v
+fits (Ok w) v u e = refl
+fits (Err n) v u e = absurd cc
+
+pub refused_later : (p : Parameters) (sub pid : ℕ) (verb : Verb) (spot : Spot) (bytes : List ℕ) (v : Value) (nack : Nack) → handed_in (command_of pid verb) spot bytes ≡ Ok v → suits p sub pid verb v ≡ Err nack → suited p sub pid verb bytes ≡ Err nack
+refused_later p sub pid verb spot bytes v nack e unfit = handed_first p sub pid verb spot bytes v e ∙ refused (suits p sub pid verb v) v nack unfit
+
+pub taken_by_all : (p : Parameters) (sub pid : ℕ) (verb : Verb) (spot : Spot) (bytes : List ℕ) (v : Value) (u : Unit {0}) → handed_in (command_of pid verb) spot bytes ≡ Ok v → suits p sub pid verb v ≡ Ok u → suited p sub pid verb bytes ≡ Ok v
+taken_by_all p sub pid verb spot bytes v u e fit = handed_first p sub pid verb spot bytes v e ∙ fits (suits p sub pid verb v) v u fit

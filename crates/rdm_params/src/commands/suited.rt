@@ -1,7 +1,7 @@
 //! What commands hand in.
 
 ghost use Rattle.std.specs.Prelude.{Some, ◌≡◌, ◌≤◌, length, slice_get, true, IfSome};
-ghost use Rattle.rdm_params.specs.Commands.Commands.{suited, taken, handed_in, addressed, command_of, is_all_call};
+ghost use Rattle.rdm_params.specs.Commands.Commands.{suited, suits, handed_in, addressed, command_of, is_all_call};
 ghost use Rattle.rdm_params.specs.Table.Kinds.{pid_of};
 ghost use Rattle.rdm_params.specs.Table.Uses.{way_of, is_bare, in_range_of};
 
@@ -17,7 +17,7 @@ use rdm_device::{Argument, Place};
 impl Devices {
     /// What the data of a command hand in, if the devices that it is for can take that, or the first reason why not.
     #[inline(always)]
-    #[tactic(auto, using(crate::proofs::Suited::one_device, crate::proofs::Suited::refused_first, crate::proofs::Suited::handed_first))]
+    #[tactic(auto, using(crate::proofs::Suited::one_device, crate::proofs::Suited::refused_first, crate::proofs::Suited::refused_later, crate::proofs::Suited::taken_by_all))]
     pub(super) fn suited<'a>(
         &self,
         sub: u16,
@@ -33,35 +33,35 @@ impl Devices {
     {
         let value = handed_in(verb, found, place, data)?;
         if is_all_call(sub, verb) {
-            return self.taken_by_each(sub, verb, found, value);
+            self.suits_each(sub, verb, found, &value)?;
         }
         Ok(value)
     }
 
-    /// A value that every sub-device can take at once, if the first can, or the first reason why not.
+    /// Whether every sub-device can take a value at once, if the first can, or the first reason why not.
     // A call, so that the other commands don't make room for it.
     #[inline(never)]
-    fn taken_by_each<'a>(
+    fn suits_each(
         &self,
         sub: u16,
         verb: Verb,
         found: Found,
-        value: Argument<'a>,
-    ) -> Result<Argument<'a>, Nack>
+        value: &Argument<'_>,
+    ) -> Result<(), Nack>
         requires all { is_all_call sub verb ≡ true }
         requires some { 1 ≤ length self.now.subs }
-        requires first { IfSome (slice_get (addressed self.now sub verb) 0) (λ spot. in_range_of (command_of (pid_of found.kind) verb) spot value ≡ true) }
+        requires first { IfSome (slice_get (addressed self.now sub verb) 0) (λ spot. in_range_of (command_of (pid_of found.kind) verb) spot value.now ≡ true) }
         requires way { found.way ≡ way_of (command_of (pid_of found.kind) verb) }
-        ensures { result ≡ taken self.now sub (pid_of found.kind) verb value.entry }
+        ensures { result ≡ suits self.now sub (pid_of found.kind) verb value.now }
     {
         // The first has been asked.
-        if !all_in_range(&self.profile, found.kind, verb, &self.subs[1..], &value) {
+        if !all_in_range(&self.profile, found.kind, verb, &self.subs[1..], value) {
             return Err(Nack::DataOutOfRange);
         }
         if found.way.is_by_job() {
             return Err(Nack::SubDeviceOutOfRange);
         }
-        Ok(value)
+        Ok(())
     }
 }
 
