@@ -45,8 +45,8 @@ fn root() -> Unit
     ensures { result ≡ demo_root }
 {
     let mut personalities = ArrayVec::new();
-    personalities.push(personality(3, b"Basic"));
-    personalities.push(personality(5, b"Fine"));
+    personalities.push(Personality::of(3, b"Basic"));
+    personalities.push(Personality::of(5, b"Fine"));
     Unit {
         model: 0x0011,
         category: 0x0102,
@@ -65,7 +65,7 @@ fn sub() -> Unit
     ensures { result ≡ demo_sub }
 {
     let mut personalities = ArrayVec::new();
-    personalities.push(personality(1, b"Cell"));
+    personalities.push(Personality::of(1, b"Cell"));
     Unit {
         model: 0x0012,
         category: 0x0102,
@@ -84,11 +84,11 @@ fn slots() -> ArrayVec<Slot, 46>
     ensures { result.items ≡ demo_slots }
 {
     let mut slots = ArrayVec::new();
-    slots.push(slot(0x00, 0x0001, 0x00, b"Intensity"));
-    slots.push(slot(0x00, 0x0101, 0x80, b"Pan"));
-    slots.push(slot(0x00, 0x0102, 0x80, b"Tilt"));
-    slots.push(slot(0x01, 0x0001, 0x00, b"Pan fine"));
-    slots.push(slot(0x01, 0x0002, 0x00, b"Tilt fine"));
+    slots.push(Slot::of(0x00, 0x0001, 0x00, b"Intensity"));
+    slots.push(Slot::of(0x00, 0x0101, 0x80, b"Pan"));
+    slots.push(Slot::of(0x00, 0x0102, 0x80, b"Tilt"));
+    slots.push(Slot::of(0x01, 0x0001, 0x00, b"Pan fine"));
+    slots.push(Slot::of(0x01, 0x0002, 0x00, b"Tilt fine"));
     slots
 }
 
@@ -149,26 +149,4 @@ fn status_texts() -> ArrayVec<StatusText, 8>
         text: text(b"Self test failed"),
     });
     texts
-}
-
-fn personality(footprint: u16, name: &[u8]) -> Personality
-    requires { length name.now ≤ 32 }
-    ensures { result ≡ record { footprint = footprint; name = name.now } }
-{
-    Personality {
-        footprint,
-        name: text(name),
-    }
-}
-
-fn slot(kind: u8, label: u16, value: u8, name: &[u8]) -> Slot
-    requires { length name.now ≤ 32 }
-    ensures { result ≡ record { kind = kind; label = label; value = value; name = name.now } }
-{
-    Slot {
-        kind,
-        label,
-        value,
-        name: text(name),
-    }
 }
