@@ -3,8 +3,6 @@
 pub(crate) mod argument;
 pub(crate) mod writing;
 
-ghost use Rattle.std.specs.Prelude.{◌≡◌, ◌≤◌, length};
-
 use crate::SensorDef;
 use rdm_frame::{Body, Text};
 
@@ -98,14 +96,4 @@ pub enum Value {
     },
     /// A list, as its bytes.
     Block(Body),
-}
-
-/// The text of these bytes.
-pub(crate) fn text(bytes: &[u8]) -> Text
-    requires { length bytes.now ≤ 32 }
-    ensures { result ≡ bytes.now }
-{
-    let mut text = Text::new();
-    text.append(bytes);
-    text
 }

@@ -22,6 +22,7 @@ use Rattle.rdm_device.specs.Device.Measuring.{measured, measured_by}
 use Rattle.rdm_device.specs.Device.Parameters.{Parameters}
 use Rattle.rdm_params.specs.Table.Rows.{Row, table, row_of, row_in, command_in}
 use Rattle.rdm_params.specs.Table.Uses.{is_slow}
+use Rattle.rdm_params.proofs.Bools.{both_true, is_not}
 use Rattle.rdm_params.proofs.OtherDevices.{unchanged, carried}
 use Rattle.rdm_params.proofs.OwnKeys.{Keeps, IsApart, lookup-update, not_either, carried_keeps, apart_test}
 use Rattle.rdm_params.proofs.Rows.{found}
@@ -90,11 +91,6 @@ failed_changes_nothing p w severity id v1 v2 = refl
 abbrev SlowFacts : Row → Type 0
 SlowFacts r = (is_slow (command_in (Some r) Get) ≡ true → r.pid ≡ 0x0201) × (is_slow (command_in (Some r) Set) ≡ true → keys_written r.pid ≡ r.pid ∷ [])
 
-both_true : (a b : Bool) → (a && b) ≡ true → (a ≡ true) × (b ≡ true)
-both_true true true h = (refl, refl)
-both_true true false h = absurd cc
-both_true false b h = absurd cc
-
 -- the same as a test
 abbrev passes : Row → Bool
 passes r =
@@ -104,10 +100,6 @@ passes r =
 slow_or : (slow b : Bool) → (not slow || b) ≡ true → slow ≡ true → b ≡ true
 slow_or true b e slow = e
 slow_or false b e slow = absurd cc
-
-is_not : (b : Bool) → not b ≡ true → b ≡ false
-is_not true e = absurd cc
-is_not false e = refl
 
 own_key : (pid : ℕ) → (not (pid == 0x0090) && not (pid == 0x0202)) ≡ true → keys_written pid ≡ pid ∷ []
 own_key pid e =

@@ -1,3 +1,4 @@
+pub mod Bools
 pub mod Endings
 pub mod Fetches
 pub mod OtherDevices

@@ -12,14 +12,16 @@ use Rattle.rdm_device.specs.Columns.Forms.{is_of_a_form}
 use Rattle.rdm_params.specs.Table.Kinds.{pid_of}
 use Rattle.rdm_device.specs.Device.Parameters.{Parameters}
 use Rattle.rdm_device.specs.Device.Spot.{Spot}
-use Rattle.rdm_params.specs.Table.Rows.{Row, table, row_in, row_of, command_in}
+use Rattle.rdm_params.specs.Table.Rows.{Command, table, row_of}
 use Rattle.rdm_params.specs.Table.Uses.{access, in_range_of}
+use Rattle.rdm_params.proofs.Bools.{is_not}
+use Rattle.rdm_params.proofs.Rows.{holds}
 
--- neither command of a row has the value in its range
-abbrev refuses : Spot → Value → Row → Bool
-refuses spot v r = not (in_range_of r.get spot v || in_range_of r.set spot v)
+-- the command doesn't have the value in its range
+abbrev refuses : Spot → Value → Option Command → Bool
+refuses spot v command = not (in_range_of command spot v)
 
-rows_refuse : (spot : Spot) (v : Value) → is_of_a_form v ≡ false → list_all (refuses spot v) table ≡ true
+rows_refuse : (spot : Spot) (v : Value) → is_of_a_form v ≡ false → list_all (λ r. refuses spot v r.get && refuses spot v r.set) table ≡ true
 unfolding table
 rows_refuse spot (Pair m n) other = refl
 rows_refuse spot (Named number name) other = refl
@@ -31,34 +33,9 @@ rows_refuse spot (Info protocol model category software footprint personality pe
 rows_refuse spot (Block bytes) other = refl
 rows_refuse spot _ other = absurd cc
 
-neither : (a b : Bool) → not (a || b) ≡ true → (a ≡ false) × (b ≡ false)
-neither true b h = absurd cc
-neither false true h = absurd cc
-neither false false h = (refl, refl)
-
-both : (a b : Bool) → (a && b) ≡ true → (a ≡ true) × (b ≡ true)
-both true true h = (refl, refl)
-both true false h = absurd cc
-both false b h = absurd cc
-
-row_refuses : (r : Row) (verb : Verb) (spot : Spot) (v : Value) → refuses spot v r ≡ true → in_range_of (command_in (Some r) verb) spot v ≡ false
-row_refuses r Get spot v h = (neither (in_range_of r.get spot v) (in_range_of r.set spot v) h).0
-row_refuses r Set spot v h = (neither (in_range_of r.get spot v) (in_range_of r.set spot v) h).1
-
--- the row that is found is one of them
-either_refuses : (verb : Verb) (spot : Spot) (v : Value) (here : Bool) (r : Row) (later : Option Row) → in_range_of (command_in (Some r) verb) spot v ≡ false → in_range_of (command_in later verb) spot v ≡ false → in_range_of (command_in (cond here (Some r) later) verb) spot v ≡ false
-either_refuses verb spot v true r later a b = a
-either_refuses verb spot v false r later a b = b
-
-found_refuses : (rows : List Row) (pid : ℕ) (verb : Verb) (spot : Spot) (v : Value) → list_all (refuses spot v) rows ≡ true → in_range_of (command_in (row_in rows pid) verb) spot v ≡ false
-found_refuses [] pid verb spot v all = refl
-found_refuses (r ∷ rows) pid verb spot v all =
-    let parts = both (refuses spot v r) (list_all (refuses spot v) rows) all in
-    either_refuses verb spot v (r.pid == pid) r (row_in rows pid) (row_refuses r verb spot v parts.0) (found_refuses rows pid verb spot v parts.1)
-
 command_refuses : (pid : ℕ) (verb : Verb) (spot : Spot) (v : Value) → is_of_a_form v ≡ false → in_range_of (command_of pid verb) spot v ≡ false
 unfolding row_of
-command_refuses pid verb spot v other = found_refuses table pid verb spot v (rows_refuse spot v other)
+command_refuses pid verb spot v other = is_not (in_range_of (command_of pid verb) spot v) (holds (refuses spot v) table pid verb refl (rows_refuse spot v other))
 
 never_all : (a : Bool) (test : Spot → Bool) (spots : List Spot) → ((spot : Spot) → test spot ≡ false) → ((is_some_device spots && a) && list_all test spots) ≡ false
 never_all a test [] none = refl

@@ -17,14 +17,10 @@ use Rattle.rdm_device.specs.Device.Spot.{Spot}
 use Rattle.rdm_params.specs.Table.Rows.{Row, table, row_of, row_in, command_in}
 use Rattle.rdm_params.specs.Table.Uses.{is_slow, change}
 use Rattle.rdm_device.specs.Device.Values.{bytes_of, byte_or_0}
+use Rattle.rdm_params.proofs.Bools.{both_true}
 use Rattle.rdm_params.proofs.Rows.{found}
 
 -- ---- changes and lookups
-
-both_true : (a b : Bool) → (a && b) ≡ true → (a ≡ true) × (b ≡ true)
-both_true true true h = (refl, refl)
-both_true true false h = absurd cc
-both_true false b h = absurd cc
 
 -- an entry of this PID keeps its bytes
 abbrev pub Keeps : ℕ → (Entry → List ℕ) → Type 0

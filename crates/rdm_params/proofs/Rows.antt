@@ -5,6 +5,7 @@ use Rattle.std.proofs.lemmas.Bool.{eqb-true}
 use Rattle.rdm_params.specs.declared.kind.Verb.{Verb}
 use Rattle.rdm_params.specs.declared.kind.Verb.TheVariants.{Get, Set}
 use Rattle.rdm_params.specs.Table.Rows.{Command, Row, row_in, command_in}
+use Rattle.rdm_params.proofs.Bools.{both_true}
 
 abbrev some : Row → Option Row
 some r = Some r
@@ -20,11 +21,6 @@ pub found : (P : Row → Type 0) (rows : List Row) (pid : ℕ) (r : Row) → All
 found P [] pid r all e = absurd cc
 found P (x ∷ xs) pid r all e = found_at P x pid r (row_in xs pid) all.0 (found P xs pid r all.1) (x.pid == pid) refl e
 
-both : (a b : Bool) → (a && b) ≡ true → (a ≡ true) × (b ≡ true)
-both true true h = (refl, refl)
-both true false h = absurd cc
-both false b h = absurd cc
-
 of_verb : (test : Option Command → Bool) (r : Row) (verb : Verb) → (test r.get ≡ true) × (test r.set ≡ true) → test (command_in (Some r) verb) ≡ true
 of_verb test r Get h = h.0
 of_verb test r Set h = h.1
@@ -37,5 +33,5 @@ either test verb false r later a b = b
 pub holds : (test : Option Command → Bool) (rows : List Row) (pid : ℕ) (verb : Verb) → test None ≡ true → list_all (λ r. test r.get && test r.set) rows ≡ true → test (command_in (row_in rows pid) verb) ≡ true
 holds test [] pid verb none all = none
 holds test (r ∷ rows) pid verb none all =
-    let parts = both (test r.get && test r.set) (list_all (λ r. test r.get && test r.set) rows) all in
-    either test verb (r.pid == pid) r (row_in rows pid) (of_verb test r verb (both (test r.get) (test r.set) parts.0)) (holds test rows pid verb none parts.1)
+    let parts = both_true (test r.get && test r.set) (list_all (λ r. test r.get && test r.set) rows) all in
+    either test verb (r.pid == pid) r (row_in rows pid) (of_verb test r verb (both_true (test r.get) (test r.set) parts.0)) (holds test rows pid verb none parts.1)

@@ -1,5 +1,5 @@
 -- What a command hands in, at the devices that it addresses.
-use Rattle.std.proofs.Common.{◌≡◌, ℕ, ◌-◌, ◌==◌, ◌&&◌, ◌||◌, not, Bool, true, false, cond, List, [], ◌∷◌, length, map, Option, Some, None, Result, Ok, Err, refl, sym, ap, subst, ◌∙◌}
+use Rattle.std.proofs.Common.{◌≡◌, ℕ, ◌-◌, ◌==◌, ◌&&◌, ◌||◌, not, Bool, true, false, cond, List, [], ◌∷◌, length, map, Option, Some, None, Result, Ok, Err, refl, ap, subst, ◌∙◌}
 use Rattle.std.specs.Prelude.{slice_get, option_to_list}
 use Rattle.std.specs.List.{list_all}
 use Rattle.rdm_params.specs.declared.kind.Verb.{Verb}
@@ -8,7 +8,7 @@ use Rattle.rdm_params.specs.declared.nack.Nack.TheVariants.{DataOutOfRange, SubD
 use Rattle.rdm_device.specs.declared.value.Value.{Value}
 use Rattle.rdm_device.specs.declared.value.Value.TheVariants.{Nothing}
 use Rattle.rdm_params.specs.Commands.Commands.{command_of, addressed, root_spot, sub_spot, is_all_call, suited, suits, taken, handed_in, check, ◌>>=◌}
-use Rattle.rdm_device.specs.Columns.Forms.{Form, nothing, byte, word, long, preset, label, has_length}
+use Rattle.rdm_device.specs.Columns.Forms.{Form, nothing, has_length}
 use Rattle.rdm_device.specs.Columns.Ranges.{Range}
 use Rattle.rdm_device.specs.Device.Map.{Entry}
 use Rattle.rdm_device.specs.Device.Parameters.{Parameters}
@@ -40,11 +40,7 @@ bare_read false test e = refl
 
 bare_form : (form : Form) (range : Range) (spot : Spot) (bytes : List ℕ) → is_nothing form ≡ true → (not (is_nothing form) || range spot Nothing) ≡ true → (read_as form bytes >>= ranged (range spot)) ≡ read_as nothing bytes
 bare_form nothing range spot bytes bare e = bare_read (has_length nothing (length bytes)) (range spot) e
-bare_form byte range spot bytes bare e = absurd cc
-bare_form word range spot bytes bare e = absurd cc
-bare_form long range spot bytes bare e = absurd cc
-bare_form preset range spot bytes bare e = absurd cc
-bare_form label range spot bytes bare e = absurd cc
+bare_form _ range spot bytes bare e = absurd cc
 
 bare_at : (command : Option Command) (spot : Spot) (bytes : List ℕ) → is_bare command ≡ true → takes_nothing spot command ≡ true → handed_in command spot bytes ≡ read_as nothing bytes
 bare_at None spot bytes bare e = absurd cc
@@ -95,17 +91,12 @@ refused_at : (here later jobs : Bool) (v : Value) (nack : Nack) → (check here 
 refused_at true later jobs v nack e = absurd cc
 refused_at false later jobs v nack e = e
 
-abbrev some : Spot → Option Spot
-some spot = Some spot
-
-some_is : (x y : Spot) → some x ≡ some y → x ≡ y
-some_is x y e = cc
-
 refused_in : (r : Result Value Nack) (test : Spot → Value → Bool) (spots : List Spot) (spot : Spot) (jobs : Bool) (nack : Nack) → slice_get spots 0 ≡ Some spot → (r >>= ranged (test spot)) ≡ Err nack → (r >>= suits_all test spots jobs) ≡ Err nack
 refused_in (Err n) test spots spot jobs nack first e = e
 refused_in (Ok v) test [] spot jobs nack first e = absurd cc
 refused_in (Ok v) test (s ∷ rest) spot jobs nack first e =
-    refused_at (test s v) (list_all (λ t. test t v) rest) jobs v nack (subst (λ (t : Spot). ranged (test t) v ≡ Err nack) (sym (some_is s spot first)) e)
+    let same : spot ≡ s = cc in
+    refused_at (test s v) (list_all (λ t. test t v) rest) jobs v nack (subst (λ (t : Spot). ranged (test t) v ≡ Err nack) same e)
 
 pub refused_first : (p : Parameters) (sub pid : ℕ) (verb : Verb) (spot : Spot) (bytes : List ℕ) (nack : Nack) → slice_get (addressed p sub verb) 0 ≡ Some spot → handed_in (command_of pid verb) spot bytes ≡ Err nack → suited p sub pid verb bytes ≡ Err nack
 refused_first p sub pid verb spot bytes nack first e =

@@ -24,7 +24,6 @@ mod thresholds;
 
 use crate::commands::sub_devices::{all_in_range, start_each, store_at, store_each};
 use crate::slow::Way;
-use crate::table::access::check_access;
 use crate::table::find::{Found, find};
 use crate::table::respond::reply_into;
 use crate::table::store::{store_common, store_own};
@@ -181,7 +180,7 @@ impl Devices {
         let Some(place) = self.first_place(sub, verb) else {
             return false;
         };
-        check_access(kind, sub == 0, verb).is_ok()
+        find(kind.pid(), sub == 0, verb).is_ok()
             && self.is_in_range_at(sub, kind, verb, &place, &argument)
     }
 

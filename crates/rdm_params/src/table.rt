@@ -13,8 +13,6 @@
 //!   writes that field at the end of a job of that worker; `(clears FORM (RANGE))`, which clears the list of status
 //!   entries that wait.
 
-pub(crate) mod access;
-pub(crate) mod dispatch;
 pub(crate) mod find;
 pub(crate) mod list;
 pub(crate) mod read;

@@ -1,4 +1,6 @@
 //! What a SET changes beside one stored value.
+//!
+//! Each is a call, since a match over all rows would keep room for all that it inlines.
 
 ghost use Rattle.std.specs.Prelude.{◌≡◌, ◌<◌, ◌≤◌, length, slice_index_or, if◌then◌else◌};
 ghost use Rattle.rdm_device.specs.declared.value.Value.{Value};

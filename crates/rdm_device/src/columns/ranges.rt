@@ -1,4 +1,6 @@
 //! The ranges of the data of commands.
+//!
+//! Going through a list is a call, since a match over all rows would keep room for it.
 
 ghost use Rattle.std.specs.Prelude.{◌≡◌, ◌==◌};
 ghost use Rattle.std.specs.List.{list_any};

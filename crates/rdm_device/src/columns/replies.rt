@@ -1,4 +1,6 @@
 //! Replies that aren't what is stored at a key.
+//!
+//! Each is a call, since a match over all rows would keep room for all that it inlines.
 
 mod lists;
 

@@ -4,9 +4,9 @@ ghost use Rattle.std.specs.Prelude.{◌≡◌, ◌≤◌, length};
 ghost use Rattle.rdm_device.specs.Device.Profiles.{CanBeMade};
 ghost use Rattle.rdm_device.specs.Device.Demo.{demo, demo_root, demo_sub, demo_sensor, demo_slots, demo_sensors, demo_tests, demo_statuses};
 
-use crate::value::text;
 use crate::{Personality, Profile, SelfTest, SensorDef, Slot, StatusText, Unit};
 use arrayvec::ArrayVec;
+use rdm_frame::Text;
 
 impl Profile {
     /// A moving head with two personalities and two sensors, and cells as its sub-devices.
@@ -30,7 +30,7 @@ fn moving_head(subs: u16) -> Profile
         sub: sub(),
         subs,
         boot: 1,
-        boot_text: text(b"Boot 1.0"),
+        boot_text: Text::of(b"Boot 1.0"),
         languages,
         slots: slots(),
         sensors: sensors(),
@@ -51,10 +51,10 @@ fn root() -> Unit
         model: 0x0011,
         category: 0x0102,
         software: 0x0000_0100,
-        model_text: text(b"Moving head"),
-        maker_text: text(b"Prototype"),
-        label: text(b"Fixture"),
-        software_text: text(b"1.0"),
+        model_text: Text::of(b"Moving head"),
+        maker_text: Text::of(b"Prototype"),
+        label: Text::of(b"Fixture"),
+        software_text: Text::of(b"1.0"),
         personalities,
         start: 1,
     }
@@ -70,10 +70,10 @@ fn sub() -> Unit
         model: 0x0012,
         category: 0x0102,
         software: 0x0000_0100,
-        model_text: text(b"Cell module"),
-        maker_text: text(b"Prototype"),
-        label: text(b"Cell"),
-        software_text: text(b"1.0"),
+        model_text: Text::of(b"Cell module"),
+        maker_text: Text::of(b"Prototype"),
+        label: Text::of(b"Cell"),
+        software_text: Text::of(b"1.0"),
         personalities,
         start: 1,
     }
@@ -115,7 +115,7 @@ fn thermometer(name: &[u8]) -> SensorDef
         normal_low: 0,
         normal_high: 80,
         support: 0x03,
-        name: text(name),
+        name: Text::of(name),
     }
 }
 
@@ -126,11 +126,11 @@ fn tests() -> ArrayVec<SelfTest, 8>
     let mut tests = ArrayVec::new();
     tests.push(SelfTest {
         number: 1,
-        name: text(b"Lamp"),
+        name: Text::of(b"Lamp"),
     });
     tests.push(SelfTest {
         number: 2,
-        name: text(b"Motors"),
+        name: Text::of(b"Motors"),
     });
     tests
 }
@@ -142,11 +142,11 @@ fn status_texts() -> ArrayVec<StatusText, 8>
     let mut texts = ArrayVec::new();
     texts.push(StatusText {
         id: 0x8001,
-        text: text(b"Lamp failed to strike"),
+        text: Text::of(b"Lamp failed to strike"),
     });
     texts.push(StatusText {
         id: 0x8002,
-        text: text(b"Self test failed"),
+        text: Text::of(b"Self test failed"),
     });
     texts
 }

@@ -3,7 +3,6 @@
 ghost use Rattle.std.specs.Prelude.{◌≡◌, ◌≤◌, length};
 ghost use Rattle.rdm_device.specs.Device.Plain.{plain_unit, plain_profile};
 
-use crate::value::text;
 use crate::{Personality, Profile, Slot, Unit};
 use arrayvec::ArrayVec;
 use rdm_frame::Text;
@@ -16,7 +15,7 @@ impl Personality {
     {
         Personality {
             footprint,
-            name: text(name),
+            name: Text::of(name),
         }
     }
 }
@@ -31,7 +30,7 @@ impl Slot {
             kind,
             label,
             value,
-            name: text(name),
+            name: Text::of(name),
         }
     }
 }
@@ -48,9 +47,9 @@ impl Unit {
             model,
             category,
             software: 0,
-            model_text: text(model_text),
-            maker_text: text(maker_text),
-            label: text(model_text),
+            model_text: Text::of(model_text),
+            maker_text: Text::of(maker_text),
+            label: Text::of(model_text),
             software_text: Text::new(),
             personalities: ArrayVec::new(),
             start: 1,

@@ -6,7 +6,6 @@ ghost use Rattle.rdm_device.specs.Columns.Forms.{nothing, label, has_form, is_of
 ghost use Rattle.rdm_device.specs.Device.Values.{byte_in, word_in, long_in, preset_in, label_in};
 
 use crate::Value;
-use crate::value::text;
 use rdm_frame::Text;
 use std::marker::Model;
 
@@ -116,7 +115,7 @@ impl<'a> Argument<'a> {
                 mode: *mode,
                 level: *level,
             },
-            Handed::Label(bytes) => Value::Label(text(bytes)),
+            Handed::Label(bytes) => Value::Label(Text::of(bytes)),
         }
     }
 
@@ -186,7 +185,7 @@ impl<'a> Argument<'a> {
         ensures { result ≡ label_in self.now }
     {
         match &self.handed {
-            Handed::Label(bytes) => Some(text(bytes)),
+            Handed::Label(bytes) => Some(Text::of(bytes)),
             _ => None,
         }
     }

@@ -5,9 +5,9 @@ ghost use Rattle.rdm_params.specs.Commands.Commands.{command_of};
 ghost use Rattle.rdm_params.specs.Slow.Work.{worker_of, estimate_of};
 ghost use Rattle.rdm_params.specs.Table.Uses.{way_of, is_slow};
 
+use crate::Verb;
 use crate::slow::Way;
-use crate::table::dispatch::way_of;
-use crate::{Verb, kind_of};
+use crate::table::find::find;
 
 /// A slow command that was accepted.
 #[derive(Clone, Copy, Debug, PartialEq, Eq)]
@@ -48,9 +48,10 @@ pub fn estimate_of(work: &Work) -> u16
 pub(super) fn way(work: &Work) -> Way
     ensures { result ≡ way_of (command_of work.now.pid work.now.verb) }
 {
-    match kind_of(work.pid) {
-        Some(kind) => way_of(kind, work.verb),
-        None => Way::AtOnce,
+    // The root has every parameter of the table.
+    match find(work.pid, true, work.verb) {
+        Ok(found) => found.way,
+        Err(_) => Way::AtOnce,
     }
 }
 

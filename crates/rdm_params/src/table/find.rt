@@ -7,8 +7,6 @@ ghost use Rattle.rdm_params.specs.Table.Rows.{row_of};
 ghost use Rattle.rdm_params.specs.Table.Uses.{access, way_of, is_bare};
 
 use crate::slow::Way;
-use crate::table::access::at_place;
-use crate::table::dispatch::way_command;
 use crate::table::rows;
 use crate::{Kind, Nack, Verb};
 
@@ -45,6 +43,23 @@ macro_rules! found_command {
     ($name:ident $command:tt) => {
         Ok(Found { kind: Kind::$name, way: way_command!($command), is_bare: is_bare!($command) })
     };
+}
+
+macro_rules! at_place {
+    (both $is_root:ident) => { true };
+    (root $is_root:ident) => { $is_root };
+}
+
+macro_rules! way_command {
+    ((starts $form:ident $range:tt $worker:literal $estimate:literal $field:tt)) => {
+        Way::ByJob { worker: $worker, estimate: $estimate }
+    };
+    ((measures $form:ident $range:tt $worker:literal $estimate:literal $reply:ident)) => {
+        Way::ByJob { worker: $worker, estimate: $estimate }
+    };
+    ((fetches $form:ident $range:tt $way:ident)) => { Way::$way };
+    ((clears $form:ident $range:tt)) => { Way::Clears };
+    ($command:tt) => { Way::AtOnce };
 }
 
 macro_rules! is_bare {
