@@ -16,8 +16,9 @@ use Rattle.rdm_bus.specs.declared.event.Step.{Step}
 use Rattle.rdm_bus.specs.declared.event.Step.TheVariants as step
 use Rattle.rdm_bus.specs.BusRun.{Start, IsPlayed, after, after_all, IsBusRun}
 use Rattle.rdm_bus.specs.BusLaws.{BusLawsHold, dispensed, recorded}
-use Rattle.rdm_bus.specs.Happened.{jobs_in, reports_in}
+use Rattle.rdm_bus.specs.Happened.{arrived_in, jobs_in, reports_in, reported_by, handed_in}
 use Rattle.rdm_bus.specs.Headline.{IsByTheRules, RepliesAreByTheRules, Handed, results_in, unclosed, AreOnce, entered, NothingAfterClose, Headline, HeadlineHolds}
+use Rattle.rdm_bus.specs.Messages.{KeepingHolds}
 use Rattle.rdm_bus.specs.Recording.{join}
 use Rattle.rdm_bus.proofs.Accounts.{run_grows}
 use Rattle.rdm_bus.proofs.Numbers.{NumberedFrom, number_at, drop_numbered, front_number, numbered, ends_within}
@@ -71,11 +72,30 @@ at_most_once w s steps es run within =
     (front_number n (done_by (entered w es)) (outstanding_of (outbox_of (after_all s es).history) w)
     (subst (NumberedFrom n) (sym (run_moves w s steps es run within).kept) (numbered_since w s steps es run within)))
 
--- ---- what a caller hands in
+-- ---- what is handed in
 
-handed_in : (rs : List Report) → rs ≡ results_in (unclosed rs)
-handed_in [] = refl
-handed_in (r ∷ rs) = ap (λ (l : List Report). r ∷ l) (handed_in rs)
+one_reported : (s : Start) (p : Step) (e : Event) → IsPlayed s p e → arrived_in e ≡ reported_by p
+one_reported s (step.Ask c f) e is = ap arrived_in is.1.event_is
+one_reported s (step.Collect f) e is = ap arrived_in is.event_is
+one_reported s (step.Arrive r) (Bus sent poll f reply job taken) is = absurd is
+one_reported s (step.Arrive r) (Arrived reported m kept) is = ap (λ (x : Report). x ∷ []) is.0
+one_reported s (step.Arrive r) (Changed change m) is = absurd is
+one_reported s (step.Change change) (Bus sent poll f reply job taken) is = absurd is
+one_reported s (step.Change change) (Arrived reported m kept) is = absurd is
+one_reported s (step.Change change) (Changed changed m) is = refl
+
+-- what arrives in a run are the reports of its steps
+pub all_reported : (s : Start) (steps : List Step) (es : List Event) → IsBusRun s steps es → reports_in es ≡ handed_in steps
+unfolding reports_in
+all_reported s [] [] run = refl
+all_reported s [] (e ∷ es) run = absurd run
+all_reported s (p ∷ ps) [] run = absurd run
+all_reported s (p ∷ ps) (e ∷ es) run =
+    ap (λ (rs : List Report). rs ++ reports_in es) (one_reported s p e run.0) ∙ ap (λ (rs : List Report). reported_by p ++ rs) (all_reported (after s e) ps es run.1)
+
+as_results : (rs : List Report) → rs ≡ results_in (unclosed rs)
+as_results [] = refl
+as_results (r ∷ rs) = ap (λ (l : List Report). r ∷ l) (as_results rs)
 
 none_closes : (rs : List Report) → NothingAfterClose (unclosed rs)
 none_closes [] = tt
@@ -87,19 +107,23 @@ one_shorter : (recorded' dispensed' rest : List Message) → recorded' ++ rest �
 one_shorter r d rest e most = omega (arith, ap length e, length-append r rest, most)
 
 -- of any list that was handed in, if its results are those that arrived
-pub headline_of : BusLawsHold → (s : Start) (steps : List Step) (es : List Event) (handed : List Handed) → IsLawful s.history → IsBusRun s steps es
-    → reports_in es ≡ results_in handed → NothingAfterClose handed → Headline s handed es (recorded es)
-headline_of laws s steps es handed lawful run same closed =
+pub headline_of : BusLawsHold → KeepingHolds → (s : Start) (steps : List Step) (es : List Event) (handed : List Handed) → IsLawful s.history → IsBusRun s steps es
+    → reports_in es ≡ results_in handed → NothingAfterClose handed → Headline s steps handed es (recorded es)
+headline_of laws keeping s steps es handed lawful run same closed =
     let law = (laws s steps es run).prefix in
     record {
+      of_the_steps = run;
       each_reply = replies s steps es run;
       enters = same;
+      in_the_queue = keeping s steps es run;
       at_most_once = λ w. at_most_once w s steps es run (ends_within s.history w lawful);
       in_order = λ w. (run_moves w s steps es run (ends_within s.history w lawful)).kept;
       nothing_after_close = closed;
+      what_was_heard = refl;
       prefix = (law.rest, law.prefix);
       at_most_one_shorter = one_shorter (join (recorded es)) (join (dispensed es)) law.rest law.prefix law.at_most_one;
     }
 
-pub headline_holds : BusLawsHold → HeadlineHolds
-headline_holds laws s steps es lawful run = headline_of laws s steps es (unclosed (reports_in es)) lawful run (handed_in (reports_in es)) (none_closes (reports_in es))
+pub headline_holds : BusLawsHold → KeepingHolds → HeadlineHolds
+headline_holds laws keeping s steps es lawful run =
+    headline_of laws keeping s steps es (unclosed (handed_in steps)) lawful run (all_reported s steps es run ∙ as_results (handed_in steps)) (none_closes (handed_in steps))

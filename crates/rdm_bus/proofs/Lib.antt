@@ -3,6 +3,7 @@ pub mod Alterations
 pub mod BusRuns
 pub mod Devices
 pub mod Headlines
+pub mod Hearing
 pub mod Joining
 pub mod Kept
 pub mod Messages

@@ -32,12 +32,12 @@ numbered_as : (tn m : ℕ) (sent : List ℕ) → m ≡ tn → HasNumber m sent �
 numbered_as tn m sent e is = subst (λ k. HasNumber k sent) e is
 
 -- what an event sends, and whether it is a poll
-abbrev sent_of : Event → List ℕ
+abbrev pub sent_of : Event → List ℕ
 sent_of (Bus sent poll fault reply job heard) = sent
 sent_of (Arrived report message kept) = []
 sent_of (Changed change message) = []
 
-abbrev is_poll_of : Event → Bool
+abbrev pub is_poll_of : Event → Bool
 is_poll_of (Bus sent poll fault reply job heard) = poll
 is_poll_of (Arrived report message kept) = false
 is_poll_of (Changed change message) = false
@@ -52,7 +52,7 @@ first_sent s (step.Collect f) e sent f' sent' poll reply job heard is played at 
 first_sent s (step.Arrive r) e sent f' sent' poll reply job heard is played at = absurd (subst (IsPlayed s (step.Arrive r)) is played)
 first_sent s (step.Change c) e sent f' sent' poll reply job heard is played at = absurd (subst (IsPlayed s (step.Change c)) is played)
 
-next_number : (tn n : ℕ) → ((tn + 1) % 256 + n) % 256 ≡ (tn + suc n) % 256
+pub next_number : (tn n : ℕ) → ((tn + 1) % 256 + n) % 256 ≡ (tn + suc n) % 256
 next_number tn n = omega arith
 
 pub numbers : NumberingHolds
@@ -68,11 +68,11 @@ numbers s (p ∷ ps) (Changed c m ∷ es) run n sent at = numbers (after s (Chan
 
 -- ---- polls
 
-same_uid_after : (s : Start) (es : List Event) → (after_all s es).uid ≡ s.uid
+pub same_uid_after : (s : Start) (es : List Event) → (after_all s es).uid ≡ s.uid
 same_uid_after s [] = refl
 same_uid_after s (e ∷ es) = same_uid_after (after s e) es
 
-same_target : (s : Start) (es : List Event) → (after_all s es).target ≡ s.target
+pub same_target : (s : Start) (es : List Event) → (after_all s es).target ≡ s.target
 same_target s [] = refl
 same_target s (e ∷ es) = same_target (after s e) es
 
@@ -93,7 +93,7 @@ unanswered_is s (Bus sent false f reply job heard ∷ es) = unanswered_is (after
 unanswered_is s (Arrived r m kept ∷ es) = unanswered_is (after s (Arrived r m kept)) es
 unanswered_is s (Changed c m ∷ es) = unanswered_is (after s (Changed c m)) es
 
-played_at : (s : Start) (steps : List Step) (before : List Event) (e : Event) (rest : List Event) → IsBusRun s steps (before ++ e ∷ rest) → (p : Step) × IsPlayed (after_all s before) p e
+pub played_at : (s : Start) (steps : List Step) (before : List Event) (e : Event) (rest : List Event) → IsBusRun s steps (before ++ e ∷ rest) → (p : Step) × IsPlayed (after_all s before) p e
 played_at s [] [] e rest run = absurd run
 played_at s (p ∷ ps) [] e rest run = (p, run.0)
 played_at s [] (x ∷ before) e rest run = absurd run

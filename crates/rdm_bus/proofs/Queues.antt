@@ -3,7 +3,7 @@ use Rattle.std.proofs.Common.{◌≡◌, ◌≢◌, ℕ, zero, suc, ◌+◌, ◌
 use Rattle.std.specs.Prelude.{slice_get, IfSome, unwrap_or, nat_lt}
 use Rattle.std.specs.List.{fold}
 use Rattle.std.proofs.lemmas.Bool.{cases_Bool, cond-true, cond-false, ltb-true, ltb-false}
-use Rattle.std.proofs.lemmas.List.{length-map, map-append}
+use Rattle.std.proofs.lemmas.List.{length-map, map-append, append_cancel_left}
 use Rattle.std.proofs.lemmas.List.Sums.{fold_push}
 use Rattle.std.proofs.lemmas.Option.{slice_get_past}
 use Rattle.rdm_frame.specs.declared.uid.Uid.{Uid}
@@ -208,6 +208,17 @@ report_arrived h r arrival is =
     arrived_is (outbox_of h) (outbox_of (then_event h (history.Arrived r))) arrival.message is.message
     (ap (λ (a : Account). a.outbox.given) (account_of-then h (history.Arrived r)) ∙ same.given)
     (ap (λ (a : Account). a.outbox.answers) (account_of-then h (history.Arrived r)) ∙ same.answers)
+
+one_is : (m n : Message) → m ∷ [] ≡ n ∷ [] → m ≡ n
+one_is m n e = cc
+
+-- the message of a report is that of its outcome
+pub arrival_says : (h : History) (r : Report) (arrival : Arrival) → IsArrival h r arrival → arrival.message ≡ committed (account_of h).parameters r.job.work r.outcome
+arrival_says h r arrival is =
+    let said : Message = committed (account_of h).parameters r.job.work r.outcome in
+    one_is arrival.message said
+    (append_cancel_left (outbox_of h).arrived (arrival.message ∷ []) (said ∷ [])
+    (sym is.message ∙ ap (λ (a : Account). a.outbox.arrived) (account_of-then h (history.Arrived r)) ∙ (report_still (account_of h) r).arrived))
 
 -- What a change at the device's menu does to its queue: its message enters it, or there is none.
 pub data Changing (h : History) (change : Change) : Type 0 where

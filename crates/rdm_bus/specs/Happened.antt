@@ -1,4 +1,5 @@
--- What has happened in a run of the bus, by its kind: the jobs that started, the reports that arrived, and the changes.
+-- What has happened in a run of the bus, by its kind: the jobs that started, the reports that arrived, and the changes; and
+-- the reports that its steps hand in.
 use Rattle.std.specs.Prelude.{ℕ, ◌==◌, List, [], ◌∷◌, filter}
 use Rattle.std.specs.Option.{option_to_list}
 use Rattle.std.specs.List.{flat_map}
@@ -8,6 +9,8 @@ use Rattle.rdm_outbox.specs.declared.job.Job.{Job}
 use Rattle.rdm_responder.specs.declared.report.Report.{Report}
 use Rattle.rdm_bus.specs.declared.event.Event.{Event}
 use Rattle.rdm_bus.specs.declared.event.Event.TheVariants.{Bus, Arrived, Changed}
+use Rattle.rdm_bus.specs.declared.event.Step.{Step}
+use Rattle.rdm_bus.specs.declared.event.Step.TheVariants as step
 
 -- the job that an event starts, and the report that arrives in it
 abbrev pub started_in : Event → List Job
@@ -39,3 +42,13 @@ changes_in events = flat_map changed_in events
 -- the reports on jobs of a worker
 abbrev pub reports_of : ℕ → List Report → List Report
 reports_of worker reports = filter (λ r. worker_of r.job.work == worker) reports
+
+-- the report that a step hands in, and those of all steps, in order
+abbrev pub reported_by : Step → List Report
+reported_by (step.Ask c fault) = []
+reported_by (step.Collect fault) = []
+reported_by (step.Arrive report) = report ∷ []
+reported_by (step.Change change) = []
+
+abbrev pub handed_in : List Step → List Report
+handed_in steps = flat_map reported_by steps

@@ -10,27 +10,33 @@
 --
 -- * The run was answered with Ok. A step that is refused changes nothing, so `play` has it after each step.
 -- * A reply is heard in its own transaction or never, and an altered frame has exactly one slot altered: a fault of a step
---   is nothing else.
+--   is nothing else, and where it raises a slot it raises it by 1 to 255. Who calls `play` or `run` sees to that.
+-- * The outcomes that a part of a run gives fit the jobs of its worker. Who calls `run` sees to that too.
 -- * This controller alone fetches messages: `play` and `run` refuse a command for QUEUED_MESSAGE or STATUS_MESSAGES.
 -- * The device is switched on once, and whatever has happened to it before the start was lawful: `IsLawful`.
 -- * Calls that wait for another thread return.
 use Rattle.std.specs.Prelude.{◌≡◌, ◌≢◌, ℕ, Bool, false, Option, ◌+◌, ◌≤◌, List, [], ◌∷◌, ◌++◌, length, map, slice_get, Some}
 use Rattle.rdm_params.specs.declared.slow.message.Message.{Message}
+use Rattle.rdm_params.specs.Slow.Commit.{committed}
 use Rattle.rdm_params.specs.Slow.Work.{worker_of}
 use Rattle.rdm_outbox.specs.declared.job.Job.{Job}
 use Rattle.rdm_outbox.specs.Jobs.{jobs_of, outstanding_of}
 use Rattle.rdm_responder.specs.declared.report.Report.{Report}
 use Rattle.rdm_responder.specs.History.{History}
 use Rattle.rdm_responder.specs.Lawful.{IsLawful}
+use Rattle.rdm_responder.specs.Rules.{account_of}
 use Rattle.rdm_responder.specs.Runs.{outbox_of}
 use Rattle.rdm_bus.specs.declared.event.Event.{Event}
 use Rattle.rdm_bus.specs.declared.event.Event.TheVariants.{Bus, Arrived, Changed}
 use Rattle.rdm_bus.specs.declared.event.Step.{Step}
+use Rattle.rdm_bus.specs.declared.event.Step.TheVariants.{Collect}
+use Rattle.rdm_bus.specs.declared.fault.Fault.{Fault}
 use Rattle.rdm_bus.specs.declared.fault.Fault.TheVariants as fault
 use Rattle.rdm_bus.specs.declared.transaction.Heard.{Heard}
 use Rattle.rdm_bus.specs.BusRun.{Start, replied, after, after_all, IsBusRun}
 use Rattle.rdm_bus.specs.BusLaws.{dispensed, recorded}
-use Rattle.rdm_bus.specs.Happened.{jobs_in, reports_in, reports_of}
+use Rattle.rdm_bus.specs.Happened.{jobs_in, reports_in, reports_of, handed_in}
+use Rattle.rdm_bus.specs.Messages.{KeepsMessages}
 use Rattle.rdm_bus.specs.Recording.{join, same_message}
 
 -- ---- each reply
@@ -94,66 +100,99 @@ IsPrefix front all = (rest : List Message) × (front ++ rest ≡ all)
 
 -- ---- the headline
 
--- Of a run from this start: what was handed to the device, what happened, and what the collector recorded.
-pub record Headline (start : Start) (handed : List Handed) (events : List Event) (collected : List Message) : Type 0 where
-  -- each reply is the one that the reply rules give;
+-- Of a run from this start: its steps, what was handed to the device, what happened, and what was collected.
+pub record Headline (start : Start) (steps : List Step) (handed : List Handed) (events : List Event) (collected : List Message) : Type 0 where
+  -- For every list of commands, collections, bus faults, panel changes and worker outcomes, which are the steps: what happens
+  -- at each is what comes of it. Its request is sent, a collection is a poll, and it is heard as what reaches the controller
+  -- must be; its report arrives, and its change happens, with the message that tells of it.
+  pub of_the_steps : IsBusRun start steps events
+  -- Each reply is the one that the reply rules give;
   pub each_reply : RepliesAreByTheRules start events
-  -- each accepted job's result enters the queue, which is what an arrival of it is,
+  -- each accepted job's result enters the queue: each that was handed in has arrived, and its message waits there,
   pub enters : reports_in events ≡ results_in handed
+  pub in_the_queue : KeepsMessages start events
   -- at most once,
   pub at_most_once : (worker : ℕ) → AreOnce (entered worker events)
   -- in its worker's order,
   pub in_order : (worker : ℕ) → IsInOrder worker start events
   -- nothing after its close;
   pub nothing_after_close : NothingAfterClose handed
-  -- and what the collector recorded, joined, is a prefix of what the responder dispensed, joined likewise,
+  -- and what the collector recorded, which is the message of each poll that was heard as one,
+  pub what_was_heard : collected ≡ recorded events
+  -- adjacent equal messages joined, is a prefix of what the responder dispensed, joined likewise,
   pub prefix : IsPrefix (join collected) (join (dispensed events))
   -- at most one message shorter.
   pub at_most_one_shorter : length (join (dispensed events)) ≤ length (join collected) + 1
 
 -- The headline holds of every run of the bus after whatever has lawfully happened to the device: of the device of the reply
--- rules, and of the collector that records what it hears.
+-- rules, and of the collector that records what it hears. What was handed in are the reports of the steps.
 abbrev pub HeadlineHolds : Type 0
 HeadlineHolds =
     (start : Start) (steps : List Step) (events : List Event) → IsLawful start.history → IsBusRun start steps events
-    → Headline start (unclosed (reports_in events)) events (recorded events)
+    → Headline start steps (unclosed (handed_in steps)) events (recorded events)
 
 -- ---- what the headline rules out
 
 -- A device that lets the result of a job into its queue twice.
 abbrev pub TwiceIsRuledOut : Type 0
 TwiceIsRuledOut =
-    (start : Start) (handed : List Handed) (events : List Event) (collected : List Message) (worker : ℕ) (r s : Report)
-    → entered worker events ≡ r ∷ s ∷ [] → r.job ≡ s.job → ¬ Headline start handed events collected
+    (start : Start) (steps : List Step) (handed : List Handed) (events : List Event) (collected : List Message) (worker : ℕ) (r s : Report)
+    → entered worker events ≡ r ∷ s ∷ [] → r.job ≡ s.job → ¬ Headline start steps handed events collected
 
 -- A device that lets the result of a worker's second job into its queue before that of the first.
 abbrev pub LaterFirstIsRuledOut : Type 0
 LaterFirstIsRuledOut =
-    (start : Start) (handed : List Handed) (events : List Event) (collected : List Message) (worker : ℕ) (r : Report)
+    (start : Start) (steps : List Step) (handed : List Handed) (events : List Event) (collected : List Message) (worker : ℕ) (r : Report)
     (first second : Job) (more : List Job) → outstanding_of (outbox_of start.history) worker ≡ first ∷ second ∷ more
-    → entered worker events ≡ r ∷ [] → r.job ≡ second → first ≢ second → ¬ Headline start handed events collected
+    → entered worker events ≡ r ∷ [] → r.job ≡ second → first ≢ second → ¬ Headline start steps handed events collected
 
 -- A device that answers a request that it hasn't heard.
 abbrev pub AnsweringTheUnheardIsRuledOut : Type 0
 AnsweringTheUnheardIsRuledOut =
-    (start : Start) (handed : List Handed) (events : List Event) (collected : List Message) (sent reply : List ℕ) (poll : Bool)
+    (start : Start) (steps : List Step) (handed : List Handed) (events : List Event) (collected : List Message) (sent reply : List ℕ) (poll : Bool)
     (job : Option Job) (heard : Option Heard)
-    → ¬ Headline start handed (Bus sent poll fault.LostRequest (Some reply) job heard ∷ events) collected
+    → ¬ Headline start steps handed (Bus sent poll fault.LostRequest (Some reply) job heard ∷ events) collected
 
 -- A result that is handed in after its worker's close.
 abbrev pub AfterTheCloseIsRuledOut : Type 0
 AfterTheCloseIsRuledOut =
-    (start : Start) (events : List Event) (collected : List Message) (r : Report)
-    → ¬ Headline start (Close (worker_of r.job.work) ∷ Result r ∷ []) events collected
+    (start : Start) (steps : List Step) (events : List Event) (collected : List Message) (r : Report)
+    → ¬ Headline start steps (Close (worker_of r.job.work) ∷ Result r ∷ []) events collected
 
 -- A collector that skips a message, as it does where it asks for the next one after a loss.
 abbrev pub SkippingIsRuledOut : Type 0
 SkippingIsRuledOut =
-    (start : Start) (handed : List Handed) (events : List Event) (lost next : Message)
-    → dispensed events ≡ lost ∷ next ∷ [] → same_message lost next ≡ false → ¬ Headline start handed events (next ∷ [])
+    (start : Start) (steps : List Step) (handed : List Handed) (events : List Event) (lost next : Message)
+    → dispensed events ≡ lost ∷ next ∷ [] → same_message lost next ≡ false → ¬ Headline start steps handed events (next ∷ [])
 
 -- A collector that records nothing.
 abbrev pub RecordingNothingIsRuledOut : Type 0
 RecordingNothingIsRuledOut =
-    (start : Start) (handed : List Handed) (events : List Event) (first second : Message)
-    → dispensed events ≡ first ∷ second ∷ [] → same_message first second ≡ false → ¬ Headline start handed events []
+    (start : Start) (steps : List Step) (handed : List Handed) (events : List Event) (first second : Message)
+    → dispensed events ≡ first ∷ second ∷ [] → same_message first second ≡ false → ¬ Headline start steps handed events []
+
+-- A collector that records a message twice.
+abbrev pub RecordingTwiceIsRuledOut : Type 0
+RecordingTwiceIsRuledOut =
+    (start : Start) (steps : List Step) (handed : List Handed) (events : List Event) (m : Message)
+    → recorded events ≡ m ∷ [] → ¬ Headline start steps handed events (m ∷ m ∷ [])
+
+-- A collector that drops the second of two equal messages, though both were dispensed and heard.
+abbrev pub DroppingAnEqualOneIsRuledOut : Type 0
+DroppingAnEqualOneIsRuledOut =
+    (start : Start) (steps : List Step) (handed : List Handed) (events : List Event) (m : Message)
+    → dispensed events ≡ m ∷ m ∷ [] → recorded events ≡ m ∷ m ∷ [] → ¬ Headline start steps handed events (m ∷ [])
+
+-- A system that books a poll as no poll, and so has nothing dispensed.
+abbrev pub BookingNoPollIsRuledOut : Type 0
+BookingNoPollIsRuledOut =
+    (start : Start) (steps : List Step) (handed : List Handed) (events : List Event) (collected : List Message) (wrong : Fault)
+    (sent : List ℕ) (fault : Fault) (reply : Option (List ℕ)) (job : Option Job) (heard : Option Heard)
+    → ¬ Headline start (Collect wrong ∷ steps) handed (Bus sent false fault reply job heard ∷ events) collected
+
+-- A device whose message isn't that of the job's outcome.
+abbrev pub AnotherMessageIsRuledOut : Type 0
+AnotherMessageIsRuledOut =
+    (start : Start) (steps : List Step) (handed : List Handed) (events : List Event) (collected : List Message) (r : Report)
+    (m : Message) (kept : Bool) → m ≢ committed (account_of start.history).parameters r.job.work r.outcome
+    → ¬ Headline start steps handed (Arrived r m kept ∷ events) collected

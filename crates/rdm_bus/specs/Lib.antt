@@ -11,4 +11,5 @@ pub mod Happened
 pub mod Headline
 pub mod Messages
 pub mod Numbering
+pub mod Hearing
 pub mod Systems

@@ -4,7 +4,8 @@ ghost use Rattle.std.specs.Prelude.{◌≡◌, ◌↔◌, IsTrue};
 ghost use Rattle.rdm_bus.specs.Devices.{dequeues_again, forgets_empty_status, BreaksPrefixLaw, RightDeviceIsPolled};
 ghost use Rattle.rdm_bus.specs.Faults.{AlteredIsNoFrame};
 ghost use Rattle.rdm_bus.specs.BusLaws.{BusLawsHold};
-ghost use Rattle.rdm_bus.specs.Headline.{HeadlineHolds, TwiceIsRuledOut, LaterFirstIsRuledOut, AnsweringTheUnheardIsRuledOut, AfterTheCloseIsRuledOut, SkippingIsRuledOut, RecordingNothingIsRuledOut};
+ghost use Rattle.rdm_bus.specs.Headline.{HeadlineHolds, TwiceIsRuledOut, LaterFirstIsRuledOut, AnsweringTheUnheardIsRuledOut, AfterTheCloseIsRuledOut, SkippingIsRuledOut, RecordingNothingIsRuledOut, RecordingTwiceIsRuledOut, DroppingAnEqualOneIsRuledOut, BookingNoPollIsRuledOut, AnotherMessageIsRuledOut};
+ghost use Rattle.rdm_bus.specs.Hearing.{CommandSendingHolds, HearingHolds};
 ghost use Rattle.rdm_bus.specs.Messages.{KeepingHolds};
 ghost use Rattle.rdm_bus.specs.Numbering.{NumberingHolds, PollingInTurnHolds, JobsAreNumbered};
 ghost use Rattle.rdm_bus.specs.Polling.{LawsHold};
@@ -54,9 +55,10 @@ pub fn headline_holds()
     ensures { HeadlineHolds }
 {
     bus_recording_laws_hold();
+    messages_are_kept();
 }
 
-/// The n-th transaction of every run has the first number plus n, modulo 256 (E1.20 section 6.2.5).
+/// The n-th transaction of every run has the first number plus n, modulo 256 (E1.20 section 6.2.6).
 #[tactic(auto, using(crate::proofs::Numbering::numbers))]
 pub fn transactions_are_numbered()
     ensures { NumberingHolds }
@@ -67,6 +69,22 @@ pub fn transactions_are_numbered()
 #[tactic(auto, using(crate::proofs::Numbering::polls))]
 pub fn polls_ask_in_turn()
     ensures { PollingInTurnHolds }
+{}
+
+/// The request of a command is the text of the command's frame, with the number that is next: that of the first transaction and
+/// one for each request since, modulo 256 (E1.20 section 6.2).
+#[tactic(auto, using(crate::proofs::Hearing::commands))]
+pub fn commands_are_sent()
+    ensures { CommandSendingHolds }
+{}
+
+/// An answer is heard as a message exactly where its transaction is a poll and the bytes that came are the text of a frame from
+/// the device to this controller, with the transaction's number, of class 21 or 31 and response type ACK; as a reply exactly
+/// where the transaction is no poll and the frame has the class of the request plus 1, its sub-device and its parameter; as
+/// nothing exactly where nothing came; and else it is ignored (E1.20 sections 6.2 and 6.3.1).
+#[tactic(auto, using(crate::proofs::Hearing::answers))]
+pub fn answers_are_heard()
+    ensures { HearingHolds }
 {}
 
 /// The k-th job of a worker that a device accepts has the number k, after whatever has happened to it.
@@ -84,7 +102,9 @@ pub fn messages_are_kept()
 }
 
 /// What the headline rules out: devices that let a result into the queue twice, a later one of a worker first, or one after
-/// the worker's close, or that answer what they haven't heard; and collectors that skip a message or record nothing.
+/// the worker's close, that answer what they haven't heard, or whose message isn't that of the job's outcome; collectors that
+/// skip a message, record nothing, record a message twice, or drop the second of two equal ones; and a system that books a
+/// poll as no poll.
 pub fn headline_rules_out()
     ensures twice { TwiceIsRuledOut }
     ensures later_first { LaterFirstIsRuledOut }
@@ -92,6 +112,10 @@ pub fn headline_rules_out()
     ensures after_the_close { AfterTheCloseIsRuledOut }
     ensures skipping { SkippingIsRuledOut }
     ensures recording_nothing { RecordingNothingIsRuledOut }
+    ensures recording_twice { RecordingTwiceIsRuledOut }
+    ensures dropping_an_equal_one { DroppingAnEqualOneIsRuledOut }
+    ensures booking_no_poll { BookingNoPollIsRuledOut }
+    ensures another_message { AnotherMessageIsRuledOut }
 {}
 
 /// A device whose last message takes a new one from the queue breaks the prefix law, and so does one that doesn't keep an

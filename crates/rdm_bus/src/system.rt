@@ -11,7 +11,7 @@ ghost use Rattle.rdm_bus.specs.Collecting.{heard_in, after_hearing};
 ghost use Rattle.rdm_bus.specs.Faults.{reply_heard};
 ghost use Rattle.rdm_bus.specs.BusLaws.{BusLaws, recorded_by};
 ghost use Rattle.rdm_bus.specs.BusRun.{Start, after, after_all, after_reply, history_after, reply_in, transaction, raise_of, fault_of, IsFault, IsPlayed, IsAlteredInVain};
-ghost use Rattle.rdm_bus.specs.Happened.{reports_in};
+ghost use Rattle.rdm_bus.specs.Happened.{handed_in};
 ghost use Rattle.rdm_bus.specs.Headline.{Headline, unclosed};
 ghost use Rattle.rdm_bus.specs.Systems.{Stands, IsTrace, IsAstray, HasNoRoom, refusal_in, start_of};
 
@@ -102,7 +102,8 @@ impl System {
             IsTrace start steps self.old → BusLaws start self.new.trace) }
         ensures headline { OnOk result ((start : Start) (steps : List Step) →
             IsLawful start.history → IsTrace start steps self.old →
-            Headline start (unclosed (reports_in self.new.trace)) self.new.trace self.new.collector.recorded) }
+            Headline start (steps ++ step.now ∷ []) (unclosed (handed_in (steps ++ step.now ∷ [])))
+            self.new.trace self.new.collector.recorded) }
         ensures reserved { IsErrOf result PlayError.Reserved ↔ (refusal_in step.now ≡ Some PlayError.Reserved) }
         ensures too_long { IsErrOf result PlayError.TooLong ↔ (refusal_in step.now ≡ Some PlayError.TooLong) }
         ensures astray { IsErrOf result PlayError.Astray → IsAstray self.old.responder step.now }
