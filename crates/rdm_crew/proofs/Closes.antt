@@ -5,27 +5,21 @@ use Rattle.std.specs.List.{list_any}
 use Rattle.std.proofs.lemmas.Bool.{eqb-true, eq-eqb}
 use Rattle.std.proofs.lemmas.Bool.Decides.{eqb_tells}
 use Rattle.std.proofs.lemmas.List.Elements.{filter-append}
-use Rattle.rdm_params.specs.declared.slow.message.Message.{Message}
+use Rattle.rdm_params.specs.Slow.Work.{worker_of}
 use Rattle.rdm_responder.specs.declared.report.Report.{Report}
 use Rattle.rdm_bus.specs.declared.event.Event.{Event}
-use Rattle.rdm_bus.specs.declared.event.Step.{Step}
-use Rattle.rdm_bus.specs.BusLaws.{BusLawsHold, recorded}
-use Rattle.rdm_bus.specs.BusRun.{IsBusRun}
 use Rattle.rdm_bus.specs.Happened.{reports_in, reports_of}
-use Rattle.rdm_bus.specs.Headline.{Handed, Result as Came, Close, Headline, results_in, NothingAfterClose}
-use Rattle.rdm_bus.proofs.Headlines.{headline_of}
+use Rattle.rdm_bus.specs.Headline.{Handed, Result as Came, Close, results_in, NothingAfterClose}
 use Rattle.rdm_lane.specs.declared.taken.Taken.{Taken}
 use Rattle.rdm_lane.specs.declared.taken.Taken.TheVariants.{Item, Mark, Empty, Closed}
 use Rattle.rdm_lane.specs.Ends.{IsOver}
 use Rattle.rdm_lane.specs.Lane.{IsPrefix, is_from, of, is_mark, has_mark, numbered, put_closed, items_of, items_from}
 use Rattle.rdm_crew.specs.declared.desk.Desk.{Desk}
 use Rattle.rdm_crew.specs.declared.error.RunError.{RunError}
-use Rattle.rdm_crew.specs.declared.setup.Setup.{Setup}
-use Rattle.rdm_crew.specs.Closes.{handed_by, HasClosed, IsHandedOver, HeadlineOfRun}
+use Rattle.rdm_crew.specs.declared.trace.Ended.{Ended}
+use Rattle.rdm_crew.specs.Closes.{handed_by, HasClosed, IsHandedOver, AfterTheMarkIsRuledOut}
 use Rattle.rdm_crew.specs.Desks.{OfTwo, IsDrawn}
 use Rattle.rdm_crew.specs.Settling.{IsTakenOf}
-use Rattle.rdm_crew.specs.Setups.{switched_on}
-use Rattle.rdm_crew.specs.Traces.{Traced}
 use Rattle.rdm_crew.proofs.Sorted.{EachOwn, sorted}
 
 -- ---- what is handed over
@@ -147,21 +141,41 @@ module _ (d : Desk) (first second : List Report) (own : EachOwn d.reports.taken)
         second_closed = has_closed 1 d.reports.taken (over 1 (omega arith));
       }
 
+-- ---- what the headline rules out
+
+kept_none : (w : ℕ) (x : Report) (rs : List Report) (own? : Bool) → cond own? (x ∷ reports_of w rs) (reports_of w rs) ≡ [] → reports_of w rs ≡ []
+kept_none w x rs true e = absurd cc
+kept_none w x rs false e = e
+
+one_is_none : (r : Report) (rs : List Report) → r ∷ rs ≡ [] → ⊥
+one_is_none r rs e = cc
+
+has_later : (between after : List (Taken Report)) (p n : ℕ) (r : Report) → reports_of (worker_of r.job.work) (results_in (handed_by (between ++ Item p n r ∷ after))) ≡ [] → ⊥
+has_later [] after p n r none =
+    let w : ℕ = worker_of r.job.work in
+    let rest : List Report = reports_of w (results_in (handed_by after)) in
+    one_is_none r rest (ap (λ (own : Bool). cond own (r ∷ rest) rest) (sym (eq-eqb w w refl)) ∙ none)
+has_later (Item q m x ∷ between) after p n r none =
+    has_later between after p n r (kept_none (worker_of r.job.work) x (results_in (handed_by (between ++ Item p n r ∷ after))) _ none)
+has_later (Mark q ∷ between) after p n r none = has_later between after p n r none
+has_later (Empty ∷ between) after p n r none = has_later between after p n r none
+has_later (Closed ∷ between) after p n r none = has_later between after p n r none
+
+not_later : (before between after : List (Taken Report)) (p n : ℕ) (r : Report) → NothingAfterClose (handed_by (before ++ Mark (worker_of r.job.work) ∷ between ++ Item p n r ∷ after)) → ⊥
+not_later [] between after p n r closed = has_later between after p n r closed.0
+not_later (Item q m x ∷ before) between after p n r closed = not_later before between after p n r closed
+not_later (Mark q ∷ before) between after p n r closed = not_later before between after p n r closed.1
+not_later (Empty ∷ before) between after p n r closed = not_later before between after p n r closed
+not_later (Closed ∷ before) between after p n r closed = not_later before between after p n r closed
+
+pub after_the_mark : AfterTheMarkIsRuledOut
+after_the_mark setup steps before between after p n r events collected law = not_later before between after p n r law.headline.nothing_after_close
+
 -- ---- the run
 
-pub handed_in : (d : Desk) (r : Result Traced RunError) → IfOk r (λ t. t.events ≡ d.system.trace) → IfOk r (λ t. IsHandedOver d.system.trace (handed_by d.reports.taken)) → IfOk r (λ t. (handed : List Handed) × IsHandedOver t.events handed)
-handed_in d (Ok t) events over = (handed_by d.reports.taken, subst (λ (es : List Event). IsHandedOver es (handed_by d.reports.taken)) (sym events) over)
-handed_in d (Err e) events over = tt
-
-headline_of_run : BusLawsHold → (setup : Setup) (steps : List Step) (es : List Event) (handed : List Handed) (collected : List Message) → IsBusRun (switched_on setup) steps es → IsHandedOver es handed → collected ≡ recorded es → HeadlineOfRun setup es collected
-headline_of_run hold setup steps es handed collected run over same = (
-  handed,
-  over.first_closed,
-  over.second_closed,
-  subst (Headline (switched_on setup) handed es) (sym same) (headline_of hold (switched_on setup) steps es handed tt run over.enters over.nothing_after_close),
-)
-
-pub headlines : (setup : Setup) (r : Result Traced RunError) → BusLawsHold → IfOk r (λ t. (bus : List Step) × IsBusRun (switched_on setup) bus t.events) → IfOk r (λ t. (handed : List Handed) × IsHandedOver t.events handed) → IfOk r (λ t. t.recorded ≡ recorded t.events)
-    → IfOk r (λ t. HeadlineOfRun setup t.events t.recorded)
-headlines setup (Ok t) hold run over same = headline_of_run hold setup run.0 t.events over.0 t.recorded run.1 over.1 same
-headlines setup (Err e) hold run over same = tt
+pub handed_in : (d : Desk) (r : Result Ended RunError) → IfOk r (λ e. e.system.trace ≡ d.system.trace) → IfOk r (λ e. e.reports.taken ≡ d.reports.taken)
+    → IfOk r (λ e. IsHandedOver d.system.trace (handed_by d.reports.taken)) → IfOk r (λ e. IsHandedOver e.system.trace (handed_by e.reports.taken))
+handed_in d (Ok e) events taken over =
+    subst (λ (es : List Event). IsHandedOver es (handed_by e.reports.taken)) (sym events)
+    (subst (λ (l : List (Taken Report)). IsHandedOver d.system.trace (handed_by l)) (sym taken) over)
+handed_in d (Err e) events taken over = tt

@@ -6,6 +6,7 @@ pub mod Working
 pub mod Law
 pub mod Sorted
 pub mod Closes
+pub mod Stepping
 pub mod Ending
 pub mod Runs
 pub mod Starting

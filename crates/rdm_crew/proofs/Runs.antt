@@ -14,12 +14,12 @@ use Rattle.rdm_crew.specs.declared.crew.Crew.{Crew}
 use Rattle.rdm_crew.specs.declared.desk.Desk.{Desk}
 use Rattle.rdm_crew.specs.declared.error.RunError.{RunError}
 use Rattle.rdm_crew.specs.declared.step.CrewStep.{CrewStep}
+use Rattle.rdm_crew.specs.declared.trace.Ended.{Ended}
 use Rattle.rdm_crew.specs.Crews.{HasJobs, IsTied, HavePlayed}
 use Rattle.rdm_crew.specs.Desks.{began, stands_at, IsDrawn, IsSameDesk, HaveArrived}
 use Rattle.rdm_bus.specs.Happened.{changes_in}
 use Rattle.rdm_crew.specs.RunTrace.{IsCut, IsAnswered, IsRunTrace}
 use Rattle.rdm_crew.specs.Setups.{switched_on}
-use Rattle.rdm_crew.specs.Traces.{Traced}
 use Rattle.rdm_crew.specs.Watchers.{AreOffered}
 use Rattle.rdm_crew.proofs.Drawing.{same_jobs, same_desk, stands_after}
 
@@ -37,14 +37,9 @@ run_cut steps d m e new same played arrived none =
     let events : e.system.trace ≡ played.0 ++ arrived.0 = arrived.1 ∙ ap (λ (l : List Event). l ++ arrived.0) (played.1 ∙ ap (λ (l : List Event). l ++ played.0) new) in
     subst (IsCut (began d) steps) (sym events) (subst (λ (l : List Event). IsCut (after_all (began d) l) steps (played.0 ++ arrived.0)) new last)
 
-pub run_trace : (steps : List CrewStep) (d m e : Desk) (g0 g1 : Job → Outcome → Type 0) (offers : ℕ → Change → Type 0) (r : Result Traced RunError) → d.system.trace ≡ [] → IsSameDesk m e → HavePlayed steps d m → HaveArrived m e
-    → IfOk r (λ t. t.events ≡ e.system.trace) → IfOk r (λ t. outstanding_count (outbox_of (stands_at e).history) ≡ 0) → IfOk r (λ t. IsAnswered 0 g0 e.system.trace) → IfOk r (λ t. IsAnswered 1 g1 e.system.trace)
-    → IfOk r (λ t. AreOffered offers 0 (changes_in e.system.trace)) → IfOk r (λ t. IsRunTrace d.setup.value g0 g1 offers steps t.events)
+pub run_trace : (steps : List CrewStep) (d m e : Desk) (g0 g1 : Job → Outcome → Type 0) (offers : ℕ → Change → Type 0) (r : Result Ended RunError) → d.system.trace ≡ [] → IsSameDesk m e → HavePlayed steps d m → HaveArrived m e
+    → IfOk r (λ t. t.system.trace ≡ e.system.trace) → IfOk r (λ t. outstanding_count (outbox_of (stands_at e).history) ≡ 0) → IfOk r (λ t. IsAnswered 0 g0 e.system.trace) → IfOk r (λ t. IsAnswered 1 g1 e.system.trace)
+    → IfOk r (λ t. AreOffered offers 0 (changes_in e.system.trace)) → IfOk r (λ t. IsRunTrace d.setup.value g0 g1 offers steps t.system.trace)
 run_trace steps d m e g0 g1 offers (Ok t) new same played arrived events none first second changes =
     subst (IsRunTrace d.setup.value g0 g1 offers steps) (sym events) (record { cut = run_cut steps d m e new same played arrived none; first = first; second = second; changes = changes })
 run_trace steps d m e g0 g1 offers (Err x) new same played arrived events none first second changes = tt
-
-pub bus_run : (d m e : Desk) (r : Result Traced RunError) → IsSameDesk d m → IsSameDesk m e → IsDrawn e → IfOk r (λ t. t.events ≡ e.system.trace) → IfOk r (λ t. (bus : List Step) × IsBusRun (switched_on d.setup.value) bus t.events)
-bus_run d m e (Ok t) one two is events =
-    (is.run.0, subst (IsBusRun (began d) is.run.0) (sym events) (subst (λ s. IsBusRun (switched_on s.value) is.run.0 e.system.trace) (same_desk d m e one two).0 is.run.1.run))
-bus_run d m e (Err x) one two is events = tt

@@ -1,13 +1,11 @@
 -- The start of a run: nothing has happened, and nothing was put into a lane or taken from one.
 use Rattle.std.proofs.Common.{◌≡◌, ◌↔◌, ℕ, List, [], ◌∷◌, refl, sym, ap, subst, ◌∙◌}
-use Rattle.std.specs.Prelude.{Result, Ok, Err, IfOk, IsErrOf}
+use Rattle.std.specs.Prelude.{Result, Ok, Err, IsErrOf}
 use Rattle.rdm_params.specs.declared.panel.Change.{Change}
 use Rattle.rdm_outbox.specs.declared.job.Job.{Job}
 use Rattle.rdm_outbox.specs.Jobs.{jobs_of}
 use Rattle.rdm_responder.specs.declared.report.Report.{Report}
 use Rattle.rdm_bus.specs.declared.event.Event.{Event}
-use Rattle.rdm_bus.specs.declared.event.Step.{Step}
-use Rattle.rdm_bus.specs.BusLaws.{BusLaws, BusLawsHold}
 use Rattle.rdm_bus.specs.BusRun.{Start, IsBusRun}
 use Rattle.rdm_bus.specs.Systems.{IsTrace}
 use Rattle.rdm_lane.specs.Ends.{PostState, TakeState}
@@ -19,7 +17,6 @@ use Rattle.rdm_crew.specs.Crews.{HasChanges, IsTied}
 use Rattle.rdm_crew.specs.Desks.{began, OfTwo, IsDrawn}
 use Rattle.rdm_bus.specs.Happened.{changes_in, jobs_in, reports_in}
 use Rattle.rdm_crew.specs.Settling.{IsLaneOfOne, IsNewLaneOfOne, IsReportLane}
-use Rattle.rdm_crew.specs.Traces.{Traced}
 use Rattle.rdm_crew.specs.Watchers.{most_changes}
 use Rattle.rdm_crew.specs.Workers.{most}
 use Rattle.rdm_crew.proofs.Changing.{no_changes}
@@ -80,10 +77,6 @@ unchanged d changes post trace lane = (
     posts = ap (λ (t : TakeState Change). t.posts) lane.0;
   },
 )
-
-pub laws : (s : Start) (r : Result Traced RunError) → BusLawsHold → IfOk r (λ t. (bus : List Step) × IsBusRun s bus t.events) → IfOk r (λ t. BusLaws s t.events)
-laws s (Ok t) hold run = hold s run.0 t.events run.1
-laws s (Err e) hold run = tt
 
 abbrev error_in : {A : Type 0} → RunError → Result A RunError → RunError
 error_in d (Ok a) = d

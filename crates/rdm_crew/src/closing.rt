@@ -3,6 +3,7 @@
 ghost use Rattle.std.specs.Prelude.{◌≡◌, ◌≢◌, IfOk, IfErr};
 ghost use Rattle.rdm_bus.specs.BusLaws.{recorded};
 ghost use Rattle.rdm_lane.specs.Ends.{IsOver};
+ghost use Rattle.rdm_lane.specs.Lane.{LaneLaw};
 ghost use Rattle.rdm_responder.specs.Runs.{outbox_of};
 ghost use Rattle.rdm_outbox.specs.Jobs.{outstanding_count};
 ghost use Rattle.rdm_crew.specs.Closes.{handed_by, IsHandedOver};
@@ -18,9 +19,10 @@ use crate::desk::Desk;
 use crate::joining::Started;
 use crate::settling::{Rooms, settle, settle_one};
 use crate::stop::Stop;
+use crate::trace::Ended;
 use crate::watcher::{Watched, Watches};
 use crate::worker::{Worked, Works};
-use crate::{Panel, Part, RunError, Trace};
+use crate::{Panel, Part, RunError};
 use rdm_lane::{ClosedPost, Take};
 use rdm_outbox::Job;
 use rdm_params::{Change, started_work_is_its_command};
@@ -42,20 +44,22 @@ pub(crate) struct Closing<P: Part, Q: Part, N: Panel> {
 
 impl<P: Part, Q: Part, N: Panel> Closing<P, Q, N> {
     /// Ends a run whose reports were all drawn.
-    pub(crate) fn finish<R: Threads + Wait>(self, rt: &R) -> Result<Trace, RunError>
+    pub(crate) fn finish<R: Threads + Wait>(self, rt: &R) -> Result<Ended, RunError>
         requires drawn { IsDrawn self.desk × IsOver self.desk.reports }
         requires jobs { HasJobs self.desk self.first self.second }
         requires changes { HasChanges self.desk self.changes × IsLaneOfOne self.changes self.watcher.changes.value }
         requires lanes { AreLanes self.desk.reports self.first self.second
             self.first_worker.jobs.value self.first_worker.reports.value
             self.second_worker.jobs.value self.second_worker.reports.value }
-        ensures events { IfOk result (λ trace. trace.events ≡ self.desk.system.trace) }
-        ensures recorded { IfOk result (λ trace. trace.recorded ≡ recorded self.desk.system.trace) }
-        ensures last { IfOk result (λ trace. outstanding_count (outbox_of (stands_at self.desk).history) ≡ 0) }
-        ensures first { IfOk result (λ trace. IsAnswered 0 (P.gives self.first_worker.part.value) self.desk.system.trace) }
-        ensures second { IfOk result (λ trace. IsAnswered 1 (Q.gives self.second_worker.part.value) self.desk.system.trace) }
-        ensures handed { IfOk result (λ trace. IsHandedOver self.desk.system.trace (handed_by self.desk.reports.taken)) }
-        ensures changes { IfOk result (λ trace. AreOffered (N.offers self.watcher.panel.value) 0 (changes_in self.desk.system.trace)) }
+        ensures events { IfOk result (λ ended. ended.system.trace ≡ self.desk.system.trace) }
+        ensures recorded { IfOk result (λ ended. ended.system.collector.recorded ≡ recorded self.desk.system.trace) }
+        ensures last { IfOk result (λ ended. outstanding_count (outbox_of (stands_at self.desk).history) ≡ 0) }
+        ensures first { IfOk result (λ ended. IsAnswered 0 (P.gives self.first_worker.part.value) self.desk.system.trace) }
+        ensures second { IfOk result (λ ended. IsAnswered 1 (Q.gives self.second_worker.part.value) self.desk.system.trace) }
+        ensures handed { IfOk result (λ ended. IsHandedOver self.desk.system.trace (handed_by self.desk.reports.taken)) }
+        ensures taken { IfOk result (λ ended. ended.reports.taken ≡ self.desk.reports.taken) }
+        ensures lane { IfOk result (λ ended. LaneLaw 2 ended.reports.taken ended.reports.posted) }
+        ensures changes { IfOk result (λ ended. AreOffered (N.offers self.watcher.panel.value) 0 (changes_in self.desk.system.trace)) }
         ensures err { IfErr result (λ e. e ≡ RunError.OutOfMemory) }
     {
         let Closing {
@@ -80,7 +84,7 @@ impl<P: Part, Q: Part, N: Panel> Closing<P, Q, N> {
         let first_refused = a.refused;
         let second_refused = b.refused;
         let watcher_refused = watched.refused;
-        settle(rt, rooms.workers, first, second, reports, a, b);
+        let reports = settle(rt, rooms.workers, first, second, reports, a, b);
         settle_one(rt, rooms.changes, changes, watched.changes);
         if first_refused || second_refused || watcher_refused {
             return Err(RunError::OutOfMemory);
@@ -89,7 +93,7 @@ impl<P: Part, Q: Part, N: Panel> Closing<P, Q, N> {
             // Each worker has reported on all its jobs, and every report has arrived.
             return Err(RunError::Missing);
         }
-        Ok(Trace::of(system))
+        Ok(Ended { system, reports })
     }
 
     /// Ends a run whose steps, or whose drawing of reports, ended early.
@@ -156,7 +160,7 @@ impl<P: Part, Q: Part, N: Panel> Closing<P, Q, N> {
             Ok(()) => {}
             Err(_) => return RunError::OutOfMemory,
         }
-        settle(rt, rooms.workers, first, second, reports, a, b);
+        let _ = settle(rt, rooms.workers, first, second, reports, a, b);
         // The report is of the oldest outstanding job of its worker, so that it may arrive.
         RunError::Astray
     }

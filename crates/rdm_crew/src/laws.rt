@@ -1,6 +1,7 @@
 //! Laws of a worker's four lists, over all lists, and of `==`. Each is the contract of a call that does nothing.
 
 ghost use Rattle.std.specs.Prelude.{◌≡◌, ◌↔◌, IsTrue};
+ghost use Rattle.rdm_crew.specs.Closes.{AfterTheMarkIsRuledOut};
 ghost use Rattle.rdm_crew.specs.Law.{NoneAstray, EachIsOnItsJob, NoneMissing, OneMissingAtMost};
 
 use crate::{Part, RunError};
@@ -17,6 +18,12 @@ pub fn no_report_goes_astray<P: Part>()
 pub fn no_report_is_missing<P: Part>()
     ensures none { (part : P) → NoneMissing (P.gives part) }
     ensures one { (part : P) → OneMissingAtMost (P.gives part) }
+{}
+
+/// What the headline of a run rules out: a report that is taken from the report lane after the closing mark of the worker whose
+/// job it is on.
+pub fn headline_of_run_rules_out()
+    ensures after_the_mark { AfterTheMarkIsRuledOut }
 {}
 
 /// Two reasons why there is no trace are equal by `==` exactly where they are the same.

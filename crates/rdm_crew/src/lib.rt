@@ -26,7 +26,10 @@ mod watcher;
 mod worker;
 
 pub use error::RunError;
-pub use laws::{no_report_goes_astray, no_report_is_missing, run_errors_are_equal_by_value};
+pub use laws::{
+    headline_of_run_rules_out, no_report_goes_astray, no_report_is_missing,
+    run_errors_are_equal_by_value,
+};
 pub use panel::Panel;
 pub use part::Part;
 pub use running::run;

@@ -5,8 +5,8 @@ ghost use Rattle.rdm_bus.specs.BusLaws.{BusLaws, recorded};
 ghost use Rattle.rdm_bus.specs.BusRun.{IsBusRun};
 ghost use Rattle.rdm_bus.specs.Systems.{IsTrace};
 ghost use Rattle.rdm_responder.specs.StandsFor.{IsQueueSize};
-ghost use Rattle.rdm_bus.specs.Headline.{Handed};
-ghost use Rattle.rdm_crew.specs.Closes.{IsHandedOver, HeadlineOfRun};
+ghost use Rattle.rdm_lane.specs.Lane.{LaneLaw};
+ghost use Rattle.rdm_crew.specs.Closes.{handed_by, IsHandedOver, HeadlineOfRun};
 ghost use Rattle.rdm_crew.specs.Crews.{IsTied, HasJobs, HasChanges};
 ghost use Rattle.rdm_crew.specs.Desks.{IsDrawn, HasRun};
 ghost use Rattle.rdm_crew.specs.RunTrace.{IsRunTrace, IsRunError, HaveFaults, HasSettle, FitsFor, first_refusal};
@@ -20,10 +20,11 @@ use crate::equipment::equip;
 use crate::joining::Started;
 use crate::putting::close;
 use crate::settling::Rooms;
+use crate::trace::Ended;
 use crate::watcher::{Watched, Watches, watch};
 use crate::worker::{Worked, Works, start};
 use crate::{CrewStep, Panel, Part, RunError, Setup, Trace};
-use rdm_bus::{Collector, PlayError, Step, System, bus_recording_laws_hold};
+use rdm_bus::{Collector, PlayError, Step, System, bus_recording_laws_hold, messages_are_kept};
 use rdm_frame::Uid;
 use rdm_responder::{NewError, Responder};
 use std::alloc::Global;
@@ -60,7 +61,8 @@ where
     ensures recorded { IfOk result (λ trace. trace.recorded ≡ recorded trace.events) }
     ensures bus { IfOk result (λ trace. (bus : List Step) × IsBusRun (switched_on setup) bus trace.events) }
     ensures laws { IfOk result (λ trace. BusLaws (switched_on setup) trace.events) }
-    ensures headline { IfOk result (λ trace. HeadlineOfRun setup trace.events trace.recorded) }
+    ensures headline { IfOk result (λ trace. HeadlineOfRun setup steps.now trace.reports.taken trace.events trace.recorded) }
+    ensures lane { IfOk result (λ trace. LaneLaw 2 trace.reports.taken trace.reports.posted) }
     ensures bad_setup { IsErrOf result RunError.BadSetup ↔ IsBadSetup setup }
     ensures reserved { IsErrOf result RunError.Reserved → first_refusal steps.now ≡ Some PlayError.Reserved }
     ensures too_long { IsErrOf result RunError.TooLong → first_refusal steps.now ≡ Some PlayError.TooLong }
@@ -69,6 +71,7 @@ where
 {
     // The trace is a run of the bus, and the laws, from which the headline follows, hold of every run.
     bus_recording_laws_hold();
+    messages_are_kept();
     let began = Snapshot::of(&setup);
     let queue_size = setup.queue_size;
     let system = match system_of(alloc, setup) {
@@ -105,7 +108,7 @@ where
         second_bell: second.bell,
         changes: kit.changes,
     };
-    play(
+    let ended = play(
         &rt,
         crew,
         steps,
@@ -113,7 +116,8 @@ where
         second_worker,
         watcher,
         kit.rooms,
-    )
+    )?;
+    Ok(Trace::of(ended))
 }
 
 /// Plays the steps with workers and a watcher that were just started, until these have ended.
@@ -125,7 +129,7 @@ fn play<P: Part, Q: Part, N: Panel, R: Threads + Wait>(
     second_worker: Started<Worked, Works<Q>>,
     watcher: Started<Watched, Watches<N>>,
     rooms: Rooms,
-) -> Result<Trace, RunError>
+) -> Result<Ended, RunError>
     requires fits { FitsFor 0 (P.gives first_worker.part.value) × FitsFor 1 (Q.gives second_worker.part.value) }
     requires faults { HaveFaults steps.now }
     requires new { IsTied crew × (crew.desk.system.trace ≡ []) }
@@ -133,12 +137,12 @@ fn play<P: Part, Q: Part, N: Panel, R: Threads + Wait>(
     requires lanes { AreLanes crew.desk.reports crew.first crew.second
         first_worker.jobs.value first_worker.reports.value
         second_worker.jobs.value second_worker.reports.value }
-    ensures trace { IfOk result (λ trace. IsRunTrace crew.desk.setup.value
+    ensures trace { IfOk result (λ ended. IsRunTrace crew.desk.setup.value
         (P.gives first_worker.part.value) (Q.gives second_worker.part.value)
-        (N.offers watcher.panel.value) steps.now trace.events) }
-    ensures recorded { IfOk result (λ trace. trace.recorded ≡ recorded trace.events) }
-    ensures bus { IfOk result (λ trace. (bus : List Step) × IsBusRun (switched_on crew.desk.setup.value) bus trace.events) }
-    ensures handed { IfOk result (λ trace. (handed : List Handed) × IsHandedOver trace.events handed) }
+        (N.offers watcher.panel.value) steps.now ended.system.trace) }
+    ensures recorded { IfOk result (λ ended. ended.system.collector.recorded ≡ recorded ended.system.trace) }
+    ensures handed { IfOk result (λ ended. IsHandedOver ended.system.trace (handed_by ended.reports.taken)) }
+    ensures lane { IfOk result (λ ended. LaneLaw 2 ended.reports.taken ended.reports.posted) }
     ensures err { IfErr result (λ e. IsRunError steps.now e) }
 {
     let mut crew = crew;

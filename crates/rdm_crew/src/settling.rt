@@ -1,10 +1,11 @@
 //! The settling of all lanes, when the workers and the watcher of the panel have ended. It takes no memory.
 
 ghost use Rattle.std.specs.Prelude.{◌≡◌, ◌≤◌, [], vec_len, vec_capacity};
+ghost use Rattle.rdm_lane.specs.Lane.{LaneLaw};
 ghost use Rattle.rdm_crew.specs.Settling.{IsTakenOf, IsSettled, IsLaneOfOne, IsLaneOfReports, AreLanes};
 
 use crate::worker::Worked;
-use rdm_lane::{ClosedPost, Take, settle_up};
+use rdm_lane::{ClosedPost, Settled, Take, settle_up};
 use rdm_outbox::Job;
 use rdm_params::Change;
 use rdm_responder::Report;
@@ -90,26 +91,29 @@ pub(crate) fn settle_one<T: Copy + Send + Drop, R: Wait>(
     };
 }
 
-/// Settles the report lane.
+/// Settles the report lane, and gives its lists.
 fn settle_reports<R: Wait>(
     rt: &R,
     room: Room<Report>,
     reports: Take<Report>,
     first: ClosedPost<Report>,
     second: ClosedPost<Report>,
-)
+) -> Settled<Report>
     requires { IsLaneOfReports reports first second }
-    ensures { IsTakenOf 0 reports.taken first.items × IsTakenOf 1 reports.taken second.items }
+    ensures sent { IsTakenOf 0 reports.taken first.items × IsTakenOf 1 reports.taken second.items }
+    ensures taken { result.taken ≡ reports.taken }
+    ensures law { LaneLaw 2 result.taken result.posted }
 {
     let mut posts = room.into_posts();
     posts.push_reserved(first);
     posts.push_reserved(second);
-    let Ok(_) = settle_up(rt, reports, posts) else {
+    let Ok(settled) = settle_up(rt, reports, posts) else {
         unreachable!();
     };
+    settled
 }
 
-/// Settles the three lanes of workers that have ended.
+/// Settles the three lanes of workers that have ended, and gives the lists of the report lane.
 pub(crate) fn settle<R: Wait>(
     rt: &R,
     rooms: WorkerRooms,
@@ -118,10 +122,12 @@ pub(crate) fn settle<R: Wait>(
     reports: Take<Report>,
     a: Worked,
     b: Worked,
-)
+) -> Settled<Report>
     requires { AreLanes reports first second a.jobs a.reports b.jobs b.reports }
     ensures first { IsSettled 0 first reports a }
     ensures second { IsSettled 1 second reports b }
+    ensures taken { result.taken ≡ reports.taken }
+    ensures law { LaneLaw 2 result.taken result.posted }
 {
     let Worked {
         jobs: first_jobs,
@@ -135,5 +141,5 @@ pub(crate) fn settle<R: Wait>(
     } = b;
     settle_one(rt, rooms.first, first_jobs, first);
     settle_one(rt, rooms.second, second_jobs, second);
-    settle_reports(rt, rooms.reports, reports, first_reports, second_reports);
+    settle_reports(rt, rooms.reports, reports, first_reports, second_reports)
 }

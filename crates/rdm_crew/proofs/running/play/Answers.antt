@@ -1,7 +1,7 @@
 use Rattle.rdm_crew.proofs.Changing.{arrived_has}
 use Rattle.rdm_crew.proofs.Closes.{handed_in}
 use Rattle.rdm_crew.proofs.Watching.{same_lane}
-use Rattle.rdm_crew.proofs.Runs.{closing_jobs, run_trace, bus_run}
+use Rattle.rdm_crew.proofs.Runs.{closing_jobs, run_trace}
 use Rattle.rdm_crew.proofs.running.play.Goals as goal
 
 pub finish-requires-clause-jobs : goal.finish-requires-clause-jobs
@@ -13,13 +13,9 @@ returns-in-Ok-draw_all-clause-trace g c =
     run_trace c.args.steps.now c.args.crew.desk c.play_all-played.new.self.desk c.draw_all.new.self (g.P.Part.gives c.args.first_worker.part.value) (g.Q.Part.gives c.args.second_worker.part.value) (g.N.Panel.offers c.args.watcher.panel.value) c.finish.result
     c.requires.new.1 c.draw_all.ensures.same c.in-Ok.ensures.played.1 c.in-Ok-draw_all.ensures.drawn.1 c.finish.ensures.events c.finish.ensures.last c.finish.ensures.first c.finish.ensures.second c.finish.ensures.changes
 
-pub returns-in-Ok-draw_all-clause-bus : goal.returns-in-Ok-draw_all-clause-bus
-returns-in-Ok-draw_all-clause-bus g c =
-    bus_run c.args.crew.desk c.play_all-played.new.self.desk c.draw_all.new.self c.finish.result c.play_all-played.ensures.same.0 c.draw_all.ensures.same c.in-Ok-draw_all.ensures.drawn.0 c.finish.ensures.events
-
 pub finish-requires-clause-changes : goal.finish-requires-clause-changes
 finish-requires-clause-changes g c =
     (arrived_has c.play_all-played.new.self.desk c.draw_all.new.self c.play_all-played.new.self.changes c.in-Ok-draw_all.ensures.drawn.1 c.in-Ok.ensures.changes, same_lane c.args.crew.changes c.play_all-played.new.self.changes c.args.watcher.changes.value c.play_all-played.ensures.same.3 c.requires.changes.1)
 
 pub returns-in-Ok-draw_all-clause-handed : goal.returns-in-Ok-draw_all-clause-handed
-returns-in-Ok-draw_all-clause-handed g c = handed_in c.draw_all.new.self c.finish.result c.finish.ensures.events c.finish.ensures.handed
+returns-in-Ok-draw_all-clause-handed g c = handed_in c.draw_all.new.self c.finish.result c.finish.ensures.events c.finish.ensures.taken c.finish.ensures.handed

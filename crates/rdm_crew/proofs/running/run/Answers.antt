@@ -1,14 +1,15 @@
-use Rattle.std.proofs.Common.{List, [], sym, subst}
-use Rattle.std.specs.Prelude.{IfOk}
-use Rattle.rdm_bus.specs.declared.event.Step.{Step}
-use Rattle.rdm_bus.specs.BusRun.{IsBusRun}
+use Rattle.std.proofs.Common.{[], sym, ap, subst, ◌∙◌}
+use Rattle.rdm_responder.specs.declared.report.Report.{Report}
+use Rattle.rdm_bus.specs.BusLaws.{recorded}
 use Rattle.rdm_bus.specs.Systems.{IsTrace}
+use Rattle.rdm_lane.specs.Lane.{LaneLaw}
+use Rattle.rdm_lane.specs.Settling.{SettledState}
 use Rattle.rdm_crew.specs.declared.setup.Setup.{Setup}
 use Rattle.rdm_crew.specs.declared.error.RunError.TheVariants.{BadSetup}
 use Rattle.rdm_crew.specs.Settling.{IsLaneOfOne}
 use Rattle.rdm_crew.specs.Setups.{switched_on, IsBadSetup}
-use Rattle.rdm_crew.proofs.Closes.{headlines}
-use Rattle.rdm_crew.proofs.Starting.{tied, unchanged, laws, told_also}
+use Rattle.rdm_crew.proofs.Starting.{tied, unchanged, told_also}
+use Rattle.rdm_crew.proofs.Stepping.{bus_of, cut_at, over_at, headline_of_run}
 use Rattle.rdm_crew.proofs.running.run.Goals as goal
 
 pub play-requires-clause-new : goal.play-requires-clause-new
@@ -28,13 +29,25 @@ play-requires-clause-changes g c =
 
 pub returns-clause-bus : goal.returns-clause-bus
 returns-clause-bus g c =
-    subst (λ (s : Setup). IfOk c.play.result (λ t. (bus : List Step) × IsBusRun (switched_on s) bus t.events)) c.of-began.ensures c.play.ensures.bus
+    bus_of (switched_on c.args.setup) c.args.steps.now c.of.result.events
+    (cut_at c.of-began.result.value c.args.setup c.args.steps.now c.in_ok-ended.ended.system.trace c.of.result.events c.of-began.ensures c.of.ensures.events c.in_ok-ended.ensures.trace.cut)
 
 pub returns-clause-laws : goal.returns-clause-laws
-returns-clause-laws g c = laws (switched_on c.args.setup) c.play.result c.bus_recording_laws_hold.ensures (returns-clause-bus g c)
+returns-clause-laws g c =
+    let bus = returns-clause-bus g c in
+    c.bus_recording_laws_hold.ensures (switched_on c.args.setup) bus.0 c.of.result.events bus.1
 
 pub returns-clause-headline : goal.returns-clause-headline
-returns-clause-headline g c = headlines c.args.setup c.play.result c.bus_recording_laws_hold.ensures (returns-clause-bus g c) c.play.ensures.handed c.play.ensures.recorded
+returns-clause-headline g c =
+    let ended = c.in_ok-ended.ended in
+    let trace = c.of.result in
+    headline_of_run c.bus_recording_laws_hold.ensures c.messages_are_kept.ensures c.args.setup c.args.steps.now trace.reports.taken trace.events trace.recorded
+    (cut_at c.of-began.result.value c.args.setup c.args.steps.now ended.system.trace trace.events c.of-began.ensures c.of.ensures.events c.in_ok-ended.ensures.trace.cut)
+    (over_at ended.system.trace trace.events ended.reports.taken trace.reports.taken c.of.ensures.events (ap (λ (s : SettledState Report). s.taken) c.of.ensures.reports) c.in_ok-ended.ensures.handed)
+    (c.of.ensures.recorded ∙ c.in_ok-ended.ensures.recorded ∙ ap recorded (sym c.of.ensures.events))
+
+pub returns-clause-lane : goal.returns-clause-lane
+returns-clause-lane g c = subst (λ (s : SettledState Report). LaneLaw 2 s.taken s.posted) (sym c.of.ensures.reports) c.in_ok-ended.ensures.lane
 
 pub returns-in-Err-clause-bad_setup : goal.returns-in-Err-clause-bad_setup
 returns-in-Err-clause-bad_setup g c = told_also c.in-Err.refusal BadSetup (IsBadSetup c.args.setup) c.in-Err.ensures.bad

@@ -9,21 +9,21 @@ pub returns-clause-first : goal.returns-clause-first
 returns-clause-first g c =
     first_answered (g.P.Part.gives c.args.self.first_worker.part.value) (g.Q.Part.gives c.args.self.second_worker.part.value)
     c.args.self.first_worker.jobs.value c.args.self.second_worker.jobs.value c.args.self.first_worker.reports.value c.args.self.second_worker.reports.value
-    c.args.self.first c.args.self.second c.args.self.desk c.join-a.result c.join-b.result c.join-a.ensures c.join-b.ensures c.settle.ensures.first c.settle.ensures.second c.requires.jobs
+    c.args.self.first c.args.self.second c.args.self.desk c.join-a.result c.join-b.result c.join-a.ensures c.join-b.ensures c.settle-reports.ensures.first c.settle-reports.ensures.second c.requires.jobs
     c.requires.drawn.0 c.requires.drawn.1 c.requires.lanes.first.posts c.if-first_refused.false
 
 pub returns-clause-handed : goal.returns-clause-handed
 returns-clause-handed g c =
     handed (g.P.Part.gives c.args.self.first_worker.part.value) (g.Q.Part.gives c.args.self.second_worker.part.value)
     c.args.self.first_worker.jobs.value c.args.self.second_worker.jobs.value c.args.self.first_worker.reports.value c.args.self.second_worker.reports.value
-    c.args.self.first c.args.self.second c.args.self.desk c.join-a.result c.join-b.result c.join-a.ensures c.join-b.ensures c.settle.ensures.first c.settle.ensures.second c.requires.jobs
+    c.args.self.first c.args.self.second c.args.self.desk c.join-a.result c.join-b.result c.join-a.ensures c.join-b.ensures c.settle-reports.ensures.first c.settle-reports.ensures.second c.requires.jobs
     c.requires.drawn.0 c.requires.drawn.1
 
 pub returns-clause-second : goal.returns-clause-second
 returns-clause-second g c =
     second_answered (g.P.Part.gives c.args.self.first_worker.part.value) (g.Q.Part.gives c.args.self.second_worker.part.value)
     c.args.self.first_worker.jobs.value c.args.self.second_worker.jobs.value c.args.self.first_worker.reports.value c.args.self.second_worker.reports.value
-    c.args.self.first c.args.self.second c.args.self.desk c.join-a.result c.join-b.result c.join-a.ensures c.join-b.ensures c.settle.ensures.first c.settle.ensures.second c.requires.jobs
+    c.args.self.first c.args.self.second c.args.self.desk c.join-a.result c.join-b.result c.join-a.ensures c.join-b.ensures c.settle-reports.ensures.first c.settle-reports.ensures.second c.requires.jobs
     c.requires.drawn.0 c.requires.drawn.1 c.requires.lanes.second.posts c.if-second_refused.false
 
 pub returns-then-outstanding-gt0-clause-err : goal.returns-then-outstanding-gt0-clause-err
@@ -32,11 +32,11 @@ returns-then-outstanding-gt0-clause-err g c =
     let g1 = g.Q.Part.gives c.args.self.second_worker.part.value in
     let first = first_answered g0 g1
     c.args.self.first_worker.jobs.value c.args.self.second_worker.jobs.value c.args.self.first_worker.reports.value c.args.self.second_worker.reports.value
-    c.args.self.first c.args.self.second c.args.self.desk c.join-a.result c.join-b.result c.join-a.ensures c.join-b.ensures c.settle.ensures.first c.settle.ensures.second c.requires.jobs
+    c.args.self.first c.args.self.second c.args.self.desk c.join-a.result c.join-b.result c.join-a.ensures c.join-b.ensures c.settle-reports.ensures.first c.settle-reports.ensures.second c.requires.jobs
     c.requires.drawn.0 c.requires.drawn.1 c.requires.lanes.first.posts c.if-first_refused.false in
     let second = second_answered g0 g1
     c.args.self.first_worker.jobs.value c.args.self.second_worker.jobs.value c.args.self.first_worker.reports.value c.args.self.second_worker.reports.value
-    c.args.self.first c.args.self.second c.args.self.desk c.join-a.result c.join-b.result c.join-a.ensures c.join-b.ensures c.settle.ensures.first c.settle.ensures.second c.requires.jobs
+    c.args.self.first c.args.self.second c.args.self.desk c.join-a.result c.join-b.result c.join-a.ensures c.join-b.ensures c.settle-reports.ensures.first c.settle-reports.ensures.second c.requires.jobs
     c.requires.drawn.0 c.requires.drawn.1 c.requires.lanes.second.posts c.if-second_refused.false in
     let history = (stands_at c.args.self.desk).history in
     let stands = c.requires.drawn.0.run.1.stands.responder in
