@@ -93,6 +93,10 @@ int main(void) {
         if (status == FELOSUMAY_DONE)
             status = run_on(&console, &device);
         printf("want of 7: %u\n", felosumay_collector_new(&console, MAKER, CONSOLE, MAKER, FIXTURE, 7));
+        printf("a UID of all: %u\n", felosumay_collector_new(&console, MAKER, 0xFFFFFFFF, MAKER, FIXTURE, 2));
+        printf("a target of all: %u\n", felosumay_collector_new(&console, MAKER, CONSOLE, 0xFFFF, 0xFFFFFFFF, 2));
+        printf("both, and want of 7: %u\n", felosumay_collector_new(&console, MAKER, 0xFFFFFFFF, MAKER, 0xFFFFFFFF, 7));
+        printf("the old one stays: %u\n", felosumay_collector_over(&console));
         /* the compiler takes no collector for a responder; a cast is found out */
         printf("mistaken %u\n", felosumay_responder_waiting((felosumay_responder *)&console, &waiting));
     }

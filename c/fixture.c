@@ -3,7 +3,7 @@
 #include "felosumay.h"
 #include <stdio.h>
 
-enum { MAKER = 0x7FF0, FIXTURE = 1, CONSOLE = 2, QUEUE_SIZE = 2 };
+enum { MAKER = 0x7FF0, FIXTURE = 1, CONSOLE = 2, FIRMWARE = 3, QUEUE_SIZE = 2 };
 
 /* What the fixture is. It may lie in flash. */
 static const felosumay_profile PROFILE = {
@@ -99,6 +99,23 @@ static felosumay_status change(felosumay_collector *bus, felosumay_responder *fi
     return status;
 }
 
+/* No controller has come for a long time, and the queue is full: the firmware polls its own responder, with a UID of its own, so
+ * that the menu works again. What it fetches no controller gets. */
+static felosumay_status make_room(felosumay_responder *fixture) {
+    felosumay_collector own = {0};
+    felosumay_status status = felosumay_collector_new(&own, MAKER, FIRMWARE, MAKER, FIXTURE, 4);
+    size_t waiting = 0;
+    uint8_t room = 9;
+    felosumay_responder_room(fixture, &room);
+    printf("room %u\n", room);
+    while (status == FELOSUMAY_DONE && felosumay_responder_waiting(fixture, &waiting) == FELOSUMAY_DONE && waiting > 0)
+        status = fetch(&own, fixture);
+    felosumay_collector_free(&own);
+    felosumay_responder_room(fixture, &room);
+    printf("room %u, start 8: %u\n", room, felosumay_responder_change_start(fixture, 8));
+    return status;
+}
+
 /* Discovery's answer is a reply as any other: it has 24 bytes, and is no frame. */
 static void discover(felosumay_collector *bus, felosumay_responder *fixture) {
     const uint8_t branch[12] = {0, 0, 0, 0, 0, 0, 0xFF, 0xFF, 0xFF, 0xFF, 0xFF, 0xFE};
@@ -131,6 +148,8 @@ int main(void) {
         ask(&bus, &fixture, 0x0082, FELOSUMAY_GET, &nothing, 0);
         strike(&bus, &fixture);
         status = change(&bus, &fixture);
+        if (status == FELOSUMAY_DONE)
+            status = make_room(&fixture);
         discover(&bus, &fixture);
         read(&fixture);
         printf("a UID of all: %u\n", felosumay_responder_new(&fixture, MAKER, 0xFFFFFFFF, &PROFILE, QUEUE_SIZE));
