@@ -187,9 +187,9 @@ felosumay_status felosumay_responder_arrive(felosumay_responder *responder, cons
                                             const felosumay_outcome *outcome, uint8_t *kept);
 
 /* A person changes something at the fixture's own menu, and the message that tells the controller waits; each DONE adds one,
- * also where the value is as it was. Only polls take messages away: where no controller comes the queue fills up, and then each
- * change is NO_ROOM until the firmware polls its own responder (c/fixture.c, `make_room`). TOO_LONG for a label, then ABSENT,
- * NO_ROOM, OUT_OF_RANGE, in this order; nothing changes then. */
+ * also where the value is as it was. Only polls take messages away: where no controller polls the queue fills up, and each
+ * change is NO_ROOM from then on. A SET that the firmware steps itself needs no room (c/fixture.c, `set_own`). TOO_LONG for a
+ * label, then ABSENT, NO_ROOM, OUT_OF_RANGE, in this order; nothing changes then. */
 felosumay_status felosumay_responder_change_start(felosumay_responder *responder, uint16_t start);
 felosumay_status felosumay_responder_change_personality(felosumay_responder *responder, uint8_t number);
 felosumay_status felosumay_responder_change_label(felosumay_responder *responder, const uint8_t *label, size_t length);

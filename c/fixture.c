@@ -99,20 +99,16 @@ static felosumay_status change(felosumay_collector *bus, felosumay_responder *fi
     return status;
 }
 
-/* No controller has come for a long time, and the queue is full: the firmware polls its own responder, with a UID of its own, so
- * that the menu works again. What it fetches no controller gets. */
-static felosumay_status make_room(felosumay_responder *fixture) {
+/* The firmware sets a value by a request of its own, as a controller would: no message waits for it, so it needs no room, and
+ * FACTORY_DEFAULTS still knows the profile's values. So it sets what it kept over power-off, and what a person changes at the
+ * menu while the queue is full. */
+static felosumay_status set_own(felosumay_responder *fixture) {
+    const uint8_t start[2] = {0x00, 0x08};
     felosumay_collector own = {0};
-    felosumay_status status = felosumay_collector_new(&own, MAKER, FIRMWARE, MAKER, FIXTURE, 4);
-    size_t waiting = 0;
-    uint8_t room = 9;
-    felosumay_responder_room(fixture, &room);
-    printf("room %u\n", room);
-    while (status == FELOSUMAY_DONE && felosumay_responder_waiting(fixture, &waiting) == FELOSUMAY_DONE && waiting > 0)
-        status = fetch(&own, fixture);
+    felosumay_status status = felosumay_collector_new(&own, MAKER, FIRMWARE, MAKER, FIXTURE, 2);
+    printf("start 8: %u\n", felosumay_responder_change_start(fixture, 8));
+    ask(&own, fixture, 0x00F0, FELOSUMAY_SET, start, 2);
     felosumay_collector_free(&own);
-    felosumay_responder_room(fixture, &room);
-    printf("room %u, start 8: %u\n", room, felosumay_responder_change_start(fixture, 8));
     return status;
 }
 
@@ -149,7 +145,7 @@ int main(void) {
         strike(&bus, &fixture);
         status = change(&bus, &fixture);
         if (status == FELOSUMAY_DONE)
-            status = make_room(&fixture);
+            status = set_own(&fixture);
         discover(&bus, &fixture);
         read(&fixture);
         printf("a UID of all: %u\n", felosumay_responder_new(&fixture, MAKER, 0xFFFFFFFF, &PROFILE, QUEUE_SIZE));
