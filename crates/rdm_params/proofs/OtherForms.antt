@@ -1,10 +1,9 @@
 -- No value of a form that no command has is in range.
-use Rattle.std.proofs.Common.{◌≡◌, ℕ, ◌==◌, ◌&&◌, ◌||◌, not, Bool, true, false, cond, List, [], ◌∷◌, Option, Some, refl}
+use Rattle.std.proofs.Common.{◌≡◌, ℕ, ◌==◌, ◌&&◌, not, Bool, true, false, List, [], ◌∷◌, Option, refl}
 use Rattle.std.specs.Prelude.{is_ok}
 use Rattle.std.specs.List.{list_all}
 use Rattle.rdm_params.specs.declared.kind.Kind.{Kind}
 use Rattle.rdm_params.specs.declared.kind.Verb.{Verb}
-use Rattle.rdm_params.specs.declared.kind.Verb.TheVariants.{Get, Set}
 use Rattle.rdm_device.specs.declared.value.Value.{Value}
 use Rattle.rdm_device.specs.declared.value.Value.TheVariants.{Pair, Named, SlotName, Mode, Reading, Sensor, Info, Block}
 use Rattle.rdm_params.specs.Commands.Commands.{in_range, addressed, command_of, is_some_device}
