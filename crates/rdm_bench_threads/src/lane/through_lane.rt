@@ -1,6 +1,6 @@
 //! Items that go through a lane.
 
-use crate::CAPACITY;
+use super::CAPACITY;
 use rdm_lane::{Ends, Post, PutError, Take, Taken, lane};
 use std::alloc::Global;
 use std::sync::Wait;

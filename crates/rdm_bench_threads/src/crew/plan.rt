@@ -4,7 +4,7 @@ ghost use Rattle.std.specs.Prelude.{◌≢◌, Some};
 ghost use Rattle.rdm_bus.specs.BusRun.{raise_of};
 ghost use Rattle.rdm_crew.specs.RunTrace.{HaveFaults, fault_at};
 
-use crate::setup::DEVICE;
+use super::setup::DEVICE;
 use rdm_bus::{Action, Command, Fault};
 use rdm_crew::CrewStep;
 use rdm_frame::Load;

@@ -1,7 +1,7 @@
 //! The same steps, where the thread that plays them does the jobs too.
 
-use crate::part::outcome_of;
-use crate::setup::{CONTROLLER, DEVICE, QUEUE_SIZE};
+use super::part::outcome_of;
+use super::setup::{CONTROLLER, DEVICE, QUEUE_SIZE};
 use rdm_bus::{Collector, Command, Event, Fault, Step, System, Want};
 use rdm_crew::CrewStep;
 use rdm_outbox::Job;

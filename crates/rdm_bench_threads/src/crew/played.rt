@@ -1,10 +1,10 @@
 //! What there is after a plan was played.
 
-use crate::fault::Fault;
-use crate::one_thread::play;
-use crate::part::{Nobody, Quick, Slow};
-use crate::plan::Plan;
-use crate::setup::setup;
+use super::fault::CrewFault;
+use super::one_thread::play;
+use super::part::{Nobody, Quick, Slow};
+use super::plan::Plan;
+use super::setup::setup;
 use rdm_crew::{Trace, run};
 use std::alloc::Global;
 use std::fmt;
@@ -44,7 +44,7 @@ impl Display for Played {
 }
 
 /// Plays a plan with two workers.
-pub(crate) fn by_workers<R>(rt: R, alloc: Global, plan: &Plan) -> Result<Played, Fault>
+pub(crate) fn by_workers<R>(rt: R, alloc: Global, plan: &Plan) -> Result<Played, CrewFault>
 where
     R: Threads + Wait + Copy + Send + 'static,
 {
@@ -53,7 +53,7 @@ where
 }
 
 /// Plays a plan with two workers that take a millisecond for each job.
-pub(crate) fn by_slow_workers<R>(rt: R, alloc: Global, plan: &Plan) -> Result<Played, Fault>
+pub(crate) fn by_slow_workers<R>(rt: R, alloc: Global, plan: &Plan) -> Result<Played, CrewFault>
 where
     R: Clock + Threads + Wait + Copy + Send + 'static,
 {
@@ -63,8 +63,8 @@ where
 }
 
 /// Plays a plan on this thread alone.
-pub(crate) fn by_one_thread(alloc: Global, plan: &Plan) -> Result<Played, Fault> {
-    let system = play(alloc, plan.steps()).ok_or(Fault::Refused)?;
+pub(crate) fn by_one_thread(alloc: Global, plan: &Plan) -> Result<Played, CrewFault> {
+    let system = play(alloc, plan.steps()).ok_or(CrewFault::Refused)?;
     Ok(Played {
         events: system.trace().len(),
         messages: system.recorded().len(),

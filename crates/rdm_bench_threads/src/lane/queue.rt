@@ -1,6 +1,6 @@
 //! Items that go through a plain queue.
 
-use crate::CAPACITY;
+use super::CAPACITY;
 use crossbeam_queue::ArrayQueue;
 use std::alloc::{AllocError, Global};
 use std::sync::{Arc, Wait};
