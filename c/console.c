@@ -2,6 +2,7 @@
  * bus that loses a reply. The demonstration fixture stands in for the device. docs/C.md reads it part by part. */
 #include "felosumay.h"
 #include <stdio.h>
+#include <string.h>
 
 enum { MAKER = 0x7FF0, FIXTURE = 1, CONSOLE = 2, QUEUE_SIZE = 8 };
 
@@ -62,6 +63,36 @@ static felosumay_status collect(felosumay_collector *console, felosumay_responde
     return FELOSUMAY_DONE;
 }
 
+static int is_same(const felosumay_message *one, const felosumay_message *other) {
+    return one->command_class == other->command_class && one->pid == other->pid && one->sub == other->sub &&
+           one->count == other->count && memcmp(one->bytes, other->bytes, one->count) == 0;
+}
+
+/* The request of the second poll is lost, though the first was answered. The third asks for the last message again, by slot 24,
+ * and gets the one that the console has: where a message is equal to the one before it, and was asked for again, it is most
+ * likely the same. */
+static felosumay_status repeat(felosumay_collector *console, felosumay_responder *device) {
+    uint8_t request[FELOSUMAY_FRAME_BYTES];
+    felosumay_job job = {0, 0, 0, 0, 0, 0, 0};
+    felosumay_message message, last = {0, 0, 0, 0, {0}};
+    size_t count = 0;
+    printf("start 7: %u\n", felosumay_responder_change_start(device, 7));
+    for (int round = 0; round < 3; round++) {
+        felosumay_status status = felosumay_collector_poll(console, request, &count);
+        if (status != FELOSUMAY_DONE)
+            return status;
+        if (round == 1)
+            felosumay_collector_over(console);
+        else
+            exchange(console, device, request, count, 0, &job);
+        if (felosumay_collector_next(console, &message) != FELOSUMAY_DONE)
+            continue;
+        printf("PID %04X%s\n", message.pid, request[24] == 0x01 && is_same(&message, &last) ? ", again" : "");
+        last = message;
+    }
+    return FELOSUMAY_DONE;
+}
+
 /* Ten thousand messages are collected and taken: the collector keeps none of them. */
 static felosumay_status run_on(felosumay_collector *console, felosumay_responder *device) {
     uint8_t request[FELOSUMAY_FRAME_BYTES];
@@ -91,8 +122,14 @@ int main(void) {
         if (status == FELOSUMAY_DONE)
             status = collect(&console, &device);
         if (status == FELOSUMAY_DONE)
+            status = repeat(&console, &device);
+        if (status == FELOSUMAY_DONE)
             status = run_on(&console, &device);
         printf("want of 7: %u\n", felosumay_collector_new(&console, MAKER, CONSOLE, MAKER, FIXTURE, 7));
+        printf("a UID of all: %u\n", felosumay_collector_new(&console, MAKER, 0xFFFFFFFF, MAKER, FIXTURE, 2));
+        printf("a target of all: %u\n", felosumay_collector_new(&console, MAKER, CONSOLE, 0xFFFF, 0xFFFFFFFF, 2));
+        printf("both, and want of 7: %u\n", felosumay_collector_new(&console, MAKER, 0xFFFFFFFF, MAKER, 0xFFFFFFFF, 7));
+        printf("the old one stays: %u\n", felosumay_collector_over(&console));
         /* the compiler takes no collector for a responder; a cast is found out */
         printf("mistaken %u\n", felosumay_responder_waiting((felosumay_responder *)&console, &waiting));
     }

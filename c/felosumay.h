@@ -1,9 +1,12 @@
 /* Felosumay: a responder and a collector for Remote Device Management (ANSI E1.20-2010).
  *
  * A handle starts as {0}. It belongs to the library from then on: never copy it, and never look behind its pointer or write
- * it. Pointers are valid, also where a length is 0, and no two of one call overlap. Each handle is used by one thread and
- * one call at a time. Those are the only duties: all else is tested, and a status says so. Where a call isn't DONE, what
- * stands behind its other pointers has no meaning, unless the call says more. */
+ * it. Pointers are valid, also where a length is 0, and no two of one call overlap. Each handle is in one call at a time; which
+ * thread makes the call is all the same, so a mutex may hand a handle from thread to thread. Those are the only duties: all
+ * else is tested, and a status says so. Where a call isn't DONE, what stands behind its other pointers has no meaning, unless
+ * the call says more.
+ *
+ * The library runs on x86-64 processors of the level x86-64-v2, which have SSE4.2. */
 #ifndef FELOSUMAY_H
 #define FELOSUMAY_H
 #include <stddef.h>
@@ -21,7 +24,7 @@ typedef uint8_t felosumay_status;
 enum {
     FELOSUMAY_DONE = 0,          /* it was carried out */
     FELOSUMAY_OUT_OF_MEMORY = 1, /* memory was refused */
-    FELOSUMAY_BAD_PROFILE = 2,   /* the profile breaks a rule, or has more than 512 sub-devices */
+    FELOSUMAY_BAD_PROFILE = 2,   /* the profile breaks one of the rules that stand below it */
     FELOSUMAY_BAD_SIZE = 3,      /* the size of the queue isn't 1 to 1,024 */
     FELOSUMAY_BAD_UID = 4,       /* the UID addresses more than one device */
     FELOSUMAY_ABSENT = 5,        /* the handle holds no such party */
@@ -56,7 +59,7 @@ typedef struct {
 #define FELOSUMAY_TEXT(letters) { sizeof(letters) - 1, letters }
 
 typedef struct {
-    uint16_t footprint;
+    uint16_t footprint; /* how many DMX512 slots it takes: of the root at most slot_count, of sub-devices at most 512 */
     felosumay_text name;
 } felosumay_personality;
 
@@ -80,12 +83,12 @@ typedef struct {
 } felosumay_sensor;
 
 typedef struct {
-    uint8_t number; /* neither 0 nor 255 */
+    uint8_t number; /* neither 0 nor 255, and no two alike */
     felosumay_text name;
 } felosumay_self_test;
 
 typedef struct {
-    uint16_t id;
+    uint16_t id; /* no two alike */
     felosumay_text text;
 } felosumay_status_text;
 
@@ -121,11 +124,19 @@ typedef struct {
     felosumay_status_text status_texts[8];
 } felosumay_profile;
 
+/* BAD_PROFILE says that one of these rules is broken, and not which:
+ *   subs is at most 512, and presets below 65535;
+ *   root and sub have at least one personality each, and a start address of 1 to 512, also where there are no sub-devices;
+ *   the footprint of each personality of the root is at most slot_count, and so at most 46; of sub at most 512;
+ *   there is a language;
+ *   the number of each self test is 1 to 254, and no two have the same;
+ *   no two status texts have the same ID. */
+
 /* ---- the responder */
 
 /* A slow command that was accepted. Keep it until it has ended, and hand it back with the outcome. */
 typedef struct {
-    uint32_t number;
+    uint32_t number;   /* counts the jobs of its worker, from 0 in each new responder */
     uint16_t estimate; /* tenths of a second, as the controller was told */
     uint16_t sub;      /* the sub-device, or 0 for the root */
     uint16_t pid;
@@ -157,7 +168,8 @@ enum {
 };
 
 /* Makes a responder of this profile, or the demonstration fixture with so many sub-devices, in the place of what the handle
- * held. Where it isn't DONE, the handle stays as it was. BAD_UID, BAD_SIZE, BAD_PROFILE, OUT_OF_MEMORY, in this order. */
+ * held. Where it isn't DONE, the handle stays as it was. BAD_UID, BAD_SIZE, BAD_PROFILE, OUT_OF_MEMORY, in this order. The
+ * new responder counts its jobs from 0 again: end the jobs of the old one first, or drop their reports. */
 felosumay_status felosumay_responder_new(felosumay_responder *responder, uint16_t maker, uint32_t device,
                                          const felosumay_profile *profile, uint16_t queue_size);
 felosumay_status felosumay_responder_demo(felosumay_responder *responder, uint16_t maker, uint32_t device, uint16_t subs,
@@ -169,11 +181,14 @@ felosumay_status felosumay_responder_step(felosumay_responder *responder, const 
                                           uint8_t reply[FELOSUMAY_FRAME_BYTES], felosumay_stepped *stepped);
 
 /* Takes the report of a job. `kept` is 1 where it left a status entry that is kept, else 0. UNKNOWN, ABSENT, ASTRAY, in this
- * order; nothing changes then. */
+ * order; nothing changes then. A job is known by its numbers alone: that of another responder, or of the one that the handle
+ * held before, isn't told from one of this responder that has the same numbers. */
 felosumay_status felosumay_responder_arrive(felosumay_responder *responder, const felosumay_job *job,
                                             const felosumay_outcome *outcome, uint8_t *kept);
 
-/* A person changes something at the fixture's own menu, and the message that tells the controller waits. TOO_LONG for a
+/* A person changes something at the fixture's own menu, and the message that tells the controller waits; each DONE adds one,
+ * also where the value is as it was. Only polls take messages away: where no controller polls the queue fills up, and each
+ * change is NO_ROOM from then on. A SET that the firmware steps itself needs no room (c/fixture.c, `set_own`). TOO_LONG for a
  * label, then ABSENT, NO_ROOM, OUT_OF_RANGE, in this order; nothing changes then. */
 felosumay_status felosumay_responder_change_start(felosumay_responder *responder, uint16_t start);
 felosumay_status felosumay_responder_change_personality(felosumay_responder *responder, uint8_t number);
@@ -217,7 +232,8 @@ typedef struct {
 enum { FELOSUMAY_IGNORED = 0, FELOSUMAY_MESSAGE = 1, FELOSUMAY_REPLY = 2 };
 
 /* Makes a collector, in the place of what the handle held. `wants` is 02 for status entries of every severity, 03 for warnings
- * and errors, 04 for errors alone. UNKNOWN, OUT_OF_MEMORY, in this order; the handle stays as it was then. */
+ * and errors, 04 for errors alone. UNKNOWN; BAD_UID where its own UID or its target's addresses more than one device;
+ * OUT_OF_MEMORY, in this order; the handle stays as it was then. */
 felosumay_status felosumay_collector_new(felosumay_collector *collector, uint16_t maker, uint32_t device,
                                          uint16_t target_maker, uint32_t target_device, uint8_t wants);
 
@@ -230,7 +246,8 @@ felosumay_status felosumay_collector_ask(felosumay_collector *collector, const f
 felosumay_status felosumay_collector_poll(felosumay_collector *collector, uint8_t request[FELOSUMAY_FRAME_BYTES],
                                           size_t *count);
 
-/* Hears bytes, and says what they are taken for. Discovery's answers are no frames, and are ignored. ABSENT. */
+/* Hears bytes, and says what they are taken for. Discovery's answers are no frames, and are ignored; so is an answer to a poll
+ * that isn't ACK. ABSENT. */
 felosumay_status felosumay_collector_hear(felosumay_collector *collector, const uint8_t *bytes, size_t length,
                                           uint8_t *heard);
 
@@ -238,11 +255,32 @@ felosumay_status felosumay_collector_hear(felosumay_collector *collector, const 
  * ended so. ABSENT. */
 felosumay_status felosumay_collector_over(felosumay_collector *collector);
 
-/* Takes the first message that was recorded and not taken yet, and lets go of it. ABSENT, NO_MORE, in this order. */
+/* Takes the first message that was recorded and not taken yet, and lets go of it. A message may come twice in a row: where the
+ * request of a poll was lost, the next poll asks for the last message, which may have been recorded already. ABSENT, NO_MORE,
+ * in this order. */
 felosumay_status felosumay_collector_next(felosumay_collector *collector, felosumay_message *message);
 
 /* Gives up what the handle holds, if anything. The handle is {0} again. */
 void felosumay_collector_free(felosumay_collector *collector);
+
+/* ---- the heap: what the library calls for memory. libfelosumay_heap.a has the three functions over malloc, realloc and free
+ * (c/heap.c). A program that takes memory from a pool defines them itself, and doesn't link that library. An alignment is 1, 2,
+ * 4, 8 or 16, and a size below 2^63. */
+
+typedef struct {
+    uint8_t there; /* 1 where there is memory, else 0 */
+    void *at;      /* where the block begins; never NULL, also where there is none */
+} felosumay_block;
+
+/* Gets a block of so many bytes. */
+felosumay_block rattle_alloc(size_t size, size_t alignment);
+
+/* Makes a block one of so many bytes, here or elsewhere, whose first `kept` bytes are as they were. Where there is no memory for
+ * it, the block stays as it was. */
+felosumay_block rattle_realloc(void *at, size_t kept, size_t size, size_t alignment);
+
+/* Gives a block back. */
+void rattle_dealloc(void *at);
 
 #ifdef __cplusplus
 }

@@ -3,7 +3,7 @@
 #include "felosumay.h"
 #include <stdio.h>
 
-enum { MAKER = 0x7FF0, FIXTURE = 1, CONSOLE = 2, QUEUE_SIZE = 2 };
+enum { MAKER = 0x7FF0, FIXTURE = 1, CONSOLE = 2, FIRMWARE = 3, QUEUE_SIZE = 2 };
 
 /* What the fixture is. It may lie in flash. */
 static const felosumay_profile PROFILE = {
@@ -99,6 +99,19 @@ static felosumay_status change(felosumay_collector *bus, felosumay_responder *fi
     return status;
 }
 
+/* The firmware sets a value by a request of its own, as a controller would: no message waits for it, so it needs no room, and
+ * FACTORY_DEFAULTS still knows the profile's values. So it sets what it kept over power-off, and what a person changes at the
+ * menu while the queue is full. */
+static felosumay_status set_own(felosumay_responder *fixture) {
+    const uint8_t start[2] = {0x00, 0x08};
+    felosumay_collector own = {0};
+    felosumay_status status = felosumay_collector_new(&own, MAKER, FIRMWARE, MAKER, FIXTURE, 2);
+    printf("start 8: %u\n", felosumay_responder_change_start(fixture, 8));
+    ask(&own, fixture, 0x00F0, FELOSUMAY_SET, start, 2);
+    felosumay_collector_free(&own);
+    return status;
+}
+
 /* Discovery's answer is a reply as any other: it has 24 bytes, and is no frame. */
 static void discover(felosumay_collector *bus, felosumay_responder *fixture) {
     const uint8_t branch[12] = {0, 0, 0, 0, 0, 0, 0xFF, 0xFF, 0xFF, 0xFF, 0xFF, 0xFE};
@@ -131,6 +144,8 @@ int main(void) {
         ask(&bus, &fixture, 0x0082, FELOSUMAY_GET, &nothing, 0);
         strike(&bus, &fixture);
         status = change(&bus, &fixture);
+        if (status == FELOSUMAY_DONE)
+            status = set_own(&fixture);
         discover(&bus, &fixture);
         read(&fixture);
         printf("a UID of all: %u\n", felosumay_responder_new(&fixture, MAKER, 0xFFFFFFFF, &PROFILE, QUEUE_SIZE));

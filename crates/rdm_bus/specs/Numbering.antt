@@ -1,5 +1,5 @@
 -- What a controller sends in a run of the bus: the numbers of its transactions, and what its polls ask for. E1.20 sections
--- 6.2.5 and 10.3.1.
+-- 6.2.6 and 10.3.1.
 use Rattle.std.specs.Prelude.{◌≡◌, ℕ, ◌+◌, ◌%◌, Bool, true, false, not, if◌then◌else◌, List, [], ◌∷◌, ◌++◌, slice_get, Option, Some}
 use Rattle.std.specs.List.{flat_map}
 use Rattle.rdm_frame.specs.declared.frame.Frame.{Frame}

@@ -56,7 +56,7 @@ pub fn headline_holds()
     bus_recording_laws_hold();
 }
 
-/// The n-th transaction of every run has the first number plus n, modulo 256 (E1.20 section 6.2.5).
+/// The n-th transaction of every run has the first number plus n, modulo 256 (E1.20 section 6.2.6).
 #[tactic(auto, using(crate::proofs::Numbering::numbers))]
 pub fn transactions_are_numbered()
     ensures { NumberingHolds }

@@ -1,5 +1,5 @@
 -- What stands behind a handle, and what C is told of a responder.
-use Rattle.std.specs.Prelude.{◌≡◌, ℕ, ◌==◌, if◌then◌else◌, Bool, true, false, List, take, length, nat_lt, Option, Some, None, IsSome}
+use Rattle.std.specs.Prelude.{◌≡◌, ℕ, ◌==◌, if◌then◌else◌, Bool, true, false, List, take, length, nat_lt, Option, Some, None}
 use Rattle.rdm_device.specs.declared.profile.Profile.{Profile}
 use Rattle.rdm_params.specs.declared.panel.Change.{Change}
 use Rattle.rdm_params.specs.declared.slow.message.Message.{Message}

@@ -1,6 +1,6 @@
 //! The collector, as C calls it.
 
-ghost use Rattle.std.specs.Prelude.{◌≡◌, ◌≢◌, ◌↔◌, ◌≤◌, [], ◌∷◌, IfSome, IsSome, MatchOption, None, Some, drop, false, slice_get, take};
+ghost use Rattle.std.specs.Prelude.{◌≡◌, ◌≢◌, ◌↔◌, ◌⊎◌, ◌≤◌, [], ◌∷◌, IfSome, IsSome, MatchOption, None, Some, drop, false, slice_get, take};
 ghost use Rattle.rdm_frame.specs.FrameText.{frame_text, IsFrame};
 ghost use Rattle.rdm_bus.specs.Collecting.{State, new_collector, refusal_of, poll_request, command_request, after_ask, after_poll, heard_in, after_hearing, without_transaction};
 ghost use Rattle.rdm_c.specs.Messages.{action_in, command_in, heard_code, message_in, want_in};
@@ -19,7 +19,9 @@ use std::alloc::Global;
 
 /// Makes a collector with this UID for the messages of the target, in the place of what the handle held. `wants` is the
 /// least severity of the status entries that it wants: 02 for advisories, 03 for warnings, 04 for errors (E1.20 table A-4).
-/// Any other is unknown; then, and where memory is refused, the handle stays as it was.
+///
+/// Any other is unknown. A UID of its own or of its target that addresses more than one device is refused next, since
+/// nobody answers a poll of several devices; and last comes want of memory. Where it is refused, the handle stays as it was.
 #[unsafe(no_mangle)]
 pub extern "C" fn felosumay_collector_new(
     alloc: Global,
@@ -33,8 +35,11 @@ pub extern "C" fn felosumay_collector_new(
     ensures made { IfSome (want_in wants) (λ want. result ≡ code_of Status.Done → HeldIn collector.new.held
         (new_collector (record { maker = maker; device = device }) (record { maker = target_maker; device = target_device }) want)) }
     ensures unknown { (result ≡ code_of Status.Unknown) ↔ (want_in wants ≡ None) }
+    ensures bad_uid { (result ≡ code_of Status.BadUid)
+        ↔ ((want_in wants ≢ None) × ((device ≡ 0xFFFFFFFF) ⊎ (target_device ≡ 0xFFFFFFFF))) }
     ensures refused { result ≢ code_of Status.Done → collector.new ≡ collector.old }
-    ensures codes { result ≢ code_of Status.Done → result ≢ code_of Status.Unknown → result ≡ code_of Status.OutOfMemory }
+    ensures codes { result ≢ code_of Status.Done → result ≢ code_of Status.Unknown → result ≢ code_of Status.BadUid →
+        result ≡ code_of Status.OutOfMemory }
 {
     let Some(want) = want_in(wants) else {
         return Status::Unknown.code();
@@ -44,6 +49,9 @@ pub extern "C" fn felosumay_collector_new(
         maker: target_maker,
         device: target_device,
     };
+    if uid.is_broadcast() || target.is_broadcast() {
+        return Status::BadUid.code();
+    }
     let made = Collector::new(alloc, uid, target, want);
     replace(alloc, collector, Party::Collector(made)).code()
 }

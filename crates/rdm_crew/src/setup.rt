@@ -7,7 +7,7 @@ use rdm_params::Profile;
 /// A device and a controller on one bus.
 #[derive(Debug, Drop)]
 pub struct Setup {
-    /// The UID of the device (E1.20 section 5).
+    /// The UID of the device (E1.20 section 6.2.4).
     pub device: Uid,
     /// The UID of the controller.
     pub controller: Uid,

@@ -7,7 +7,7 @@ use rdm_crew::RunError;
 /// PIDs that a controller keeps for its polls: QUEUED_MESSAGE and STATUS_MESSAGES (E1.20 sections 10.3.1 and 10.3.2).
 const RESERVED: [u16; 2] = [0x0020, 0x0030];
 
-/// How many bytes of data a frame can carry (section 6.2.3).
+/// How many bytes of data a frame can carry (section 6.2.10).
 const MOST_DATA: usize = 231;
 
 /// The line, from 1, of the step at which the run of a script stops with this error, where that is known: the setup, the

@@ -83,7 +83,7 @@ fn a_console_collects_over_its_own_port(rt: HostRuntime) -> Result<(), Fail> {
         }
         console.over();
     }
-    // Nothing was lost and nothing is there twice: the response to SET LAMP_STATE, once.
+    // The message isn't lost: the response to SET LAMP_STATE is there, once.
     for message in console.recorded() {
         let said = (message.class, message.pid, message.sub);
         assert_eq!(rt; said, (0x31, 0x0403, 0));

@@ -19,7 +19,7 @@ const IDENTIFY_DEVICE: u16 = 0x1000;
 
 const PERFORM_SELFTEST: u16 = 0x1020;
 
-/// The most data of a frame (E1.20 section 6.2.3), and one byte more.
+/// The most data of a frame (E1.20 section 6.2.10), and one byte more.
 const MOST: [u8; 231] = [0; 231];
 
 const TOO_MANY: [u8; 232] = [0; 232];
