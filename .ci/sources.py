@@ -39,17 +39,24 @@ class Function:
 
 
 def dependencies():
-    """Each crate of crates.txt with the names of those that it depends on, lowest first."""
-    found = {}
+    """Each crate of crates.txt with the names of those that it depends on, in its order."""
+    return {name: below for _, crates in blocks() for name, below in crates.items()}
+
+
+def blocks():
+    """The blocks of crates.txt: the title of each, and its crates with the names of those that they depend on."""
+    found = []
     for line in (TOP / "crates.txt").read_text().splitlines():
+        if line.startswith("## "):
+            found.append((line[3:], {}))
         name, colon, below = line.split("#")[0].partition(":")
         if name.strip():
-            found[name.split()[0]] = below.split() if colon else []
+            found[-1][1][name.split()[0]] = below.split() if colon else []
     return found
 
 
 def libraries():
-    """The crates that have public calls, lowest first."""
+    """The crates that have public calls, in the order of crates.txt."""
     return [c for c in dependencies() if not c.endswith("_tests") and (root_of(c) / "lib.rt").exists()]
 
 

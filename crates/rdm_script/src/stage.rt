@@ -6,7 +6,7 @@ use rdm_params::Profile;
 /// A fixture, and what does its work while a script is played.
 #[derive(Debug, Drop)]
 pub struct Stage<P, Q, N> {
-    /// The UID of the device (E1.20 section 5). The words `dev` and `maker` of a script speak of it.
+    /// The UID of the device (E1.20 section 6.2.4). The words `dev` and `maker` of a script speak of it.
     pub device: Uid,
     /// What the device is. It has as many sub-devices as the script says, at most as many as stand here.
     pub profile: Profile,
