@@ -36,3 +36,5 @@ pub use running::run;
 pub use setup::Setup;
 pub use step::CrewStep;
 pub use trace::Trace;
+// What `Trace::reports` shows.
+pub use rdm_lane::{Settled, Taken};

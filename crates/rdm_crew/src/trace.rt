@@ -16,7 +16,7 @@ pub(crate) struct Ended {
 }
 
 /// What has happened in a run, what the controller collected, and what the workers handed over.
-#[derive(Drop)]
+#[derive(Debug, Drop)]
 pub struct Trace {
     system: System,
     reports: Settled<Report>,

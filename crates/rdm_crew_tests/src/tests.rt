@@ -188,6 +188,7 @@ fn tells(
     assert_eq!(rt; first.as_slice(), told.first, "{name}");
     let second = arrived(alloc, trace, 1)?;
     assert_eq!(rt; second.as_slice(), told.second, "{name}");
+    were_handed_over(rt, trace, told);
     are_collected(rt, trace, told.collected);
     Ok(())
 }
@@ -203,6 +204,14 @@ fn arrived(alloc: Global, trace: &Trace, worker: u8) -> Result<Vec<(u32, Outcome
         }
     }
     Ok(reports)
+}
+
+/// Over the report lane came these reports of each worker, and the mark with which it closed.
+fn were_handed_over(rt: &impl Abort, trace: &Trace, told: Told) {
+    let reports = trace.reports();
+    assert_eq!(rt; reports.posted(0).len(), told.first.len());
+    assert_eq!(rt; reports.posted(1).len(), told.second.len());
+    assert_eq!(rt; reports.taken().len(), told.first.len() + told.second.len() + 2);
 }
 
 /// The messages of these classes and PIDs were collected, of the root and without data.

@@ -23,7 +23,7 @@ pub enum SettleError {
 /// The lists of a lane whose ends are done.
 ///
 /// A contract sees the list of what was taken, and the lists of what each post put.
-#[derive(Drop)]
+#[derive(Debug, Drop)]
 pub struct Settled<T> {
     taken: Vec<Taken<T>>,
     lists: Lists<T>,
