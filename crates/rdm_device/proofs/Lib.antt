@@ -4,3 +4,5 @@ pub mod Maps
 pub mod SensorReads
 pub mod Sensors
 pub mod Words
+pub mod Equality
+pub mod ValueEquality

@@ -6,6 +6,7 @@
 
 pub mod columns;
 mod device;
+mod laws;
 mod profile;
 mod value;
 
@@ -13,6 +14,11 @@ pub use device::Place;
 pub use device::footprint::footprint;
 pub use device::measuring::measure;
 pub use device::state::{Common, Measured, Own};
+pub use laws::{
+    personalities_are_equal_by_value, profiles_are_equal_by_value, self_tests_are_equal_by_value,
+    sensor_defs_are_equal_by_value, slots_are_equal_by_value, status_texts_are_equal_by_value,
+    units_are_equal_by_value, values_are_equal_by_value,
+};
 pub use profile::checks::is_good;
 pub use profile::{Personality, Profile, SelfTest, SensorDef, Slot, StatusText, Unit};
 pub use value::Value;

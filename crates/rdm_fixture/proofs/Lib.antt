@@ -4,3 +4,4 @@ pub mod Readings
 pub mod OneFixture
 pub mod Made
 pub mod Equality
+pub mod RefusalEquality

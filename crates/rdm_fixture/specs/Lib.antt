@@ -4,3 +4,4 @@ pub mod Outcomes
 pub mod Format
 pub mod Describes
 pub mod Cause
+pub mod Refusals

@@ -21,7 +21,8 @@ mod writing;
 pub use document::{FixtureError, fixture_of, profile_of};
 pub use fixture::Fixture;
 pub use laws::{
-    fixtures_are_equal_by_value, profiles_are_equal_by_value, text_describes_one_fixture,
+    entries_are_equal_by_value, fixtures_are_equal_by_value, refusals_are_equal_by_value,
+    text_describes_one_fixture, wanteds_are_equal_by_value, write_errors_are_equal_by_value,
 };
 pub use refusal::{Entry, Name, Refusal, Wanted};
 pub use writing::{WriteError, to_toml};

@@ -9,7 +9,7 @@ ghost use Rattle.rdm_frame.specs.Discovery.{coded, uncoded, branch_reply};
 ghost use Rattle.rdm_frame.specs.FrameText.{frame_text, IsFrame, IsUid, HasSlots};
 ghost use Rattle.rdm_frame.specs.UidNumber.{uid_number};
 
-use crate::{Bytes, Frame, FrameError, Uid};
+use crate::{Bytes, Frame, FrameError, Uid, UidError};
 
 /// No byte list is the text of two frames.
 #[tactic(auto, using(crate::proofs::Texts::one_frame))]
@@ -58,6 +58,11 @@ pub fn frames_are_equal_by_value()
 /// Two refusals are equal by `==` exactly where they name the same test.
 pub fn frame_errors_are_equal_by_value()
     ensures { (d e : FrameError) → IsTrue (⟦<FrameError as PartialEq>⟧.eq d e) ↔ (d ≡ e) }
+{}
+
+/// Two refusals of a text as a UID are equal by `==`: there is one alone.
+pub fn uid_errors_are_equal_by_value()
+    ensures { (d e : UidError) → IsTrue (⟦<UidError as PartialEq>⟧.eq d e) ↔ (d ≡ e) }
 {}
 
 /// Digits are read exactly where they spell bytes, in either case.

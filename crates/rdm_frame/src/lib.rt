@@ -25,8 +25,8 @@ pub use frame_view::FrameView;
 pub use laws::{
     branch_reply_belongs_to_one_uid, bytes_are_equal_by_value, coded_byte_is_read_back,
     frame_errors_are_equal_by_value, frames_are_equal_by_value, printed_bytes_are_read_back,
-    text_belongs_to_one_frame, text_has_its_slots, uids_are_equal_by_value,
-    uids_are_ordered_by_number, written_uid_is_read_back,
+    text_belongs_to_one_frame, text_has_its_slots, uid_errors_are_equal_by_value,
+    uids_are_equal_by_value, uids_are_ordered_by_number, written_uid_is_read_back,
 };
 pub use uid::Uid;
 pub use uid_text::UidError;

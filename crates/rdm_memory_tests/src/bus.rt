@@ -1,69 +1,14 @@
-//! A collector that polls, and steps that are played on a bus.
+//! Steps that are played on a bus.
 
 use crate::fault::{ALWAYS, Fault, OTHER, check};
 use crate::making::{CONTROLLER, DEVICE};
 use crate::tally::{TRIES, Tally};
-use rdm_bus::{
-    Action, Collector, Command, Event, Fault as Goes, Heard, PlayError, PollError, Step, System,
-    Want,
-};
-use rdm_frame::{Body, Frame, Load, decode, encode};
+use rdm_bus::{Action, Collector, Command, Event, Fault as Goes, PlayError, Step, System, Want};
+use rdm_frame::Load;
 use rdm_outbox::Job;
 use rdm_params::{Outcome, Profile};
 use rdm_responder::{Report, Responder};
 use std::alloc::Global;
-
-/// How many polls are answered: more than a list has room for at first.
-const POLLS: u8 = 9;
-
-/// A collector polls, hears the empty status message, and polls again. Where a poll is refused the next one is what it would
-/// have been: it has the same transaction number and asks for the same.
-pub(crate) fn poll(alloc: Global) -> Result<Tally, Fault> {
-    let mut tally = Tally::NONE;
-    let mut collector = Collector::new(alloc, CONTROLLER, DEVICE, Want::Advisory);
-    for tn in 0..POLLS {
-        polls(&mut collector, tn, &mut tally)?;
-        check(
-            matches!(collector.poll(), Err(PollError::Busy)),
-            "a second poll",
-        )?;
-        let heard = collector.hear(encode(&Frame {
-            dst: CONTROLLER,
-            src: DEVICE,
-            tn,
-            port: 0,
-            count: 0,
-            sub: 0,
-            class: 0x21,
-            pid: 0x0030,
-            body: Body::new(),
-        })
-        .as_slice());
-        check(heard == Heard::Message, "a message that isn't heard")?;
-    }
-    Ok(tally)
-}
-
-/// One poll, of which so many were answered before. Where it is refused it is made again.
-fn polls(collector: &mut Collector, tn: u8, tally: &mut Tally) -> Result<(), Fault> {
-    for _ in 0..TRIES {
-        let answer = collector.poll();
-        check(
-            collector.recorded().len() == usize::from(tn),
-            "what is recorded changed",
-        )?;
-        match answer {
-            Ok(sent) => {
-                let frame = decode(sent.as_slice()).ok().ok_or(OTHER)?;
-                let asks = frame.pid == 0x0020 && frame.body.as_slice() == [2_u8].as_slice();
-                return check(asks && frame.tn == tn, "another poll");
-            }
-            Err(PollError::OutOfMemory) => tally.refused(),
-            Err(PollError::Busy) => return Err(OTHER),
-        }
-    }
-    Err(ALWAYS)
-}
 
 /// A step, and the bytes of the request and of the reply, from the transaction number on: none where a report arrives.
 #[derive(Drop)]
@@ -157,7 +102,7 @@ fn system(alloc: Global, tally: &mut Tally) -> Result<System, Fault> {
 pub(crate) fn command(pid: u16, value: u8) -> Command {
     Command {
         dst: DEVICE,
-        action: if pid == 0x0020 || pid == 0x0201 {
+        action: if pid == 0x0020 || pid == 0x0030 || pid == 0x0201 {
             Action::Get
         } else {
             Action::Set

@@ -6,6 +6,7 @@ ghost use Rattle.rdm_crew.specs.RunTrace.{HaveFaults};
 
 use crate::bus::command;
 use crate::fault::{ALWAYS, Fault, OTHER, check};
+use crate::gate::Gate;
 use crate::making::{CONTROLLER, DEVICE};
 use crate::tally::{TRIES, Tally};
 use rdm_bus::{Event, Fault as Goes, Want};
@@ -20,14 +21,17 @@ use std::thread::Threads;
 /// So many empty turns are enough for every report.
 const PATIENCE: u32 = 100_000_000;
 
-/// Does each job at once, and says when it is gone: the thread that has it is then done with it.
+/// Does each job at once, or waits for the other hand at a gate, and says when it is gone: the thread that has it is then done
+/// with it.
 struct Hand {
+    gate: Option<Gate>,
     gone: Arc<AtomicBool, Global>,
 }
 
 impl Drop for Hand {
     fn drop(self) {
-        let Hand { gone } = self;
+        let Hand { gate, gone } = self;
+        drop(gate);
         gone.store(true, Ordering::SeqCst);
     }
 }
@@ -36,9 +40,10 @@ impl Part for Hand {
     ghost gives = { λ part job outcome. ends job.work.verb outcome ≡ true };
 
     fn work(&mut self, job: &Job) -> Outcome {
-        match job.work.verb {
-            Verb::Set => Outcome::Done,
-            Verb::Get => Outcome::Reading(25),
+        match (job.work.verb, &self.gate) {
+            (Verb::Set, Some(gate)) => gate.waits(),
+            (Verb::Set, None) => Outcome::Done,
+            (Verb::Get, _) => Outcome::Reading(25),
         }
     }
 }
@@ -73,15 +78,23 @@ struct Parties {
 }
 
 impl Parties {
-    fn new(alloc: Global) -> Result<Parties, AllocError> {
+    fn new(alloc: Global, meet: bool) -> Result<Parties, AllocError> {
+        let (front, back) = if meet {
+            let (front, back) = Gate::pair(alloc)?;
+            (Some(front), Some(back))
+        } else {
+            (None, None)
+        };
         let first = Arc::new(alloc, AtomicBool::new(false))?;
         let second = Arc::new(alloc, AtomicBool::new(false))?;
         let panel = Arc::new(alloc, AtomicBool::new(false))?;
         Ok(Parties {
             first: Hand {
+                gate: front,
                 gone: Arc::try_clone(&first)?,
             },
             second: Hand {
+                gate: back,
                 gone: Arc::try_clone(&second)?,
             },
             panel: Nobody {
@@ -93,9 +106,9 @@ impl Parties {
 }
 
 /// Those of a run, where memory was refused to them made again.
-fn new_parties(alloc: Global, tally: &mut Tally) -> Result<Parties, Fault> {
+fn new_parties(alloc: Global, meet: bool, tally: &mut Tally) -> Result<Parties, Fault> {
     for _ in 0..TRIES {
-        match Parties::new(alloc) {
+        match Parties::new(alloc, meet) {
             Ok(parties) => return Ok(parties),
             Err(_) => tally.refused_ready(),
         }
@@ -103,12 +116,13 @@ fn new_parties(alloc: Global, tally: &mut Tally) -> Result<Parties, Fault> {
     Err(ALWAYS)
 }
 
-/// Plays steps on a device that has just been switched on, again where memory is refused. Whatever a run answers, its threads
-/// are then gone.
+/// Plays steps on a device that has just been switched on, by parts that meet at a gate or that don't, again where memory is
+/// refused. Whatever a run answers, its threads are then gone.
 fn ended<T>(
     rt: T,
     alloc: Global,
     steps: &[CrewStep],
+    meet: bool,
     tally: &mut Tally,
 ) -> Result<Result<Trace, RunError>, Fault>
 where
@@ -121,7 +135,7 @@ where
             second,
             panel,
             gone,
-        } = new_parties(alloc, tally)?;
+        } = new_parties(alloc, meet, tally)?;
         let answer = run(rt, alloc, setup(), steps, first, second, panel);
         check(are_gone(&gone), "a thread isn't joined")?;
         match answer {
@@ -160,7 +174,9 @@ where
         CrewStep::Collect(Goes::None),
         CrewStep::Collect(Goes::None),
     ];
-    let trace = ended(rt, alloc, &steps, &mut tally)?.ok().ok_or(OTHER)?;
+    let trace = ended(rt, alloc, &steps, false, &mut tally)?
+        .ok()
+        .ok_or(OTHER)?;
     check(trace.events().len() == 4, "other events")?;
     let [lamp, status] = trace.recorded() else {
         return Err(Fault::Wrong("other messages"));
@@ -185,13 +201,36 @@ where
         CrewStep::Ask(command(0x0201, 0), Goes::None),
         CrewStep::Settle(PATIENCE),
     ];
-    let trace = ended(rt, alloc, &steps, &mut tally)?.ok().ok_or(OTHER)?;
+    let trace = ended(rt, alloc, &steps, false, &mut tally)?
+        .ok()
+        .ok_or(OTHER)?;
     check(trace.events().len() == 6, "other events")?;
     check(arrived(&trace, 0, Outcome::Done) == Some(2), "worker 0")?;
     check(
         arrived(&trace, 1, Outcome::Reading(25)) == Some(1),
         "worker 1",
     )?;
+    Ok(tally)
+}
+
+/// Both workers are at work at once: each waits for the other.
+pub(crate) fn meets<T>(rt: T, alloc: Global) -> Result<Tally, Fault>
+where
+    T: Threads + Wait + Copy + Send + 'static,
+{
+    let mut tally = Tally::NONE;
+    let steps = [
+        CrewStep::Ask(command(0x0403, 1), Goes::None),
+        CrewStep::Draw,
+        CrewStep::Ask(command(0x1020, 1), Goes::None),
+        CrewStep::Settle(u32::MAX),
+    ];
+    let trace = ended(rt, alloc, &steps, true, &mut tally)?
+        .ok()
+        .ok_or(OTHER)?;
+    check(trace.events().len() == 4, "other events")?;
+    check(arrived(&trace, 0, Outcome::Done) == Some(1), "worker 0")?;
+    check(arrived(&trace, 1, Outcome::Done) == Some(1), "worker 1")?;
     Ok(tally)
 }
 
@@ -238,7 +277,7 @@ where
         CrewStep::Ask(command(0x0201, 0), Goes::None),
         CrewStep::Ask(command(0x0020, 2), Goes::None),
     ];
-    let answer = ended(rt, alloc, &steps, tally)?;
+    let answer = ended(rt, alloc, &steps, false, tally)?;
     check(
         matches!(&answer, Err(RunError::Reserved)),
         "a command for QUEUED_MESSAGE",
@@ -253,7 +292,7 @@ where
         CrewStep::Ask(command(0x0403, 1), Goes::None),
         CrewStep::Settle(0),
     ];
-    let answer = ended(rt, alloc, &steps, tally)?;
+    let answer = ended(rt, alloc, &steps, false, tally)?;
     check(
         matches!(&answer, Ok(_) | Err(RunError::Unsettled)),
         "a settle",

@@ -13,10 +13,13 @@
 mod bus;
 mod crew;
 mod fault;
+mod gate;
 mod lanes;
 mod making;
+mod polling;
 mod script;
 mod tally;
+mod turns;
 
 use fault::Fault;
 use std::alloc::{AllocError, Global};
@@ -31,7 +34,7 @@ use tally::Tally;
 const LINE: usize = 64;
 
 /// The words of all calls.
-const WORDS: [&str; 13] = [
+const WORDS: [&str; 14] = [
     "devices",
     "outbox",
     "responder",
@@ -43,6 +46,7 @@ const WORDS: [&str; 13] = [
     "run",
     "run-reports",
     "run-stops",
+    "run-gate",
     "parse",
     "script",
 ];
@@ -124,14 +128,15 @@ where
         "devices" => making::devices(alloc),
         "outbox" => making::outbox(alloc),
         "responder" => making::responder(alloc),
-        "poll" => bus::poll(alloc),
+        "poll" => polling::poll(alloc),
         "play" => bus::play(alloc),
         "lane" => lanes::lane_of_one(alloc),
-        "put" => lanes::put(&rt, alloc),
-        "take" => lanes::take(&rt, alloc),
+        "put" => turns::put(&rt, alloc),
+        "take" => turns::take(&rt, alloc),
         "run" => crew::collects(rt, alloc),
         "run-reports" => crew::reports(rt, alloc),
         "run-stops" => crew::stops(rt, alloc),
+        "run-gate" => crew::meets(rt, alloc),
         "parse" => script::parses(alloc),
         "script" => script::plays(rt, alloc),
         _ => Err(Fault::Wrong("there is no such call")),

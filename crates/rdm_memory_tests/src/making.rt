@@ -63,7 +63,15 @@ const LAMP: Work = Work {
     arg: 1,
 };
 
-/// Sizes that no outbox can have are told as such, whatever memory there is. An outbox for one job of each worker takes it.
+/// SET PERFORM_SELFTEST, which is for worker 1.
+const SELF_TEST: Work = Work {
+    sub: 0,
+    pid: 0x1020,
+    verb: Verb::Set,
+    arg: 1,
+};
+
+/// Sizes that no outbox can have are told as such, whatever memory there is. An outbox for one job of each worker takes both.
 pub(crate) fn outbox(alloc: Global) -> Result<Tally, Fault> {
     let mut tally = Tally::NONE;
     for _ in 0..TRIES {
@@ -87,14 +95,15 @@ fn is_bad_size(alloc: Global, queue_size: u16, jobs: u32) -> bool {
     matches!(&outbox, Err(OutboxError::BadSize))
 }
 
-/// The outbox takes a job, gives its message, and has then no job left for that worker.
+/// The outbox takes a job, gives its message, and has then no job left for that worker, but one for the other.
 fn serves(outbox: Outbox) -> Result<(), Fault> {
     let mut outbox = outbox;
     check(
-        number(&mut outbox) == Some(0) && gives(&mut outbox),
+        number(&mut outbox, LAMP) == Some(0) && gives(&mut outbox),
         "the first job and its message",
     )?;
-    check(number(&mut outbox).is_none(), "a second job")
+    check(number(&mut outbox, LAMP).is_none(), "a second job")?;
+    check(number(&mut outbox, SELF_TEST) == Some(0), "worker 1")
 }
 
 /// Whether the message of its one job comes out of an outbox.
@@ -116,8 +125,8 @@ fn gives(outbox: &mut Outbox) -> bool {
 }
 
 /// Reserves a job, and says its number.
-fn number(outbox: &mut Outbox) -> Option<u32> {
-    Some(outbox.reserve(LAMP).ok()?.number)
+fn number(outbox: &mut Outbox, work: Work) -> Option<u32> {
+    Some(outbox.reserve(work).ok()?.number)
 }
 
 /// What no responder can have is told as such, whatever memory there is. A responder with a sub-device answers QUEUED_MESSAGE.

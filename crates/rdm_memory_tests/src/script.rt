@@ -2,6 +2,7 @@
 
 use crate::fault::{ALWAYS, Fault, OTHER, check};
 use crate::tally::{TRIES, Tally};
+use rdm_crew::RunError;
 use rdm_script::{ProgramError, ScriptError, parse, run_script};
 use std::alloc::Global;
 use std::io;
@@ -90,29 +91,70 @@ impl Write for Sheet {
     }
 }
 
-/// A script is played and its trace written. Where memory is refused nothing is written.
+/// Scripts, how each ends, and what is written of it.
+const SCRIPTS: [(&str, Result<(), ProgramError>, &str); 5] = [
+    (LAMP, Ok(()), TRACE),
+    ("", Ok(()), "end\n"),
+    (
+        "get dev 0000 0020 02\n",
+        Err(ProgramError::Run(RunError::Reserved)),
+        "",
+    ),
+    (FAULTY, Err(ProgramError::Script(ScriptError::Line(2))), ""),
+    (
+        "setup 0 0 advisory\n",
+        Err(ProgramError::Run(RunError::BadSetup)),
+        "",
+    ),
+];
+
+/// Scripts are played, and their traces written.
 pub(crate) fn plays<T>(rt: T, alloc: Global) -> Result<Tally, Fault>
 where
     T: Threads + Wait + Copy + Send + 'static,
 {
     let mut tally = Tally::NONE;
+    for (script, end, written) in &SCRIPTS {
+        plays_one(
+            rt,
+            alloc,
+            script.as_bytes(),
+            *end,
+            written.as_bytes(),
+            &mut tally,
+        )?;
+    }
+    Ok(tally)
+}
+
+/// A script is played, and ends so. Where memory is refused nothing is written, and it is played again.
+fn plays_one<T>(
+    rt: T,
+    alloc: Global,
+    script: &[u8],
+    end: Result<(), ProgramError>,
+    written: &[u8],
+    tally: &mut Tally,
+) -> Result<(), Fault>
+where
+    T: Threads + Wait + Copy + Send + 'static,
+{
     for _ in 0..TRIES {
-        let mut reader = LAMP.as_bytes();
+        let mut reader = script;
         let mut sheet = Sheet {
             bytes: [0; 1_024],
             used: 0,
         };
-        match run_script(rt, alloc, &mut reader, &mut sheet) {
-            Ok(()) => {
-                let written = sheet.bytes.get(..sheet.used);
-                check(written == Some(TRACE.as_bytes()), "another trace")?;
-                return Ok(tally);
-            }
-            Err(ProgramError::Memory) => {
-                tally.refused();
-                check(sheet.used == 0, "something was written")?;
-            }
-            Err(_) => return Err(OTHER),
+        let answer = run_script(rt, alloc, &mut reader, &mut sheet);
+        if answer == Err(ProgramError::Memory) {
+            tally.refused();
+            check(sheet.used == 0, "something was written")?;
+        } else {
+            check(answer == end, "another end")?;
+            return check(
+                sheet.bytes.get(..sheet.used) == Some(written),
+                "another trace",
+            );
         }
     }
     Err(ALWAYS)

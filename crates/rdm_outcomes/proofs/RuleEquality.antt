@@ -1,4 +1,4 @@
--- `==` of rules.
+-- `==` of rules, and of rules that are counted.
 use Rattle.std.proofs.Common.{◌≡◌, ℕ, Option, Some, None, refl, ap}
 use Rattle.std.specs.Bool.{Decides}
 use Rattle.std.specs.Option.{option_eq}
@@ -6,8 +6,10 @@ use Rattle.std.specs.Prelude.{nat_eq}
 use Rattle.std.proofs.lemmas.Bool.Decides.{Decides-and, Decides-like, Decides-eqb}
 use Rattle.rdm_params.specs.declared.slow.outcome.Outcome.{Outcome}
 use Rattle.rdm_params.specs.contracts.slow.outcome.OutcomePartialEq.TheImpl as outcomes
+use Rattle.rdm_outcomes.specs.declared.planned.Counted.{Counted}
 use Rattle.rdm_outcomes.specs.declared.rule.Rule.{Rule}
 use Rattle.rdm_outcomes.specs.declared.rule.Task.{Task}
+use Rattle.rdm_outcomes.specs.contracts.planned.CountedPartialEq.TheImpl as counted
 use Rattle.rdm_outcomes.specs.contracts.rule.RulePartialEq.TheImpl as rules
 use Rattle.rdm_outcomes.specs.contracts.rule.TaskPartialEq.TheImpl as tasks
 
@@ -32,3 +34,14 @@ rule_decides task outcome a b =
     Decides-like _ (λ e. same_rule a.task b.task a.value b.value a.turn b.turn a.outcome b.outcome e.0 e.1.0 e.1.1.0 e.1.1.1)
     (λ e. (ap (λ (r : Rule). r.task) e, (ap (λ (r : Rule). r.value) e, (ap (λ (r : Rule). r.turn) e, ap (λ (r : Rule). r.outcome) e))))
     (Decides-and _ _ (task a.task b.task) (Decides-and _ _ (option_decides a.value b.value) (Decides-and _ _ (option_decides a.turn b.turn) (outcome a.outcome b.outcome))))
+
+abbrev counted_of : Rule → ℕ → Counted
+counted_of rule seen = record { rule = rule; seen = seen }
+
+same_counted : (r s : Rule) (m n : ℕ) → r ≡ s → m ≡ n → counted_of r m ≡ counted_of s n
+same_counted r s m n e f = rw (e, f) refl
+
+pub counted_decides : ((a b : Rule) → Decides (rules.ghosts.eq a b) (a ≡ b)) → (a b : Counted) → Decides (counted.ghosts.eq a b) (a ≡ b)
+counted_decides rule a b =
+    Decides-like _ (λ e. same_counted a.rule b.rule a.seen b.seen e.0 e.1) (λ e. (ap (λ (c : Counted). c.rule) e, ap (λ (c : Counted). c.seen) e))
+    (Decides-and _ _ (rule a.rule b.rule) (Decides-eqb a.seen b.seen))

@@ -10,7 +10,7 @@ ghost use Rattle.rdm_outcomes.specs.declared.rule.Rule.{Rule as TheRule};
 ghost use Rattle.rdm_outcomes.specs.Outcomes.{CanEnd};
 ghost use Rattle.rdm_outcomes.specs.Demo.{demo_rules, demo_outcome};
 
-use crate::{Rule, Task};
+use crate::{Counted, Rule, Task};
 use rdm_params::outcomes_are_equal_by_value;
 
 /// Whatever the rules, what they give for the job of a slow command is an outcome that it can have.
@@ -35,4 +35,11 @@ pub fn rules_are_equal_by_value()
 {
     tasks_are_equal_by_value();
     outcomes_are_equal_by_value();
+}
+
+/// Two counted rules are equal by `==` exactly where the rules and the numbers of jobs are.
+pub fn counted_are_equal_by_value()
+    ensures { (a b : Counted) → IsTrue (⟦<Counted as PartialEq>⟧.eq a b) ↔ (a ≡ b) }
+{
+    rules_are_equal_by_value();
 }

@@ -12,7 +12,8 @@ mod rule;
 
 pub use demo::demo_rules;
 pub use laws::{
-    demo_rules_end_jobs, outcomes_fit, rules_are_equal_by_value, tasks_are_equal_by_value,
+    counted_are_equal_by_value, demo_rules_end_jobs, outcomes_fit, rules_are_equal_by_value,
+    tasks_are_equal_by_value,
 };
 pub use planned::{Counted, Planned};
 pub use rule::{MOST_RULES, Rule, Task};

@@ -7,6 +7,7 @@
 
 mod command;
 mod fault;
+mod laws;
 mod line;
 mod names;
 mod narrowing;
@@ -15,6 +16,9 @@ mod refusal;
 mod stops;
 mod words;
 
+pub use laws::{
+    refusals_are_equal_by_value, wanteds_are_equal_by_value, wide_errors_are_equal_by_value,
+};
 pub use narrowing::narrowed;
 pub use refusal::{Excerpt, Refusal, Wanted, WideError};
 pub use stops::stopped_line;

@@ -1,9 +1,11 @@
-//! Laws of streams and of time. Each is the contract of a call that does nothing.
+//! Laws of streams, of time and of `==`. Each is the contract of a call that does nothing.
 
-ghost use Rattle.std.specs.Prelude.{◌≡◌, ℕ, List};
+ghost use Rattle.std.specs.Prelude.{◌≡◌, ◌↔◌, ℕ, List, IsTrue};
 ghost use Rattle.std.specs.List.{All};
 ghost use Rattle.rdm_widget.specs.Desks.{ReportsAreHandedIn};
 ghost use Rattle.rdm_widget.specs.Framing.{Message, IsMessage, Holds, bytes_of};
+
+use crate::ServeError;
 
 /// A stream of bytes holds one list of messages.
 pub fn stream_holds_one_list()
@@ -19,4 +21,9 @@ pub fn written_messages_are_read_back()
 /// Once the reports are handed in, as they are before each request, no job that is outstanding has ended by now.
 pub fn no_job_is_overdue()
     ensures { ReportsAreHandedIn }
+{}
+
+/// Two reasons why serving ended are equal by `==` exactly where they are the same.
+pub fn serve_errors_are_equal_by_value()
+    ensures { (a b : ServeError) → IsTrue (⟦<ServeError as PartialEq>⟧.eq a b) ↔ (a ≡ b) }
 {}

@@ -1,0 +1,97 @@
+-- `==` of profiles and of their parts.
+use Rattle.std.proofs.Common.{◌≡◌, ℕ, ℤ, Bool, ◌&&◌, List, refl, ap}
+use Rattle.std.specs.Bool.{Decides}
+use Rattle.std.specs.Ordering.{int_eq}
+use Rattle.std.specs.Prelude.{nat_eq}
+use Rattle.std.proofs.lemmas.Bool.Decides.{Decides-and, Decides-like, Decides-eqb, Decides-int_eq}
+use Rattle.std.proofs.lemmas.Slice.Eq.{slice_eq-Decides}
+use Rattle.arrayvec.specs.declared.array_vec.ArrayVec.{ArrayVec}
+use Rattle.rdm_device.specs.declared.profile.Personality.{Personality}
+use Rattle.rdm_device.specs.declared.profile.Profile.{Profile}
+use Rattle.rdm_device.specs.declared.profile.SelfTest.{SelfTest}
+use Rattle.rdm_device.specs.declared.profile.SensorDef.{SensorDef}
+use Rattle.rdm_device.specs.declared.profile.Slot.{Slot}
+use Rattle.rdm_device.specs.declared.profile.StatusText.{StatusText}
+use Rattle.rdm_device.specs.declared.profile.Unit.{Unit as DeviceUnit}
+use Rattle.rdm_device.specs.contracts.profile.PersonalityPartialEq.TheImpl as personalities
+use Rattle.rdm_device.specs.contracts.profile.ProfilePartialEq.TheImpl as profiles
+use Rattle.rdm_device.specs.contracts.profile.SelfTestPartialEq.TheImpl as self_tests
+use Rattle.rdm_device.specs.contracts.profile.SensorDefPartialEq.TheImpl as sensor_defs
+use Rattle.rdm_device.specs.contracts.profile.SlotPartialEq.TheImpl as slots
+use Rattle.rdm_device.specs.contracts.profile.StatusTextPartialEq.TheImpl as status_texts
+use Rattle.rdm_device.specs.contracts.profile.UnitPartialEq.TheImpl as units
+use lib.Pointwise.{pointwise}
+
+-- `==` is true exactly where the values are equal
+abbrev pub IsByValue : {A : Type 0} → (A → A → Bool) → Type 0
+IsByValue {A = A} eq = (a b : A) → Decides (eq a b) (a ≡ b)
+
+pub text_decides : IsByValue (pointwise nat_eq)
+text_decides x y = slice_eq-Decides Decides-eqb x y _ refl
+
+abbrev listed : {A : Type 0} (n : ℕ) → List A → ArrayVec A n (Unit {0})
+listed n xs = record { items = xs }
+
+list_decides : {A : Type 0} (n : ℕ) {E : A → A → Bool} → IsByValue E → (v w : ArrayVec A n (Unit {0})) → Decides (pointwise E v.items w.items) (v ≡ w)
+list_decides {A = A} n D v w =
+    Decides-like _ (ap (listed n)) (ap (λ (u : ArrayVec A n (Unit {0})). u.items)) (slice_eq-Decides D v.items w.items _ refl)
+
+pub number : {b : Bool} {P : Type 0} (x y : ℕ) → Decides b P → Decides (nat_eq x y && b) ((x ≡ y) × P)
+number x y rest = Decides-and _ _ (Decides-eqb x y) rest
+
+pub integer : {b : Bool} {P : Type 0} (x y : ℤ) → Decides b P → Decides (int_eq x y && b) ((x ≡ y) × P)
+integer x y rest = Decides-and _ _ (Decides-int_eq x y) rest
+
+pub text : {b : Bool} {P : Type 0} (x y : List ℕ) → Decides b P → Decides (pointwise nat_eq x y && b) ((x ≡ y) × P)
+text x y rest = Decides-and _ _ (text_decides x y) rest
+
+-- ---- sensors
+
+abbrev sensor_of : ℕ → ℕ → ℕ → ℤ → ℤ → ℤ → ℤ → ℕ → List ℕ → SensorDef
+sensor_of a0 a1 a2 a3 a4 a5 a6 a7 a8 =
+    record { kind = a0; unit = a1; prefix = a2; low = a3; high = a4; normal_low = a5; normal_high = a6; support = a7; name = a8 }
+
+same_sensor : {a0 b0 a1 b1 a2 b2 : ℕ} {a3 b3 a4 b4 a5 b5 a6 b6 : ℤ} {a7 b7 : ℕ} {a8 b8 : List ℕ}
+    → (a0 ≡ b0) × ((a1 ≡ b1) × ((a2 ≡ b2) × ((a3 ≡ b3) × ((a4 ≡ b4) × ((a5 ≡ b5) × ((a6 ≡ b6) × ((a7 ≡ b7) × (a8 ≡ b8))))))))
+    → sensor_of a0 a1 a2 a3 a4 a5 a6 a7 a8 ≡ sensor_of b0 b1 b2 b3 b4 b5 b6 b7 b8
+same_sensor e = rw (e.0, e.1.0, e.1.1.0, e.1.1.1.0, e.1.1.1.1.0, e.1.1.1.1.1.0, e.1.1.1.1.1.1.0, e.1.1.1.1.1.1.1.0, e.1.1.1.1.1.1.1.1) refl
+
+pub sensor_decides : IsByValue sensor_defs.ghosts.eq
+sensor_decides a b =
+    Decides-like _ same_sensor
+    (λ e. (ap (λ (s : SensorDef). s.kind) e, (ap (λ (s : SensorDef). s.unit) e, (ap (λ (s : SensorDef). s.prefix) e, (ap (λ (s : SensorDef). s.low) e, (ap (λ (s : SensorDef). s.high) e, (ap (λ (s : SensorDef). s.normal_low) e, (ap (λ (s : SensorDef). s.normal_high) e, (ap (λ (s : SensorDef). s.support) e, ap (λ (s : SensorDef). s.name) e)))))))))
+    (number a.kind b.kind (number a.unit b.unit (number a.prefix b.prefix (integer a.low b.low (integer a.high b.high (integer a.normal_low b.normal_low (integer a.normal_high b.normal_high (number a.support b.support (text_decides a.name b.name)))))))))
+
+-- ---- units
+
+abbrev unit_of : ℕ → ℕ → ℕ → List ℕ → List ℕ → List ℕ → List ℕ → ArrayVec Personality 8 (Unit {0}) → ℕ → DeviceUnit
+unit_of a0 a1 a2 a3 a4 a5 a6 a7 a8 =
+    record { model = a0; category = a1; software = a2; model_text = a3; maker_text = a4; label = a5; software_text = a6; personalities = a7; start = a8 }
+
+same_unit : {a0 b0 a1 b1 a2 b2 : ℕ} {a3 b3 a4 b4 a5 b5 a6 b6 : List ℕ} {a7 b7 : ArrayVec Personality 8 (Unit {0})} {a8 b8 : ℕ}
+    → (a0 ≡ b0) × ((a1 ≡ b1) × ((a2 ≡ b2) × ((a3 ≡ b3) × ((a4 ≡ b4) × ((a5 ≡ b5) × ((a6 ≡ b6) × ((a7 ≡ b7) × (a8 ≡ b8))))))))
+    → unit_of a0 a1 a2 a3 a4 a5 a6 a7 a8 ≡ unit_of b0 b1 b2 b3 b4 b5 b6 b7 b8
+same_unit e = rw (e.0, e.1.0, e.1.1.0, e.1.1.1.0, e.1.1.1.1.0, e.1.1.1.1.1.0, e.1.1.1.1.1.1.0, e.1.1.1.1.1.1.1.0, e.1.1.1.1.1.1.1.1) refl
+
+pub unit_decides : IsByValue personalities.ghosts.eq → IsByValue units.ghosts.eq
+unit_decides personality a b =
+    Decides-like _ same_unit
+    (λ e. (ap (λ (u : DeviceUnit). u.model) e, (ap (λ (u : DeviceUnit). u.category) e, (ap (λ (u : DeviceUnit). u.software) e, (ap (λ (u : DeviceUnit). u.model_text) e, (ap (λ (u : DeviceUnit). u.maker_text) e, (ap (λ (u : DeviceUnit). u.label) e, (ap (λ (u : DeviceUnit). u.software_text) e, (ap (λ (u : DeviceUnit). u.personalities) e, ap (λ (u : DeviceUnit). u.start) e)))))))))
+    (number a.model b.model (number a.category b.category (number a.software b.software (text a.model_text b.model_text (text a.maker_text b.maker_text (text a.label b.label (text a.software_text b.software_text (Decides-and _ _ (list_decides 8 personality a.personalities b.personalities) (Decides-eqb a.start b.start)))))))))
+
+-- ---- profiles
+
+abbrev profile_of : DeviceUnit → DeviceUnit → ℕ → ℕ → List ℕ → ArrayVec ℕ 8 (Unit {0}) → ArrayVec Slot 46 (Unit {0}) → ArrayVec SensorDef 8 (Unit {0}) → ArrayVec SelfTest 8 (Unit {0}) → ArrayVec StatusText 8 (Unit {0}) → ℕ → Profile
+profile_of a0 a1 a2 a3 a4 a5 a6 a7 a8 a9 a10 =
+    record { root = a0; sub = a1; subs = a2; boot = a3; boot_text = a4; languages = a5; slots = a6; sensors = a7; tests = a8; status_texts = a9; presets = a10 }
+
+same_profile : {a0 b0 a1 b1 : DeviceUnit} {a2 b2 a3 b3 : ℕ} {a4 b4 : List ℕ} {a5 b5 : ArrayVec ℕ 8 (Unit {0})} {a6 b6 : ArrayVec Slot 46 (Unit {0})} {a7 b7 : ArrayVec SensorDef 8 (Unit {0})} {a8 b8 : ArrayVec SelfTest 8 (Unit {0})} {a9 b9 : ArrayVec StatusText 8 (Unit {0})} {a10 b10 : ℕ}
+    → (a0 ≡ b0) × ((a1 ≡ b1) × ((a2 ≡ b2) × ((a3 ≡ b3) × ((a4 ≡ b4) × ((a5 ≡ b5) × ((a6 ≡ b6) × ((a7 ≡ b7) × ((a8 ≡ b8) × ((a9 ≡ b9) × (a10 ≡ b10))))))))))
+    → profile_of a0 a1 a2 a3 a4 a5 a6 a7 a8 a9 a10 ≡ profile_of b0 b1 b2 b3 b4 b5 b6 b7 b8 b9 b10
+same_profile e = rw (e.0, e.1.0, e.1.1.0, e.1.1.1.0, e.1.1.1.1.0, e.1.1.1.1.1.0, e.1.1.1.1.1.1.0, e.1.1.1.1.1.1.1.0, e.1.1.1.1.1.1.1.1.0, e.1.1.1.1.1.1.1.1.1.0, e.1.1.1.1.1.1.1.1.1.1) refl
+
+pub profile_decides : IsByValue units.ghosts.eq → IsByValue slots.ghosts.eq → IsByValue sensor_defs.ghosts.eq → IsByValue self_tests.ghosts.eq → IsByValue status_texts.ghosts.eq → IsByValue profiles.ghosts.eq
+profile_decides unit slot sensor self_test status a b =
+    Decides-like _ same_profile
+    (λ e. (ap (λ (p : Profile). p.root) e, (ap (λ (p : Profile). p.sub) e, (ap (λ (p : Profile). p.subs) e, (ap (λ (p : Profile). p.boot) e, (ap (λ (p : Profile). p.boot_text) e, (ap (λ (p : Profile). p.languages) e, (ap (λ (p : Profile). p.slots) e, (ap (λ (p : Profile). p.sensors) e, (ap (λ (p : Profile). p.tests) e, (ap (λ (p : Profile). p.status_texts) e, ap (λ (p : Profile). p.presets) e)))))))))))
+    (Decides-and _ _ (unit a.root b.root) (Decides-and _ _ (unit a.sub b.sub) (number a.subs b.subs (number a.boot b.boot (text a.boot_text b.boot_text (Decides-and _ _ (list_decides 8 Decides-eqb a.languages b.languages) (Decides-and _ _ (list_decides 46 slot a.slots b.slots) (Decides-and _ _ (list_decides 8 sensor a.sensors b.sensors) (Decides-and _ _ (list_decides 8 self_test a.tests b.tests) (Decides-and _ _ (list_decides 8 status a.status_texts b.status_texts) (Decides-eqb a.presets b.presets)))))))))))
