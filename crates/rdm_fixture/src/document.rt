@@ -37,8 +37,8 @@ pub enum FixtureError {
 
 /// The fixture that the text describes.
 ///
-/// It is refused exactly where it describes none: with `Syntax` where it is no document of TOML, else with the first
-/// key that doesn't say what it has to.
+/// It is refused exactly where it describes none: with `Syntax` where it is no document of TOML, else with a key that doesn't
+/// say what it has to.
 pub fn profile_of(alloc: Global, text: &str) -> Result<Fixture, FixtureError>
     ensures ok { IfOk result (Describes text.now) }
     ensures made { IfOk result (λ f. CanBeMade f.profile) }

@@ -18,14 +18,15 @@ pub enum WriteError {
     /// There is no memory for its text.
     #[error("out of memory")]
     OutOfMemory,
-    /// No text describes it: a text of it isn't printable ASCII, or devices can't be made with it.
+    /// The text that was made for it doesn't describe it, as where a text of it isn't printable ASCII, or where devices can't be made
+    /// with it.
     #[error("no file describes the fixture")]
     Indescribable,
 }
 
 /// A text that describes the fixture.
 ///
-/// It is read again before it is handed out, so a text is never one of another fixture.
+/// It is read again before it is handed out, so a text is never one of another fixture. No clause says when it is refused.
 pub fn to_toml(alloc: Global, fixture: &Fixture) -> Result<String, WriteError>
     ensures { IfOk result (λ text. Describes (string_bytes text) fixture.now) }
 {

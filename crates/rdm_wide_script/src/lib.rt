@@ -1,8 +1,8 @@
 //! Scripts as people write them: those of rdm_script, in which a parameter may also be named as in ANSI E1.20-2010, the
 //! sub-device may be `root` or a decimal number, and the data may be a text in double quotes.
 //!
-//! `narrowed` says such a script in the words of rdm_script, line by line, so that line N of the one is line N of the
-//! other. What is no such script is refused with its line, its column, the word and what was wanted there.
+//! `narrowed` says such a script in the words of rdm_script, line by line. What is no such script is refused with its line, its
+//! column, the word and what was wanted there.
 #![tactic(auto)]
 
 mod command;
