@@ -26,4 +26,4 @@ mod work;
 
 pub use charting::{ChartError, chart};
 pub use escape::put_escaped;
-pub use laws::escaped_text_has_no_tags;
+pub use laws::{chart_errors_are_equal_by_value, escaped_text_has_no_tags};

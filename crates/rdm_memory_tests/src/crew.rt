@@ -21,6 +21,15 @@ use std::thread::Threads;
 /// So many empty turns are enough for every report.
 const PATIENCE: u32 = 100_000_000;
 
+/// When the hands of a run do their jobs.
+#[derive(Clone, Copy)]
+enum Pace {
+    /// Each at once.
+    AtOnce,
+    /// Where the other hand has come too.
+    Together,
+}
+
 /// Does each job at once, or waits for the other hand at a gate, and says when it is gone: the thread that has it is then done
 /// with it.
 struct Hand {
@@ -78,12 +87,13 @@ struct Parties {
 }
 
 impl Parties {
-    fn new(alloc: Global, meet: bool) -> Result<Parties, AllocError> {
-        let (front, back) = if meet {
-            let (front, back) = Gate::pair(alloc)?;
-            (Some(front), Some(back))
-        } else {
-            (None, None)
+    fn new(alloc: Global, pace: Pace) -> Result<Parties, AllocError> {
+        let (front, back) = match pace {
+            Pace::AtOnce => (None, None),
+            Pace::Together => {
+                let (front, back) = Gate::pair(alloc)?;
+                (Some(front), Some(back))
+            }
         };
         let first = Arc::new(alloc, AtomicBool::new(false))?;
         let second = Arc::new(alloc, AtomicBool::new(false))?;
@@ -106,9 +116,9 @@ impl Parties {
 }
 
 /// Those of a run, where memory was refused to them made again.
-fn new_parties(alloc: Global, meet: bool, tally: &mut Tally) -> Result<Parties, Fault> {
+fn new_parties(alloc: Global, pace: Pace, tally: &mut Tally) -> Result<Parties, Fault> {
     for _ in 0..TRIES {
-        match Parties::new(alloc, meet) {
+        match Parties::new(alloc, pace) {
             Ok(parties) => return Ok(parties),
             Err(_) => tally.refused_ready(),
         }
@@ -116,13 +126,13 @@ fn new_parties(alloc: Global, meet: bool, tally: &mut Tally) -> Result<Parties, 
     Err(ALWAYS)
 }
 
-/// Plays steps on a device that has just been switched on, by parts that meet at a gate or that don't, again where memory is
-/// refused. Whatever a run answers, its threads are then gone.
+/// Plays steps on a device that has just been switched on, again where memory is refused. Whatever a run answers, its threads
+/// are then gone.
 fn ended<T>(
     rt: T,
     alloc: Global,
     steps: &[CrewStep],
-    meet: bool,
+    pace: Pace,
     tally: &mut Tally,
 ) -> Result<Result<Trace, RunError>, Fault>
 where
@@ -135,7 +145,7 @@ where
             second,
             panel,
             gone,
-        } = new_parties(alloc, meet, tally)?;
+        } = new_parties(alloc, pace, tally)?;
         let answer = run(rt, alloc, setup(), steps, first, second, panel);
         check(are_gone(&gone), "a thread isn't joined")?;
         match answer {
@@ -174,7 +184,7 @@ where
         CrewStep::Collect(Goes::None),
         CrewStep::Collect(Goes::None),
     ];
-    let trace = ended(rt, alloc, &steps, false, &mut tally)?
+    let trace = ended(rt, alloc, &steps, Pace::AtOnce, &mut tally)?
         .ok()
         .ok_or(OTHER)?;
     check(trace.events().len() == 4, "other events")?;
@@ -201,7 +211,7 @@ where
         CrewStep::Ask(command(0x0201, 0), Goes::None),
         CrewStep::Settle(PATIENCE),
     ];
-    let trace = ended(rt, alloc, &steps, false, &mut tally)?
+    let trace = ended(rt, alloc, &steps, Pace::AtOnce, &mut tally)?
         .ok()
         .ok_or(OTHER)?;
     check(trace.events().len() == 6, "other events")?;
@@ -225,7 +235,7 @@ where
         CrewStep::Ask(command(0x1020, 1), Goes::None),
         CrewStep::Settle(u32::MAX),
     ];
-    let trace = ended(rt, alloc, &steps, true, &mut tally)?
+    let trace = ended(rt, alloc, &steps, Pace::Together, &mut tally)?
         .ok()
         .ok_or(OTHER)?;
     check(trace.events().len() == 4, "other events")?;
@@ -277,7 +287,7 @@ where
         CrewStep::Ask(command(0x0201, 0), Goes::None),
         CrewStep::Ask(command(0x0020, 2), Goes::None),
     ];
-    let answer = ended(rt, alloc, &steps, false, tally)?;
+    let answer = ended(rt, alloc, &steps, Pace::AtOnce, tally)?;
     check(
         matches!(&answer, Err(RunError::Reserved)),
         "a command for QUEUED_MESSAGE",
@@ -292,7 +302,7 @@ where
         CrewStep::Ask(command(0x0403, 1), Goes::None),
         CrewStep::Settle(0),
     ];
-    let answer = ended(rt, alloc, &steps, false, tally)?;
+    let answer = ended(rt, alloc, &steps, Pace::AtOnce, tally)?;
     check(
         matches!(&answer, Ok(_) | Err(RunError::Unsettled)),
         "a settle",

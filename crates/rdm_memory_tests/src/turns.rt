@@ -5,11 +5,11 @@ ghost use Rattle.rdm_lane.specs.Ends.{IsSameTake, IsSamePost};
 
 use crate::fault::{ALWAYS, Fault, OTHER, check};
 use crate::tally::{TRIES, Tally};
+use PutError::{Full, OutOfMemory, Spent};
+use Taken::{Closed, Empty, Item, Mark};
 use rdm_lane::{ClosedPost, Ends, LaneError, Post, PutError, Take, Taken, lane, settle_up};
 use std::alloc::Global;
 use std::sync::Wait;
-use PutError::{Full, OutOfMemory, Spent};
-use Taken::{Closed, Empty, Item, Mark};
 
 /// What is put: more than a list has room for at first.
 const ITEMS: [u32; 9] = [0, 1, 2, 3, 4, 5, 6, 7, 8];
