@@ -8,7 +8,6 @@
 mod command;
 mod fault;
 mod line;
-mod names;
 mod narrowing;
 mod numbers;
 mod refusal;
