@@ -1,11 +1,12 @@
 //! Why the program couldn't do its work.
 
+use crate::source::OUTPUT;
 use rdm_crew::RunError;
 use rdm_fixture::{FixtureError, Refusal};
+use rdm_frame::Uid;
 use rdm_responder::NewError;
-use rdm_script::{ProgramError, ScriptError};
+use rdm_script::ScriptError;
 use rdm_wide_script::{WideError, stopped_line};
-use rdm_widget::ServeError;
 use std::alloc::{AllocError, AllocFailed};
 use std::{fmt, io};
 
@@ -17,22 +18,24 @@ pub const BAD_USAGE: u8 = 64;
 pub enum Fault<'a> {
     /// The words of the command line are no text.
     Words,
+    /// Standard input is named twice.
+    ReadTwice,
+    /// Standard output is named twice.
+    WrittenTwice,
+    /// A file is read and written.
+    Overwritten(&'a str),
     /// More sub-devices are asked for than the file says.
     TooManySubs(u16),
+    /// The fixture has no such parameter.
+    NoParameter(&'a str),
     /// There is no memory, or no thread.
     Memory,
-    /// The system has no clock.
-    Clock,
-    /// A file, or standard input, wasn't read.
-    Read(&'a str, io::Error),
+    /// The system's clock can't be read.
+    Clock(io::Error),
+    /// A file or a standard stream wasn't read or written.
+    Io(&'a str, io::Error),
     /// A file, or standard input, has more bytes than this.
     TooLong(&'a str, u64),
-    /// Standard input wasn't read.
-    ReadInput,
-    /// Standard output wasn't written.
-    Write,
-    /// A file wasn't written.
-    File(&'a str, io::Error),
     /// A file is no script.
     Script(&'a str, rdm_wide_script::Refusal),
     /// A file is no script, and more isn't known.
@@ -41,10 +44,14 @@ pub enum Fault<'a> {
     NoTrace(&'a str, usize),
     /// The run of a script stops, at this line if it is known.
     Stopped(&'a str, Option<usize>, RunError),
-    /// A file is no text.
-    NoText(&'a str),
-    /// A file is no document of TOML.
-    Syntax(&'a str, toml::de::Error),
+    /// The setup of a script, at this line if it is known, can't be had of a fixture with so many sub-devices.
+    BadSetup(&'a str, Option<usize>, u16),
+    /// The fixture of a script has the UID of the controller.
+    ControllersUid(Uid),
+    /// A file is no text, from this place on.
+    NoText(&'a str, Place),
+    /// A file is no document of TOML, at this place.
+    Syntax(&'a str, Place, toml::de::Error),
     /// A file is no fixture, by this line of it if it is known (else 0).
     Fixture(&'a str, usize, Refusal),
     /// There can be no device of the fixture.
@@ -61,22 +68,32 @@ impl<'a> Fault<'a> {
         }
     }
 
-    /// The script of a file isn't played to its end.
-    pub fn played(name: &'a str, script: &[u8], error: ProgramError) -> Fault<'a> {
+    /// The run of a script stops. The fixture that it is played on has so many sub-devices.
+    pub fn stopped(name: &'a str, script: &[u8], subs: u16, error: RunError) -> Fault<'a> {
+        let line = stopped_line(script, error);
         match error {
-            ProgramError::Memory => Fault::Memory,
-            ProgramError::Read => Fault::ReadInput,
-            ProgramError::Write => Fault::Write,
-            ProgramError::Script(error) => Fault::NoScript(name, error),
-            ProgramError::Run(error) => Fault::Stopped(name, stopped_line(script, error), error),
+            RunError::OutOfMemory => Fault::Memory,
+            RunError::BadSetup => Fault::BadSetup(name, line, subs),
+            _ => Fault::Stopped(name, line, error),
         }
     }
 
+    /// A file is no text behind so many bytes of it.
+    pub fn no_text(name: &'a str, bytes: &[u8], before: usize) -> Fault<'a> {
+        Fault::NoText(name, Place::behind(bytes, before))
+    }
+
     /// A file isn't read as a fixture.
-    pub fn fixture(name: &'a str, error: FixtureError) -> Fault<'a> {
+    pub fn fixture(name: &'a str, bytes: &[u8], error: FixtureError) -> Fault<'a> {
         match error {
             FixtureError::OutOfMemory => Fault::Memory,
-            FixtureError::Syntax(error) => Fault::Syntax(name, error),
+            FixtureError::Syntax(error) => {
+                let before = match error.span() {
+                    Some(span) => span.start,
+                    None => 0,
+                };
+                Fault::Syntax(name, Place::behind(bytes, before), error)
+            }
             FixtureError::Refused(refusal) => {
                 let line = refusal.line;
                 Fault::Fixture(name, line, Refusal { line: 0, ..refusal })
@@ -90,20 +107,62 @@ impl<'a> Fault<'a> {
             Fault::TooLong(_, _)
             | Fault::Script(_, _)
             | Fault::NoScript(_, _)
-            | Fault::NoText(_)
+            | Fault::NoText(_, _)
             | Fault::NoTrace(_, _)
-            | Fault::Syntax(_, _)
+            | Fault::Syntax(_, _, _)
             | Fault::Fixture(_, _, _)
+            | Fault::ControllersUid(_)
             | Fault::NoDevice => 1,
             Fault::Memory => 2,
-            Fault::Stopped(_, _, _) => 3,
-            Fault::Clock
-            | Fault::Read(_, _)
-            | Fault::ReadInput
-            | Fault::Write
-            | Fault::File(_, _) => 4,
-            Fault::Words | Fault::TooManySubs(_) => BAD_USAGE,
+            Fault::Stopped(_, _, _) | Fault::BadSetup(_, _, _) => 3,
+            Fault::Clock(_) | Fault::Io(_, _) => 4,
+            Fault::Words
+            | Fault::ReadTwice
+            | Fault::WrittenTwice
+            | Fault::Overwritten(_)
+            | Fault::TooManySubs(_)
+            | Fault::NoParameter(_) => BAD_USAGE,
         }
+    }
+
+    /// Whether nobody wants to be told: who reads standard output has gone, as `head` does.
+    pub fn is_closed_pipe(&self) -> bool {
+        match self {
+            Fault::Io(name, error) => {
+                *name == OUTPUT && error.kind() == io::ErrorKind::BrokenPipe
+            }
+            _ => false,
+        }
+    }
+}
+
+/// A place in a file: its line and its column, in bytes, both from 1.
+#[derive(Clone, Copy)]
+pub struct Place {
+    line: usize,
+    column: usize,
+}
+
+impl Place {
+    /// The place behind so many bytes.
+    fn behind(bytes: &[u8], count: usize) -> Place {
+        let mut place = Place { line: 1, column: 1 };
+        for byte in bytes.iter().take(count) {
+            if *byte == b'\n' {
+                place.line = place.line.saturating_add(1);
+                place.column = 1;
+            } else {
+                place.column = place.column.saturating_add(1);
+            }
+        }
+        place
+    }
+}
+
+impl fmt::Display for Place {
+    fn fmt<W: fmt::Write>(&self, f: &mut fmt::Formatter<W>) -> fmt::Result {
+        let Place { line, column } = *self;
+        write!(f, "{line}:{column}")
     }
 }
 
@@ -128,58 +187,76 @@ impl From<NewError> for Fault<'_> {
     }
 }
 
-impl From<ServeError> for Fault<'_> {
-    fn from(error: ServeError) -> Self {
-        match error {
-            ServeError::Read => Fault::ReadInput,
-            ServeError::Write => Fault::Write,
-        }
-    }
-}
-
 impl fmt::Display for Fault<'_> {
     fn fmt<W: fmt::Write>(&self, f: &mut fmt::Formatter<W>) -> fmt::Result {
         match self {
-            Fault::Words => f.write_str("error: a word of the command line is no text"),
-            Fault::TooManySubs(most) => {
-                write!(f, "error: --subs: the fixture has {most} sub-devices")
-            }
             Fault::Memory => f.write_str("error: out of memory"),
-            Fault::Clock => f.write_str("error: clock"),
-            Fault::Read(name, error) | Fault::File(name, error) => {
-                write!(f, "error: {name}: {error}")
-            }
+            Fault::Clock(error) => write!(f, "error: the clock: {error}"),
+            Fault::Io(name, error) => write!(f, "error: {name}: {error}"),
             Fault::TooLong(name, most) => write!(f, "{name}: more than {most} bytes"),
-            Fault::ReadInput => f.write_str("error: read"),
-            Fault::Write => f.write_str("error: write"),
             Fault::Script(name, refusal) => write!(f, "{name}:{refusal}"),
             Fault::NoScript(name, error) => write!(f, "{name}: {error}"),
-            Fault::Stopped(name, line, error) => write_stop(f, name, *line, *error),
+            Fault::Stopped(name, line, error) => {
+                write_place(f, name, *line)?;
+                write_stop(f, *error)
+            }
+            Fault::BadSetup(name, line, most) => {
+                write_place(f, name, *line)?;
+                write!(
+                    f,
+                    "there can be no such device: it has at most {most} sub-devices, "
+                )?;
+                f.write_str("and room for 1 to 1024 results")
+            }
             Fault::NoTrace(name, line) => write!(f, "{name}:{line}: this is no line of a trace"),
-            Fault::NoText(name) => write!(f, "{name}: no text in UTF-8"),
-            Fault::Syntax(name, error) => write!(f, "{name}: {error}"),
+            Fault::NoText(name, place) => write!(f, "{name}:{place}: no text in UTF-8"),
+            Fault::Syntax(name, place, error) => write!(f, "{name}:{place}: {}", error.message()),
             Fault::Fixture(name, 0, refusal) => write!(f, "{name}: {refusal}"),
             Fault::Fixture(name, line, refusal) => write!(f, "{name}:{line}: {refusal}"),
             Fault::NoDevice => f.write_str("error: there can be no such device"),
+            _ => write_refused(f, self),
         }
     }
 }
 
-/// Writes at which line of a script its run stops, and why.
-fn write_stop<W: fmt::Write>(
+/// Writes what the words of the command line ask for and can't be done.
+fn write_refused<W: fmt::Write>(f: &mut fmt::Formatter<W>, fault: &Fault<'_>) -> fmt::Result {
+    match fault {
+        Fault::ReadTwice => f.write_str("error: standard input can be read but once"),
+        Fault::WrittenTwice => f.write_str(
+            "error: standard output is for the words or for the chart, not for both",
+        ),
+        Fault::Overwritten(path) => {
+            write!(f, "error: {path}: it is read, and not to be written")
+        }
+        Fault::TooManySubs(most) => write!(f, "error: --subs: the fixture has {most} sub-devices"),
+        Fault::NoParameter(name) => write!(
+            f,
+            "error: {name}: the fixture has no such parameter: felosumay parameters lists them"
+        ),
+        Fault::ControllersUid(uid) => write!(
+            f,
+            "error: {uid} is the controller's, so the fixture can't have it in a script"
+        ),
+        _ => f.write_str("error: a word of the command line is no text"),
+    }
+}
+
+/// Writes the name of a file, and a line of it if it is known.
+fn write_place<W: fmt::Write>(
     f: &mut fmt::Formatter<W>,
     name: &str,
     line: Option<usize>,
-    error: RunError,
 ) -> fmt::Result {
     match line {
-        Some(line) => write!(f, "{name}:{line}: ")?,
-        None => write!(f, "{name}: ")?,
+        Some(line) => write!(f, "{name}:{line}: "),
+        None => write!(f, "{name}: "),
     }
+}
+
+/// Writes why the run of a script stops.
+fn write_stop<W: fmt::Write>(f: &mut fmt::Formatter<W>, error: RunError) -> fmt::Result {
     match error {
-        RunError::BadSetup => f.write_str(
-            "there can be no such device: it has at most 512 sub-devices, and room for 1 to 1024 results",
-        ),
         RunError::Reserved => f.write_str(
             "the controller keeps QUEUED_MESSAGE and STATUS_MESSAGES for its polls: write collect",
         ),
@@ -187,6 +264,8 @@ fn write_stop<W: fmt::Write>(
         RunError::Unsettled => {
             f.write_str("settle found no report once more often than it allows")
         }
-        RunError::OutOfMemory | RunError::Astray | RunError::Missing => write!(f, "run {error}"),
+        RunError::BadSetup | RunError::OutOfMemory | RunError::Astray | RunError::Missing => {
+            write!(f, "run {error}")
+        }
     }
 }

@@ -1,7 +1,7 @@
 //! Fixtures: `felosumay fixture`, and the fixture that other subcommands are asked for.
 
 use crate::fault::Fault;
-use crate::source::Source;
+use crate::source::{OUTPUT, Source};
 use crate::system::System;
 use crate::{telling, usage};
 use clap::ArgMatches;
@@ -23,17 +23,17 @@ const DEVICE: Uid = Uid {
 /// Reads the fixture file that is named, and prints what it describes.
 pub fn run<'a, S: System>(rt: S, asked: &ArgMatches<'a>) -> Result<(), Fault<'a>> {
     let source = Source::named(asked.get_str(usage::INPUT));
-    let fixture = read(rt, source)?;
+    let fixture = FixtureFile::read(rt, source)?.fixture(rt)?;
     match telling::tell(&rt, &fixture) {
         Ok(()) => Ok(()),
-        Err(_) => Err(Fault::Write),
+        Err(error) => Err(Fault::Io(OUTPUT, error)),
     }
 }
 
 /// The fixture of the file that is asked for, or the demonstration fixture without sub-devices.
 pub fn asked_for<'a, S: System>(rt: S, asked: &ArgMatches<'a>) -> Result<Fixture, Fault<'a>> {
-    match asked.get_str(usage::FIXTURE) {
-        Some(path) => read(rt, Source::File(path)),
+    match FixtureFile::asked_for(rt, asked)? {
+        Some(file) => file.fixture(rt),
         None => Ok(demonstration()),
     }
 }
@@ -47,14 +47,43 @@ pub fn demonstration() -> Fixture {
     }
 }
 
-/// Reads a fixture.
-fn read<'a, S: System>(rt: S, source: Source<'a>) -> Result<Fixture, Fault<'a>> {
-    let bytes = source.read(rt, MOST_BYTES)?;
-    let Ok(text) = str::from_utf8(bytes.as_slice()) else {
-        return Err(Fault::NoText(source.name()));
-    };
-    match profile_of(rt.alloc(), text) {
-        Ok(fixture) => Ok(fixture),
-        Err(error) => Err(Fault::fixture(source.name(), error)),
+/// A fixture's file, which was read: it may be a pipe, which can be read but once.
+#[derive(Drop)]
+pub struct FixtureFile<'a> {
+    name: &'a str,
+    bytes: Vec<u8>,
+}
+
+impl<'a> FixtureFile<'a> {
+    /// The file that is asked for, if one is.
+    pub fn asked_for<S: System>(
+        rt: S,
+        asked: &ArgMatches<'a>,
+    ) -> Result<Option<FixtureFile<'a>>, Fault<'a>> {
+        match asked.get_str(usage::FIXTURE) {
+            Some(path) => Ok(Some(FixtureFile::read(rt, Source::named(Some(path)))?)),
+            None => Ok(None),
+        }
+    }
+
+    /// Reads a file.
+    fn read<S: System>(rt: S, source: Source<'a>) -> Result<FixtureFile<'a>, Fault<'a>> {
+        Ok(FixtureFile {
+            name: source.name(),
+            bytes: source.read(rt, MOST_BYTES)?,
+        })
+    }
+
+    /// The fixture that it describes.
+    pub fn fixture<S: System>(&self, rt: S) -> Result<Fixture, Fault<'a>> {
+        let bytes = self.bytes.as_slice();
+        let text = match str::from_utf8(bytes) {
+            Ok(text) => text,
+            Err(error) => return Err(Fault::no_text(self.name, bytes, error.valid_up_to())),
+        };
+        match profile_of(rt.alloc(), text) {
+            Ok(fixture) => Ok(fixture),
+            Err(error) => Err(Fault::fixture(self.name, bytes, error)),
+        }
     }
 }

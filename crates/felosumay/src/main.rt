@@ -8,17 +8,20 @@ mod chart;
 mod fault;
 mod fixture;
 mod outcomes;
+mod parameters;
 mod play;
 mod source;
 mod system;
 mod telling;
 mod usage;
+mod watched;
 mod widget;
 mod words;
 
 use clap::ArgMatches;
 use clap::error::ErrorKind;
 use fault::Fault;
+use source::OUTPUT;
 use std::env;
 use std::io::IsTerminal;
 use std::process::ExitCode;
@@ -55,6 +58,7 @@ fn run<'a, S: System>(rt: S, matches: &ArgMatches<'a>) -> Result<(), Fault<'a>> 
         Some(("words", asked)) => words::run(rt, asked),
         Some(("chart", asked)) => chart::run(rt, asked),
         Some(("fixture", asked)) => fixture::run(rt, asked),
+        Some(("parameters", asked)) => parameters::run(rt, asked),
         Some(("widget", asked)) => widget::run(rt, asked),
         _ => Ok(()),
     }
@@ -62,14 +66,30 @@ fn run<'a, S: System>(rt: S, matches: &ArgMatches<'a>) -> Result<(), Fault<'a>> 
 
 /// Tells on standard error why the program couldn't do its work.
 fn end(rt: HostRuntime, fault: &Fault<'_>) -> ExitCode {
-    let coloured = rt.stderr().is_terminal();
+    let status = ExitCode::from(fault.status());
+    if fault.is_closed_pipe() {
+        return status;
+    }
     // Nobody is left to be told where this can't be written.
-    let _ = if coloured {
+    let _ = if is_coloured(rt) {
         eprintln!(rt; "\u{1b}[31m{fault}\u{1b}[0m")
     } else {
         eprintln!(rt; "{fault}")
     };
-    ExitCode::from(fault.status())
+    status
+}
+
+/// Whether messages are coloured: on a terminal that has colours, unless `NO_COLOR` asks for none.
+fn is_coloured(rt: HostRuntime) -> bool {
+    let is_plain = match env::var(&rt, "TERM") {
+        Ok(terminal) => terminal.as_str() == "dumb",
+        Err(_) => false,
+    };
+    let is_declined = match env::var(&rt, "NO_COLOR") {
+        Ok(word) => !word.is_empty(),
+        Err(_) => false,
+    };
+    rt.stderr().is_terminal() && !is_plain && !is_declined
 }
 
 /// Prints a help page or the version that was asked for, or tells what is wrong with the command line.
@@ -78,7 +98,7 @@ fn end_of_usage(rt: HostRuntime, error: &clap::Error) -> ExitCode {
     match error.kind() {
         ErrorKind::DisplayHelp | ErrorKind::DisplayVersion => match printed {
             Ok(()) => ExitCode::SUCCESS,
-            Err(_) => ExitCode::from(4),
+            Err(error) => end(rt, &Fault::Io(OUTPUT, error)),
         },
         ErrorKind::OutOfMemory => ExitCode::from(2),
         _ => ExitCode::from(fault::BAD_USAGE),

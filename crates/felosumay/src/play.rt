@@ -5,14 +5,17 @@ ghost use Rattle.std.specs.Io.KnownBytes.{Appends};
 ghost use Rattle.rdm_script.specs.Program.{IsTraceOf};
 ghost use Rattle.rdm_script.specs.DemoParts.{demo_scene};
 
-use crate::chart::{draw, save};
+use crate::chart::draw;
 use crate::fault::Fault;
-use crate::source::{Source, print};
+use crate::fixture::{FixtureFile, demonstration};
+use crate::source::{OUTPUT, Source, print, refuse_clashes, save, without_mark};
 use crate::system::System;
+use crate::usage;
+use crate::watched::Watched;
 use crate::words::say;
-use crate::{fixture, usage};
 use clap::ArgMatches;
 use rdm_fixture::Fixture;
+use rdm_frame::Uid;
 use rdm_script::{
     DemoPanel, ProgramError, RuledPart, Stage, ruled_parts_fit, run_script, run_script_on,
 };
@@ -23,60 +26,124 @@ use std::io::Write;
 /// How many bytes a script may have: 64 KiB.
 const MOST_BYTES: u64 = 65536;
 
+/// The UID of the controller that plays a script.
+const CONTROLLER: Uid = Uid {
+    maker: 0x7FF0,
+    device: 0x0000_0002,
+};
+
+/// How many sub-devices a script can give the fixture of the demonstration.
+const MOST_SUBS: u16 = 512;
+
 /// Plays the script that is named, and prints what is asked for.
 pub fn run<'a, S: System>(rt: S, asked: &ArgMatches<'a>) -> Result<(), Fault<'a>> {
+    refuse_clashes(asked)?;
     let source = Source::named(asked.get_str(usage::INPUT));
     let text = source.read(rt, MOST_BYTES)?;
-    let device = fixture::asked_for(rt, asked)?.uid;
-    let script = match narrowed(rt.alloc(), device, text.as_slice()) {
+    let file = FixtureFile::asked_for(rt, asked)?;
+    let (fixture, stage) = match &file {
+        Some(file) => (file.fixture(rt)?, Some(file.fixture(rt)?)),
+        None => (demonstration(), None),
+    };
+    if fixture.uid == CONTROLLER {
+        return Err(Fault::ControllersUid(CONTROLLER));
+    }
+    let script = match narrowed(rt.alloc(), fixture.uid, without_mark(text.as_slice())) {
         Ok(script) => script,
         Err(error) => return Err(Fault::script(source.name(), error)),
     };
-    let script = script.as_slice();
+    let script = Script {
+        name: source.name(),
+        text: script.as_slice(),
+        subs: if stage.is_some() {
+            fixture.profile.subs
+        } else {
+            MOST_SUBS
+        },
+    };
     if asked.contains_id(usage::CHART) || asked.get_flag(usage::WORDS) {
         let mut trace = Vec::new(rt.alloc());
-        play(rt, asked, source.name(), script, &mut trace)?;
-        show(rt, asked, source.name(), trace.as_slice())
+        let played = play(rt, stage, script.text, &mut trace);
+        script.ended(played, Fault::Memory)?;
+        show(rt, asked, script.name, trace.as_slice(), &fixture)
     } else {
-        play(rt, asked, source.name(), script, &mut io::writer(&rt))
+        print_trace(rt, stage, &script)
     }
 }
 
-/// Draws a trace, and prints it or its words.
+/// Plays a script, and prints its trace.
+fn print_trace<'a, S: System>(
+    rt: S,
+    stage: Option<Fixture>,
+    script: &Script<'_, 'a>,
+) -> Result<(), Fault<'a>> {
+    let mut writer = Watched::new(io::writer(&rt));
+    let played = play(rt, stage, script.text, &mut writer);
+    script.ended(played, Fault::Io(OUTPUT, writer.error()))
+}
+
+/// A script in the words of rdm_script.
+#[derive(Clone, Copy)]
+struct Script<'s, 'a> {
+    /// By what name messages tell of it.
+    name: &'a str,
+    text: &'s [u8],
+    /// How many sub-devices it can ask for.
+    subs: u16,
+}
+
+impl<'a> Script<'_, 'a> {
+    /// What comes of its run, where this is told if its trace isn't written.
+    fn ended(
+        &self,
+        played: Result<(), ProgramError>,
+        unwritten: Fault<'a>,
+    ) -> Result<(), Fault<'a>> {
+        match played {
+            Ok(()) => Ok(()),
+            // It lies in memory, so it can always be read.
+            Err(ProgramError::Memory | ProgramError::Read) => Err(Fault::Memory),
+            Err(ProgramError::Write) => Err(unwritten),
+            Err(ProgramError::Script(error)) => Err(Fault::NoScript(self.name, error)),
+            Err(ProgramError::Run(error)) => {
+                Err(Fault::stopped(self.name, self.text, self.subs, error))
+            }
+        }
+    }
+}
+
+/// Draws a trace, and prints it or its words. A chart on standard output stands in the place of the trace.
 fn show<'a, S: System>(
     rt: S,
     asked: &ArgMatches<'a>,
     name: &'a str,
     trace: &[u8],
+    fixture: &Fixture,
 ) -> Result<(), Fault<'a>> {
-    let fixture = fixture::asked_for(rt, asked)?;
     if let Some(path) = asked.get_str(usage::CHART) {
-        let picture = draw(rt, name, trace, &fixture)?;
+        let picture = draw(rt, name, trace, fixture)?;
         save(rt, path, picture.as_slice())?;
+        if path == "-" {
+            return Ok(());
+        }
     }
     if asked.get_flag(usage::WORDS) {
-        say(rt, trace, &fixture)
+        say(rt, trace, fixture)
     } else {
         print(rt, trace)
     }
 }
 
-/// Plays a script on the fixture of the file that is asked for, or on that of the demonstration, and writes its trace.
-fn play<'a, S: System, W: Write>(
+/// Plays a script on a fixture from a file, or else on that of the demonstration, and writes its trace.
+fn play<S: System, W: Write>(
     rt: S,
-    asked: &ArgMatches<'a>,
-    name: &'a str,
+    stage: Option<Fixture>,
     script: &[u8],
     writer: &mut W,
-) -> Result<(), Fault<'a>> {
-    let played = if asked.contains_id(usage::FIXTURE) {
-        play_on(rt, fixture::asked_for(rt, asked)?, script, writer)
-    } else {
-        play_demonstration(rt, script, writer)
-    };
-    match played {
-        Ok(()) => Ok(()),
-        Err(error) => Err(Fault::played(name, script, error)),
+) -> Result<(), ProgramError> {
+    match stage {
+        Some(fixture) => play_on(rt, fixture, script, writer),
+        None => play_demonstration(rt, script, writer),
     }
 }
 

@@ -2,9 +2,16 @@
 
 use crate::fault::Fault;
 use crate::system::System;
+use crate::usage;
+use clap::ArgMatches;
 use std::alloc::Global;
 use std::io::{Read, Write};
 use std::{fs, io};
+
+/// By what name messages tell of standard input.
+pub const INPUT: &str = "<stdin>";
+/// By what name messages tell of standard output.
+pub const OUTPUT: &str = "<stdout>";
 
 /// A file, or standard input.
 #[derive(Clone, Copy, PartialEq, Eq)]
@@ -27,7 +34,7 @@ impl<'a> Source<'a> {
     /// By what name messages tell of it.
     pub fn name(self) -> &'a str {
         match self {
-            Source::Input => "<stdin>",
+            Source::Input => INPUT,
             Source::File(path) => path,
         }
     }
@@ -47,8 +54,47 @@ impl<'a> Source<'a> {
         match read {
             Ok(_) if bytes.len() as u64 > most => Err(Fault::TooLong(self.name(), most)),
             Ok(_) => Ok(bytes),
-            Err(error) => Err(Fault::Read(self.name(), error)),
+            Err(error) => Err(Fault::Io(self.name(), error)),
         }
+    }
+}
+
+/// A text without the mark of UTF-8 that some editors put before it.
+pub fn without_mark(text: &[u8]) -> &[u8] {
+    match text {
+        [0xEF, 0xBB, 0xBF, rest @ ..] => rest,
+        _ => text,
+    }
+}
+
+/// Refuses a command line that has a stream read or written twice, or a file written that is read.
+pub fn refuse_clashes<'a>(asked: &ArgMatches<'a>) -> Result<(), Fault<'a>> {
+    let input = Source::named(asked.get_str(usage::INPUT));
+    let fixture = asked.get_str(usage::FIXTURE);
+    if fixture == Some("-") && input == Source::Input {
+        return Err(Fault::ReadTwice);
+    }
+    let written = match asked.get_str(usage::CHART) {
+        Some(path) => path,
+        None => asked.get_str(usage::OUTPUT).unwrap_or("-"),
+    };
+    if written != "-" && (input == Source::File(written) || fixture == Some(written)) {
+        return Err(Fault::Overwritten(written));
+    }
+    if asked.get_str(usage::CHART) == Some("-") && asked.get_flag(usage::WORDS) {
+        return Err(Fault::WrittenTwice);
+    }
+    Ok(())
+}
+
+/// Writes a text to a file, or to standard output where the path is `-`.
+pub fn save<'a, S: System>(rt: S, path: &'a str, text: &[u8]) -> Result<(), Fault<'a>> {
+    if path == "-" {
+        return print(rt, text);
+    }
+    match fs::write(&rt, path, text) {
+        Ok(()) => Ok(()),
+        Err(error) => Err(Fault::Io(path, error)),
     }
 }
 
@@ -56,6 +102,6 @@ impl<'a> Source<'a> {
 pub fn print<'a, S: System>(rt: S, text: &[u8]) -> Result<(), Fault<'a>> {
     match io::writer(&rt).write_all(text) {
         Ok(()) => Ok(()),
-        Err(_) => Err(Fault::Write),
+        Err(error) => Err(Fault::Io(OUTPUT, error)),
     }
 }

@@ -5,7 +5,7 @@ use rdm_device::{Profile, SensorDef, Slot, Unit};
 use rdm_fixture::Fixture;
 use rdm_frame::Text;
 use rdm_words::tables::products::product_category;
-use rdm_words::tables::sensors::{sensor_type, sensor_unit, unit_prefix};
+use rdm_words::tables::sensors::{Range, sensor_type, sensor_unit, unit_prefix};
 use rdm_words::tables::slots::{slot_label, slot_type};
 use std::io::Print;
 use std::{io, str};
@@ -101,7 +101,15 @@ fn tell_sensor(rt: &impl Print, number: usize, sensor: &SensorDef) -> io::Result
         (Some(prefix), Some(unit)) => print!(rt; " in {prefix}{unit}")?,
         _ => print!(rt; " in unit {unit:02X} with prefix {prefix:02X}")?,
     }
-    println!(rt; ", range {low} to {high}, normally {normal_low} to {normal_high}")
+    let range = Range {
+        low: *low,
+        high: *high,
+    };
+    let normal = Range {
+        low: *normal_low,
+        high: *normal_high,
+    };
+    println!(rt; ", range {range}, normally {normal}")
 }
 
 /// Prints the self tests, the status IDs, and what is counted.

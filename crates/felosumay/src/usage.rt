@@ -13,6 +13,8 @@ pub const CHART: &str = "chart";
 pub const OUTPUT: &str = "output";
 /// Where the text that is read is named.
 pub const INPUT: &str = "input";
+/// Which parameter is asked for.
+pub const PARAMETER: &str = "parameter";
 /// How many sub-devices are asked for.
 pub const SUBS: &str = "subs";
 /// How fast time is asked to pass.
@@ -40,6 +42,7 @@ fn command<'a>(alloc: Global) -> Result<Command<'a>, Error> {
             .subcommand(words(alloc)?)?
             .subcommand(chart(alloc)?)?
             .subcommand(fixture(alloc)?)?
+            .subcommand(parameters(alloc)?)?
             .subcommand(widget(alloc)?)?,
     )
 }
@@ -53,7 +56,7 @@ fn play<'a>(alloc: Global) -> Result<Command<'a>, Error> {
     );
     let fixture = fixture_file(
         alloc,
-        "The fixture that it is played on; that of the demonstration without it",
+        "The fixture that it is played on, standard input for -; that of the demonstration without it",
     );
     let words = Arg::new(alloc, WORDS)
         .long("words")
@@ -63,7 +66,9 @@ fn play<'a>(alloc: Global) -> Result<Command<'a>, Error> {
         .long("chart")
         .value_name("FILE.svg")
         .action(ArgAction::Set)
-        .help("Writes the chart of the trace to this file, too");
+        .help(
+            "Writes the chart of the trace to this file, too; for - to standard output, in place of the trace",
+        );
     Ok(
         Command::new(alloc, "play")
             .about("Plays a script on a fixture, and prints the trace")
@@ -84,7 +89,10 @@ fn words<'a>(alloc: Global) -> Result<Command<'a>, Error> {
                 "TRACE",
                 "The trace; standard input without it, or for -",
             ))?
-            .arg(fixture_file(alloc, "The fixture whose sensors and status IDs are known"))?,
+            .arg(fixture_file(
+                alloc,
+                "The fixture whose sensors and status IDs are known; standard input for -",
+            ))?,
     )
 }
 
@@ -92,9 +100,10 @@ fn words<'a>(alloc: Global) -> Result<Command<'a>, Error> {
 fn chart<'a>(alloc: Global) -> Result<Command<'a>, Error> {
     let output = Arg::new(alloc, OUTPUT)
         .short('o')
+        .long("output")
         .value_name("FILE.svg")
         .action(ArgAction::Set)
-        .help("The file of the chart; standard output without it");
+        .help("The file of the chart; standard output without it, or for -");
     Ok(
         Command::new(alloc, "chart")
             .about("Draws a trace as a sequence chart, in SVG")
@@ -104,7 +113,10 @@ fn chart<'a>(alloc: Global) -> Result<Command<'a>, Error> {
                 "The trace; standard input without it, or for -",
             ))?
             .arg(output)?
-            .arg(fixture_file(alloc, "The fixture whose sensors and status IDs are known"))?,
+            .arg(fixture_file(
+                alloc,
+                "The fixture whose sensors and status IDs are known; standard input for -",
+            ))?,
     )
 }
 
@@ -114,6 +126,23 @@ fn fixture<'a>(alloc: Global) -> Result<Command<'a>, Error> {
         Command::new(alloc, "fixture")
             .about("Checks a fixture file, and prints what a controller will find")
             .arg(input(alloc, "FILE", "The fixture file; standard input for -").required(true))?,
+    )
+}
+
+/// `felosumay parameters`.
+fn parameters<'a>(alloc: Global) -> Result<Command<'a>, Error> {
+    let parameter = Arg::new(alloc, PARAMETER)
+        .value_name("NAME")
+        .action(ArgAction::Set)
+        .help("The one that is asked for, by its name or its PID; all of them without it");
+    Ok(
+        Command::new(alloc, "parameters")
+            .about("Lists the parameters of a fixture, with the data that their commands take")
+            .arg(parameter)?
+            .arg(fixture_file(
+                alloc,
+                "The fixture, standard input for -; that of the demonstration without it",
+            ))?,
     )
 }
 

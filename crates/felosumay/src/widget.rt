@@ -1,11 +1,13 @@
 //! `felosumay widget`: a virtual fixture on standard input and output.
 
 use crate::fault::Fault;
+use crate::source::{INPUT, OUTPUT, refuse_clashes};
 use crate::system::System;
+use crate::watched::Watched;
 use crate::{fixture, usage};
 use clap::ArgMatches;
 use rdm_fixture::Fixture;
-use rdm_widget::{Desk, RealClock, serve};
+use rdm_widget::{Desk, RealClock, ServeError, serve};
 use std::io;
 
 /// How many results of slow commands there is room for.
@@ -13,6 +15,7 @@ const QUEUE_SIZE: u16 = 8;
 
 /// Serves until standard input ends.
 pub fn run<'a, S: System>(rt: S, asked: &ArgMatches<'a>) -> Result<(), Fault<'a>> {
+    refuse_clashes(asked)?;
     let mut fixture = fixture::asked_for(rt, asked)?;
     if let Some(subs) = asked.get_one::<u16>(usage::SUBS) {
         if asked.contains_id(usage::FIXTURE) && subs > fixture.profile.subs {
@@ -32,12 +35,13 @@ pub fn run<'a, S: System>(rt: S, asked: &ArgMatches<'a>) -> Result<(), Fault<'a>
     };
     let mut clock = match RealClock::start(&rt, speed) {
         Ok(clock) => clock,
-        Err(_) => return Err(Fault::Clock),
+        Err(error) => return Err(Fault::Clock(error)),
     };
-    Ok(serve(
-        &mut rt.reader(),
-        &mut io::writer(&rt),
-        &mut clock,
-        &mut desk,
-    )?)
+    let mut reader = Watched::new(rt.reader());
+    let mut writer = Watched::new(io::writer(&rt));
+    match serve(&mut reader, &mut writer, &mut clock, &mut desk) {
+        Ok(()) => Ok(()),
+        Err(ServeError::Read) => Err(Fault::Io(INPUT, reader.error())),
+        Err(ServeError::Write) => Err(Fault::Io(OUTPUT, writer.error())),
+    }
 }

@@ -1,7 +1,7 @@
 //! `felosumay words`: what a trace or frames say, in words.
 
 use crate::fault::Fault;
-use crate::source::{Source, print};
+use crate::source::{Source, print, refuse_clashes, without_mark};
 use crate::system::System;
 use crate::{fixture, usage};
 use clap::ArgMatches;
@@ -13,10 +13,11 @@ pub const MOST_BYTES: u64 = 67108864;
 
 /// Reads the trace that is named, and prints its words.
 pub fn run<'a, S: System>(rt: S, asked: &ArgMatches<'a>) -> Result<(), Fault<'a>> {
+    refuse_clashes(asked)?;
     let known = fixture::asked_for(rt, asked)?;
     let source = Source::named(asked.get_str(usage::INPUT));
     let trace = source.read(rt, MOST_BYTES)?;
-    say(rt, trace.as_slice(), &known)
+    say(rt, without_mark(trace.as_slice()), &known)
 }
 
 /// Prints the words of a trace.

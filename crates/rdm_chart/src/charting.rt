@@ -24,7 +24,7 @@ pub enum ChartError {
 /// A trace as a sequence chart: a document of SVG 1.1, in UTF-8.
 ///
 /// A trace that stops before its `end` is drawn as far as it goes. A line that is none of a trace is refused, but for what
-/// stands behind the last end of a line: where that is no line, it was cut off, and is left out.
+/// stands behind the last end of a line: where that is no line, but may begin one, it was cut off, and is left out.
 pub fn chart(alloc: Global, trace: &[u8], known: &Known<'_>) -> Result<Vec<u8>, ChartError>
     ensures ends { IfOk result (λ svg. (front : List ℕ) × (svg.items ≡ front ++ codes "</svg>\n")) }
 {

@@ -89,7 +89,11 @@ fn a_line_of_no_trace_is_refused(rt: HostRuntime) {
         (b"end\r\n", Ok(())),
         (b"\nend\n", Err(ChartError::Line(1))),
         (b"end\nget dev 0000 1000 -\n", Err(ChartError::Line(2))),
-        (b"end\nget dev 0000 1000 -", Ok(())),
+        (b"end\nget dev 0000 1000 -", Err(ChartError::Line(2))),
+        (b"end\nsend CC0", Ok(())),
+        (b"end\nsen", Ok(())),
+        (b"end\nsen CC0", Err(ChartError::Line(2))),
+        (b"nonsense", Err(ChartError::Line(1))),
         (b"send CC0\n", Err(ChartError::Line(1))),
     ] {
         assert_eq!(rt; outcome(rt.alloc(), trace), expected);

@@ -58,7 +58,7 @@ pub record IsSensor (t : Members) (s : SensorDef) : Type 0 where
 abbrev pub self_test_keys : List (List ℕ)
 self_test_keys = codes "number" ∷ codes "description" ∷ []
 
--- Section 10.11.2. The numbers 0 and 255 stand for no test and for all.
+-- Section 10.11. The numbers 0 and 255 stand for no test and for all.
 pub record IsSelfTest (t : Members) (s : SelfTest) : Type 0 where
   pub keys : IsTrue (has_only self_test_keys t)
   pub number : Must t (codes "number") (number 1 254) s.number

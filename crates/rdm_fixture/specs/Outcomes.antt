@@ -74,7 +74,7 @@ rule_keys (Reading value) = and_job_keys (codes "reading" ∷ [])
 rule_keys (Failed severity id v1 v2) =
     and_job_keys (codes "severity" ∷ codes "status_id" ∷ codes "data_value_1" ∷ codes "data_value_2" ∷ [])
 
--- The value is a lamp state, a power state, or the number of a self test or of a sensor (sections 10.8.4, 10.11.1, 10.11.2
+-- The value is a lamp state, a power state, or the number of a self test or of a sensor (sections 10.8.4, 10.11
 -- and 10.7.2); the job is which of those jobs it is, from 1.
 pub record IsOutcome (t : Members) (r : Rule) : Type 0 where
   pub keys : IsTrue (has_only (rule_keys r.outcome) t)

@@ -51,7 +51,7 @@ pub fn profile_of(alloc: Global, text: &str) -> Result<Fixture, FixtureError>
     };
     match fixture_of(&table) {
         Ok(fixture) => Ok(fixture),
-        Err(refusal) => Err(FixtureError::Refused(with_line(text, refusal))),
+        Err(refusal) => Err(FixtureError::Refused(with_line(alloc, text, refusal))),
     }
 }
 

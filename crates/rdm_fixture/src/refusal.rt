@@ -3,8 +3,11 @@
 use arrayvec::ArrayString;
 use std::fmt;
 
-/// The name of a key, of which the first 40 bytes are kept.
+/// The name of a key as it is shown: one of more than 40 bytes is cut, and ends in `..`. A control character is `?` in it.
 pub type Name = ArrayString<40>;
+
+/// How many bytes are shown of a name that is cut.
+const KEPT: usize = 38;
 
 /// What was wanted of a key.
 #[derive(Clone, Copy, Debug, PartialEq, Eq)]
@@ -61,8 +64,8 @@ pub struct Refusal {
     pub key: Name,
     /// What was wanted of it.
     pub wanted: Wanted,
-    /// The line where the text has it, from 1: that of the key, or of its table where the key is missing. It is 0
-    /// where the line wasn't found.
+    /// The line where the text has it, from 1: that of the key, or where it is missing that of its table, which is the last
+    /// line for the table at the top. It is 0 where there was no text, or no memory to look for it.
     pub line: usize,
 }
 
@@ -109,13 +112,16 @@ impl Refusal {
     }
 }
 
-/// As much of a key as is kept.
-fn name_of(key: &str) -> Name {
+/// What is shown of a key.
+pub(crate) fn name_of(key: &str) -> Name {
     let mut name = Name::new();
+    let is_whole = key.len() <= name.capacity();
     for c in key.chars() {
-        if name.try_push(c).is_err() {
+        if !is_whole && name.len().saturating_add(c.len_utf8()) > KEPT {
+            let _ = name.try_push_str("..");
             break;
         }
+        let _ = name.try_push(if c.is_control() { '?' } else { c });
     }
     name
 }

@@ -1,10 +1,10 @@
 //! The words of a command that people may write in another way: the sub-device, the parameter and the data.
 
-use crate::names::pid_named;
 use crate::numbers::number_up_to;
 use crate::refusal::Wanted;
 use rdm_frame::digits::{bytes_in, word_in};
 use rdm_frame::{Load, Uid};
+use rdm_words::tables::parameters::pid_named;
 
 /// The greatest sub-device (E1.20 section 9).
 const GREATEST_SUB: u32 = 512;

@@ -9,7 +9,6 @@ mod command;
 mod fault;
 mod laws;
 mod line;
-mod names;
 mod narrowing;
 mod numbers;
 mod refusal;

@@ -93,7 +93,7 @@ impl Wanted {
             Wanted::Empties => "0 to 4294967295",
             Wanted::SubDevices | Wanted::Room => "0 to 65535",
             Wanted::Messages => "advisory, warning or error",
-            Wanted::End => "the end of the line",
+            Wanted::End => "the line ends before it",
         }
     }
 }

@@ -39,6 +39,14 @@ fn wide_words(rt: HostRuntime) -> Result<(), Fail> {
                 "\tget dev 0 PRESET_PLAYBACK  - lost-reply",
                 "get dev 0000 1031 - lost-reply",
             ),
+            (
+                "disc dev root DISC_MUTE -\nget dev root REAL_TIME_CLOCK -",
+                "disc dev 0000 0002 -\nget dev 0000 0603 -",
+            ),
+            (
+                "disc all root DISC_UNIQUE_BRANCH 000000000000FFFFFFFFFFFF",
+                "disc all 0000 0001 000000000000FFFFFFFFFFFF",
+            ),
             ("get all 512 1000 -", "get all 0200 1000 -"),
             (
                 "get all 0100 1000 -\nget dev 100 1000 -",
@@ -134,7 +142,31 @@ fn refusals(rt: HostRuntime) -> Result<(), Fail> {
             ("collect bad-reply 1 0", "1:21: \"0\" is no raise: 1 to 255"),
             (
                 "draw now",
-                "1:6: \"now\" is a word too many: the end of the line",
+                "1:6: \"now\" is a word too many: the line ends before it",
+            ),
+            (
+                "get dev root 1000 - lost-reply 1",
+                "1:32: \"1\" is a word too many: the line ends before it",
+            ),
+            (
+                "get dev root 1000 - bad-reply 3 4 5",
+                "1:35: \"5\" is a word too many: the line ends before it",
+            ),
+            (
+                "get dev 0000 1000 - bad-reply 3 4 lost-reply",
+                "1:35: \"lost-reply\" is a word too many: the line ends before it",
+            ),
+            (
+                "get dev 0000 1000 - bad-reply 3 4 5 6",
+                "1:35: \"5\" is a word too many: the line ends before it",
+            ),
+            (
+                "collect bad-reply 3 4 5",
+                "1:23: \"5\" is a word too many: the line ends before it",
+            ),
+            (
+                "setup 0 8 advisory 1",
+                "1:20: \"1\" is a word too many: the line ends before it",
             ),
             ("settle", "1:7: a word is missing: 0 to 4294967295"),
             (

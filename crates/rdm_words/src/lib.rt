@@ -32,4 +32,4 @@ mod values;
 pub use known::Known;
 pub use line_words::{put_line_words, words};
 pub use short::{put_reply_words, put_request_words};
-pub use trace::{JobName, TraceLine, trace_line};
+pub use trace::{JobName, TraceLine, may_begin_trace_line, trace_line};

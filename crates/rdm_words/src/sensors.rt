@@ -1,7 +1,7 @@
 //! The words of sensors (E1.20 section 10.7).
 
 use crate::Known;
-use crate::tables::sensors::{sensor_type, sensor_unit, unit_prefix};
+use crate::tables::sensors::{Range, sensor_type, sensor_unit, unit_prefix};
 use crate::text::put_quoted;
 use crate::values::{put_coded, put_data};
 use std::alloc::AllocError;
@@ -44,9 +44,14 @@ pub(crate) fn put_sensor_definition(text: &mut String, data: &[u8]) -> Result<()
     put_quoted(text, name)?;
     text.push_str(", ")?;
     put_coded(text, sensor_type(*kind), &[*kind])?;
-    put_range(text, "range", [*a, *b], [*c, *d])?;
+    let range = range_of([*a, *b], [*c, *d]);
+    write!(text, ", range {range}")?;
+    if !range.has_an_end() && has_unit(*prefix, *unit) {
+        text.push_str(", in")?;
+    }
     put_unit(text, *prefix, *unit)?;
-    put_range(text, "normal", [*e, *f], [*g, *h])?;
+    let normal = range_of([*e, *f], [*g, *h]);
+    write!(text, ", normal {normal}")?;
     put_support(text, *support)
 }
 
@@ -60,10 +65,19 @@ pub(crate) fn put_sensor_in_short(text: &mut String, data: &[u8]) -> Result<(), 
 }
 
 /// A range of values.
-fn put_range(text: &mut String, name: &str, low: [u8; 2], high: [u8; 2]) -> Result<(), AllocError> {
-    let low = i16::from_be_bytes(low);
-    let high = i16::from_be_bytes(high);
-    write!(text, ", {name} {low} to {high}")
+fn range_of(low: [u8; 2], high: [u8; 2]) -> Range {
+    Range {
+        low: i16::from_be_bytes(low),
+        high: i16::from_be_bytes(high),
+    }
+}
+
+/// Whether a unit is told: the tables have one that is none.
+fn has_unit(prefix: u8, unit: u8) -> bool {
+    !matches!(
+        (unit_prefix(prefix), sensor_unit(unit)),
+        (Some(""), Some(""))
+    )
 }
 
 /// A space and a unit with its prefix, or their numbers where the tables have no symbol.

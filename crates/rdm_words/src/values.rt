@@ -134,6 +134,9 @@ fn name_of(codes: Codes, code: u8) -> Option<&'static str> {
 }
 
 fn put_languages(text: &mut String, noun: &str, data: &[u8]) -> Result<(), AllocError> {
+    if data.is_empty() {
+        return write!(text, "no {noun}");
+    }
     put_noun(text, noun)?;
     let mut is_first = true;
     for language in data.chunks(2) {

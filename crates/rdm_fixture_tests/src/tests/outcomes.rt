@@ -41,7 +41,7 @@ fn parameters_and_keys(rt: HostRuntime) -> Result<(), Fail> {
                 "[[outcome]]\nparameter = \"LAMP_STATE\"\nturn = 1\ndone = true",
                 "line 8: in outcome 1, there is no key `turn`",
             ),
-            ("", "[[outcomes]]", "there is no key `outcomes`"),
+            ("", "[[outcomes]]", "line 6: there is no key `outcomes`"),
             (
                 "outcome = true",
                 "",
@@ -120,7 +120,7 @@ fn how_many(rt: HostRuntime) -> Result<(), Fail> {
     text.push_str("[[outcome]]\nparameter = \"LAMP_STATE\"\ndone = true\n")?;
     assert_eq!(rt;
         told(rt.alloc(), text.as_str())?.as_str(),
-        "`outcome` isn't a list of 0 to 32 entries"
+        "line 101: `outcome` isn't a list of 0 to 32 entries"
     );
     Ok(())
 }

@@ -106,7 +106,7 @@ fn texts_and_keys(rt: HostRuntime) -> Result<(), Fail> {
             (
                 "\"a key whose name is longer than forty letters\" = 1",
                 "",
-                "there is no key `a key whose name is longer than forty le`",
+                "line 1: there is no key `a key whose name is longer than forty ..`",
             ),
             (
                 "",
@@ -182,7 +182,7 @@ fn lists_and_sub_devices(rt: HostRuntime) -> Result<(), Fail> {
                 "",
                 "line 1: `slot` isn't a list of 0 to 46 entries",
             ),
-            ("slot = [1]", "", "in slot 1, `slot` isn't a table"),
+            ("slot = [1]", "", "line 1: in slot 1, `slot` isn't a table"),
             (
                 "",
                 "[[self_test]]\nnumber = 7\n[[self_test]]\nnumber = 8\n[[self_test]]\nnumber = 7",
@@ -233,7 +233,7 @@ fn lists_and_sub_devices(rt: HostRuntime) -> Result<(), Fail> {
             (
                 "",
                 EIGHT_MORE,
-                "`personality` isn't a list of 1 to 8 entries",
+                "line 20: `personality` isn't a list of 1 to 8 entries",
             ),
         ],
     )
@@ -243,7 +243,7 @@ fn lists_and_sub_devices(rt: HostRuntime) -> Result<(), Fail> {
 #[test]
 fn whole_texts(rt: HostRuntime) -> Result<(), Fail> {
     let rows = [
-        ("", "the key `uid` is missing"),
+        ("", "line 1: the key `uid` is missing"),
         (
             "uid = \"7FF0:FFFFFFFF\"",
             "line 1: `uid` isn't a UID of one device, as \"7FF0:00000001\"",
@@ -258,7 +258,7 @@ fn whole_texts(rt: HostRuntime) -> Result<(), Fail> {
         ),
         (
             "uid = \"7ff0:0000000a\"",
-            "the key `device_model_id` is missing",
+            "line 1: the key `device_model_id` is missing",
         ),
         (
             "uid = \"7FF0:00000001\"\ndevice_model_id = 65536",
@@ -266,7 +266,7 @@ fn whole_texts(rt: HostRuntime) -> Result<(), Fail> {
         ),
         (
             "uid = \"7FF0:00000001\"\ndevice_model_id = 0",
-            "the key `personality` is missing",
+            "line 2: the key `personality` is missing",
         ),
         (
             "uid = \"7FF0:00000001\"\ndevice_model_id = 0\npersonality = []",
@@ -282,6 +282,82 @@ fn whole_texts(rt: HostRuntime) -> Result<(), Fail> {
         twice.as_str().starts_with("TOML parse error at line 2"),
         "{twice}"
     );
+    Ok(())
+}
+
+/// A refusal has the line of what is wrong, or of the nearest thing around it, however the text is written.
+#[test]
+fn the_nearest_line(rt: HostRuntime) -> Result<(), Fail> {
+    try_rows(
+        &rt,
+        &[
+            (
+                "",
+                "[sub_devices]\nuid = \"7FF0:00000002\"",
+                "line 7: in [sub_devices], there is no key `uid`",
+            ),
+            (
+                "",
+                "[sub_devices]\n# uid\ncount = 1\ndevice_model_id = 2\n[[sub_devices.personalty]]",
+                "line 10: in [sub_devices], there is no key `personalty`",
+            ),
+            (
+                "",
+                "[[personalty]]\n[sub_devices]\ncount = 0",
+                "line 6: there is no key `personalty`",
+            ),
+            (
+                "",
+                "[[ \"slot\" ]]\nlabel_id = 1\n[[slot]]\ntype = 256\nlabel_id = 2",
+                "line 9: in slot 2, `type` isn't an integer from 0 to 255",
+            ),
+            (
+                "slot = [{ label_id = 1 },\n  { label_id = 2,\n  type = 3 }, # [[slot]]\n 4]",
+                "",
+                "line 4: in slot 3, `slot` isn't a table",
+            ),
+            (
+                "sensor = [{ type = 1 },\n { unit = 1 }]",
+                "",
+                "line 2: in sensor 2, the key `type` is missing",
+            ),
+            (
+                "sub_devices.device_model_id = 1\nsub_devices.\"count\" = 1000",
+                "",
+                "line 2: in [sub_devices], `count` isn't an integer from 0 to 512",
+            ),
+            (
+                "sub_devices = { count = 1, device_model_id = 1, personality = [\n{ dmx_footprint = 1 }, {\n description = \"\" } ] }",
+                "",
+                "line 2: in [sub_devices], in personality 2, the key `dmx_footprint` is missing",
+            ),
+            (
+                "presets = -1 # \"\"\"\ndevice_label = \"\"\"\n[[slot]]\npresets = -1\"\"\"",
+                "",
+                "line 2: `device_label` isn't a text of at most 32 printable ASCII characters",
+            ),
+            (
+                "manufacturer_label = '''presets = 1'''\r\npresets = -1 # presets\r",
+                "",
+                "line 2: `presets` isn't an integer from 0 to 65534",
+            ),
+            (
+                "languages = [\"aa\", \"bb\", \"cc\", \"dd\", \"ee\", \"ff\", \"gg\", \"hh\",\n \"ii\"]",
+                "",
+                "line 2: `languages` isn't a list of 1 to 8 entries",
+            ),
+            (
+                "\"two\\nlines\" = 1",
+                "",
+                "line 1: there is no key `two?lines`",
+            ),
+        ],
+    )?;
+    let told = told(
+        rt.alloc(),
+        "device_model_id = 1\n[[personality]]\ndmx_footprint = 0\n[sub_devices]\ncount = 0\n\n",
+    )?;
+    assert_eq!(rt; told.as_str(), "line 6: the key `uid` is missing");
     Ok(())
 }
 

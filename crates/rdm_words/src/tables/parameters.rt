@@ -2,12 +2,27 @@
 
 use rdm_params::kind_of;
 
+/// No parameter of the table has a greater PID.
+const GREATEST: u16 = 0x1041;
+
 /// The name of a parameter, as `DMX_START_ADDRESS` (table A-3).
 pub fn parameter(pid: u16) -> Option<&'static str> {
     match kind_of(pid) {
         Some(kind) => Some(kind.name()),
         None => other_parameter(pid),
     }
+}
+
+/// The PID of the parameter with this name, as `DMX_START_ADDRESS`.
+pub fn pid_named(name: &[u8]) -> Option<u16> {
+    for pid in 0..=GREATEST {
+        if let Some(known) = parameter(pid)
+            && known.as_bytes() == name
+        {
+            return Some(pid);
+        }
+    }
+    None
 }
 
 /// The parameters of the table that no responder of ours has.

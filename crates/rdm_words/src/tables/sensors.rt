@@ -1,5 +1,36 @@
 //! What sensors measure.
 
+use std::fmt;
+
+/// Between which values a sensor measures: -32768 and 32767 stand for an end that isn't defined (section
+/// 10.7.1).
+#[derive(Clone, Copy)]
+pub struct Range {
+    /// The least value.
+    pub low: i16,
+    /// The greatest value.
+    pub high: i16,
+}
+
+impl Range {
+    /// Whether one of its ends is defined.
+    pub fn has_an_end(self) -> bool {
+        self.low != i16::MIN || self.high != i16::MAX
+    }
+}
+
+impl fmt::Display for Range {
+    fn fmt<W: fmt::Write>(&self, f: &mut fmt::Formatter<W>) -> fmt::Result {
+        let Range { low, high } = *self;
+        match (low, high) {
+            (i16::MIN, i16::MAX) => f.write_str("not defined"),
+            (i16::MIN, high) => write!(f, "up to {high}"),
+            (low, i16::MAX) => write!(f, "from {low}"),
+            (low, high) => write!(f, "{low} to {high}"),
+        }
+    }
+}
+
 /// What a sensor measures (table A-12).
 pub fn sensor_type(code: u8) -> Option<&'static str> {
     Some(match code {

@@ -66,6 +66,10 @@ CC011C7FF0000000027FF00000000100000000002100A004656E6465062B
 ACK, GET response LANGUAGE_CAPABILITIES (00A0), root, transaction 0
   languages \"en\" \"de\"
 
+CC01187FF0000000027FF00000000100000000002100A0000487
+ACK, GET response LANGUAGE_CAPABILITIES (00A0), root, transaction 0
+  no languages
+
 CC011A7FF0000000027FF00000000100000000002100B002656E056E
 ACK, GET response LANGUAGE (00B0), root, transaction 0
   language \"en\"
@@ -122,6 +126,18 @@ ACK, GET response DEFAULT_SLOT_VALUE (0122), root, transaction 0
 CC01357FF0000000027FF00000000100000000002102001D00000100FFEC007800000050034C616D702074656D70657261747572650D32
 ACK, GET response SENSOR_DEFINITION (0200), root, transaction 0
   sensor 0: \"Lamp temperature\", temperature (00), range -20 to 120 °C, normal 0 to 80, keeps the recorded, lowest and highest values
+
+CC01297FF0000000027FF0000000010000000000210200110000010080007FFF80007FFF034C616D700995
+ACK, GET response SENSOR_DEFINITION (0200), root, transaction 0
+  sensor 0: \"Lamp\", temperature (00), range not defined, in °C, normal not defined, keeps the recorded, lowest and highest values
+
+CC01297FF0000000027FF000000001000000000021020011000001008000007800007FFF034C616D70080F
+ACK, GET response SENSOR_DEFINITION (0200), root, transaction 0
+  sensor 0: \"Lamp\", temperature (00), range up to 120 °C, normal from 0, keeps the recorded, lowest and highest values
+
+CC01297FF0000000027FF0000000010000000000210200110000000080007FFF00010002034C616D700799
+ACK, GET response SENSOR_DEFINITION (0200), root, transaction 0
+  sensor 0: \"Lamp\", temperature (00), range not defined, normal 1 to 2, keeps the recorded, lowest and highest values
 
 CC01217FF0000000027FF00000000100000000002102010900002D0014002DFFFF0668
 ACK, GET response SENSOR_VALUE (0201), root, transaction 0

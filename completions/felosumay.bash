@@ -1,0 +1,54 @@
+# bash completion of felosumay, made by .ci/completions
+_felosumay() {
+    local word=${COMP_WORDS[COMP_CWORD]} before=${COMP_WORDS[COMP_CWORD-1]}
+    COMPREPLY=()
+    if [ "$COMP_CWORD" = 1 ]; then
+        mapfile -t COMPREPLY < <(compgen -W 'play words chart fixture parameters widget help -h --help -V --version' -- "$word")
+        return
+    fi
+    case ${COMP_WORDS[1]}:$before in
+        play:--fixture) mapfile -t COMPREPLY < <(compgen -f -- "$word"); return ;;
+        play:--chart) mapfile -t COMPREPLY < <(compgen -f -- "$word"); return ;;
+        words:--fixture) mapfile -t COMPREPLY < <(compgen -f -- "$word"); return ;;
+        chart:-o | chart:--output) mapfile -t COMPREPLY < <(compgen -f -- "$word"); return ;;
+        chart:--fixture) mapfile -t COMPREPLY < <(compgen -f -- "$word"); return ;;
+        parameters:--fixture) mapfile -t COMPREPLY < <(compgen -f -- "$word"); return ;;
+        widget:--fixture) mapfile -t COMPREPLY < <(compgen -f -- "$word"); return ;;
+        widget:--subs) :; return ;;
+        widget:--speed) :; return ;;
+    esac
+    case ${COMP_WORDS[1]} in
+        help) mapfile -t COMPREPLY < <(compgen -W 'play words chart fixture parameters widget' -- "$word") ;;
+        play)
+            case $word in
+                -*) mapfile -t COMPREPLY < <(compgen -W '--fixture --words --chart -h --help -V --version' -- "$word") ;;
+                *) mapfile -t COMPREPLY < <(compgen -f -- "$word") ;;
+            esac ;;
+        words)
+            case $word in
+                -*) mapfile -t COMPREPLY < <(compgen -W '--fixture -h --help -V --version' -- "$word") ;;
+                *) mapfile -t COMPREPLY < <(compgen -f -- "$word") ;;
+            esac ;;
+        chart)
+            case $word in
+                -*) mapfile -t COMPREPLY < <(compgen -W '-o --output --fixture -h --help -V --version' -- "$word") ;;
+                *) mapfile -t COMPREPLY < <(compgen -f -- "$word") ;;
+            esac ;;
+        fixture)
+            case $word in
+                -*) mapfile -t COMPREPLY < <(compgen -W '-h --help -V --version' -- "$word") ;;
+                *) mapfile -t COMPREPLY < <(compgen -f -- "$word") ;;
+            esac ;;
+        parameters)
+            case $word in
+                -*) mapfile -t COMPREPLY < <(compgen -W '--fixture -h --help -V --version' -- "$word") ;;
+                *) mapfile -t COMPREPLY < <(compgen -W "$(felosumay parameters 2>/dev/null | cut -d, -f1 | cut -d" " -f2)" -- "$word") ;;
+            esac ;;
+        widget)
+            case $word in
+                -*) mapfile -t COMPREPLY < <(compgen -W '--fixture --subs --speed -h --help -V --version' -- "$word") ;;
+                *) : ;;
+            esac ;;
+    esac
+}
+complete -o filenames -F _felosumay felosumay

@@ -1,0 +1,172 @@
+//! The data of a command: their length and their range, found by handing in data of each length and each value.
+
+use rdm_params::{Devices, Kind, Value, Verb, read_value};
+use std::alloc::AllocError;
+use std::fmt::Write;
+
+/// How many bytes of data a frame can carry (E1.20 section 6.2.3).
+const MOST_DATA: usize = 231;
+
+/// The data of a command: from so many to so many bytes, and what the fewest of them say.
+#[derive(Drop)]
+pub struct Data {
+    least: usize,
+    most: usize,
+    value: Value,
+}
+
+/// A number in the data of a command.
+#[derive(Clone, Copy)]
+enum Number {
+    /// The whole data, of one byte.
+    Byte,
+    /// The whole data, of two bytes.
+    Word,
+    /// The preset, of a preset with its level.
+    Mode,
+    /// The level, of a preset with its level.
+    Level,
+}
+
+impl Number {
+    /// The greatest that its bytes can say.
+    fn greatest(self) -> u16 {
+        match self {
+            Number::Byte | Number::Level => 0xFF,
+            Number::Word | Number::Mode => 0xFFFF,
+        }
+    }
+
+    /// The data that have this number, and else 0.
+    fn value(self, number: u16) -> Value {
+        let [_, low] = number.to_be_bytes();
+        match self {
+            Number::Byte => Value::Byte(low),
+            Number::Word => Value::Word(number),
+            Number::Mode => Value::Preset {
+                mode: number,
+                level: 0,
+            },
+            Number::Level => Value::Preset {
+                mode: 0,
+                level: low,
+            },
+        }
+    }
+}
+
+/// The data of a command, or nothing where the parameter has no such command.
+pub fn data_of(kind: Kind, verb: Verb) -> Option<Data> {
+    let zeros = [0; MOST_DATA];
+    let mut found = None;
+    for length in 0..=MOST_DATA {
+        let data = zeros.get(..length).unwrap_or(&[]);
+        if let Ok(value) = read_value(kind, verb, data) {
+            found = match found {
+                None => Some(Data {
+                    least: length,
+                    most: length,
+                    value,
+                }),
+                Some(data) => Some(Data {
+                    most: length,
+                    ..data
+                }),
+            };
+        }
+    }
+    found
+}
+
+/// The length and the range of the data of a command to a device, in hexadecimal digits.
+pub fn put_data(
+    text: &mut String,
+    devices: &Devices,
+    sub: u16,
+    kind: Kind,
+    verb: Verb,
+    data: &Data,
+) -> Result<(), AllocError> {
+    match (data.least, data.most) {
+        (0, 0) => text.push_str("no data")?,
+        (1, 1) => text.push_str("1 byte, ")?,
+        (least, most) if least == most => write!(text, "{most} bytes, ")?,
+        (least, most) => write!(text, "{least} to {most} bytes, ")?,
+    }
+    let command = Command {
+        devices,
+        sub,
+        kind,
+        verb,
+    };
+    match &data.value {
+        Value::Byte(_) => command.put_range(text, Number::Byte),
+        Value::Word(_) => command.put_range(text, Number::Word),
+        Value::Preset { .. } => {
+            command.put_range(text, Number::Mode)?;
+            text.push_str(", then a level ")?;
+            command.put_range(text, Number::Level)
+        }
+        Value::Nothing => Ok(()),
+        // Nothing else than any data is a range of the table for these forms, which have too many to be tried.
+        _ => text.push_str("any"),
+    }
+}
+
+/// A command to a device.
+#[derive(Clone, Copy)]
+struct Command<'a> {
+    devices: &'a Devices,
+    sub: u16,
+    kind: Kind,
+    verb: Verb,
+}
+
+impl Command<'_> {
+    /// The numbers that are in range.
+    fn put_range(&self, text: &mut String, number: Number) -> Result<(), AllocError> {
+        let mut first = None;
+        let mut separator = "";
+        for value in 0..=number.greatest() {
+            let is_in_range = self
+                .devices
+                .in_range(self.sub, self.kind, self.verb, &number.value(value));
+            match first {
+                None if is_in_range => first = Some(value),
+                Some(from) if !is_in_range => {
+                    text.push_str(separator)?;
+                    put_run(text, number, from, value.saturating_sub(1))?;
+                    separator = ", ";
+                    first = None;
+                }
+                _ => {}
+            }
+        }
+        match first {
+            Some(from) => {
+                text.push_str(separator)?;
+                put_run(text, number, from, number.greatest())
+            }
+            None if separator.is_empty() => text.push_str("no value"),
+            None => Ok(()),
+        }
+    }
+}
+
+/// Numbers that follow one another.
+fn put_run(text: &mut String, number: Number, from: u16, to: u16) -> Result<(), AllocError> {
+    put_number(text, number, from)?;
+    if to == from {
+        return Ok(());
+    }
+    text.push_str(" to ")?;
+    put_number(text, number, to)
+}
+
+/// A number, in as many digits as its bytes have.
+fn put_number(text: &mut String, number: Number, value: u16) -> Result<(), AllocError> {
+    match number {
+        Number::Byte | Number::Level => write!(text, "{value:02X}"),
+        Number::Word | Number::Mode => write!(text, "{value:04X}"),
+    }
+}
