@@ -1,12 +1,13 @@
 -- A coded byte is read back, so an answer to DISC_UNIQUE_BRANCH belongs to one UID.
-use Rattle.std.proofs.Common.{◌≡◌, ℕ, ◌+◌, ◌∷◌, [], List, min, max, refl, sym, ap, ◌∙◌, arith}
-use Rattle.std.specs.Prelude.{bit_and, bit_or, slice_index}
+use Rattle.std.proofs.Common.{◌≡◌, ℕ, zero, suc, ◌-◌, ◌≤◌, ◌∷◌, [], List, length, take, drop, min, max, refl, sym, ap, ◌∙◌, arith}
+use Rattle.std.specs.Prelude.{bit_and, bit_or}
 use Rattle.std.specs.Int.{w16, w32, bit_at, from_be_bytes}
 use Rattle.std.proofs.lemmas.Nat.Bits.{bit_at_and, bit_at_or, bit_at-zero, same_from_bits}
 use Rattle.std.proofs.lemmas.Nat.{from_be_bytes-to_be_bytes_2, from_be_bytes-to_be_bytes_4}
+use Rattle.std.proofs.lemmas.List.{length-drop, take_all}
 use Rattle.rdm_frame.specs.declared.uid.Uid.{Uid}
 use Rattle.rdm_frame.specs.FrameText.{IsUid}
-use Rattle.rdm_frame.specs.Discovery.{uncoded, branch_reply}
+use Rattle.rdm_frame.specs.Discovery.{branch_reply, uncoded_uid}
 
 -- the two masks share no bit
 apart : (i : ℕ) → min (bit_at 0xAA i) (bit_at 0x55 i) ≡ 0
@@ -31,15 +32,7 @@ uid m d = record { maker = m; device = d }
 uid_same : (m m' d d' : ℕ) → m ≡ m' → d ≡ d' → uid m d ≡ uid m' d'
 uid_same m m' d d' e1 e2 = rw (e1, e2) refl
 
--- the byte that stands coded at a place of the answer
-abbrev byte_at_place : List ℕ → ℕ → ℕ
-byte_at_place t i = uncoded (slice_index t i) (slice_index t (i + 1))
-
--- the UID that an answer is read as
-abbrev uid_in : List ℕ → Uid
-uid_in t = uid (from_be_bytes w16 (byte_at_place t 8 ∷ byte_at_place t 10 ∷ [])) (from_be_bytes w32 (byte_at_place t 12 ∷ byte_at_place t 14 ∷ byte_at_place t 16 ∷ byte_at_place t 18 ∷ []))
-
-uid_again : (u : Uid) → IsUid u → uid_in (branch_reply u) ≡ u
+uid_again : (u : Uid) → IsUid u → uncoded_uid (drop 8 (branch_reply u)) ≡ u
 unfolding branch_reply
 uid_again u fits =
     uid_same _ u.maker _ u.device
@@ -47,4 +40,38 @@ uid_again u fits =
     (ap (from_be_bytes w32) (four_same _ _ _ _ _ _ _ _ (coded_back _) (coded_back _) (coded_back _) (coded_back _)) ∙ from_be_bytes-to_be_bytes_4 u.device fits.device)
 
 pub one_uid : (u v : Uid) → IsUid u → IsUid v → branch_reply u ≡ branch_reply v → u ≡ v
-one_uid u v fits fits' e = sym (uid_again u fits) ∙ ap uid_in e ∙ uid_again v fits'
+one_uid u v fits fits' e = sym (uid_again u fits) ∙ ap (λ (t : List ℕ). uncoded_uid (drop 8 t)) e ∙ uid_again v fits'
+
+-- ---- an answer with a part of its preamble
+
+-- what stands behind the separator, wherever the preamble begins
+coded_part : (u : Uid) (lost : ℕ) → lost ≤ 7 → drop (24 - lost - 16) (drop lost (branch_reply u)) ≡ drop 8 (branch_reply u)
+unfolding branch_reply
+coded_part u zero h = refl
+coded_part u (suc zero) h = refl
+coded_part u (suc (suc zero)) h = refl
+coded_part u (suc (suc (suc zero))) h = refl
+coded_part u (suc (suc (suc (suc zero)))) h = refl
+coded_part u (suc (suc (suc (suc (suc zero))))) h = refl
+coded_part u (suc (suc (suc (suc (suc (suc zero)))))) h = refl
+coded_part u (suc (suc (suc (suc (suc (suc (suc zero))))))) h = refl
+coded_part u (suc (suc (suc (suc (suc (suc (suc (suc n)))))))) h = absurd (omega arith)
+
+long : (u : Uid) → length (branch_reply u) ≡ 24
+unfolding branch_reply
+long u = refl
+
+uid_of_part : (u : Uid) → IsUid u → (lost : ℕ) → lost ≤ 7 → uncoded_uid (drop (24 - lost - 16) (drop lost (branch_reply u))) ≡ u
+uid_of_part u fits lost h = ap uncoded_uid (coded_part u lost h) ∙ uid_again u fits
+
+pub part_length : (u : Uid) (lost : ℕ) → length (drop lost (branch_reply u)) ≡ 24 - lost
+part_length u lost = length-drop lost (branch_reply u) ∙ ap (λ (n : ℕ). n - lost) (long u)
+
+pub whole_part : (u : Uid) (lost : ℕ) → take (24 - lost) (drop lost (branch_reply u)) ≡ drop lost (branch_reply u)
+whole_part u lost = take_all (24 - lost) (drop lost (branch_reply u)) (omega (arith, part_length u lost))
+
+pub part_again : (u : Uid) → IsUid u → (bytes : List ℕ) (lost : ℕ) → lost ≤ 7 → bytes ≡ drop lost (branch_reply u) → uncoded_uid (take (length bytes - (length bytes - 16)) (drop (length bytes - 16) bytes)) ≡ u
+part_again u fits bytes lost h e =
+    let n : length bytes ≡ 24 - lost = ap length e ∙ part_length u lost in
+    let all = take_all (length bytes - (length bytes - 16)) (drop (length bytes - 16) bytes) (omega (arith, length-drop (length bytes - 16) bytes)) in
+    ap uncoded_uid all ∙ ap (λ (k : ℕ). uncoded_uid (drop (k - 16) bytes)) n ∙ ap (λ (t : List ℕ). uncoded_uid (drop (24 - lost - 16) t)) e ∙ uid_of_part u fits lost h

@@ -18,7 +18,7 @@ mod uid_text;
 
 pub use bytes::{Body, Bytes, Load, Text, Wire};
 pub use decoding::{FrameError, decode, decode_view, uid_at};
-pub use discovery::disc_reply;
+pub use discovery::{branch_uid, disc_reply};
 pub use encoding::{encode, encode_into, sum_of};
 pub use frame::Frame;
 pub use frame_view::FrameView;

@@ -3,8 +3,8 @@ ghost use Rattle.std.specs.Prelude.{◌<◌};
 mod hostile;
 
 use rdm_frame::{
-    Body, Frame, FrameError, Load, Text, Uid, UidError, Wire, decode, decode_view, disc_reply,
-    encode, encode_into, sum_of, uid_at,
+    Body, Frame, FrameError, Load, Text, Uid, UidError, Wire, branch_uid, decode, decode_view,
+    disc_reply, encode, encode_into, sum_of, uid_at,
 };
 use std::test::Fail;
 
@@ -308,5 +308,22 @@ fn discovery_answers(rt: HostRuntime) {
         ),
     ] {
         assert_eq!(rt; disc_reply(uid).as_slice(), answer.as_slice(), "{uid}");
+        for lost in 0..8 {
+            assert_eq!(rt;
+                branch_uid(&answer[lost..]),
+                Some(uid),
+                "{uid} without {lost} bytes"
+            );
+        }
+        assert_eq!(rt;
+            branch_uid(&answer[8..]),
+            None,
+            "{uid} without its separator"
+        );
+        assert_eq!(rt;
+            branch_uid(&answer[..23]),
+            None,
+            "{uid} without its last byte"
+        );
     }
 }

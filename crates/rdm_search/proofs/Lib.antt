@@ -1,0 +1,9 @@
+pub mod Places
+pub mod Counts
+pub mod Prices
+pub mod Steps
+pub mod Standing
+pub mod Branches
+pub mod Mutes
+pub mod Hearings
+pub mod Runs

@@ -1,0 +1,6 @@
+pub mod Requests
+pub mod Line
+pub mod Answers
+pub mod Ranges
+pub mod Stages
+pub mod Searches

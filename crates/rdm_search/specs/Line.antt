@@ -1,0 +1,68 @@
+-- A line: its fixtures, what is heard of them, and what a search has to find. E1.20 sections 7.5 and 7.6.
+use Rattle.std.specs.Prelude.{◌≡◌, ◌≢◌, ◌↔◌, ℕ, Bool, true, false, not, ◌&&◌, ◌||◌, nat_le, List, [], ◌∷◌, map, Contains, All, AllPairs, IsSome}
+use Rattle.std.specs.List.{filter}
+use Rattle.rdm_frame.specs.declared.uid.Uid.{Uid}
+use Rattle.rdm_frame.specs.FrameText.{IsUid}
+use Rattle.rdm_frame.specs.UidNumber.{uid_number}
+use Rattle.rdm_frame.specs.Addressing.{is_broadcast, is_addressed}
+use Rattle.rdm_frame.specs.Discovery.{IsBranchReply}
+use Rattle.rdm_search.specs.declared.request.Request.{Request}
+use Rattle.rdm_search.specs.declared.request.Request.TheVariants.{UnMute, UniqueBranch, Mute}
+use Rattle.rdm_search.specs.Answers.{mute_answer}
+
+-- A fixture: its UID, and the mute flag that DISC_MUTE sets and DISC_UN_MUTE clears.
+pub record Fixture : Type 0 where
+  pub uid : Uid
+  pub muted : Bool
+
+-- the UID of one device, and no broadcast
+pub record IsDevice (u : Uid) : Type 0 where
+  pub fits : IsUid u
+  pub one : is_broadcast u ≡ false
+
+abbrev pub uids : List Fixture → List Uid
+uids line = map (λ f. f.uid) line
+
+-- It answers DISC_UNIQUE_BRANCH between these bounds: it isn't muted, and its UID is neither below nor above them.
+abbrev pub calls : Uid → Uid → Fixture → Bool
+calls low high f = not f.muted && (nat_le (uid_number low) (uid_number f.uid) && nat_le (uid_number f.uid) (uid_number high))
+
+-- the UIDs of those that answer
+abbrev pub callers : Uid → Uid → List Fixture → List Uid
+callers low high line = uids (filter (calls low high) line)
+
+-- What is heard where these answer at once: nothing of none, the answer of a single one, and of more than one any bytes,
+-- though not none: they may decode as the UID of nobody, of one of them, of a fixture elsewhere, or as a broadcast.
+abbrev pub IsCalled : List Uid → List ℕ → Type 0
+IsCalled [] heard = heard ≡ []
+IsCalled (u ∷ []) heard = IsBranchReply u heard
+IsCalled (u ∷ (v ∷ us)) heard = heard ≢ []
+
+-- What may be heard after each request. To a mute nobody else answers as that device does.
+abbrev pub IsHeard : Request → List Fixture → List ℕ → Type 0
+IsHeard UnMute line heard = heard ≡ []
+IsHeard (UniqueBranch low high) line heard = IsCalled (callers low high line) heard
+IsHeard (Mute uid) line heard = IsSome (mute_answer uid heard) ↔ Contains (uids line) uid
+
+-- what a mute for this destination leaves of a fixture
+abbrev pub after_mute : Uid → Fixture → Fixture
+after_mute destination f = record { uid = f.uid; muted = f.muted || is_addressed f.uid destination }
+
+abbrev pub after_un_mute : Fixture → Fixture
+after_un_mute f = record { uid = f.uid; muted = false }
+
+-- the fixtures after each request
+abbrev pub after_request : Request → List Fixture → List Fixture
+after_request UnMute line = map after_un_mute line
+after_request (UniqueBranch low high) line = line
+after_request (Mute uid) line = map (after_mute uid) line
+
+-- These UIDs are those of the fixtures, each once.
+pub record IsFound (found : List Uid) (line : List Fixture) : Type 0 where
+  pub same : (u : Uid) → Contains found u ↔ Contains (uids line) u
+  pub once : AllPairs (λ u v. u ≢ v) found
+  pub muted : All (λ f. f.muted ≡ true) line
+
+-- how many aren't muted
+abbrev pub unmuted : List Fixture → List Fixture
+unmuted line = filter (λ f. not f.muted) line

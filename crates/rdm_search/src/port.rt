@@ -1,0 +1,27 @@
+//! What sends frames and hears answers.
+
+use rdm_frame::{Frame, Wire};
+
+/// A port on a line. `exchange` sends the frame of a request and gives the bytes that came after it, none where nothing did.
+///
+/// Its clauses say what a line is: what may be heard after each request of a search, and which fixtures are muted then. Where
+/// more than one fixture answers, any bytes may come, as long as some do.
+pub trait Port {
+    ghost use Rattle.std.specs.Prelude.{◌≡◌, ℕ, ◌+◌, ◌≤◌, List};
+    ghost use Rattle.rdm_frame.specs.declared.uid.Uid.{Uid};
+    ghost use Rattle.rdm_search.specs.declared.request.Request.{Request};
+    ghost use Rattle.rdm_search.specs.Requests.{request_frame};
+    ghost use Rattle.rdm_search.specs.Line.{Fixture, IsHeard, after_request};
+
+    // The fixtures of its line.
+    ghost fixtures: { Self → List Fixture };
+
+    // How many transactions there were.
+    ghost sent: { Self → ℕ };
+
+    /// Sends the frame, and waits for what comes.
+    fn exchange(&mut self, frame: &Frame) -> Wire
+        ensures heard { (request : Request) (source : Uid) (tn : ℕ) → frame.now ≡ request_frame source tn request → IsHeard request (fixtures self.old) result }
+        ensures after { (request : Request) (source : Uid) (tn : ℕ) → frame.now ≡ request_frame source tn request → fixtures self.new ≡ after_request request (fixtures self.old) }
+        ensures sent { sent self.new ≤ sent self.old + 1 };
+}

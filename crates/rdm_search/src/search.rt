@@ -1,0 +1,117 @@
+//! The search.
+
+ghost use Rattle.rdm_search.specs.Stages.{IsStage, IsStage-prop};
+
+use crate::error::SearchError;
+use crate::found::Found;
+use crate::hearing::after;
+use crate::range::Range;
+use crate::stage::Stage;
+use rdm_frame::{Frame, Uid};
+use std::alloc::Global;
+
+/// A search for the fixtures of a line. It sends nothing itself: `next` gives the frame to send, and `hear` takes what was heard.
+#[derive(Drop)]
+pub struct Search {
+    source: Uid,
+    tn: u8,
+    left: u32,
+    stage: Stage,
+    found: Vec<Found>,
+    ghost valid: { IsStage stage } by { IsStage-prop stage },
+}
+
+impl Search {
+    ghost use Rattle.std.specs.Prelude.{◌≡◌, ◌-◌, [], Ok, None, OnOk, OnErr};
+    ghost use Rattle.rdm_search.specs.declared.stage.Stage.TheVariants.{Start, Asking};
+    ghost use Rattle.rdm_search.specs.Answers.{found_uids};
+    ghost use Rattle.rdm_search.specs.Stages.{Hears, request_of, whole};
+    ghost use Rattle.rdm_search.specs.Searches.{next_of, found_after};
+
+    /// A search for all fixtures, by the controller with this UID, in this many transactions at most. It un-mutes all, and takes
+    /// memory from `alloc` for what it finds.
+    pub fn new(alloc: Global, source: Uid, limit: u32) -> Search
+        ensures stage { result.stage ≡ Start }
+        ensures found { result.found.items ≡ [] }
+        ensures left { result.left ≡ limit }
+        ensures source { result.source ≡ source }
+    {
+        Search::at(source, limit, Stage::Start, Vec::new(alloc))
+    }
+
+    /// A search for the fixtures that were plugged in since these were found. It un-mutes none, so that only those answer.
+    pub fn resume(source: Uid, found: Vec<Found>, limit: u32) -> Search
+        ensures stage { result.stage ≡ Asking whole }
+        ensures found { result.found.items ≡ found.items }
+        ensures left { result.left ≡ limit }
+        ensures source { result.source ≡ source }
+    {
+        Search::at(source, limit, Stage::Asking(Range::WHOLE), found)
+    }
+
+    fn at(source: Uid, limit: u32, stage: Stage, found: Vec<Found>) -> Search
+        requires { IsStage stage }
+        ensures stage { result.stage ≡ stage }
+        ensures found { result.found.items ≡ found.items }
+        ensures left { result.left ≡ limit }
+        ensures source { result.source ≡ source }
+    {
+        Search {
+            source,
+            tn: 0,
+            left: limit,
+            stage,
+            found,
+        }
+    }
+
+    /// The frame to send, or `None` when the search has ended. `Err(Limit)` where it hasn't and no transaction is left.
+    pub fn next(&self) -> Result<Option<Frame>, SearchError>
+        ensures { result ≡ next_of self.now.source self.now.tn (request_of self.now.stage) self.now.left }
+    {
+        match self.stage.request() {
+            None => Ok(None),
+            Some(_) if self.left == 0 => Err(SearchError::Limit),
+            Some(request) => Ok(Some(request.frame(self.source, self.tn))),
+        }
+    }
+
+    /// Takes the bytes that were heard after the frame of `next`; none where nothing was. Where memory is refused nothing changes,
+    /// and the same bytes can be heard again.
+    pub fn hear(&mut self, bytes: &[u8]) -> Result<(), SearchError>
+        // On every line the search comes nearer to its end.
+        ensures hears { OnOk result (Hears self.old.stage (found_uids self.old.found.items) bytes.now self.new.stage (found_uids self.new.found.items)) }
+        // What it notes is the answer of a device to its mute.
+        ensures found { OnOk result (self.new.found.items ≡ found_after self.old.stage self.old.found.items bytes.now) }
+        ensures left { OnOk result (self.new.left ≡ self.old.left - 1) }
+        ensures err { result ≡ Err SearchError.Limit → ⊥ }
+        ensures same { OnErr result ((self.new.stage ≡ self.old.stage) × (self.new.found.items ≡ self.old.found.items) × (self.new.left ≡ self.old.left)) }
+        ensures source { self.new.source ≡ self.old.source }
+    {
+        self.stage = after(&mut self.found, self.stage, bytes)?;
+        self.tn = self.tn.wrapping_add(1);
+        self.left = self.left.saturating_sub(1);
+        Ok(())
+    }
+
+    /// The fixtures that were found so far, each with what its answer to DISC_MUTE says.
+    pub fn found(&self) -> &[Found]
+        ensures { result.now ≡ self.now.found.items }
+    {
+        self.found.as_slice()
+    }
+
+    /// The fixtures that were found.
+    pub fn into_found(self) -> Vec<Found>
+        ensures { result.items ≡ self.found.items }
+    {
+        let Search {
+            source: _,
+            tn: _,
+            left: _,
+            stage: _,
+            found,
+        } = self;
+        found
+    }
+}
