@@ -1,6 +1,7 @@
 //! A search is run over a port.
 
-ghost use Rattle.std.specs.Prelude.{◌≡◌, ◌≢◌, ◌+◌, ◌*◌, ◌<◌, ◌≤◌, true, false, length, All, AllPairs, Contains, IfOk, OnOk, OnErr};
+ghost use Rattle.std.specs.Prelude.{◌≡◌, ◌≢◌, ◌+◌, ◌*◌, ◌<◌, ◌≤◌, true, false, length, All, AllPairs, Contains};
+ghost use Rattle.std.specs.Prelude.{IfOk, OnOk, OnErr};
 ghost use Rattle.rdm_search.specs.Answers.{found_uids};
 ghost use Rattle.rdm_search.specs.Line.{IsDevice, IsFound, uids, unmuted};
 ghost use Rattle.rdm_search.specs.Stages.{Stands, price};
@@ -74,9 +75,11 @@ pub fn run<P: Port>(search: &mut Search, port: &mut P) -> Result<(), SearchError
 /// Makes one transaction, if the search hasn't ended. Tells whether it did.
 fn turn<P: Port>(search: &mut Search, port: &mut P) -> Result<bool, SearchError>
     requires { Stands search.old.stage (found_uids search.old.found.items) (P.fixtures port.old) }
-    ensures ended { result ≡ Ok false → IsFound (found_uids search.new.found.items) (P.fixtures port.new) × (P.sent port.new ≡ P.sent port.old) }
+    ensures ended { result ≡ Ok false →
+        IsFound (found_uids search.new.found.items) (P.fixtures port.new) × (P.sent port.new ≡ P.sent port.old) }
     ensures stands { result ≡ Ok true → Stands search.new.stage (found_uids search.new.found.items) (P.fixtures port.new) }
-    ensures price { result ≡ Ok true → price search.new.stage (P.fixtures port.new) + 2 ≤ price search.old.stage (P.fixtures port.old) }
+    ensures price { result ≡ Ok true →
+        price search.new.stage (P.fixtures port.new) + 2 ≤ price search.old.stage (P.fixtures port.old) }
     ensures left { result ≡ Ok true → search.new.left + 1 ≡ search.old.left }
     ensures same { uids (P.fixtures port.new) ≡ uids (P.fixtures port.old) }
     ensures sent { P.sent port.new ≤ P.sent port.old + 1 }

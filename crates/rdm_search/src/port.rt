@@ -21,7 +21,9 @@ pub trait Port {
 
     /// Sends the frame, and waits for what comes.
     fn exchange(&mut self, frame: &Frame) -> Wire
-        ensures heard { (request : Request) (source : Uid) (tn : ℕ) → frame.now ≡ request_frame source tn request → IsHeard request (fixtures self.old) result }
-        ensures after { (request : Request) (source : Uid) (tn : ℕ) → frame.now ≡ request_frame source tn request → fixtures self.new ≡ after_request request (fixtures self.old) }
+        ensures heard { (request : Request) (source : Uid) (tn : ℕ) → frame.now ≡ request_frame source tn request
+            → IsHeard request (fixtures self.old) result }
+        ensures after { (request : Request) (source : Uid) (tn : ℕ) → frame.now ≡ request_frame source tn request
+            → fixtures self.new ≡ after_request request (fixtures self.old) }
         ensures sent { sent self.new ≤ sent self.old + 1 };
 }

@@ -76,16 +76,18 @@ impl Search {
         }
     }
 
-    /// Takes the bytes that were heard after the frame of `next`; none where nothing was. Where memory is refused nothing changes,
-    /// and the same bytes can be heard again.
+    /// Takes the bytes that were heard after the frame of `next`; none where nothing was. Where memory is refused nothing
+    /// changes, and the same bytes can be heard again.
     pub fn hear(&mut self, bytes: &[u8]) -> Result<(), SearchError>
         // On every line the search comes nearer to its end.
-        ensures hears { OnOk result (Hears self.old.stage (found_uids self.old.found.items) bytes.now self.new.stage (found_uids self.new.found.items)) }
+        ensures hears { OnOk result (Hears self.old.stage (found_uids self.old.found.items) bytes.now
+            self.new.stage (found_uids self.new.found.items)) }
         // What it notes is the answer of a device to its mute.
         ensures found { OnOk result (self.new.found.items ≡ found_after self.old.stage self.old.found.items bytes.now) }
         ensures left { OnOk result (self.new.left ≡ self.old.left - 1) }
         ensures err { result ≡ Err SearchError.Limit → ⊥ }
-        ensures same { OnErr result ((self.new.stage ≡ self.old.stage) × (self.new.found.items ≡ self.old.found.items) × (self.new.left ≡ self.old.left)) }
+        ensures same { OnErr result ((self.new.stage ≡ self.old.stage)
+            × (self.new.found.items ≡ self.old.found.items) × (self.new.left ≡ self.old.left)) }
         ensures source { self.new.source ≡ self.old.source }
     {
         self.stage = after(&mut self.found, self.stage, bytes)?;
