@@ -121,6 +121,8 @@ pub extern "C" fn felosumay_responder_arrive(
         (result ≡ code_of Status.Absent) ↔ (holds_responder responder.old.held ≡ false)) }
     ensures lawful { IfSome (report_in job.now outcome.now) (λ r. (h : History) → IsLawful h → HeldFor responder.old.held h →
         ((result ≡ code_of Status.Done) ↔ IsLawful (then_event h (Arrived r)))) }
+    ensures astray { IfSome (report_in job.now outcome.now) (λ r. (h : History) → IsLawful h → HeldFor responder.old.held h →
+        ((result ≡ code_of Status.Astray) ↔ ¬ IsLawful (then_event h (Arrived r)))) }
     ensures stands { IfSome (report_in job.now outcome.now) (λ r. (h : History) → HeldFor responder.old.held h →
         result ≡ code_of Status.Done → HeldFor responder.new.held (then_event h (Arrived r))) }
     ensures kept { IfSome (report_in job.now outcome.now) (λ r. (h : History) → HeldFor responder.old.held h →

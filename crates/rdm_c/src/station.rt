@@ -104,7 +104,8 @@ pub(crate) fn change(party: &mut Party, change: Change) -> Status
     ensures told { (h : History) → IsFor party.old h → result ≡ changed h change }
     ensures stands { (h : History) → IsFor party.old h → result ≢ Status.NoRoom → IsFor party.new (then_event h (Changed change)) }
     ensures no_room { result ≡ Status.NoRoom → party.new ≡ party.old }
-    ensures absent { is_responder party.old ≡ false → (result ≡ Status.Absent) × (party.new ≡ party.old) }
+    ensures absent { (result ≡ Status.Absent) ↔ (is_responder party.old ≡ false) }
+    ensures same { is_responder party.old ≡ false → party.new ≡ party.old }
     ensures short { result ≢ Status.TooLong }
 {
     match party {
@@ -140,7 +141,7 @@ pub(crate) fn get(
 ) -> Status
     ensures told { (h : History) → IsFor party.now h →
         GetTold (code_of result) count.new value.new reason.new (got (account_of h).parameters sub pid argument.now) }
-    ensures absent { is_responder party.now ≡ false → result ≡ Status.Absent }
+    ensures absent { (result ≡ Status.Absent) ↔ (is_responder party.now ≡ false) }
 {
     let Party::Responder(station) = party else {
         return Status::Absent;
