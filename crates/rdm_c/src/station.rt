@@ -1,6 +1,6 @@
 //! What a responder does for C.
 
-ghost use Rattle.std.specs.Prelude.{◌≡◌, ◌≢◌, ◌==◌, ◌↔◌, false, length};
+ghost use Rattle.std.specs.Prelude.{◌≡◌, ◌≢◌, ◌==◌, ◌↔◌, IfSome, false, length};
 ghost use Rattle.std.specs.Option.{option_map};
 ghost use Rattle.rdm_params.specs.Commands.Commands.{got};
 ghost use Rattle.rdm_outbox.specs.Jobs.{has_place, outstanding_count, waiting_of};
@@ -29,6 +29,7 @@ pub(crate) fn step(
 ) -> Status
     ensures status { result ≡ found (is_responder party.old) }
     ensures reply { (h : History) → IsFor party.old h → told stepped.new.replied stepped.new.count reply.new ≡ reply_of h bytes.now }
+    ensures count { (h : History) → IsFor party.old h → IfSome (reply_of h bytes.now) (λ r. stepped.new.count ≡ length r) }
     ensures job { (h : History) → IsFor party.old h → started_in stepped.new ≡ option_map numbers_of (job_of h bytes.now) }
     ensures stands { (h : History) → IsFor party.old h → IsFor party.new (then_event h (Heard bytes.now)) }
     ensures absent { result ≢ Status.Done → (party.new ≡ party.old) × (stepped.new.replied ≡ 0) × (stepped.new.started ≡ 0) }
@@ -49,6 +50,8 @@ pub(crate) fn step(
 fn hear(station: &mut Station, bytes: &[u8], reply: &mut [u8; 257], stepped: &mut SteppedNumbers)
     ensures reply { (h : History) → StandsFor station.old.responder h →
         told stepped.new.replied stepped.new.count reply.new ≡ reply_of h bytes.now }
+    ensures count { (h : History) → StandsFor station.old.responder h →
+        IfSome (reply_of h bytes.now) (λ r. stepped.new.count ≡ length r) }
     ensures job { (h : History) → StandsFor station.old.responder h →
         started_in stepped.new ≡ option_map numbers_of (job_of h bytes.now) }
     ensures stands { (h : History) → StandsFor station.old.responder h →
