@@ -78,7 +78,7 @@ told there count bytes = answered (there == 1) (take count bytes)
 -- What a GET answers, as C is told it: the value at the front, or the reason of the refusal, or that there is no value
 -- since the command starts a job or fetches a message.
 abbrev pub GetTold : ℕ → ℕ → List ℕ → ℕ → Verdict → Type 0
-GetTold code count value reason (Reply body) = (code ≡ code_of status.Done) × (take count value ≡ body)
+GetTold code count value reason (Reply body) = (code ≡ code_of status.Done) × (count ≡ length body) × (take count value ≡ body)
 GetTold code count value reason (Refuse nack) = (code ≡ code_of status.Refused) × (reason ≡ nack_code nack)
 GetTold code count value reason _ = code ≡ code_of status.NoValue
 

@@ -27,8 +27,8 @@ pub extern "C" fn felosumay_responder_change_start(
     ensures stands { (h : History) → HeldFor responder.old.held h → result ≢ code_of Status.NoRoom →
         HeldFor responder.new.held (then_event h (Changed (Start start))) }
     ensures no_room { result ≡ code_of Status.NoRoom → responder.new.held ≡ responder.old.held }
-    ensures absent { holds_responder responder.old.held ≡ false →
-        (result ≡ code_of Status.Absent) × (responder.new.held ≡ responder.old.held) }
+    ensures absent { (result ≡ code_of Status.Absent) ↔ (holds_responder responder.old.held ≡ false) }
+    ensures same { holds_responder responder.old.held ≡ false → responder.new.held ≡ responder.old.held }
 {
     change(alloc, responder, Change::Start(start)).code()
 }
@@ -45,8 +45,8 @@ pub extern "C" fn felosumay_responder_change_personality(
     ensures stands { (h : History) → HeldFor responder.old.held h → result ≢ code_of Status.NoRoom →
         HeldFor responder.new.held (then_event h (Changed (Personality number))) }
     ensures no_room { result ≡ code_of Status.NoRoom → responder.new.held ≡ responder.old.held }
-    ensures absent { holds_responder responder.old.held ≡ false →
-        (result ≡ code_of Status.Absent) × (responder.new.held ≡ responder.old.held) }
+    ensures absent { (result ≡ code_of Status.Absent) ↔ (holds_responder responder.old.held ≡ false) }
+    ensures same { holds_responder responder.old.held ≡ false → responder.new.held ≡ responder.old.held }
 {
     change(alloc, responder, Change::Personality(number)).code()
 }
@@ -65,8 +65,9 @@ pub extern "C" fn felosumay_responder_change_label(
         HeldFor responder.new.held (then_event h (Changed (Label label.now))) }
     ensures no_room { result ≡ code_of Status.NoRoom → responder.new.held ≡ responder.old.held }
     ensures refused { result ≡ code_of Status.TooLong → responder.new.held ≡ responder.old.held }
-    ensures absent { holds_responder responder.old.held ≡ false →
-        (result ≢ code_of Status.Done) × (responder.new.held ≡ responder.old.held) }
+    ensures absent { (result ≡ code_of Status.Absent)
+        ↔ ((length label.now ≤ 32) × (holds_responder responder.old.held ≡ false)) }
+    ensures same { holds_responder responder.old.held ≡ false → responder.new.held ≡ responder.old.held }
 {
     let Some(plate) = Plate::new(label) else {
         return Status::TooLong.code();
@@ -80,8 +81,8 @@ fn change(alloc: Global, responder: &mut Hold, change: Change) -> Status
     ensures stands { (h : History) → HeldFor responder.old.held h → result ≢ Status.NoRoom →
         HeldFor responder.new.held (then_event h (Changed change)) }
     ensures no_room { result ≡ Status.NoRoom → responder.new.held ≡ responder.old.held }
-    ensures absent { holds_responder responder.old.held ≡ false →
-        (result ≡ Status.Absent) × (responder.new.held ≡ responder.old.held) }
+    ensures absent { (result ≡ Status.Absent) ↔ (holds_responder responder.old.held ≡ false) }
+    ensures same { holds_responder responder.old.held ≡ false → responder.new.held ≡ responder.old.held }
     ensures short { result ≢ Status.TooLong }
 {
     let Some(mut party) = take(alloc, responder) else {

@@ -1,6 +1,6 @@
 //! The collector, as C calls it.
 
-ghost use Rattle.std.specs.Prelude.{◌≡◌, ◌≢◌, ◌↔◌, ◌⊎◌, ◌≤◌, [], ◌∷◌, IfSome, IsSome, MatchOption, None, Some, drop, false, slice_get, take};
+ghost use Rattle.std.specs.Prelude.{◌≡◌, ◌≢◌, ◌↔◌, ◌⊎◌, ◌≤◌, [], ◌∷◌, IfSome, IsSome, MatchOption, None, Some, drop, false, length, slice_get, take};
 ghost use Rattle.rdm_frame.specs.FrameText.{frame_text, IsFrame};
 ghost use Rattle.rdm_bus.specs.Collecting.{State, new_collector, refusal_of, poll_request, command_request, after_ask, after_poll, heard_in, after_hearing, without_transaction};
 ghost use Rattle.rdm_c.specs.Messages.{action_in, command_in, heard_code, message_in, want_in};
@@ -77,6 +77,8 @@ pub extern "C" fn felosumay_collector_ask(
         result ≡ code_of (of_refusal (refusal_of s c))) }
     ensures sent { IfSome (command_in command.now load.now) (λ c. (s : State) → HeldIn collector.old.held s →
         result ≡ code_of Status.Done → take count.new request.new ≡ frame_text (command_request s c)) }
+    ensures count { IfSome (command_in command.now load.now) (λ c. (s : State) → HeldIn collector.old.held s →
+        result ≡ code_of Status.Done → count.new ≡ length (frame_text (command_request s c))) }
     ensures is_frame { IfSome (command_in command.now load.now) (λ c. (s : State) → HeldIn collector.old.held s →
         result ≡ code_of Status.Done → IsFrame (command_request s c)) }
     ensures after { IfSome (command_in command.now load.now) (λ c. (s : State) → HeldIn collector.old.held s →
@@ -108,6 +110,8 @@ pub extern "C" fn felosumay_collector_poll(
     ensures busy { (s : State) → HeldIn collector.old.held s → ((result ≡ code_of Status.Busy) ↔ IsSome s.transaction) }
     ensures sent { (s : State) → HeldIn collector.old.held s → result ≡ code_of Status.Done →
         take count.new request.new ≡ frame_text (poll_request s) }
+    ensures count { (s : State) → HeldIn collector.old.held s → result ≡ code_of Status.Done →
+        count.new ≡ length (frame_text (poll_request s)) }
     ensures is_frame { (s : State) → HeldIn collector.old.held s → result ≡ code_of Status.Done → IsFrame (poll_request s) }
     ensures after { (s : State) → HeldIn collector.old.held s → result ≡ code_of Status.Done →
         HeldIn collector.new.held (after_poll s) }
@@ -170,10 +174,12 @@ pub extern "C" fn felosumay_collector_next(
 ) -> u8
     ensures next { (s : State) → HeldIn collector.old.held s → MatchOption (slice_get s.recorded 0) (result ≡ code_of Status.NoMore)
         (λ m. (result ≡ code_of Status.Done) × (message_in message.new ≡ m)) }
+    ensures count { (s : State) → HeldIn collector.old.held s →
+        IfSome (slice_get s.recorded 0) (λ m. message.new.count ≡ length m.body) }
     ensures after { (s : State) → HeldIn collector.old.held s →
         HeldIn collector.new.held (record s { recorded = drop 1 s.recorded }) }
-    ensures absent { holds_collector collector.old.held ≡ false →
-        (result ≡ code_of Status.Absent) × (collector.new.held ≡ collector.old.held) }
+    ensures absent { (result ≡ code_of Status.Absent) ↔ (holds_collector collector.old.held ≡ false) }
+    ensures same { holds_collector collector.old.held ≡ false → collector.new.held ≡ collector.old.held }
 {
     let Some(mut party) = take(alloc, collector) else {
         return Status::Absent.code();

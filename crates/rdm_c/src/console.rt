@@ -1,6 +1,6 @@
 //! What a collector does for C.
 
-ghost use Rattle.std.specs.Prelude.{◌≡◌, ◌≢◌, ◌↔◌, [], ◌∷◌, IsSome, MatchOption, drop, false, slice_get, take};
+ghost use Rattle.std.specs.Prelude.{◌≡◌, ◌≢◌, ◌↔◌, [], ◌∷◌, IfSome, IsSome, MatchOption, drop, false, length, slice_get, take};
 ghost use Rattle.rdm_frame.specs.FrameText.{frame_text, IsFrame};
 ghost use Rattle.rdm_bus.specs.Collecting.{State, refusal_of, poll_request, command_request, after_ask, after_poll, heard_in, after_hearing, without_transaction};
 ghost use Rattle.rdm_c.specs.Messages.{heard_code, message_in};
@@ -23,6 +23,8 @@ pub(crate) fn ask(
     ensures refused { (s : State) → IsIn party.old s → result ≡ of_refusal (refusal_of s command.now) }
     ensures sent { (s : State) → IsIn party.old s → result ≡ Status.Done →
         take count.new request.new ≡ frame_text (command_request s command.now) }
+    ensures count { (s : State) → IsIn party.old s → result ≡ Status.Done →
+        count.new ≡ length (frame_text (command_request s command.now)) }
     ensures is_frame { (s : State) → IsIn party.old s → result ≡ Status.Done → IsFrame (command_request s command.now) }
     ensures after { (s : State) → IsIn party.old s → result ≡ Status.Done → IsIn party.new (after_ask s command.now) }
     ensures same { result ≢ Status.Done → party.new ≡ party.old }
@@ -44,6 +46,7 @@ fn send(
 ) -> Status
     ensures refused { result ≡ of_refusal (refusal_of collector.old command.now) }
     ensures sent { result ≡ Status.Done → take count.new request.new ≡ frame_text (command_request collector.old command.now) }
+    ensures count { result ≡ Status.Done → count.new ≡ length (frame_text (command_request collector.old command.now)) }
     ensures is_frame { result ≡ Status.Done → IsFrame (command_request collector.old command.now) }
     ensures after { result ≡ Status.Done → collector.new ≡ after_ask collector.old command.now }
     ensures same { result ≢ Status.Done → collector.new ≡ collector.old }
@@ -64,6 +67,7 @@ fn send(
 pub(crate) fn poll(party: &mut Party, request: &mut [u8; 257], count: &mut usize) -> Status
     ensures busy { (s : State) → IsIn party.old s → ((result ≡ Status.Busy) ↔ IsSome s.transaction) }
     ensures sent { (s : State) → IsIn party.old s → result ≡ Status.Done → take count.new request.new ≡ frame_text (poll_request s) }
+    ensures count { (s : State) → IsIn party.old s → result ≡ Status.Done → count.new ≡ length (frame_text (poll_request s)) }
     ensures is_frame { (s : State) → IsIn party.old s → result ≡ Status.Done → IsFrame (poll_request s) }
     ensures after { (s : State) → IsIn party.old s → result ≡ Status.Done → IsIn party.new (after_poll s) }
     ensures same { result ≢ Status.Done → party.new ≡ party.old }
@@ -80,6 +84,7 @@ pub(crate) fn poll(party: &mut Party, request: &mut [u8; 257], count: &mut usize
 fn send_poll(collector: &mut Collector, request: &mut [u8; 257], count: &mut usize) -> Status
     ensures busy { (result ≡ Status.Busy) ↔ IsSome collector.old.transaction }
     ensures sent { result ≡ Status.Done → take count.new request.new ≡ frame_text (poll_request collector.old) }
+    ensures count { result ≡ Status.Done → count.new ≡ length (frame_text (poll_request collector.old)) }
     ensures is_frame { result ≡ Status.Done → IsFrame (poll_request collector.old) }
     ensures after { result ≡ Status.Done → collector.new ≡ after_poll collector.old }
     ensures same { result ≢ Status.Done → collector.new ≡ collector.old }
@@ -131,8 +136,10 @@ pub(crate) fn over(party: &mut Party) -> Status
 pub(crate) fn next(party: &mut Party, message: &mut MessageNumbers) -> Status
     ensures next { (s : State) → IsIn party.old s → MatchOption (slice_get s.recorded 0) (result ≡ Status.NoMore)
         (λ m. (result ≡ Status.Done) × (message_in message.new ≡ m)) }
+    ensures count { (s : State) → IsIn party.old s → IfSome (slice_get s.recorded 0) (λ m. message.new.count ≡ length m.body) }
     ensures after { (s : State) → IsIn party.old s → IsIn party.new (record s { recorded = drop 1 s.recorded }) }
-    ensures absent { is_collector party.old ≡ false → (result ≡ Status.Absent) × (party.new ≡ party.old) }
+    ensures absent { (result ≡ Status.Absent) ↔ (is_collector party.old ≡ false) }
+    ensures same { is_collector party.old ≡ false → party.new ≡ party.old }
 {
     match party {
         Party::Responder(_) => Status::Absent,
@@ -144,6 +151,8 @@ pub(crate) fn next(party: &mut Party, message: &mut MessageNumbers) -> Status
 fn take_first(collector: &mut Collector, message: &mut MessageNumbers) -> Status
     ensures next { MatchOption (slice_get collector.old.recorded 0) (result ≡ Status.NoMore)
         (λ m. (result ≡ Status.Done) × (message_in message.new ≡ m)) }
+    ensures count { IfSome (slice_get collector.old.recorded 0) (λ m. message.new.count ≡ length m.body) }
+    ensures found { result ≢ Status.Absent }
     ensures after { collector.new ≡ record collector.old { recorded = drop 1 collector.old.recorded } }
 {
     let Some(first) = collector.recorded().first() else {

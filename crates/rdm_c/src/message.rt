@@ -1,6 +1,6 @@
 //! What a collector takes and gives, as numbers.
 
-ghost use Rattle.std.specs.Prelude.{◌≡◌, ◌≤◌, take};
+ghost use Rattle.std.specs.Prelude.{◌≡◌, ◌≤◌, length, take};
 ghost use Rattle.rdm_c.specs.Messages.{want_in, action_in, command_in, heard_code, message_in};
 
 use crate::front::write_front;
@@ -65,7 +65,8 @@ impl CommandNumbers {
 impl MessageNumbers {
     /// Tells of a message.
     pub(crate) fn tell(&mut self, message: &Message)
-        ensures { message_in self.new ≡ message.now }
+        ensures message { message_in self.new ≡ message.now }
+        ensures count { self.new.count ≡ length message.now.body }
     {
         self.count = write_front(message.body.as_slice(), &mut self.bytes);
         self.pid = message.pid;

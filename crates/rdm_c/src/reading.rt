@@ -1,6 +1,6 @@
 //! What C reads of a responder.
 
-ghost use Rattle.std.specs.Prelude.{◌≡◌, ◌≢◌, ◌==◌, false, length};
+ghost use Rattle.std.specs.Prelude.{◌≡◌, ◌↔◌, ◌==◌, false, length};
 ghost use Rattle.rdm_params.specs.Commands.Commands.{got};
 ghost use Rattle.rdm_outbox.specs.Jobs.{has_place, outstanding_count, waiting_of};
 ghost use Rattle.rdm_responder.specs.History.{History};
@@ -31,7 +31,7 @@ pub extern "C" fn felosumay_responder_get(
 ) -> u8
     ensures told { (h : History) → HeldFor responder.old.held h →
         GetTold result count.new value.new reason.new (got (account_of h).parameters sub pid argument.now) }
-    ensures absent { holds_responder responder.old.held ≡ false → result ≡ code_of Status.Absent }
+    ensures absent { (result ≡ code_of Status.Absent) ↔ (holds_responder responder.old.held ≡ false) }
     ensures same { responder.new.held ≡ responder.old.held }
 {
     let Some(party) = take(alloc, responder) else {

@@ -1,6 +1,6 @@
 //! The responder, as C calls it: made, given up, and what happens to it.
 
-ghost use Rattle.std.specs.Prelude.{◌≡◌, ◌≢◌, ◌↔◌, ◌≤◌, ◌==◌, None, Err, false, IfSome, IfOk, IfErr};
+ghost use Rattle.std.specs.Prelude.{◌≡◌, ◌≢◌, ◌↔◌, ◌≤◌, ◌==◌, None, Err, false, IfSome, IfOk, IfErr, length};
 ghost use Rattle.std.specs.Option.{option_map};
 ghost use Rattle.rdm_device.specs.Device.Demo.{demo};
 ghost use Rattle.rdm_device.specs.Device.Profiles.{CanBeMade};
@@ -89,6 +89,7 @@ pub extern "C" fn felosumay_responder_step(
 ) -> u8
     ensures status { result ≡ code_of (found (holds_responder responder.old.held)) }
     ensures reply { (h : History) → HeldFor responder.old.held h → told stepped.new.replied stepped.new.count reply.new ≡ reply_of h bytes.now }
+    ensures count { (h : History) → HeldFor responder.old.held h → IfSome (reply_of h bytes.now) (λ r. stepped.new.count ≡ length r) }
     ensures job { (h : History) → HeldFor responder.old.held h → started_in stepped.new ≡ option_map numbers_of (job_of h bytes.now) }
     ensures stands { (h : History) → HeldFor responder.old.held h → HeldFor responder.new.held (then_event h (Heard bytes.now)) }
     ensures absent { holds_responder responder.old.held ≡ false →
@@ -121,6 +122,8 @@ pub extern "C" fn felosumay_responder_arrive(
         (result ≡ code_of Status.Absent) ↔ (holds_responder responder.old.held ≡ false)) }
     ensures lawful { IfSome (report_in job.now outcome.now) (λ r. (h : History) → IsLawful h → HeldFor responder.old.held h →
         ((result ≡ code_of Status.Done) ↔ IsLawful (then_event h (Arrived r)))) }
+    ensures astray { IfSome (report_in job.now outcome.now) (λ r. (h : History) → IsLawful h → HeldFor responder.old.held h →
+        ((result ≡ code_of Status.Astray) ↔ ¬ IsLawful (then_event h (Arrived r)))) }
     ensures stands { IfSome (report_in job.now outcome.now) (λ r. (h : History) → HeldFor responder.old.held h →
         result ≡ code_of Status.Done → HeldFor responder.new.held (then_event h (Arrived r))) }
     ensures kept { IfSome (report_in job.now outcome.now) (λ r. (h : History) → HeldFor responder.old.held h →

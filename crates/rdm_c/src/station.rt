@@ -1,6 +1,6 @@
 //! What a responder does for C.
 
-ghost use Rattle.std.specs.Prelude.{◌≡◌, ◌≢◌, ◌==◌, ◌↔◌, false, length};
+ghost use Rattle.std.specs.Prelude.{◌≡◌, ◌≢◌, ◌==◌, ◌↔◌, IfSome, false, length};
 ghost use Rattle.std.specs.Option.{option_map};
 ghost use Rattle.rdm_params.specs.Commands.Commands.{got};
 ghost use Rattle.rdm_outbox.specs.Jobs.{has_place, outstanding_count, waiting_of};
@@ -29,6 +29,7 @@ pub(crate) fn step(
 ) -> Status
     ensures status { result ≡ found (is_responder party.old) }
     ensures reply { (h : History) → IsFor party.old h → told stepped.new.replied stepped.new.count reply.new ≡ reply_of h bytes.now }
+    ensures count { (h : History) → IsFor party.old h → IfSome (reply_of h bytes.now) (λ r. stepped.new.count ≡ length r) }
     ensures job { (h : History) → IsFor party.old h → started_in stepped.new ≡ option_map numbers_of (job_of h bytes.now) }
     ensures stands { (h : History) → IsFor party.old h → IsFor party.new (then_event h (Heard bytes.now)) }
     ensures absent { result ≢ Status.Done → (party.new ≡ party.old) × (stepped.new.replied ≡ 0) × (stepped.new.started ≡ 0) }
@@ -49,6 +50,8 @@ pub(crate) fn step(
 fn hear(station: &mut Station, bytes: &[u8], reply: &mut [u8; 257], stepped: &mut SteppedNumbers)
     ensures reply { (h : History) → StandsFor station.old.responder h →
         told stepped.new.replied stepped.new.count reply.new ≡ reply_of h bytes.now }
+    ensures count { (h : History) → StandsFor station.old.responder h →
+        IfSome (reply_of h bytes.now) (λ r. stepped.new.count ≡ length r) }
     ensures job { (h : History) → StandsFor station.old.responder h →
         started_in stepped.new ≡ option_map numbers_of (job_of h bytes.now) }
     ensures stands { (h : History) → StandsFor station.old.responder h →
@@ -104,7 +107,8 @@ pub(crate) fn change(party: &mut Party, change: Change) -> Status
     ensures told { (h : History) → IsFor party.old h → result ≡ changed h change }
     ensures stands { (h : History) → IsFor party.old h → result ≢ Status.NoRoom → IsFor party.new (then_event h (Changed change)) }
     ensures no_room { result ≡ Status.NoRoom → party.new ≡ party.old }
-    ensures absent { is_responder party.old ≡ false → (result ≡ Status.Absent) × (party.new ≡ party.old) }
+    ensures absent { (result ≡ Status.Absent) ↔ (is_responder party.old ≡ false) }
+    ensures same { is_responder party.old ≡ false → party.new ≡ party.old }
     ensures short { result ≢ Status.TooLong }
 {
     match party {
@@ -140,7 +144,7 @@ pub(crate) fn get(
 ) -> Status
     ensures told { (h : History) → IsFor party.now h →
         GetTold (code_of result) count.new value.new reason.new (got (account_of h).parameters sub pid argument.now) }
-    ensures absent { is_responder party.now ≡ false → result ≡ Status.Absent }
+    ensures absent { (result ≡ Status.Absent) ↔ (is_responder party.now ≡ false) }
 {
     let Party::Responder(station) = party else {
         return Status::Absent;
