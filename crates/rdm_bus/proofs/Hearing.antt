@@ -1,5 +1,5 @@
 -- The requests of commands, and what the answers to transactions are heard as.
-use Rattle.std.proofs.Common.{◌≡◌, ℕ, zero, suc, ◌+◌, ◌%◌, ◌<◌, ◌==◌, ◌&&◌, Bool, true, false, cond, List, [], ◌∷◌, ◌++◌, length, take, Option, Some, None, refl, sym, ap, subst, ◌∙◌, arith, true≢false, ◌⊎◌}
+use Rattle.std.proofs.Common.{◌≡◌, ℕ, zero, suc, ◌+◌, ◌%◌, ◌<◌, ◌==◌, ◌&&◌, Bool, true, false, cond, List, [], ◌∷◌, length, take, Option, Some, None, refl, sym, ap, subst, ◌∙◌, arith, true≢false}
 use Rattle.std.specs.Bool.{Decides}
 use Rattle.std.specs.Option.{option_map, option_map_or, option_and_then}
 use Rattle.std.proofs.lemmas.Bool.Decides.{Decides-eqb, Decides-and, Decides-or, Decides-like}
@@ -166,9 +166,13 @@ told_reply : (device controller : Uid) (n : ℕ) (sent bytes : List ℕ) (reques
 told_reply device controller n sent bytes request is text (Yes e reply) =
     subst (λ (h : Heard). IsHeardAs device controller n sent false (Some bytes) (Some h)) (sym e) (bytes, refl, refl, (request, text, reply))
 told_reply device controller n sent bytes request is text (No e none) =
-    subst (λ (h : Heard). IsHeardAs device controller n sent false (Some bytes) (Some h)) (sym e)
-    (bytes, refl, λ p. absurd (true≢false (sym p)), λ _. λ (asked, text', reply).
-        none (subst (λ (g : Frame). Answered device controller n bytes (IsResponseTo g)) (some_frame asked request (sym text' ∙ text)) reply))
+    subst (λ (h : Heard). IsHeardAs device controller n sent false (Some bytes) (Some h)) (sym e) (
+      bytes,
+      refl,
+      λ p. absurd (true≢false (sym p)),
+      λ _. λ (asked, text', reply).
+          none (subst (λ (g : Frame). Answered device controller n bytes (IsResponseTo g)) (some_frame asked request (sym text' ∙ text)) reply),
+    )
 
 command_frame : (t : Start) (c : Command) (bytes : List ℕ) (o : Option Frame) → IsFrame (command_request (controller_at t) c) → frame_in bytes ≡ o
     → IsHeardAs t.target t.uid t.tn (frame_text (command_request (controller_at t) c)) false (Some bytes) (Some (option_map_or (heard_as (after_ask (controller_at t) c)) o Ignored))

@@ -1,6 +1,6 @@
 -- What a controller sends for a command, and what it takes an answer for, said of what is on the bus and of nothing that it
 -- keeps. E1.20 sections 6.2 and 6.3.1.
-use Rattle.std.specs.Prelude.{◌≡◌, ◌↔◌, ◌⊎◌, ℕ, ◌+◌, ◌%◌, Bool, true, false, List, [], ◌∷◌, ◌++◌, length, take, slice_get, Option, Some, None}
+use Rattle.std.specs.Prelude.{◌≡◌, ◌↔◌, ◌⊎◌, ℕ, ◌+◌, ◌%◌, Bool, true, false, List, ◌∷◌, ◌++◌, length, take, slice_get, Option, Some, None}
 use Rattle.rdm_frame.specs.declared.uid.Uid.{Uid}
 use Rattle.rdm_frame.specs.declared.frame.Frame.{Frame}
 use Rattle.rdm_frame.specs.FrameText.{frame_text}

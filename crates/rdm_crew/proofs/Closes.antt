@@ -8,12 +8,12 @@ use Rattle.std.proofs.lemmas.List.Elements.{filter-append}
 use Rattle.rdm_params.specs.Slow.Work.{worker_of}
 use Rattle.rdm_responder.specs.declared.report.Report.{Report}
 use Rattle.rdm_bus.specs.declared.event.Event.{Event}
-use Rattle.rdm_bus.specs.Happened.{reports_in, reports_of}
+use Rattle.rdm_bus.specs.Happened.{reports_of}
 use Rattle.rdm_bus.specs.Headline.{Handed, Result as Came, Close, results_in, NothingAfterClose}
 use Rattle.rdm_lane.specs.declared.taken.Taken.{Taken}
 use Rattle.rdm_lane.specs.declared.taken.Taken.TheVariants.{Item, Mark, Empty, Closed}
 use Rattle.rdm_lane.specs.Ends.{IsOver}
-use Rattle.rdm_lane.specs.Lane.{IsPrefix, is_from, of, is_mark, has_mark, numbered, put_closed, items_of, items_from}
+use Rattle.rdm_lane.specs.Lane.{is_from, of, is_mark, has_mark, numbered, items_of, items_from}
 use Rattle.rdm_crew.specs.declared.desk.Desk.{Desk}
 use Rattle.rdm_crew.specs.declared.error.RunError.{RunError}
 use Rattle.rdm_crew.specs.declared.trace.Ended.{Ended}

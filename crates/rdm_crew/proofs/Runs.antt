@@ -7,8 +7,7 @@ use Rattle.rdm_outbox.specs.declared.job.Job.{Job}
 use Rattle.rdm_outbox.specs.Jobs.{jobs_of, outstanding_count}
 use Rattle.rdm_responder.specs.Runs.{outbox_of}
 use Rattle.rdm_bus.specs.declared.event.Event.{Event}
-use Rattle.rdm_bus.specs.declared.event.Step.{Step}
-use Rattle.rdm_bus.specs.BusRun.{Start, IsBusRun, after_all}
+use Rattle.rdm_bus.specs.BusRun.{Start, after_all}
 use Rattle.rdm_lane.specs.Ends.{PostState}
 use Rattle.rdm_crew.specs.declared.crew.Crew.{Crew}
 use Rattle.rdm_crew.specs.declared.desk.Desk.{Desk}
@@ -16,12 +15,11 @@ use Rattle.rdm_crew.specs.declared.error.RunError.{RunError}
 use Rattle.rdm_crew.specs.declared.step.CrewStep.{CrewStep}
 use Rattle.rdm_crew.specs.declared.trace.Ended.{Ended}
 use Rattle.rdm_crew.specs.Crews.{HasJobs, IsTied, HavePlayed}
-use Rattle.rdm_crew.specs.Desks.{began, stands_at, IsDrawn, IsSameDesk, HaveArrived}
+use Rattle.rdm_crew.specs.Desks.{began, stands_at, IsSameDesk, HaveArrived}
 use Rattle.rdm_bus.specs.Happened.{changes_in}
 use Rattle.rdm_crew.specs.RunTrace.{IsCut, IsAnswered, IsRunTrace}
-use Rattle.rdm_crew.specs.Setups.{switched_on}
 use Rattle.rdm_crew.specs.Watchers.{AreOffered}
-use Rattle.rdm_crew.proofs.Drawing.{same_jobs, same_desk, stands_after}
+use Rattle.rdm_crew.proofs.Drawing.{same_jobs, stands_after}
 
 pub closing_jobs : (c : Crew) (e : Desk) (first second : PostState Job) → IsTied c → HaveArrived c.desk e → first ≡ c.first → second ≡ c.second → HasJobs e first second
 closing_jobs c e first second tied arrived f s =

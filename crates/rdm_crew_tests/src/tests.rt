@@ -211,7 +211,10 @@ fn were_handed_over(rt: &impl Abort, trace: &Trace, told: Told) {
     let reports = trace.reports();
     assert_eq!(rt; reports.posted(0).len(), told.first.len());
     assert_eq!(rt; reports.posted(1).len(), told.second.len());
-    assert_eq!(rt; reports.taken().len(), told.first.len() + told.second.len() + 2);
+    assert_eq!(rt;
+        reports.taken().len(),
+        told.first.len() + told.second.len() + 2
+    );
 }
 
 /// The messages of these classes and PIDs were collected, of the root and without data.
