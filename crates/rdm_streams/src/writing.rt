@@ -1,6 +1,6 @@
 //! A loop of writes.
 
-ghost use Rattle.std.specs.Prelude.{◌≡◌, ◌≤◌, ℕ, length, take, OnOk, OnErr, MatchResult};
+ghost use Rattle.std.specs.Prelude.{◌≡◌, ◌≤◌, ◌<◌, ℕ, length, take, OnOk, OnErr, MatchResult};
 ghost use Rattle.std.specs.Io.KnownBytes.{Keeps, Appends};
 
 use std::io::Write;
@@ -15,8 +15,9 @@ pub struct WriteFault;
 /// tried again.
 pub fn write_all<W: Write>(writer: &mut W, bytes: &[u8]) -> Result<(), WriteFault>
     ensures ok { OnOk result (Appends (W.contents writer.old) (W.contents writer.new) bytes.now) }
-    // Where it failed, a front of the bytes is written.
-    ensures front { OnErr result ((count : ℕ) × Appends (W.contents writer.old) (W.contents writer.new) (take count bytes.now)) }
+    // Where it failed, a front of the bytes is written that isn't all of them.
+    ensures front { OnErr result ((count : ℕ) × (count < length bytes.now)
+        × Appends (W.contents writer.old) (W.contents writer.new) (take count bytes.now)) }
 {
     let mut written = 0;
     while written < bytes.len() {

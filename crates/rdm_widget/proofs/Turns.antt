@@ -1,5 +1,5 @@
 -- One part of a stream after another.
-use Rattle.std.proofs.Common.{◌≡◌, ℕ, suc, ◌+◌, ◌-◌, ◌<◌, ◌≤◌, List, [], ◌∷◌, ◌++◌, length, take, drop, Option, Some, None, refl, sym, ap, subst, ◌∙◌, arith, append_assoc, append-nil, length-append}
+use Rattle.std.proofs.Common.{◌≡◌, ℕ, ◌+◌, ◌-◌, ◌<◌, ◌≤◌, List, [], ◌∷◌, ◌++◌, length, take, drop, Option, Some, None, refl, sym, ap, subst, ◌∙◌, arith, append_assoc, append-nil, length-append}
 use Rattle.std.specs.Prelude.{Result, Ok, Err, OnOk, OnErr}
 use Rattle.std.specs.Io.KnownBytes.{Appends, Consumes, Keeps}
 use Rattle.std.proofs.Math.Seq.{drop-append_seam}
@@ -10,7 +10,7 @@ use Rattle.rdm_widget.specs.Framing.{Message, IsMessage, message_bytes, bytes_of
 use Rattle.rdm_widget.specs.Desks.{Situation, IsIn}
 use Rattle.rdm_widget.specs.Protocol.{answer_to, after_message}
 use Rattle.rdm_widget.proofs.Frames.{unfinished_none}
-use Rattle.rdm_widget.specs.Serving.{Turn, messages_in, times_of, after_turns, answers, Tells, IsServed, AreDone, AppendsFront, IsCutShort}
+use Rattle.rdm_widget.specs.Serving.{Turn, messages_in, times_of, after_turns, answer_in, answers, Tells, IsServed, AreDone, AllWritten, LastCutShort, IsServedOnce, IsCutShort}
 
 -- ---- pieces
 
@@ -70,15 +70,27 @@ appends_then (Some a) None new xs ys h k = absurd h
 appends_then (Some a) (Some b) None xs ys h k = absurd k
 appends_then (Some a) (Some b) (Some c) xs ys h k = k ∙ ap (λ (zs : List ℕ). zs ++ ys) h ∙ append_assoc a xs ys
 
-take-more : (xs ys : List ℕ) (n : ℕ) → take (length xs + n) (xs ++ ys) ≡ xs ++ take n ys
-take-more [] ys n = ap (λ k. take k ys) (omega arith)
-take-more (x ∷ xs) ys n =
-    let e : length (x ∷ xs) + n ≡ suc (length xs + n) = omega arith in
-    ap (λ k. take k (x ∷ xs ++ ys)) e ∙ ap (λ (l : List ℕ). x ∷ l) (take-more xs ys n)
+pub all_then : (old mid new : Option (List ℕ)) (s : Situation) (ts us : List Turn) → AllWritten old mid s ts → AllWritten mid new (after_turns s ts) us → AllWritten old new s (ts ++ us)
+all_then old mid new s ts us h k =
+    subst (Appends old new) (sym (answers-append s ts us)) (appends_then old mid new (answers s ts) (answers (after_turns s ts) us) h k)
 
-pub front_then : (old mid new : Option (List ℕ)) (xs ys : List ℕ) → Appends old mid xs → AppendsFront mid new ys → AppendsFront old new (xs ++ ys)
-front_then old mid new xs ys h k =
-    (length xs + k.0, subst (Appends old new) (sym (take-more xs ys k.0)) (appends_then old mid new xs (take k.0 ys) h k.1))
+pub short_then : (old mid new : Option (List ℕ)) (s : Situation) (ts us : List Turn) → AllWritten old mid s ts → LastCutShort mid new (after_turns s ts) us → LastCutShort old new s (ts ++ us)
+short_then old mid new s ts us h k =
+    let last : List ℕ = take k.count (answer_in (after_turns (after_turns s ts) k.before) k.last) in
+    let then : List ℕ = answers (after_turns s ts) k.before in
+    let all : Appends old new (answers s ts ++ (then ++ last)) = appends_then old mid new (answers s ts) (then ++ last) h k.written in
+    let one : Appends old new ((answers s ts ++ then) ++ last) = subst (Appends old new) (sym (append_assoc (answers s ts) then last)) all in
+    let two : Appends old new (answers s (ts ++ k.before) ++ last) = subst (λ (l : List ℕ). Appends old new (l ++ last)) (sym (answers-append s ts k.before)) one in
+    record {
+      before = ts ++ k.before;
+      last = k.last;
+      count = k.count;
+      ends = ap (λ (l : List Turn). ts ++ l) k.ends ∙ sym (append_assoc ts k.before (k.last ∷ []));
+      lacks = subst (λ (t : Situation). k.count < length (answer_in t k.last)) (sym (after_turns-append s ts k.before)) k.lacks;
+      written =
+          subst (λ (t : Situation). Appends old new (answers s (ts ++ k.before) ++ take k.count (answer_in t k.last)))
+          (sym (after_turns-append s ts k.before)) two;
+    }
 
 -- ---- what is read
 
@@ -100,9 +112,9 @@ consumes_kept (Some a) (Some b) (Some c) xs h k = h ∙ ap (λ (zs : List ℕ). 
 
 -- ---- parts
 
-pub join : {C : Type 0} (tells : C → ℕ → C → Type 0) (a b c : C) (bytes mid rest : List ℕ) (s : Situation) (d e : Desk) (W V U : List ℕ → Type 0)
+pub join : {C : Type 0} (tells : C → ℕ → C → Type 0) (a b c : C) (bytes mid rest : List ℕ) (s : Situation) (d e : Desk) (W V U : Situation → List Turn → Type 0)
     → (one : AreDone tells a b bytes mid s d W) → AreDone tells b c mid rest (after_turns s one.turns) e V
-    → ((xs ys : List ℕ) → W xs → V ys → U (xs ++ ys)) → AreDone tells a c bytes rest s e U
+    → ((ts us : List Turn) → W s ts → V (after_turns s ts) us → U s (ts ++ us)) → AreDone tells a c bytes rest s e U
 join tells a b c bytes mid rest s d e W V U one two all =
     record {
       pieces = one.pieces ++ two.pieces;
@@ -117,14 +129,12 @@ join tells a b c bytes mid rest s d e W V U one two all =
       times =
           subst (λ l. Tells tells a l c) (sym (map-append (λ (t : Turn). t.at) one.turns two.turns))
           (Tells-append tells a b c (times_of one.turns) (times_of two.turns) one.times two.times);
-      written =
-          subst U (sym (answers-append s one.turns two.turns))
-          (all (answers s one.turns) (answers (after_turns s one.turns) two.turns) one.written two.written);
+      written = all one.turns two.turns one.written two.written;
       desk = subst (IsIn e) (sym (after_turns-append s one.turns two.turns)) two.desk;
     }
 
 -- more is read behind what is left
-pub more_read : {C : Type 0} (tells : C → ℕ → C → Type 0) (a b : C) (bytes rest more : List ℕ) (s : Situation) (d : Desk) (W : List ℕ → Type 0)
+pub more_read : {C : Type 0} (tells : C → ℕ → C → Type 0) (a b : C) (bytes rest more : List ℕ) (s : Situation) (d : Desk) (W : Situation → List Turn → Type 0)
     → AreDone tells a b bytes rest s d W → AreDone tells a b (bytes ++ more) (rest ++ more) s d W
 more_read tells a b bytes rest more s d W one = record {
   pieces = one.pieces;
@@ -139,7 +149,7 @@ more_read tells a b bytes rest more s d W one = record {
 
 -- nothing is done yet
 pub none_done : {C : Type 0} (tells : C → ℕ → C → Type 0) (a : C) (bytes : List ℕ) (s : Situation) (d : Desk) (old : Option (List ℕ))
-    → IsIn d s → AreDone tells a a bytes bytes s d (Appends old old)
+    → IsIn d s → AreDone tells a a bytes bytes s d (AllWritten old old)
 none_done tells a bytes s d old is = record {
   pieces = [];
   turns = [];
@@ -153,7 +163,7 @@ none_done tells a bytes s d old is = record {
 
 -- a stray byte is passed over
 pub stray_done : {C : Type 0} (tells : C → ℕ → C → Type 0) (a : C) (bytes : List ℕ) (s : Situation) (d : Desk) (old : Option (List ℕ))
-    → IsIn d s → 0 < length bytes → IsStray bytes → AreDone tells a a bytes (drop 1 bytes) s d (Appends old old)
+    → IsIn d s → 0 < length bytes → IsStray bytes → AreDone tells a a bytes (drop 1 bytes) s d (AllWritten old old)
 stray_done tells a [] s d old is some stray = absurd (omega (arith, some))
 stray_done tells a (b ∷ bytes) s d old is some stray = record {
   pieces = Rubbish b ∷ [];
@@ -167,8 +177,8 @@ stray_done tells a (b ∷ bytes) s d old is some stray = record {
 }
 
 -- a message is answered
-pub said_done : {C : Type 0} (tells : C → ℕ → C → Type 0) (a b : C) (bytes rest : List ℕ) (m : Message) (now : ℕ) (s : Situation) (d : Desk) (W : List ℕ → Type 0)
-    → IsMessage m → bytes ≡ message_bytes m ++ rest → tells a now b → W (bytes_of (answer_to now s m)) → IsIn d (after_message now s m) → AreDone tells a b bytes rest s d W
+pub said_done : {C : Type 0} (tells : C → ℕ → C → Type 0) (a b : C) (bytes rest : List ℕ) (m : Message) (now : ℕ) (s : Situation) (d : Desk) (W : Situation → List Turn → Type 0)
+    → IsMessage m → bytes ≡ message_bytes m ++ rest → tells a now b → W s (record { at = now; message = m } ∷ []) → IsIn d (after_message now s m) → AreDone tells a b bytes rest s d W
 said_done tells a b bytes rest m now s d W is whole told written desk = record {
   pieces = Said m ∷ [];
   turns = record { at = now; message = m } ∷ [];
@@ -176,7 +186,7 @@ said_done tells a b bytes rest m now s d W is whole told written desk = record {
   cut = (is, tt);
   said = refl;
   times = (b, (told, refl));
-  written = subst W (sym (append-nil (bytes_of (answer_to now s m)))) written;
+  written = written;
   desk = desk;
 }
 
@@ -195,7 +205,7 @@ reaches bytes rest m whole =
 -- ---- what has been served
 
 pub served : {C : Type 0} (tells : C → ℕ → C → Type 0) (a b : C) (unread left old new : Option (List ℕ)) (input rest : List ℕ) (s : Situation) (d : Desk)
-    → Consumes unread left input → AreDone tells a b input rest s d (Appends old new) → IsUnfinished rest → IsServed tells a b unread left old new s d
+    → Consumes unread left input → AreDone tells a b input rest s d (AllWritten old new) → IsUnfinished rest → IsServed tells a b unread left old new s d
 served tells a b unread left old new input rest s d read done unfinished = record {
   input = input;
   turns = done.turns;
@@ -208,19 +218,36 @@ served tells a b unread left old new input rest s d read done unfinished = recor
 
 -- ---- an answer that is written, whole or in part
 
-pub answered_ok : {C A E : Type 0} (tells : C → ℕ → C → Type 0) (a b : C) (m : Message) (now : ℕ) (d e : Desk) (W : List ℕ → Type 0) (packet : List ℕ) (r : Result A E)
-    → tells a now b → ((s : Situation) → IsIn d s → packet ≡ bytes_of (answer_to now s m)) → ((s : Situation) → IsIn d s → IsIn e (after_message now s m)) → OnOk r (W packet)
-    → OnOk r ((s : Situation) (bytes rest : List ℕ) → IsIn d s → IsMessage m → bytes ≡ message_bytes m ++ rest → AreDone tells a b bytes rest s e W)
-answered_ok tells a b m now d e W packet (Ok u) told bytes_are after written =
-    λ s bytes rest is message whole. said_done tells a b bytes rest m now s e W message whole told (subst W (bytes_are s is) written) (after s is)
-answered_ok tells a b m now d e W packet (Err fault) told bytes_are after written = written
+pub answered_ok : {C A E : Type 0} (tells : C → ℕ → C → Type 0) (a b : C) (m : Message) (now : ℕ) (d e : Desk) (old new : Option (List ℕ)) (packet : List ℕ) (r : Result A E)
+    → tells a now b → ((s : Situation) → IsIn d s → packet ≡ bytes_of (answer_to now s m)) → ((s : Situation) → IsIn d s → IsIn e (after_message now s m)) → OnOk r (Appends old new packet)
+    → OnOk r ((s : Situation) (bytes rest : List ℕ) → IsIn d s → IsMessage m → bytes ≡ message_bytes m ++ rest → AreDone tells a b bytes rest s e (AllWritten old new))
+answered_ok tells a b m now d e old new packet (Ok u) told bytes_are after written =
+    λ s bytes rest is message whole.
+    said_done tells a b bytes rest m now s e (AllWritten old new) message whole told
+    (subst (Appends old new) (bytes_are s is ∙ sym (append-nil (bytes_of (answer_to now s m)))) written) (after s is)
+answered_ok tells a b m now d e old new packet (Err fault) told bytes_are after written = written
 
-pub answered_err : {C A E : Type 0} (tells : C → ℕ → C → Type 0) (a b : C) (m : Message) (now : ℕ) (d e : Desk) (W : List ℕ → Type 0) (packet : List ℕ) (r : Result A E)
-    → tells a now b → ((s : Situation) → IsIn d s → packet ≡ bytes_of (answer_to now s m)) → ((s : Situation) → IsIn d s → IsIn e (after_message now s m)) → OnErr r (W packet)
-    → OnErr r ((s : Situation) (bytes rest : List ℕ) → IsIn d s → IsMessage m → bytes ≡ message_bytes m ++ rest → AreDone tells a b bytes rest s e W)
-answered_err tells a b m now d e W packet (Ok u) told bytes_are after written = written
-answered_err tells a b m now d e W packet (Err fault) told bytes_are after written =
-    λ s bytes rest is message whole. said_done tells a b bytes rest m now s e W message whole told (subst W (bytes_are s is) written) (after s is)
+-- of this answer a front that isn't all of it
+one_short : (old new : Option (List ℕ)) (s : Situation) (turn : Turn) (packet : List ℕ) → packet ≡ answer_in s turn
+    → (count : ℕ) × (count < length packet) × Appends old new (take count packet) → LastCutShort old new s (turn ∷ [])
+one_short old new s turn packet is cut = record {
+  before = [];
+  last = turn;
+  count = cut.0;
+  ends = refl;
+  lacks = subst (λ (l : List ℕ). cut.0 < length l) is cut.1;
+  written = subst (λ (l : List ℕ). Appends old new (take cut.0 l)) is cut.2;
+}
+
+pub answered_err : {C A E : Type 0} (tells : C → ℕ → C → Type 0) (a b : C) (m : Message) (now : ℕ) (d e : Desk) (old new : Option (List ℕ)) (packet : List ℕ) (r : Result A E)
+    → tells a now b → ((s : Situation) → IsIn d s → packet ≡ bytes_of (answer_to now s m)) → ((s : Situation) → IsIn d s → IsIn e (after_message now s m))
+    → OnErr r ((count : ℕ) × (count < length packet) × Appends old new (take count packet))
+    → OnErr r ((s : Situation) (bytes rest : List ℕ) → IsIn d s → IsMessage m → bytes ≡ message_bytes m ++ rest → AreDone tells a b bytes rest s e (LastCutShort old new))
+answered_err tells a b m now d e old new packet (Ok u) told bytes_are after written = written
+answered_err tells a b m now d e old new packet (Err fault) told bytes_are after written =
+    λ s bytes rest is message whole.
+    said_done tells a b bytes rest m now s e (LastCutShort old new) message whole told
+    (one_short old new s (record { at = now; message = m }) packet (bytes_are s is) written) (after s is)
 
 pub on_ok : {A E : Type 0} (r : Result A E) (P Q : Type 0) → OnOk r P → (P → Q) → OnOk r Q
 on_ok (Ok a) P Q holds then = then holds
@@ -230,19 +257,19 @@ on_ok (Err e) P Q holds then = holds
 tail_of : (bytes : List ℕ) (done : ℕ) → take (length bytes - done) (drop done bytes) ≡ drop done bytes
 tail_of bytes done = take_all (length bytes - done) (drop done bytes) (omega (arith, length-drop done bytes))
 
-pub next_done : {C : Type 0} (tells : C → ℕ → C → Type 0) (a b c : C) (bytes : List ℕ) (done count : ℕ) (s : Situation) (d e : Desk) (W V U : List ℕ → Type 0)
+pub next_done : {C : Type 0} (tells : C → ℕ → C → Type 0) (a b c : C) (bytes : List ℕ) (done count : ℕ) (s : Situation) (d e : Desk) (W V U : Situation → List Turn → Type 0)
     → AreDone tells a b bytes (drop done bytes) s d W
     → ((t : Situation) → IsIn d t → AreDone tells b c (take (length bytes - done) (drop done bytes)) (drop count (take (length bytes - done) (drop done bytes))) t e V)
-    → ((xs ys : List ℕ) → W xs → V ys → U (xs ++ ys)) → AreDone tells a c bytes (drop (done + count) bytes) s e U
+    → ((ts us : List Turn) → W s ts → V (after_turns s ts) us → U s (ts ++ us)) → AreDone tells a c bytes (drop (done + count) bytes) s e U
 next_done tells a b c bytes done count s d e W V U one then all =
     subst (λ (l : List ℕ). AreDone tells a c bytes l s e U) (drop-drop count done bytes)
     (join tells a b c bytes (drop done bytes) (drop count (drop done bytes)) s d e W V U one
     (subst (λ (l : List ℕ). AreDone tells b c l (drop count l) (after_turns s one.turns) e V) (tail_of bytes done) (then (after_turns s one.turns) one.desk)) all)
 
-pub next_fails : {C : Type 0} (tells : C → ℕ → C → Type 0) (a b c : C) (bytes : List ℕ) (done : ℕ) (s : Situation) (d e : Desk) (W V U : List ℕ → Type 0)
+pub next_fails : {C : Type 0} (tells : C → ℕ → C → Type 0) (a b c : C) (bytes : List ℕ) (done : ℕ) (s : Situation) (d e : Desk) (W V U : Situation → List Turn → Type 0)
     → AreDone tells a b bytes (drop done bytes) s d W
     → ((t : Situation) → IsIn d t → (rest : List ℕ) × AreDone tells b c (take (length bytes - done) (drop done bytes)) rest t e V)
-    → ((xs ys : List ℕ) → W xs → V ys → U (xs ++ ys)) → (rest : List ℕ) × AreDone tells a c bytes rest s e U
+    → ((ts us : List Turn) → W s ts → V (after_turns s ts) us → U s (ts ++ us)) → (rest : List ℕ) × AreDone tells a c bytes rest s e U
 next_fails tells a b c bytes done s d e W V U one then all =
     let two = then (after_turns s one.turns) one.desk in (
       two.0,
@@ -263,32 +290,90 @@ rest_unfinished bytes done count none unfinished =
 pub none_left : (bytes : List ℕ) (done : ℕ) → length bytes ≤ done → IsUnfinished (drop done bytes)
 none_left bytes done all = subst IsUnfinished (sym (drop_of_length-le bytes all)) unfinished_none
 
--- ---- a buffer is read into, and what stands in it is answered
+-- ---- one read after another
 
-pub read_on : {C : Type 0} (tells : C → ℕ → C → Type 0) (a b : C) (input held more now_held : List ℕ) (s : Situation) (d : Desk) (W : List ℕ → Type 0)
-    → now_held ≡ held ++ more → AreDone tells a b input held s d W → AreDone tells a b (input ++ more) now_held s d W
-read_on tells a b input held more now_held s d W is one =
-    subst (λ (l : List ℕ). AreDone tells a b (input ++ more) l s d W) (sym is) (more_read tells a b input held more s d W one)
+-- what was read since the start, and what is held of it
+pub record SoFar {C : Type 0} (tells : C → ℕ → C → Type 0) (a b : C) (unread left old new : Option (List ℕ)) (held : List ℕ) (s : Situation) (d : Desk) : Type 0 where
+  pub input : List ℕ
+  pub read : Consumes unread left input
+  pub done : AreDone tells a b input held s d (AllWritten old new)
+  pub unfinished : IsUnfinished held
 
-pub served_on : {C : Type 0} (tells : C → ℕ → C → Type 0) (a b c : C) (input held more now_held left : List ℕ) (s : Situation) (d e : Desk) (old mid new : Option (List ℕ))
-    → now_held ≡ held ++ more → AreDone tells a b input held s d (Appends old mid)
-    → ((t : Situation) → IsIn d t → AreDone tells b c now_held left t e (Appends mid new)) → AreDone tells a c (input ++ more) left s e (Appends old new)
-served_on tells a b c input held more now_held left s d e old mid new is one then =
-    let first : AreDone tells a b (input ++ more) now_held s d (Appends old mid) = read_on tells a b input held more now_held s d (Appends old mid) is one in
-    join tells a b c (input ++ more) now_held left s d e (Appends old mid) (Appends mid new) (Appends old new) first (then (after_turns s first.turns) first.desk) (appends_then old mid new)
+pub nothing_so_far : {C : Type 0} (tells : C → ℕ → C → Type 0) (a : C) (unread old : Option (List ℕ)) (held : List ℕ) (s : Situation) (d : Desk)
+    → held ≡ [] → IsIn d s → SoFar tells a a unread unread old old held s d
+nothing_so_far tells a unread old held s d none is = record {
+  input = [];
+  read = consumes_none unread;
+  done = subst (λ (l : List ℕ). AreDone tells a a [] l s d (AllWritten old old)) (sym none) (none_done tells a [] s d old is);
+  unfinished = subst IsUnfinished (sym none) unfinished_none;
+}
 
-pub fails_on : {C : Type 0} (tells : C → ℕ → C → Type 0) (a b c : C) (input held more now_held : List ℕ) (s : Situation) (d e : Desk) (old mid new : Option (List ℕ)) (unread left : Option (List ℕ))
-    → Consumes unread left (input ++ more) → now_held ≡ held ++ more → AreDone tells a b input held s d (Appends old mid)
-    → ((t : Situation) → IsIn d t → (rest : List ℕ) × AreDone tells b c now_held rest t e (AppendsFront mid new)) → IsCutShort tells a c unread left old new s e
-fails_on tells a b c input held more now_held s d e old mid new unread left read is one then =
-    let first : AreDone tells a b (input ++ more) now_held s d (Appends old mid) = read_on tells a b input held more now_held s d (Appends old mid) is one in
-    let two = then (after_turns s first.turns) first.desk in
+pub read_once : {C : Type 0} (tells : C → ℕ → C → Type 0) (a b : C) (unread left old new : Option (List ℕ)) (held bytes buffer kept : List ℕ) (count done : ℕ) (s : Situation) (d : Desk)
+    → buffer ≡ held ++ bytes → length bytes ≡ count → Consumes unread left bytes → kept ≡ drop done buffer → AreDone tells a b buffer (drop done buffer) s d (AllWritten old new)
+    → IsUnfinished (drop done buffer) → IsServedOnce tells a b unread left old new held kept count s d
+read_once tells a b unread left old new held bytes buffer kept count done s d is size read kept_is all unfinished = record {
+  input = bytes;
+  size = size;
+  read = read;
+  done =
+      subst (λ (l : List ℕ). AreDone tells a b l kept s d (AllWritten old new)) is
+      (subst (λ (l : List ℕ). AreDone tells a b buffer l s d (AllWritten old new)) (sym kept_is) all);
+  unfinished = subst IsUnfinished (sym kept_is) unfinished;
+}
+
+pub cut_once : {C : Type 0} (tells : C → ℕ → C → Type 0) (a b : C) (unread left old new : Option (List ℕ)) (held bytes buffer : List ℕ) (s : Situation) (d : Desk)
+    → buffer ≡ held ++ bytes → Consumes unread left bytes → (rest : List ℕ) × AreDone tells a b buffer rest s d (LastCutShort old new)
+    → IsCutShort tells a b unread left old new held s d
+cut_once tells a b unread left old new held bytes buffer s d is read short = record {
+  input = bytes;
+  rest = short.0;
+  read = read;
+  done = subst (λ (l : List ℕ). AreDone tells a b l short.0 s d (LastCutShort old new)) is short.1;
+}
+
+pub served_on : {C : Type 0} (tells : C → ℕ → C → Type 0) (a b c : C) (unread then left old mid new : Option (List ℕ)) (held kept : List ℕ) (count : ℕ) (s : Situation) (d e : Desk)
+    → SoFar tells a b unread then old mid held s d → ((t : Situation) → IsIn d t → IsServedOnce tells b c then left mid new held kept count t e)
+    → SoFar tells a c unread left old new kept s e
+unfolding more_read
+served_on tells a b c unread then left old mid new held kept count s d e so next =
+    let two = next (after_turns s so.done.turns) so.done.desk in
+    let first : AreDone tells a b (so.input ++ two.input) (held ++ two.input) s d (AllWritten old mid) =
+    more_read tells a b so.input held two.input s d (AllWritten old mid) so.done in
     record {
-      input = input ++ more;
-      rest = two.0;
-      read = read;
-      done = join tells a b c (input ++ more) now_held two.0 s d e (Appends old mid) (AppendsFront mid new) (AppendsFront old new) first two.1 (front_then old mid new);
+      input = so.input ++ two.input;
+      read = consumes_then unread then left so.input two.input so.read two.read;
+      done =
+          join tells a b c (so.input ++ two.input) (held ++ two.input) kept s d e (AllWritten old mid) (AllWritten mid new) (AllWritten old new)
+          first two.done (all_then old mid new s);
+      unfinished = two.unfinished;
     }
+
+pub fails_on : {C : Type 0} (tells : C → ℕ → C → Type 0) (a b c : C) (unread then left old mid new : Option (List ℕ)) (held : List ℕ) (s : Situation) (d e : Desk)
+    → SoFar tells a b unread then old mid held s d → ((t : Situation) → IsIn d t → IsCutShort tells b c then left mid new held t e)
+    → IsCutShort tells a c unread left old new [] s e
+unfolding more_read
+fails_on tells a b c unread then left old mid new held s d e so next =
+    let two = next (after_turns s so.done.turns) so.done.desk in
+    let first : AreDone tells a b (so.input ++ two.input) (held ++ two.input) s d (AllWritten old mid) =
+    more_read tells a b so.input held two.input s d (AllWritten old mid) so.done in
+    record {
+      input = so.input ++ two.input;
+      rest = two.rest;
+      read = consumes_then unread then left so.input two.input so.read two.read;
+      done =
+          join tells a b c (so.input ++ two.input) (held ++ two.input) two.rest s d e (AllWritten old mid) (LastCutShort mid new) (LastCutShort old new)
+          first two.done (short_then old mid new s);
+    }
+
+pub all_served : {C : Type 0} (tells : C → ℕ → C → Type 0) (a b : C) (unread left old new : Option (List ℕ)) (held : List ℕ) (s : Situation) (d : Desk)
+    → SoFar tells a b unread left old new held s d → IsServed tells a b unread left old new s d
+all_served tells a b unread left old new held s d so = served tells a b unread left old new so.input held s d so.read so.done so.unfinished
+
+-- a read that failed
+pub not_read : {C : Type 0} (tells : C → ℕ → C → Type 0) (a b : C) (unread then left old new : Option (List ℕ)) (held : List ℕ) (s : Situation) (d : Desk)
+    → Keeps then left → SoFar tells a b unread then old new held s d → IsServed tells a b unread left old new s d
+not_read tells a b unread then left old new held s d kept so =
+    served tells a b unread left old new so.input held s d (consumes_kept unread then left so.input so.read kept) so.done so.unfinished
 
 -- what is held is less than a message
 pub unfinished_short : (held : List ℕ) → IsUnfinished held → length held < 605
@@ -296,6 +381,7 @@ unfinished_short held u =
     let size : length held + length u.more ≡ length (message_bytes u.message) = sym (length-append held u.more) ∙ ap (λ (l : List ℕ). length l) u.whole in
     omega (arith, size, length-message_bytes u.message, u.lacks, u.is_message.size)
 
-pub nothing_read : (held bytes now_held : List ℕ) (count : ℕ) → now_held ≡ held ++ bytes → length bytes ≡ count → count ≡ 0 → IsUnfinished held → IsUnfinished now_held
-nothing_read held [] now_held count is size none u = subst IsUnfinished (sym (is ∙ append-nil held)) u
-nothing_read held (b ∷ bytes) now_held count is size none u = absurd (omega (arith, size, none))
+-- the same fault of another call
+abbrev pub as_fault : {A B E : Type 0} → E → Result A E → Result B E
+as_fault fault (Ok a) = Err fault
+as_fault fault (Err e) = Err e

@@ -1,10 +1,9 @@
 //! The messages of a buffer are answered.
 
 ghost use Rattle.std.specs.Prelude.{◌≡◌, ◌≤◌, ◌++◌, ℕ, List, length, drop, IfOk, OnOk, OnErr};
-ghost use Rattle.std.specs.Io.KnownBytes.{Appends};
 ghost use Rattle.rdm_widget.specs.Desks.{Situation, IsIn};
 ghost use Rattle.rdm_widget.specs.Framing.{IsMessage, IsUnfinished, message_bytes, message_in};
-ghost use Rattle.rdm_widget.specs.Serving.{AreDone, AppendsFront};
+ghost use Rattle.rdm_widget.specs.Serving.{AreDone, AllWritten, LastCutShort};
 
 use crate::clock::Clock;
 use crate::desk::Desk;
@@ -21,10 +20,10 @@ pub(crate) fn answer_all<W: Write, C: Clock>(
     bytes: &[u8],
 ) -> Result<usize, WriteFault>
     ensures ok { IfOk result (λ count. (s : Situation) → IsIn desk.old s → AreDone C.tells clock.old clock.new
-        bytes.now (drop count bytes.now) s desk.new (Appends (W.contents writer.old) (W.contents writer.new))) }
+        bytes.now (drop count bytes.now) s desk.new (AllWritten (W.contents writer.old) (W.contents writer.new))) }
     ensures rest { IfOk result (λ count. (count ≤ length bytes.now) × IsUnfinished (drop count bytes.now)) }
     ensures err { OnErr result ((s : Situation) → IsIn desk.old s → (rest : List ℕ) × AreDone C.tells clock.old clock.new
-        bytes.now rest s desk.new (AppendsFront (W.contents writer.old) (W.contents writer.new))) }
+        bytes.now rest s desk.new (LastCutShort (W.contents writer.old) (W.contents writer.new))) }
 {
     let mut done = 0;
     while done < bytes.len() {
@@ -50,11 +49,11 @@ fn answer_front<W: Write, C: Clock>(
     bytes: &[u8],
 ) -> Result<usize, WriteFault>
     ensures ok { IfOk result (λ count. (s : Situation) → IsIn desk.old s → AreDone C.tells clock.old clock.new
-        bytes.now (drop count bytes.now) s desk.new (Appends (W.contents writer.old) (W.contents writer.new))) }
+        bytes.now (drop count bytes.now) s desk.new (AllWritten (W.contents writer.old) (W.contents writer.new))) }
     ensures within { IfOk result (λ count. count ≤ length bytes.now) }
     ensures unfinished { IfOk result (λ count. count ≡ 0 → IsUnfinished bytes.now) }
     ensures err { OnErr result ((s : Situation) → IsIn desk.old s → (rest : List ℕ) × AreDone C.tells clock.old clock.new
-        bytes.now rest s desk.new (AppendsFront (W.contents writer.old) (W.contents writer.new))) }
+        bytes.now rest s desk.new (LastCutShort (W.contents writer.old) (W.contents writer.new))) }
 {
     match front_of(bytes) {
         Front::Unfinished => Ok(0),
@@ -75,10 +74,10 @@ fn answer_one<W: Write, C: Clock>(
 ) -> Result<(), WriteFault>
     ensures ok { OnOk result ((s : Situation) (bytes rest : List ℕ) → IsIn desk.old s → IsMessage (message_in message.now) →
         bytes ≡ message_bytes (message_in message.now) ++ rest → AreDone C.tells clock.old clock.new
-        bytes rest s desk.new (Appends (W.contents writer.old) (W.contents writer.new))) }
+        bytes rest s desk.new (AllWritten (W.contents writer.old) (W.contents writer.new))) }
     ensures err { OnErr result ((s : Situation) (bytes rest : List ℕ) → IsIn desk.old s → IsMessage (message_in message.now) →
         bytes ≡ message_bytes (message_in message.now) ++ rest → AreDone C.tells clock.old clock.new
-        bytes rest s desk.new (AppendsFront (W.contents writer.old) (W.contents writer.new))) }
+        bytes rest s desk.new (LastCutShort (W.contents writer.old) (W.contents writer.new))) }
 {
     let now = clock.now();
     let packet = answer(desk, now, message);

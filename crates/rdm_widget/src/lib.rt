@@ -20,4 +20,4 @@ pub use laws::{
     no_job_is_overdue, serve_errors_are_equal_by_value, stream_holds_one_list,
     written_messages_are_read_back,
 };
-pub use serving::{ServeError, serve};
+pub use serving::{ServeError, serve, serve_some};

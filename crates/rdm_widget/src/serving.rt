@@ -1,10 +1,10 @@
 //! A stream of messages is read, and each is answered.
 
-ghost use Rattle.std.specs.Prelude.{◌≡◌, ◌≤◌, length, drop, OnOk};
-ghost use Rattle.std.specs.Io.KnownBytes.{IsAtEnd};
+ghost use Rattle.std.specs.Prelude.{◌≡◌, ◌≤◌, ◌<◌, ◌+◌, [], length, drop, IfOk, OnOk};
+ghost use Rattle.std.specs.Io.KnownBytes.{IsAtEnd, Keeps};
 ghost use Rattle.rdm_widget.specs.declared.serving.ServeError.TheVariants.{Read as ReadFault, Write as WriteFault};
 ghost use Rattle.rdm_widget.specs.Desks.{Situation, IsIn};
-ghost use Rattle.rdm_widget.specs.Serving.{IsServed, IsCutShort};
+ghost use Rattle.rdm_widget.specs.Serving.{IsServed, IsServedOnce, IsCutShort};
 
 use crate::answering::answer_all;
 use crate::clock::Clock;
@@ -26,8 +26,44 @@ pub enum ServeError {
     Write,
 }
 
-/// Answers each message of a stream, all of them that were read before more is read, until the stream ends. What is no message
-/// is passed over.
+/// One read, behind what is held, and the answers to all messages that are whole then; and says how many bytes were read,
+/// which is 0 at the end of the stream. What is no message is passed over, and held is then the beginning of a message.
+///
+/// It takes no memory. A caller begins with nothing held, and ends where it fails to write: then an answer is cut off.
+pub fn serve_some<R: Read, W: Write, C: Clock>(
+    reader: &mut R,
+    writer: &mut W,
+    clock: &mut C,
+    desk: &mut Desk,
+    held: &mut Packet,
+) -> Result<usize, ServeError>
+    requires { length held.old < 605 }
+    // All messages that are whole are answered, and only the beginning of one is held.
+    ensures ok { IfOk result (λ count. (s : Situation) → IsIn desk.old s → IsServedOnce C.tells clock.old clock.new
+        (R.remaining reader.old) (R.remaining reader.new) (W.contents writer.old) (W.contents writer.new)
+        held.old held.new count s desk.new) }
+    // No more is read than there is room for behind what was held.
+    ensures within { IfOk result (λ count. length held.old + count ≤ 605) }
+    ensures room { OnOk result (length held.new < 605) }
+    ensures end { result ≡ Ok 0 → IsAtEnd (R.remaining reader.new) }
+    // Where the reader failed nothing has changed.
+    ensures read { result ≡ Err ReadFault → Keeps (R.remaining reader.old) (R.remaining reader.new)
+        × (writer.new ≡ writer.old) × (clock.new ≡ clock.old) × (desk.new ≡ desk.old) × (held.new ≡ held.old) }
+    // Where the writer failed, a message was read whose answer isn't all written, and the answers before it are.
+    ensures write { result ≡ Err WriteFault → (s : Situation) → IsIn desk.old s → IsCutShort C.tells clock.old clock.new
+        (R.remaining reader.old) (R.remaining reader.new) (W.contents writer.old) (W.contents writer.new) held.old s desk.new }
+{
+    let Ok(count) = take_more(reader, held) else {
+        return Err(ServeError::Read);
+    };
+    let Ok(done) = answer_all(writer, clock, desk, held.as_slice()) else {
+        return Err(ServeError::Write);
+    };
+    *held = rest_of(held, done);
+    Ok(count)
+}
+
+/// Answers each message of a stream, until the stream ends: `serve_some` again and again. What is no message is passed over.
 ///
 /// It takes no memory, and holds 604 bytes of the stream at most.
 pub fn serve<R: Read, W: Write, C: Clock>(
@@ -44,22 +80,20 @@ pub fn serve<R: Read, W: Write, C: Clock>(
     // Where the reader failed, all messages of what was read before are answered.
     ensures read { result ≡ Err ReadFault → (s : Situation) → IsIn desk.old s → IsServed C.tells clock.old clock.new
         (R.remaining reader.old) (R.remaining reader.new) (W.contents writer.old) (W.contents writer.new) s desk.new }
-    // Where the writer failed, a front of the answers to the messages so far is written.
+    // Where the writer failed, a message was read whose answer isn't all written, and the answers before it are.
     ensures write { result ≡ Err WriteFault → (s : Situation) → IsIn desk.old s → IsCutShort C.tells clock.old clock.new
-        (R.remaining reader.old) (R.remaining reader.new) (W.contents writer.old) (W.contents writer.new) s desk.new }
+        (R.remaining reader.old) (R.remaining reader.new) (W.contents writer.old) (W.contents writer.new) [] s desk.new }
 {
     let mut held = Packet::new();
     for _turn in 0..u64::MAX {
-        let Ok(count) = take_more(reader, &mut held) else {
-            return Err(ServeError::Read);
-        };
-        if count == 0 {
-            return Ok(());
+        match serve_some(reader, writer, clock, desk, &mut held) {
+            Ok(count) => {
+                if count == 0 {
+                    return Ok(());
+                }
+            }
+            Err(error) => return Err(error),
         }
-        let Ok(done) = answer_all(writer, clock, desk, held.as_slice()) else {
-            return Err(ServeError::Write);
-        };
-        held = rest_of(&held, done);
     }
     Err(ServeError::Read)
 }

@@ -1,7 +1,7 @@
 //! Lines that fail.
 
-use super::serve_at;
-use rdm_widget::ServeError;
+use super::{Told, fixture, serve_at};
+use rdm_widget::{Packet, ServeError, serve_some};
 use std::io;
 use std::io::{ErrorKind, Read, Write};
 
@@ -63,5 +63,34 @@ fn an_interrupted_read_is_tried_again(rt: HostRuntime) {
         let mut writer = Full { room, taken: 0 };
         assert_eq!(rt; serve_at(&rt, &mut line, &mut writer, &[]), Err(fault));
         assert_eq!(rt; writer.taken, taken);
+    }
+}
+
+#[test]
+fn what_is_read_is_answered_before_more_is_read(rt: HostRuntime) {
+    let mut line = Line {
+        turn: 0,
+        last: ErrorKind::Other,
+    };
+    let mut writer = Full {
+        room: 100,
+        taken: 0,
+    };
+    let mut clock = Told { times: &[] };
+    let mut held = Packet::new();
+    let mut desk = fixture(&rt);
+    let read = serve_some(&mut line, &mut writer, &mut clock, &mut desk, &mut held);
+    assert_eq!(rt; read, Ok(5));
+    assert_eq!(rt; line.turn, 2);
+    assert_eq!(rt; writer.taken, 9);
+    assert_eq!(rt; held.as_slice().len(), 0);
+}
+
+#[test]
+fn a_fault_says_what_failed(rt: HostRuntime) {
+    let alloc = rt.alloc();
+    for (fault, word) in [(ServeError::Read, "read"), (ServeError::Write, "write")] {
+        let told = format!(in alloc; "{fault}").expect(&rt, "memory");
+        assert_eq!(rt; told.as_str(), word);
     }
 }

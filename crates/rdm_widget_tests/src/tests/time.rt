@@ -1,6 +1,8 @@
 //! Slow commands and the clock.
 
 use super::{answers, put};
+use rdm_widget::{Clock, RealClock};
+use std::time::{Duration, Instant};
 
 /// A request, when it comes, and the reply, both in hexadecimal digits.
 struct Turn {
@@ -72,5 +74,27 @@ fn jobs_end_when_their_time_is_up(rt: HostRuntime) -> Result<(), std::test::Fail
         let output = answers(&rt, input.as_slice(), times.as_slice());
         assert_eq!(rt; output.as_slice(), told.as_slice());
     }
+    Ok(())
+}
+
+/// A clock that is a thousand times as fast lies between two of the system's that were started before and after it.
+#[test]
+fn a_clock_is_in_milliseconds_and_as_fast_as_it_is_told(
+    rt: HostRuntime,
+) -> Result<(), std::test::Fail> {
+    let before = Instant::now(&rt)?;
+    let mut clock = RealClock::start(&rt, 1000)?;
+    let after = Instant::now(&rt)?;
+    let mut least = after.elapsed(&rt)?;
+    for _turn in 0..u64::MAX {
+        if least >= Duration::from_millis(2) {
+            break;
+        }
+        least = after.elapsed(&rt)?;
+    }
+    let told = clock.now() / 1000;
+    let most = before.elapsed(&rt)?;
+    assert!(rt; least.as_millis() <= u128::from(told));
+    assert!(rt; u128::from(told) <= most.as_millis());
     Ok(())
 }

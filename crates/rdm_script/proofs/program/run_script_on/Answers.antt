@@ -16,7 +16,8 @@ pub returns-in_err-write_all-clause-front : goal.returns-in_err-write_all-clause
 returns-in_err-write_all-clause-front g c = λ failed.
     let scene = scene_of g.P.Part.gives g.Q.Part.gives g.N.Panel.offers c.args.stage in
     let trace = subst (λ (xs : List ℕ). IsTraceOf scene xs c.in_ok-text.text.items) c.deref.ensures.value c.in_ok-text.ensures.ok in
-    front_input scene _ _ _ _ _ _ (c.in_ok-input.ensures.bytes, c.in_ok-input.ensures.end) (subst (λ (xs : List ℕ). IsTraceOf scene c.in_ok-input.input.items xs) (sym c.deref-2.ensures.value) trace) c.in_err-write_all.ensures.front
+    front_input scene _ _ _ _ _ _ (c.in_ok-input.ensures.bytes, c.in_ok-input.ensures.end) (subst (λ (xs : List ℕ). IsTraceOf scene c.in_ok-input.input.items xs) (sym c.deref-2.ensures.value) trace)
+    (c.in_err-write_all.ensures.front.0, c.in_err-write_all.ensures.front.2)
 
 pub returns-clause-ok : goal.returns-clause-ok
 returns-clause-ok g c =

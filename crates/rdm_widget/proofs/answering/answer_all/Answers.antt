@@ -1,7 +1,6 @@
 use Rattle.std.proofs.Common.{arith}
-use Rattle.std.specs.Io.KnownBytes.{Appends}
-use Rattle.rdm_widget.specs.Serving.{AppendsFront}
-use Rattle.rdm_widget.proofs.Turns.{none_done, next_done, next_fails, appends_then, front_then, rest_within, rest_unfinished, none_left}
+use Rattle.rdm_widget.specs.Serving.{AllWritten, LastCutShort}
+use Rattle.rdm_widget.proofs.Turns.{none_done, next_done, next_fails, all_then, short_then, rest_within, rest_unfinished, none_left}
 use Rattle.rdm_widget.proofs.answering.answer_all.Goals as goal
 
 pub loop-done-init : goal.loop-done-init
@@ -15,21 +14,21 @@ loop-done-preserved g c = record {
   within = rest_within c.args.bytes.now c.loop-done.done c.in-Ok.count c.loop-done.invariant.within c.in-Ok.ensures.within;
   answered = λ s is.
       next_done g.C.Clock.tells c.args.clock.now c.loop-done.clock c.answer_front.new.clock c.args.bytes.now c.loop-done.done c.in-Ok.count s c.loop-done.desk c.answer_front.new.desk
-      (Appends (g.W.Write.contents c.args.writer.now) (g.W.Write.contents c.loop-done.writer))
-      (Appends (g.W.Write.contents c.loop-done.writer) (g.W.Write.contents c.answer_front.new.writer))
-      (Appends (g.W.Write.contents c.args.writer.now) (g.W.Write.contents c.answer_front.new.writer))
+      (AllWritten (g.W.Write.contents c.args.writer.now) (g.W.Write.contents c.loop-done.writer))
+      (AllWritten (g.W.Write.contents c.loop-done.writer) (g.W.Write.contents c.answer_front.new.writer))
+      (AllWritten (g.W.Write.contents c.args.writer.now) (g.W.Write.contents c.answer_front.new.writer))
       (c.loop-done.invariant.answered s is) c.in-Ok.ensures.ok
-      (appends_then (g.W.Write.contents c.args.writer.now) (g.W.Write.contents c.loop-done.writer) (g.W.Write.contents c.answer_front.new.writer));
+      (all_then (g.W.Write.contents c.args.writer.now) (g.W.Write.contents c.loop-done.writer) (g.W.Write.contents c.answer_front.new.writer) s);
 }
 
 pub returns-then-count-eq0-clause-ok : goal.returns-then-count-eq0-clause-ok
 returns-then-count-eq0-clause-ok g c = λ s is.
     next_done g.C.Clock.tells c.args.clock.now c.loop-done.clock c.answer_front.new.clock c.args.bytes.now c.loop-done.done c.in-Ok.count s c.loop-done.desk c.answer_front.new.desk
-    (Appends (g.W.Write.contents c.args.writer.now) (g.W.Write.contents c.loop-done.writer))
-    (Appends (g.W.Write.contents c.loop-done.writer) (g.W.Write.contents c.answer_front.new.writer))
-    (Appends (g.W.Write.contents c.args.writer.now) (g.W.Write.contents c.answer_front.new.writer))
+    (AllWritten (g.W.Write.contents c.args.writer.now) (g.W.Write.contents c.loop-done.writer))
+    (AllWritten (g.W.Write.contents c.loop-done.writer) (g.W.Write.contents c.answer_front.new.writer))
+    (AllWritten (g.W.Write.contents c.args.writer.now) (g.W.Write.contents c.answer_front.new.writer))
     (c.loop-done.invariant.answered s is) c.in-Ok.ensures.ok
-    (appends_then (g.W.Write.contents c.args.writer.now) (g.W.Write.contents c.loop-done.writer) (g.W.Write.contents c.answer_front.new.writer))
+    (all_then (g.W.Write.contents c.args.writer.now) (g.W.Write.contents c.loop-done.writer) (g.W.Write.contents c.answer_front.new.writer) s)
 
 pub returns-then-count-eq0-clause-rest : goal.returns-then-count-eq0-clause-rest
 returns-then-count-eq0-clause-rest g c = (
@@ -40,11 +39,11 @@ returns-then-count-eq0-clause-rest g c = (
 pub returns-in-Err-clause-err : goal.returns-in-Err-clause-err
 returns-in-Err-clause-err g c = λ s is.
     next_fails g.C.Clock.tells c.args.clock.now c.loop-done.clock c.answer_front.new.clock c.args.bytes.now c.loop-done.done s c.loop-done.desk c.answer_front.new.desk
-    (Appends (g.W.Write.contents c.args.writer.now) (g.W.Write.contents c.loop-done.writer))
-    (AppendsFront (g.W.Write.contents c.loop-done.writer) (g.W.Write.contents c.answer_front.new.writer))
-    (AppendsFront (g.W.Write.contents c.args.writer.now) (g.W.Write.contents c.answer_front.new.writer))
+    (AllWritten (g.W.Write.contents c.args.writer.now) (g.W.Write.contents c.loop-done.writer))
+    (LastCutShort (g.W.Write.contents c.loop-done.writer) (g.W.Write.contents c.answer_front.new.writer))
+    (LastCutShort (g.W.Write.contents c.args.writer.now) (g.W.Write.contents c.answer_front.new.writer))
     (c.loop-done.invariant.answered s is) c.in-Err.ensures.err
-    (front_then (g.W.Write.contents c.args.writer.now) (g.W.Write.contents c.loop-done.writer) (g.W.Write.contents c.answer_front.new.writer))
+    (short_then (g.W.Write.contents c.args.writer.now) (g.W.Write.contents c.loop-done.writer) (g.W.Write.contents c.answer_front.new.writer) s)
 
 pub returns-clause-rest : goal.returns-clause-rest
 returns-clause-rest g c = (c.loop-done.invariant.within, none_left c.args.bytes.now c.loop-done.done (omega arith))

@@ -1,7 +1,6 @@
 use Rattle.std.proofs.Common.{List, ℕ, subst}
-use Rattle.std.specs.Io.KnownBytes.{Appends}
 use Rattle.rdm_widget.specs.Framing.{message_in}
-use Rattle.rdm_widget.specs.Serving.{AreDone}
+use Rattle.rdm_widget.specs.Serving.{AreDone, AllWritten}
 use Rattle.rdm_widget.proofs.Turns.{none_done, stray_done, rest_is}
 use Rattle.rdm_widget.proofs.answering.answer_front.Goals as goal
 
@@ -17,6 +16,6 @@ pub returns-in-Ok-clause-ok : goal.returns-in-Ok-clause-ok
 returns-in-Ok-clause-ok g c = λ s is.
     subst
     (λ (l : List ℕ). AreDone g.C.Clock.tells c.args.clock.now c.answer_one.new.clock c.args.bytes.now l s c.answer_one.new.desk
-    (Appends (g.W.Write.contents c.args.writer.now) (g.W.Write.contents c.answer_one.new.writer)))
+    (AllWritten (g.W.Write.contents c.args.writer.now) (g.W.Write.contents c.answer_one.new.writer)))
     (rest_is c.args.bytes.now c.in-Whole.ensures.rest (message_in c.in-Whole.message) c.in-Whole.ensures.whole)
     (c.in-Ok.ensures.ok s c.args.bytes.now c.in-Whole.ensures.rest is c.in-Whole.ensures.is_message c.in-Whole.ensures.whole)
