@@ -1,142 +1,26 @@
 -- What a run of the bus makes of the account of jobs: the jobs that its events start are accepted, and as many of each
 -- worker have ended as reports on them have arrived.
-use Rattle.std.proofs.Common.{◌≡◌, ℕ, ◌+◌, ◌==◌, Bool, true, false, cond, List, [], ◌∷◌, ◌++◌, length, map, Option, Some, None, refl, sym, ap, subst, ◌∙◌, arith, append_assoc, append-nil}
-use Rattle.std.specs.Prelude.{nat_lt, Ok, Err}
+use Rattle.std.proofs.Common.{◌≡◌, ℕ, ◌+◌, ◌==◌, Bool, true, false, cond, List, [], ◌∷◌, ◌++◌, length, map, Option, Some, None, refl, sym, ap, subst, ◌∙◌, arith}
 use Rattle.std.specs.Option.{option_map_or, option_and_then, option_to_list}
-use Rattle.std.specs.Result.{result_ok}
 use Rattle.std.proofs.lemmas.List.Sums.{sum_by-cons}
 use Rattle.rdm_frame.specs.FrameText.{frame_text}
-use Rattle.rdm_frame.specs.Reading.{frame_in}
-use Rattle.rdm_params.specs.declared.slow.ask.Ask.{Ask}
-use Rattle.rdm_params.specs.declared.slow.message.Message.{Message}
-use Rattle.rdm_params.specs.declared.slow.outcome.Outcome.{Outcome}
-use Rattle.rdm_params.specs.declared.slow.outcome.Outcome.TheVariants.{Done, Reading, Failed}
-use Rattle.rdm_params.specs.declared.slow.work.Work.{Work}
-use Rattle.rdm_params.specs.declared.verdict.Verdict.{Verdict}
-use Rattle.rdm_params.specs.declared.verdict.Verdict.TheVariants as verdict
-use Rattle.rdm_params.specs.Commands.Commands.{got, answer_to_set}
-use Rattle.rdm_params.specs.Commands.Panel.{change_message}
-use Rattle.rdm_params.specs.Device.Parameters.{Parameters}
 use Rattle.rdm_params.specs.Slow.Work.{worker_of}
-use Rattle.rdm_outbox.specs.declared.job.Job.{Job}
-use Rattle.rdm_outbox.specs.declared.job.Full.TheVariants.{NoRoom}
-use Rattle.rdm_outbox.specs.Account as outbox
-use Rattle.rdm_outbox.specs.Jobs.{ended_of, next_job, has_room, after_arrive}
-use Rattle.rdm_outbox.specs.Messages.{is_last, next_of, after_next, after_post}
-use Rattle.rdm_outbox.specs.Statuses.{after_clear, can_note, after_status_now}
+use Rattle.rdm_outbox.specs.Jobs.{ended_of}
 use Rattle.rdm_responder.specs.declared.report.Report.{Report}
 use Rattle.rdm_responder.specs.History as history
 use Rattle.rdm_responder.specs.History.{History, then_event}
-use Rattle.rdm_responder.specs.Requests.{Request, Ignored, Branch, Muting, Get, Set, request_in}
-use Rattle.rdm_responder.specs.Rules.{Account, account_of, account_after, account_with, job_with, job_of, outbox_after, started_by, after_message, after_outcome}
+use Rattle.rdm_responder.specs.Rules.{job_of}
 use Rattle.rdm_responder.specs.Runs.{outbox_of}
+use Rattle.rdm_responder.proofs.Growth.{Grows, still, and_then, grows}
+use Rattle.rdm_collector.specs.Collecting.{State, after_ask, after_poll, command_request, poll_request}
 use Rattle.rdm_bus.specs.declared.event.Event.{Event}
 use Rattle.rdm_bus.specs.declared.event.Event.TheVariants.{Bus, Arrived, Changed}
 use Rattle.rdm_bus.specs.declared.event.Step.{Step}
 use Rattle.rdm_bus.specs.declared.event.Step.TheVariants as step
 use Rattle.rdm_bus.specs.declared.fault.Fault.{Fault}
-use Rattle.rdm_bus.specs.Collecting.{State, after_ask, after_poll, command_request, poll_request}
 use Rattle.rdm_bus.specs.Faults.{request_heard}
 use Rattle.rdm_bus.specs.BusRun.{Start, controller_at, transaction, IsPlayed, after, after_all, IsBusRun}
 use Rattle.rdm_bus.specs.Happened.{started_in, arrived_in, jobs_in, reports_in, reports_of}
-use Rattle.rdm_bus.proofs.Queues.{account_of-then}
-
--- From one account to another these jobs were accepted, and a job of each of these workers ended.
-pub record Grows (a b : outbox.Account) (jobs : List Job) (workers : List ℕ) : Type 0 where
-  pub accepted : b.accepted ≡ a.accepted ++ jobs
-  pub ended : b.ended ≡ a.ended ++ workers
-  pub most : b.jobs ≡ a.jobs
-
-stays : (a b : outbox.Account) → b.accepted ≡ a.accepted → b.ended ≡ a.ended → b.jobs ≡ a.jobs → Grows a b [] []
-stays a b e1 e2 e3 = record { accepted = e1 ∙ sym (append-nil a.accepted); ended = e2 ∙ sym (append-nil a.ended); most = e3 }
-
-still : (a : outbox.Account) → Grows a a [] []
-still a = stays a a refl refl refl
-
-and_then : (a b c : outbox.Account) (js ks : List Job) (ws vs : List ℕ) → Grows a b js ws → Grows b c ks vs → Grows a c (js ++ ks) (ws ++ vs)
-and_then a b c js ks ws vs one two = record {
-  accepted = two.accepted ∙ ap (λ (l : List Job). l ++ ks) one.accepted ∙ append_assoc a.accepted js ks;
-  ended = two.ended ∙ ap (λ (l : List ℕ). l ++ vs) one.ended ∙ append_assoc a.ended ws vs;
-  most = two.most ∙ one.most;
-}
-
--- ---- a request
-
-either : (a b c : outbox.Account) (yes? : Bool) → Grows a b [] [] → Grows a c [] [] → Grows a (cond yes? b c) [] []
-either a b c true one other = one
-either a b c false one other = other
-
-reserves : (b : outbox.Account) (j : Job) (room : Bool) → Grows b (cond room (record b { accepted = b.accepted ++ j ∷ [] }) b) (option_to_list (result_ok (cond room (Ok j) (Err NoRoom)))) []
-reserves b j true = record { accepted = refl; ended = sym (append-nil b.ended); most = refl }
-reserves b j false = still b
-
-shows_statuses : (b : outbox.Account) (ask : Ask) → Grows b (after_status_now b ask) [] []
-shows_statuses b ask = stays b (after_status_now b ask) refl refl refl
-
-gives_next : (b : outbox.Account) (ask : Ask) → Grows b (after_next b ask) [] []
-gives_next b ask =
-    let next : outbox.Account = record b { given = b.given + 1; answers = b.answers ++ next_of b ask ∷ [] } in
-    either b next (after_status_now b ask) (nat_lt b.given (length b.arrived)) (stays b next refl refl refl) (shows_statuses b ask)
-
-carries_out : (b : outbox.Account) (v : Verdict) → Grows b (outbox_after b v) (option_to_list (started_by b v)) []
-carries_out b (verdict.Start work) = reserves b (next_job b work) (has_room b work)
-carries_out b (verdict.Queue ask) = either b b (after_next b ask) (is_last ask) (still b) (gives_next b ask)
-carries_out b (verdict.Status ask) = either b b (after_status_now b ask) (is_last ask) (still b) (shows_statuses b ask)
-carries_out b (verdict.Reply bytes) = still b
-carries_out b verdict.Clear = stays b (after_clear b) refl refl refl
-carries_out b (verdict.Refuse nack) = still b
-
-requested : (a : Account) (q : Request) → Grows a.outbox (account_with a q).outbox (option_to_list (job_with a q)) []
-requested a Ignored = still a.outbox
-requested a (Branch lower upper) = still a.outbox
-requested a (Muting muted f) = still a.outbox
-requested a (Get f) = carries_out a.outbox (got a.parameters f.sub f.pid f.body)
-requested a (Set f) = carries_out a.outbox (answer_to_set a.parameters f.sub f.pid f.body)
-
--- ---- a report
-
-notes : (b c : outbox.Account) (r? : Bool) → c.accepted ≡ b.accepted → c.ended ≡ b.ended → c.jobs ≡ b.jobs → Grows b (cond r? c b) [] []
-notes b c true e1 e2 e3 = stays b c e1 e2 e3
-notes b c false e1 e2 e3 = still b
-
-ends : (p : Parameters) (b : outbox.Account) (work : Work) (outcome : Outcome) → Grows b (after_outcome p b work outcome) [] []
-ends p b work Done = still b
-ends p b work (Reading v) = still b
-ends p b work (Failed severity id v1 v2) = either b _ b _ (notes b _ (can_note b) refl refl refl) (still b)
-
-reported : (b : outbox.Account) (worker : ℕ) (m : Message) → Grows b (after_arrive b worker m) [] (worker ∷ [])
-reported b worker m = record { accepted = sym (append-nil b.accepted); ended = refl; most = refl }
-
--- ---- a change at the device's menu
-
-posted : (b : outbox.Account) (message : Option Message) → Grows b (after_message b message) [] []
-posted b None = still b
-posted b (Some m) = stays b (after_post b m) refl refl refl
-
--- ---- an event of a history
-
--- the job that it starts, and the workers of whom a job ends by it
-abbrev pub job_at : Account → history.Event → Option Job
-job_at a (history.Heard bytes) = job_with a (request_in a.setup.uid (frame_in bytes))
-job_at a (history.Arrived r) = None
-job_at a (history.Changed change) = None
-
-abbrev pub workers_at : history.Event → List ℕ
-workers_at (history.Heard bytes) = []
-workers_at (history.Arrived r) = worker_of r.job.work ∷ []
-workers_at (history.Changed change) = []
-
-pub event_grows : (a : Account) (e : history.Event) → Grows a.outbox (account_after a e).outbox (option_to_list (job_at a e)) (workers_at e)
-event_grows a (history.Heard bytes) = requested a (request_in a.setup.uid (frame_in bytes))
-event_grows a (history.Arrived r) = and_then a.outbox _ _ [] [] (worker_of r.job.work ∷ []) [] (reported a.outbox (worker_of r.job.work) _) (ends _ _ r.job.work r.outcome)
-event_grows a (history.Changed change) = posted a.outbox (change_message a.parameters change)
-
-grows : (h : History) (e : history.Event) → Grows (outbox_of h) (outbox_of (then_event h e)) (option_to_list (job_at (account_of h) e)) (workers_at e)
-grows h e =
-    subst (λ (a : Account). Grows (outbox_of h) a.outbox (option_to_list (job_at (account_of h) e)) (workers_at e)) (sym (account_of-then h e))
-    (event_grows (account_of h) e)
-
--- ---- an event of the bus, and a run
 
 reaches : (h : History) (heard? : Option (List ℕ)) → Grows (outbox_of h) (outbox_of (option_map_or (λ bytes. then_event h (history.Heard bytes)) heard? h)) (option_to_list (option_and_then (job_of h) heard?)) []
 reaches h None = still (outbox_of h)

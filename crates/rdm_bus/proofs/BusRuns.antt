@@ -24,30 +24,31 @@ use Rattle.rdm_responder.specs.History.{History, then_event}
 use Rattle.rdm_responder.specs.Rules.{Account, account_of, answer_to, reply_of}
 use Rattle.rdm_responder.specs.Requests.{request_in}
 use Rattle.rdm_responder.specs.Runs.{IsArrival, outbox_of}
-use Rattle.rdm_bus.specs.declared.command.Command.{Command}
-use Rattle.rdm_bus.specs.declared.collector.AskError.{AskError}
-use Rattle.rdm_bus.specs.declared.collector.AskError.TheVariants.{Reserved}
+use Rattle.rdm_collector.specs.declared.command.Command.{Command}
+use Rattle.rdm_collector.specs.declared.collector.AskError.{AskError}
+use Rattle.rdm_collector.specs.declared.collector.AskError.TheVariants.{Reserved}
 use Rattle.rdm_bus.specs.declared.event.Event.{Event}
 use Rattle.rdm_bus.specs.declared.event.Event.TheVariants.{Bus, Arrived, Changed}
 use Rattle.rdm_bus.specs.declared.event.Step.{Step}
 use Rattle.rdm_bus.specs.declared.event.Step.TheVariants.{Ask as ask_step, Collect, Arrive, Change as change_step}
 use Rattle.rdm_bus.specs.declared.fault.Fault.{Fault}
 use Rattle.rdm_bus.specs.declared.fault.Fault.TheVariants as fault
-use Rattle.rdm_bus.specs.declared.want.Want.{Want}
-use Rattle.rdm_bus.specs.declared.want.Want.TheVariants.{Advisory, Warning, Error}
-use Rattle.rdm_bus.specs.Collecting.{State, refusal_of, command_request, after_ask, poll_request, poll_type, after_poll, heard_in}
+use Rattle.rdm_collector.specs.declared.want.Want.{Want}
+use Rattle.rdm_collector.specs.declared.want.Want.TheVariants.{Advisory, Warning, Error}
+use Rattle.rdm_collector.specs.Collecting.{State, refusal_of, command_request, after_ask, poll_request, poll_type, after_poll, heard_in}
 use Rattle.rdm_bus.specs.Faults.{request_heard, altered}
-use Rattle.rdm_bus.specs.Requests.{is_reserved, type_of}
+use Rattle.rdm_collector.specs.Requests.{is_reserved, type_of}
 use Rattle.rdm_bus.specs.BusRun.{Start, controller_at, replied, came, transaction, IsFault, IsPlayed, is_message_heard, after, after_all, IsBusRun}
 use Rattle.rdm_bus.specs.BusLaws.{message_in, dispensed, dispensed_by, recorded, recorded_by, recorded_if, carried, queue_of, BusLaws, BusLawsHold}
-use Rattle.rdm_bus.specs.Recording.{NoLossLaw}
-use Rattle.rdm_bus.specs.Polling as polling
-use Rattle.rdm_bus.specs.Polling.{IsReply, IsRun, given_between}
-use Rattle.rdm_bus.specs.Polling.Event.{Arrived as Enters, Polled}
+use Rattle.rdm_collector.specs.Recording.{NoLossLaw}
+use Rattle.rdm_collector.specs.Polling as polling
+use Rattle.rdm_collector.specs.Polling.{IsReply, IsRun, given_between}
+use Rattle.rdm_collector.specs.Polling.Event.{Arrived as Enters, Polled}
 use Rattle.rdm_bus.proofs.Alterations.{altered_is_no_frame}
-use Rattle.rdm_bus.proofs.PollingRuns.{laws_hold}
+use Rattle.rdm_collector.proofs.PollingRuns.{laws_hold}
 use Rattle.rdm_bus.proofs.Queues.{queue_at, queue_still, command_still, within, heard_nothing, heard_frame, report_arrived, Changing, Says, Stays, value_changed, got_last, got_advisory, got_warning, got_error, polled, Poll, Unanswered, Answered, poll_becomes}
-use Rattle.rdm_bus.proofs.ReadBack.{read_as_itself, message_read}
+use Rattle.rdm_bus.proofs.ReadBack.{message_read}
+use Rattle.rdm_collector.proofs.ReadBack.{read_as_itself}
 
 -- What reaches the device of a request: the whole, nothing, or bytes that are no frame.
 pub data Reaches (fault : Fault) (sent : List ℕ) : Type 0 where

@@ -4,10 +4,10 @@ use Rattle.std.specs.Prelude.{slice_get, unwrap_or, IfSome}
 use Rattle.rdm_params.specs.declared.slow.message.Message.{Message}
 use Rattle.rdm_outbox.specs.Statuses.{status_message}
 use Rattle.rdm_bus.specs.Devices.{after_next, dequeues_again, forgets_empty_status, RightDeviceIsPolled, BreaksPrefixLaw}
-use Rattle.rdm_bus.specs.Polling.{IsRun, after}
-use Rattle.rdm_bus.specs.Polling.Event.{Arrived, Polled}
-use Rattle.rdm_bus.specs.Recording.{same_message}
-use Rattle.rdm_bus.proofs.Refusals.{skipping, repeating_an_older_one}
+use Rattle.rdm_collector.specs.Polling.{IsRun, after}
+use Rattle.rdm_collector.specs.Polling.Event.{Arrived, Polled}
+use Rattle.rdm_collector.specs.Recording.{same_message}
+use Rattle.rdm_collector.proofs.Refusals.{skipping, repeating_an_older_one}
 
 -- ---- the device of the standard
 

@@ -19,7 +19,7 @@ use Rattle.rdm_bus.specs.BusLaws.{BusLawsHold, dispensed, recorded}
 use Rattle.rdm_bus.specs.Happened.{arrived_in, jobs_in, reports_in, reported_by, handed_in}
 use Rattle.rdm_bus.specs.Headline.{IsByTheRules, RepliesAreByTheRules, Handed, results_in, unclosed, AreOnce, entered, NothingAfterClose, Headline, HeadlineHolds}
 use Rattle.rdm_bus.specs.Messages.{KeepingHolds}
-use Rattle.rdm_bus.specs.Recording.{join}
+use Rattle.rdm_collector.specs.Recording.{join}
 use Rattle.rdm_bus.proofs.Accounts.{run_grows}
 use Rattle.rdm_bus.proofs.Numbers.{NumberedFrom, number_at, drop_numbered, front_number, numbered, ends_within}
 use Rattle.rdm_bus.proofs.Orders.{EndsWithin, done_by, run_moves}

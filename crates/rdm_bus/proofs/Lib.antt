@@ -4,15 +4,11 @@ pub mod BusRuns
 pub mod Devices
 pub mod Headlines
 pub mod Hearing
-pub mod Joining
-pub mod Kept
 pub mod Messages
 pub mod Numbering
 pub mod Numbers
 pub mod Orders
-pub mod PollingRuns
 pub mod Queues
 pub mod ReadBack
-pub mod Refusals
 pub mod RulingOut
 pub mod Systems

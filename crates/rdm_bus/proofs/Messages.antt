@@ -18,13 +18,13 @@ use Rattle.rdm_bus.specs.declared.event.Event.TheVariants.{Bus, Arrived, Changed
 use Rattle.rdm_bus.specs.declared.event.Step.{Step}
 use Rattle.rdm_bus.specs.declared.event.Step.TheVariants as step
 use Rattle.rdm_bus.specs.declared.fault.Fault.{Fault}
-use Rattle.rdm_bus.specs.Collecting.{State, command_request, poll_request, after_ask, after_poll}
+use Rattle.rdm_collector.specs.Collecting.{State, command_request, poll_request, after_ask, after_poll}
 use Rattle.rdm_bus.specs.BusRun.{Start, controller_at, replied, transaction, IsPlayed, after, after_all}
 use Rattle.rdm_bus.specs.BusLaws.{carried, message_in, dispensed_by, queue_of}
 use Rattle.rdm_bus.specs.Messages.{enters_by, waiting_at, given_by, given_in, KeepingHolds}
-use Rattle.rdm_bus.specs.Polling as polling
-use Rattle.rdm_bus.specs.Polling.{Queue, IsReply}
-use Rattle.rdm_bus.specs.Polling.Event.{Arrived as Enters, Polled}
+use Rattle.rdm_collector.specs.Polling as polling
+use Rattle.rdm_collector.specs.Polling.{Queue, IsReply}
+use Rattle.rdm_collector.specs.Polling.Event.{Arrived as Enters, Polled}
 use Rattle.rdm_bus.proofs.BusRuns.{hears, reaches, command_leaves, poll_reaches, not_reserved, allowed}
 use Rattle.rdm_bus.proofs.Queues.{within, report_arrived, change_told}
 

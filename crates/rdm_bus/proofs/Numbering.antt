@@ -12,10 +12,10 @@ use Rattle.rdm_bus.specs.declared.event.Event.TheVariants.{Bus, Arrived, Changed
 use Rattle.rdm_bus.specs.declared.event.Step.{Step}
 use Rattle.rdm_bus.specs.declared.event.Step.TheVariants as step
 use Rattle.rdm_bus.specs.declared.fault.Fault.{Fault}
-use Rattle.rdm_bus.specs.declared.transaction.Heard.{Heard}
-use Rattle.rdm_bus.specs.declared.want.Want.{Want}
-use Rattle.rdm_bus.specs.Collecting.{State, after_ask, after_poll, command_request, poll_request}
-use Rattle.rdm_bus.specs.Requests.{type_of, request_of, queued_message}
+use Rattle.rdm_collector.specs.declared.transaction.Heard.{Heard}
+use Rattle.rdm_collector.specs.declared.want.Want.{Want}
+use Rattle.rdm_collector.specs.Collecting.{State, after_ask, after_poll, command_request, poll_request}
+use Rattle.rdm_collector.specs.Requests.{type_of, request_of, queued_message}
 use Rattle.rdm_bus.specs.BusRun.{Start, controller_at, is_message_heard, IsTransaction, IsPlayed, after, after_all, IsBusRun}
 use Rattle.rdm_bus.specs.Numbering.{HasNumber, answered_in, last_answer, was_answered, NumberingHolds, PollingInTurnHolds, JobsAreNumbered}
 use Rattle.rdm_bus.proofs.Numbers.{number_at, numbered}

@@ -23,7 +23,7 @@ use Rattle.rdm_responder.specs.Lawful.{AreLawful, IsLawful}
 use Rattle.rdm_responder.specs.Requests.{Request, Ignored, Branch, Muting, Get, Set, request_in}
 use Rattle.rdm_responder.specs.Rules.{Account, account_of, account_before, account_after, job_with, started_by}
 use Rattle.rdm_responder.specs.Runs.{outbox_of}
-use Rattle.rdm_bus.proofs.Accounts.{Grows, job_at, workers_at, event_grows}
+use Rattle.rdm_responder.proofs.Growth.{Grows, job_at, workers_at, event_grows}
 use Rattle.rdm_bus.proofs.Orders.{EndsWithin, accepts, comes}
 
 -- ---- numbers

@@ -17,10 +17,11 @@ use Rattle.rdm_bus.specs.declared.event.Event.TheVariants.{Bus, Arrived, Changed
 use Rattle.rdm_bus.specs.declared.event.Step.{Step}
 use Rattle.rdm_bus.specs.declared.event.Step.TheVariants as step
 use Rattle.rdm_bus.specs.declared.fault.Fault.{Fault}
-use Rattle.rdm_bus.specs.declared.transaction.Heard.{Heard}
+use Rattle.rdm_collector.specs.declared.transaction.Heard.{Heard}
 use Rattle.rdm_bus.specs.BusRun.{Start, IsPlayed, after, after_all, IsBusRun}
 use Rattle.rdm_bus.specs.Happened.{started_in, arrived_in, jobs_in, reports_in, reports_of}
-use Rattle.rdm_bus.proofs.Accounts.{Grows, happens}
+use Rattle.rdm_responder.proofs.Growth.{Grows}
+use Rattle.rdm_bus.proofs.Accounts.{happens}
 
 -- no more of a worker's jobs have ended than were accepted
 abbrev pub EndsWithin : ℕ → outbox.Account → Type 0

@@ -4,7 +4,6 @@ use Rattle.std.specs.Prelude.{slice_get, IfSome, unwrap_or, nat_lt}
 use Rattle.std.specs.List.{fold}
 use Rattle.std.proofs.lemmas.Bool.{cases_Bool, cond-true, cond-false, ltb-true, ltb-false}
 use Rattle.std.proofs.lemmas.List.{length-map, map-append, append_cancel_left}
-use Rattle.std.proofs.lemmas.List.Sums.{fold_push}
 use Rattle.std.proofs.lemmas.Option.{slice_get_past}
 use Rattle.rdm_frame.specs.declared.uid.Uid.{Uid}
 use Rattle.rdm_frame.specs.declared.frame.Frame.{Frame}
@@ -39,12 +38,13 @@ use Rattle.rdm_responder.specs.History.{History, Event, then_event}
 use Rattle.rdm_responder.specs.Requests.{Request, Ignored, Branch, Muting, Get, Set, request_of, request_in, discovery_of}
 use Rattle.rdm_responder.specs.Rules.{Account, Response, ack_message, account_of, account_before, account_after, account_with, after_message, after_outcome, outbox_after, answer_to, answer_with, reply_with, message_count}
 use Rattle.rdm_responder.specs.Runs.{IsArrival, IsChange, outbox_of}
-use Rattle.rdm_bus.specs.Answers.{message_of}
+use Rattle.rdm_responder.proofs.Accounts.{account_of-then}
+use Rattle.rdm_collector.specs.Answers.{message_of}
 use Rattle.rdm_bus.specs.BusLaws.{carried, queue_of}
-use Rattle.rdm_bus.specs.Polling as polling
-use Rattle.rdm_bus.specs.Polling.{IsReply}
-use Rattle.rdm_bus.specs.Polling.Event.{Arrived, Polled}
-use Rattle.rdm_bus.specs.Requests as requests
+use Rattle.rdm_collector.specs.Polling as polling
+use Rattle.rdm_collector.specs.Polling.{IsReply}
+use Rattle.rdm_collector.specs.Polling.Event.{Arrived, Polled}
+use Rattle.rdm_collector.specs.Requests as requests
 
 -- the queue of an account
 abbrev pub queue_at : outbox.Account → polling.Queue
@@ -176,10 +176,6 @@ unfolding account_of
 within h = within_events (account_before h.setup) h.events (omega arith)
 
 -- ---- histories
-
-pub account_of-then : (h : History) (event : Event) → account_of (then_event h event) ≡ account_after (account_of h) event
-unfolding account_of
-account_of-then h event = fold_push account_after (account_before h.setup) h.events event
 
 heard_as : (h : History) (bytes : List ℕ) (found : Option Frame) → frame_in bytes ≡ found → queue_of (then_event h (history.Heard bytes)) ≡ queue_at (account_with (account_of h) (request_in (account_of h).setup.uid found)).outbox
 heard_as h bytes found is =

@@ -16,12 +16,12 @@ use Rattle.rdm_bus.specs.declared.event.Step.TheVariants as step
 use Rattle.rdm_bus.specs.BusRun.{Start, IsPlayed, after_all}
 use Rattle.rdm_bus.specs.Happened.{arrived_in, jobs_in}
 use Rattle.rdm_bus.specs.Headline.{TwiceIsRuledOut, LaterFirstIsRuledOut, AnsweringTheUnheardIsRuledOut, AfterTheCloseIsRuledOut, SkippingIsRuledOut, RecordingNothingIsRuledOut, RecordingTwiceIsRuledOut, DroppingAnEqualOneIsRuledOut, BookingNoPollIsRuledOut, AnotherMessageIsRuledOut}
-use Rattle.rdm_bus.specs.Recording.{join}
-use Rattle.rdm_bus.proofs.Joining.{join-nil}
+use Rattle.rdm_collector.specs.Recording.{join}
+use Rattle.rdm_collector.proofs.Joining.{join-nil}
 use Rattle.rdm_bus.proofs.Numbering.{is_poll_of}
 use Rattle.rdm_bus.proofs.Orders.{done_by}
 use Rattle.rdm_bus.proofs.Queues.{arrival_says}
-use Rattle.rdm_bus.proofs.Refusals.{not_skipped, join-two}
+use Rattle.rdm_collector.proofs.Refusals.{not_skipped, join-two}
 
 pub twice : TwiceIsRuledOut
 twice start steps handed events collected worker r s two same law =

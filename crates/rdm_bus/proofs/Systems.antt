@@ -23,10 +23,10 @@ use Rattle.rdm_bus.specs.declared.event.Event.TheVariants.{Bus}
 use Rattle.rdm_bus.specs.declared.event.Step.{Step}
 use Rattle.rdm_bus.specs.declared.fault.Fault.{Fault}
 use Rattle.rdm_bus.specs.declared.fault.Fault.TheVariants as fault
-use Rattle.rdm_bus.specs.declared.transaction.Heard.{Heard}
-use Rattle.rdm_bus.specs.declared.transaction.Heard.TheVariants as heard
-use Rattle.rdm_bus.specs.Answers.{message_of}
-use Rattle.rdm_bus.specs.Collecting.{State, after_poll, heard_as, heard_in, without_transaction, after_frame, after_hearing}
+use Rattle.rdm_collector.specs.declared.transaction.Heard.{Heard}
+use Rattle.rdm_collector.specs.declared.transaction.Heard.TheVariants as heard
+use Rattle.rdm_collector.specs.Answers.{message_of}
+use Rattle.rdm_collector.specs.Collecting.{State, after_poll, heard_as, heard_in, without_transaction, after_frame, after_hearing}
 use Rattle.rdm_bus.specs.Faults.{altered, request_heard}
 use Rattle.rdm_bus.specs.BusRun.{Start, controller_at, replied, came, transaction, IsFault, IsPlayed, reply_in, after_reply, is_message_heard, after, after_all, IsBusRun, IsAlteredInVain}
 use Rattle.rdm_bus.specs.BusLaws.{dispensed_by, recorded, recorded_by, recorded_if}

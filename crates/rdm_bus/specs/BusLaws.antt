@@ -10,10 +10,10 @@ use Rattle.rdm_responder.specs.Runs.{outbox_of}
 use Rattle.rdm_bus.specs.declared.event.Event.{Event}
 use Rattle.rdm_bus.specs.declared.event.Event.TheVariants.{Bus, Arrived, Changed}
 use Rattle.rdm_bus.specs.declared.event.Step.{Step}
-use Rattle.rdm_bus.specs.Answers.{message_of}
+use Rattle.rdm_collector.specs.Answers.{message_of}
 use Rattle.rdm_bus.specs.BusRun.{Start, is_message_heard, after_all, IsBusRun}
-use Rattle.rdm_bus.specs.Polling.{Queue, given_between}
-use Rattle.rdm_bus.specs.Recording.{PrefixLaw, NoLossLaw}
+use Rattle.rdm_collector.specs.Polling.{Queue, given_between}
+use Rattle.rdm_collector.specs.Recording.{PrefixLaw, NoLossLaw}
 
 -- the message that the bytes of a reply carry
 abbrev pub message_in : List ℕ → Option Message

@@ -16,10 +16,10 @@ use Rattle.rdm_bus.specs.declared.event.Step.{Step}
 use Rattle.rdm_bus.specs.declared.event.Step.TheVariants.{Ask, Collect, Arrive, Change}
 use Rattle.rdm_bus.specs.declared.fault.Fault.{Fault}
 use Rattle.rdm_bus.specs.declared.fault.Fault.TheVariants as fault
-use Rattle.rdm_bus.specs.declared.transaction.Heard.{Heard}
-use Rattle.rdm_bus.specs.declared.transaction.Heard.TheVariants as heard
-use Rattle.rdm_bus.specs.declared.want.Want.{Want}
-use Rattle.rdm_bus.specs.Collecting.{State, refusal_of, command_request, after_ask, poll_request, after_poll, heard_in, after_hearing, without_transaction}
+use Rattle.rdm_collector.specs.declared.transaction.Heard.{Heard}
+use Rattle.rdm_collector.specs.declared.transaction.Heard.TheVariants as heard
+use Rattle.rdm_collector.specs.declared.want.Want.{Want}
+use Rattle.rdm_collector.specs.Collecting.{State, refusal_of, command_request, after_ask, poll_request, after_poll, heard_in, after_hearing, without_transaction}
 use Rattle.rdm_bus.specs.Faults.{request_heard, reply_heard}
 
 -- Where a bus stands between two transactions: what has happened to the device; the UIDs of the controller and of the

@@ -2,9 +2,9 @@
 use Rattle.std.specs.Prelude.{◌≡◌, ◌+◌, min, Bool, true, false, not, List, [], ◌∷◌, length, fold, slice_get, unwrap_or, nat_lt, if◌then◌else◌, Some, None}
 use Rattle.rdm_params.specs.declared.slow.message.Message.{Message}
 use Rattle.rdm_outbox.specs.Statuses.{status_message}
-use Rattle.rdm_bus.specs.Polling.{Queue, Event, IsRun, after, unanswered_after, dispensed, recorded}
-use Rattle.rdm_bus.specs.Polling.Event.{Arrived, Polled}
-use Rattle.rdm_bus.specs.Recording.{PrefixLaw}
+use Rattle.rdm_collector.specs.Polling.{Queue, Event, IsRun, after, unanswered_after, dispensed, recorded}
+use Rattle.rdm_collector.specs.Polling.Event.{Arrived, Polled}
+use Rattle.rdm_collector.specs.Recording.{PrefixLaw}
 
 -- What a device replies to a poll, which asks for the last message again or doesn't, and its queue afterwards.
 pub record Device : Type 0 where

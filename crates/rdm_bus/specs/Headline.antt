@@ -32,12 +32,12 @@ use Rattle.rdm_bus.specs.declared.event.Step.{Step}
 use Rattle.rdm_bus.specs.declared.event.Step.TheVariants.{Collect}
 use Rattle.rdm_bus.specs.declared.fault.Fault.{Fault}
 use Rattle.rdm_bus.specs.declared.fault.Fault.TheVariants as fault
-use Rattle.rdm_bus.specs.declared.transaction.Heard.{Heard}
+use Rattle.rdm_collector.specs.declared.transaction.Heard.{Heard}
 use Rattle.rdm_bus.specs.BusRun.{Start, replied, after, after_all, IsBusRun}
 use Rattle.rdm_bus.specs.BusLaws.{dispensed, recorded}
 use Rattle.rdm_bus.specs.Happened.{jobs_in, reports_in, reports_of, handed_in}
 use Rattle.rdm_bus.specs.Messages.{KeepsMessages}
-use Rattle.rdm_bus.specs.Recording.{join, same_message}
+use Rattle.rdm_collector.specs.Recording.{join, same_message}
 
 -- ---- each reply
 

@@ -1,9 +1,4 @@
-pub mod Requests
-pub mod Answers
-pub mod Collecting
 pub mod Faults
-pub mod Recording
-pub mod Polling
 pub mod Devices
 pub mod BusRun
 pub mod BusLaws

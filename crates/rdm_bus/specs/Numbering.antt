@@ -12,8 +12,8 @@ use Rattle.rdm_bus.specs.declared.event.Event.{Event}
 use Rattle.rdm_bus.specs.declared.event.Event.TheVariants.{Bus, Arrived, Changed}
 use Rattle.rdm_bus.specs.declared.event.Step.{Step}
 use Rattle.rdm_bus.specs.declared.fault.Fault.{Fault}
-use Rattle.rdm_bus.specs.declared.transaction.Heard.{Heard}
-use Rattle.rdm_bus.specs.Requests.{type_of, request_of, queued_message}
+use Rattle.rdm_collector.specs.declared.transaction.Heard.{Heard}
+use Rattle.rdm_collector.specs.Requests.{type_of, request_of, queued_message}
 use Rattle.rdm_bus.specs.BusRun.{Start, is_message_heard, IsBusRun}
 
 -- the bytes that the controller sends in an event, and in all of them

@@ -12,8 +12,8 @@ use Rattle.rdm_bus.specs.declared.event.Step.{Step}
 use Rattle.rdm_bus.specs.declared.event.Step.TheVariants.{Ask, Collect, Arrive, Change}
 use Rattle.rdm_bus.specs.declared.system.PlayError.{PlayError}
 use Rattle.rdm_bus.specs.declared.system.PlayError.TheVariants.{Reserved, TooLong}
-use Rattle.rdm_bus.specs.Requests.{is_reserved}
-use Rattle.rdm_bus.specs.Collecting.{State}
+use Rattle.rdm_collector.specs.Requests.{is_reserved}
+use Rattle.rdm_collector.specs.Collecting.{State}
 use Rattle.rdm_bus.specs.BusRun.{Start, controller_at, after_all, IsBusRun, IsAlteredInVain}
 use Rattle.rdm_bus.specs.BusLaws.{recorded}
 

@@ -4,7 +4,7 @@ ghost use Rattle.std.specs.Prelude.{◌≡◌, ◌<◌, IfSome};
 ghost use Rattle.rdm_bus.specs.BusRun.{raise_of};
 ghost use Rattle.rdm_bus.specs.Faults.{altered, request_heard, reply_heard};
 
-use crate::ranges::is_byte;
+use crate::ranges::byte_fits;
 use rdm_frame::Wire;
 
 /// What goes wrong with one transaction. A slot is counted modulo the number of bytes, and raised modulo 256.
@@ -30,7 +30,7 @@ impl Fault {
     {
         match *self {
             Fault::BadRequest(_, raise) | Fault::BadReply(_, raise) => {
-                is_byte(raise);
+                byte_fits(raise);
                 Some(raise)
             }
             Fault::LostRequest | Fault::LostReply | Fault::None => None,

@@ -8,38 +8,14 @@ ghost use Rattle.rdm_bus.specs.Headline.{HeadlineHolds, TwiceIsRuledOut, LaterFi
 ghost use Rattle.rdm_bus.specs.Hearing.{CommandSendingHolds, HearingHolds};
 ghost use Rattle.rdm_bus.specs.Messages.{KeepingHolds};
 ghost use Rattle.rdm_bus.specs.Numbering.{NumberingHolds, PollingInTurnHolds, JobsAreNumbered};
-ghost use Rattle.rdm_bus.specs.Polling.{LawsHold};
-ghost use Rattle.rdm_bus.specs.Recording.{JoinsFromTheFront, SkippingIsRefused, RecordingNothingIsRefused, RepeatingAnOlderOneIsRefused};
 
-use crate::{Action, AskError, Command, Fault, Heard, PlayError, PollError, Want};
+use crate::{Fault, PlayError};
 use rdm_params::two_commands_fetch;
 
 /// A frame with one slot raised by 1 to 255 is no frame: nobody on the bus takes it for one.
 #[tactic(auto, using(crate::proofs::Alterations::altered_is_no_frame))]
 pub fn altered_frame_is_no_frame()
     ensures { AlteredIsNoFrame }
-{}
-
-/// Joining takes the first of two equal neighbours away and leaves all else, from the front.
-#[tactic(auto, using(crate::proofs::Joining::joins_from_the_front))]
-pub fn joining_goes_from_the_front()
-    ensures { JoinsFromTheFront }
-{}
-
-/// What a collector recorded, with equal neighbours joined, is what the device dispensed, joined likewise, but for one
-/// message at most; and no message that was given is missing from it, but for the last at most. Nothing is missing where
-/// the last poll is answered (E1.20 section 10.3.1).
-#[tactic(auto, using(crate::proofs::PollingRuns::laws_hold))]
-pub fn recording_laws_hold()
-    ensures { LawsHold }
-{}
-
-/// What the prefix law rules out: a controller that asks for the next message after a loss, or a device that gives it;
-/// a controller that records nothing; and a device that doesn't repeat its last answer.
-pub fn recording_laws_rule_out()
-    ensures skipping { SkippingIsRefused }
-    ensures recording_nothing { RecordingNothingIsRefused }
-    ensures repeating_an_older_one { RepeatingAnOlderOneIsRefused }
 {}
 
 /// Both recording laws hold of every run of the bus, from every history of the device: whichever commands, polls, arrivals and
@@ -126,39 +102,9 @@ pub fn wrong_devices_break_the_prefix_law()
     ensures right { RightDeviceIsPolled }
 {}
 
-/// Two commands are equal by `==` exactly where each of their fields is.
-pub fn commands_are_equal_by_value()
-    ensures { (a b : Command) → IsTrue (⟦<Command as PartialEq>⟧.eq a b) ↔ (a ≡ b) }
-{}
-
 /// Two faults are equal by `==` exactly where they are the same, slot and raise included.
 pub fn faults_are_equal_by_value()
     ensures { (a b : Fault) → IsTrue (⟦<Fault as PartialEq>⟧.eq a b) ↔ (a ≡ b) }
-{}
-
-/// Two values of `Heard` are equal by `==` exactly where they are the same.
-pub fn heards_are_equal_by_value()
-    ensures { (a b : Heard) → IsTrue (⟦<Heard as PartialEq>⟧.eq a b) ↔ (a ≡ b) }
-{}
-
-/// Two values of `Action` are equal by `==` exactly where they are the same.
-pub fn actions_are_equal_by_value()
-    ensures { (a b : Action) → IsTrue (⟦<Action as PartialEq>⟧.eq a b) ↔ (a ≡ b) }
-{}
-
-/// Two values of `Want` are equal by `==` exactly where they are the same.
-pub fn wants_are_equal_by_value()
-    ensures { (a b : Want) → IsTrue (⟦<Want as PartialEq>⟧.eq a b) ↔ (a ≡ b) }
-{}
-
-/// Two refusals of a command are equal by `==` exactly where they are the same.
-pub fn ask_errors_are_equal_by_value()
-    ensures { (a b : AskError) → IsTrue (⟦<AskError as PartialEq>⟧.eq a b) ↔ (a ≡ b) }
-{}
-
-/// Two refusals of a poll are equal by `==` exactly where they are the same.
-pub fn poll_errors_are_equal_by_value()
-    ensures { (a b : PollError) → IsTrue (⟦<PollError as PartialEq>⟧.eq a b) ↔ (a ≡ b) }
 {}
 
 /// Two refusals of a step are equal by `==` exactly where they are the same.

@@ -1,33 +1,33 @@
-//! The controller's side of Remote Device Management (ANSI E1.20-2010), and the bus.
+//! A device and a controller of Remote Device Management (ANSI E1.20-2010) on one bus, with what goes wrong there; and what is
+//! promised of the two together.
 //!
-//! A `Collector` sends one request at a time to one device. By `poll` it fetches the messages that wait there, and
-//! records them; by `ask` it sends the commands of its user. A `Fault` is what goes wrong with one transaction.
+//! A `System` has a `Responder` and a `Collector`, and plays one `Step` after the other: a command or a poll of the controller,
+//! with its `Fault`, the report of a job, or a change at the device's own menu. Each step makes an `Event`, and the events make
+//! the trace. It is a bus in memory, for scripts, tests and runs; on a real line there are the collector alone, of
+//! rdm_collector, and the responder alone.
+//!
+//! The headline in `specs/Headline.antt` is what is promised of every run: `headline_holds` is the law, and `System::play` has
+//! it after each step. The collector and its commands can be imported from here too.
 #![tactic(auto)]
 
-mod collector;
-mod command;
 mod event;
 mod fault;
 mod laws;
-mod message;
 mod ranges;
 mod system;
-mod transaction;
-mod want;
 
-pub use collector::{AskError, Collector, PollError};
-pub use command::{Action, Command};
 pub use event::{Event, Step};
 pub use fault::Fault;
 pub use laws::{
-    actions_are_equal_by_value, altered_frame_is_no_frame, answers_are_heard,
-    ask_errors_are_equal_by_value, bus_recording_laws_hold, commands_are_equal_by_value,
-    commands_are_sent, faults_are_equal_by_value, headline_holds, headline_rules_out,
-    heards_are_equal_by_value, jobs_are_numbered, joining_goes_from_the_front, messages_are_kept,
-    play_errors_are_equal_by_value, poll_errors_are_equal_by_value, polls_ask_in_turn,
-    recording_laws_hold, recording_laws_rule_out, transactions_are_numbered,
-    wants_are_equal_by_value, wrong_devices_break_the_prefix_law,
+    altered_frame_is_no_frame, answers_are_heard, bus_recording_laws_hold, commands_are_sent,
+    faults_are_equal_by_value, headline_holds, headline_rules_out, jobs_are_numbered,
+    messages_are_kept, play_errors_are_equal_by_value, polls_ask_in_turn,
+    transactions_are_numbered, wrong_devices_break_the_prefix_law,
+};
+pub use rdm_collector::{
+    Action, AskError, Collector, Command, Heard, PollError, Want, actions_are_equal_by_value,
+    ask_errors_are_equal_by_value, commands_are_equal_by_value, heards_are_equal_by_value,
+    joining_goes_from_the_front, poll_errors_are_equal_by_value, recording_laws_hold,
+    recording_laws_rule_out, wants_are_equal_by_value,
 };
 pub use system::{PlayError, System};
-pub use transaction::Heard;
-pub use want::Want;

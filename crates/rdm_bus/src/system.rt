@@ -7,7 +7,7 @@ ghost use Rattle.rdm_responder.specs.History.{History};
 ghost use Rattle.rdm_responder.specs.Lawful.{IsLawful, MayArrive};
 ghost use Rattle.rdm_responder.specs.Rules.{account_of};
 ghost use Rattle.rdm_responder.specs.StandsFor.{StandsFor};
-ghost use Rattle.rdm_bus.specs.Collecting.{heard_in, after_hearing};
+ghost use Rattle.rdm_collector.specs.Collecting.{heard_in, after_hearing};
 ghost use Rattle.rdm_bus.specs.Faults.{reply_heard};
 ghost use Rattle.rdm_bus.specs.BusLaws.{BusLaws, recorded_by};
 ghost use Rattle.rdm_bus.specs.BusRun.{Start, after, after_all, after_reply, history_after, reply_in, transaction, raise_of, fault_of, IsFault, IsPlayed, IsAlteredInVain};
@@ -15,13 +15,11 @@ ghost use Rattle.rdm_bus.specs.Happened.{handed_in};
 ghost use Rattle.rdm_bus.specs.Headline.{Headline, unclosed};
 ghost use Rattle.rdm_bus.specs.Systems.{Stands, IsTrace, IsAstray, HasNoRoom, refusal_in, start_of};
 
-use crate::collector::{Collector, MOST_DATA, PollError};
-use crate::command::is_reserved;
 use crate::event::{Event, Step};
 use crate::fault::Fault;
 use crate::laws::{bus_recording_laws_hold, headline_holds};
-use crate::ranges::are_bytes;
-use crate::transaction::Heard;
+use crate::ranges::bytes_fit;
+use rdm_collector::{Collector, Heard, MOST_DATA, PollError, is_reserved};
 use rdm_frame::Wire;
 use rdm_params::Message;
 use rdm_responder::Responder;
@@ -234,7 +232,7 @@ fn carry(
     };
     let heard = match &reply {
         Some(bytes) => {
-            are_bytes(bytes.as_slice());
+            bytes_fit(bytes.as_slice());
             hear(collector, fault, bytes)
         }
         None => None,

@@ -2,13 +2,13 @@
 use Rattle.std.specs.Prelude.{ℕ, List, take, ◌==◌, if◌then◌else◌, Option, Some, None}
 use Rattle.std.specs.Option.{option_map}
 use Rattle.rdm_params.specs.declared.slow.message.Message.{Message}
-use Rattle.rdm_bus.specs.declared.command.Action.{Action}
-use Rattle.rdm_bus.specs.declared.command.Action.TheVariants.{Disc, Get, Set}
-use Rattle.rdm_bus.specs.declared.command.Command.{Command}
-use Rattle.rdm_bus.specs.declared.transaction.Heard.{Heard}
-use Rattle.rdm_bus.specs.declared.transaction.Heard.TheVariants as heard
-use Rattle.rdm_bus.specs.declared.want.Want.{Want}
-use Rattle.rdm_bus.specs.declared.want.Want.TheVariants.{Advisory, Warning, Error}
+use Rattle.rdm_collector.specs.declared.command.Action.{Action}
+use Rattle.rdm_collector.specs.declared.command.Action.TheVariants.{Disc, Get, Set}
+use Rattle.rdm_collector.specs.declared.command.Command.{Command}
+use Rattle.rdm_collector.specs.declared.transaction.Heard.{Heard}
+use Rattle.rdm_collector.specs.declared.transaction.Heard.TheVariants as heard
+use Rattle.rdm_collector.specs.declared.want.Want.{Want}
+use Rattle.rdm_collector.specs.declared.want.Want.TheVariants.{Advisory, Warning, Error}
 use Rattle.rdm_c.specs.declared.message.CommandNumbers.{CommandNumbers}
 use Rattle.rdm_c.specs.declared.message.MessageNumbers.{MessageNumbers}
 

@@ -13,7 +13,7 @@ use Rattle.rdm_outbox.specs.Jobs.{has_place}
 use Rattle.rdm_responder.specs.Runs.{outbox_of}
 use Rattle.rdm_responder.specs.Rules.{account_of, answered}
 use Rattle.rdm_responder.specs.StandsFor.{StandsFor}
-use Rattle.rdm_bus.specs.Collecting.{State}
+use Rattle.rdm_collector.specs.Collecting.{State}
 use Rattle.rdm_c.specs.declared.party.Party.{Party}
 use Rattle.rdm_c.specs.declared.party.Party.TheVariants.{Responder, Collector}
 use Rattle.rdm_c.specs.declared.status.Status.{Status}

@@ -1,7 +1,7 @@
 -- The codes of what became of a call, as the header lists them.
 use Rattle.std.specs.Prelude.{ℕ, Option, Some, None}
-use Rattle.rdm_bus.specs.declared.collector.AskError.{AskError}
-use Rattle.rdm_bus.specs.declared.collector.AskError.TheVariants as ask
+use Rattle.rdm_collector.specs.declared.collector.AskError.{AskError}
+use Rattle.rdm_collector.specs.declared.collector.AskError.TheVariants as ask
 use Rattle.rdm_c.specs.declared.status.Status.{Status}
 use Rattle.rdm_c.specs.declared.status.Status.TheVariants.{Done, OutOfMemory, BadProfile, BadSize, BadUid, Absent, Astray, Unknown, Refused, NoValue, Reserved, Busy, TooLong, NoMore, NoRoom, OutOfRange}
 

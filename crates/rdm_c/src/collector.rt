@@ -2,7 +2,7 @@
 
 ghost use Rattle.std.specs.Prelude.{◌≡◌, ◌≢◌, ◌↔◌, ◌⊎◌, ◌≤◌, [], ◌∷◌, IfSome, IsSome, MatchOption, None, Some, drop, false, length, slice_get, take};
 ghost use Rattle.rdm_frame.specs.FrameText.{frame_text, IsFrame};
-ghost use Rattle.rdm_bus.specs.Collecting.{State, new_collector, refusal_of, poll_request, command_request, after_ask, after_poll, heard_in, after_hearing, without_transaction};
+ghost use Rattle.rdm_collector.specs.Collecting.{State, new_collector, refusal_of, poll_request, command_request, after_ask, after_poll, heard_in, after_hearing, without_transaction};
 ghost use Rattle.rdm_c.specs.Messages.{action_in, command_in, heard_code, message_in, want_in};
 ghost use Rattle.rdm_c.specs.Parties.{HeldIn, found, holds_collector};
 ghost use Rattle.rdm_c.specs.Statuses.{code_of, of_refusal};
@@ -13,7 +13,7 @@ use crate::keeping::{free, put, replace, take};
 use crate::message::{CommandNumbers, MessageNumbers, want_in};
 use crate::party::Party;
 use crate::status::Status;
-use rdm_bus::Collector;
+use rdm_collector::Collector;
 use rdm_frame::Uid;
 use std::alloc::Global;
 

@@ -2,7 +2,7 @@
 
 ghost use Rattle.std.specs.Prelude.{◌≡◌, ◌≢◌, ◌↔◌, [], ◌∷◌, IfSome, IsSome, MatchOption, drop, false, length, slice_get, take};
 ghost use Rattle.rdm_frame.specs.FrameText.{frame_text, IsFrame};
-ghost use Rattle.rdm_bus.specs.Collecting.{State, refusal_of, poll_request, command_request, after_ask, after_poll, heard_in, after_hearing, without_transaction};
+ghost use Rattle.rdm_collector.specs.Collecting.{State, refusal_of, poll_request, command_request, after_ask, after_poll, heard_in, after_hearing, without_transaction};
 ghost use Rattle.rdm_c.specs.Messages.{heard_code, message_in};
 ghost use Rattle.rdm_c.specs.Parties.{IsIn, found, is_collector};
 ghost use Rattle.rdm_c.specs.Statuses.{of_refusal};
@@ -11,7 +11,7 @@ use crate::front::write_front;
 use crate::message::{MessageNumbers, heard_code};
 use crate::party::Party;
 use crate::status::Status;
-use rdm_bus::{AskError, Collector, Command, PollError};
+use rdm_collector::{AskError, Collector, Command, PollError};
 
 /// Sends a command: writes its request to the front.
 pub(crate) fn ask(

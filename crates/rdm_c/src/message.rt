@@ -4,7 +4,7 @@ ghost use Rattle.std.specs.Prelude.{◌≡◌, ◌≤◌, length, take};
 ghost use Rattle.rdm_c.specs.Messages.{want_in, action_in, command_in, heard_code, message_in};
 
 use crate::front::write_front;
-use rdm_bus::{Action, Command, Heard, Want};
+use rdm_collector::{Action, Command, Heard, Want};
 use rdm_frame::{Load, Uid};
 use rdm_params::Message;
 

@@ -1,6 +1,6 @@
 //! What stands behind a handle.
 
-use rdm_bus::Collector;
+use rdm_collector::Collector;
 use rdm_frame::Wire;
 use rdm_responder::Responder;
 

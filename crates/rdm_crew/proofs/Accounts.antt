@@ -39,7 +39,7 @@ use Rattle.rdm_bus.specs.declared.event.Event.TheVariants.{Bus, Arrived, Changed
 use Rattle.rdm_bus.specs.declared.event.Step.{Step}
 use Rattle.rdm_bus.specs.declared.event.Step.TheVariants as step
 use Rattle.rdm_bus.specs.declared.fault.Fault.{Fault}
-use Rattle.rdm_bus.specs.Collecting.{State, after_ask, after_poll, command_request, poll_request}
+use Rattle.rdm_collector.specs.Collecting.{State, after_ask, after_poll, command_request, poll_request}
 use Rattle.rdm_bus.specs.Faults.{request_heard}
 use Rattle.rdm_bus.specs.BusRun.{Start, controller_at, transaction, IsPlayed, after, after_all, IsBusRun}
 use Rattle.rdm_bus.specs.Happened.{started_in, arrived_in, jobs_in, reports_in, reports_of}

@@ -15,11 +15,11 @@ use Rattle.rdm_lane.specs.declared.taken.Taken.{Taken}
 use Rattle.rdm_lane.specs.declared.taken.Taken.TheVariants.{Item, Mark}
 use Rattle.rdm_lane.specs.Ends.{PostState, TakeState, IsNext, IsSameTake, took}
 use Rattle.rdm_lane.specs.Lane.{items_from}
-use Rattle.rdm_crew.specs.declared.crew.Crew.{Crew}
-use Rattle.rdm_crew.specs.declared.desk.Desk.{Desk}
+use Rattle.rdm_crew.specs.declared.bus.crew.Crew.{Crew}
+use Rattle.rdm_crew.specs.declared.bus.desk.Desk.{Desk}
 use Rattle.rdm_crew.specs.declared.step.CrewStep.TheVariants.{Draw, Panel}
-use Rattle.rdm_crew.specs.declared.stop.Stop.{Stop}
-use Rattle.rdm_crew.specs.declared.stop.Stop.TheVariants as stop
+use Rattle.rdm_crew.specs.declared.bus.stop.Stop.{Stop}
+use Rattle.rdm_crew.specs.declared.bus.stop.Stop.TheVariants as stop
 use Rattle.rdm_crew.specs.Crews.{HasChanges, HasChanged, HasPlayed, HasSent, IsRefused, IsSent, IsStopped, IsTied}
 use Rattle.rdm_crew.specs.Desks.{stands_at, IsDrawn, HaveArrived, HaveSettled, IsCutShort}
 use Rattle.rdm_bus.specs.Happened.{arrived_in, changed_in, changes_in, started_in}

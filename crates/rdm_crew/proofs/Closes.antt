@@ -14,7 +14,7 @@ use Rattle.rdm_lane.specs.declared.taken.Taken.{Taken}
 use Rattle.rdm_lane.specs.declared.taken.Taken.TheVariants.{Item, Mark, Empty, Closed}
 use Rattle.rdm_lane.specs.Ends.{IsOver}
 use Rattle.rdm_lane.specs.Lane.{is_from, of, is_mark, has_mark, numbered, items_of, items_from}
-use Rattle.rdm_crew.specs.declared.desk.Desk.{Desk}
+use Rattle.rdm_crew.specs.declared.bus.desk.Desk.{Desk}
 use Rattle.rdm_crew.specs.declared.error.RunError.{RunError}
 use Rattle.rdm_crew.specs.declared.trace.Ended.{Ended}
 use Rattle.rdm_crew.specs.Closes.{handed_by, HasClosed, IsHandedOver, AfterTheMarkIsRuledOut}

@@ -21,11 +21,11 @@ use Rattle.rdm_lane.specs.declared.taken.Taken.{Taken}
 use Rattle.rdm_lane.specs.declared.taken.Taken.TheVariants.{Item, Mark, Empty, Closed}
 use Rattle.rdm_lane.specs.Ends.{TakeState, IsNext, IsOver, took}
 use Rattle.rdm_lane.specs.Lane.{items_of}
-use Rattle.rdm_crew.specs.declared.desk.Desk.{Desk}
-use Rattle.rdm_crew.specs.declared.desk.Drawn.{Drawn}
-use Rattle.rdm_crew.specs.declared.desk.Drawn.TheVariants as drawn
-use Rattle.rdm_crew.specs.declared.stop.Stop.{Stop}
-use Rattle.rdm_crew.specs.declared.stop.Stop.TheVariants as stop
+use Rattle.rdm_crew.specs.declared.bus.desk.Desk.{Desk}
+use Rattle.rdm_crew.specs.declared.bus.desk.Drawn.{Drawn}
+use Rattle.rdm_crew.specs.declared.bus.desk.Drawn.TheVariants as drawn
+use Rattle.rdm_crew.specs.declared.bus.stop.Stop.{Stop}
+use Rattle.rdm_crew.specs.declared.bus.stop.Stop.TheVariants as stop
 use Rattle.rdm_crew.specs.Desks.{began, stands_at, HasRun, OfTwo, IsDrawn, IsSuspect, IsSameDesk, HasArrived, HaveArrived, HaveSettled, IsCutShort, AfterDraw, nones_in}
 use Rattle.rdm_bus.specs.Happened.{started_in, arrived_in, jobs_in, reports_in}
 use Rattle.rdm_crew.specs.RunTrace.{AreArrivals}

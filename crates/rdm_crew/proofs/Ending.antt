@@ -17,8 +17,8 @@ use Rattle.rdm_lane.specs.Ends.{PostState, TakeState, IsOver}
 use Rattle.rdm_lane.specs.Lane.{IsPrefix, LaneLaw, has_mark, items_of, items_from}
 use Rattle.rdm_lane.specs.Settling.{HasLists}
 use Rattle.rdm_lane.proofs.ThreeSentences.{takes_a_prefix, whole_at_its_mark}
-use Rattle.rdm_crew.specs.declared.desk.Desk.{Desk}
-use Rattle.rdm_crew.specs.declared.worker.Worked.{Worked}
+use Rattle.rdm_crew.specs.declared.bus.desk.Desk.{Desk}
+use Rattle.rdm_crew.specs.declared.threads.worker.Worked.{Worked}
 use Rattle.rdm_crew.specs.Closes.{handed_by, IsHandedOver}
 use Rattle.rdm_crew.specs.Crews.{HasJobs}
 use Rattle.rdm_crew.specs.Desks.{stands_at, OfTwo, IsDrawn, IsSuspect}

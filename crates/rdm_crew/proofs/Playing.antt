@@ -15,21 +15,21 @@ use Rattle.rdm_bus.specs.declared.event.Event.{Event}
 use Rattle.rdm_bus.specs.declared.event.Step.{Step}
 use Rattle.rdm_bus.specs.declared.event.Step.TheVariants as bus
 use Rattle.rdm_bus.specs.declared.fault.Fault.{Fault}
-use Rattle.rdm_bus.specs.declared.command.Command.{Command}
+use Rattle.rdm_collector.specs.declared.command.Command.{Command}
 use Rattle.rdm_bus.specs.declared.system.PlayError.{PlayError}
 use Rattle.rdm_bus.specs.declared.system.PlayError.TheVariants as refused
 use Rattle.rdm_bus.specs.BusRun.{Start, IsPlayed, after, after_all}
 use Rattle.rdm_bus.specs.Systems.{Played, refusal_in}
 use Rattle.rdm_lane.specs.Ends.{PostState, TakeState, IsSamePost}
 use Rattle.rdm_lane.specs.Lane.{items_of}
-use Rattle.rdm_crew.specs.declared.crew.Crew.{Crew}
-use Rattle.rdm_crew.specs.declared.desk.Desk.{Desk}
-use Rattle.rdm_crew.specs.declared.desk.Drawn.{Drawn}
-use Rattle.rdm_crew.specs.declared.desk.Drawn.TheVariants as drawn
+use Rattle.rdm_crew.specs.declared.bus.crew.Crew.{Crew}
+use Rattle.rdm_crew.specs.declared.bus.desk.Desk.{Desk}
+use Rattle.rdm_crew.specs.declared.bus.desk.Drawn.{Drawn}
+use Rattle.rdm_crew.specs.declared.bus.desk.Drawn.TheVariants as drawn
 use Rattle.rdm_crew.specs.declared.step.CrewStep.{CrewStep}
 use Rattle.rdm_crew.specs.declared.step.CrewStep.TheVariants.{Ask, Collect, Draw, Settle}
-use Rattle.rdm_crew.specs.declared.stop.Stop.{Stop}
-use Rattle.rdm_crew.specs.declared.stop.Stop.TheVariants as stop
+use Rattle.rdm_crew.specs.declared.bus.stop.Stop.{Stop}
+use Rattle.rdm_crew.specs.declared.bus.stop.Stop.TheVariants as stop
 use Rattle.rdm_crew.specs.Crews.{HasJobs, HasChanged, IsTied, IsSameCrew, IsSent, HasSent, HasPlayed, HavePlayed, IsRefused, IsStopped}
 use Rattle.rdm_crew.specs.Desks.{stands_at, HasRun, OfTwo, IsDrawn, IsSameDesk, HasArrived, HaveArrived, HaveSettled, IsCutShort, AfterDraw}
 use Rattle.rdm_bus.specs.Happened.{started_in, arrived_in, jobs_in, reports_in}

@@ -9,8 +9,8 @@ use Rattle.rdm_responder.specs.Runs.{outbox_of}
 use Rattle.rdm_bus.specs.declared.event.Event.{Event}
 use Rattle.rdm_bus.specs.BusRun.{Start, after_all}
 use Rattle.rdm_lane.specs.Ends.{PostState}
-use Rattle.rdm_crew.specs.declared.crew.Crew.{Crew}
-use Rattle.rdm_crew.specs.declared.desk.Desk.{Desk}
+use Rattle.rdm_crew.specs.declared.bus.crew.Crew.{Crew}
+use Rattle.rdm_crew.specs.declared.bus.desk.Desk.{Desk}
 use Rattle.rdm_crew.specs.declared.error.RunError.{RunError}
 use Rattle.rdm_crew.specs.declared.step.CrewStep.{CrewStep}
 use Rattle.rdm_crew.specs.declared.trace.Ended.{Ended}

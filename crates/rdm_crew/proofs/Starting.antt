@@ -10,8 +10,8 @@ use Rattle.rdm_bus.specs.BusRun.{Start, IsBusRun}
 use Rattle.rdm_bus.specs.Systems.{IsTrace}
 use Rattle.rdm_lane.specs.Ends.{PostState, TakeState}
 use Rattle.rdm_lane.specs.Lane.{items_of, items_from}
-use Rattle.rdm_crew.specs.declared.crew.Crew.{Crew}
-use Rattle.rdm_crew.specs.declared.desk.Desk.{Desk}
+use Rattle.rdm_crew.specs.declared.bus.crew.Crew.{Crew}
+use Rattle.rdm_crew.specs.declared.bus.desk.Desk.{Desk}
 use Rattle.rdm_crew.specs.declared.error.RunError.{RunError}
 use Rattle.rdm_crew.specs.Crews.{HasChanges, IsTied}
 use Rattle.rdm_crew.specs.Desks.{began, OfTwo, IsDrawn}

@@ -6,8 +6,8 @@ use Rattle.rdm_lane.specs.declared.taken.Taken.{Taken}
 use Rattle.rdm_lane.specs.Ends.{PostState, TakeState, IsSamePost, IsSameTake, with_item}
 use Rattle.rdm_lane.specs.Lane.{items_from}
 use Rattle.rdm_lane.proofs.ThreeSentences.{takes_a_prefix}
-use Rattle.rdm_crew.specs.declared.desk.Desk.{Desk}
-use Rattle.rdm_crew.specs.declared.watcher.Watched.{Watched}
+use Rattle.rdm_crew.specs.declared.bus.desk.Desk.{Desk}
+use Rattle.rdm_crew.specs.declared.threads.watcher.Watched.{Watched}
 use Rattle.rdm_crew.specs.Crews.{HasChanges}
 use Rattle.rdm_bus.specs.Happened.{changes_in}
 use Rattle.rdm_crew.specs.Settling.{IsTakenOf, IsLaneOfOne}

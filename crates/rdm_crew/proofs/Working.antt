@@ -8,7 +8,7 @@ use Rattle.rdm_lane.specs.declared.taken.Taken.{Taken}
 use Rattle.rdm_lane.specs.declared.taken.Taken.TheVariants.{Item, Mark}
 use Rattle.rdm_lane.specs.Ends.{PostState, TakeState, IsNext, IsSameTake, IsSamePost, took, with_item}
 use Rattle.rdm_lane.specs.Lane.{of, has_mark, items_of, items_from}
-use Rattle.rdm_crew.specs.declared.worker.Worked.{Worked}
+use Rattle.rdm_crew.specs.declared.threads.worker.Worked.{Worked}
 use Rattle.rdm_crew.specs.Workers.{Answers, IsIdle, IsWorking, IsWorked}
 use Rattle.rdm_crew.proofs.Items.{from-item, from-mark, count}
 

@@ -11,11 +11,11 @@ use Rattle.rdm_bus.specs.BusRun.{IsPlayed}
 use Rattle.rdm_bus.specs.Systems.{refusal_in}
 use Rattle.rdm_lane.specs.Ends.{PostState, TakeState, IsSamePost, IsSameTake}
 use Rattle.rdm_lane.specs.Lane.{items_from}
-use Rattle.rdm_crew.specs.declared.crew.Crew.{Crew}
-use Rattle.rdm_crew.specs.declared.desk.Desk.{Desk}
+use Rattle.rdm_crew.specs.declared.bus.crew.Crew.{Crew}
+use Rattle.rdm_crew.specs.declared.bus.desk.Desk.{Desk}
 use Rattle.rdm_crew.specs.declared.step.CrewStep.{CrewStep}
-use Rattle.rdm_crew.specs.declared.stop.Stop.{Stop}
-use Rattle.rdm_crew.specs.declared.stop.Stop.TheVariants as stop
+use Rattle.rdm_crew.specs.declared.bus.stop.Stop.{Stop}
+use Rattle.rdm_crew.specs.declared.bus.stop.Stop.TheVariants as stop
 use Rattle.rdm_crew.specs.Desks.{IsDrawn, IsSuspect, IsSameDesk, stands_at}
 use Rattle.rdm_bus.specs.Happened.{jobs_in, changes_in}
 use Rattle.rdm_crew.specs.RunTrace.{AreLast, IsPiece, IsCut, HasSettle, first_refusal}

@@ -5,7 +5,7 @@ use Rattle.rdm_responder.specs.declared.report.Report.{Report}
 use Rattle.rdm_lane.specs.declared.taken.Taken.{Taken}
 use Rattle.rdm_lane.specs.Ends.{PostState, TakeState, take_state, new_post}
 use Rattle.rdm_lane.specs.Lane.{of, put_closed, IsPrefix}
-use Rattle.rdm_crew.specs.declared.worker.Worked.{Worked}
+use Rattle.rdm_crew.specs.declared.threads.worker.Worked.{Worked}
 use Rattle.rdm_crew.specs.Workers.{most}
 
 -- the two ends of a new lane with one post, which may put as many items

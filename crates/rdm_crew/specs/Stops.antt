@@ -3,8 +3,8 @@ use Rattle.rdm_bus.specs.declared.system.PlayError.{PlayError}
 use Rattle.rdm_bus.specs.declared.system.PlayError.TheVariants as refused
 use Rattle.rdm_crew.specs.declared.error.RunError.{RunError}
 use Rattle.rdm_crew.specs.declared.error.RunError.TheVariants as run
-use Rattle.rdm_crew.specs.declared.stop.Stop.{Stop}
-use Rattle.rdm_crew.specs.declared.stop.Stop.TheVariants as stop
+use Rattle.rdm_crew.specs.declared.bus.stop.Stop.{Stop}
+use Rattle.rdm_crew.specs.declared.bus.stop.Stop.TheVariants as stop
 
 abbrev pub stop_of : PlayError → Stop
 stop_of refused.OutOfMemory = stop.OutOfMemory

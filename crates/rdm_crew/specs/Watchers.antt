@@ -2,7 +2,7 @@
 use Rattle.std.specs.Prelude.{◌≡◌, ℕ, suc, List, [], ◌∷◌}
 use Rattle.rdm_params.specs.declared.panel.Change.{Change}
 use Rattle.rdm_lane.specs.Ends.{PostState, IsSamePost}
-use Rattle.rdm_crew.specs.declared.watcher.Watched.{Watched}
+use Rattle.rdm_crew.specs.declared.threads.watcher.Watched.{Watched}
 
 -- The changes are offered for the numbers from n on, one by one.
 abbrev pub AreOffered : (ℕ → Change → Type 0) → ℕ → List Change → Type 0

@@ -5,7 +5,7 @@ use Rattle.rdm_outbox.specs.declared.job.Job.{Job}
 use Rattle.rdm_responder.specs.declared.report.Report.{Report}
 use Rattle.rdm_lane.specs.Ends.{PostState, TakeState, IsOver, IsSameTake, IsSamePost}
 use Rattle.rdm_lane.specs.Lane.{items_from}
-use Rattle.rdm_crew.specs.declared.worker.Worked.{Worked}
+use Rattle.rdm_crew.specs.declared.threads.worker.Worked.{Worked}
 
 -- The reports are on the first of the jobs, one by one, each with an outcome that may be given for its job.
 abbrev pub Answers : (Job → Outcome → Type 0) → List Job → List Report → Type 0

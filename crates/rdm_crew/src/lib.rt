@@ -3,27 +3,22 @@
 //!
 //! `run` plays steps on the calling thread. Each `Part` works on a thread of its own: the jobs that the device starts
 //! are handed to it over a lane, and its reports come back over another. What a run is stands in `specs/RunTrace.antt`.
+//!
+//! `running` has the call. `bus` is what the bus thread does while there are steps, `threads` are the threads beside it with what
+//! they share, and `end` joins them and settles the lanes. It is for runs that end: each end of a lane keeps all that went through.
 #![tactic(auto)]
 
-mod closing;
-mod crew;
-mod desk;
-mod equipment;
+mod bus;
+mod end;
 mod error;
-mod joining;
 mod laws;
 mod panel;
 mod part;
-mod putting;
 mod running;
-mod settling;
 mod setup;
 mod step;
-mod stop;
+mod threads;
 mod trace;
-mod waiting;
-mod watcher;
-mod worker;
 
 pub use error::RunError;
 pub use laws::{

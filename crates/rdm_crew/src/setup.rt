@@ -1,6 +1,6 @@
 //! What a run is set up with.
 
-use rdm_bus::Want;
+use rdm_collector::Want;
 use rdm_frame::Uid;
 use rdm_params::Profile;
 

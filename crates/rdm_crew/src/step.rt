@@ -1,6 +1,7 @@
 //! The steps of a run.
 
-use rdm_bus::{Command, Fault};
+use rdm_bus::Fault;
+use rdm_collector::Command;
 
 /// What is to happen next in a run.
 #[derive(Debug, Drop)]

@@ -4,7 +4,7 @@ use crate::bus::command;
 use crate::fault::{ALWAYS, Fault, OTHER, check};
 use crate::making::{CONTROLLER, DEVICE};
 use crate::tally::{TRIES, Tally};
-use rdm_bus::{Action, AskError, Collector, Command, Heard, PollError, Want};
+use rdm_collector::{Action, AskError, Collector, Command, Heard, PollError, Want};
 use rdm_frame::{Body, Frame, Load, Wire, decode, encode};
 use std::alloc::Global;
 

@@ -14,9 +14,9 @@ use Rattle.rdm_frame.specs.DigitReading.{◌>>=◌, bytes_in, number_in}
 use Rattle.rdm_frame.specs.UidText.{SpellsUid}
 use Rattle.rdm_frame.proofs.Spellings.{bytes_read, bytes_again}
 use Rattle.rdm_frame.proofs.NumberSpellings.{long, word_read, word_again, uid_spelled}
-use Rattle.rdm_bus.specs.declared.command.Action.{Action}
-use Rattle.rdm_bus.specs.declared.command.Action.TheVariants.{Disc, Get, Set}
-use Rattle.rdm_bus.specs.declared.command.Command.{Command}
+use Rattle.rdm_collector.specs.declared.command.Action.{Action}
+use Rattle.rdm_collector.specs.declared.command.Action.TheVariants.{Disc, Get, Set}
+use Rattle.rdm_collector.specs.declared.command.Command.{Command}
 use Rattle.rdm_script.specs.Grammar.{action_in, destination_in, load_in, command_in}
 use Rattle.rdm_script.specs.Spelling.{SpellsDestination, SpellsLoad, SpellsAction}
 

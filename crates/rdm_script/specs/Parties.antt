@@ -1,6 +1,6 @@
 -- Who takes part when a script is played, and how they are set up where it doesn't say.
 use Rattle.rdm_frame.specs.declared.uid.Uid.{Uid}
-use Rattle.rdm_bus.specs.declared.want.Want.TheVariants.{Advisory}
+use Rattle.rdm_collector.specs.declared.want.Want.TheVariants.{Advisory}
 use Rattle.rdm_script.specs.declared.script.Setup.{Setup}
 
 -- the device of the demonstration, 7FF0:00000001

@@ -6,13 +6,13 @@ use Rattle.rdm_frame.specs.declared.uid.Uid.{Uid}
 use Rattle.rdm_frame.specs.Addressing.{all_devices, all_of}
 use Rattle.rdm_frame.specs.Digits.{SpellsBytes, SpellsNumber}
 use Rattle.rdm_frame.specs.UidText.{SpellsUid}
-use Rattle.rdm_bus.specs.declared.command.Action.{Action}
-use Rattle.rdm_bus.specs.declared.command.Action.TheVariants.{Disc, Get, Set}
-use Rattle.rdm_bus.specs.declared.command.Command.{Command}
+use Rattle.rdm_collector.specs.declared.command.Action.{Action}
+use Rattle.rdm_collector.specs.declared.command.Action.TheVariants.{Disc, Get, Set}
+use Rattle.rdm_collector.specs.declared.command.Command.{Command}
 use Rattle.rdm_bus.specs.declared.fault.Fault.{Fault}
 use Rattle.rdm_bus.specs.declared.fault.Fault.TheVariants as fault
-use Rattle.rdm_bus.specs.declared.want.Want.{Want}
-use Rattle.rdm_bus.specs.declared.want.Want.TheVariants.{Advisory, Warning, Error}
+use Rattle.rdm_collector.specs.declared.want.Want.{Want}
+use Rattle.rdm_collector.specs.declared.want.Want.TheVariants.{Advisory, Warning, Error}
 use Rattle.rdm_crew.specs.declared.step.CrewStep.{CrewStep}
 use Rattle.rdm_crew.specs.declared.step.CrewStep.TheVariants.{Ask, Collect, Draw, Settle, Panel}
 use Rattle.rdm_script.specs.declared.script.Setup.{Setup}

@@ -24,7 +24,7 @@ use Rattle.rdm_responder.specs.History.{Event, Heard, Arrived, Changed, History}
 use Rattle.rdm_responder.specs.Requests.{Request, Ignored, Branch, Muting, Get, Set, request_in}
 use Rattle.rdm_responder.specs.Rules.{Account, account_of, account_before, account_after, job_with, started_by}
 use Rattle.rdm_responder.specs.Runs.{outbox_of}
-use Rattle.rdm_bus.proofs.Accounts.{job_at, event_grows}
+use Rattle.rdm_responder.proofs.Growth.{job_at, event_grows}
 use Rattle.rdm_widget.specs.declared.desk.ending.Ended.{Ended}
 use Rattle.rdm_widget.specs.Desks.{Situation, oldest_of, ended_by, end_of, earlier, first_ended, reported_in}
 

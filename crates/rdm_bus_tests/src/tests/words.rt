@@ -1,23 +1,10 @@
 //! The words that errors print.
 
 use super::words_for;
-use rdm_bus::{AskError, PlayError, PollError};
+use rdm_bus::PlayError;
 use std::alloc::Global;
 use std::fmt::Display;
 use std::process::Abort;
-
-/// Why a command isn't sent, and the words for it.
-const ASK_ERRORS: [(AskError, &str); 3] = [
-    (AskError::Reserved, "reserved"),
-    (AskError::Busy, "busy"),
-    (AskError::TooLong, "too long"),
-];
-
-/// Why no poll is sent, and the words for it.
-const POLL_ERRORS: [(PollError, &str); 2] = [
-    (PollError::OutOfMemory, "out of memory"),
-    (PollError::Busy, "busy"),
-];
 
 /// Why a step isn't played, and the words for it.
 const PLAY_ERRORS: [(PlayError, &str); 5] = [
@@ -35,12 +22,6 @@ fn prints(rt: &impl Abort, alloc: Global, error: &impl Display, words: &str) {
 
 #[test]
 fn errors_say_what_is_wrong(rt: HostRuntime) {
-    for (error, words) in ASK_ERRORS {
-        prints(&rt, rt.alloc(), &error, words);
-    }
-    for (error, words) in POLL_ERRORS {
-        prints(&rt, rt.alloc(), &error, words);
-    }
     for (error, words) in PLAY_ERRORS {
         prints(&rt, rt.alloc(), &error, words);
     }

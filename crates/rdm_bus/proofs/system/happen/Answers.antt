@@ -2,7 +2,7 @@
 use Rattle.std.proofs.Common.{◌≢◌, true, false, List, Some, ℕ, ap, subst, ◌∙◌}
 use Rattle.rdm_bus.specs.declared.event.Step.{Step}
 use Rattle.rdm_bus.specs.BusRun.{raise_of, fault_of, transaction, reply_in, after_reply}
-use Rattle.rdm_bus.specs.Collecting.{State, command_request, poll_request}
+use Rattle.rdm_collector.specs.Collecting.{State, command_request, poll_request}
 use Rattle.rdm_bus.proofs.Systems.{in_vain, poll_ends}
 use Rattle.rdm_bus.proofs.system.happen.Goals as goal
 

@@ -1,0 +1,6 @@
+pub mod Requests
+pub mod Answers
+pub mod Collecting
+pub mod Hearing
+pub mod Recording
+pub mod Polling

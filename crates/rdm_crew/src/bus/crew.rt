@@ -1,0 +1,230 @@
+//! What the bus thread plays steps with: the bus, and its ends of all lanes.
+
+ghost use Rattle.std.specs.Prelude.{◌≡◌, ◌≢◌, ◌<◌, ◌++◌, ◌∷◌, [], List, Some, true, OnOk, IfOk, MatchResult, length};
+ghost use Rattle.std.specs.Option.{option_to_list};
+ghost use Rattle.rdm_outbox.specs.Jobs.{jobs_of, has_place};
+ghost use Rattle.rdm_responder.specs.Runs.{outbox_of};
+ghost use Rattle.rdm_lane.specs.Ends.{with_item, IsSameTake};
+ghost use Rattle.rdm_lane.specs.Lane.{items_from};
+ghost use Rattle.rdm_params.specs.Slow.Work.{worker_of};
+ghost use Rattle.rdm_bus.specs.BusRun.{raise_of, fault_of};
+ghost use Rattle.rdm_bus.specs.Systems.{refusal_in};
+ghost use Rattle.rdm_crew.specs.Crews.{IsTied, HasChanges, HasChanged, IsSameCrew, IsSent, HasSent, HasPlayed, HavePlayed, IsStopped, IsRefused};
+ghost use Rattle.rdm_crew.specs.Desks.{IsDrawn, IsSameDesk, stands_at};
+ghost use Rattle.rdm_bus.specs.Happened.{started_in};
+ghost use Rattle.rdm_crew.specs.RunTrace.{HaveFaults, fault_at, first_refusal};
+
+use crate::bus::desk::{Desk, Drawn};
+use crate::bus::stop::Stop;
+use crate::step::CrewStep;
+use crate::threads::putting::put;
+use crate::threads::waiting::{Bell, Waiter};
+use rdm_bus::{Event, PlayError, Step};
+use rdm_lane::{Post, Take, Taken};
+use rdm_outbox::Job;
+use rdm_params::{Change, started_work_is_its_command, worker_of};
+use std::alloc::AllocError;
+use std::sync::Wait;
+
+/// The bus with its end of the report lane, the posts of both job lanes, and the end of the panel's lane.
+#[derive(Drop)]
+pub(crate) struct Crew {
+    pub(crate) desk: Desk,
+    /// The post of the first worker's job lane.
+    pub(crate) first: Post<Job>,
+    /// What wakes the first worker.
+    pub(crate) first_bell: Bell,
+    /// The post of the second worker's job lane.
+    pub(crate) second: Post<Job>,
+    /// What wakes the second worker.
+    pub(crate) second_bell: Bell,
+    /// The end that takes what the panel offers.
+    pub(crate) changes: Take<Change>,
+}
+
+impl Crew {
+    /// Plays steps, one after another.
+    pub(crate) fn play_all<R: Wait>(&mut self, rt: &R, steps: &[CrewStep]) -> Result<(), Stop>
+        requires tied { IsTied self.old }
+        requires changes { HasChanges self.old.desk self.old.changes }
+        requires faults { HaveFaults steps.now }
+        ensures played { MatchResult result
+            (λ _. IsTied self.new × HavePlayed steps.now self.old.desk self.new.desk)
+            (λ stop. IsStopped steps.now self.new stop) }
+        ensures changes { OnOk result (HasChanges self.new.desk self.new.changes) }
+        ensures same { IsSameCrew self.old self.new }
+    {
+        for step in steps {
+            match self.play(rt, step) {
+                Ok(()) => {}
+                Err(stop) => return Err(stop),
+            }
+        }
+        Ok(())
+    }
+
+    /// Plays a step.
+    fn play<R: Wait>(&mut self, rt: &R, step: &CrewStep) -> Result<(), Stop>
+        requires tied { IsTied self.old }
+        requires changes { HasChanges self.old.desk self.old.changes }
+        requires fault { raise_of (fault_at step.now) ≢ Some 0 }
+        ensures played { MatchResult result
+            (λ _. IsTied self.new × HasPlayed step.now self.old.desk self.new.desk)
+            (λ stop. IsStopped (step.now ∷ []) self.new stop) }
+        ensures changes { OnOk result (HasChanges self.new.desk self.new.changes) }
+        ensures never_refused { OnOk result (first_refusal (step.now ∷ []) ≡ None) }
+        ensures same { IsSameCrew self.old self.new }
+    {
+        match step {
+            CrewStep::Ask(command, fault) => self.send(rt, &Step::Ask(command.copy(), *fault)),
+            CrewStep::Collect(fault) => self.send(rt, &Step::Collect(*fault)),
+            CrewStep::Draw => self.draw_one(rt),
+            CrewStep::Settle(empties) => self.desk.settle(rt, *empties),
+            CrewStep::Panel(empties) => self.draw_change(rt, *empties),
+        }
+    }
+
+    /// Draws a report, if one is there.
+    fn draw_one<R: Wait>(&mut self, rt: &R) -> Result<(), Stop>
+        requires tied { IsTied self.old }
+        ensures played { MatchResult result
+            (λ _. IsTied self.new × HasPlayed CrewStep.Draw self.old.desk self.new.desk)
+            (λ stop. IsStopped (CrewStep.Draw ∷ []) self.new stop) }
+        ensures changes { self.new.changes ≡ self.old.changes }
+        ensures same { IsSameCrew self.old self.new }
+    {
+        match self.desk.draw(rt) {
+            Ok(Drawn::Arrived) => Ok(()),
+            Ok(Drawn::Empty) => Ok(()),
+            // A worker closes its post before the steps end only where its memory was refused.
+            Ok(Drawn::Mark) => Err(Stop::OutOfMemory),
+            Ok(Drawn::Closed) => Err(Stop::OutOfMemory),
+            Err(stop) => Err(stop),
+        }
+    }
+
+    /// Plays the next change of the panel, if there is room for its message and a change is there.
+    fn draw_change<R: Wait>(&mut self, rt: &R, empties: u32) -> Result<(), Stop>
+        requires tied { IsTied self.old }
+        requires changes { HasChanges self.old.desk self.old.changes }
+        ensures played { MatchResult result
+            (λ _. IsTied self.new × HasPlayed (CrewStep.Panel empties) self.old.desk self.new.desk)
+            (λ stop. stop ≡ Stop.OutOfMemory) }
+        ensures changes { OnOk result (HasChanges self.new.desk self.new.changes) }
+        ensures same { IsSameCrew self.old self.new }
+    {
+        if !self.desk.system.responder().room() {
+            return Ok(());
+        }
+        match next_change(rt, &mut self.changes, &self.desk.waiter, empties)? {
+            Some(change) => self.change(change),
+            None => Ok(()),
+        }
+    }
+
+    /// Plays a change, for whose message there must be room.
+    fn change(&mut self, change: Change) -> Result<(), Stop>
+        requires tied { IsTied self.old }
+        requires room { has_place (outbox_of (stands_at self.old.desk).history) ≡ true }
+        ensures played { MatchResult result
+            (λ _. IsTied self.new × HasChanged change self.old.desk self.new.desk)
+            (λ stop. stop ≡ Stop.OutOfMemory) }
+        ensures changes { self.new.changes ≡ self.old.changes }
+        ensures same { IsSameCrew self.old self.new }
+    {
+        match self.desk.system.play(&Step::Change(change)) {
+            Ok(()) => Ok(()),
+            Err(PlayError::OutOfMemory) => Err(Stop::OutOfMemory),
+            // There is room.
+            Err(PlayError::NoRoom) => unreachable!(),
+            // Commands and reports alone are refused so.
+            Err(PlayError::Reserved) => unreachable!(),
+            Err(PlayError::TooLong) => unreachable!(),
+            Err(PlayError::Astray) => unreachable!(),
+        }
+    }
+
+    /// Sends a command or a poll, and puts the job that starts into its worker's lane.
+    fn send<R: Wait>(&mut self, rt: &R, step: &Step) -> Result<(), Stop>
+        requires tied { IsTied self.old }
+        requires sent { IsSent step.now }
+        requires fault { raise_of (fault_of step.now) ≢ Some 0 }
+        ensures played { MatchResult result
+            (λ _. IsTied self.new × HasSent step.now self.old.desk self.new.desk)
+            (λ stop. IsRefused step.now stop) }
+        ensures never_refused { OnOk result (refusal_in step.now ≡ None) }
+        ensures changes { self.new.changes ≡ self.old.changes }
+        ensures same { IsSameCrew self.old self.new }
+    {
+        // Its number is below the limit of the posts.
+        started_work_is_its_command();
+        self.desk.system.play(step)?;
+        match started(self.desk.system.trace()) {
+            Some(job) => self.hand_out(rt, job),
+            None => Ok(()),
+        }
+    }
+
+    /// Puts a job into its worker's lane.
+    fn hand_out<R: Wait>(&mut self, rt: &R, job: Job) -> Result<(), Stop>
+        requires first { worker_of job.work ≡ 0 → length self.old.first.items < self.old.first.limit }
+        requires second { worker_of job.work ≡ 1 → length self.old.second.items < self.old.second.limit }
+        ensures put { MatchResult result
+            (λ _. (self.new.first.items ≡ self.old.first.items ++ jobs_of 0 (job ∷ []))
+            × (self.new.second.items ≡ self.old.second.items ++ jobs_of 1 (job ∷ [])))
+            (λ stop. stop ≡ Stop.OutOfMemory) }
+        ensures desk { self.new.desk ≡ self.old.desk }
+        ensures changes { self.new.changes ≡ self.old.changes }
+        ensures same { IsSameCrew self.old self.new }
+    {
+        if worker_of(&job.work) == 0 {
+            put(rt, &mut self.first, job, &self.first_bell)?;
+            return Ok(());
+        }
+        put(rt, &mut self.second, job, &self.second_bell)?;
+        Ok(())
+    }
+}
+
+/// Takes the next change of the panel, if one comes. It may find none so many times; the next time there is none. It waits as
+/// a settle does.
+fn next_change<R: Wait>(
+    rt: &R,
+    changes: &mut Take<Change>,
+    waiter: &Waiter,
+    empties: u32,
+) -> Result<Option<Change>, AllocError>
+    requires { changes.old.posts ≡ 1 }
+    ensures taken { IfOk result (λ next. items_from 0 changes.new.taken ≡ items_from 0 changes.old.taken ++ option_to_list next) }
+    ensures same { IsSameTake changes.old changes.new }
+{
+    let mut left = empties;
+    let mut looks = 0;
+    for _ in rt.forever() {
+        match changes.take(rt) {
+            Ok(Taken::Item { item: change, .. }) => return Ok(Some(change)),
+            // No change follows the mark: the next answer is `Closed`.
+            Ok(Taken::Mark { .. }) => {}
+            Ok(Taken::Empty) => {
+                if left == 0 {
+                    return Ok(None);
+                }
+                left -= 1;
+                looks = waiter.wait_a_while(rt, looks);
+            }
+            Ok(Taken::Closed) => return Ok(None),
+            Err(_) => return Err(AllocError),
+        }
+    }
+    unreachable!()
+}
+
+/// The job that the last event started, if it did.
+fn started(trace: &[Event]) -> Option<Job>
+    ensures { (es : List Event) (e : Event) → trace.now ≡ es ++ e ∷ [] → option_to_list result ≡ started_in e }
+{
+    match trace.last() {
+        Some(Event::Bus { job, .. }) => *job,
+        Some(Event::Arrived { .. } | Event::Changed { .. }) | None => None,
+    }
+}

@@ -1,0 +1,167 @@
+//! The end of a run: the workers and the watcher of the panel are joined, and their lanes settled.
+
+ghost use Rattle.std.specs.Prelude.{◌≡◌, ◌≢◌, IfOk, IfErr};
+ghost use Rattle.rdm_bus.specs.BusLaws.{recorded};
+ghost use Rattle.rdm_lane.specs.Ends.{IsOver};
+ghost use Rattle.rdm_lane.specs.Lane.{LaneLaw};
+ghost use Rattle.rdm_responder.specs.Runs.{outbox_of};
+ghost use Rattle.rdm_outbox.specs.Jobs.{outstanding_count};
+ghost use Rattle.rdm_crew.specs.Closes.{handed_by, IsHandedOver};
+ghost use Rattle.rdm_crew.specs.Crews.{HasJobs, HasChanges};
+ghost use Rattle.rdm_crew.specs.Desks.{IsDrawn, IsSuspect, stands_at};
+ghost use Rattle.rdm_bus.specs.Happened.{changes_in};
+ghost use Rattle.rdm_crew.specs.RunTrace.{IsAnswered, FitsFor};
+ghost use Rattle.rdm_crew.specs.Settling.{AreLanes, IsLaneOfOne};
+ghost use Rattle.rdm_crew.specs.Stops.{error_of};
+ghost use Rattle.rdm_crew.specs.Watchers.{AreOffered};
+
+use crate::bus::desk::Desk;
+use crate::bus::stop::Stop;
+use crate::end::settling::{Rooms, settle, settle_one};
+use crate::threads::joining::Started;
+use crate::threads::watcher::{Watched, Watches};
+use crate::threads::worker::{Worked, Works};
+use crate::trace::Ended;
+use crate::{Panel, Part, RunError};
+use rdm_lane::{ClosedPost, Take};
+use rdm_outbox::Job;
+use rdm_params::{Change, started_work_is_its_command};
+use std::sync::Wait;
+use std::thread::Threads;
+
+/// What is left of a run when its job lanes are closed: the bus, and workers and a watcher that end. It can't be dropped, since
+/// these must be joined.
+pub(crate) struct Closing<P: Part, Q: Part, N: Panel> {
+    pub(crate) desk: Desk,
+    pub(crate) first: ClosedPost<Job>,
+    pub(crate) second: ClosedPost<Job>,
+    pub(crate) changes: Take<Change>,
+    pub(crate) first_worker: Started<Worked, Works<P>>,
+    pub(crate) second_worker: Started<Worked, Works<Q>>,
+    pub(crate) watcher: Started<Watched, Watches<N>>,
+    pub(crate) rooms: Rooms,
+}
+
+impl<P: Part, Q: Part, N: Panel> Closing<P, Q, N> {
+    /// Ends a run whose reports were all drawn.
+    pub(crate) fn finish<R: Threads + Wait>(self, rt: &R) -> Result<Ended, RunError>
+        requires drawn { IsDrawn self.desk × IsOver self.desk.reports }
+        requires jobs { HasJobs self.desk self.first self.second }
+        requires changes { HasChanges self.desk self.changes × IsLaneOfOne self.changes self.watcher.changes.value }
+        requires lanes { AreLanes self.desk.reports self.first self.second
+            self.first_worker.jobs.value self.first_worker.reports.value
+            self.second_worker.jobs.value self.second_worker.reports.value }
+        ensures events { IfOk result (λ ended. ended.system.trace ≡ self.desk.system.trace) }
+        ensures recorded { IfOk result (λ ended. ended.system.collector.recorded ≡ recorded self.desk.system.trace) }
+        ensures last { IfOk result (λ ended. outstanding_count (outbox_of (stands_at self.desk).history) ≡ 0) }
+        ensures first { IfOk result (λ ended. IsAnswered 0 (P.gives self.first_worker.part.value) self.desk.system.trace) }
+        ensures second { IfOk result (λ ended. IsAnswered 1 (Q.gives self.second_worker.part.value) self.desk.system.trace) }
+        ensures handed { IfOk result (λ ended. IsHandedOver self.desk.system.trace (handed_by self.desk.reports.taken)) }
+        ensures taken { IfOk result (λ ended. ended.reports.taken ≡ self.desk.reports.taken) }
+        ensures lane { IfOk result (λ ended. LaneLaw 2 ended.reports.taken ended.reports.posted) }
+        ensures changes { IfOk result (λ ended. AreOffered (N.offers self.watcher.panel.value) 0 (changes_in self.desk.system.trace)) }
+        ensures err { IfErr result (λ e. e ≡ RunError.OutOfMemory) }
+    {
+        let Closing {
+            desk,
+            first,
+            second,
+            changes,
+            first_worker,
+            second_worker,
+            watcher,
+            rooms,
+        } = self;
+        let Desk {
+            setup: _setup,
+            system,
+            reports,
+            waiter: _waiter,
+        } = desk;
+        let a = first_worker.join(rt);
+        let b = second_worker.join(rt);
+        let watched = watcher.join(rt);
+        let first_refused = a.refused;
+        let second_refused = b.refused;
+        let watcher_refused = watched.refused;
+        let reports = settle(rt, rooms.workers, first, second, reports, a, b);
+        settle_one(rt, rooms.changes, changes, watched.changes);
+        if first_refused || second_refused || watcher_refused {
+            return Err(RunError::OutOfMemory);
+        }
+        if system.responder().outstanding() > 0 {
+            // Each worker has reported on all its jobs, and every report has arrived.
+            return Err(RunError::Missing);
+        }
+        Ok(Ended { system, reports })
+    }
+
+    /// Ends a run whose steps, or whose drawing of reports, ended early.
+    pub(crate) fn give_up<R: Threads + Wait>(self, rt: &R, stop: Stop) -> RunError
+        requires fits { FitsFor 0 (P.gives self.first_worker.part.value) × FitsFor 1 (Q.gives self.second_worker.part.value) }
+        requires lanes { AreLanes self.desk.reports self.first self.second
+            self.first_worker.jobs.value self.first_worker.reports.value
+            self.second_worker.jobs.value self.second_worker.reports.value }
+        requires suspect { stop ≡ Stop.Astray → IsSuspect self.desk × HasJobs self.desk self.first self.second }
+        ensures astray { stop ≡ Stop.Astray → result ≡ RunError.OutOfMemory }
+        ensures others { stop ≢ Stop.Astray → result ≡ error_of stop }
+    {
+        if stop == Stop::Astray {
+            return self.look_into(rt);
+        }
+        let Closing {
+            desk: _desk,
+            first: _first,
+            second: _second,
+            changes: _changes,
+            first_worker,
+            second_worker,
+            watcher,
+            rooms: _rooms,
+        } = self;
+        let _ = first_worker.join(rt);
+        let _ = second_worker.join(rt);
+        let _ = watcher.join(rt);
+        RunError::from(stop)
+    }
+
+    /// Ends a run in which a report seemed astray: the lists of all lanes tell whether it was.
+    fn look_into<R: Threads + Wait>(self, rt: &R) -> RunError
+        requires fits { FitsFor 0 (P.gives self.first_worker.part.value) × FitsFor 1 (Q.gives self.second_worker.part.value) }
+        requires lanes { AreLanes self.desk.reports self.first self.second
+            self.first_worker.jobs.value self.first_worker.reports.value
+            self.second_worker.jobs.value self.second_worker.reports.value }
+        requires suspect { IsSuspect self.desk × HasJobs self.desk self.first self.second }
+        ensures { result ≡ RunError.OutOfMemory }
+    {
+        let Closing {
+            mut desk,
+            first,
+            second,
+            changes: _changes,
+            first_worker,
+            second_worker,
+            watcher,
+            rooms,
+        } = self;
+        // A job that starts is a slow command.
+        started_work_is_its_command();
+        let drained = desk.drain(rt);
+        let a = first_worker.join(rt);
+        let b = second_worker.join(rt);
+        let _ = watcher.join(rt);
+        let Desk {
+            setup: _setup,
+            system: _system,
+            reports,
+            waiter: _waiter,
+        } = desk;
+        match drained {
+            Ok(()) => {}
+            Err(_) => return RunError::OutOfMemory,
+        }
+        let _ = settle(rt, rooms.workers, first, second, reports, a, b);
+        // The report is of the oldest outstanding job of its worker, so that it may arrive.
+        RunError::Astray
+    }
+}
