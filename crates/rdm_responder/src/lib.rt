@@ -11,13 +11,14 @@ mod report;
 mod responder;
 mod response;
 mod run;
+mod stepped;
 
 pub use laws::{
     answers_are_equal_by_value, arrivals_are_equal_by_value, astrays_are_equal_by_value,
     lawful_histories_have_one_state, new_errors_are_equal_by_value, no_rooms_are_equal_by_value,
-    outputs_are_equal_by_value, reports_are_equal_by_value,
+    outputs_are_equal_by_value, reports_are_equal_by_value, starts_are_equal_by_value,
 };
 pub use report::{Arrival, Astray, NoRoom, Report};
 pub use responder::{NewError, Responder};
-pub use response::Stepped;
 pub use run::{Input, Output};
+pub use stepped::{Started, Stepped};
