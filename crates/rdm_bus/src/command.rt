@@ -7,15 +7,10 @@ ghost use Rattle.rdm_bus.specs.Requests.{class_of, is_reserved, queued_message, 
 use crate::ranges::is_frame;
 use rdm_frame::standard::{DISCOVERY_COMMAND, GET_COMMAND, ROOT_DEVICE, SET_COMMAND};
 use rdm_frame::{FrameView, Load, Uid, Wire, encode_into};
+use rdm_params::Kind;
 
 /// The port ID of every request (E1.20 section 6.2.7).
 const PORT: u8 = 1;
-
-/// The parameter ID of QUEUED_MESSAGE (section 10.3.1).
-const QUEUED_MESSAGE: u16 = 0x0020;
-
-/// The parameter ID of STATUS_MESSAGES (section 10.3.2).
-const STATUS_MESSAGES: u16 = 0x0030;
 
 /// What a command does (E1.20 table A-1).
 #[derive(Clone, Copy, Debug, PartialEq, Eq)]
@@ -74,7 +69,7 @@ pub(crate) fn class_of(action: Action) -> u8
 pub(crate) fn is_reserved(pid: u16) -> bool
     ensures { result ≡ is_reserved pid }
 {
-    pid == QUEUED_MESSAGE || pid == STATUS_MESSAGES
+    pid == Kind::QueuedMessage.pid() || pid == Kind::StatusMessages.pid()
 }
 
 /// QUEUED_MESSAGE with a status type, asked of the root of a device (E1.20 section 10.3.1).
@@ -87,7 +82,7 @@ pub(crate) fn queued_message(device: Uid, status_type: u8) -> Command
         dst: device,
         action: Action::Get,
         sub: ROOT_DEVICE,
-        pid: QUEUED_MESSAGE,
+        pid: Kind::QueuedMessage.pid(),
         load,
     }
 }
