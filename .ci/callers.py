@@ -33,6 +33,11 @@ class Calls:
                 self.answers.setdefault(f.name, set()).add(self.type_in(f, types))
         self.types = types
 
+    def home(self, crate, name):
+        """The crate that has an item of this name, where others may have passed it on to this one."""
+        further = [path for path in self.passed_on.get(crate, []) if path.split("::")[-1] == name]
+        return self.home(further[0].split("::")[0], name) if further else crate
+
     def type_in(self, f, types):
         """The public type that a function answers, perhaps in a `Result` or an `Option`, or none."""
         answer = re.search(r"\) -> (.*?)(?: where\b|$)", " ".join(f.signature))
@@ -72,8 +77,7 @@ class Place:
     def imports_from(self, file, crate, name):
         """Whether a file imports this name of the crate, from itself or from a crate that passes it on."""
         return any(
-            imported in (name, "*") and (origin == crate or f"{crate}::{name}" in self.calls.passed_on.get(origin, []))
-            for origin, imported in self.imports[file]
+            imported in (name, "*") and self.calls.home(origin, name) == crate for origin, imported in self.imports[file]
         )
 
     def find(self, f, uses):

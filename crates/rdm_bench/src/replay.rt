@@ -71,7 +71,7 @@ impl Replay {
         if stepped.replied {
             self.tally.add(self.wire.as_slice());
         }
-        report(&mut self.responder, self.reports, stepped.job);
+        report(&mut self.responder, self.reports, stepped.job());
     }
 
     /// What the bytes of all replies come to.

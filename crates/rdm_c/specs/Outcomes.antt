@@ -4,22 +4,12 @@ use Rattle.std.specs.Option.{option_map}
 use Rattle.rdm_params.specs.declared.slow.outcome.Outcome.{Outcome}
 use Rattle.rdm_params.specs.declared.slow.outcome.Outcome.TheVariants.{Done, Reading, Failed}
 use Rattle.rdm_params.specs.declared.slow.status.Severity.{Severity}
-use Rattle.rdm_params.specs.declared.slow.status.Severity.TheVariants.{Advisory, Warning, Error, AdvisoryCleared, WarningCleared, ErrorCleared}
+use Rattle.rdm_params.specs.Slow.Severities.{severity_in}
 use Rattle.rdm_outbox.specs.declared.job.Job.{Job}
 use Rattle.rdm_responder.specs.declared.report.Report.{Report}
 use Rattle.rdm_c.specs.declared.job.JobNumbers.{JobNumbers}
 use Rattle.rdm_c.specs.declared.outcome.OutcomeNumbers.{OutcomeNumbers}
 use Rattle.rdm_c.specs.Jobs.{job_in}
-
--- The severity of a code. E1.20 table A-4.
-abbrev pub severity_in : ℕ → Option Severity
-severity_in code =
-    if code == 0x02 then Some Advisory
-    else if code == 0x03 then Some Warning
-    else if code == 0x04 then Some Error
-    else if code == 0x12 then Some AdvisoryCleared
-    else if code == 0x13 then Some WarningCleared
-    else if code == 0x14 then Some ErrorCleared else None
 
 abbrev pub failed_with : OutcomeNumbers → Severity → Outcome
 failed_with o severity = Failed severity o.id o.v1 o.v2

@@ -1,17 +1,14 @@
 //! A job as numbers.
 
-ghost use Rattle.std.specs.Prelude.{◌≡◌, Some};
+ghost use Rattle.std.specs.Prelude.{◌≡◌, Some, IfSome};
 ghost use Rattle.std.specs.Option.{option_map};
+ghost use Rattle.rdm_responder.specs.Started.{job_in as the_job_in, IsAsInTable};
 ghost use Rattle.rdm_c.specs.Jobs.{job_in, numbers_of, class_of, verb_in, started_in};
 
+use rdm_frame::standard::{GET_COMMAND, SET_COMMAND};
 use rdm_outbox::Job;
-use rdm_params::{Verb, Work, estimate_of, worker_of};
-
-/// The command class of a GET (E1.20 table A-1).
-const GET_COMMAND: u8 = 0x20;
-
-/// The command class of a SET (table A-1).
-const SET_COMMAND: u8 = 0x30;
+use rdm_params::{Verb, Work};
+use rdm_responder::Started;
 
 /// A slow command that was accepted. The header calls it `felosumay_job`.
 #[repr(C)]
@@ -48,19 +45,21 @@ pub struct SteppedNumbers {
 }
 
 impl JobNumbers {
-    /// The numbers of a job. They stand for just this job.
-    pub(crate) fn of(job: &Job) -> JobNumbers
-        ensures numbers { result ≡ numbers_of job.now }
-        ensures same { job_in result ≡ Some job.now }
+    /// The numbers of a job that started. They stand for just this job.
+    pub(crate) fn of(started: &Started) -> JobNumbers
+        requires { IsAsInTable started.now }
+        ensures numbers { result ≡ numbers_of started.now.job }
+        ensures same { job_in result ≡ Some started.now.job }
     {
+        let job = started.job;
         JobNumbers {
             number: job.number,
-            estimate: estimate_of(&job.work),
+            estimate: started.estimate,
             sub: job.work.sub,
             pid: job.work.pid,
             command_class: class_of(job.work.verb),
             argument: job.work.arg,
-            worker: worker_of(&job.work),
+            worker: started.worker,
         }
     }
 
@@ -93,14 +92,15 @@ impl SteppedNumbers {
     }
 
     /// Tells of the job that started, if one did.
-    pub(crate) fn tell_job(&mut self, job: Option<Job>)
-        ensures job { started_in self.new ≡ option_map numbers_of job }
+    pub(crate) fn tell_job(&mut self, started: Option<Started>)
+        requires { IfSome started IsAsInTable }
+        ensures job { started_in self.new ≡ option_map numbers_of (the_job_in started) }
         ensures reply { (self.new.count ≡ self.old.count) × (self.new.replied ≡ self.old.replied) }
     {
-        match job {
-            Some(job) => {
+        match started {
+            Some(started) => {
                 self.started = 1;
-                self.job = JobNumbers::of(&job);
+                self.job = JobNumbers::of(&started);
             }
             None => self.started = 0,
         }

@@ -5,6 +5,7 @@ ghost use Rattle.rdm_c.specs.Messages.{want_in, action_in, command_in, heard_cod
 
 use crate::front::write_front;
 use rdm_collector::{Action, Command, Heard, Want};
+use rdm_frame::standard::{DISCOVERY_COMMAND, GET_COMMAND, SET_COMMAND};
 use rdm_frame::{Load, Uid};
 use rdm_params::Message;
 
@@ -100,9 +101,9 @@ fn action_in(command_class: u8) -> Option<Action>
     ensures { result ≡ action_in command_class }
 {
     match command_class {
-        0x10 => Some(Action::Disc),
-        0x20 => Some(Action::Get),
-        0x30 => Some(Action::Set),
+        DISCOVERY_COMMAND => Some(Action::Disc),
+        GET_COMMAND => Some(Action::Get),
+        SET_COMMAND => Some(Action::Set),
         _ => None,
     }
 }

@@ -1,7 +1,7 @@
 //! The outcome of a job as numbers.
 
 ghost use Rattle.std.specs.Prelude.{◌≡◌};
-ghost use Rattle.rdm_c.specs.Outcomes.{severity_in, outcome_in, report_in};
+ghost use Rattle.rdm_c.specs.Outcomes.{outcome_in, report_in};
 
 use crate::job::JobNumbers;
 use rdm_params::{Outcome, Severity};
@@ -34,7 +34,7 @@ impl OutcomeNumbers {
             0 => Some(Outcome::Done),
             1 => Some(Outcome::Reading(self.reading)),
             2 => {
-                let severity = severity_in(self.severity)?;
+                let severity = Severity::of(self.severity)?;
                 Some(Outcome::Failed {
                     severity,
                     id: self.id,
@@ -44,21 +44,6 @@ impl OutcomeNumbers {
             }
             _ => None,
         }
-    }
-}
-
-/// The severity of a code (E1.20 table A-4).
-fn severity_in(code: u8) -> Option<Severity>
-    ensures { result ≡ severity_in code }
-{
-    match code {
-        0x02 => Some(Severity::Advisory),
-        0x03 => Some(Severity::Warning),
-        0x04 => Some(Severity::Error),
-        0x12 => Some(Severity::AdvisoryCleared),
-        0x13 => Some(Severity::WarningCleared),
-        0x14 => Some(Severity::ErrorCleared),
-        _ => None,
     }
 }
 

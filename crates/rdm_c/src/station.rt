@@ -63,7 +63,7 @@ fn hear(station: &mut Station, bytes: &[u8], reply: &mut [u8; 257], stepped: &mu
         stepped.count = write_front(station.wire.as_slice(), reply);
         stepped.replied = 1;
     }
-    stepped.tell_job(outcome.job);
+    stepped.tell_job(outcome.started);
 }
 
 /// Takes the report of a job, and says whether it noted a status entry.

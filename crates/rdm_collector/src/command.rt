@@ -7,15 +7,10 @@ ghost use Rattle.rdm_collector.specs.Requests.{class_of, is_reserved, queued_mes
 use crate::ranges::frame_fits;
 use rdm_frame::standard::{DISCOVERY_COMMAND, GET_COMMAND, ROOT_DEVICE, SET_COMMAND};
 use rdm_frame::{FrameView, Load, Uid, Wire, encode_into};
+use rdm_params::Kind;
 
 /// The port ID of every request (E1.20 section 6.2.7).
 const PORT: u8 = 1;
-
-/// The parameter ID of QUEUED_MESSAGE (section 10.3.1).
-const QUEUED_MESSAGE: u16 = 0x0020;
-
-/// The parameter ID of STATUS_MESSAGES (section 10.3.2).
-const STATUS_MESSAGES: u16 = 0x0030;
 
 /// The most parameter data that a frame can carry (E1.20 section 6.2.10).
 pub const MOST_DATA: usize = 231;
@@ -77,7 +72,7 @@ pub(crate) fn class_of(action: Action) -> u8
 pub fn is_reserved(pid: u16) -> bool
     ensures { result ≡ is_reserved pid }
 {
-    pid == QUEUED_MESSAGE || pid == STATUS_MESSAGES
+    pid == Kind::QueuedMessage.pid() || pid == Kind::StatusMessages.pid()
 }
 
 /// QUEUED_MESSAGE with a status type, asked of the root of a device (E1.20 section 10.3.1).
@@ -90,7 +85,7 @@ pub(crate) fn queued_message(device: Uid, status_type: u8) -> Command
         dst: device,
         action: Action::Get,
         sub: ROOT_DEVICE,
-        pid: QUEUED_MESSAGE,
+        pid: Kind::QueuedMessage.pid(),
         load,
     }
 }

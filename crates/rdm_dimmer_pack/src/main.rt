@@ -5,18 +5,14 @@
 //! reply is ACK_TIMER, its job is carried out and reported, and the controller collects the result.
 #![tactic(auto)]
 
+mod controller;
 mod fault;
 mod profile;
 
-ghost use Rattle.std.specs.Prelude.{◌≤◌, length};
-
+use controller::{get, set};
 use fault::Fault;
 use profile::dimmer_pack;
-use rdm_frame::standard::{GET_COMMAND, ROOT_DEVICE, SET_COMMAND};
-use rdm_frame::{Body, Frame, Uid, Wire, encode};
-use rdm_outbox::Job;
-use rdm_params::{Kind, Outcome, Verb};
-use rdm_responder::{Report, Responder};
+use rdm_responder::{Job, Kind, Outcome, Report, Responder, Uid, Verb, Wire};
 use std::io;
 use std::io::Print;
 
@@ -24,11 +20,6 @@ use std::io::Print;
 const PACK: Uid = Uid {
     maker: 0x7FF0,
     device: 1,
-};
-
-const CONTROLLER: Uid = Uid {
-    maker: 0x7FF0,
-    device: 2,
 };
 
 /// How many results of slow commands there is room for.
@@ -70,36 +61,6 @@ fn carry_out(job: &Job) -> Outcome {
         Verb::Get => Outcome::Reading(41),
         Verb::Set => Outcome::Done,
     }
-}
-
-/// What the controller sends to read a parameter of the pack.
-fn get(tn: u8, kind: Kind, load: &[u8]) -> Wire
-    requires { length load.now ≤ 231 }
-{
-    request(tn, GET_COMMAND, kind, load)
-}
-
-/// What the controller sends to change one.
-fn set(tn: u8, kind: Kind, load: &[u8]) -> Wire
-    requires { length load.now ≤ 231 }
-{
-    request(tn, SET_COMMAND, kind, load)
-}
-
-fn request(tn: u8, class: u8, kind: Kind, load: &[u8]) -> Wire
-    requires { length load.now ≤ 231 }
-{
-    encode(&Frame {
-        dst: PACK,
-        src: CONTROLLER,
-        tn,
-        port: 1,
-        count: 0,
-        sub: ROOT_DEVICE,
-        class,
-        pid: kind.pid(),
-        body: Body::of(load),
-    })
 }
 
 /// Prints the bytes of a frame in hexadecimal.

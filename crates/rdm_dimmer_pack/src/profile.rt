@@ -2,8 +2,7 @@
 
 ghost use Rattle.std.specs.Prelude.{◌≡◌, ◌≤◌, length};
 
-use rdm_frame::Text;
-use rdm_params::{Personality, Profile, SelfTest, SensorDef, Slot, StatusText, Unit};
+use rdm_responder::{Personality, Profile, SelfTest, SensorDef, Slot, StatusText, Text, Unit};
 
 /// The profile of the pack. `Responder::new` refuses one that breaks a rule of docs/PARAMETERS.md.
 pub(crate) fn dimmer_pack() -> Profile {

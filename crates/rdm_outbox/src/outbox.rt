@@ -154,6 +154,7 @@ impl Outbox {
     pub fn reserve_for(&mut self, worker: u8, work: Work) -> Result<Job, Full>
         requires { worker ≡ worker_of work }
         ensures answer { (a : Account) → Shows self.old a → result ≡ reserved a work }
+        ensures work { IfOk result (λ job. job.work ≡ work) }
         ensures shows { (a : Account) → Shows self.old a → Shows self.new (after_reserve a work) }
     {
         if !self.room() {

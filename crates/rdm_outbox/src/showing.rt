@@ -6,19 +6,11 @@ ghost use Rattle.std.specs.Vec.{vec_capacity};
 ghost use Rattle.rdm_outbox.specs.Messages.{is_last};
 
 use rdm_frame::Body;
-use rdm_params::{Ask, Entry, Message};
+use rdm_frame::standard::{GET_COMMAND_RESPONSE, ROOT_DEVICE};
+use rdm_params::{Ask, Entry, Kind, Message};
 
 /// How many entries the slots of one message hold.
 const MOST_SHOWN: usize = 25;
-
-/// The class of a response to GET (E1.20 table A-1).
-const GET_COMMAND_RESPONSE: u8 = 0x21;
-
-/// The PID of STATUS_MESSAGES (E1.20 table A-3).
-const STATUS_MESSAGES: u16 = 0x0030;
-
-/// The root device (E1.20 section 6.2.9).
-const ROOT: u16 = 0;
 
 /// Whether the last message is asked for again.
 pub(crate) fn is_last(ask: Ask) -> bool
@@ -39,8 +31,8 @@ pub(crate) fn show_status(entries: &mut Vec<Entry>, ask: Ask, message: &mut Mess
     ensures capacity { vec_capacity entries.new ≡ vec_capacity entries.old }
 {
     message.class = GET_COMMAND_RESPONSE;
-    message.pid = STATUS_MESSAGES;
-    message.sub = ROOT;
+    message.pid = Kind::StatusMessages.pid();
+    message.sub = ROOT_DEVICE;
     message.body.clear();
     let left = show_asked(entries.as_mut_slice(), MOST_SHOWN, ask, &mut message.body);
     entries.truncate(left);
@@ -52,8 +44,8 @@ pub(crate) fn empty_status() -> Message
 {
     Message {
         class: GET_COMMAND_RESPONSE,
-        pid: STATUS_MESSAGES,
-        sub: ROOT,
+        pid: Kind::StatusMessages.pid(),
+        sub: ROOT_DEVICE,
         body: Body::new(),
     }
 }

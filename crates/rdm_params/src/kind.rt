@@ -4,6 +4,8 @@ ghost use Rattle.std.specs.Prelude.{◌≡◌, ◌↔◌, IfSome, IsSome};
 ghost use Rattle.rdm_params.specs.Table.Kinds.{pid_of, name_of};
 ghost use Rattle.rdm_params.specs.Table.Rows.{row_of};
 
+use crate::table::rows;
+
 /// A parameter of the table, in the order of the PIDs.
 #[derive(Clone, Copy, Debug, PartialEq, Eq)]
 pub enum Kind {
@@ -91,67 +93,78 @@ pub enum Kind {
     PresetPlayback,
 }
 
+macro_rules! pid_rows {
+    (($kind:ident) $(($name:ident $pid:tt $at:ident $get:tt $set:tt))*) => {
+        match $kind {
+            $(Kind::$name => $pid,)*
+        }
+    };
+}
+
+macro_rules! kind_rows {
+    (($pid:ident) $(($name:ident $number:tt $at:ident $get:tt $set:tt))*) => {
+        match $pid {
+            $($number => Some(Kind::$name),)*
+            _ => None,
+        }
+    };
+}
+
 impl Kind {
     /// The PID (E1.20 table A-3).
     pub fn pid(self) -> u16
         ensures { result ≡ pid_of self }
     {
-        self.pid_and_name().0
+        let kind = self;
+        rows!(pid_rows!(kind))
     }
 
     /// The name in the standard, as `DMX_START_ADDRESS` (table A-3).
     pub fn name(self) -> &'static str
         ensures { result.now ≡ name_of self }
     {
-        self.pid_and_name().1
-    }
-
-    fn pid_and_name(self) -> (u16, &'static str)
-        ensures pid { result.0 ≡ pid_of self }
-        ensures name { result.1.now ≡ name_of self }
-    {
         match self {
-            Kind::QueuedMessage => (0x0020, "QUEUED_MESSAGE"),
-            Kind::StatusMessages => (0x0030, "STATUS_MESSAGES"),
-            Kind::StatusIdDescription => (0x0031, "STATUS_ID_DESCRIPTION"),
-            Kind::ClearStatusId => (0x0032, "CLEAR_STATUS_ID"),
-            Kind::SubDeviceStatusReportThreshold => (0x0033, "SUB_DEVICE_STATUS_REPORT_THRESHOLD"),
-            Kind::SupportedParameters => (0x0050, "SUPPORTED_PARAMETERS"),
-            Kind::DeviceInfo => (0x0060, "DEVICE_INFO"),
-            Kind::DeviceModelDescription => (0x0080, "DEVICE_MODEL_DESCRIPTION"),
-            Kind::ManufacturerLabel => (0x0081, "MANUFACTURER_LABEL"),
-            Kind::DeviceLabel => (0x0082, "DEVICE_LABEL"),
-            Kind::FactoryDefaults => (0x0090, "FACTORY_DEFAULTS"),
-            Kind::LanguageCapabilities => (0x00A0, "LANGUAGE_CAPABILITIES"),
-            Kind::Language => (0x00B0, "LANGUAGE"),
-            Kind::SoftwareVersionLabel => (0x00C0, "SOFTWARE_VERSION_LABEL"),
-            Kind::BootSoftwareVersionId => (0x00C1, "BOOT_SOFTWARE_VERSION_ID"),
-            Kind::BootSoftwareVersionLabel => (0x00C2, "BOOT_SOFTWARE_VERSION_LABEL"),
-            Kind::DmxPersonality => (0x00E0, "DMX_PERSONALITY"),
-            Kind::DmxPersonalityDescription => (0x00E1, "DMX_PERSONALITY_DESCRIPTION"),
-            Kind::DmxStartAddress => (0x00F0, "DMX_START_ADDRESS"),
-            Kind::SlotInfo => (0x0120, "SLOT_INFO"),
-            Kind::SlotDescription => (0x0121, "SLOT_DESCRIPTION"),
-            Kind::DefaultSlotValue => (0x0122, "DEFAULT_SLOT_VALUE"),
-            Kind::SensorDefinition => (0x0200, "SENSOR_DEFINITION"),
-            Kind::SensorValue => (0x0201, "SENSOR_VALUE"),
-            Kind::RecordSensors => (0x0202, "RECORD_SENSORS"),
-            Kind::DeviceHours => (0x0400, "DEVICE_HOURS"),
-            Kind::LampHours => (0x0401, "LAMP_HOURS"),
-            Kind::LampStrikes => (0x0402, "LAMP_STRIKES"),
-            Kind::LampState => (0x0403, "LAMP_STATE"),
-            Kind::LampOnMode => (0x0404, "LAMP_ON_MODE"),
-            Kind::DevicePowerCycles => (0x0405, "DEVICE_POWER_CYCLES"),
-            Kind::DisplayInvert => (0x0500, "DISPLAY_INVERT"),
-            Kind::DisplayLevel => (0x0501, "DISPLAY_LEVEL"),
-            Kind::PanInvert => (0x0600, "PAN_INVERT"),
-            Kind::TiltInvert => (0x0601, "TILT_INVERT"),
-            Kind::PanTiltSwap => (0x0602, "PAN_TILT_SWAP"),
-            Kind::IdentifyDevice => (0x1000, "IDENTIFY_DEVICE"),
-            Kind::PowerState => (0x1010, "POWER_STATE"),
-            Kind::PerformSelfTest => (0x1020, "PERFORM_SELFTEST"),
-            Kind::SelfTestDescription => (0x1021, "SELF_TEST_DESCRIPTION"),
-            Kind::PresetPlayback => (0x1031, "PRESET_PLAYBACK"),
+            Kind::QueuedMessage => "QUEUED_MESSAGE",
+            Kind::StatusMessages => "STATUS_MESSAGES",
+            Kind::StatusIdDescription => "STATUS_ID_DESCRIPTION",
+            Kind::ClearStatusId => "CLEAR_STATUS_ID",
+            Kind::SubDeviceStatusReportThreshold => "SUB_DEVICE_STATUS_REPORT_THRESHOLD",
+            Kind::SupportedParameters => "SUPPORTED_PARAMETERS",
+            Kind::DeviceInfo => "DEVICE_INFO",
+            Kind::DeviceModelDescription => "DEVICE_MODEL_DESCRIPTION",
+            Kind::ManufacturerLabel => "MANUFACTURER_LABEL",
+            Kind::DeviceLabel => "DEVICE_LABEL",
+            Kind::FactoryDefaults => "FACTORY_DEFAULTS",
+            Kind::LanguageCapabilities => "LANGUAGE_CAPABILITIES",
+            Kind::Language => "LANGUAGE",
+            Kind::SoftwareVersionLabel => "SOFTWARE_VERSION_LABEL",
+            Kind::BootSoftwareVersionId => "BOOT_SOFTWARE_VERSION_ID",
+            Kind::BootSoftwareVersionLabel => "BOOT_SOFTWARE_VERSION_LABEL",
+            Kind::DmxPersonality => "DMX_PERSONALITY",
+            Kind::DmxPersonalityDescription => "DMX_PERSONALITY_DESCRIPTION",
+            Kind::DmxStartAddress => "DMX_START_ADDRESS",
+            Kind::SlotInfo => "SLOT_INFO",
+            Kind::SlotDescription => "SLOT_DESCRIPTION",
+            Kind::DefaultSlotValue => "DEFAULT_SLOT_VALUE",
+            Kind::SensorDefinition => "SENSOR_DEFINITION",
+            Kind::SensorValue => "SENSOR_VALUE",
+            Kind::RecordSensors => "RECORD_SENSORS",
+            Kind::DeviceHours => "DEVICE_HOURS",
+            Kind::LampHours => "LAMP_HOURS",
+            Kind::LampStrikes => "LAMP_STRIKES",
+            Kind::LampState => "LAMP_STATE",
+            Kind::LampOnMode => "LAMP_ON_MODE",
+            Kind::DevicePowerCycles => "DEVICE_POWER_CYCLES",
+            Kind::DisplayInvert => "DISPLAY_INVERT",
+            Kind::DisplayLevel => "DISPLAY_LEVEL",
+            Kind::PanInvert => "PAN_INVERT",
+            Kind::TiltInvert => "TILT_INVERT",
+            Kind::PanTiltSwap => "PAN_TILT_SWAP",
+            Kind::IdentifyDevice => "IDENTIFY_DEVICE",
+            Kind::PowerState => "POWER_STATE",
+            Kind::PerformSelfTest => "PERFORM_SELFTEST",
+            Kind::SelfTestDescription => "SELF_TEST_DESCRIPTION",
+            Kind::PresetPlayback => "PRESET_PLAYBACK",
         }
     }
 }
@@ -171,48 +184,5 @@ pub fn kind_of(pid: u16) -> Option<Kind>
     ensures value { IfSome result (λ kind. pid_of kind ≡ pid) }
     ensures known { IsSome result ↔ IsSome (row_of pid) }
 {
-    Some(match pid {
-        0x0020 => Kind::QueuedMessage,
-        0x0030 => Kind::StatusMessages,
-        0x0031 => Kind::StatusIdDescription,
-        0x0032 => Kind::ClearStatusId,
-        0x0033 => Kind::SubDeviceStatusReportThreshold,
-        0x0050 => Kind::SupportedParameters,
-        0x0060 => Kind::DeviceInfo,
-        0x0080 => Kind::DeviceModelDescription,
-        0x0081 => Kind::ManufacturerLabel,
-        0x0082 => Kind::DeviceLabel,
-        0x0090 => Kind::FactoryDefaults,
-        0x00A0 => Kind::LanguageCapabilities,
-        0x00B0 => Kind::Language,
-        0x00C0 => Kind::SoftwareVersionLabel,
-        0x00C1 => Kind::BootSoftwareVersionId,
-        0x00C2 => Kind::BootSoftwareVersionLabel,
-        0x00E0 => Kind::DmxPersonality,
-        0x00E1 => Kind::DmxPersonalityDescription,
-        0x00F0 => Kind::DmxStartAddress,
-        0x0120 => Kind::SlotInfo,
-        0x0121 => Kind::SlotDescription,
-        0x0122 => Kind::DefaultSlotValue,
-        0x0200 => Kind::SensorDefinition,
-        0x0201 => Kind::SensorValue,
-        0x0202 => Kind::RecordSensors,
-        0x0400 => Kind::DeviceHours,
-        0x0401 => Kind::LampHours,
-        0x0402 => Kind::LampStrikes,
-        0x0403 => Kind::LampState,
-        0x0404 => Kind::LampOnMode,
-        0x0405 => Kind::DevicePowerCycles,
-        0x0500 => Kind::DisplayInvert,
-        0x0501 => Kind::DisplayLevel,
-        0x0600 => Kind::PanInvert,
-        0x0601 => Kind::TiltInvert,
-        0x0602 => Kind::PanTiltSwap,
-        0x1000 => Kind::IdentifyDevice,
-        0x1010 => Kind::PowerState,
-        0x1020 => Kind::PerformSelfTest,
-        0x1021 => Kind::SelfTestDescription,
-        0x1031 => Kind::PresetPlayback,
-        _ => return None,
-    })
+    rows!(kind_rows!(pid))
 }

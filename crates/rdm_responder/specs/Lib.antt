@@ -6,3 +6,4 @@ pub mod Lawful
 pub mod StandsFor
 pub mod Runs
 pub mod Laws
+pub mod Started

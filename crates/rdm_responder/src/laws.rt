@@ -3,7 +3,7 @@
 ghost use Rattle.std.specs.Prelude.{◌≡◌, ◌↔◌, IsTrue};
 ghost use Rattle.rdm_responder.specs.Laws.{LawfulHistoriesCanBeShown, LawfulHistoriesHaveOneState, LawfulHistoriesHaveRoom};
 
-use crate::{Arrival, Astray, NewError, NoRoom, Output, Report, Stepped};
+use crate::{Arrival, Astray, NewError, NoRoom, Output, Report, Started, Stepped};
 use rdm_frame::bytes_are_equal_by_value;
 use rdm_outbox::jobs_are_equal_by_value;
 use rdm_params::{changes_are_equal_by_value, messages_are_equal_by_value};
@@ -20,6 +20,11 @@ pub fn lawful_histories_have_one_state()
 /// Two reports are equal by `==` exactly where their jobs and their outcomes are.
 pub fn reports_are_equal_by_value()
     ensures { (a b : Report) → IsTrue (⟦<Report as PartialEq>⟧.eq a b) ↔ (a ≡ b) }
+{}
+
+/// Two jobs that started are equal by `==` exactly where each of their fields is.
+pub fn starts_are_equal_by_value()
+    ensures { (a b : Started) → IsTrue (⟦<Started as PartialEq>⟧.eq a b) ↔ (a ≡ b) }
 {}
 
 /// Two answers to bytes are equal by `==` exactly where each of their fields is.

@@ -4,6 +4,8 @@
 //! `Responder::step` answers what the reply rules give for the whole history before it, `Responder::arrive` takes the report
 //! of a job, and `Responder::change` takes what a person changes at the fixture's own menu. The rules stand in
 //! `specs/Rules.antt`, and what a responder has to do with a history in `specs/StandsFor.antt`.
+//!
+//! All types that a fixture names are here, those of the crates below too.
 #![tactic(auto)]
 
 mod laws;
@@ -11,13 +13,20 @@ mod report;
 mod responder;
 mod response;
 mod run;
+mod stepped;
 
 pub use laws::{
     answers_are_equal_by_value, arrivals_are_equal_by_value, astrays_are_equal_by_value,
     lawful_histories_have_one_state, new_errors_are_equal_by_value, no_rooms_are_equal_by_value,
-    outputs_are_equal_by_value, reports_are_equal_by_value,
+    outputs_are_equal_by_value, reports_are_equal_by_value, starts_are_equal_by_value,
+};
+pub use rdm_frame::{Body, Text, Uid, Wire};
+pub use rdm_outbox::Job;
+pub use rdm_params::{
+    Ask, Change, Devices, Kind, Message, Nack, Outcome, Personality, Plate, Profile, SelfTest,
+    SensorDef, Severity, Slot, StatusText, Unit, Value, Verb, Verdict, Work,
 };
 pub use report::{Arrival, Astray, NoRoom, Report};
 pub use responder::{NewError, Responder};
-pub use response::Stepped;
 pub use run::{Input, Output};
+pub use stepped::{Started, Stepped};

@@ -15,12 +15,13 @@ ghost use Rattle.rdm_responder.specs.Lawful.{IsLawful, MayArrive};
 ghost use Rattle.rdm_responder.specs.Rules.{Account, account_of, account_after_report, after_outcome, answered, reply_of, job_of};
 ghost use Rattle.rdm_responder.specs.Runs.{IsArrival, outbox_of};
 ghost use Rattle.rdm_responder.specs.StandsFor.{Shows, StandsFor, IsQueueSize};
+ghost use Rattle.rdm_responder.specs.Started.{job_in, IsAsInTable};
 
 mod panel;
 mod rules;
 
 use crate::report::{Arrival, Astray, Report};
-use crate::response::Stepped;
+use crate::stepped::Stepped;
 use rdm_frame::{Uid, Wire, decode_view};
 use rdm_outbox::{Job, MOST_WAITING, Outbox};
 use rdm_params::{Devices, Entry, Message, Outcome, Profile, Work, fitting_worker};
@@ -106,19 +107,20 @@ impl Responder {
         let mut wire = Wire::new();
         let stepped = self.step_into(bytes, &mut wire);
         if stepped.replied {
-            (Some(wire), stepped.job)
+            (Some(wire), stepped.job())
         } else {
-            (None, stepped.job)
+            (None, stepped.job())
         }
     }
 
-    /// Hears bytes as `step` does, and says whether there is a reply, and which job started. The bytes of the reply stand
-    /// in `wire`, which stays as it was where there is none. Where one `wire` takes all replies, none is blanked or
-    /// copied on its way.
+    /// Hears bytes as `step` does, and says whether there is a reply, and which job started, with its worker and its
+    /// estimate (E1.20 section 6.3.3). The bytes of the reply stand in `wire`, which stays as it was where there is none.
+    /// Where one `wire` takes all replies, none is blanked or copied on its way.
     pub fn step_into(&mut self, bytes: &[u8], wire: &mut Wire) -> Stepped
         ensures reply { (h : History) → StandsFor self.old h → answered result.replied wire.new ≡ reply_of h bytes.now }
         ensures silent { OnFalse result.replied (wire.new ≡ wire.old) }
-        ensures job { (h : History) → StandsFor self.old h → result.job ≡ job_of h bytes.now }
+        ensures job { (h : History) → StandsFor self.old h → job_in result.started ≡ job_of h bytes.now }
+        ensures table { IfSome result.started IsAsInTable }
         ensures stands { (h : History) → StandsFor self.old h → StandsFor self.new (then_event h (Heard bytes.now)) }
     {
         match decode_view(bytes) {

@@ -1,6 +1,6 @@
 //! The response to a request.
 
-ghost use Rattle.std.specs.Prelude.{◌≡◌, ◌≢◌, ◌<◌, ◌≤◌, ◌+◌, ℕ, List, length, false, None};
+ghost use Rattle.std.specs.Prelude.{◌≡◌, ◌≢◌, ◌<◌, ◌≤◌, ◌+◌, ℕ, List, length, false, None, IfSome};
 ghost use Rattle.std.specs.Int.{w16, to_be_bytes};
 ghost use Rattle.std.specs.Bool.{OnFalse};
 ghost use Rattle.rdm_frame.specs.declared.frame.Frame.{Frame};
@@ -11,33 +11,14 @@ ghost use Rattle.rdm_params.specs.Slow.Work.{worker_of, estimate_of};
 ghost use Rattle.rdm_responder.specs.Headings.{response_with, own_heading, message_heading};
 ghost use Rattle.rdm_params.specs.declared.verdict.Verdict.TheVariants.{Start};
 ghost use Rattle.rdm_params.specs.Commands.Nacks.{nack_code};
+ghost use Rattle.rdm_responder.specs.Started.{job_in, IsAsInTable};
 ghost use Rattle.rdm_responder.specs.Rules.{ack_message, response_of, answered, answer_with, message_count, outbox_after, reply_with, started_by};
 
+use crate::stepped::{Started, Stepped};
 use rdm_frame::standard::{ACK, ACK_TIMER, NACK_REASON};
 use rdm_frame::{Body, FrameView, Uid, Wire, encode_into};
-use rdm_outbox::{Job, Outbox};
+use rdm_outbox::Outbox;
 use rdm_params::{Answer, Message, Nack, Work};
-
-/// What became of bytes that were heard.
-#[derive(Clone, Copy, Debug, PartialEq, Eq)]
-pub struct Stepped {
-    /// Whether there is a reply. Its bytes stand in the list that was handed in.
-    pub replied: bool,
-    /// The job that started, if one did.
-    pub job: Option<Job>,
-}
-
-impl Stepped {
-    /// No reply, and no job.
-    pub(crate) fn silent() -> Stepped
-        ensures { result ≡ record { replied = false; job = None } }
-    {
-        Stepped {
-            replied: false,
-            job: None,
-        }
-    }
-}
 
 /// What a response says beside its data, and beside whom it is for.
 #[derive(Clone, Copy, Debug)]
@@ -92,10 +73,11 @@ pub(crate) fn respond(
     ensures reply { (b : Account) → Shows outbox.old b →
         answered result.replied wire.new ≡ reply_with own b request.now (verdict_with answer body.old) }
     ensures silent { OnFalse result.replied (wire.new ≡ wire.old) }
-    ensures job { (b : Account) → Shows outbox.old b → result.job ≡ started_by b (verdict_with answer body.old) }
+    ensures job { (b : Account) → Shows outbox.old b → job_in result.started ≡ started_by b (verdict_with answer body.old) }
+    ensures table { IfSome result.started IsAsInTable }
     ensures after { (b : Account) → Shows outbox.old b → Shows outbox.new (outbox_after b (verdict_with answer body.old)) }
 {
-    let mut job = None;
+    let mut started = None;
     let replied = match answer {
         Answer::Done => {
             let heading = Heading::of_own(request, ACK);
@@ -106,7 +88,7 @@ pub(crate) fn respond(
             worker,
             estimate,
         } => {
-            let port = start(work, worker, estimate, outbox, body, &mut job);
+            let port = start(work, worker, estimate, outbox, body, &mut started);
             let heading = Heading::of_own(request, port);
             send(own, request, heading, body.as_slice(), outbox.count(), wire)
         }
@@ -129,7 +111,7 @@ pub(crate) fn respond(
             send(own, request, heading, body.as_slice(), outbox.count(), wire)
         }
     };
-    Stepped { replied, job }
+    Stepped { replied, started }
 }
 
 /// Gives a slow command room, if there is any, and puts the data of its response in `body`: the estimate in tenths of a
@@ -142,24 +124,29 @@ fn start(
     estimate: u16,
     outbox: &mut Outbox,
     body: &mut Body,
-    job: &mut Option<Job>,
+    started: &mut Option<Started>,
 ) -> u8
     requires worker { worker ≡ worker_of work }
     requires estimate { estimate ≡ estimate_of work }
     ensures response { (b : Account) → Shows outbox.old b → (f : Frame) →
         response_with (own_heading f result) body.new ≡ response_of b f (Start work) }
-    ensures job { (b : Account) → Shows outbox.old b → job.new ≡ started_by b (Start work) }
+    ensures job { (b : Account) → Shows outbox.old b → job_in started.new ≡ started_by b (Start work) }
+    ensures table { IfSome started.new IsAsInTable }
     ensures after { (b : Account) → Shows outbox.old b → Shows outbox.new (outbox_after b (Start work)) }
 {
     match outbox.reserve_for(worker, work) {
-        Ok(started) => {
-            *job = Some(started);
+        Ok(job) => {
+            *started = Some(Started {
+                job,
+                worker,
+                estimate,
+            });
             body.clear();
             body.append(&estimate.to_be_bytes());
             ACK_TIMER
         }
         Err(_) => {
-            *job = None;
+            *started = None;
             refuse(Nack::BufferFull, body);
             NACK_REASON
         }

@@ -86,7 +86,7 @@ report_less now s e is =
 
 -- ---- so in the end none has ended
 
-none_of_lists : (now f g : ℕ) (js ks : List Job) → length js + length ks ≡ 0 → earlier (ended_by now f (slice_get js 0)) (ended_by now g (slice_get ks 0)) ≡ None
+none_of_lists : (now f g : ℕ) (js ks : List Job) → length js + length ks ≡ 0 → earlier (ended_by now 0 f (slice_get js 0)) (ended_by now 1 g (slice_get ks 0)) ≡ None
 none_of_lists now f g [] [] e = refl
 none_of_lists now f g [] (k ∷ ks) e = absurd (omega (arith, e))
 none_of_lists now f g (j ∷ js) ks e = absurd (omega (arith, e))
@@ -105,16 +105,16 @@ all_reported zero now s most =
     none_of_lists now s.first_since s.second_since (outstanding_of (outbox_of s.history) 0) (outstanding_of (outbox_of s.history) 1) (omega (arith, most))
 all_reported (suc n) now s most = step n now s (first_ended now s) refl most (λ t. all_reported n now t)
 
-since_none : (now since : ℕ) (o : Option Job) → ended_by now since o ≡ None → ended_by now (since_when now since o) o ≡ None
-since_none now since None e = refl
-since_none now since (Some j) e = e
+since_none : (now worker since : ℕ) (o : Option Job) → ended_by now worker since o ≡ None → ended_by now worker (since_when now since o) o ≡ None
+since_none now worker since None e = refl
+since_none now worker since (Some j) e = e
 
 begun_none : (now : ℕ) (s : Situation) → first_ended now s ≡ None → NoneHasEnded now (begun now s)
 begun_none now s none =
-    let both = neither (ended_by now s.first_since (oldest_of s.history 0)) (ended_by now s.second_since (oldest_of s.history 1)) none in
+    let both = neither (ended_by now 0 s.first_since (oldest_of s.history 0)) (ended_by now 1 s.second_since (oldest_of s.history 1)) none in
     record {
-      first = since_none now s.first_since (oldest_of s.history 0) both.0;
-      second = since_none now s.second_since (oldest_of s.history 1) both.1;
+      first = since_none now 0 s.first_since (oldest_of s.history 0) both.0;
+      second = since_none now 1 s.second_since (oldest_of s.history 1) both.1;
     }
 
 pub none_has_ended : (now : ℕ) (s : Situation) → NoneHasEnded now (ready now s)

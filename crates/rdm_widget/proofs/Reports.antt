@@ -133,9 +133,10 @@ ended_if false x e is = absurd cc
 abbrev some_job : Job → Option Job
 some_job j = Some j
 
-ended_job : (now since : ℕ) (o : Option Job) (e : Ended) → ended_by now since o ≡ Some e → o ≡ Some e.job
-ended_job now since None e is = absurd cc
-ended_job now since (Some j) e is = ap (λ (x : Ended). some_job x.job) (ended_if (nat_le (end_of since j) now) (record { job = j; at = end_of since j }) e is)
+ended_job : (now worker since : ℕ) (o : Option Job) (e : Ended) → ended_by now worker since o ≡ Some e → o ≡ Some e.job
+ended_job now worker since None e is = absurd cc
+ended_job now worker since (Some j) e is =
+    ap (λ (x : Ended). some_job x.job) (ended_if (nat_le (end_of since j) now) (record { job = j; worker = worker; at = end_of since j }) e is)
 
 abbrev some_end : Ended → Option Ended
 some_end e = Some e
@@ -155,17 +156,17 @@ of_worker h worker j e = subst (λ w. oldest_of h w ≡ Some j) (sym (worker_is 
 
 pub first_is : (now : ℕ) (s : Situation) (e : Ended) → first_ended now s ≡ Some e → oldest_of s.history (worker_of e.job.work) ≡ Some e.job
 first_is now s e is =
-    elim (earlier_is (ended_by now s.first_since (oldest_of s.history 0)) (ended_by now s.second_since (oldest_of s.history 1)) e is) [
-      | inl k ↦ of_worker s.history 0 e.job (ended_job now s.first_since (oldest_of s.history 0) e k)
-      | inr k ↦ of_worker s.history 1 e.job (ended_job now s.second_since (oldest_of s.history 1) e k)
+    elim (earlier_is (ended_by now 0 s.first_since (oldest_of s.history 0)) (ended_by now 1 s.second_since (oldest_of s.history 1)) e is) [
+      | inl k ↦ of_worker s.history 0 e.job (ended_job now 0 s.first_since (oldest_of s.history 0) e k)
+      | inr k ↦ of_worker s.history 1 e.job (ended_job now 1 s.second_since (oldest_of s.history 1) e k)
     ]
 
 -- there are two workers
 pub which : (now : ℕ) (s : Situation) (e : Ended) → first_ended now s ≡ Some e → (worker_of e.job.work ≡ 0) ⊎ (worker_of e.job.work ≡ 1)
 which now s e is =
-    elim (earlier_is (ended_by now s.first_since (oldest_of s.history 0)) (ended_by now s.second_since (oldest_of s.history 1)) e is) [
-      | inl k ↦ inl (worker_is s.history 0 e.job (ended_job now s.first_since (oldest_of s.history 0) e k))
-      | inr k ↦ inr (worker_is s.history 1 e.job (ended_job now s.second_since (oldest_of s.history 1) e k))
+    elim (earlier_is (ended_by now 0 s.first_since (oldest_of s.history 0)) (ended_by now 1 s.second_since (oldest_of s.history 1)) e is) [
+      | inl k ↦ inl (worker_is s.history 0 e.job (ended_job now 0 s.first_since (oldest_of s.history 0) e k))
+      | inr k ↦ inr (worker_is s.history 1 e.job (ended_job now 1 s.second_since (oldest_of s.history 1) e k))
     ]
 
 -- ---- a report

@@ -1,7 +1,7 @@
 -- The fixture in time: a worker has one job at a time, which ends when its estimate has passed. Times are in milliseconds.
 use Rattle.std.specs.Prelude.{◌≡◌, ℕ, zero, suc, ◌+◌, ◌*◌, ◌==◌, List, [], ◌∷◌, nat_lt, nat_le, slice_get, Option, Some, None, if◌then◌else◌}
 use Rattle.rdm_params.specs.declared.panel.Change.{Change}
-use Rattle.rdm_params.specs.Slow.Work.{worker_of, estimate_of}
+use Rattle.rdm_params.specs.Slow.Work.{estimate_of}
 use Rattle.rdm_outbox.specs.declared.job.Job.{Job}
 use Rattle.rdm_outbox.specs.Jobs.{outstanding_of, outstanding_count}
 use Rattle.rdm_outcomes.specs.declared.rule.Rule.{Rule}
@@ -35,10 +35,11 @@ oldest_of h worker = slice_get (outstanding_of (outbox_of h) worker) 0
 abbrev pub end_of : ℕ → Job → ℕ
 end_of since job = since + 100 * estimate_of job.work
 
--- the job that has ended by now, if it has, and when
-abbrev pub ended_by : ℕ → ℕ → Option Job → Option Ended
-ended_by now since None = None
-ended_by now since (Some job) = if nat_le (end_of since job) now then Some (record { job = job; at = end_of since job }) else None
+-- the job of a worker that has ended by now, if it has, and when
+abbrev pub ended_by : ℕ → ℕ → ℕ → Option Job → Option Ended
+ended_by now worker since None = None
+ended_by now worker since (Some job) =
+    if nat_le (end_of since job) now then Some (record { job = job; worker = worker; at = end_of since job }) else None
 
 -- the one that ended first, and that of the first worker where both ended at once
 abbrev pub earlier : Option Ended → Option Ended → Option Ended
@@ -48,7 +49,7 @@ earlier None second = second
 
 -- of both workers the job that ended first, if one has ended by now
 abbrev pub first_ended : ℕ → Situation → Option Ended
-first_ended now s = earlier (ended_by now s.first_since (oldest_of s.history 0)) (ended_by now s.second_since (oldest_of s.history 1))
+first_ended now s = earlier (ended_by now 0 s.first_since (oldest_of s.history 0)) (ended_by now 1 s.second_since (oldest_of s.history 1))
 
 -- ---- what is reported
 
@@ -65,7 +66,7 @@ report_of s job = record { job = job; outcome = outcome_of s.rules (reported_in 
 
 -- since when a worker is at its oldest job, once this job has ended
 abbrev pub since_after : ℕ → Ended → ℕ → ℕ
-since_after worker ended since = if worker_of ended.job.work == worker then ended.at else since
+since_after worker ended since = if ended.worker == worker then ended.at else since
 
 -- a job that has ended is reported, and from then on its worker is at the next one
 abbrev pub after_report : Situation → Ended → Situation
@@ -125,8 +126,8 @@ pub record IsIn (d : Desk) (s : Situation) : Type 0 where
 
 -- No job that is outstanding has ended by now.
 pub record NoneHasEnded (now : ℕ) (s : Situation) : Type 0 where
-  pub first : ended_by now s.first_since (oldest_of s.history 0) ≡ None
-  pub second : ended_by now s.second_since (oldest_of s.history 1) ≡ None
+  pub first : ended_by now 0 s.first_since (oldest_of s.history 0) ≡ None
+  pub second : ended_by now 1 s.second_since (oldest_of s.history 1) ≡ None
 
 -- Once the reports are handed in, that is so.
 abbrev pub ReportsAreHandedIn : Type 0

@@ -1,7 +1,7 @@
 //! What the status of a device tells.
 
 ghost use Rattle.std.specs.Prelude.{◌≡◌};
-ghost use Rattle.rdm_params.specs.Slow.Severities.{rank_of, severity_code};
+ghost use Rattle.rdm_params.specs.Slow.Severities.{rank_of, severity_code, severity_in, severity_name};
 
 /// How bad it is what a status entry tells, and whether it is over (E1.20 table A-4).
 #[derive(Clone, Copy, Debug, PartialEq, Eq)]
@@ -43,6 +43,35 @@ impl Severity {
             Severity::AdvisoryCleared => 0x12,
             Severity::WarningCleared => 0x13,
             Severity::ErrorCleared => 0x14,
+        }
+    }
+
+    /// The severity of a code (table A-4), or `None` where it is that of none.
+    pub fn of(code: u8) -> Option<Severity>
+        ensures { result ≡ severity_in code }
+    {
+        match code {
+            0x02 => Some(Severity::Advisory),
+            0x03 => Some(Severity::Warning),
+            0x04 => Some(Severity::Error),
+            0x12 => Some(Severity::AdvisoryCleared),
+            0x13 => Some(Severity::WarningCleared),
+            0x14 => Some(Severity::ErrorCleared),
+            _ => None,
+        }
+    }
+
+    /// In words, as `advisory cleared`.
+    pub fn name(self) -> &'static str
+        ensures { result.now ≡ severity_name self }
+    {
+        match self {
+            Severity::Advisory => "advisory",
+            Severity::Warning => "warning",
+            Severity::Error => "error",
+            Severity::AdvisoryCleared => "advisory cleared",
+            Severity::WarningCleared => "warning cleared",
+            Severity::ErrorCleared => "error cleared",
         }
     }
 }

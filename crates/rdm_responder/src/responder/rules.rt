@@ -1,14 +1,16 @@
 //! What is answered to a request: a frame that was heard.
 
-ghost use Rattle.std.specs.Prelude.{◌≡◌, Option, None};
+ghost use Rattle.std.specs.Prelude.{◌≡◌, Option, None, IfSome};
 ghost use Rattle.std.specs.Bool.{OnFalse};
 ghost use Rattle.std.specs.Int.{w16, to_be_bytes};
 ghost use Rattle.rdm_responder.specs.Requests.{Branch, Muting, Set, request_of, get_of, discovery_of};
 ghost use Rattle.rdm_responder.specs.Rules.{answered, Account, answer_to, job_with, account_with, control_field};
 ghost use Rattle.rdm_responder.specs.StandsFor.{Shows};
+ghost use Rattle.rdm_responder.specs.Started.{job_in, IsAsInTable};
 
 use crate::Responder;
-use crate::response::{Heading, Stepped, respond, send};
+use crate::response::{Heading, respond, send};
+use crate::stepped::Stepped;
 use rdm_frame::standard::{
     ACK, DISC_MUTE, DISC_UN_MUTE, DISC_UNIQUE_BRANCH, DISCOVERY_COMMAND, GET_COMMAND, SET_COMMAND,
 };
@@ -23,7 +25,8 @@ impl Responder {
         ensures reply { (a : Account) → Shows self.old a →
             answered result.replied wire.new ≡ answer_to a (request_of a.setup.uid request.now) }
         ensures silent { OnFalse result.replied (wire.new ≡ wire.old) }
-        ensures job { (a : Account) → Shows self.old a → result.job ≡ job_with a (request_of a.setup.uid request.now) }
+        ensures job { (a : Account) → Shows self.old a → job_in result.started ≡ job_with a (request_of a.setup.uid request.now) }
+        ensures table { IfSome result.started IsAsInTable }
         ensures after { (a : Account) → Shows self.old a → Shows self.new (account_with a (request_of a.setup.uid request.now)) }
     {
         if !request.dst.addresses(self.uid) {
@@ -32,7 +35,7 @@ impl Responder {
         match request.class {
             DISCOVERY_COMMAND => Stepped {
                 replied: self.answer_discovery(request, wire),
-                job: None,
+                started: None,
             },
             GET_COMMAND => self.answer_get(request, wire),
             SET_COMMAND => self.answer_set(request, wire),
@@ -45,7 +48,8 @@ impl Responder {
         requires { request.now.class ≡ 0x20 }
         ensures reply { (a : Account) → Shows self.old a → answered result.replied wire.new ≡ answer_to a (get_of request.now) }
         ensures silent { OnFalse result.replied (wire.new ≡ wire.old) }
-        ensures job { (a : Account) → Shows self.old a → result.job ≡ job_with a (get_of request.now) }
+        ensures job { (a : Account) → Shows self.old a → job_in result.started ≡ job_with a (get_of request.now) }
+        ensures table { IfSome result.started IsAsInTable }
         ensures after { (a : Account) → Shows self.old a → Shows self.new (account_with a (get_of request.now)) }
     {
         if request.dst.is_broadcast() {
@@ -63,7 +67,8 @@ impl Responder {
         requires { request.now.class ≡ 0x30 }
         ensures reply { (a : Account) → Shows self.old a → answered result.replied wire.new ≡ answer_to a (Set request.now) }
         ensures silent { OnFalse result.replied (wire.new ≡ wire.old) }
-        ensures job { (a : Account) → Shows self.old a → result.job ≡ job_with a (Set request.now) }
+        ensures job { (a : Account) → Shows self.old a → job_in result.started ≡ job_with a (Set request.now) }
+        ensures table { IfSome result.started IsAsInTable }
         ensures after { (a : Account) → Shows self.old a → Shows self.new (account_with a (Set request.now)) }
     {
         let mut body = Body::new();

@@ -3,8 +3,8 @@
 use super::{printed, responder_with};
 use rdm_frame::Wire;
 use rdm_outbox::Job;
-use rdm_params::{Change, Outcome, Plate, Severity, worker_of};
-use rdm_responder::{Report, Responder, Stepped};
+use rdm_params::{Change, Outcome, Plate, Severity};
+use rdm_responder::{Report, Responder, Started};
 use std::alloc::{AllocError, Global};
 use std::process::Abort;
 use std::test::Fail;
@@ -94,8 +94,11 @@ impl Play {
         let (reply, job) = self.responder.step(heard.as_slice());
         let mut wire = Wire::new();
         let stepped = self.other.step_into(heard.as_slice(), &mut wire);
-        let replied = reply.is_some();
-        assert_eq!(rt; stepped, Stepped { replied, job }, "{heard:?}");
+        assert_eq!(rt;
+            (stepped.replied, stepped.job()),
+            (reply.is_some(), job),
+            "{heard:?}"
+        );
         match reply {
             Some(bytes) => {
                 assert_eq!(rt; wire.as_slice(), bytes.as_slice(), "{heard:?}");
@@ -103,11 +106,26 @@ impl Play {
             }
             None => self.tells("reply none")?,
         }
-        if let Some(job) = job {
-            let line = format!(in alloc; "job {} {}", worker_of(&job.work), job.number)?;
-            self.tells(&line)?;
-            self.jobs.push(job)?;
+        match stepped.started {
+            Some(started) => self.starts(rt, alloc, started, &wire),
+            None => Ok(()),
         }
+    }
+
+    /// A job started. Where there is a reply it is ACK_TIMER, and the estimate is the one that it carries.
+    fn starts(
+        &mut self,
+        rt: &impl Abort,
+        alloc: Global,
+        started: Started,
+        wire: &Wire,
+    ) -> Result<(), Fail> {
+        if let Some(carried) = wire.as_slice().get(24..26) {
+            assert_eq!(rt; carried, started.estimate.to_be_bytes().as_slice());
+        }
+        let line = format!(in alloc; "job {} {}", started.worker, started.job.number)?;
+        self.tells(&line)?;
+        self.jobs.push(started.job)?;
         Ok(())
     }
 

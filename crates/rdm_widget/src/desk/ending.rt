@@ -4,30 +4,32 @@ ghost use Rattle.std.specs.Prelude.{◌≡◌};
 ghost use Rattle.rdm_widget.specs.Desks as says;
 
 use rdm_outbox::Job;
-use rdm_params::{estimate_of, worker_of};
+use rdm_params::estimate_of;
 
 /// A job that has ended.
 #[derive(Clone, Copy, Debug)]
 pub(crate) struct Ended {
     /// The job.
     pub(crate) job: Job,
+    /// The worker that had it: 0 or 1.
+    pub(crate) worker: u8,
     /// When it ended, in milliseconds.
     pub(crate) at: u64,
 }
 
-/// The job at which its worker is since then, where it has ended by now.
-pub(crate) fn ended_by(now: u64, since: u64, job: Option<Job>) -> Option<Ended>
-    ensures { result ≡ says.ended_by now since job }
+/// The job at which this worker is since then, where it has ended by now.
+pub(crate) fn ended_by(now: u64, worker: u8, since: u64, job: Option<Job>) -> Option<Ended>
+    ensures { result ≡ says.ended_by now worker since job }
 {
     match job {
-        Some(job) => end_by(now, since, job),
+        Some(job) => end_by(now, worker, since, job),
         None => None,
     }
 }
 
 /// This job, where it has ended by now.
-fn end_by(now: u64, since: u64, job: Job) -> Option<Ended>
-    ensures { result ≡ says.ended_by now since (Some job) }
+fn end_by(now: u64, worker: u8, since: u64, job: Job) -> Option<Ended>
+    ensures { result ≡ says.ended_by now worker since (Some job) }
 {
     let span = 100 * u64::from(estimate_of(&job.work));
     if since > now || now - since < span {
@@ -35,6 +37,7 @@ fn end_by(now: u64, since: u64, job: Job) -> Option<Ended>
     }
     Some(Ended {
         job,
+        worker,
         at: since + span,
     })
 }
@@ -54,7 +57,7 @@ pub(crate) fn earlier(first: Option<Ended>, second: Option<Ended>) -> Option<End
 pub(crate) fn since_after(worker: u8, ended: &Ended, since: u64) -> u64
     ensures { result ≡ says.since_after worker ended.now since }
 {
-    if worker_of(&ended.job.work) == worker {
+    if ended.worker == worker {
         ended.at
     } else {
         since

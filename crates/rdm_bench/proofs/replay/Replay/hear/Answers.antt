@@ -1,4 +1,4 @@
-use Rattle.std.proofs.Common.{◌≡◌, ℕ, List, [], ◌∷◌, ◌++◌, refl, sym, subst}
+use Rattle.std.proofs.Common.{◌≡◌, ◌∙◌, ℕ, List, [], ◌∷◌, ◌++◌, refl, sym, subst}
 use Rattle.std.proofs.lemmas.List.{append-nil}
 use Rattle.rdm_responder.specs.History.{Heard, then_event}
 use Rattle.rdm_responder.specs.StandsFor.{State, StandsFor}
@@ -29,5 +29,5 @@ returns-clause-replayed c start before from =
     let heard = then_event g (Heard frame.now) in
     let reported = c.report.ensures heard (subst (λ (r : State). StandsFor r heard) (sym responder) (stepped.ensures.stands g from.1)) in
     let first = subst (λ (r : Reports). IsReplay start r before c.args.self.now.tally g) (sym reports) from.2 in
-    let run = heard_and_reported g reported.0 frame stepped.result.replied stepped.new.wire stepped.result.job _ (stepped.ensures.reply g from.1) (stepped.ensures.job g from.1) reported.2 in
+    let run = heard_and_reported g reported.0 frame stepped.result.replied stepped.new.wire c.job.result _ (stepped.ensures.reply g from.1) (c.job.ensures ∙ stepped.ensures.job g from.1) reported.2 in
     (reported.0, reported.1, replay_and_run start g reported.0 _ before (frame.now ∷ []) _ _ _ _ first run tallied)

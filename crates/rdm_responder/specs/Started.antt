@@ -1,0 +1,13 @@
+-- A job that started, as it is handed on.
+use Rattle.std.specs.Prelude.{◌≡◌, Option, option_map}
+use Rattle.rdm_params.specs.Slow.Work.{worker_of, estimate_of}
+use Rattle.rdm_outbox.specs.declared.job.Job.{Job}
+use Rattle.rdm_responder.specs.declared.stepped.Started.{Started}
+
+-- the job by itself
+abbrev pub job_in : Option Started → Option Job
+job_in started = option_map (λ s. s.job) started
+
+-- The worker and the estimate are those that the table has for the job's command. Section 6.3.3.
+abbrev pub IsAsInTable : Started → Type 0
+IsAsInTable s = (s.worker ≡ worker_of s.job.work) × (s.estimate ≡ estimate_of s.job.work)

@@ -1,0 +1,48 @@
+//! What became of bytes that were heard.
+
+ghost use Rattle.std.specs.Prelude.{◌≡◌, false, None};
+ghost use Rattle.rdm_responder.specs.Started.{job_in};
+
+use rdm_outbox::Job;
+
+/// A job that started, with what the table of parameters says of its command: so nobody needs to ask it again.
+#[derive(Clone, Copy, Debug, PartialEq, Eq)]
+pub struct Started {
+    /// The job.
+    pub job: Job,
+    /// The worker that has it: 0 or 1.
+    pub worker: u8,
+    /// How long it takes, in tenths of a second, as ACK_TIMER tells the controller (E1.20 section 6.3.3).
+    pub estimate: u16,
+}
+
+/// What became of bytes that were heard.
+#[derive(Clone, Copy, Debug, PartialEq, Eq)]
+pub struct Stepped {
+    /// Whether there is a reply. Its bytes stand in the list that was handed in.
+    pub replied: bool,
+    /// The job that started, if one did.
+    pub started: Option<Started>,
+}
+
+impl Stepped {
+    /// No reply, and no job.
+    pub(crate) fn silent() -> Stepped
+        ensures { result ≡ record { replied = false; started = None } }
+    {
+        Stepped {
+            replied: false,
+            started: None,
+        }
+    }
+
+    /// The job that started, if one did, by itself.
+    pub fn job(&self) -> Option<Job>
+        ensures { result ≡ job_in self.now.started }
+    {
+        match self.started {
+            Some(started) => Some(started.job),
+            None => None,
+        }
+    }
+}
