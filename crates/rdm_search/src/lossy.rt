@@ -11,7 +11,7 @@ pub trait LossyPort {
     ghost use Rattle.std.specs.Prelude.{◌≡◌, ℕ, suc, ◌+◌, ◌≤◌, ◌⊎◌, List};
     ghost use Rattle.rdm_frame.specs.declared.uid.Uid.{Uid};
     ghost use Rattle.rdm_search.specs.declared.request.Request.{Request};
-    ghost use Rattle.rdm_search.specs.Requests.{request_frame};
+    ghost use Rattle.rdm_search.specs.Requests.{request_frame, IsRequest};
     ghost use Rattle.rdm_search.specs.Line.{Fixture};
     ghost use Rattle.rdm_search.specs.Losses.{IsKept, IsLost};
 
@@ -29,8 +29,8 @@ pub trait LossyPort {
 
     /// Sends the frame, and waits for what comes.
     fn exchange(&mut self, frame: &Frame) -> Wire
-        ensures asked { (request : Request) (source : Uid) (tn : ℕ) → frame.now ≡ request_frame source tn request
-            → (IsKept request (fixtures self.old) result (fixtures self.new) × (lost self.new ≡ 0))
+        ensures asked { (request : Request) (source : Uid) (tn : ℕ) → IsRequest request
+            → frame.now ≡ request_frame source tn request → (IsKept request (fixtures self.old) result (fixtures self.new) × (lost self.new ≡ 0))
             ⊎ (IsLost request (fixtures self.old) result (fixtures self.new) × (lost self.new ≡ suc (lost self.old))) }
         ensures within { may_lose self.new (lost self.new) }
         ensures same { (n : ℕ) → may_lose self.new n → may_lose self.old n }

@@ -3,7 +3,7 @@
 ghost use Rattle.std.specs.Prelude.{◌≡◌, ℕ, ◌+◌, ◌≤◌, ◌⊎◌};
 ghost use Rattle.rdm_frame.specs.declared.uid.Uid.{Uid};
 ghost use Rattle.rdm_search.specs.declared.request.Request.{Request};
-ghost use Rattle.rdm_search.specs.Requests.{request_frame};
+ghost use Rattle.rdm_search.specs.Requests.{request_frame, IsRequest};
 ghost use Rattle.rdm_search.specs.Losses.{IsKept, IsLost};
 
 use crate::lossy::LossyPort;
@@ -13,8 +13,8 @@ use rdm_frame::{Frame, Wire};
 /// fixture that is muted answers its mute again.
 pub(crate) fn ask<L: LossyPort>(port: &mut L, retries: u8, frame: &Frame) -> Wire
     // All is as if it had been asked once, or it was lost each time.
-    ensures asked { (request : Request) (source : Uid) (tn : ℕ) → frame.now ≡ request_frame source tn request
-        → IsKept request (L.fixtures port.old) result (L.fixtures port.new)
+    ensures asked { (request : Request) (source : Uid) (tn : ℕ) → IsRequest request
+        → frame.now ≡ request_frame source tn request → IsKept request (L.fixtures port.old) result (L.fixtures port.new)
         ⊎ (IsLost request (L.fixtures port.old) result (L.fixtures port.new)
         × (L.lost port.old + retries + 1 ≤ L.lost port.new)) }
     ensures within { L.may_lose port.new (L.lost port.new) }

@@ -12,7 +12,7 @@ loop-left-preserved g c =
     let before = g.L.LossyPort.lost c.args.port.now in
     let fewer : before + (c.args.retries - (l.left - 1)) + 1 ≤ before + (c.args.retries - l.left) + 1 + 1 = omega (arith, l.invariant.left) in
     record {
-      asked = λ request source tn e. once_more request (g.L.LossyPort.fixtures c.args.port.now) (g.L.LossyPort.fixtures l.port) l.heard next.result (g.L.LossyPort.fixtures next.new.self) _ _ (g.L.LossyPort.lost l.port) (g.L.LossyPort.lost next.new.self) fewer empty (l.invariant.asked request source tn e) (next.ensures.asked request source tn e);
+      asked = λ request source tn fits e. once_more request (g.L.LossyPort.fixtures c.args.port.now) (g.L.LossyPort.fixtures l.port) l.heard next.result (g.L.LossyPort.fixtures next.new.self) _ _ (g.L.LossyPort.lost l.port) (g.L.LossyPort.lost next.new.self) fewer empty (l.invariant.asked request source tn fits e) (next.ensures.asked request source tn fits e);
       within = next.ensures.within;
       same = λ n h. l.invariant.same n (next.ensures.same n h);
       sent = omega (arith, l.invariant.sent, l.invariant.left, next.ensures.sent);
