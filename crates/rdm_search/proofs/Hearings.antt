@@ -60,7 +60,7 @@ answered_by u (Some f) x e =
 pub answer_of : (u : Uid) (heard : List ℕ) (x : Found) → mute_answer u heard ≡ Some x → x.uid ≡ u
 answer_of u heard x e = answered_by u (frame_in heard) x e
 
-push_uid : (found : List Found) (x : Found) (u : Uid) → x.uid ≡ u → found_uids (found ++ x ∷ []) ≡ found_uids found ++ u ∷ []
+pub push_uid : (found : List Found) (x : Found) (u : Uid) → x.uid ≡ u → found_uids (found ++ x ∷ []) ≡ found_uids found ++ u ∷ []
 push_uid found x u e = map-append (λ (y : Found). y.uid) found (x ∷ []) ∙ ap (λ (v : Uid). found_uids found ++ v ∷ []) e
 
 abbrev Goal : Range → Uid → List Found → List Fixture → Option Found → Type 0

@@ -7,3 +7,5 @@ pub mod Branches
 pub mod Mutes
 pub mod Hearings
 pub mod Runs
+pub mod Losses
+pub mod Reals

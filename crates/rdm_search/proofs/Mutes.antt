@@ -76,7 +76,7 @@ covered_after u d i line covered = All-map (IsCovered d i) (after_mute u) line (
 known_push : (u : Uid) (found : List Uid) (line : List Fixture) → All (IsKnown found) line → All (IsKnown (found ++ u ∷ [])) line
 known_push u found line known = λ k d h m. Contains-append_left found (u ∷ []) _ (known k d h m)
 
-real_push : (u : Uid) (found : List Uid) (line : List Fixture) → IsReal found line → Contains (uids line) u → (Contains found u → ⊥) → IsReal (found ++ u ∷ []) line
+pub real_push : (u : Uid) (found : List Uid) (line : List Fixture) → IsReal found line → Contains (uids line) u → (Contains found u → ⊥) → IsReal (found ++ u ∷ []) line
 real_push u found line real there new = record {
   devices = real.devices;
   real = All-push (Contains (uids line)) found u real.real there;

@@ -1,5 +1,5 @@
 -- A search that is run.
-use Rattle.std.proofs.Common.{◌≡◌, ◌≢◌, ℕ, zero, suc, ◌+◌, ◌-◌, ◌*◌, ◌<◌, ◌≤◌, Bool, true, false, ◌&&◌, cond, not, eqb, List, [], ◌∷◌, length, Option, Some, None, Result, Ok, Err, refl, sym, ap, ◌∙◌, subst, inl, inr, arith}
+use Rattle.std.proofs.Common.{◌≡◌, ◌≢◌, ℕ, zero, suc, ◌+◌, ◌-◌, ◌*◌, ◌^◌, ◌<◌, ◌≤◌, Bool, true, false, ◌&&◌, cond, not, eqb, List, [], ◌∷◌, length, Option, Some, None, Result, Ok, Err, refl, sym, ap, ◌∙◌, subst, inl, inr, arith}
 use Rattle.std.specs.Prelude.{All, AllPairs, Contains, OnErr}
 use Rattle.std.proofs.Math.Nat.{suc-mul}
 use Rattle.std.proofs.lemmas.Bool.{cases_eq, ne_eqb, eq-eqb, cond-true, cond-false}
@@ -14,11 +14,13 @@ use Rattle.rdm_search.specs.declared.request.Request.{Request}
 use Rattle.rdm_search.specs.declared.request.Request.TheVariants.{UnMute, UniqueBranch, Mute}
 use Rattle.rdm_search.specs.declared.stage.Stage.{Stage}
 use Rattle.rdm_search.specs.declared.stage.Stage.TheVariants.{Start, Asking, Muting, Ended}
-use Rattle.rdm_search.specs.Requests.{request_frame}
+use Rattle.rdm_search.specs.Requests.{request_frame, IsRequest}
 use Rattle.rdm_search.specs.Line.{Fixture, IsDevice, IsFound, uids, unmuted, after_request}
-use Rattle.rdm_search.specs.Ranges.{place}
+use Rattle.rdm_search.specs.Ranges.{uid_of, low, high, place}
 use Rattle.rdm_search.specs.Searches.{next_of}
 use Rattle.rdm_search.specs.Stages.{when, request_of, IsStage, count, price, IsReal, Stands, whole}
+use Rattle.rdm_frame.specs.FrameText.{IsUid}
+use Rattle.rdm_search.proofs.Places.{width_pos, range_fits}
 use Rattle.rdm_search.proofs.Counts.{counted}
 use Rattle.rdm_search.proofs.Mutes.{same_uids}
 use Rattle.rdm_search.proofs.Hearings.{un_muted_uids}
@@ -103,6 +105,19 @@ next_err source tn (Some request) left fault e =
       | inr some ↦
           let now : Same (Err fault) (Ok (Some (request_frame source tn request))) = e ∙ cond-false (eqb left 0) (Err Limit) (Ok (Some (request_frame source tn request))) (ne_eqb _ _ some) in absurd cc
     ]
+
+uid_fits : (n : ℕ) → n < 2 ^ 48 → IsUid (uid_of n)
+uid_fits n h = record { maker = omega arith; device = omega arith }
+
+pub request_fits : (stage : Stage) (request : Request) → IsStage stage → request_of stage ≡ Some request → IsRequest request
+request_fits Start request fits e = let this : UnMute ≡ request = cc in subst IsRequest this tt
+request_fits (Asking r) request fits e =
+    let this : UniqueBranch (low r) (high r) ≡ request = cc in
+    let within = range_fits r.depth r.index fits.0 fits.1 in
+    let some = width_pos r.depth in
+    subst IsRequest this (uid_fits _ (omega arith), uid_fits _ (omega arith))
+request_fits (Muting r u) request fits e = let this : Mute u ≡ request = cc in subst IsRequest this tt
+request_fits Ended request fits e = absurd cc
 
 -- ---- the beginning
 

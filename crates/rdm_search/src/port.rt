@@ -10,7 +10,7 @@ pub trait Port {
     ghost use Rattle.std.specs.Prelude.{◌≡◌, ℕ, ◌+◌, ◌≤◌, List};
     ghost use Rattle.rdm_frame.specs.declared.uid.Uid.{Uid};
     ghost use Rattle.rdm_search.specs.declared.request.Request.{Request};
-    ghost use Rattle.rdm_search.specs.Requests.{request_frame};
+    ghost use Rattle.rdm_search.specs.Requests.{request_frame, IsRequest};
     ghost use Rattle.rdm_search.specs.Line.{Fixture, IsHeard, after_request};
 
     // The fixtures of its line.
@@ -21,9 +21,9 @@ pub trait Port {
 
     /// Sends the frame, and waits for what comes.
     fn exchange(&mut self, frame: &Frame) -> Wire
-        ensures heard { (request : Request) (source : Uid) (tn : ℕ) → frame.now ≡ request_frame source tn request
-            → IsHeard request (fixtures self.old) result }
-        ensures after { (request : Request) (source : Uid) (tn : ℕ) → frame.now ≡ request_frame source tn request
-            → fixtures self.new ≡ after_request request (fixtures self.old) }
+        ensures heard { (request : Request) (source : Uid) (tn : ℕ) → IsRequest request
+            → frame.now ≡ request_frame source tn request → IsHeard request (fixtures self.old) result }
+        ensures after { (request : Request) (source : Uid) (tn : ℕ) → IsRequest request
+            → frame.now ≡ request_frame source tn request → fixtures self.new ≡ after_request request (fixtures self.old) }
         ensures sent { sent self.new ≤ sent self.old + 1 };
 }

@@ -4,7 +4,7 @@ use Rattle.rdm_search.specs.Answers.{found_uids}
 use Rattle.rdm_search.specs.Line.{Fixture, IsHeard, uids}
 use Rattle.rdm_search.specs.Searches.{next_of}
 use Rattle.rdm_search.specs.Stages.{request_of, Stands, price}
-use Rattle.rdm_search.proofs.Runs.{Same, request_keeps, ended, costs, next_frame, next_none, next_err, on_err}
+use Rattle.rdm_search.proofs.Runs.{Same, request_fits, request_keeps, ended, costs, next_frame, next_none, next_err, on_err}
 use Rattle.rdm_search.proofs.driving.turn.Goals as goal
 
 pub returns-in_err-next-clause-limit : goal.returns-in_err-next-clause-limit
@@ -19,7 +19,7 @@ returns-in_err-hear-in-Some-clause-same g c =
     let old = c.args.search.now in let line = g.P.Port.fixtures c.args.port.now in
     let is : Same (Ok (Some c.in-Some.frame)) (next_of old.source old.tn (request_of old.stage) old.left) = subst (λ (o : Option Frame). Same (Ok o) (next_of old.source old.tn (request_of old.stage) old.left)) c.in-Some.is c.in_ok-next.ensures in
     let n = next_frame old.source old.tn (request_of old.stage) old.left c.in-Some.frame is in
-    ap uids (c.exchange-heard.ensures.after n.0 old.source old.tn n.2) ∙ request_keeps n.0 line
+    ap uids (c.exchange-heard.ensures.after n.0 old.source old.tn (request_fits old.stage n.0 old.valid n.1) n.2) ∙ request_keeps n.0 line
 
 pub returns-in_err-hear-in-Some-clause-err : goal.returns-in_err-hear-in-Some-clause-err
 returns-in_err-hear-in-Some-clause-err g c =
@@ -41,9 +41,9 @@ returns-in_ok-hear-in-Some-clause-stands g c e =
     let old = c.args.search.now in let line = g.P.Port.fixtures c.args.port.now in
     let is : Same (Ok (Some c.in-Some.frame)) (next_of old.source old.tn (request_of old.stage) old.left) = subst (λ (o : Option Frame). Same (Ok o) (next_of old.source old.tn (request_of old.stage) old.left)) c.in-Some.is c.in_ok-next.ensures in
     let n = next_frame old.source old.tn (request_of old.stage) old.left c.in-Some.frame is in
-    let heard = subst (IsHeard n.0 line) (sym c.as_slice.ensures.value) (c.exchange-heard.ensures.heard n.0 old.source old.tn n.2) in
+    let heard = subst (IsHeard n.0 line) (sym c.as_slice.ensures.value) (c.exchange-heard.ensures.heard n.0 old.source old.tn (request_fits old.stage n.0 old.valid n.1) n.2) in
     let leads = c.in_ok-hear-in-Some.ensures.hears n.0 line n.1 c.requires heard in
-    let after = c.exchange-heard.ensures.after n.0 old.source old.tn n.2 in
+    let after = c.exchange-heard.ensures.after n.0 old.source old.tn (request_fits old.stage n.0 old.valid n.1) n.2 in
     subst (λ (l : List Fixture). Stands c.hear.new.self.stage (found_uids c.hear.new.self.found.items) l) (sym after) leads.0
 
 pub returns-in_ok-hear-in-Some-clause-price : goal.returns-in_ok-hear-in-Some-clause-price
@@ -51,9 +51,9 @@ returns-in_ok-hear-in-Some-clause-price g c e =
     let old = c.args.search.now in let line = g.P.Port.fixtures c.args.port.now in
     let is : Same (Ok (Some c.in-Some.frame)) (next_of old.source old.tn (request_of old.stage) old.left) = subst (λ (o : Option Frame). Same (Ok o) (next_of old.source old.tn (request_of old.stage) old.left)) c.in-Some.is c.in_ok-next.ensures in
     let n = next_frame old.source old.tn (request_of old.stage) old.left c.in-Some.frame is in
-    let heard = subst (IsHeard n.0 line) (sym c.as_slice.ensures.value) (c.exchange-heard.ensures.heard n.0 old.source old.tn n.2) in
+    let heard = subst (IsHeard n.0 line) (sym c.as_slice.ensures.value) (c.exchange-heard.ensures.heard n.0 old.source old.tn (request_fits old.stage n.0 old.valid n.1) n.2) in
     let leads = c.in_ok-hear-in-Some.ensures.hears n.0 line n.1 c.requires heard in
-    let after = c.exchange-heard.ensures.after n.0 old.source old.tn n.2 in
+    let after = c.exchange-heard.ensures.after n.0 old.source old.tn (request_fits old.stage n.0 old.valid n.1) n.2 in
     subst (λ (l : List Fixture). price c.hear.new.self.stage l + 2 ≤ price old.stage line) (sym after) leads.1
 
 pub returns-in_ok-hear-in-Some-clause-same : goal.returns-in_ok-hear-in-Some-clause-same
@@ -61,4 +61,4 @@ returns-in_ok-hear-in-Some-clause-same g c =
     let old = c.args.search.now in let line = g.P.Port.fixtures c.args.port.now in
     let is : Same (Ok (Some c.in-Some.frame)) (next_of old.source old.tn (request_of old.stage) old.left) = subst (λ (o : Option Frame). Same (Ok o) (next_of old.source old.tn (request_of old.stage) old.left)) c.in-Some.is c.in_ok-next.ensures in
     let n = next_frame old.source old.tn (request_of old.stage) old.left c.in-Some.frame is in
-    ap uids (c.exchange-heard.ensures.after n.0 old.source old.tn n.2) ∙ request_keeps n.0 line
+    ap uids (c.exchange-heard.ensures.after n.0 old.source old.tn (request_fits old.stage n.0 old.valid n.1) n.2) ∙ request_keeps n.0 line

@@ -1,0 +1,142 @@
+-- Requests that are asked again.
+use Rattle.std.proofs.Common.{◌≡◌, ℕ, suc, ◌+◌, ◌≤◌, Bool, true, false, ◌||◌, List, [], ◌∷◌, map, refl, sym, ap, ◌∙◌, subst, inl, inr, ◌⊎◌, arith}
+use Rattle.std.specs.Prelude.{Contains, IsSome, ◌↔◌}
+use Rattle.rdm_frame.specs.declared.uid.Uid.{Uid}
+use Rattle.rdm_frame.specs.Addressing.{is_addressed}
+use Rattle.rdm_search.specs.declared.request.Request.{Request}
+use Rattle.rdm_search.specs.declared.request.Request.TheVariants.{UnMute, UniqueBranch, Mute}
+use Rattle.rdm_search.specs.Answers.{mute_answer}
+use Rattle.rdm_search.specs.Line.{Fixture, IsHeard, uids, after_request}
+use Rattle.rdm_search.specs.Losses.{carried_out, IsPartly, IsKept, IsLost}
+use Rattle.rdm_search.proofs.Runs.{request_keeps}
+
+-- ---- twice is once
+
+or_twice : (m a : Bool) → ((m || a) || a) ≡ (m || a)
+or_twice true a = refl
+or_twice false true = refl
+or_twice false false = refl
+
+abbrev fixture : Uid → Bool → Fixture
+fixture u m = record { uid = u; muted = m }
+
+twice : (request : Request) (f : Fixture) → carried_out request (carried_out request f) ≡ carried_out request f
+twice UnMute f = refl
+twice (UniqueBranch a b) f = refl
+twice (Mute u) f = ap (fixture f.uid) (or_twice f.muted (is_addressed f.uid u))
+
+same_uid : (request : Request) (f : Fixture) → (carried_out request f).uid ≡ f.uid
+same_uid UnMute f = refl
+same_uid (UniqueBranch a b) f = refl
+same_uid (Mute u) f = refl
+
+all_same : (line : List Fixture) → line ≡ map (λ f. f) line
+all_same [] = refl
+all_same (f ∷ line) = ap (λ (rest : List Fixture). f ∷ rest) (all_same line)
+
+by_all : (request : Request) (line : List Fixture) → after_request request line ≡ map (carried_out request) line
+by_all UnMute line = refl
+by_all (UniqueBranch a b) line = all_same line
+by_all (Mute u) line = refl
+
+-- ---- some have carried it out
+
+two : (f g : Fixture) (line after : List Fixture) → g ≡ f → after ≡ line → g ∷ after ≡ f ∷ line
+two f g line after e e' = rw (e, e') refl
+
+two_uids : (u v : Uid) (us vs : List Uid) → u ≡ v → us ≡ vs → u ∷ us ≡ v ∷ vs
+two_uids u v us vs e e' = rw (e, e') refl
+
+pub partly_uids : (request : Request) (line after : List Fixture) → IsPartly request line after → uids after ≡ uids line
+partly_uids request [] [] p = refl
+partly_uids request [] (g ∷ after) p = absurd p
+partly_uids request (f ∷ line) [] p = absurd p
+partly_uids request (f ∷ line) (g ∷ after) p =
+    let one : g.uid ≡ f.uid = elim p.0 [ inl e ↦ ap (λ (x : Fixture). x.uid) e | inr e ↦ ap (λ (x : Fixture). x.uid) e ∙ same_uid request f ] in
+    two_uids g.uid f.uid (uids after) (uids line) one (partly_uids request line after p.1)
+
+then_all : (request : Request) (line after : List Fixture) → IsPartly request line after → map (carried_out request) after ≡ map (carried_out request) line
+then_all request [] [] p = refl
+then_all request [] (g ∷ after) p = absurd p
+then_all request (f ∷ line) [] p = absurd p
+then_all request (f ∷ line) (g ∷ after) p =
+    let one : carried_out request g ≡ carried_out request f = elim p.0 [ inl e ↦ ap (carried_out request) e | inr e ↦ ap (carried_out request) e ∙ twice request f ] in
+    two (carried_out request f) (carried_out request g) _ _ one (then_all request line after p.1)
+
+after_all : (request : Request) (line after : List Fixture) → IsPartly request (map (carried_out request) line) after → after ≡ map (carried_out request) line
+after_all request [] [] p = refl
+after_all request [] (g ∷ after) p = absurd p
+after_all request (f ∷ line) [] p = absurd p
+after_all request (f ∷ line) (g ∷ after) p =
+    let one : g ≡ carried_out request f = elim p.0 [ inl e ↦ e | inr e ↦ e ∙ twice request f ] in
+    two (carried_out request f) g _ _ one (after_all request line after p.1)
+
+abbrev Either : Request → Fixture → Fixture → Type 0
+Either request f g = (g ≡ f) ⊎ (g ≡ carried_out request f)
+
+one_more : (request : Request) (f g h : Fixture) → Either request f g → Either request g h → Either request f h
+one_more request f g h (inl e) (inl e') = inl (e' ∙ e)
+one_more request f g h (inr e) (inl e') = inr (e' ∙ e)
+one_more request f g h (inl e) (inr e') = inr (e' ∙ ap (carried_out request) e)
+one_more request f g h (inr e) (inr e') = inr (e' ∙ ap (carried_out request) e ∙ twice request f)
+
+partly_more : (request : Request) (a b c : List Fixture) → IsPartly request a b → IsPartly request b c → IsPartly request a c
+partly_more request [] [] [] p q = q
+partly_more request [] [] (h ∷ c) p q = q
+partly_more request [] (g ∷ b) c p q = absurd p
+partly_more request (f ∷ a) [] c p q = absurd p
+partly_more request (f ∷ a) (g ∷ b) [] p q = q
+partly_more request (f ∷ a) (g ∷ b) (h ∷ c) p q = (one_more request f g h p.0 q.0, partly_more request a b c p.1 q.1)
+
+-- ---- what is heard afterwards could have been heard before
+
+answers_of : (u : Uid) (line after : List Fixture) (heard : List ℕ) → uids after ≡ uids line → IsHeard (Mute u) after heard → IsHeard (Mute u) line heard
+answers_of u line after heard e h = subst (λ (us : List Uid). IsSome (mute_answer u heard) ↔ Contains us u) e h
+
+before : (request : Request) (line after : List Fixture) (heard : List ℕ) → IsPartly request line after → IsHeard request after heard → IsHeard request line heard
+before UnMute line after heard p h = h
+before (UniqueBranch a b) line after heard p h =
+    let same : after ≡ line = all_same after ∙ then_all (UniqueBranch a b) line after p ∙ sym (all_same line) in
+    subst (λ (l : List Fixture). IsHeard (UniqueBranch a b) l heard) same h
+before (Mute u) line after heard p h = answers_of u line after heard (partly_uids (Mute u) line after p) h
+
+before_all : (request : Request) (line : List Fixture) (heard : List ℕ) → IsHeard request (after_request request line) heard → IsHeard request line heard
+before_all UnMute line heard h = h
+before_all (UniqueBranch a b) line heard h = h
+before_all (Mute u) line heard h = answers_of u line (after_request (Mute u) line) heard (request_keeps (Mute u) line) h
+
+twice_map : (request : Request) (line : List Fixture) → map (carried_out request) (map (carried_out request) line) ≡ map (carried_out request) line
+twice_map request [] = refl
+twice_map request (f ∷ line) = two (carried_out request f) (carried_out request (carried_out request f)) _ _ (twice request f) (twice_map request line)
+
+twice_all : (request : Request) (line : List Fixture) → after_request request (after_request request line) ≡ after_request request line
+twice_all request line =
+    by_all request (after_request request line) ∙ ap (map (carried_out request)) (by_all request line) ∙ twice_map request line ∙ sym (by_all request line)
+
+-- ---- once more
+
+abbrev pub Asked : Request → List Fixture → List ℕ → List Fixture → ℕ → ℕ → Type 0
+Asked request line heard after least lost = IsKept request line heard after ⊎ (IsLost request line heard after × (least ≤ lost))
+
+kept_kept : (request : Request) (line l : List Fixture) (heard heard' : List ℕ) (l' : List Fixture) → IsKept request line heard l → IsKept request l heard' l' → IsKept request line heard' l'
+kept_kept request line l heard heard' l' k k' =
+    (before_all request line heard' (subst (λ (x : List Fixture). IsHeard request x heard') k.1 k'.0), k'.1 ∙ ap (after_request request) k.1 ∙ twice_all request line)
+
+kept_lost : (request : Request) (line l : List Fixture) (heard heard' : List ℕ) (l' : List Fixture) → heard ≡ [] → IsKept request line heard l → IsLost request l heard' l' → IsKept request line heard' l'
+kept_lost request line l heard heard' l' e k k' =
+    let e' : heard ≡ heard' = e ∙ sym k'.0 in
+    let all : l ≡ map (carried_out request) line = k.1 ∙ by_all request line in
+    (subst (IsHeard request line) e' k.0, after_all request line l' (subst (λ (x : List Fixture). IsPartly request x l') all k'.1) ∙ sym (by_all request line))
+
+lost_kept : (request : Request) (line l : List Fixture) (heard heard' : List ℕ) (l' : List Fixture) → IsLost request line heard l → IsKept request l heard' l' → IsKept request line heard' l'
+lost_kept request line l heard heard' l' k k' =
+    (before request line l heard' k.1 k'.0, k'.1 ∙ by_all request l ∙ then_all request line l k.1 ∙ sym (by_all request line))
+
+lost_lost : (request : Request) (line l : List Fixture) (heard heard' : List ℕ) (l' : List Fixture) → IsLost request line heard l → IsLost request l heard' l' → IsLost request line heard' l'
+lost_lost request line l heard heard' l' k k' = (k'.0, partly_more request line l l' k.1 k'.1)
+
+pub once_more : (request : Request) (line l : List Fixture) (heard heard' : List ℕ) (l' : List Fixture) (least least' lost lost' : ℕ) → least' ≤ least + 1 → heard ≡ [] → Asked request line heard l least lost → (IsKept request l heard' l' × (lost' ≡ 0)) ⊎ (IsLost request l heard' l' × (lost' ≡ suc lost)) → Asked request line heard' l' least' lost'
+once_more request line l heard heard' l' least least' lost lost' le e (inl k) (inl k') = inl (kept_kept request line l heard heard' l' k k'.0)
+once_more request line l heard heard' l' least least' lost lost' le e (inl k) (inr k') = inl (kept_lost request line l heard heard' l' e k k'.0)
+once_more request line l heard heard' l' least least' lost lost' le e (inr k) (inl k') = inl (lost_kept request line l heard heard' l' k.0 k'.0)
+once_more request line l heard heard' l' least least' lost lost' le e (inr k) (inr k') = inr (lost_lost request line l heard heard' l' k.0 k'.0, omega (arith, k.1, k'.1, le))
