@@ -12,7 +12,7 @@ use Rattle.toml.specs.Data.{Data, string, integer, float, boolean, datetime, arr
 use Rattle.rdm_fixture.specs.Values.{number}
 use Rattle.rdm_fixture.specs.Keys.{may, must, OfTable, EachIs, ListAt}
 use Rattle.rdm_fixture.specs.Format.{IsPersonality, IsSelfTest, IsUnit, SubDevices, LanguagesAt, IsProfile, slot_count}
-use Rattle.rdm_fixture.proofs.Entries.{slot_count-of}
+use Rattle.rdm_fixture.proofs.ListEntries.{slot_count-of}
 
 -- ---- numbers
 
@@ -20,7 +20,7 @@ some_if : (b : Bool) (k n : ℕ) → (if b then Some k else None) ≡ Some n →
 some_if true k n h = (refl, same_Some _ _ h)
 some_if false k n h = absurd (cc)
 
-number_range : (least most : ℕ) (d : Data) (n : ℕ) → number least most d ≡ Some n → (least ≤ n) × (n ≤ most)
+pub number_range : (least most : ℕ) (d : Data) (n : ℕ) → number least most d ≡ Some n → (least ≤ n) × (n ≤ most)
 number_range least most (integer (pos k)) n h =
     let (within, same) = some_if _ k n h in
     let (low, high) = and_parts _ _ within in
@@ -49,14 +49,14 @@ must_range least most (Some d) n h = number_range least most d n h
 all_none : {A : Type 0} (Q : A → Type 0) → All Q []
 all_none Q k d less = absurd (omega arith)
 
-all_said : {A : Type 0} (P : Data → A → Type 0) (Q : A → Type 0) → ((d : Data) (x : A) → P d x → Q x)
+pub all_said : {A : Type 0} (P : Data → A → Type 0) (Q : A → Type 0) → ((d : Data) (x : A) → P d x → Q x)
     → (ds : Items) (xs : List A) → EachIs P ds xs → All Q xs
 all_said P Q gives no_items [] h = all_none Q
 all_said P Q gives no_items (x ∷ xs) h = absurd h
 all_said P Q gives (item d ds) [] h = absurd h
 all_said P Q gives (item d ds) (x ∷ xs) h = All-cons Q x xs (gives d x h.0) (all_said P Q gives ds xs h.1)
 
-all_at : {A : Type 0} (P : Data → A → Type 0) (Q : A → Type 0) → ((d : Data) (x : A) → P d x → Q x)
+pub all_at : {A : Type 0} (P : Data → A → Type 0) (Q : A → Type 0) → ((d : Data) (x : A) → P d x → Q x)
     → (found : Option Data) (xs : List A) → ListAt P found xs → All Q xs
 all_at P Q gives None xs h = rw h (all_none Q)
 all_at P Q gives (Some (array ds)) xs h = all_said P Q gives ds xs h
@@ -67,7 +67,7 @@ all_at P Q gives (Some (float f)) xs h = absurd h
 all_at P Q gives (Some (boolean b)) xs h = absurd h
 all_at P Q gives (Some (datetime dt)) xs h = absurd h
 
-of_table : {A : Type 0} (P : Members → A → Type 0) (Q : A → Type 0) → ((t : Members) (x : A) → P t x → Q x)
+pub of_table : {A : Type 0} (P : Members → A → Type 0) (Q : A → Type 0) → ((t : Members) (x : A) → P t x → Q x)
     → (d : Data) (x : A) → OfTable P d x → Q x
 of_table P Q gives (table t) x h = gives t x h
 of_table P Q gives (string s) x h = absurd h

@@ -1,5 +1,5 @@
 -- What a reader answers is carried over to what is said otherwise.
-use Rattle.std.proofs.Common.{Result, Ok, Err, IfOk, IsErr}
+use Rattle.std.proofs.Common.{◌≡◌, Option, Some, None, Result, Ok, Err, IfOk, IsErr}
 use Rattle.rdm_fixture.specs.Keys.{Reads}
 
 pub Reads-same : {S T A E : Type 0} (P : S → A → Type 0) (Q : T → A → Type 0) (s : S) (t : T) (r : Result A E)
@@ -14,3 +14,7 @@ Reads-ok P Q s (Err e) there h = tt
 pub Reads-err : {S A E : Type 0} (P : S → A → Type 0) (s : S) (r : Result A E) → IsErr r → ((x : A) → ¬ P s x) → Reads P s r
 Reads-err P s (Ok x) h none = absurd (cc)
 Reads-err P s (Err e) h none = none
+
+-- what was found isn't missing
+pub not_none : {A : Type 0} (x : A) → Some x ≡ None → ⊥
+not_none x e = cc

@@ -3,5 +3,6 @@ pub mod Keys
 pub mod Outcomes
 pub mod Format
 pub mod Describes
+pub mod Describable
 pub mod Cause
 pub mod Refusals

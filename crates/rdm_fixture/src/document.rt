@@ -6,6 +6,7 @@ ghost use Rattle.toml.specs.Parse.{parse_document};
 ghost use Rattle.toml.specs.View.{table_view};
 ghost use Rattle.rdm_device.specs.Device.Profiles.{CanBeMade};
 ghost use Rattle.rdm_fixture.specs.Describes.{Describes, DescribesNothing};
+ghost use Rattle.rdm_fixture.specs.Describable.{CanBeDescribed};
 ghost use Rattle.rdm_fixture.specs.Cause.{IsCause};
 ghost use Rattle.rdm_fixture.specs.Format.{IsFixture};
 ghost use Rattle.rdm_fixture.specs.Keys.{Reads};
@@ -42,6 +43,7 @@ pub enum FixtureError {
 pub fn profile_of(alloc: Global, text: &str) -> Result<Fixture, FixtureError>
     ensures ok { IfOk result (Describes text.now) }
     ensures made { IfOk result (λ f. CanBeMade f.profile) }
+    ensures describable { IfOk result CanBeDescribed }
     ensures refused { IfErr result (λ e. e ≢ FixtureError.OutOfMemory → DescribesNothing text.now) }
     ensures document { IfErr result (IsCause (parse_document text.now)) }
 {
@@ -71,6 +73,7 @@ fn not_read(error: toml::de::Error) -> FixtureError
 pub fn fixture_of(table: &Table) -> Result<Fixture, Refusal>
     ensures read { Reads IsFixture (table_view table.now) result }
     ensures made { IfOk result (λ f. CanBeMade f.profile) }
+    ensures describable { IfOk result CanBeDescribed }
 {
     only(
         table,

@@ -163,7 +163,7 @@ fn text_in(value: &Value, key: &str) -> Result<Text, Refusal>
 }
 
 /// Whether every character is printable.
-fn are_printable(bytes: &[u8]) -> bool
+pub(crate) fn are_printable(bytes: &[u8]) -> bool
     ensures { result ≡ list_all says.is_printable bytes.now }
 {
     bytes.iter().all(|b| (0x20..=0x7E).contains(b))

@@ -1,18 +1,18 @@
 //! A fixture from a file: a document of TOML says what a device is made with, each parameter of ANSI E1.20-2010 under
 //! its name.
 //!
-//! `profile_of` reads the text, and refuses what isn't a fixture with the key and what was wanted there. The format is
-//! `specs/Format.antt`.
+//! `profile_of` reads the text, and refuses what isn't a fixture with the key and what was wanted there; `to_toml` writes
+//! one. The format is `specs/Format.antt`.
 #![tactic(auto)]
 
 mod document;
+mod entries;
 mod fixture;
 mod keys;
 mod laws;
 mod line;
 mod lists;
 mod outcomes;
-mod parts;
 mod profile;
 mod refusal;
 mod unit;

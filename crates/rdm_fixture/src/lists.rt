@@ -11,23 +11,23 @@ use arrayvec::ArrayVec;
 use toml::value::Array;
 use toml::{Table, Value};
 
-/// What an entry of a list of tables says, where the device has so many slots.
-pub(crate) trait Part: Default + Drop {
+/// What an entry of a list of tables is read as, where the device has so many slots.
+pub(crate) trait FromEntry: Default + Drop {
     ghost says: { ℕ → Members → Self → Type 0 };
 
     /// Reads the entry.
-    fn read(table: &Table, slots: u16) -> Result<Self, Refusal>
+    fn from_entry(table: &Table, slots: u16) -> Result<Self, Refusal>
         ensures { Reads (says slots) (table_view table.now) result };
 }
 
 /// The list at a key, of `least` entries or more.
-pub(crate) fn list<P: Part, const N: usize>(
+pub(crate) fn list<E: FromEntry, const N: usize>(
     table: &Table,
     key: &str,
     least: usize,
     slots: u16,
-) -> Result<ArrayVec<P, N>, Refusal>
-    ensures { Reads (λ t xs. Lists t key.now (OfTable (P.says slots)) least N xs.items) (table_view table.now) result }
+) -> Result<ArrayVec<E, N>, Refusal>
+    ensures { Reads (λ t xs. Lists t key.now (OfTable (E.says slots)) least N xs.items) (table_view table.now) result }
 {
     let Some(value) = find(table, key) else {
         if least > 0 {
@@ -45,30 +45,30 @@ pub(crate) fn list<P: Part, const N: usize>(
 }
 
 /// The entries, one by one.
-fn entries_of<P: Part, const N: usize>(
+fn entries_of<E: FromEntry, const N: usize>(
     entries: &Array,
     key: &str,
     slots: u16,
-) -> Result<ArrayVec<P, N>, Refusal>
+) -> Result<ArrayVec<E, N>, Refusal>
     requires { length entries.now.items ≤ N }
-    ensures { Reads (λ ds xs. EachIs (OfTable (P.says slots)) ds xs.items) (array_view entries.now) result }
+    ensures { Reads (λ ds xs. EachIs (OfTable (E.says slots)) ds xs.items) (array_view entries.now) result }
 {
-    let mut parts = ArrayVec::new();
+    let mut read = ArrayVec::new();
     for (i, entry) in entries.iter().enumerate() {
-        match part_of(entry, key, slots) {
-            Ok(part) => parts.push(part),
+        match entry_of(entry, key, slots) {
+            Ok(item) => read.push(item),
             Err(refusal) => return Err(refusal.in_entry(key, i + 1)),
         }
     }
-    Ok(parts)
+    Ok(read)
 }
 
 /// The entry, which has to be a table.
-fn part_of<P: Part>(entry: &Value, key: &str, slots: u16) -> Result<P, Refusal>
-    ensures { Reads (OfTable (P.says slots)) (view entry.now) result }
+fn entry_of<E: FromEntry>(entry: &Value, key: &str, slots: u16) -> Result<E, Refusal>
+    ensures { Reads (OfTable (E.says slots)) (view entry.now) result }
 {
     match entry {
-        Value::Table(table) => P::read(table, slots),
+        Value::Table(table) => E::from_entry(table, slots),
         _ => Err(Refusal::at(key, Wanted::Table)),
     }
 }

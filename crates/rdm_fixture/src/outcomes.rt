@@ -11,7 +11,7 @@ ghost use Rattle.rdm_fixture.specs.Values.{number};
 mod wrong;
 
 use crate::keys::{find, integer_in, integer16_in, only};
-use crate::lists::Part;
+use crate::lists::FromEntry;
 use crate::refusal::Refusal;
 use rdm_outcomes::{Rule, Task};
 use rdm_params::{Outcome, Severity};
@@ -27,10 +27,10 @@ macro_rules! and_job_keys {
 
 pub(crate) use and_job_keys;
 
-impl Part for Rule {
+impl FromEntry for Rule {
     ghost says = { λ _. IsOutcome };
 
-    fn read(table: &Table, _slots: u16) -> Result<Rule, Refusal> {
+    fn from_entry(table: &Table, _slots: u16) -> Result<Rule, Refusal> {
         match rule(table) {
             Some(rule) => Ok(rule),
             None => Err(what_is_wrong(table)),

@@ -1,6 +1,6 @@
 //! What a device is made with.
 
-ghost use Rattle.std.specs.Prelude.{◌≡◌, ◌≢◌, ◌≤◌, ◌↔◌, ℕ, Some, IfOk, IsTrue, AllPairs, length, codes};
+ghost use Rattle.std.specs.Prelude.{◌≡◌, ◌≢◌, ◌≤◌, ◌↔◌, ℕ, Some, None, IfOk, IsTrue, AllPairs, length, codes};
 ghost use Rattle.toml.specs.Data.{get_member};
 ghost use Rattle.toml.specs.View.{view, array_view, table_view};
 ghost use Rattle.rdm_fixture.specs.Format.{IsProfile, IsSlot, IsSelfTest, IsStatus, LanguagesAt, slot_count};
@@ -98,25 +98,24 @@ fn self_tests(table: &Table) -> Result<ArrayVec<SelfTest, 8>, Refusal>
         × AllPairs (λ a b. a.number ≢ b.number) xs.items) (table_view table.now) result }
 {
     let tests = list(table, "self_test", 0, 0)?;
-    let again = test_again(tests.as_slice());
-    if again == 0 {
-        return Ok(tests);
+    match test_again(tests.as_slice()) {
+        None => Ok(tests),
+        Some(again) => Err(Refusal::at("number", Wanted::Other).in_entry("self_test", again)),
     }
-    Err(Refusal::at("number", Wanted::Other).in_entry("self_test", again))
 }
 
-/// A test, from 1, that has the number of an earlier one; 0 if there is none.
-fn test_again(tests: &[SelfTest]) -> usize
-    ensures { (result ≡ 0) ↔ AllPairs (λ a b. a.number ≢ b.number) tests.now }
+/// A test, from 1, that has the number of an earlier one, if there is one.
+fn test_again(tests: &[SelfTest]) -> Option<usize>
+    ensures { (result ≡ None) ↔ AllPairs (λ a b. a.number ≢ b.number) tests.now }
 {
     for i in 0..tests.len() {
         for j in i + 1..tests.len() {
             if tests[i].number == tests[j].number {
-                return j + 1;
+                return Some(j + 1);
             }
         }
     }
-    0
+    None
 }
 
 /// The status IDs, of which no two are alike.
@@ -125,23 +124,22 @@ fn status_texts(table: &Table) -> Result<ArrayVec<StatusText, 8>, Refusal>
         × AllPairs (λ a b. a.id ≢ b.id) xs.items) (table_view table.now) result }
 {
     let texts = list(table, "status", 0, 0)?;
-    let again = status_again(texts.as_slice());
-    if again == 0 {
-        return Ok(texts);
+    match status_again(texts.as_slice()) {
+        None => Ok(texts),
+        Some(again) => Err(Refusal::at("id", Wanted::Other).in_entry("status", again)),
     }
-    Err(Refusal::at("id", Wanted::Other).in_entry("status", again))
 }
 
-/// A status ID, from 1, that is an earlier one again; 0 if there is none.
-fn status_again(texts: &[StatusText]) -> usize
-    ensures { (result ≡ 0) ↔ AllPairs (λ a b. a.id ≢ b.id) texts.now }
+/// A status ID, from 1, that is an earlier one again, if there is one.
+fn status_again(texts: &[StatusText]) -> Option<usize>
+    ensures { (result ≡ None) ↔ AllPairs (λ a b. a.id ≢ b.id) texts.now }
 {
     for i in 0..texts.len() {
         for j in i + 1..texts.len() {
             if texts[i].id == texts[j].id {
-                return j + 1;
+                return Some(j + 1);
             }
         }
     }
-    0
+    None
 }

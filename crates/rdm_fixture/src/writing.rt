@@ -1,13 +1,16 @@
 //! The text of a fixture.
 
-ghost use Rattle.std.specs.Prelude.{IfOk, string_bytes};
+ghost use Rattle.std.specs.Prelude.{◌≡◌, ◌↔◌, ℕ, List, Err, IfOk, IfErr, string_bytes};
 ghost use Rattle.rdm_fixture.specs.Describes.{Describes};
+ghost use Rattle.rdm_fixture.specs.Describable.{CanBeDescribed};
 
+mod checks;
 mod text;
 
 use crate::document::{FixtureError, profile_of};
 use crate::fixture::Fixture;
 use crate::laws::fixtures_are_equal_by_value;
+use checks::can_be_described;
 use std::alloc::Global;
 use text::text_of;
 use thiserror::Error;
@@ -18,37 +21,48 @@ pub enum WriteError {
     /// There is no memory for its text.
     #[error("out of memory")]
     OutOfMemory,
-    /// The text that was made for it doesn't describe it, as where a text of it isn't printable ASCII, or where devices can't be made
-    /// with it.
+    /// No text describes it: its UID is a broadcast (E1.20 section 6.2.4), devices can't be made with its profile, a text of it
+    /// has a character that isn't printable ASCII, a language isn't two small letters (section 10.5.7), or a rule is none of a
+    /// file's: it is of job 0, its outcome isn't one that its parameter can have, or it fails with what is over (table A-4).
     #[error("no file describes the fixture")]
     Indescribable,
+    /// The text that was written isn't read back as the fixture. No fixture is known for which it comes.
+    #[error("the text isn't read back as the fixture")]
+    NotReadBack,
 }
 
 /// A text that describes the fixture.
 ///
-/// It is read again before it is handed out, so a text is never one of another fixture. No clause says when it is refused.
+/// It is refused as `Indescribable` exactly where one of the conditions of `CanBeDescribed` fails, and then no text describes
+/// it. The text is read again before it is handed out, so it is never one of another fixture.
 pub fn to_toml(alloc: Global, fixture: &Fixture) -> Result<String, WriteError>
-    ensures { IfOk result (λ text. Describes (string_bytes text) fixture.now) }
+    ensures ok { IfOk result (λ text. Describes (string_bytes text) fixture.now) }
+    ensures indescribable { (result ≡ Err WriteError.Indescribable) ↔ ¬ CanBeDescribed fixture.now }
+    ensures refused { result ≡ Err WriteError.Indescribable → (text : List ℕ) → ¬ Describes text fixture.now }
 {
+    if !can_be_described(fixture) {
+        return Err(WriteError::Indescribable);
+    }
     let Ok(text) = text_of(alloc, fixture) else {
         return Err(WriteError::OutOfMemory);
     };
     match profile_of(alloc, text.as_str()) {
         Ok(read) => same_or_none(text, &read, fixture),
         Err(FixtureError::OutOfMemory) => Err(WriteError::OutOfMemory),
-        Err(_) => Err(WriteError::Indescribable),
+        Err(_) => Err(WriteError::NotReadBack),
     }
 }
 
 /// The text, where what was read of it is the fixture.
 fn same_or_none(text: String, read: &Fixture, fixture: &Fixture) -> Result<String, WriteError>
     requires { Describes (string_bytes text) read.now }
-    ensures { IfOk result (λ text. Describes (string_bytes text) fixture.now) }
+    ensures ok { IfOk result (λ text. Describes (string_bytes text) fixture.now) }
+    ensures other { IfErr result (λ e. e ≡ WriteError.NotReadBack) }
 {
     fixtures_are_equal_by_value();
     if *read == *fixture {
         Ok(text)
     } else {
-        Err(WriteError::Indescribable)
+        Err(WriteError::NotReadBack)
     }
 }

@@ -2,7 +2,7 @@
 
 use super::{LEAST, told, try_rows};
 use rdm_fixture::{WriteError, profile_of, to_toml};
-use rdm_outcomes::demo_rules;
+use rdm_outcomes::{Rule, demo_rules};
 use rdm_params::{Outcome, Severity};
 use std::test::Fail;
 
@@ -125,21 +125,32 @@ fn how_many(rt: HostRuntime) -> Result<(), Fail> {
     Ok(())
 }
 
-/// The rules of the demonstration are written, and one that fails with what is over isn't.
+/// The rules of the demonstration are written. One that fails with what is over isn't, nor one of job 0, nor one whose
+/// parameter can't have its outcome.
 #[test]
 fn written(rt: HostRuntime) -> Result<(), Fail> {
     let mut fixture = profile_of(rt.alloc(), LEAST)?;
     fixture.outcomes = demo_rules();
     let text = to_toml(rt.alloc(), &fixture)?;
     assert!(rt; profile_of(rt.alloc(), text.as_str())? == fixture, "{text}");
-    for rule in fixture.outcomes.as_mut_slice().iter_mut() {
-        rule.outcome = Outcome::Failed {
-            severity: Severity::ErrorCleared,
-            id: 1,
-            v1: 0,
-            v2: 0,
-        };
+    let over = Outcome::Failed {
+        severity: Severity::ErrorCleared,
+        id: 1,
+        v1: 0,
+        v2: 0,
+    };
+    for (turn, outcome) in [
+        (None, over),
+        (Some(0), Outcome::Done),
+        (None, Outcome::Reading(0)),
+    ] {
+        fixture.outcomes.clear();
+        fixture.outcomes.push(Rule {
+            turn,
+            outcome,
+            ..Rule::default()
+        });
+        assert!(rt; to_toml(rt.alloc(), &fixture).err() == Some(WriteError::Indescribable));
     }
-    assert!(rt; to_toml(rt.alloc(), &fixture).err() == Some(WriteError::Indescribable));
     Ok(())
 }

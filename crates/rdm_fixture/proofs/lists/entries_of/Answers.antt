@@ -2,7 +2,7 @@ use Rattle.std.proofs.Common.{◌≡◌, sym, ap, ◌∙◌, get_or, subst, arit
 use Rattle.toml.specs.View.{view}
 use Rattle.toml.specs.declared.value.Value.{Value}
 use Rattle.rdm_fixture.specs.Keys.{OfTable}
-use Rattle.rdm_fixture.proofs.Entries.{EachIs-at, EachIs-more}
+use Rattle.rdm_fixture.proofs.ListEntries.{EachIs-at, EachIs-more}
 use Rattle.rdm_fixture.proofs.lists.entries_of.Goals as goal
 
 pub returns-in-Err : goal.returns-in-Err
@@ -10,7 +10,7 @@ returns-in-Err g c = λ xs h.
     let items = c.args.entries.now.items in
     let here : get_or items c.loop-i.i c.entry-item.result ≡ c.entry-item.result =
     ap (λ vs. get_or vs c.loop-i.i c.entry-item.result) (sym c.deref-entry-items.ensures.value) ∙ sym c.entry-item.is in
-    let P = OfTable (g.P.Part.says c.args.slots) in
+    let P = OfTable (g.E.FromEntry.says c.args.slots) in
     let at = EachIs-at P items xs.items c.loop-i.i c.entry-item.result h (omega arith) in
     c.in-Err.ensures at.0 (let Says : Value → Type 0 = λ v. P (view v) at.0 in subst Says here at.1)
 
@@ -19,8 +19,8 @@ loop-i-preserved g c =
     let items = c.args.entries.now.items in
     let here : get_or items c.loop-i.i c.entry-item.result ≡ c.entry-item.result =
     ap (λ vs. get_or vs c.loop-i.i c.entry-item.result) (sym c.deref-entry-items.ensures.value) ∙ sym c.entry-item.is in
-    let P = OfTable (g.P.Part.says c.args.slots) in
+    let P = OfTable (g.E.FromEntry.says c.args.slots) in
     record {
-      read = rw c.push.ensures.items (EachIs-more P items c.loop-i.i c.entry-item.result _ _ (omega arith) c.loop-i.invariant.read (let Says : Value → Type 0 = λ v. P (view v) c.in-Ok.part in subst Says (sym here) c.in-Ok.ensures));
+      read = rw c.push.ensures.items (EachIs-more P items c.loop-i.i c.entry-item.result _ _ (omega arith) c.loop-i.invariant.read (let Says : Value → Type 0 = λ v. P (view v) c.in-Ok.item in subst Says (sym here) c.in-Ok.ensures));
       count = omega arith;
     }

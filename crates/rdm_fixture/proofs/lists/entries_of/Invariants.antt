@@ -5,6 +5,6 @@ use Rattle.rdm_fixture.proofs.lists.entries_of.Given as goal
 
 abbrev pub invariant-loop-i : goal.invariant-loop-i
 invariant-loop-i g l = record {
-  read : EachIs (OfTable (g.P.Part.says l.slots)) (items_view (take l.i l.entries.items)) l.parts.items;
-  count : length l.parts.items ≡ l.i;
+  read : EachIs (OfTable (g.E.FromEntry.says l.slots)) (items_view (take l.i l.entries.items)) l.read.items;
+  count : length l.read.items ≡ l.i;
 }

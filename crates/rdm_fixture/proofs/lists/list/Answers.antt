@@ -3,7 +3,7 @@ use Rattle.toml.specs.Data.{array, get_member}
 use Rattle.toml.specs.View.{array_view, table_view}
 use Rattle.arrayvec.specs.declared.array_vec.ArrayVec.{ArrayVec}
 use Rattle.rdm_fixture.specs.Keys.{EachIs, Lists, OfTable}
-use Rattle.rdm_fixture.proofs.Entries.{EachIs-length, found_array}
+use Rattle.rdm_fixture.proofs.ListEntries.{EachIs-length, found_array}
 use Rattle.rdm_fixture.proofs.Readings.{Reads-same}
 use Rattle.rdm_fixture.proofs.lists.list.Goals as goal
 use Rattle.rdm_fixture.proofs.lists.list.Goals.{then-len-least-via-then-len-least, then-len-least-via-else-len-least+then-len}
@@ -13,7 +13,7 @@ returns-then-len-least g c =
     let found : get_member c.args.key.now (table_view c.args.table.now) ≡ Some (array (array_view c.in-Array.entries)) =
     found_array _ _ _ _ c.find.ensures c.in-Some.is c.in-Array.is in
     λ xs h.
-    let items : EachIs (OfTable (g.P.Part.says c.args.slots)) (array_view c.in-Array.entries) xs.items = rw found at h.items in
+    let items : EachIs (OfTable (g.E.FromEntry.says c.args.slots)) (array_view c.in-Array.entries) xs.items = rw found at h.items in
     let count = EachIs-length _ c.in-Array.entries.items xs.items items in
     let enough = h.enough in
     let fit = h.fit in
@@ -26,8 +26,8 @@ pub returns : goal.returns
 returns g c =
     let found : get_member c.args.key.now (table_view c.args.table.now) ≡ Some (array (array_view c.in-Array.entries)) =
     found_array _ _ _ _ c.find.ensures c.in-Some.is c.in-Array.is in
-    Reads-same {A = ArrayVec g.row.P.Denot g.row.N (Unit {0})} (λ ds xs. EachIs (OfTable (g.P.Part.says c.args.slots)) ds xs.items)
-    (λ t xs. Lists t c.args.key.now (OfTable (g.P.Part.says c.args.slots)) c.args.least g.row.N xs.items)
+    Reads-same {A = ArrayVec g.row.E.Denot g.row.N (Unit {0})} (λ ds xs. EachIs (OfTable (g.E.FromEntry.says c.args.slots)) ds xs.items)
+    (λ t xs. Lists t c.args.key.now (OfTable (g.E.FromEntry.says c.args.slots)) c.args.least g.row.N xs.items)
     (array_view c.in-Array.entries) (table_view c.args.table.now) _
     (λ xs h. let count = EachIs-length _ c.in-Array.entries.items xs.items h in record { items = rw found h; enough = omega arith; fit = omega arith })
     (λ xs h. rw found at h.items)

@@ -6,7 +6,7 @@ use Rattle.toml.specs.View.{array_view, table_view}
 use Rattle.rdm_fixture.specs.Keys.{EachIs}
 use Rattle.rdm_fixture.specs.Format.{LanguagesAt}
 use Rattle.rdm_fixture.specs.Values.{language}
-use Rattle.rdm_fixture.proofs.Entries.{EachIs-length, found_array}
+use Rattle.rdm_fixture.proofs.ListEntries.{EachIs-length, found_array}
 use Rattle.rdm_fixture.proofs.Readings.{Reads-same}
 use Rattle.rdm_fixture.proofs.profile.languages.Goals as goal
 use Rattle.rdm_fixture.proofs.profile.languages.Goals.{then-is_empty-via-then-is_empty, then-is_empty-via-else-is_empty+then-len-gt8}

@@ -5,7 +5,7 @@ use Rattle.toml.specs.Data.{get_member}
 use Rattle.toml.specs.View.{table_view}
 use Rattle.rdm_fixture.specs.Format.{IsSlot, slot_count}
 use Rattle.rdm_fixture.specs.Keys.{Lists, OfTable}
-use Rattle.rdm_fixture.proofs.Entries.{slot_count-of}
+use Rattle.rdm_fixture.proofs.ListEntries.{slot_count-of}
 use Rattle.rdm_fixture.proofs.Readings.{Reads-ok}
 use Rattle.rdm_fixture.proofs.profile.slots.Goals as goal
 

@@ -1,7 +1,7 @@
 use Rattle.std.proofs.Common.{◌≡◌, Some, codes}
 use Rattle.toml.specs.Data.{table, get_member}
 use Rattle.toml.specs.View.{table_view}
-use Rattle.rdm_fixture.proofs.Entries.{found_table}
+use Rattle.rdm_fixture.proofs.ListEntries.{found_table}
 use Rattle.rdm_fixture.proofs.unit.sub_devices.Goals as goal
 
 pub returns-in-Ok : goal.returns-in-Ok

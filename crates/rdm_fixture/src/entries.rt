@@ -3,15 +3,15 @@
 ghost use Rattle.rdm_fixture.specs.Format.{IsPersonality, IsSlot, IsSensor, IsSelfTest, IsStatus};
 
 use crate::keys::{number, number_or, only, signed_or, text_or_none};
-use crate::lists::Part;
+use crate::lists::FromEntry;
 use crate::refusal::Refusal;
 use rdm_device::{Personality, SelfTest, SensorDef, Slot, StatusText};
 use toml::Table;
 
-impl Part for Personality {
+impl FromEntry for Personality {
     ghost says = { IsPersonality };
 
-    fn read(table: &Table, slots: u16) -> Result<Personality, Refusal> {
+    fn from_entry(table: &Table, slots: u16) -> Result<Personality, Refusal> {
         only(table, &["dmx_footprint", "description"])?;
         Ok(Personality {
             footprint: number(table, "dmx_footprint", 0, u32::from(slots))? as u16,
@@ -20,10 +20,10 @@ impl Part for Personality {
     }
 }
 
-impl Part for Slot {
+impl FromEntry for Slot {
     ghost says = { λ _. IsSlot };
 
-    fn read(table: &Table, _slots: u16) -> Result<Slot, Refusal> {
+    fn from_entry(table: &Table, _slots: u16) -> Result<Slot, Refusal> {
         only(table, &["type", "label_id", "default_value", "description"])?;
         Ok(Slot {
             kind: number_or(table, "type", 0, 0, 0xFF)? as u8,
@@ -34,10 +34,10 @@ impl Part for Slot {
     }
 }
 
-impl Part for SensorDef {
+impl FromEntry for SensorDef {
     ghost says = { λ _. IsSensor };
 
-    fn read(table: &Table, _slots: u16) -> Result<SensorDef, Refusal> {
+    fn from_entry(table: &Table, _slots: u16) -> Result<SensorDef, Refusal> {
         only(
             table,
             &[
@@ -66,10 +66,10 @@ impl Part for SensorDef {
     }
 }
 
-impl Part for SelfTest {
+impl FromEntry for SelfTest {
     ghost says = { λ _. IsSelfTest };
 
-    fn read(table: &Table, _slots: u16) -> Result<SelfTest, Refusal> {
+    fn from_entry(table: &Table, _slots: u16) -> Result<SelfTest, Refusal> {
         only(table, &["number", "description"])?;
         Ok(SelfTest {
             number: number(table, "number", 1, 254)? as u8,
@@ -78,10 +78,10 @@ impl Part for SelfTest {
     }
 }
 
-impl Part for StatusText {
+impl FromEntry for StatusText {
     ghost says = { λ _. IsStatus };
 
-    fn read(table: &Table, _slots: u16) -> Result<StatusText, Refusal> {
+    fn from_entry(table: &Table, _slots: u16) -> Result<StatusText, Refusal> {
         only(table, &["id", "description"])?;
         Ok(StatusText {
             id: number(table, "id", 0, 0xFFFF)? as u16,

@@ -1,0 +1,225 @@
+-- Each fixture that a text describes is one that a file can describe.
+use Rattle.std.proofs.Common.{◌≡◌, ℕ, ℤ, ◌+◌, ◌*◌, ◌/◌, ◌%◌, ◌≤◌, ◌<◌, Bool, true, false, ◌&&◌, if◌then◌else◌, List, [], ◌∷◌, Option, Some, None, option_map, option_and_then, All, IsTrue, refl, sym, ap, ◌∙◌, subst, arith, codes}
+use Rattle.std.proofs.lemmas.Bool.{and_parts, leb-true, le-leb}
+use Rattle.std.proofs.lemmas.Option.{same_Some}
+use Rattle.std.proofs.lemmas.List.Elements.{All-cons}
+use Rattle.rdm_frame.specs.declared.uid.Uid.{Uid}
+use Rattle.rdm_frame.specs.Addressing.{is_broadcast}
+use Rattle.rdm_frame.specs.DigitReading.{uid_in}
+use Rattle.rdm_device.specs.declared.profile.Personality.{Personality}
+use Rattle.rdm_device.specs.declared.profile.Profile.{Profile}
+use Rattle.rdm_device.specs.declared.profile.SelfTest.{SelfTest}
+use Rattle.rdm_device.specs.declared.profile.SensorDef.{SensorDef}
+use Rattle.rdm_device.specs.declared.profile.Slot.{Slot}
+use Rattle.rdm_device.specs.declared.profile.StatusText.{StatusText}
+use Rattle.rdm_device.specs.declared.profile.Unit.{Unit as DeviceUnit}
+use Rattle.rdm_params.specs.declared.slow.outcome.Outcome.{Outcome}
+use Rattle.rdm_params.specs.declared.slow.outcome.Outcome.TheVariants.{Done, Reading, Failed}
+use Rattle.rdm_params.specs.declared.slow.status.Severity.{Severity}
+use Rattle.rdm_params.specs.declared.slow.status.Severity.TheVariants.{Advisory, Warning, Error}
+use Rattle.rdm_outcomes.specs.declared.rule.Rule.{Rule}
+use Rattle.toml.specs.Data.{Data, string, integer, float, boolean, datetime, array, table, Members, get_member}
+use Rattle.rdm_fixture.specs.declared.fixture.Fixture.{Fixture}
+use Rattle.rdm_fixture.specs.Values.{number, signed, text, is_text, uid, own_uid, language, language_in, is_letter}
+use Rattle.rdm_fixture.specs.Keys.{may, must, OfTable, Lists}
+use Rattle.rdm_fixture.specs.Outcomes.{IsOutcome, severity, severity_named, only_number, done, failed, failed_in, outcome_at}
+use Rattle.rdm_fixture.specs.Format.{IsPersonality, IsSlot, IsSensor, IsSelfTest, IsStatus, IsUnit, SubDevices, LanguagesAt, IsProfile}
+use Rattle.rdm_fixture.specs.Describes.{Describes}
+use Rattle.rdm_fixture.specs.Describable.{are_printable, HasPrintableUnit, HasPrintableTexts, is_coded, is_counted, is_base_form, is_told, is_ruled, CanBeDescribed}
+use Rattle.rdm_fixture.proofs.Made.{made, number_range, all_said, all_at, of_table}
+
+when : {A : Type 0} (b : Bool) (k n : A) → (if b then Some k else None) ≡ Some n → (b ≡ true) × (k ≡ n)
+when true k n h = (refl, same_Some _ _ h)
+when false k n h = absurd (cc)
+
+-- ---- the UID
+
+unless : (b : Bool) (v u : Uid) → (if b then None else Some v) ≡ Some u → (b ≡ false) × (v ≡ u)
+unless true v u h = absurd (cc)
+unless false v u h = (refl, same_Some _ _ h)
+
+own_in : (r : Option Uid) (u : Uid) → option_and_then own_uid r ≡ Some u → is_broadcast u ≡ false
+own_in None u h = absurd (cc)
+own_in (Some v) u h = let (own, same) = unless (is_broadcast v) v u h in ap is_broadcast (sym same) ∙ own
+
+own : (found : Option Data) (u : Uid) → must uid found ≡ Some u → is_broadcast u ≡ false
+own None u h = absurd (cc)
+own (Some (string s)) u h = own_in (uid_in s) u h
+own (Some (integer z)) u h = absurd (cc)
+own (Some (float f)) u h = absurd (cc)
+own (Some (boolean b)) u h = absurd (cc)
+own (Some (datetime dt)) u h = absurd (cc)
+own (Some (array ds)) u h = absurd (cc)
+own (Some (table t)) u h = absurd (cc)
+
+-- ---- the texts
+
+printable : (found : Option Data) (x : List ℕ) → may [] text found ≡ Some x → IsTrue (are_printable x)
+printable None x h = ap are_printable (sym (same_Some _ _ h))
+printable (Some (string s)) x h =
+    let (is, same) = when (is_text s) s x h in ap are_printable (sym same) ∙ (and_parts _ _ is).1
+printable (Some (integer z)) x h = absurd (cc)
+printable (Some (float f)) x h = absurd (cc)
+printable (Some (boolean b)) x h = absurd (cc)
+printable (Some (datetime dt)) x h = absurd (cc)
+printable (Some (array ds)) x h = absurd (cc)
+printable (Some (table t)) x h = absurd (cc)
+
+printable_at : (t : Members) (key x : List ℕ) → may [] text (get_member key t) ≡ Some x → IsTrue (are_printable x)
+printable_at t key x h = printable (get_member key t) x h
+
+printable_unit : (slots : ℕ) (t : Members) (u : DeviceUnit) → IsUnit slots t u → HasPrintableUnit u
+printable_unit slots t u h = record {
+  model = printable_at t (codes "device_model_description") _ h.model_text;
+  maker = printable_at t (codes "manufacturer_label") _ h.maker_text;
+  label = printable_at t (codes "device_label") _ h.label;
+  software = printable_at t (codes "software_version_label") _ h.software_text;
+  personalities = all_at _ (λ m. IsTrue (are_printable m.name))
+      (of_table (IsPersonality slots) (λ m. IsTrue (are_printable m.name)) (λ s m said. printable_at s (codes "description") _ said.name))
+      (get_member (codes "personality") t) _ h.personalities.items;
+}
+
+printable_sub : (slots : ℕ) (t : Members) (found : Option Data) (n : ℕ) (u : DeviceUnit) → SubDevices slots t found n u → HasPrintableUnit u
+printable_sub slots t None n u h = printable_unit slots t u h.1
+printable_sub slots t (Some (table s)) n u h = printable_unit 512 s u h.unit
+printable_sub slots t (Some (array ds)) n u h = absurd h
+printable_sub slots t (Some (string s)) n u h = absurd h
+printable_sub slots t (Some (integer z)) n u h = absurd h
+printable_sub slots t (Some (float f)) n u h = absurd h
+printable_sub slots t (Some (boolean b)) n u h = absurd h
+printable_sub slots t (Some (datetime dt)) n u h = absurd h
+
+printable_texts : (t : Members) (p : Profile) → IsProfile t p → HasPrintableTexts p
+printable_texts t p h = record {
+  boot = printable_at t (codes "boot_software_version_label") _ h.boot_text;
+  root = printable_unit _ t p.root h.root;
+  sub = printable_sub _ t (get_member (codes "sub_devices") t) _ _ h.sub;
+  slots = all_at _ (λ s. IsTrue (are_printable s.name))
+      (of_table IsSlot (λ s. IsTrue (are_printable s.name)) (λ m s said. printable_at m (codes "description") _ said.name))
+      (get_member (codes "slot") t) _ h.slots.items;
+  sensors = all_at _ (λ s. IsTrue (are_printable s.name))
+      (of_table IsSensor (λ s. IsTrue (are_printable s.name)) (λ m s said. printable_at m (codes "description") _ said.name))
+      (get_member (codes "sensor") t) _ h.sensors.items;
+  tests = all_at _ (λ s. IsTrue (are_printable s.name))
+      (of_table IsSelfTest (λ s. IsTrue (are_printable s.name)) (λ m s said. printable_at m (codes "description") _ said.name))
+      (get_member (codes "self_test") t) _ h.tests.items;
+  statuses = all_at _ (λ s. IsTrue (are_printable s.text))
+      (of_table IsStatus (λ s. IsTrue (are_printable s.text)) (λ m s said. printable_at m (codes "description") _ said.text))
+      (get_member (codes "status") t) _ h.statuses.items;
+}
+
+-- ---- the languages
+
+first_of : (a b : ℕ) → b < 256 → (256 * a + b) / 256 ≡ a
+first_of a b less = omega arith
+
+second_of : (a b : ℕ) → b < 256 → (256 * a + b) % 256 ≡ b
+second_of a b less = omega arith
+
+coded_in : (s : List ℕ) (x : ℕ) → language_in s ≡ Some x → IsTrue (is_coded x)
+coded_in [] x h = absurd (cc)
+coded_in (a ∷ []) x h = absurd (cc)
+coded_in (a ∷ b ∷ c ∷ s) x h = absurd (cc)
+coded_in (a ∷ b ∷ []) x h =
+    let (letters, same) = when (is_letter a && is_letter b) (256 * a + b) x h in
+    let high : b ≤ 0x7A = leb-true b 0x7A (and_parts _ _ (and_parts _ _ letters).1).1 in
+    let less : b < 256 = omega (arith, high) in
+    ap is_coded (sym same) ∙ rw (first_of a b less, second_of a b less) letters
+
+coded : (d : Data) (x : ℕ) → language d ≡ Some x → IsTrue (is_coded x)
+coded (string s) x h = coded_in s x h
+coded (integer z) x h = absurd (cc)
+coded (float f) x h = absurd (cc)
+coded (boolean b) x h = absurd (cc)
+coded (datetime dt) x h = absurd (cc)
+coded (array ds) x h = absurd (cc)
+coded (table t) x h = absurd (cc)
+
+all_coded : (found : Option Data) (xs : List ℕ) → LanguagesAt found xs → All (λ l. IsTrue (is_coded l)) xs
+all_coded None xs h = rw h (All-cons (λ l. IsTrue (is_coded l)) 0x656E [] refl (λ k d less. absurd (omega arith)))
+all_coded (Some (array ds)) xs h = all_said (λ d x. language d ≡ Some x) (λ l. IsTrue (is_coded l)) coded ds xs h.2
+all_coded (Some (table t)) xs h = absurd h
+all_coded (Some (string s)) xs h = absurd h
+all_coded (Some (integer z)) xs h = absurd h
+all_coded (Some (float f)) xs h = absurd h
+all_coded (Some (boolean b)) xs h = absurd h
+all_coded (Some (datetime dt)) xs h = absurd h
+
+-- ---- the outcomes
+
+counted_of : (o : Option ℕ) (turn : Option ℕ) → ((n : ℕ) → o ≡ Some n → 1 ≤ n) → option_map (λ n. Some n) o ≡ Some turn → IsTrue (is_counted turn)
+counted_of None turn some h = absurd (cc)
+counted_of (Some n) turn some h = ap is_counted (sym (same_Some _ _ h)) ∙ le-leb 1 n (some n refl)
+
+counted : (found : Option Data) (turn : Option ℕ) → may None (only_number 1 0xFFFF) found ≡ Some turn → IsTrue (is_counted turn)
+counted None turn h = ap is_counted (sym (same_Some _ _ h))
+counted (Some d) turn h = counted_of (number 1 0xFFFF d) turn (λ n is. (number_range 1 0xFFFF d n is).0) h
+
+base_of : (a b c : Bool) (x : Severity)
+    → (if a then Some Advisory else (if b then Some Warning else (if c then Some Error else None))) ≡ Some x → IsTrue (is_base_form x)
+base_of true b c x h = ap is_base_form (sym (same_Some _ _ h))
+base_of false true c x h = ap is_base_form (sym (same_Some _ _ h))
+base_of false false true x h = ap is_base_form (sym (same_Some _ _ h))
+base_of false false false x h = absurd (cc)
+
+base : (found : Option Data) (x : Severity) → must severity found ≡ Some x → IsTrue (is_base_form x)
+base None x h = absurd (cc)
+base (Some (string s)) x h = base_of _ _ _ x h
+base (Some (integer z)) x h = absurd (cc)
+base (Some (float f)) x h = absurd (cc)
+base (Some (boolean b)) x h = absurd (cc)
+base (Some (datetime dt)) x h = absurd (cc)
+base (Some (array ds)) x h = absurd (cc)
+base (Some (table t)) x h = absurd (cc)
+
+told_failed : (s : Option Severity) (i v w : Option ℕ) (o : Outcome) → ((x : Severity) → s ≡ Some x → IsTrue (is_base_form x))
+    → failed s i v w ≡ Some o → IsTrue (is_told o)
+told_failed None i v w o base h = absurd (cc)
+told_failed (Some x) None v w o base h = absurd (cc)
+told_failed (Some x) (Some i) None w o base h = absurd (cc)
+told_failed (Some x) (Some i) (Some v) None o base h = absurd (cc)
+told_failed (Some x) (Some i) (Some v) (Some w) o base h = ap is_told (sym (same_Some _ _ h)) ∙ base x refl
+
+told_reading : (z : Option ℤ) (o : Outcome) → option_map Reading z ≡ Some o → IsTrue (is_told o)
+told_reading None o h = absurd (cc)
+told_reading (Some z) o h = ap is_told (sym (same_Some _ _ h))
+
+told_done : (d : Data) (o : Outcome) → done d ≡ Some o → IsTrue (is_told o)
+told_done (boolean true) o h = ap is_told (sym (same_Some _ _ h))
+told_done (boolean false) o h = absurd (cc)
+told_done (string s) o h = absurd (cc)
+told_done (integer z) o h = absurd (cc)
+told_done (float f) o h = absurd (cc)
+told_done (datetime dt) o h = absurd (cc)
+told_done (array ds) o h = absurd (cc)
+told_done (table t) o h = absurd (cc)
+
+told : (d r : Option Data) (f : Option Outcome) (o : Outcome) → (f ≡ Some o → IsTrue (is_told o)) → outcome_at d r f ≡ Some o → IsTrue (is_told o)
+told (Some d) r f o failure h = told_done d o h
+told None (Some d) f o failure h = told_reading (signed d) o h
+told None None f o failure h = failure h
+
+and_both : (a b : Bool) → a ≡ true → b ≡ true → (a && b) ≡ true
+and_both true b p q = q
+and_both false b p q = p
+
+ruled : (t : Members) (r : Rule) → IsOutcome t r → IsTrue (is_ruled r)
+ruled t r h =
+    let failure = told_failed (must severity (get_member (codes "severity") t)) _ _ _ r.outcome (base (get_member (codes "severity") t)) in
+    and_both _ _ (counted (get_member (codes "job") t) r.turn h.turn)
+    (and_both _ _ h.fits (told (get_member (codes "done") t) (get_member (codes "reading") t) (failed_in t) r.outcome failure h.outcome))
+
+-- ---- the whole
+
+pub describable : (t : Members) (f : Fixture) → must uid (get_member (codes "uid") t) ≡ Some f.uid → IsProfile t f.profile
+    → Lists t (codes "outcome") (OfTable IsOutcome) 0 32 f.outcomes.items → CanBeDescribed f
+describable t f h profile outcomes = record {
+  own = own (get_member (codes "uid") t) f.uid h;
+  made = made t f.profile profile;
+  texts = printable_texts t f.profile profile;
+  languages = all_coded (get_member (codes "languages") t) _ profile.languages;
+  outcomes = all_at _ (λ r. IsTrue (is_ruled r)) (of_table IsOutcome (λ r. IsTrue (is_ruled r)) ruled) (get_member (codes "outcome") t) _ outcomes.items;
+}
+
+pub described : (text : List ℕ) (f : Fixture) → Describes text f → CanBeDescribed f
+described text f h = describable h.document f h.fixture.own h.fixture.profile h.fixture.outcomes

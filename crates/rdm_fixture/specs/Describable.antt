@@ -1,0 +1,74 @@
+-- Which fixtures a file can describe, condition by condition.
+use Rattle.std.specs.Prelude.{◌≡◌, ℕ, ◌/◌, ◌%◌, Bool, true, false, ◌&&◌, IsTrue, List, Option, Some, None, All, nat_le}
+use Rattle.std.specs.List.{list_all}
+use Rattle.rdm_frame.specs.Addressing.{is_broadcast}
+use Rattle.rdm_device.specs.declared.profile.Profile.{Profile}
+use Rattle.rdm_device.specs.declared.profile.Unit.{Unit as DeviceUnit}
+use Rattle.rdm_device.specs.Device.Profiles.{CanBeMade}
+use Rattle.rdm_params.specs.declared.slow.outcome.Outcome.{Outcome}
+use Rattle.rdm_params.specs.declared.slow.outcome.Outcome.TheVariants.{Failed}
+use Rattle.rdm_params.specs.declared.slow.status.Severity.{Severity}
+use Rattle.rdm_params.specs.declared.slow.status.Severity.TheVariants.{Advisory, Warning, Error}
+use Rattle.rdm_outcomes.specs.declared.rule.Rule.{Rule}
+use Rattle.rdm_outcomes.specs.Outcomes.{suits}
+use Rattle.rdm_fixture.specs.declared.fixture.Fixture.{Fixture}
+use Rattle.rdm_fixture.specs.Values.{is_printable, is_letter}
+
+-- ---- texts
+
+-- a text of a device can stand in a file: all its characters are printable
+abbrev pub are_printable : List ℕ → Bool
+are_printable = list_all is_printable
+
+-- every text of the root or of a sub-device
+pub record HasPrintableUnit (u : DeviceUnit) : Type 0 where
+  pub model : IsTrue (are_printable u.model_text)
+  pub maker : IsTrue (are_printable u.maker_text)
+  pub label : IsTrue (are_printable u.label)
+  pub software : IsTrue (are_printable u.software_text)
+  pub personalities : All (λ m. IsTrue (are_printable m.name)) u.personalities.items
+
+-- every text of the profile
+pub record HasPrintableTexts (p : Profile) : Type 0 where
+  pub boot : IsTrue (are_printable p.boot_text)
+  pub root : HasPrintableUnit p.root
+  pub sub : HasPrintableUnit p.sub
+  pub slots : All (λ s. IsTrue (are_printable s.name)) p.slots.items
+  pub sensors : All (λ s. IsTrue (are_printable s.name)) p.sensors.items
+  pub tests : All (λ t. IsTrue (are_printable t.name)) p.tests.items
+  pub statuses : All (λ s. IsTrue (are_printable s.text)) p.status_texts.items
+
+-- ---- languages and outcomes
+
+-- a language has a code of two small letters. Section 10.5.7.
+abbrev pub is_coded : ℕ → Bool
+is_coded language = is_letter (language / 256) && is_letter (language % 256)
+
+-- a file counts jobs from 1
+abbrev pub is_counted : Option ℕ → Bool
+is_counted None = true
+is_counted (Some turn) = nat_le 1 turn
+
+-- a failure isn't told as over: its severity is one of the base forms of table A-4
+abbrev pub is_base_form : Severity → Bool
+is_base_form Advisory = true
+is_base_form Warning = true
+is_base_form Error = true
+is_base_form _ = false
+
+abbrev pub is_told : Outcome → Bool
+is_told (Failed severity id v1 v2) = is_base_form severity
+is_told _ = true
+
+-- a rule can stand in a file
+abbrev pub is_ruled : Rule → Bool
+is_ruled r = is_counted r.turn && (suits r.task r.outcome && is_told r.outcome)
+
+-- ---- the whole
+
+pub record CanBeDescribed (f : Fixture) : Type 0 where
+  pub own : is_broadcast f.uid ≡ false
+  pub made : CanBeMade f.profile
+  pub texts : HasPrintableTexts f.profile
+  pub languages : All (λ l. IsTrue (is_coded l)) f.profile.languages.items
+  pub outcomes : All (λ r. IsTrue (is_ruled r)) f.outcomes.items

@@ -1,0 +1,143 @@
+//! Which fixtures a file can describe.
+
+ghost use Rattle.std.specs.Prelude.{◌≡◌, ◌↔◌, IsTrue, All};
+ghost use Rattle.rdm_fixture.specs.Describable as spec;
+ghost use Rattle.rdm_fixture.specs.Values.{is_letter as is_small_letter};
+
+use crate::fixture::Fixture;
+use crate::keys::are_printable;
+use rdm_device::{Personality, Profile, SelfTest, SensorDef, Slot, StatusText, Unit, is_good};
+use rdm_frame::Text;
+use rdm_outcomes::Rule;
+use rdm_params::{Outcome, Severity};
+
+/// Whether a file can describe the fixture.
+pub(super) fn can_be_described(fixture: &Fixture) -> bool
+    ensures { IsTrue result ↔ spec.CanBeDescribed fixture.now }
+{
+    !fixture.uid.is_broadcast()
+        && fixture.profile.subs <= 512
+        && is_good(&fixture.profile)
+        && has_printable_texts(&fixture.profile)
+        && are_coded(fixture.profile.languages.as_slice())
+        && are_ruled(fixture.outcomes.as_slice())
+}
+
+// ---- the texts
+
+/// Whether every text can stand in a file.
+fn has_printable_texts(profile: &Profile) -> bool
+    ensures { IsTrue result ↔ spec.HasPrintableTexts profile.now }
+{
+    is_printable(&profile.boot_text)
+        && has_printable_unit(&profile.root)
+        && has_printable_unit(&profile.sub)
+        && are_slots_printable(profile.slots.as_slice())
+        && are_sensors_printable(profile.sensors.as_slice())
+        && are_tests_printable(profile.tests.as_slice())
+        && are_statuses_printable(profile.status_texts.as_slice())
+}
+
+/// The same of the root's or a sub-device's.
+fn has_printable_unit(unit: &Unit) -> bool
+    ensures { IsTrue result ↔ spec.HasPrintableUnit unit.now }
+{
+    is_printable(&unit.model_text)
+        && is_printable(&unit.maker_text)
+        && is_printable(&unit.label)
+        && is_printable(&unit.software_text)
+        && are_personalities_printable(unit.personalities.as_slice())
+}
+
+fn is_printable(text: &Text) -> bool
+    ensures { result ≡ spec.are_printable text.now }
+{
+    are_printable(text.as_slice())
+}
+
+fn are_personalities_printable(personalities: &[Personality]) -> bool
+    ensures { IsTrue result ↔ All (λ m. IsTrue (spec.are_printable m.name)) personalities.now }
+{
+    personalities.iter().all(|m| is_printable(&m.name))
+}
+
+fn are_slots_printable(slots: &[Slot]) -> bool
+    ensures { IsTrue result ↔ All (λ s. IsTrue (spec.are_printable s.name)) slots.now }
+{
+    slots.iter().all(|s| is_printable(&s.name))
+}
+
+fn are_sensors_printable(sensors: &[SensorDef]) -> bool
+    ensures { IsTrue result ↔ All (λ s. IsTrue (spec.are_printable s.name)) sensors.now }
+{
+    sensors.iter().all(|s| is_printable(&s.name))
+}
+
+fn are_tests_printable(tests: &[SelfTest]) -> bool
+    ensures { IsTrue result ↔ All (λ t. IsTrue (spec.are_printable t.name)) tests.now }
+{
+    tests.iter().all(|t| is_printable(&t.name))
+}
+
+fn are_statuses_printable(statuses: &[StatusText]) -> bool
+    ensures { IsTrue result ↔ All (λ s. IsTrue (spec.are_printable s.text)) statuses.now }
+{
+    statuses.iter().all(|s| is_printable(&s.text))
+}
+
+// ---- the languages and the outcomes
+
+fn are_coded(languages: &[u16]) -> bool
+    ensures { IsTrue result ↔ All (λ l. IsTrue (spec.is_coded l)) languages.now }
+{
+    languages.iter().all(|l| is_coded(*l))
+}
+
+/// Whether the language has a code of two small letters.
+fn is_coded(language: u16) -> bool
+    ensures { result ≡ spec.is_coded language }
+{
+    is_letter(language / 256) && is_letter(language % 256)
+}
+
+fn is_letter(character: u16) -> bool
+    ensures { result ≡ is_small_letter character }
+{
+    0x61 <= character && character <= 0x7A
+}
+
+fn are_ruled(rules: &[Rule]) -> bool
+    ensures { IsTrue result ↔ All (λ r. IsTrue (spec.is_ruled r)) rules.now }
+{
+    rules.iter().all(|r| is_ruled(r))
+}
+
+/// Whether a file can say how the jobs end.
+fn is_ruled(rule: &Rule) -> bool
+    ensures { result ≡ spec.is_ruled rule.now }
+{
+    is_counted(rule.turn) && (rule.suits() && is_told(&rule.outcome))
+}
+
+/// Whether it is one of the jobs, counted from 1, or each.
+fn is_counted(turn: Option<u16>) -> bool
+    ensures { result ≡ spec.is_counted turn }
+{
+    match turn {
+        Some(turn) => 1 <= turn,
+        None => true,
+    }
+}
+
+/// Whether a failure isn't told as over.
+fn is_told(outcome: &Outcome) -> bool
+    ensures { result ≡ spec.is_told outcome.now }
+{
+    match outcome {
+        Outcome::Failed { severity, .. } => matches!(
+            severity,
+            Severity::Advisory | Severity::Warning | Severity::Error
+        ),
+        _ => true,
+    }
+}
