@@ -14,7 +14,10 @@ use std::io;
 const LONGEST_LINE: usize = 40;
 
 /// Writes the line that tells an error: `error: `, its words, and LF.
-pub(crate) fn write_error_line<W: io::Write>(writer: &mut W, error: ProgramError) -> Result<(), WriteFault>
+pub(crate) fn write_error_line<W: io::Write>(
+    writer: &mut W,
+    error: ProgramError,
+) -> Result<(), WriteFault>
     ensures ok { OnOk result (Appends (W.contents writer.old) (W.contents writer.new) (error_line error)) }
     // Where it failed, a front of the line is written that isn't all of it.
     ensures front { OnErr result ((count : ℕ) × (count < length (error_line error))
