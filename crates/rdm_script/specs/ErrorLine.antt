@@ -1,5 +1,6 @@
 -- The line by which the program tells an error on standard error.
-use Rattle.std.specs.Prelude.{ℕ, List, [], ◌∷◌, ◌++◌, codes, decimal}
+use Rattle.std.specs.Prelude.{ℕ, List, Option, [], ◌∷◌, ◌++◌, codes, decimal, take}
+use Rattle.std.specs.Io.KnownBytes.{Appends}
 use Rattle.rdm_crew.specs.Errors.{error_words as run_words}
 use Rattle.rdm_script.specs.declared.grammar.parsing.ScriptError.{ScriptError}
 use Rattle.rdm_script.specs.declared.grammar.parsing.ScriptError.TheVariants as script
@@ -23,3 +24,7 @@ error_words Write = codes "write"
 -- The line that tells an error: `error: `, its words, and LF.
 abbrev pub error_line : ProgramError → List ℕ
 error_line e = codes "error: " ++ error_words e ++ 10 ∷ []
+
+-- What a program that fails so writes on standard error: a front of its line, which is all of it unless the writer failed.
+abbrev pub Tells : ProgramError → Option (List ℕ) → Option (List ℕ) → Type 0
+Tells e old new = (count : ℕ) × Appends old new (take count (error_line e))

@@ -8,6 +8,7 @@
 #![tactic(auto)]
 
 mod demo;
+mod error_line;
 mod exit;
 mod grammar;
 mod laws;
@@ -21,7 +22,7 @@ mod streams;
 mod trace;
 
 pub use demo::DemoPanel;
-pub use exit::{report, run_program, write_error_line};
+pub use exit::{report, run_program};
 pub use grammar::{ScriptError, parse, parse_for};
 pub use laws::{
     line_says_what_its_words_spell, program_errors_are_equal_by_value,

@@ -1,11 +1,12 @@
 //! Readers: all that one gives, up to one byte more than a script may have.
 
 ghost use Rattle.std.specs.Prelude.{◌≡◌, ◌+◌, ◌≤◌, ◌++◌, [], length, vec_len, vec_capacity, OnOk, ◌⊎◌, IfOk, IfErr};
-ghost use Rattle.std.specs.Io.KnownBytes.{Consumes, IsAtEnd, ReadConsumes};
+ghost use Rattle.std.specs.Io.KnownBytes.{Consumes, IsAtEnd};
 ghost use Rattle.rdm_script.specs.declared.program.ProgramError.TheVariants.{Memory, Read as ReadFault};
 
 use crate::grammar::MOST_BYTES;
 use crate::program::ProgramError;
+use rdm_streams::read_some;
 use std::alloc::Global;
 use std::io::Read;
 
@@ -39,7 +40,9 @@ fn read_all<R: Read>(reader: &mut R, input: &mut Vec<u8>) -> Result<(), ProgramE
     let mut piece = [0u8; PIECE];
     while input.len() < MOST_READ {
         let room = PIECE.min(MOST_READ - input.len());
-        let count = read_some(reader, &mut piece[..room])?;
+        let Ok(count) = read_some(reader, &mut piece[..room]) else {
+            return Err(ProgramError::Read);
+        };
         if count == 0 {
             break;
         }
@@ -55,16 +58,4 @@ fn put_all(input: &mut Vec<u8>, bytes: &[u8])
     ensures capacity { vec_capacity input.old ≤ vec_capacity input.new }
 {
     input.extend_from_slice(bytes).unwrap();
-}
-
-/// One read. A read that fails is a fault.
-fn read_some<R: Read>(reader: &mut R, piece: &mut [u8]) -> Result<usize, ProgramError>
-    ensures bytes { ReadConsumes (R.remaining reader.old) (R.remaining reader.new) result piece.new }
-    ensures within { IfOk result (λ count. count ≤ length piece.new) }
-    ensures err { IfErr result (λ e. e ≡ ReadFault) }
-{
-    match reader.read(piece) {
-        Ok(count) => Ok(count),
-        Err(_) => Err(ProgramError::Read),
-    }
 }

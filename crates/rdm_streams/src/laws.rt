@@ -1,8 +1,13 @@
-//! A law of `==`: the contract of a call that does nothing.
+//! Laws of `==`: contracts of calls that do nothing.
 
 ghost use Rattle.std.specs.Prelude.{◌≡◌, ◌↔◌, IsTrue};
 
-use crate::WriteFault;
+use crate::{ReadFault, WriteFault};
+
+/// Two faults of a reader are equal by `==`: there is one alone.
+pub fn read_faults_are_equal_by_value()
+    ensures { (a b : ReadFault) → IsTrue (⟦<ReadFault as PartialEq>⟧.eq a b) ↔ (a ≡ b) }
+{}
 
 /// Two faults of a writer are equal by `==`: there is one alone.
 pub fn write_faults_are_equal_by_value()

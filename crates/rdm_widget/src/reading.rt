@@ -1,17 +1,14 @@
 //! Reading what comes.
 
 ghost use Rattle.std.specs.Prelude.{◌≡◌, ◌≤◌, ◌<◌, ◌+◌, ◌++◌, ℕ, List, length, take, IfOk, IfErr, OnOk, OnErr, true, false};
-ghost use Rattle.std.specs.Io.KnownBytes.{Keeps, Consumes, IsAtEnd, ReadConsumes};
+ghost use Rattle.std.specs.Io.KnownBytes.{Keeps, Consumes, IsAtEnd};
 
 use crate::framing::{MOST_BYTES, Packet};
-use std::io::{ErrorKind, Read};
-
-/// The reader failed.
-#[derive(Clone, Copy, Debug)]
-pub(crate) struct NotRead;
+use rdm_streams::{ReadFault, read_some};
+use std::io::Read;
 
 /// Reads some bytes more, behind those that are held, and says how many. There are none at the end of the stream.
-pub(crate) fn take_more<R: Read>(reader: &mut R, held: &mut Packet) -> Result<usize, NotRead>
+pub(crate) fn take_more<R: Read>(reader: &mut R, held: &mut Packet) -> Result<usize, ReadFault>
     requires { length held.old < 605 }
     ensures bytes { IfOk result (λ count. (bytes : List ℕ) × (held.new ≡ held.old ++ bytes) × (length bytes ≡ count)
         × Consumes (R.remaining reader.old) (R.remaining reader.new) bytes × (count ≡ 0 → IsAtEnd (R.remaining reader.new))) }
@@ -28,22 +25,4 @@ pub(crate) fn take_more<R: Read>(reader: &mut R, held: &mut Packet) -> Result<us
         }
         Err(fault) => Err(fault),
     }
-}
-
-/// One read. A read that was interrupted is tried again.
-fn read_some<R: Read>(reader: &mut R, room: &mut [u8]) -> Result<usize, NotRead>
-    ensures bytes { ReadConsumes (R.remaining reader.old) (R.remaining reader.new) result room.new }
-    ensures within { IfOk result (λ count. count ≤ length room.new) }
-{
-    for _turn in 0..u64::MAX {
-        match reader.read(room) {
-            Ok(count) => return Ok(count),
-            Err(error) => {
-                if error.kind() != ErrorKind::Interrupted {
-                    return Err(NotRead);
-                }
-            }
-        }
-    }
-    Err(NotRead)
 }

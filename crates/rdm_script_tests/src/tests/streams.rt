@@ -5,7 +5,7 @@ use super::{FIRST_SCRIPT, repeated};
 use rdm_script::{ProgramError, ScriptError, run_script};
 use std::alloc::Global;
 use std::io;
-use std::io::{Read, Write};
+use std::io::{ErrorKind, Read, Write};
 use std::sync::Wait;
 use std::test::Fail;
 use std::thread::Threads;
@@ -35,20 +35,29 @@ message 21 0030 0000 -
 end
 ";
 
-/// A reader that gives the script byte by byte, then nothing, and then starts over. It may fail once, after so many bytes.
+/// A call that fails once, after so many bytes.
+#[derive(Clone, Copy)]
+struct Fault {
+    after: usize,
+    kind: ErrorKind,
+}
+
+/// A reader that gives the script byte by byte, then nothing, and then starts over. It may fail once.
 #[derive(Drop)]
 struct Drip {
     calls: usize,
     given: usize,
-    fails_after: Option<usize>,
+    fault: Option<Fault>,
 }
 
 impl Read for Drip {
     fn read(&mut self, buf: &mut [u8]) -> io::Result<usize> {
         self.calls = self.calls.saturating_add(1);
-        if self.fails_after == Some(self.given) {
-            self.fails_after = None;
-            return Err(io::Error::from(io::ErrorKind::Interrupted));
+        if let Some(Fault { after, kind }) = self.fault {
+            if self.given == after {
+                self.fault = None;
+                return Err(io::Error::from(kind));
+            }
         }
         match (SCRIPT.as_bytes().get(self.given), buf.first_mut()) {
             (Some(byte), Some(place)) => {
@@ -78,24 +87,24 @@ impl Read for Endless {
     }
 }
 
-/// A writer that takes so many bytes a call. It may fail once, after so many bytes: a write that is tried again then shows.
+/// A writer that takes so many bytes a call. It may fail once: a write that is tried again then shows.
 #[derive(Drop)]
 struct Sink {
     calls: usize,
     taken: Vec<u8>,
     most: usize,
-    fails_after: Option<usize>,
+    fault: Option<Fault>,
 }
 
 impl Write for Sink {
     fn write(&mut self, buf: &[u8]) -> io::Result<usize> {
         self.calls = self.calls.saturating_add(1);
         let mut count = self.most.min(buf.len());
-        if let Some(limit) = self.fails_after {
-            let room = limit.saturating_sub(self.taken.len());
+        if let Some(Fault { after, kind }) = self.fault {
+            let room = after.saturating_sub(self.taken.len());
             if room == 0 {
-                self.fails_after = None;
-                return Err(io::Error::from(io::ErrorKind::Interrupted));
+                self.fault = None;
+                return Err(io::Error::from(kind));
             }
             count = count.min(room);
         }
@@ -108,20 +117,34 @@ impl Write for Sink {
     }
 }
 
-fn dripping(fails_after: Option<usize>) -> Drip {
+fn failing(after: usize) -> Option<Fault> {
+    Some(Fault {
+        after,
+        kind: ErrorKind::Other,
+    })
+}
+
+fn interrupted(after: usize) -> Option<Fault> {
+    Some(Fault {
+        after,
+        kind: ErrorKind::Interrupted,
+    })
+}
+
+fn dripping(fault: Option<Fault>) -> Drip {
     Drip {
         calls: 0,
         given: 0,
-        fails_after,
+        fault,
     }
 }
 
-fn taking(alloc: Global, most: usize, fails_after: Option<usize>) -> Sink {
+fn taking(alloc: Global, most: usize, fault: Option<Fault>) -> Sink {
     Sink {
         calls: 0,
         taken: Vec::new(alloc),
         most,
-        fails_after,
+        fault,
     }
 }
 
@@ -141,7 +164,7 @@ where
 #[test]
 fn a_reader_that_fails_is_a_fault(rt: HostRuntime) {
     for count in 0..=SCRIPT.len() {
-        let mut reader = dripping(Some(count));
+        let mut reader = dripping(failing(count));
         let mut writer = taking(rt.alloc(), 64, None);
         let outcome = plays(rt, rt.alloc(), &mut reader, &mut writer);
         assert_eq!(rt; outcome, Err(ProgramError::Read), "after {count}");
@@ -155,7 +178,7 @@ fn a_reader_that_fails_is_a_fault(rt: HostRuntime) {
 fn a_writer_that_fails_has_the_bytes_before(rt: HostRuntime) {
     for count in 0..TRACE.len() {
         let mut reader = dripping(None);
-        let mut writer = taking(rt.alloc(), 7, Some(count));
+        let mut writer = taking(rt.alloc(), 7, failing(count));
         let outcome = plays(rt, rt.alloc(), &mut reader, &mut writer);
         assert_eq!(rt; outcome, Err(ProgramError::Write), "after {count}");
         assert_eq!(rt;
@@ -165,6 +188,29 @@ fn a_writer_that_fails_has_the_bytes_before(rt: HostRuntime) {
         );
         // What failed isn't tried again.
         assert_eq!(rt; writer.calls, count.div_ceil(7) + 1, "after {count}");
+    }
+}
+
+#[test]
+fn an_interrupted_call_is_made_again(rt: HostRuntime) {
+    for (read, written) in [
+        (0, 0),
+        (1, 1),
+        (7, 7),
+        (40, 200),
+        (SCRIPT.len(), TRACE.len() - 1),
+    ] {
+        let mut reader = dripping(interrupted(read));
+        let mut writer = taking(rt.alloc(), 7, interrupted(written));
+        let outcome = plays(rt, rt.alloc(), &mut reader, &mut writer);
+        assert_eq!(rt; outcome, Ok(()), "after {read}, {written}");
+        assert_eq!(rt;
+            writer.taken.as_slice(),
+            TRACE.as_bytes(),
+            "after {read}, {written}"
+        );
+        // One call more than without the interruption: each byte of the script, and the end.
+        assert_eq!(rt; reader.calls, SCRIPT.len() + 2, "after {read}");
     }
 }
 
