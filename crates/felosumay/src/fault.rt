@@ -5,8 +5,7 @@ use rdm_crew::RunError;
 use rdm_fixture::{FixtureError, Refusal};
 use rdm_frame::Uid;
 use rdm_responder::NewError;
-use rdm_script::ScriptError;
-use rdm_wide_script::{WideError, stopped_line};
+use rdm_script::{ScriptError, Spelling, refusal_at};
 use std::alloc::{AllocError, AllocFailed};
 use std::{fmt, io};
 
@@ -37,7 +36,7 @@ pub enum Fault<'a> {
     /// A file, or standard input, has more bytes than this.
     TooLong(&'a str, u64),
     /// A file is no script.
-    Script(&'a str, rdm_wide_script::Refusal),
+    Script(&'a str, rdm_script::Refusal),
     /// A file is no script, and more isn't known.
     NoScript(&'a str, ScriptError),
     /// A file is no trace: this line, counted from 1, is none of one.
@@ -59,18 +58,19 @@ pub enum Fault<'a> {
 }
 
 impl<'a> Fault<'a> {
-    /// A file isn't read as a script.
-    pub fn script(name: &'a str, error: WideError) -> Fault<'a> {
+    /// A file isn't read as a script for the device with this UID.
+    pub fn script(name: &'a str, device: Uid, text: &[u8], error: ScriptError) -> Fault<'a> {
         match error {
-            WideError::OutOfMemory => Fault::Memory,
-            WideError::TooLong => Fault::NoScript(name, ScriptError::TooLong),
-            WideError::Refused(refusal) => Fault::Script(name, refusal),
+            ScriptError::OutOfMemory => Fault::Memory,
+            ScriptError::TooLong => Fault::NoScript(name, error),
+            ScriptError::Line(number) => {
+                Fault::Script(name, refusal_at(Spelling::Friendly, device, text, number))
+            }
         }
     }
 
-    /// The run of a script stops. The fixture that it is played on has so many sub-devices.
-    pub fn stopped(name: &'a str, script: &[u8], subs: u16, error: RunError) -> Fault<'a> {
-        let line = stopped_line(script, error);
+    /// The run of a script stops, at this line if it is known. The fixture that it is played on has so many sub-devices.
+    pub fn stopped(name: &'a str, line: Option<usize>, subs: u16, error: RunError) -> Fault<'a> {
         match error {
             RunError::OutOfMemory => Fault::Memory,
             RunError::BadSetup => Fault::BadSetup(name, line, subs),

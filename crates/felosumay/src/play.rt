@@ -3,7 +3,8 @@
 ghost use Rattle.std.specs.Prelude.{ℕ, List, OnOk};
 ghost use Rattle.std.specs.Io.KnownBytes.{Appends};
 ghost use Rattle.rdm_script.specs.Program.{IsTraceOf};
-ghost use Rattle.rdm_script.specs.DemoParts.{demo_scene};
+ghost use Rattle.rdm_script.specs.DemoParts.{demo_scene_in};
+ghost use Rattle.rdm_script.specs.declared.dialect.Spelling.TheVariants.{Friendly};
 
 use crate::chart::draw;
 use crate::fault::Fault;
@@ -17,9 +18,9 @@ use clap::ArgMatches;
 use rdm_fixture::Fixture;
 use rdm_frame::Uid;
 use rdm_script::{
-    DemoPanel, ProgramError, RuledPart, Stage, ruled_parts_fit, run_script, run_script_on,
+    DemoPanel, ProgramError, RuledPart, Spelling, Stage, ruled_parts_fit, run_script_as,
+    run_script_on, stopped_line,
 };
-use rdm_wide_script::narrowed;
 use std::io;
 use std::io::Write;
 
@@ -48,13 +49,10 @@ pub fn run<'a, S: System>(rt: S, asked: &ArgMatches<'a>) -> Result<(), Fault<'a>
     if fixture.uid == CONTROLLER {
         return Err(Fault::ControllersUid(CONTROLLER));
     }
-    let script = match narrowed(rt.alloc(), fixture.uid, without_mark(text.as_slice())) {
-        Ok(script) => script,
-        Err(error) => return Err(Fault::script(source.name(), error)),
-    };
     let script = Script {
         name: source.name(),
-        text: script.as_slice(),
+        text: without_mark(text.as_slice()),
+        device: fixture.uid,
         subs: if stage.is_some() {
             fixture.profile.subs
         } else {
@@ -82,12 +80,14 @@ fn print_trace<'a, S: System>(
     script.ended(played, Fault::Io(OUTPUT, writer.error()))
 }
 
-/// A script in the words of rdm_script.
+/// A script in words as people spell them.
 #[derive(Clone, Copy)]
 struct Script<'s, 'a> {
     /// By what name messages tell of it.
     name: &'a str,
     text: &'s [u8],
+    /// The UID of the fixture that it is played on.
+    device: Uid,
     /// How many sub-devices it can ask for.
     subs: u16,
 }
@@ -104,9 +104,12 @@ impl<'a> Script<'_, 'a> {
             // It lies in memory, so it can always be read.
             Err(ProgramError::Memory | ProgramError::Read) => Err(Fault::Memory),
             Err(ProgramError::Write) => Err(unwritten),
-            Err(ProgramError::Script(error)) => Err(Fault::NoScript(self.name, error)),
+            Err(ProgramError::Script(error)) => {
+                Err(Fault::script(self.name, self.device, self.text, error))
+            }
             Err(ProgramError::Run(error)) => {
-                Err(Fault::stopped(self.name, self.text, self.subs, error))
+                let line = stopped_line(Spelling::Friendly, self.device, self.text, error);
+                Err(Fault::stopped(self.name, line, self.subs, error))
             }
         }
     }
@@ -153,11 +156,11 @@ fn play_demonstration<S: System, W: Write>(
     script: &[u8],
     writer: &mut W,
 ) -> Result<(), ProgramError>
-    ensures ok { OnOk result ((text : List ℕ) × IsTraceOf demo_scene script.now text ×
+    ensures ok { OnOk result ((text : List ℕ) × IsTraceOf (demo_scene_in Friendly) script.now text ×
         Appends (W.contents writer.old) (W.contents writer.new) text) }
 {
     let mut reader = script;
-    run_script(rt, rt.alloc(), &mut reader, writer)
+    run_script_as(rt, rt.alloc(), Spelling::Friendly, &mut reader, writer)
 }
 
 /// Plays a script on a fixture, and writes its trace.
@@ -179,6 +182,7 @@ fn stage_of(fixture: Fixture) -> Stage<RuledPart, RuledPart, DemoPanel> {
     Stage {
         device: fixture.uid,
         profile: fixture.profile,
+        spelling: Spelling::Friendly,
         first,
         second,
         panel: DemoPanel,

@@ -1,134 +1,35 @@
 -- A command is said exactly by the words that spell it.
-use Rattle.std.proofs.Common.{◌≡◌, ℕ, Bool, true, false, cond, leb, List, [], length, map, Option, Some, None, ◌⊎◌, inl, inr, refl, sym, ap, subst, ◌∙◌, arith}
-use Rattle.std.specs.Prelude.{codes}
-use Rattle.std.specs.Str.{bytes_eq}
-use Rattle.std.specs.Int.{w16}
-use Rattle.std.proofs.lemmas.Bool.{leb-true, le-leb}
+use Rattle.std.proofs.Common.{◌≡◌, List, ℕ, Option, Some, None, refl, subst}
 use Rattle.std.proofs.lemmas.Option.{option_and_then_some, same_Some}
-use Rattle.std.proofs.lemmas.List.{length-map}
-use Rattle.std.proofs.lemmas.Slice.Eq.{bytes_eq-Decides}
-use Rattle.rdm_frame.specs.declared.uid.Uid.{Uid}
-use Rattle.rdm_frame.specs.Addressing.{all_devices, all_of}
-use Rattle.rdm_frame.specs.Digits.{upper, SpellsNumber}
-use Rattle.rdm_frame.specs.DigitReading.{◌>>=◌, bytes_in, number_in}
-use Rattle.rdm_frame.specs.UidText.{SpellsUid}
-use Rattle.rdm_frame.proofs.Spellings.{bytes_read, bytes_again}
-use Rattle.rdm_frame.proofs.NumberSpellings.{long, word_read, word_again, uid_spelled}
-use Rattle.rdm_collector.specs.declared.command.Action.{Action}
-use Rattle.rdm_collector.specs.declared.command.Action.TheVariants.{Disc, Get, Set}
+use Rattle.rdm_frame.specs.DigitReading.{◌>>=◌}
 use Rattle.rdm_collector.specs.declared.command.Command.{Command}
-use Rattle.rdm_script.specs.Grammar.{action_in, destination_in, load_in, command_in}
-use Rattle.rdm_script.specs.Spelling.{SpellsDestination, SpellsLoad, SpellsAction}
-
--- ---- which way a choice went
-
-abbrev pub Chosen : {A : Type 0} → Bool → A → A → A → Type 0
-Chosen b x y z = ((b ≡ true) × (x ≡ z)) ⊎ ((b ≡ false) × (y ≡ z))
-
-pub chosen : {A : Type 0} (b : Bool) (x y z : A) → cond b x y ≡ z → Chosen b x y z
-chosen true x y z h = inl (refl, h)
-chosen false x y z h = inr (refl, h)
-
-pub not_true : (b : Bool) → (b ≡ true → ⊥) → b ≡ false
-not_true true h = absurd (h refl)
-not_true false h = refl
-
-pub guarded : {A : Type 0} (b : Bool) (o : Option A) (z : A) → cond b o None ≡ Some z → (b ≡ true) × (o ≡ Some z)
-guarded true o z h = (refl, h)
-guarded false o z h = absurd cc
-
--- ---- whom a command is for
-
-destination_read : (dev : Uid) (text : List ℕ) (u : Uid) → destination_in dev text ≡ Some u → SpellsDestination dev text u
-unfolding destination_in
-destination_read dev text u e =
-    elim (chosen (bytes_eq text (codes "dev")) (Some dev) _ (Some u) e) [
-      | inl h ↦ inl ((bytes_eq-Decides text (codes "dev")).0 h.0, sym (same_Some dev u h.1))
-      | inr h ↦ inr (elim (chosen (bytes_eq text (codes "all")) (Some all_devices) _ (Some u) h.1) [
-        | inl k ↦ inl ((bytes_eq-Decides text (codes "all")).0 k.0, sym (same_Some all_devices u k.1))
-        | inr k ↦ inr (elim (chosen (bytes_eq text (codes "maker")) (Some (all_of dev.maker)) _ (Some u) k.1) [
-          | inl m ↦ inl ((bytes_eq-Decides text (codes "maker")).0 m.0, sym (same_Some (all_of dev.maker) u m.1))
-          | inr m ↦ inr ((uid_spelled text u).0 m.1)
-        ])
-      ])
-    ]
-
--- a word of another length is another word
-pub differs : (text name : List ℕ) → (length text ≡ length name → ⊥) → bytes_eq text name ≡ false
-differs text name h = not_true (bytes_eq text name) (λ e. h (ap length ((bytes_eq-Decides text name).0 e)))
-
-thirteen : (text : List ℕ) (u : Uid) → SpellsUid text u → length text ≡ 13
-thirteen text u s = let kept : length (map upper text) ≡ length text = rw length-map refl in sym kept ∙ ap length s.printed
-
-destination_again : (dev : Uid) (text : List ℕ) (u : Uid) → SpellsDestination dev text u → destination_in dev text ≡ Some u
-unfolding destination_in
-destination_again dev text u (inl h) = rw (h.0, h.1) refl
-destination_again dev text u (inr (inl h)) = rw (h.0, h.1) refl
-destination_again dev text u (inr (inr (inl h))) = rw (h.0, h.1) refl
-destination_again dev text u (inr (inr (inr s))) =
-    let n = thirteen text u s in
-    rw (differs text (codes "dev") (λ e. omega arith), differs text (codes "all") (λ e. omega arith), differs text (codes "maker") (λ e. omega arith)) ((uid_spelled text u).1 s)
-
--- ---- the other words
-
-load_read : (text load : List ℕ) → load_in text ≡ Some load → SpellsLoad text load
-unfolding load_in
-load_read text load e =
-    elim (chosen (bytes_eq text (codes "-")) (Some []) _ (Some load) e) [
-      | inl h ↦ inl ((bytes_eq-Decides text (codes "-")).0 h.0, sym (same_Some [] load h.1))
-      | inr h ↦
-          let g = guarded (leb (length text) 510) (bytes_in text) load h.1 in
-          let s = bytes_read text load g.1 in
-          inr (omega (arith, long text load s, leb-true _ _ g.0), s)
-    ]
-
-load_again : (text load : List ℕ) → SpellsLoad text load → load_in text ≡ Some load
-unfolding load_in
-load_again text load (inl h) = rw (h.0, h.1) refl
-load_again text load (inr s) =
-    let n = long text load s.1 in
-    rw (differs text (codes "-") (λ e. omega (arith, n, e)), le-leb (length text) 510 (omega (arith, n, s.0))) (bytes_again text load s.1)
-
-action_read : (text : List ℕ) (a : Action) → action_in text ≡ Some a → SpellsAction text a
-action_read text a e =
-    elim (chosen (bytes_eq text (codes "get")) (Some Get) _ (Some a) e) [
-      | inl h ↦ subst (λ (x : Action). SpellsAction text x) (same_Some Get a h.1) ((bytes_eq-Decides text (codes "get")).0 h.0)
-      | inr h ↦
-          elim (chosen (bytes_eq text (codes "set")) (Some Set) _ (Some a) h.1) [
-            | inl k ↦ subst (λ (x : Action). SpellsAction text x) (same_Some Set a k.1) ((bytes_eq-Decides text (codes "set")).0 k.0)
-            | inr k ↦
-                let g = guarded (bytes_eq text (codes "disc")) (Some Disc) a k.1 in
-                subst (λ (x : Action). SpellsAction text x) (same_Some Disc a g.1) ((bytes_eq-Decides text (codes "disc")).0 g.0)
-          ]
-    ]
-
-action_again : (text : List ℕ) (a : Action) → SpellsAction text a → action_in text ≡ Some a
-action_again text Disc s = rw s refl
-action_again text Get s = rw s refl
-action_again text Set s = rw s refl
-
--- ---- a command
+use Rattle.rdm_script.specs.declared.dialect.Dialect.{Dialect}
+use Rattle.rdm_script.specs.Grammar.{action_in, destination_in, sub_in, pid_in, load_in, command_in}
+use Rattle.rdm_script.specs.Spelling.{SpellsDestination, SpellsSub, SpellsPid, SpellsLoad, SpellsAction}
+use Rattle.rdm_script.proofs.WordSpellings.{destination_read, destination_again, action_read, action_again}
+use Rattle.rdm_script.proofs.FriendlySpellings.{sub_read, sub_again, pid_read, pid_again, load_read, load_again}
 
 -- the five words of a command, one by one
-pub record SpellsWords (dev : Uid) (w0 w1 w2 w3 w4 : List ℕ) (c : Command) : Type 0 where
+pub record SpellsWords (d : Dialect) (w0 w1 w2 w3 w4 : List ℕ) (c : Command) : Type 0 where
   pub action : SpellsAction w0 c.action
-  pub destination : SpellsDestination dev w1 c.dst
-  pub sub : SpellsNumber w16 w2 c.sub
-  pub pid : SpellsNumber w16 w3 c.pid
-  pub load : SpellsLoad w4 c.load
+  pub destination : SpellsDestination d.device w1 c.dst
+  pub sub : SpellsSub d.spelling w2 c.sub
+  pub pid : SpellsPid d.spelling w3 c.pid
+  pub load : SpellsLoad d.spelling w4 c.load
 
-pub command_read : (dev : Uid) (action dst sub pid load : List ℕ) (c : Command) → command_in dev action dst sub pid load ≡ Some c → SpellsWords dev action dst sub pid load c
+pub command_read : (d : Dialect) (action dst sub pid load : List ℕ) (c : Command) → command_in d action dst sub pid load ≡ Some c → SpellsWords d action dst sub pid load c
 unfolding command_in
-command_read dev action dst sub pid load c e =
-    option_and_then_some (λ a. destination_in dev dst >>= λ d. number_in w16 sub >>= λ s. number_in w16 pid >>= λ p. load_in load >>= λ l. Some (record { dst = d; action = a; sub = s; pid = p; load = l })) (action_in action) c e (λ a is_a e1.
-    option_and_then_some (λ d. number_in w16 sub >>= λ s. number_in w16 pid >>= λ p. load_in load >>= λ l. Some (record { dst = d; action = a; sub = s; pid = p; load = l })) (destination_in dev dst) c e1 (λ d is_d e2.
-    option_and_then_some (λ s. number_in w16 pid >>= λ p. load_in load >>= λ l. Some (record { dst = d; action = a; sub = s; pid = p; load = l })) (number_in w16 sub) c e2 (λ s is_s e3.
-    option_and_then_some (λ p. load_in load >>= λ l. Some (record { dst = d; action = a; sub = s; pid = p; load = l })) (number_in w16 pid) c e3 (λ p is_p e4.
-    option_and_then_some (λ l. Some (record { dst = d; action = a; sub = s; pid = p; load = l })) (load_in load) c e4 (λ l is_l made.
+command_read dialect action dst sub pid load c e =
+    let k = dialect.spelling in
+    option_and_then_some (λ a. destination_in dialect.device dst >>= λ d. sub_in k sub >>= λ s. pid_in k pid >>= λ p. load_in k load >>= λ l. Some (record { dst = d; action = a; sub = s; pid = p; load = l })) (action_in action) c e (λ a is_a e1.
+    option_and_then_some (λ d. sub_in k sub >>= λ s. pid_in k pid >>= λ p. load_in k load >>= λ l. Some (record { dst = d; action = a; sub = s; pid = p; load = l })) (destination_in dialect.device dst) c e1 (λ d is_d e2.
+    option_and_then_some (λ s. pid_in k pid >>= λ p. load_in k load >>= λ l. Some (record { dst = d; action = a; sub = s; pid = p; load = l })) (sub_in k sub) c e2 (λ s is_s e3.
+    option_and_then_some (λ p. load_in k load >>= λ l. Some (record { dst = d; action = a; sub = s; pid = p; load = l })) (pid_in k pid) c e3 (λ p is_p e4.
+    option_and_then_some (λ l. Some (record { dst = d; action = a; sub = s; pid = p; load = l })) (load_in k load) c e4 (λ l is_l made.
     let one : Command = record { dst = d; action = a; sub = s; pid = p; load = l } in
-    subst (λ (x : Command). SpellsWords dev action dst sub pid load x) (same_Some one c made) (record { action = action_read action a is_a; destination = destination_read dev dst d is_d; sub = word_read sub s is_s; pid = word_read pid p is_p; load = load_read load l is_l }))))))
+    subst (λ (x : Command). SpellsWords dialect action dst sub pid load x) (same_Some one c made) (record { action = action_read action a is_a; destination = destination_read dialect.device dst d is_d; sub = sub_read k sub s is_s; pid = pid_read k pid p is_p; load = load_read k load l is_l }))))))
 
-pub command_again : (dev : Uid) (action dst sub pid load : List ℕ) (c : Command) → SpellsWords dev action dst sub pid load c → command_in dev action dst sub pid load ≡ Some c
+pub command_again : (d : Dialect) (action dst sub pid load : List ℕ) (c : Command) → SpellsWords d action dst sub pid load c → command_in d action dst sub pid load ≡ Some c
 unfolding command_in
-command_again dev action dst sub pid load c s =
-    rw (action_again action c.action s.action, destination_again dev dst c.dst s.destination, word_again sub c.sub s.sub, word_again pid c.pid s.pid, load_again load c.load s.load) refl
+command_again d action dst sub pid load c s =
+    rw (action_again action c.action s.action, destination_again d.device dst c.dst s.destination, sub_again d.spelling sub c.sub s.sub, pid_again d.spelling pid c.pid s.pid, load_again d.spelling load c.load s.load) refl

@@ -7,9 +7,10 @@ use Rattle.rdm_outcomes.specs.declared.rule.Rule.{Rule}
 use Rattle.rdm_outcomes.specs.Demo.{demo_rules, demo_outcome}
 use Rattle.rdm_outcomes.specs.Outcomes.{CanEnd}
 use Rattle.rdm_script.specs.declared.demo.DemoPanel.{DemoPanel}
+use Rattle.rdm_script.specs.declared.dialect.Spelling.{Spelling}
 use Rattle.rdm_script.specs.declared.rules.RuledPart.{RuledPart}
 use Rattle.rdm_script.specs.declared.stage.Stage.{Stage}
-use Rattle.rdm_script.specs.DemoParts.{demo_scene, panel_change}
+use Rattle.rdm_script.specs.DemoParts.{demo_scene_in, panel_change}
 use Rattle.rdm_script.specs.Parties.{demo_device}
 use Rattle.rdm_script.specs.Rules.{rules_of}
 use Rattle.rdm_script.specs.Scene.{Scene, scene_of}
@@ -21,11 +22,12 @@ ruled_scene stage = scene_of (λ part job outcome. CanEnd (rules_of part) job ou
 ends_so : (rules : List Rule) → rules ≡ demo_rules → ((job : Job) (outcome : Outcome) → CanEnd demo_rules job outcome ↔ (outcome ≡ demo_outcome job)) → (job : Job) (outcome : Outcome) → CanEnd rules job outcome → outcome ≡ demo_outcome job
 ends_so rules are law job outcome can = (law job outcome).0 (subst (λ (rs : List Rule). CanEnd rs job outcome) are can)
 
-pub demo_is_wider : (stage : Stage RuledPart RuledPart DemoPanel) → stage.device ≡ demo_device → stage.profile ≡ demo 512 → rules_of stage.first ≡ demo_rules → rules_of stage.second ≡ demo_rules
-    → ((job : Job) (outcome : Outcome) → CanEnd demo_rules job outcome ↔ (outcome ≡ demo_outcome job)) → IsWider (ruled_scene stage) demo_scene
-demo_is_wider stage device profile first second law = record {
+pub demo_is_wider : (spelling : Spelling) (stage : Stage RuledPart RuledPart DemoPanel) → stage.device ≡ demo_device → stage.profile ≡ demo 512 → stage.spelling ≡ spelling → rules_of stage.first ≡ demo_rules → rules_of stage.second ≡ demo_rules
+    → ((job : Job) (outcome : Outcome) → CanEnd demo_rules job outcome ↔ (outcome ≡ demo_outcome job)) → IsWider (ruled_scene stage) (demo_scene_in spelling)
+demo_is_wider spelling stage device profile spelled first second law = record {
   device = device;
   profile = profile;
+  spelling = spelled;
   first = ends_so (rules_of stage.first) first law;
   second = ends_so (rules_of stage.second) second law;
   offers = λ n c h. h;

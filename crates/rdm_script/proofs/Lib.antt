@@ -2,11 +2,15 @@ pub mod CommandSpellings
 pub mod DecimalSpellings
 pub mod DemoScene
 pub mod Failing
+pub mod FriendlySpellings
 pub mod LineSpellings
 pub mod Lines
 pub mod Pieces
+pub mod QuotedPieces
 pub mod Reading
+pub mod RefusalEquality
 pub mod ScriptSpellings
 pub mod Stopping
 pub mod Widening
+pub mod WordSpellings
 pub mod Words

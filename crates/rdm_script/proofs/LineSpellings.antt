@@ -7,7 +7,6 @@ use Rattle.std.proofs.lemmas.Bool.{eqb-true, leb-true, le-leb}
 use Rattle.std.proofs.lemmas.Bool.Decides.{nat_tests}
 use Rattle.std.proofs.lemmas.Option.{option_and_then_some, same_Some, cond_some}
 use Rattle.std.proofs.lemmas.Slice.Eq.{bytes_eq-Decides}
-use Rattle.rdm_frame.specs.declared.uid.Uid.{Uid}
 use Rattle.rdm_frame.specs.DigitReading.{◌>>=◌}
 use Rattle.rdm_collector.specs.declared.command.Action.{Action}
 use Rattle.rdm_collector.specs.declared.command.Action.TheVariants.{Disc, Get, Set}
@@ -18,13 +17,15 @@ use Rattle.rdm_collector.specs.declared.want.Want.{Want}
 use Rattle.rdm_collector.specs.declared.want.Want.TheVariants.{Advisory, Warning, Error}
 use Rattle.rdm_crew.specs.declared.step.CrewStep.{CrewStep}
 use Rattle.rdm_crew.specs.declared.step.CrewStep.TheVariants.{Ask, Collect, Draw, Settle, Panel}
+use Rattle.rdm_script.specs.declared.dialect.Dialect.{Dialect}
 use Rattle.rdm_script.specs.declared.script.Setup.{Setup}
 use Rattle.rdm_script.specs.declared.grammar.line.Line.{Line}
 use Rattle.rdm_script.specs.declared.grammar.line.Line.TheVariants.{Skipped, Sets, Says, Faulty}
 use Rattle.rdm_script.specs.Decimals.{SpellsDecimal, number_up_to}
 use Rattle.rdm_script.specs.Grammar.{word, command_in, lost_in, raise_in, altered, altered_in, fault_in, is_skipped, want_in, setup_of, setup_in, asked, command_step_in, step_in, line_in, first_line_in, setup_after, begun_after}
 use Rattle.rdm_script.specs.Spelling.{SpellsAction, SpellsCommand, SpellsRaise, SpellsFault, SpellsEmpties, SpellsStep, SpellsWant, SpellsSetup}
-use Rattle.rdm_script.proofs.CommandSpellings.{chosen, guarded, command_read, command_again}
+use Rattle.rdm_script.proofs.CommandSpellings.{command_read, command_again}
+use Rattle.rdm_script.proofs.WordSpellings.{chosen, guarded}
 use Rattle.rdm_script.proofs.Words.{fault_long}
 use Rattle.rdm_script.proofs.DecimalSpellings.{number_read, number_again}
 
@@ -116,7 +117,7 @@ fault_again words (fault.BadReply k x) s = three_again (codes "bad-reply") words
 
 -- ---- a step
 
-command_step_read : (dev : Uid) (words : List (List ℕ)) (step : CrewStep) → command_step_in dev words ≡ Some step → SpellsStep dev words step
+command_step_read : (dev : Dialect) (words : List (List ℕ)) (step : CrewStep) → command_step_in dev words ≡ Some step → SpellsStep dev words step
 unfolding command_step_in asked
 command_step_read dev words step e =
     let said = command_in dev (word words 0) (word words 1) (word words 2) (word words 3) (word words 4) in
@@ -127,7 +128,7 @@ command_step_read dev words step e =
     let spelled : SpellsCommand dev words c = record { five = leb-true _ _ g.0; action = s.action; destination = s.destination; sub = s.sub; pid = s.pid; load = s.load } in
     subst (λ (x : CrewStep). SpellsStep dev words x) (same_Some (Ask c f) step made) (spelled, fault_read (drop 5 words) f is_f)))
 
-command_step_again : (dev : Uid) (words : List (List ℕ)) (c : Command) (f : Fault) → SpellsCommand dev words c → SpellsFault (drop 5 words) f → command_step_in dev words ≡ Some (Ask c f)
+command_step_again : (dev : Dialect) (words : List (List ℕ)) (c : Command) (f : Fault) → SpellsCommand dev words c → SpellsFault (drop 5 words) f → command_step_in dev words ≡ Some (Ask c f)
 unfolding command_step_in asked
 command_step_again dev words c f s wrong =
     let said = command_again dev (word words 0) (word words 1) (word words 2) (word words 3) (word words 4) c (record { action = s.action; destination = s.destination; sub = s.sub; pid = s.pid; load = s.load }) in
@@ -161,7 +162,7 @@ empties_read name words n e is_n =
     let read = number_read 4294967295 (word words 1) n is_n in
     record { two = eqb-true _ _ tests.0; named = named (word words 0) name tests.1; empties = read.0; empties_fit = read.1 }
 
-pub step_read : (dev : Uid) (words : List (List ℕ)) (step : CrewStep) → step_in dev words ≡ Some step → SpellsStep dev words step
+pub step_read : (dev : Dialect) (words : List (List ℕ)) (step : CrewStep) → step_in dev words ≡ Some step → SpellsStep dev words step
 unfolding step_in
 step_read dev words step e =
     elim (chosen (bytes_eq (word words 0) (codes "collect")) (option_map (λ f. Collect f) (fault_in (drop 1 words))) _ (Some step) e) [
@@ -192,7 +193,7 @@ no_poll text Disc s = rw s refl
 no_poll text Get s = rw s refl
 no_poll text Set s = rw s refl
 
-pub step_again : (dev : Uid) (words : List (List ℕ)) (step : CrewStep) → SpellsStep dev words step → step_in dev words ≡ Some step
+pub step_again : (dev : Dialect) (words : List (List ℕ)) (step : CrewStep) → SpellsStep dev words step → step_in dev words ≡ Some step
 unfolding step_in
 step_again dev words (Ask c f) s =
     let not_one : eqb (length words) 1 ≡ false = let long = s.0.five in grind (arith, nat_tests) in
@@ -254,7 +255,7 @@ no_setup words h = no_setup_at (setup_in words) (λ s e. h s (setup_read words s
 pub setup_isnt_skipped : (words : List (List ℕ)) (s : Setup) → SpellsSetup words s → is_skipped words ≡ false
 setup_isnt_skipped words s h = rw (h.four, h.named) refl
 
-pub setup_is_no_step : (dev : Uid) (words : List (List ℕ)) (s : Setup) (step : CrewStep) → SpellsSetup words s → SpellsStep dev words step → ⊥
+pub setup_is_no_step : (dev : Dialect) (words : List (List ℕ)) (s : Setup) (step : CrewStep) → SpellsSetup words s → SpellsStep dev words step → ⊥
 setup_is_no_step dev words s (Ask c f) h k = omega (arith, h.four, k.0.five)
 setup_is_no_step dev words s (Collect f) h k = let same : codes "collect" ≡ codes "setup" = sym k.0 ∙ h.named in let lens : length (codes "collect") ≡ length (codes "setup") = ap length same in omega (arith, lens)
 setup_is_no_step dev words s Draw h k = let lens : length words ≡ 1 = ap length k in omega (arith, h.four, lens)
@@ -267,7 +268,7 @@ said : (o : Option CrewStep) (step : CrewStep) → option_map_or (λ (x : CrewSt
 said None step e = absurd cc
 said (Some other) step e = let same : other ≡ step = cc in ap (λ (x : CrewStep). Some x) same
 
-pub line_read : (dev : Uid) (words : List (List ℕ)) (step : CrewStep) → line_in dev words ≡ Says step → (is_skipped words ≡ false) × SpellsStep dev words step
+pub line_read : (dev : Dialect) (words : List (List ℕ)) (step : CrewStep) → line_in dev words ≡ Says step → (is_skipped words ≡ false) × SpellsStep dev words step
 unfolding line_in
 line_read dev words step e =
     elim (chosen (is_skipped words) Skipped _ (Says step) e) [
@@ -275,38 +276,38 @@ line_read dev words step e =
       | inr h ↦ (h.0, step_read dev words step (said (step_in dev words) step h.1))
     ]
 
-pub line_again : (dev : Uid) (words : List (List ℕ)) (step : CrewStep) → is_skipped words ≡ false → SpellsStep dev words step → line_in dev words ≡ Says step
+pub line_again : (dev : Dialect) (words : List (List ℕ)) (step : CrewStep) → is_skipped words ≡ false → SpellsStep dev words step → line_in dev words ≡ Says step
 unfolding line_in
 line_again dev words step out s = rw (out, step_again dev words step s) refl
 
-pub said_skipped : (dev : Uid) (words : List (List ℕ)) → is_skipped words ≡ true → line_in dev words ≡ Skipped
+pub said_skipped : (dev : Dialect) (words : List (List ℕ)) → is_skipped words ≡ true → line_in dev words ≡ Skipped
 unfolding line_in
 said_skipped dev words h = rw h refl
 
 -- what a line says that isn't skipped
-spoken_at : (dev : Uid) (words : List (List ℕ)) (o : Option CrewStep) → step_in dev words ≡ o → (option_map_or (λ (x : CrewStep). Says x) o Faulty ≡ Faulty) ⊎ ((step : CrewStep) × (option_map_or (λ (x : CrewStep). Says x) o Faulty ≡ Says step) × SpellsStep dev words step)
+spoken_at : (dev : Dialect) (words : List (List ℕ)) (o : Option CrewStep) → step_in dev words ≡ o → (option_map_or (λ (x : CrewStep). Says x) o Faulty ≡ Faulty) ⊎ ((step : CrewStep) × (option_map_or (λ (x : CrewStep). Says x) o Faulty ≡ Says step) × SpellsStep dev words step)
 spoken_at dev words None e = inl refl
 spoken_at dev words (Some step) e = inr (step, refl, step_read dev words step e)
 
-pub spoken : (dev : Uid) (words : List (List ℕ)) → is_skipped words ≡ false → (line_in dev words ≡ Faulty) ⊎ ((step : CrewStep) × (line_in dev words ≡ Says step) × SpellsStep dev words step)
+pub spoken : (dev : Dialect) (words : List (List ℕ)) → is_skipped words ≡ false → (line_in dev words ≡ Faulty) ⊎ ((step : CrewStep) × (line_in dev words ≡ Says step) × SpellsStep dev words step)
 unfolding line_in
 spoken dev words out = rw out (spoken_at dev words (step_in dev words) refl)
 
 -- the first line that isn't skipped
-pub first_is : (dev : Uid) (words : List (List ℕ)) → setup_in words ≡ None → first_line_in dev words ≡ line_in dev words
+pub first_is : (dev : Dialect) (words : List (List ℕ)) → setup_in words ≡ None → first_line_in dev words ≡ line_in dev words
 unfolding first_line_in
 first_is dev words none = rw none refl
 
-pub first_sets : (dev : Uid) (words : List (List ℕ)) (s : Setup) → SpellsSetup words s → first_line_in dev words ≡ Sets s
+pub first_sets : (dev : Dialect) (words : List (List ℕ)) (s : Setup) → SpellsSetup words s → first_line_in dev words ≡ Sets s
 unfolding first_line_in
 first_sets dev words s h = rw (setup_again words s h) refl
 
-pub first_skipped : (dev : Uid) (words : List (List ℕ)) → is_skipped words ≡ true → first_line_in dev words ≡ Skipped
+pub first_skipped : (dev : Dialect) (words : List (List ℕ)) → is_skipped words ≡ true → first_line_in dev words ≡ Skipped
 first_skipped dev words h =
     let none = no_setup words (λ s k. let never : true ≡ false = sym h ∙ setup_isnt_skipped words s k in absurd cc) in
     first_is dev words none ∙ said_skipped dev words h
 
-pub first_says : (dev : Uid) (words : List (List ℕ)) (step : CrewStep) → is_skipped words ≡ false → SpellsStep dev words step → first_line_in dev words ≡ Says step
+pub first_says : (dev : Dialect) (words : List (List ℕ)) (step : CrewStep) → is_skipped words ≡ false → SpellsStep dev words step → first_line_in dev words ≡ Says step
 first_says dev words step out s = first_is dev words (no_setup words (λ t k. setup_is_no_step dev words t step k s)) ∙ line_again dev words step out s
 
 -- what the first line is read as
@@ -314,7 +315,7 @@ unsaid_at : (o : Option CrewStep) (s : Setup) → option_map_or (λ (x : CrewSte
 unsaid_at None s e = cc
 unsaid_at (Some step) s e = cc
 
-unsaid : (dev : Uid) (words : List (List ℕ)) (s : Setup) → line_in dev words ≡ Sets s → ⊥
+unsaid : (dev : Dialect) (words : List (List ℕ)) (s : Setup) → line_in dev words ≡ Sets s → ⊥
 unfolding line_in
 unsaid dev words s e =
     elim (chosen (is_skipped words) Skipped _ (Sets s) e) [
@@ -322,36 +323,36 @@ unsaid dev words s e =
       | inr h ↦ unsaid_at (step_in dev words) s h.1
     ]
 
-read_first : (dev : Uid) (words : List (List ℕ)) (o : Option Setup) (step : CrewStep) → setup_in words ≡ o → option_map_or (λ (s : Setup). Sets s) o (line_in dev words) ≡ Says step → line_in dev words ≡ Says step
+read_first : (dev : Dialect) (words : List (List ℕ)) (o : Option Setup) (step : CrewStep) → setup_in words ≡ o → option_map_or (λ (s : Setup). Sets s) o (line_in dev words) ≡ Says step → line_in dev words ≡ Says step
 read_first dev words None step e h = h
 read_first dev words (Some s) step e h = absurd (let never : Sets s ≡ Says step = h in cc)
 
-pub first_read : (dev : Uid) (words : List (List ℕ)) (step : CrewStep) → first_line_in dev words ≡ Says step → (is_skipped words ≡ false) × SpellsStep dev words step
+pub first_read : (dev : Dialect) (words : List (List ℕ)) (step : CrewStep) → first_line_in dev words ≡ Says step → (is_skipped words ≡ false) × SpellsStep dev words step
 unfolding first_line_in
 first_read dev words step e = line_read dev words step (read_first dev words (setup_in words) step refl e)
 
-read_set : (dev : Uid) (words : List (List ℕ)) (o : Option Setup) (s : Setup) → option_map_or (λ (t : Setup). Sets t) o (line_in dev words) ≡ Sets s → o ≡ Some s
+read_set : (dev : Dialect) (words : List (List ℕ)) (o : Option Setup) (s : Setup) → option_map_or (λ (t : Setup). Sets t) o (line_in dev words) ≡ Sets s → o ≡ Some s
 read_set dev words None s h = absurd (unsaid dev words s h)
 read_set dev words (Some t) s h = let same : t ≡ s = cc in ap (λ (x : Setup). Some x) same
 
-pub sets_read : (dev : Uid) (words : List (List ℕ)) (s : Setup) → first_line_in dev words ≡ Sets s → SpellsSetup words s
+pub sets_read : (dev : Dialect) (words : List (List ℕ)) (s : Setup) → first_line_in dev words ≡ Sets s → SpellsSetup words s
 unfolding first_line_in
 sets_read dev words s e = setup_read words s (read_set dev words (setup_in words) s e)
 
 -- whether a line says anything tells whether it is skipped
-begun_spoken : (dev : Uid) (words : List (List ℕ)) (line : Line) → (line ≡ Faulty) ⊎ ((step : CrewStep) × (line ≡ Says step) × SpellsStep dev words step) → begun_after false line ≡ true
+begun_spoken : (dev : Dialect) (words : List (List ℕ)) (line : Line) → (line ≡ Faulty) ⊎ ((step : CrewStep) × (line ≡ Says step) × SpellsStep dev words step) → begun_after false line ≡ true
 begun_spoken dev words line (inl h) = rw h refl
 begun_spoken dev words line (inr h) = rw h.1 refl
 
-first_begins_at : (dev : Uid) (words : List (List ℕ)) (b : Bool) → is_skipped words ≡ b → begun_after false (line_in dev words) ≡ not b
+first_begins_at : (dev : Dialect) (words : List (List ℕ)) (b : Bool) → is_skipped words ≡ b → begun_after false (line_in dev words) ≡ not b
 first_begins_at dev words true e = ap (begun_after false) (said_skipped dev words e)
 first_begins_at dev words false e = begun_spoken dev words (line_in dev words) (spoken dev words e)
 
-first_set_at : (dev : Uid) (words : List (List ℕ)) (o : Option Setup) → setup_in words ≡ o → begun_after false (option_map_or (λ (s : Setup). Sets s) o (line_in dev words)) ≡ not (is_skipped words)
+first_set_at : (dev : Dialect) (words : List (List ℕ)) (o : Option Setup) → setup_in words ≡ o → begun_after false (option_map_or (λ (s : Setup). Sets s) o (line_in dev words)) ≡ not (is_skipped words)
 first_set_at dev words None e = first_begins_at dev words (is_skipped words) refl
 first_set_at dev words (Some s) e = ap not (sym (setup_isnt_skipped words s (setup_read words s e)))
 
-pub first_begins : (dev : Uid) (words : List (List ℕ)) → begun_after false (first_line_in dev words) ≡ not (is_skipped words)
+pub first_begins : (dev : Dialect) (words : List (List ℕ)) → begun_after false (first_line_in dev words) ≡ not (is_skipped words)
 unfolding first_line_in
 first_begins dev words = first_set_at dev words (setup_in words) refl
 
@@ -364,6 +365,6 @@ keeps_either : (b : Bool) (o : Option CrewStep) (s : Setup) → setup_after s (c
 keeps_either true o s = refl
 keeps_either false o s = keeps_at o s
 
-pub keeps_setup : (dev : Uid) (words : List (List ℕ)) (s : Setup) → setup_after s (line_in dev words) ≡ s
+pub keeps_setup : (dev : Dialect) (words : List (List ℕ)) (s : Setup) → setup_after s (line_in dev words) ≡ s
 unfolding line_in
 keeps_setup dev words s = keeps_either (is_skipped words) (step_in dev words) s

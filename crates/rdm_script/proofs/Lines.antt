@@ -8,8 +8,8 @@ use Rattle.std.proofs.Math.Seq.{drop-cons}
 use Rattle.std.proofs.lemmas.List.{take_more, flat_map_more, length-map, length-drop, take_all}
 use Rattle.std.proofs.lemmas.List.Elements.{All-more}
 use Rattle.std.proofs.lemmas.List.Sums.{fold-append}
-use Rattle.rdm_frame.specs.declared.uid.Uid.{Uid}
 use Rattle.rdm_crew.specs.declared.step.CrewStep.{CrewStep}
+use Rattle.rdm_script.specs.declared.dialect.Dialect.{Dialect}
 use Rattle.rdm_script.specs.declared.script.Setup.{Setup}
 use Rattle.rdm_script.specs.declared.grammar.line.Line.{Line}
 use Rattle.rdm_script.specs.declared.grammar.line.Line.TheVariants.{Skipped, Sets, Says, Faulty}
@@ -48,11 +48,11 @@ line_count_is text = length-without_returns (slice_split is_lf text) ∙ length-
 -- ---- what each line says
 
 -- what lines say behind others
-abbrev pub said_from : Uid → Bool → List (List ℕ) → List Line
+abbrev pub said_from : Dialect → Bool → List (List ℕ) → List Line
 said_from dev true lines = said_later dev lines
 said_from dev false lines = said_by dev lines
 
-pub said_none : (dev : Uid) (begun : Bool) → said_from dev begun [] ≡ []
+pub said_none : (dev : Dialect) (begun : Bool) → said_from dev begun [] ≡ []
 said_none dev true = refl
 said_none dev false = refl
 
@@ -62,26 +62,26 @@ begun_stays (Sets s) = refl
 begun_stays (Says step) = refl
 begun_stays Faulty = refl
 
-goes_on : (dev : Uid) (b : Bool) (more : List (List ℕ)) → cond b (said_by dev more) (said_later dev more) ≡ said_from dev (not b) more
+goes_on : (dev : Dialect) (b : Bool) (more : List (List ℕ)) → cond b (said_by dev more) (said_later dev more) ≡ said_from dev (not b) more
 goes_on dev true more = refl
 goes_on dev false more = refl
 
 -- the first line of some, and those behind it
-pub said_first : (dev : Uid) (begun : Bool) (line : List ℕ) (more : List (List ℕ)) → said_from dev begun (line ∷ more) ≡ line_at dev begun (words_of line) ∷ said_from dev (begun_after begun (line_at dev begun (words_of line))) more
-said_first dev true line more = rw (begun_stays (line_in dev (words_of line))) refl
-said_first dev false line more = rw (first_begins dev (words_of line)) (ap (λ (xs : List Line). first_line_in dev (words_of line) ∷ xs) (goes_on dev (is_skipped (words_of line)) more))
+pub said_first : (dev : Dialect) (begun : Bool) (line : List ℕ) (more : List (List ℕ)) → said_from dev begun (line ∷ more) ≡ line_at dev begun (words_of dev.spelling line) ∷ said_from dev (begun_after begun (line_at dev begun (words_of dev.spelling line))) more
+said_first dev true line more = rw (begun_stays (line_in dev (words_of dev.spelling line))) refl
+said_first dev false line more = rw (first_begins dev (words_of dev.spelling line)) (ap (λ (xs : List Line). first_line_in dev (words_of dev.spelling line) ∷ xs) (goes_on dev (is_skipped (words_of dev.spelling line)) more))
 
 length-cond : (b : Bool) (xs ys : List Line) (n : ℕ) → length xs ≡ n → length ys ≡ n → length (cond b xs ys) ≡ n
 length-cond true xs ys n h k = h
 length-cond false xs ys n h k = k
 
-length-said_by : (dev : Uid) (lines : List (List ℕ)) → length (said_by dev lines) ≡ length lines
+length-said_by : (dev : Dialect) (lines : List (List ℕ)) → length (said_by dev lines) ≡ length lines
 length-said_by dev [] = refl
 length-said_by dev (line ∷ more) =
     let later : length (said_later dev more) ≡ length more = rw length-map refl in
-    ap suc (length-cond (is_skipped (words_of line)) (said_by dev more) (said_later dev more) (length more) (length-said_by dev more) later)
+    ap suc (length-cond (is_skipped (words_of dev.spelling line)) (said_by dev more) (said_later dev more) (length more) (length-said_by dev more) later)
 
-pub said_count : (dev : Uid) (text : List ℕ) → length (said_by dev (lines_of text)) ≡ length (lines_of text)
+pub said_count : (dev : Dialect) (text : List ℕ) → length (said_by dev (lines_of text)) ≡ length (lines_of text)
 said_count dev text = length-said_by dev (lines_of text)
 
 -- ---- a line at hand
@@ -103,18 +103,18 @@ at_front said i line behind e =
     record { lt = lt; is = one; rest = more }
 
 -- a line is read off the rest of the text
-pub at_line : (dev : Uid) (said : List Line) (begun : Bool) (rest : List ℕ) (i end : ℕ) (line after : List ℕ) → position (λ b. b == 10) rest ≡ Some end → line ≡ without_return (take end rest) → after ≡ drop (end + 1) rest
-    → said_from dev begun (lines_of rest) ≡ drop i said → AtLine said i (line_at dev begun (words_of line)) (said_from dev (begun_after begun (line_at dev begun (words_of line))) (lines_of after))
+pub at_line : (dev : Dialect) (said : List Line) (begun : Bool) (rest : List ℕ) (i end : ℕ) (line after : List ℕ) → position (λ b. b == 10) rest ≡ Some end → line ≡ without_return (take end rest) → after ≡ drop (end + 1) rest
+    → said_from dev begun (lines_of rest) ≡ drop i said → AtLine said i (line_at dev begun (words_of dev.spelling line)) (said_from dev (begun_after begun (line_at dev begun (words_of dev.spelling line))) (lines_of after))
 at_line dev said begun rest i end line after h is_line is_after so_far =
     let lines : lines_of rest ≡ line ∷ lines_of after = rw (is_line, is_after) (lines_of_more rest end h) in
     at_front said i _ _ (sym (said_first dev begun line (lines_of after)) ∙ ap (said_from dev begun) (sym lines) ∙ so_far)
 
 -- the rest of the text is the last line
-pub at_last : (dev : Uid) (said : List Line) (begun : Bool) (rest : List ℕ) (i : ℕ) → position (λ b. b == 10) rest ≡ None
-    → said_from dev begun (lines_of rest) ≡ drop i said → AtLine said i (line_at dev begun (words_of rest)) []
+pub at_last : (dev : Dialect) (said : List Line) (begun : Bool) (rest : List ℕ) (i : ℕ) → position (λ b. b == 10) rest ≡ None
+    → said_from dev begun (lines_of rest) ≡ drop i said → AtLine said i (line_at dev begun (words_of dev.spelling rest)) []
 at_last dev said begun rest i h so_far =
-    let one : line_at dev begun (words_of rest) ∷ said_from dev (begun_after begun (line_at dev begun (words_of rest))) [] ≡ drop i said = sym (said_first dev begun rest []) ∙ ap (said_from dev begun) (sym (lines_of_last rest h)) ∙ so_far in
-    at_front said i _ [] (ap (λ (xs : List Line). line_at dev begun (words_of rest) ∷ xs) (sym (said_none dev (begun_after begun (line_at dev begun (words_of rest))))) ∙ one)
+    let one : line_at dev begun (words_of dev.spelling rest) ∷ said_from dev (begun_after begun (line_at dev begun (words_of dev.spelling rest))) [] ≡ drop i said = sym (said_first dev begun rest []) ∙ ap (said_from dev begun) (sym (lines_of_last rest h)) ∙ so_far in
+    at_front said i _ [] (ap (λ (xs : List Line). line_at dev begun (words_of dev.spelling rest) ∷ xs) (sym (said_none dev (begun_after begun (line_at dev begun (words_of dev.spelling rest))))) ∙ one)
 
 -- it isn't faulty, and what it says goes with what the lines before it say
 pub passes : (said : List Line) (i : ℕ) (line : Line) (behind : List Line) (setup : Setup) (steps : List CrewStep) → AtLine said i line behind → line ≢ Faulty → AreSaid (take i said) setup steps → AreSaid (take (i + 1) said) (setup_after setup line) (steps ++ steps_of_line line)

@@ -11,7 +11,7 @@ use Rattle.rdm_script.specs.declared.program.ProgramError.TheVariants.{Read, Scr
 use Rattle.rdm_script.specs.declared.script.Setup.{Setup}
 use Rattle.rdm_script.specs.Program.{IsTraceOf, IsStopped, IsFailure, fault_of_run}
 use Rattle.rdm_script.specs.Running.{Stops}
-use Rattle.rdm_script.specs.Scene.{Scene}
+use Rattle.rdm_script.specs.Scene.{Scene, spoken_at}
 use Rattle.rdm_script.specs.Spelling.{IsScript}
 
 -- where the reader was read to its end
@@ -74,7 +74,7 @@ stopped_as scene input run.Astray h = ((h, λ e. cc), λ e. cc, λ e. cc)
 stopped_as scene input run.Missing h = ((h, λ e. cc), λ e. cc, λ e. cc)
 stopped_as scene input run.BadSetup h = ((h, λ e. cc), λ e. cc, λ e. cc)
 
-pub run_fails : (scene : Scene) (input : List ℕ) (setup : Setup) (steps : List CrewStep) (fault : RunError) (e : ProgramError) → IsScript scene.device input setup steps → Stops scene fault setup steps
+pub run_fails : (scene : Scene) (input : List ℕ) (setup : Setup) (steps : List CrewStep) (fault : RunError) (e : ProgramError) → IsScript (spoken_at scene) input setup steps → Stops scene fault setup steps
     → e ≡ fault_of_run fault → IsFailure scene e input × (e ≢ Read) × (e ≢ Write)
 run_fails scene input setup steps fault e spelled because is =
     subst (λ (x : ProgramError). IsFailure scene x input × (x ≢ Read) × (x ≢ Write)) (sym is) (stopped_as scene input fault (record { setup = setup; steps = steps; spelled = spelled; because = because }))

@@ -3,13 +3,13 @@ use Rattle.std.proofs.Common.{◌≡◌, ◌≢◌, All, ℕ, Bool, true, false,
 use Rattle.std.specs.List.{fold, flat_map}
 use Rattle.std.proofs.lemmas.List.Elements.{All-nil, All-cons, All-head, All-tail}
 use Rattle.std.proofs.lemmas.List.Concat.{flat_map-cons}
-use Rattle.rdm_frame.specs.declared.uid.Uid.{Uid}
 use Rattle.rdm_bus.specs.declared.fault.Fault.{Fault}
 use Rattle.rdm_bus.specs.declared.fault.Fault.TheVariants as fault
 use Rattle.rdm_bus.specs.BusRun.{raise_of}
 use Rattle.rdm_crew.specs.RunTrace.{fault_at, HaveFaults}
 use Rattle.rdm_crew.specs.declared.step.CrewStep.{CrewStep}
 use Rattle.rdm_crew.specs.declared.step.CrewStep.TheVariants.{Ask, Collect, Draw, Settle, Panel}
+use Rattle.rdm_script.specs.declared.dialect.Dialect.{Dialect}
 use Rattle.rdm_script.specs.declared.script.Setup.{Setup}
 use Rattle.rdm_script.specs.declared.grammar.line.Line.{Line}
 use Rattle.rdm_script.specs.declared.grammar.line.Line.TheVariants.{Skipped, Sets, Says, Faulty}
@@ -60,7 +60,7 @@ skips : (words : List (List ℕ)) → (is_skipped words ≡ true) ⊎ (is_skippe
 skips words = either (is_skipped words)
 
 -- a line that isn't skipped says a step, unless it is faulty
-says_step : (dev : Uid) (words : List (List ℕ)) → is_skipped words ≡ false → line_in dev words ≢ Faulty → (step : CrewStep) × (line_in dev words ≡ Says step) × SpellsStep dev words step
+says_step : (dev : Dialect) (words : List (List ℕ)) → is_skipped words ≡ false → line_in dev words ≢ Faulty → (step : CrewStep) × (line_in dev words ≡ Says step) × SpellsStep dev words step
 says_step dev words out sound =
     elim (spoken dev words out) [
       | inl h ↦ absurd (sound h)
@@ -68,41 +68,41 @@ says_step dev words out sound =
     ]
 
 -- the steps that lines are read as are those that they spell
-later_spelled : (dev : Uid) (lines : List (List ℕ)) → Sound (said_later dev lines) → SpellSteps dev (map words_of lines) (flat_map steps_of_line (said_later dev lines))
+later_spelled : (dev : Dialect) (lines : List (List ℕ)) → Sound (said_later dev lines) → SpellSteps dev (map (words_of dev.spelling) lines) (flat_map steps_of_line (said_later dev lines))
 later_spelled dev [] sound = refl
 later_spelled dev (line ∷ more) sound =
-    let words = words_of line in
+    let words = words_of dev.spelling line in
     let behind = later_spelled dev more (tail_sound (line_in dev words) (said_later dev more) sound) in
     elim (skips words) [
-      | inl h ↦ inl (h, subst (λ (ss : List CrewStep). SpellSteps dev (map words_of more) ss) (sym (steps_skipped (line_in dev words) (said_later dev more) (said_skipped dev words h))) behind)
+      | inl h ↦ inl (h, subst (λ (ss : List CrewStep). SpellSteps dev (map (words_of dev.spelling) more) ss) (sym (steps_skipped (line_in dev words) (said_later dev more) (said_skipped dev words h))) behind)
       | inr h ↦
           let s = says_step dev words h (head_sound (line_in dev words) (said_later dev more) sound) in
           inr (h, s.0, flat_map steps_of_line (said_later dev more), steps_said (line_in dev words) s.0 (said_later dev more) s.1, s.2, behind)
     ]
 
 -- and the steps that they spell are those that they are read as
-later_read : (dev : Uid) (lines : List (List ℕ)) (steps : List CrewStep) → SpellSteps dev (map words_of lines) steps → Sound (said_later dev lines) × (steps ≡ flat_map steps_of_line (said_later dev lines))
+later_read : (dev : Dialect) (lines : List (List ℕ)) (steps : List CrewStep) → SpellSteps dev (map (words_of dev.spelling) lines) steps → Sound (said_later dev lines) × (steps ≡ flat_map steps_of_line (said_later dev lines))
 later_read dev [] steps h = (All-nil (λ (l : Line). l ≢ Faulty), h)
 later_read dev (line ∷ more) steps (inl h) =
-    let said = said_skipped dev (words_of line) h.0 in
+    let said = said_skipped dev (words_of dev.spelling line) h.0 in
     let behind = later_read dev more steps h.1 in
-    (sound_skipped (line_in dev (words_of line)) (said_later dev more) said behind.0, behind.1 ∙ sym (steps_skipped (line_in dev (words_of line)) (said_later dev more) said))
+    (sound_skipped (line_in dev (words_of dev.spelling line)) (said_later dev more) said behind.0, behind.1 ∙ sym (steps_skipped (line_in dev (words_of dev.spelling line)) (said_later dev more) said))
 later_read dev (line ∷ more) steps (inr (out, step, rest, is, spelled, others)) =
-    let said = line_again dev (words_of line) step out spelled in
+    let said = line_again dev (words_of dev.spelling line) step out spelled in
     let behind = later_read dev more rest others in
-    (sound_said (line_in dev (words_of line)) step (said_later dev more) said behind.0, is ∙ ap (λ (ss : List CrewStep). step ∷ ss) behind.1 ∙ sym (steps_said (line_in dev (words_of line)) step (said_later dev more) said))
+    (sound_said (line_in dev (words_of dev.spelling line)) step (said_later dev more) said behind.0, is ∙ ap (λ (ss : List CrewStep). step ∷ ss) behind.1 ∙ sym (steps_said (line_in dev (words_of dev.spelling line)) step (said_later dev more) said))
 
 -- they leave the setup as it is
-later_keeps : (dev : Uid) (lines : List (List ℕ)) (s : Setup) → fold setup_after s (said_later dev lines) ≡ s
+later_keeps : (dev : Dialect) (lines : List (List ℕ)) (s : Setup) → fold setup_after s (said_later dev lines) ≡ s
 later_keeps dev [] s = refl
-later_keeps dev (line ∷ more) s = ap (λ (t : Setup). fold setup_after t (said_later dev more)) (keeps_setup dev (words_of line) s) ∙ later_keeps dev more s
+later_keeps dev (line ∷ more) s = ap (λ (t : Setup). fold setup_after t (said_later dev more)) (keeps_setup dev (words_of dev.spelling line) s) ∙ later_keeps dev more s
 
 -- ---- all lines
 
-abbrev SpellScript : Uid → List (List (List ℕ)) → Setup → List CrewStep → Type 0
+abbrev SpellScript : Dialect → List (List (List ℕ)) → Setup → List CrewStep → Type 0
 SpellScript dev lines setup steps = SpellSetupAndSteps dev lines setup steps ⊎ ((setup ≡ plain_setup) × SpellSteps dev lines steps)
 
-skip_script : (dev : Uid) (words : List (List ℕ)) (more : List (List (List ℕ))) (setup : Setup) (steps : List CrewStep) → is_skipped words ≡ true → SpellScript dev more setup steps → SpellScript dev (words ∷ more) setup steps
+skip_script : (dev : Dialect) (words : List (List ℕ)) (more : List (List (List ℕ))) (setup : Setup) (steps : List CrewStep) → is_skipped words ≡ true → SpellScript dev more setup steps → SpellScript dev (words ∷ more) setup steps
 skip_script dev words more setup steps h (inl s) = inl (inl (h, s))
 skip_script dev words more setup steps h (inr s) = inr (s.0, inl (h, s.1))
 
@@ -110,7 +110,7 @@ skip_script dev words more setup steps h (inr s) = inr (s.0, inl (h, s.1))
 abbrev Reads : List Line → Setup → List CrewStep → Type 0
 Reads said setup steps = Sound said × (setup ≡ fold setup_after plain_setup said) × (steps ≡ flat_map steps_of_line said)
 
-said_behind : (dev : Uid) (line : List ℕ) (more : List (List ℕ)) (b : Bool) → is_skipped (words_of line) ≡ b → said_by dev (line ∷ more) ≡ first_line_in dev (words_of line) ∷ cond b (said_by dev more) (said_later dev more)
+said_behind : (dev : Dialect) (line : List ℕ) (more : List (List ℕ)) (b : Bool) → is_skipped (words_of dev.spelling line) ≡ b → said_by dev (line ∷ more) ≡ first_line_in dev (words_of dev.spelling line) ∷ cond b (said_by dev more) (said_later dev more)
 said_behind dev line more b e = rw e refl
 
 -- where a line is skipped
@@ -121,54 +121,54 @@ skipped_read : (line : Line) (said : List Line) (setup : Setup) (steps : List Cr
 skipped_read line said setup steps e r = (sound_skipped line said e r.0, r.1 ∙ sym (ap (λ (l : Line). fold setup_after (setup_after plain_setup l) said) e), r.2 ∙ sym (steps_skipped line said e))
 
 -- where it isn't
-opening_at : (dev : Uid) (line : List ℕ) (more : List (List ℕ)) (o : Option Setup) (setup : Setup) (steps : List CrewStep) → setup_in (words_of line) ≡ o → Reads (first_line_in dev (words_of line) ∷ said_later dev more) setup steps → SpellScript dev (map words_of (line ∷ more)) setup steps
+opening_at : (dev : Dialect) (line : List ℕ) (more : List (List ℕ)) (o : Option Setup) (setup : Setup) (steps : List CrewStep) → setup_in (words_of dev.spelling line) ≡ o → Reads (first_line_in dev (words_of dev.spelling line) ∷ said_later dev more) setup steps → SpellScript dev (map (words_of dev.spelling) (line ∷ more)) setup steps
 opening_at dev line more (Some s) setup steps e r =
-    let words = words_of line in
+    let words = words_of dev.spelling line in
     let spelled = setup_read words s e in
     let said : first_line_in dev words ≡ Sets s = first_sets dev words s spelled in
     let same : setup ≡ s = r.1 ∙ ap (λ (l : Line). fold setup_after (setup_after plain_setup l) (said_later dev more)) said ∙ later_keeps dev more s in
     let behind = later_spelled dev more (tail_sound (first_line_in dev words) (said_later dev more) r.0) in
-    inl (inr (subst (λ (t : Setup). SpellsSetup words t) (sym same) spelled, subst (λ (ss : List CrewStep). SpellSteps dev (map words_of more) ss) (sym (r.2 ∙ steps_set (first_line_in dev words) s (said_later dev more) said)) behind))
+    inl (inr (subst (λ (t : Setup). SpellsSetup words t) (sym same) spelled, subst (λ (ss : List CrewStep). SpellSteps dev (map (words_of dev.spelling) more) ss) (sym (r.2 ∙ steps_set (first_line_in dev words) s (said_later dev more) said)) behind))
 opening_at dev line more None setup steps e r =
-    let said : first_line_in dev (words_of line) ∷ said_later dev more ≡ said_later dev (line ∷ more) = ap (λ (l : Line). l ∷ said_later dev more) (first_is dev (words_of line) e) in
+    let said : first_line_in dev (words_of dev.spelling line) ∷ said_later dev more ≡ said_later dev (line ∷ more) = ap (λ (l : Line). l ∷ said_later dev more) (first_is dev (words_of dev.spelling line) e) in
     let all : Reads (said_later dev (line ∷ more)) setup steps = subst (λ (ls : List Line). Reads ls setup steps) said r in
-    inr (all.1 ∙ later_keeps dev (line ∷ more) plain_setup, subst (λ (ss : List CrewStep). SpellSteps dev (map words_of (line ∷ more)) ss) (sym all.2) (later_spelled dev (line ∷ more) all.0))
+    inr (all.1 ∙ later_keeps dev (line ∷ more) plain_setup, subst (λ (ss : List CrewStep). SpellSteps dev (map (words_of dev.spelling) (line ∷ more)) ss) (sym all.2) (later_spelled dev (line ∷ more) all.0))
 
-lines_spelled : (dev : Uid) (lines : List (List ℕ)) (setup : Setup) (steps : List CrewStep) → Reads (said_by dev lines) setup steps → SpellScript dev (map words_of lines) setup steps
+lines_spelled : (dev : Dialect) (lines : List (List ℕ)) (setup : Setup) (steps : List CrewStep) → Reads (said_by dev lines) setup steps → SpellScript dev (map (words_of dev.spelling) lines) setup steps
 lines_spelled dev [] setup steps r = inr (r.1, r.2)
 lines_spelled dev (line ∷ more) setup steps r =
-    elim (skips (words_of line)) [
+    elim (skips (words_of dev.spelling line)) [
       | inl h ↦
-          let here : Reads (first_line_in dev (words_of line) ∷ said_by dev more) setup steps = subst (λ (ls : List Line). Reads ls setup steps) (said_behind dev line more true h) r in
-          skip_script dev (words_of line) (map words_of more) setup steps h (lines_spelled dev more setup steps (read_skipped (first_line_in dev (words_of line)) (said_by dev more) setup steps (first_skipped dev (words_of line) h) here))
+          let here : Reads (first_line_in dev (words_of dev.spelling line) ∷ said_by dev more) setup steps = subst (λ (ls : List Line). Reads ls setup steps) (said_behind dev line more true h) r in
+          skip_script dev (words_of dev.spelling line) (map (words_of dev.spelling) more) setup steps h (lines_spelled dev more setup steps (read_skipped (first_line_in dev (words_of dev.spelling line)) (said_by dev more) setup steps (first_skipped dev (words_of dev.spelling line) h) here))
       | inr h ↦
-          let here : Reads (first_line_in dev (words_of line) ∷ said_later dev more) setup steps = subst (λ (ls : List Line). Reads ls setup steps) (said_behind dev line more false h) r in
-          opening_at dev line more (setup_in (words_of line)) setup steps refl here
+          let here : Reads (first_line_in dev (words_of dev.spelling line) ∷ said_later dev more) setup steps = subst (λ (ls : List Line). Reads ls setup steps) (said_behind dev line more false h) r in
+          opening_at dev line more (setup_in (words_of dev.spelling line)) setup steps refl here
     ]
 
-skipped_lines : (dev : Uid) (line : List ℕ) (more : List (List ℕ)) (setup : Setup) (steps : List CrewStep) → is_skipped (words_of line) ≡ true → Reads (said_by dev more) setup steps → Reads (said_by dev (line ∷ more)) setup steps
+skipped_lines : (dev : Dialect) (line : List ℕ) (more : List (List ℕ)) (setup : Setup) (steps : List CrewStep) → is_skipped (words_of dev.spelling line) ≡ true → Reads (said_by dev more) setup steps → Reads (said_by dev (line ∷ more)) setup steps
 skipped_lines dev line more setup steps h r =
-    subst (λ (ls : List Line). Reads ls setup steps) (sym (said_behind dev line more true h)) (skipped_read (first_line_in dev (words_of line)) (said_by dev more) setup steps (first_skipped dev (words_of line) h) r)
+    subst (λ (ls : List Line). Reads ls setup steps) (sym (said_behind dev line more true h)) (skipped_read (first_line_in dev (words_of dev.spelling line)) (said_by dev more) setup steps (first_skipped dev (words_of dev.spelling line) h) r)
 
-opened_lines : (dev : Uid) (line : List ℕ) (more : List (List ℕ)) (setup : Setup) (steps : List CrewStep) → SpellsSetup (words_of line) setup → SpellSteps dev (map words_of more) steps → Reads (said_by dev (line ∷ more)) setup steps
+opened_lines : (dev : Dialect) (line : List ℕ) (more : List (List ℕ)) (setup : Setup) (steps : List CrewStep) → SpellsSetup (words_of dev.spelling line) setup → SpellSteps dev (map (words_of dev.spelling) more) steps → Reads (said_by dev (line ∷ more)) setup steps
 opened_lines dev line more setup steps opening others =
-    let words = words_of line in
+    let words = words_of dev.spelling line in
     let said : first_line_in dev words ≡ Sets setup = first_sets dev words setup opening in
     let behind = later_read dev more steps others in
     let is_setup : setup ≡ fold setup_after plain_setup (first_line_in dev words ∷ said_later dev more) = sym (ap (λ (l : Line). fold setup_after (setup_after plain_setup l) (said_later dev more)) said ∙ later_keeps dev more setup) in
     subst (λ (ls : List Line). Reads ls setup steps) (sym (said_behind dev line more false (setup_isnt_skipped words setup opening)))
     (sound_set (first_line_in dev words) setup (said_later dev more) said behind.0, is_setup, behind.1 ∙ sym (steps_set (first_line_in dev words) setup (said_later dev more) said))
 
-step_lines : (dev : Uid) (line : List ℕ) (more : List (List ℕ)) (setup : Setup) (steps : List CrewStep) (step : CrewStep) (rest : List CrewStep) → setup ≡ plain_setup → is_skipped (words_of line) ≡ false → steps ≡ step ∷ rest → SpellsStep dev (words_of line) step → SpellSteps dev (map words_of more) rest → Reads (said_by dev (line ∷ more)) setup steps
+step_lines : (dev : Dialect) (line : List ℕ) (more : List (List ℕ)) (setup : Setup) (steps : List CrewStep) (step : CrewStep) (rest : List CrewStep) → setup ≡ plain_setup → is_skipped (words_of dev.spelling line) ≡ false → steps ≡ step ∷ rest → SpellsStep dev (words_of dev.spelling line) step → SpellSteps dev (map (words_of dev.spelling) more) rest → Reads (said_by dev (line ∷ more)) setup steps
 step_lines dev line more setup steps step rest plain out is spelled others =
-    let words = words_of line in
+    let words = words_of dev.spelling line in
     let said : first_line_in dev words ≡ Says step = first_says dev words step out spelled in
     let behind = later_read dev more rest others in
     let is_setup : setup ≡ fold setup_after plain_setup (first_line_in dev words ∷ said_later dev more) = plain ∙ sym (ap (λ (l : Line). fold setup_after (setup_after plain_setup l) (said_later dev more)) said ∙ later_keeps dev more plain_setup) in
     subst (λ (ls : List Line). Reads ls setup steps) (sym (said_behind dev line more false out))
     (sound_said (first_line_in dev words) step (said_later dev more) said behind.0, is_setup, is ∙ ap (λ (ss : List CrewStep). step ∷ ss) behind.1 ∙ sym (steps_said (first_line_in dev words) step (said_later dev more) said))
 
-lines_read : (dev : Uid) (lines : List (List ℕ)) (setup : Setup) (steps : List CrewStep) → SpellScript dev (map words_of lines) setup steps → Reads (said_by dev lines) setup steps
+lines_read : (dev : Dialect) (lines : List (List ℕ)) (setup : Setup) (steps : List CrewStep) → SpellScript dev (map (words_of dev.spelling) lines) setup steps → Reads (said_by dev lines) setup steps
 lines_read dev [] setup steps (inl s) = absurd s
 lines_read dev [] setup steps (inr s) = (All-nil (λ (l : Line). l ≢ Faulty), s.0, s.1)
 lines_read dev (line ∷ more) setup steps (inl (inl h)) = skipped_lines dev line more setup steps h.0 (lines_read dev more setup steps (inl h.1))
@@ -178,11 +178,11 @@ lines_read dev (line ∷ more) setup steps (inr (plain, inr (out, step, rest, is
 
 -- ---- a script
 
-pub script_spelled : (dev : Uid) (text : List ℕ) (setup : Setup) (steps : List CrewStep) → IsRead dev text setup steps → IsScript dev text setup steps
+pub script_spelled : (dev : Dialect) (text : List ℕ) (setup : Setup) (steps : List CrewStep) → IsRead dev text setup steps → IsScript dev text setup steps
 script_spelled dev text setup steps r =
     record { within = r.within; says = lines_spelled dev (lines_of text) setup steps (r.says.faultless, r.says.setup_is, r.says.in_order) }
 
-pub script_read : (dev : Uid) (text : List ℕ) (setup : Setup) (steps : List CrewStep) → IsScript dev text setup steps → IsRead dev text setup steps
+pub script_read : (dev : Dialect) (text : List ℕ) (setup : Setup) (steps : List CrewStep) → IsScript dev text setup steps → IsRead dev text setup steps
 script_read dev text setup steps s =
     let all = lines_read dev (lines_of text) setup steps s.says in
     record { within = s.within; says = record { faultless = all.0; setup_is = all.1; in_order = all.2 } }
@@ -200,27 +200,27 @@ fault_alters words fault.LostReply s = λ e. cc
 fault_alters words (fault.BadRequest k x) s = λ e. let zero : x ≡ 0 = cc in omega (arith, s.raises)
 fault_alters words (fault.BadReply k x) s = λ e. let zero : x ≡ 0 = cc in omega (arith, s.raises)
 
-step_alters : (dev : Uid) (words : List (List ℕ)) (step : CrewStep) → SpellsStep dev words step → Alters step
+step_alters : (dev : Dialect) (words : List (List ℕ)) (step : CrewStep) → SpellsStep dev words step → Alters step
 step_alters dev words (Ask c f) s = fault_alters (drop 5 words) f s.1
 step_alters dev words (Collect f) s = fault_alters (drop 1 words) f s.1
 step_alters dev words Draw s = λ e. cc
 step_alters dev words (Settle empties) s = λ e. cc
 step_alters dev words (Panel empties) s = λ e. cc
 
-steps_alter : (dev : Uid) (lines : List (List (List ℕ))) (steps : List CrewStep) → SpellSteps dev lines steps → All Alters steps
+steps_alter : (dev : Dialect) (lines : List (List (List ℕ))) (steps : List CrewStep) → SpellSteps dev lines steps → All Alters steps
 steps_alter dev [] steps e = subst (λ (ss : List CrewStep). All Alters ss) (sym e) (All-nil Alters)
 steps_alter dev (words ∷ more) steps (inl h) = steps_alter dev more steps h.1
 steps_alter dev (words ∷ more) steps (inr (out, step, rest, is, spelled, others)) =
     subst (λ (ss : List CrewStep). All Alters ss) (sym is) (All-cons Alters step rest (step_alters dev words step spelled) (steps_alter dev more rest others))
 
-opened_alter : (dev : Uid) (lines : List (List (List ℕ))) (setup : Setup) (steps : List CrewStep) → SpellSetupAndSteps dev lines setup steps → All Alters steps
+opened_alter : (dev : Dialect) (lines : List (List (List ℕ))) (setup : Setup) (steps : List CrewStep) → SpellSetupAndSteps dev lines setup steps → All Alters steps
 opened_alter dev [] setup steps s = absurd s
 opened_alter dev (words ∷ more) setup steps (inl h) = opened_alter dev more setup steps h.1
 opened_alter dev (words ∷ more) setup steps (inr h) = steps_alter dev more steps h.1
 
-lines_alter : (dev : Uid) (lines : List (List (List ℕ))) (setup : Setup) (steps : List CrewStep) → SpellScript dev lines setup steps → All Alters steps
+lines_alter : (dev : Dialect) (lines : List (List (List ℕ))) (setup : Setup) (steps : List CrewStep) → SpellScript dev lines setup steps → All Alters steps
 lines_alter dev lines setup steps (inl s) = opened_alter dev lines setup steps s
 lines_alter dev lines setup steps (inr s) = steps_alter dev lines steps s.1
 
-pub script_alters : (dev : Uid) (text : List ℕ) (setup : Setup) (steps : List CrewStep) → IsScript dev text setup steps → HaveFaults steps
-script_alters dev text setup steps s = lines_alter dev (map words_of (lines_of text)) setup steps s.says
+pub script_alters : (dev : Dialect) (text : List ℕ) (setup : Setup) (steps : List CrewStep) → IsScript dev text setup steps → HaveFaults steps
+script_alters dev text setup steps s = lines_alter dev (map (words_of dev.spelling) (lines_of text)) setup steps s.says

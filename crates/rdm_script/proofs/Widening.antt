@@ -16,18 +16,22 @@ use Rattle.rdm_crew.specs.RunTrace.{IsCut, IsAnswered}
 use Rattle.rdm_crew.specs.Setups.{IsBadSetup, switched_on}
 use Rattle.rdm_crew.specs.Watchers.{AreOffered}
 use Rattle.rdm_crew.specs.Workers.{Answers}
+use Rattle.rdm_script.specs.declared.dialect.Dialect.{Dialect}
+use Rattle.rdm_script.specs.declared.dialect.Spelling.{Spelling}
+use Rattle.rdm_script.specs.Dialects.{dialect_of}
 use Rattle.rdm_script.specs.declared.program.ProgramError.{ProgramError}
 use Rattle.rdm_script.specs.declared.program.ProgramError.TheVariants.{Read, Script, Memory, Run, Write}
 use Rattle.rdm_script.specs.declared.script.Setup.{Setup}
 use Rattle.rdm_script.specs.Grammar.{Refuses}
 use Rattle.rdm_script.specs.Program.{IsTraceOf, IsStopped, IsFailure}
 use Rattle.rdm_script.specs.Running.{crew_setup, IsBad, IsGood, Stops}
-use Rattle.rdm_script.specs.Scene.{Scene}
+use Rattle.rdm_script.specs.Scene.{Scene, spoken_at}
 use Rattle.rdm_script.specs.Spelling.{IsScript}
 
 pub record IsWider (s t : Scene) : Type 0 where
   pub device : s.device ≡ t.device
   pub profile : s.profile ≡ t.profile
+  pub spelling : s.spelling ≡ t.spelling
   pub first : (j : Job) (o : Outcome) → s.first j o → t.first j o
   pub second : (j : Job) (o : Outcome) → s.second j o → t.second j o
   pub offers : (n : ℕ) (c : Change) → s.offers n c → t.offers n c
@@ -35,6 +39,10 @@ pub record IsWider (s t : Scene) : Type 0 where
 -- what hangs on the device alone
 moved : (P : Uid → Profile → Type 0) (s t : Scene) → IsWider s t → P s.device s.profile → P t.device t.profile
 moved P s t w h = subst (P t.device) w.profile (subst (λ (d : Uid). P d s.profile) w.device h)
+
+-- what hangs on the dialect alone
+retold : (P : Dialect → Type 0) (s t : Scene) → IsWider s t → P (spoken_at s) → P (spoken_at t)
+retold P s t w h = subst (λ (k : Spelling). P (dialect_of t.device k)) w.spelling (subst (λ (d : Uid). P (dialect_of d s.spelling)) w.device h)
 
 answers_wider : (f g : Job → Outcome → Type 0) → ((j : Job) (o : Outcome) → f j o → g j o) → (js : List Job) (rs : List Report) → Answers f js rs → Answers g js rs
 answers_wider f g wider js [] h = tt
@@ -59,7 +67,7 @@ trace_wider s t w input text h = record {
   setup = h.setup;
   steps = h.steps;
   events = h.events;
-  spelled = subst (λ (d : Uid). IsScript d input h.setup h.steps) w.device h.spelled;
+  spelled = retold (λ (d : Dialect). IsScript d input h.setup h.steps) s t w h.spelled;
   good = good_wider s t h.setup w h.good;
   run = record {
     cut = moved (λ (d : Uid) (p : Profile). IsCut (switched_on (crew_setup d p h.setup)) h.steps h.events) s t w h.run.cut;
@@ -83,13 +91,13 @@ stopped_wider : (s t : Scene) (input : List ℕ) (e : RunError) → IsWider s t 
 stopped_wider s t input e w h = record {
   setup = h.setup;
   steps = h.steps;
-  spelled = subst (λ (d : Uid). IsScript d input h.setup h.steps) w.device h.spelled;
+  spelled = retold (λ (d : Dialect). IsScript d input h.setup h.steps) s t w h.spelled;
   because = stops_wider s t e h.setup h.steps w h.because;
 }
 
 failure_wider : (s t : Scene) (e : ProgramError) (input : List ℕ) → IsWider s t → IsFailure s e input → IsFailure t e input
 failure_wider s t Read input w h = tt
-failure_wider s t (Script e) input w h = (subst (λ (d : Uid). Refuses d e input) w.device h.0, h.1)
+failure_wider s t (Script e) input w h = (retold (λ (d : Dialect). Refuses d e input) s t w h.0, h.1)
 failure_wider s t Memory input w h = tt
 failure_wider s t (Run e) input w h = (stopped_wider s t input e w h.0, h.1)
 failure_wider s t Write input w h = tt

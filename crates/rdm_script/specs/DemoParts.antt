@@ -4,6 +4,8 @@ use Rattle.rdm_device.specs.Device.Demo.{demo}
 use Rattle.rdm_params.specs.declared.panel.Change.{Change}
 use Rattle.rdm_params.specs.declared.panel.Change.TheVariants.{Start, Personality, Label}
 use Rattle.rdm_outcomes.specs.Demo.{demo_outcome}
+use Rattle.rdm_script.specs.declared.dialect.Spelling.{Spelling}
+use Rattle.rdm_script.specs.declared.dialect.Spelling.TheVariants.{Strict}
 use Rattle.rdm_script.specs.Parties.{demo_device}
 use Rattle.rdm_script.specs.Scene.{Scene}
 
@@ -17,12 +19,17 @@ panel_change number =
     else (if number == 3 then Some (Personality 2) else None)))
 
 -- The moving head of the demonstration, with as many sub-devices as there can be (E1.20 section 9). Both workers end a
--- job in the one way that rdm_outcomes says.
-abbrev pub demo_scene : Scene
-demo_scene = record {
+-- job in the one way that rdm_outcomes says. The words of its scripts are spelled so.
+abbrev pub demo_scene_in : Spelling → Scene
+demo_scene_in spelling = record {
   device = demo_device;
   profile = demo 512;
+  spelling = spelling;
   first = λ job outcome. outcome ≡ demo_outcome job;
   second = λ job outcome. outcome ≡ demo_outcome job;
   offers = λ number change. panel_change number ≡ Some change;
 }
+
+-- the demonstration with scripts in strict words
+abbrev pub demo_scene : Scene
+demo_scene = demo_scene_in Strict

@@ -1,7 +1,9 @@
 pub mod Decimals
 pub mod DemoParts
+pub mod Dialects
 pub mod ErrorLine
 pub mod Grammar
+pub mod Names
 pub mod Parties
 pub mod Program
 pub mod Rules

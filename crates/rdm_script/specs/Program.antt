@@ -14,7 +14,7 @@ use Rattle.rdm_script.specs.declared.program.ProgramError.TheVariants.{Read, Scr
 use Rattle.rdm_script.specs.Grammar.{Refuses}
 use Rattle.rdm_script.specs.Spelling.{IsScript}
 use Rattle.rdm_script.specs.Running.{IsGood, IsScriptRun, Stops}
-use Rattle.rdm_script.specs.Scene.{Scene}
+use Rattle.rdm_script.specs.Scene.{Scene, spoken_at}
 use Rattle.rdm_script.specs.TraceText.{trace_text}
 
 -- The output is the text of what happens when the script that the input is gets played on the device of the scene, which
@@ -23,7 +23,7 @@ pub record IsTraceOf (scene : Scene) (input output : List ℕ) : Type 0 where
   pub setup : Setup
   pub steps : List CrewStep
   pub events : List Event
-  pub spelled : IsScript scene.device input setup steps
+  pub spelled : IsScript (spoken_at scene) input setup steps
   pub good : IsGood scene setup
   pub run : IsScriptRun scene setup steps events
   pub written : output ≡ trace_text events (recorded events)
@@ -32,13 +32,13 @@ pub record IsTraceOf (scene : Scene) (input output : List ℕ) : Type 0 where
 pub record IsStopped (scene : Scene) (input : List ℕ) (e : RunError) : Type 0 where
   pub setup : Setup
   pub steps : List CrewStep
-  pub spelled : IsScript scene.device input setup steps
+  pub spelled : IsScript (spoken_at scene) input setup steps
   pub because : Stops scene e setup steps
 
 -- Why there is no trace of the input. Want of memory is told as such, and never as a fault of the script or the run.
 abbrev pub IsFailure : Scene → ProgramError → List ℕ → Type 0
 IsFailure scene Read input = Unit {0}
-IsFailure scene (Script e) input = Refuses scene.device e input × (e ≢ script.OutOfMemory)
+IsFailure scene (Script e) input = Refuses (spoken_at scene) e input × (e ≢ script.OutOfMemory)
 IsFailure scene Memory input = Unit {0}
 IsFailure scene (Run e) input = IsStopped scene input e × (e ≢ run.OutOfMemory)
 IsFailure scene Write input = Unit {0}

@@ -5,13 +5,17 @@ use Rattle.rdm_params.specs.declared.panel.Change.{Change}
 use Rattle.rdm_params.specs.declared.slow.outcome.Outcome.{Outcome}
 use Rattle.rdm_device.specs.declared.profile.Profile.{Profile}
 use Rattle.rdm_outbox.specs.declared.job.Job.{Job}
+use Rattle.rdm_script.specs.declared.dialect.Dialect.{Dialect}
+use Rattle.rdm_script.specs.declared.dialect.Spelling.{Spelling}
 use Rattle.rdm_script.specs.declared.stage.Stage.{Stage}
+use Rattle.rdm_script.specs.Dialects.{dialect_of}
 
--- A fixture of this UID and profile, the outcomes that each of its two workers may give for a job, and the changes that
+-- A fixture of this UID and profile, how the words of its scripts are spelled, the outcomes that each of its two workers may give for a job, and the changes that
 -- its panel may offer for 0, 1, 2 and so on.
 pub record Scene : Type 1 where
   pub device : Uid
   pub profile : Profile
+  pub spelling : Spelling
   pub first : Job → Outcome → Type 0
   pub second : Job → Outcome → Type 0
   pub offers : ℕ → Change → Type 0
@@ -21,7 +25,12 @@ abbrev pub scene_of : {P Q N : Type 0} → (P → Job → Outcome → Type 0) �
 scene_of gives_0 gives_1 offers stage = record {
   device = stage.device;
   profile = stage.profile;
+  spelling = stage.spelling;
   first = gives_0 stage.first;
   second = gives_1 stage.second;
   offers = offers stage.panel;
 }
+
+-- the dialect of the scripts of a scene
+abbrev pub spoken_at : Scene → Dialect
+spoken_at scene = dialect_of scene.device scene.spelling

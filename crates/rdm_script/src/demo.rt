@@ -6,6 +6,7 @@ ghost use Rattle.rdm_outcomes.specs.Demo as says;
 ghost use Rattle.rdm_script.specs.Parties.{demo_device};
 ghost use Rattle.rdm_script.specs.Rules.{rules_of};
 
+use crate::dialect::Spelling;
 use crate::parties::DEVICE;
 use crate::rules::RuledPart;
 use crate::stage::Stage;
@@ -16,9 +17,10 @@ use rdm_params::{Change, Plate, Profile};
 /// How many sub-devices there can be at most (E1.20 section 9).
 const MOST_SUBS: u16 = 512;
 
-/// The moving head of the demonstration.
-pub(crate) fn demo_stage() -> Stage<RuledPart, RuledPart, DemoPanel>
+/// The moving head of the demonstration, for scripts whose words are spelled so.
+pub(crate) fn demo_stage(spelling: Spelling) -> Stage<RuledPart, RuledPart, DemoPanel>
     ensures device { result.device ≡ demo_device }
+    ensures spelling { result.spelling ≡ spelling }
     ensures profile { result.profile ≡ demo 512 }
     ensures first { rules_of result.first ≡ says.demo_rules }
     ensures second { rules_of result.second ≡ says.demo_rules }
@@ -27,6 +29,7 @@ pub(crate) fn demo_stage() -> Stage<RuledPart, RuledPart, DemoPanel>
     Stage {
         device: DEVICE,
         profile: Profile::demo(MOST_SUBS),
+        spelling,
         first: RuledPart::new(&rules),
         second: RuledPart::new(&rules),
         panel: DemoPanel,

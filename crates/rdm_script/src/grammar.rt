@@ -4,8 +4,12 @@ mod command;
 mod decimals;
 mod fault;
 pub(crate) mod line;
+mod names;
 pub(crate) mod parsing;
+mod telling;
 mod words;
+mod wrong;
 
 pub(crate) use parsing::MOST_BYTES;
-pub use parsing::{ScriptError, parse, parse_for};
+pub use parsing::{ScriptError, parse, parse_as, parse_for};
+pub use telling::{refusal_at, stopped_line};

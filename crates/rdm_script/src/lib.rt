@@ -2,18 +2,20 @@
 //! of the bytes that went over the bus.
 //!
 //! `run_script` does all of it, for any reader and writer, on the fixture of the demonstration, `run_script_on` on any
-//! other, and `run_program` ends a program with what came of it. The
+//! other, and `run_program` ends a program with what came of it. `parse_as` reads strict scripts and friendly ones. The
 //! language stands in `specs/Spelling.antt`, how a run is set up and why it stops in `specs/Running.antt`, the
 //! demonstration in `specs/DemoParts.antt`, and the text in `specs/TraceText.antt`. What a run is, rdm_crew says.
 #![tactic(auto)]
 
 mod demo;
+mod dialect;
 mod error_line;
 mod exit;
 mod grammar;
 mod laws;
 mod parties;
 mod program;
+mod refusal;
 mod rules;
 mod running;
 mod script;
@@ -22,14 +24,16 @@ mod streams;
 mod trace;
 
 pub use demo::DemoPanel;
+pub use dialect::{Dialect, Spelling};
 pub use exit::{report, run_program};
-pub use grammar::{ScriptError, parse, parse_for};
+pub use grammar::{ScriptError, parse, parse_as, parse_for, refusal_at, stopped_line};
 pub use laws::{
-    line_says_what_its_words_spell, program_errors_are_equal_by_value,
+    line_says_what_its_words_spell, program_errors_are_equal_by_value, refusals_are_equal_by_value,
     script_errors_are_equal_by_value, script_is_never_refused, setups_are_equal_by_value,
-    text_is_one_script,
+    strict_steps_are_friendly, text_is_one_script, wanteds_are_equal_by_value,
 };
-pub use program::{ProgramError, run_script, run_script_on};
+pub use program::{ProgramError, run_script, run_script_as, run_script_on};
+pub use refusal::{Excerpt, Refusal, Wanted};
 pub use rules::{RuledPart, ruled_parts_fit};
 pub use script::{Script, Setup};
 pub use stage::Stage;

@@ -3,13 +3,14 @@
 ghost use Rattle.std.specs.Prelude.{◌≡◌, ◌≢◌, ℕ, List, take, OnOk, IfOk, IfErr, IfSome};
 ghost use Rattle.std.specs.Io.KnownBytes.{Keeps, Appends, IsAtEnd};
 ghost use Rattle.rdm_crew.specs.RunTrace.{FitsFor};
-ghost use Rattle.rdm_script.specs.DemoParts.{demo_scene};
+ghost use Rattle.rdm_script.specs.DemoParts.{demo_scene, demo_scene_in};
 ghost use Rattle.rdm_script.specs.Scene.{scene_of};
 ghost use Rattle.rdm_script.specs.Program.{IsTraceOf, IsFailure, status_of, fault_of_script, fault_of_run};
 ghost use Rattle.rdm_script.specs.declared.program.ProgramError.TheVariants.{Memory, Read as ReadFault, Write as WriteFault};
 
 use crate::demo::demo_stage;
-use crate::grammar::{ScriptError, parse_for};
+use crate::dialect::Spelling;
+use crate::grammar::{ScriptError, parse_as};
 use crate::rules::ruled_parts_fit;
 use crate::running::play_steps;
 use crate::stage::Stage;
@@ -141,10 +142,33 @@ where
     // Each failure has its cause in the input.
     ensures err { IfErr result (λ e. IfSome (R.remaining reader.old) (IsFailure demo_scene e)) }
 {
+    run_script_as(rt, alloc, Spelling::Strict, reader, writer)
+}
+
+/// Reads a script to its end, whose words are spelled so, plays it on the fixture of the demonstration, and then writes the
+/// text of its trace, as `run_script` does.
+pub fn run_script_as<T, R: Read, W: Write>(
+    rt: T,
+    alloc: Global,
+    spelling: Spelling,
+    reader: &mut R,
+    writer: &mut W,
+) -> Result<(), ProgramError>
+where
+    T: Threads + Wait + Copy + Send + 'static,
+    ensures ok { OnOk result (IfSome (R.remaining reader.old) (λ input. (text : List ℕ) ×
+        IsTraceOf (demo_scene_in spelling) input text × Appends (W.contents writer.old) (W.contents writer.new) text)) }
+    ensures whole { OnOk result (IsAtEnd (R.remaining reader.new)) }
+    ensures silent { IfErr result (λ e. e ≢ WriteFault → Keeps (W.contents writer.old) (W.contents writer.new)) }
+    ensures front { result ≡ Err WriteFault → IfSome (R.remaining reader.old) (λ input. (text : List ℕ) × (count : ℕ) ×
+        IsTraceOf (demo_scene_in spelling) input text ×
+        Appends (W.contents writer.old) (W.contents writer.new) (take count text)) }
+    ensures err { IfErr result (λ e. IfSome (R.remaining reader.old) (IsFailure (demo_scene_in spelling) e)) }
+{
     // What the parts give fits their jobs, and is what the jobs of the demonstration come to.
     ruled_parts_fit();
     demo_rules_end_jobs();
-    run_script_on(rt, alloc, reader, writer, demo_stage())
+    run_script_on(rt, alloc, reader, writer, demo_stage(spelling))
 }
 
 /// Reads a script to its end, plays it on any fixture, and then writes the text of its trace, as `run_script` does.
@@ -198,7 +222,7 @@ where
     ensures err { IfErr result (λ e. IsFailure (scene_of P.gives Q.gives N.offers stage) e input.now ×
         (e ≢ ReadFault) × (e ≢ WriteFault)) }
 {
-    let script = parse_for(alloc, stage.device, input)?;
+    let script = parse_as(alloc, stage.spelling, stage.device, input)?;
     let trace = play_steps(rt, alloc, script.setup, &script.steps, stage)?;
     Ok(trace_text(alloc, trace.events(), trace.recorded())?)
 }

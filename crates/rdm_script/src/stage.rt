@@ -1,5 +1,6 @@
 //! What a script is played on.
 
+use crate::dialect::Spelling;
 use rdm_frame::Uid;
 use rdm_params::Profile;
 
@@ -10,6 +11,8 @@ pub struct Stage<P, Q, N> {
     pub device: Uid,
     /// What the device is. It has as many sub-devices as the script says, at most as many as stand here.
     pub profile: Profile,
+    /// How the words of a script are spelled.
+    pub spelling: Spelling,
     /// Does the jobs of the first worker.
     pub first: P,
     /// Does the jobs of the second worker.

@@ -2,6 +2,7 @@
 
 mod collecting;
 mod endings;
+mod friendly;
 mod odd;
 mod panel;
 mod parsing;

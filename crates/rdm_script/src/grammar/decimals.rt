@@ -8,12 +8,28 @@ use std::str;
 /// How many digits a number may have, zeros in front included.
 const MOST_DIGITS: usize = 10;
 
+/// The greatest number of a sub-device (E1.20 section 9).
+const MOST_SUBS: u64 = 512;
+
 /// The number that a word writes, where it is at most 255.
 #[tactic(auto, unfolding(crate::specs::Decimals::number_up_to))]
 pub(crate) fn byte_in(word: &[u8]) -> Option<u8>
     ensures { result ≡ number_up_to 255 word.now }
 {
     u8::try_from(decimal_in(word)?).ok()
+}
+
+/// The number that a word writes, where it is at most 512.
+#[tactic(auto, unfolding(crate::specs::Decimals::number_up_to))]
+pub(crate) fn sub_in(word: &[u8]) -> Option<u16>
+    ensures { result ≡ number_up_to 512 word.now }
+{
+    let number = decimal_in(word)?;
+    if number <= MOST_SUBS {
+        u16::try_from(number).ok()
+    } else {
+        None
+    }
 }
 
 /// The number that a word writes, where it is at most 65,535.

@@ -20,7 +20,7 @@ pub(crate) fn fault_in(words: &[&[u8]]) -> Option<Fault>
 }
 
 /// Which of the two frames of a transaction is lost.
-fn lost_in(name: &[u8]) -> Option<Fault>
+pub(crate) fn lost_in(name: &[u8]) -> Option<Fault>
     ensures { result ≡ lost_in name.now }
 {
     if name == b"lost-request".as_slice() {
@@ -50,7 +50,7 @@ fn altered_in(name: &[u8], slot: &[u8], raise: &[u8]) -> Option<Fault>
 
 /// By how much a slot is raised: by 1 to 255.
 #[tactic(auto, unfolding(crate::specs::Grammar::raise_in))]
-fn raise_in(word: &[u8]) -> Option<u8>
+pub(crate) fn raise_in(word: &[u8]) -> Option<u8>
     ensures { result ≡ raise_in word.now }
 {
     let raise = decimals::byte_in(word)?;

@@ -6,10 +6,10 @@ ghost use Rattle.rdm_script.specs.Grammar.{want_in, setup_in, command_step_in, s
 use super::command::command_in;
 use super::decimals;
 use super::fault::fault_in;
+use crate::dialect::Dialect;
 use crate::script::Setup;
 use rdm_bus::Want;
 use rdm_crew::CrewStep;
-use rdm_frame::Uid;
 
 /// What one line of a script says.
 #[derive(Debug, Drop)]
@@ -26,24 +26,24 @@ pub enum Line {
 
 /// What the words of a line say, where no line before it says anything: a setup may stand there.
 #[tactic(auto, unfolding(crate::specs::Grammar::first_line_in))]
-pub(crate) fn first_line_in(device: Uid, words: &[&[u8]]) -> Line
-    ensures { result ≡ first_line_in device (map (λ word. word.now) words.now) }
+pub(crate) fn first_line_in(dialect: Dialect, words: &[&[u8]]) -> Line
+    ensures { result ≡ first_line_in dialect (map (λ word. word.now) words.now) }
 {
     match setup_in(words) {
         Some(setup) => Line::Sets(setup),
-        None => line_in(device, words),
+        None => line_in(dialect, words),
     }
 }
 
 /// What the words of any other line say.
 #[tactic(auto, unfolding(crate::specs::Grammar::line_in))]
-pub(crate) fn line_in(device: Uid, words: &[&[u8]]) -> Line
-    ensures { result ≡ line_in device (map (λ word. word.now) words.now) }
+pub(crate) fn line_in(dialect: Dialect, words: &[&[u8]]) -> Line
+    ensures { result ≡ line_in dialect (map (λ word. word.now) words.now) }
 {
     if words.is_empty() || words[0].first() == Some(&b'#') {
         return Line::Skipped;
     }
-    match step_in(device, words) {
+    match step_in(dialect, words) {
         Some(step) => Line::Says(step),
         None => Line::Faulty,
     }
@@ -68,7 +68,7 @@ fn setup_in(words: &[&[u8]]) -> Option<Setup>
 }
 
 /// Which messages the controller wants.
-fn want_in(word: &[u8]) -> Option<Want>
+pub(crate) fn want_in(word: &[u8]) -> Option<Want>
     ensures { result ≡ want_in word.now }
 {
     if word == b"advisory".as_slice() {
@@ -84,8 +84,8 @@ fn want_in(word: &[u8]) -> Option<Want>
 
 /// The step that words say.
 #[tactic(auto, unfolding(crate::specs::Grammar::step_in))]
-fn step_in(device: Uid, words: &[&[u8]]) -> Option<CrewStep>
-    ensures { result ≡ step_in device (map (λ word. word.now) words.now) }
+fn step_in(dialect: Dialect, words: &[&[u8]]) -> Option<CrewStep>
+    ensures { result ≡ step_in dialect (map (λ word. word.now) words.now) }
 {
     match words {
         [name, fault @ ..] if *name == b"collect".as_slice() => {
@@ -98,18 +98,18 @@ fn step_in(device: Uid, words: &[&[u8]]) -> Option<CrewStep>
         [name, empties] if *name == b"panel".as_slice() => {
             Some(CrewStep::Panel(decimals::long_in(empties)?))
         }
-        _ => command_step_in(device, words),
+        _ => command_step_in(dialect, words),
     }
 }
 
 /// The command that words say, and what goes wrong when it is sent.
 #[tactic(auto, unfolding(crate::specs::Grammar::command_step_in, crate::specs::Grammar::asked))]
-fn command_step_in(device: Uid, words: &[&[u8]]) -> Option<CrewStep>
-    ensures { result ≡ command_step_in device (map (λ word. word.now) words.now) }
+fn command_step_in(dialect: Dialect, words: &[&[u8]]) -> Option<CrewStep>
+    ensures { result ≡ command_step_in dialect (map (λ word. word.now) words.now) }
 {
     let [action, dst, sub, pid, load, fault @ ..] = words else {
         return None;
     };
-    let command = command_in(device, action, dst, sub, pid, load)?;
+    let command = command_in(dialect, action, dst, sub, pid, load)?;
     Some(CrewStep::Ask(command, fault_in(fault)?))
 }

@@ -4,6 +4,7 @@ ghost use Rattle.std.specs.Prelude.{◌≡◌, ◌≢◌, ℕ, ◌+◌, ◌^◌,
 ghost use Rattle.rdm_crew.specs.declared.step.CrewStep.{CrewStep as TheStep};
 ghost use Rattle.rdm_crew.specs.RunTrace.{HaveFaults};
 ghost use Rattle.rdm_script.specs.declared.script.Setup.{Setup as TheSetup};
+ghost use Rattle.rdm_script.specs.Dialects.{dialect_of, strict};
 ghost use Rattle.rdm_script.specs.Parties.{demo_device, plain_setup};
 ghost use Rattle.rdm_script.specs.Grammar.{words_of, line_at, begun_after, said_by, lines_of, setup_after, steps_of_line, AreSaid, IsFirstFaulty, IsRead, Refuses};
 ghost use Rattle.rdm_script.specs.Spelling.{IsScript};
@@ -12,6 +13,7 @@ ghost use Rattle.rdm_script.specs.declared.grammar.line.Line.TheVariants.{Faulty
 
 use super::line::{Line, first_line_in, line_in};
 use super::words::words_of;
+use crate::dialect::{Dialect, Spelling};
 use crate::parties::DEVICE;
 use crate::script::{Script, Setup};
 use rdm_frame::Uid;
@@ -76,12 +78,12 @@ impl From<FaultyLine> for ScriptError {
 /// Memory for the steps is taken first, so that whether the bytes are a script hangs on nothing else.
 pub fn parse(alloc: Global, text: &[u8]) -> Result<Script, ScriptError>
     // What is read is a script of this setup and these steps.
-    ensures ok { IfOk result (λ script. IsScript demo_device text.now script.setup script.steps.items) }
+    ensures ok { IfOk result (λ script. IsScript (strict demo_device) text.now script.setup script.steps.items) }
     // A script is read, unless memory is refused.
-    ensures only { (setup : TheSetup) (steps : List TheStep) → IsScript demo_device text.now setup steps →
+    ensures only { (setup : TheSetup) (steps : List TheStep) → IsScript (strict demo_device) text.now setup steps →
         MatchResult result (λ script. (script.setup ≡ setup) × (script.steps.items ≡ steps)) (λ e. e ≡ OutOfMemory) }
     // Each refusal comes for its cause: a line is named only where it is the first faulty one.
-    ensures err { IfErr result (λ e. Refuses demo_device e text.now) }
+    ensures err { IfErr result (λ e. Refuses (strict demo_device) e text.now) }
     ensures too_long { 65536 < length text.now → result ≡ Err ScriptError.TooLong }
     // What goes wrong at a step alters something.
     ensures faults { IfOk result (λ script. HaveFaults script.steps.items) }
@@ -95,25 +97,48 @@ pub fn parse(alloc: Global, text: &[u8]) -> Result<Script, ScriptError>
 /// Memory for the steps is taken first, so that whether the bytes are a script hangs on nothing else.
 pub fn parse_for(alloc: Global, device: Uid, text: &[u8]) -> Result<Script, ScriptError>
     // What is read is a script of this setup and these steps.
-    ensures ok { IfOk result (λ script. IsScript device text.now script.setup script.steps.items) }
+    ensures ok { IfOk result (λ script. IsScript (strict device) text.now script.setup script.steps.items) }
     // A script is read, unless memory is refused.
-    ensures only { (setup : TheSetup) (steps : List TheStep) → IsScript device text.now setup steps →
+    ensures only { (setup : TheSetup) (steps : List TheStep) → IsScript (strict device) text.now setup steps →
         MatchResult result (λ script. (script.setup ≡ setup) × (script.steps.items ≡ steps)) (λ e. e ≡ OutOfMemory) }
     // Each refusal comes for its cause: a line is named only where it is the first faulty one.
-    ensures err { IfErr result (λ e. Refuses device e text.now) }
+    ensures err { IfErr result (λ e. Refuses (strict device) e text.now) }
     ensures too_long { 65536 < length text.now → result ≡ Err ScriptError.TooLong }
     // What goes wrong at a step alters something.
     ensures faults { IfOk result (λ script. HaveFaults script.steps.items) }
 {
-    read_script(alloc, device, text)
+    parse_as(alloc, Spelling::Strict, device, text)
+}
+
+/// The script that the bytes are, in words that are spelled so, played on a device of this UID.
+///
+/// Memory for the steps is taken first, so that whether the bytes are a script hangs on nothing else.
+pub fn parse_as(
+    alloc: Global,
+    spelling: Spelling,
+    device: Uid,
+    text: &[u8],
+) -> Result<Script, ScriptError>
+    // What is read is a script of this setup and these steps.
+    ensures ok { IfOk result (λ script. IsScript (dialect_of device spelling) text.now script.setup script.steps.items) }
+    // A script is read, unless memory is refused.
+    ensures only { (setup : TheSetup) (steps : List TheStep) → IsScript (dialect_of device spelling) text.now setup steps →
+        MatchResult result (λ script. (script.setup ≡ setup) × (script.steps.items ≡ steps)) (λ e. e ≡ OutOfMemory) }
+    // Each refusal comes for its cause: a line is named only where it is the first faulty one.
+    ensures err { IfErr result (λ e. Refuses (dialect_of device spelling) e text.now) }
+    ensures too_long { 65536 < length text.now → result ≡ Err ScriptError.TooLong }
+    // What goes wrong at a step alters something.
+    ensures faults { IfOk result (λ script. HaveFaults script.steps.items) }
+{
+    read_script(alloc, Dialect { device, spelling }, text)
 }
 
 /// The script that the bytes are, as the reader sees it.
-fn read_script(alloc: Global, device: Uid, text: &[u8]) -> Result<Script, ScriptError>
-    ensures ok { IfOk result (λ script. IsRead device text.now script.setup script.steps.items) }
-    ensures only { (setup : TheSetup) (steps : List TheStep) → IsRead device text.now setup steps →
+fn read_script(alloc: Global, dialect: Dialect, text: &[u8]) -> Result<Script, ScriptError>
+    ensures ok { IfOk result (λ script. IsRead dialect text.now script.setup script.steps.items) }
+    ensures only { (setup : TheSetup) (steps : List TheStep) → IsRead dialect text.now setup steps →
         MatchResult result (λ script. (script.setup ≡ setup) × (script.steps.items ≡ steps)) (λ e. e ≡ OutOfMemory) }
-    ensures err { IfErr result (λ e. Refuses device e text.now) }
+    ensures err { IfErr result (λ e. Refuses dialect e text.now) }
     ensures too_long { 65536 < length text.now → result ≡ Err ScriptError.TooLong }
 {
     if text.len() > MOST_BYTES {
@@ -123,7 +148,7 @@ fn read_script(alloc: Global, device: Uid, text: &[u8]) -> Result<Script, Script
         setup: Setup::PLAIN,
         steps: Vec::with_capacity(alloc, line_count(text))?,
     };
-    read_lines(device, text, &mut script)?;
+    read_lines(dialect, text, &mut script)?;
     Ok(script)
 }
 
@@ -144,28 +169,28 @@ fn line_end_count(text: &[u8]) -> usize
 }
 
 /// Puts what the lines of a text say into a script that has room for their steps.
-fn read_lines(device: Uid, text: &[u8], script: &mut Script) -> Result<(), FaultyLine>
+fn read_lines(dialect: Dialect, text: &[u8], script: &mut Script) -> Result<(), FaultyLine>
     requires plain { script.old.setup ≡ plain_setup }
     requires none { script.old.steps.items ≡ [] }
     requires room { length (lines_of text.now) ≤ vec_capacity script.old.steps }
-    ensures ok { OnOk result (AreSaid (said_by device (lines_of text.now)) script.new.setup script.new.steps.items) }
-    ensures err { IfErr result (λ fault. IsFirstFaulty (said_by device (lines_of text.now)) fault.0) }
+    ensures ok { OnOk result (AreSaid (said_by dialect (lines_of text.now)) script.new.setup script.new.steps.items) }
+    ensures err { IfErr result (λ fault. IsFirstFaulty (said_by dialect (lines_of text.now)) fault.0) }
 {
     let mut rest = text;
     let mut index = 0;
     let mut begun = false;
     while let Some(end) = line_end(rest) {
-        begun = read_line(device, without_return(&rest[..end]), index, begun, script)?;
+        begun = read_line(dialect, without_return(&rest[..end]), index, begun, script)?;
         rest = &rest[end + 1..];
         index += 1;
     }
-    read_line(device, rest, index, begun, script)?;
+    read_line(dialect, rest, index, begun, script)?;
     Ok(())
 }
 
 /// Puts what the line at an index says into a script, and tells whether a line has now said anything.
 fn read_line(
-    device: Uid,
+    dialect: Dialect,
     line: &[u8],
     index: usize,
     begun: bool,
@@ -173,15 +198,15 @@ fn read_line(
 ) -> Result<bool, FaultyLine>
     requires within { index < 2 ^ 63 }
     requires room { vec_len script.old.steps < vec_capacity script.old.steps }
-    ensures sound { OnOk result (line_at device begun (words_of line.now) ≢ Faulty) }
-    ensures begun { IfOk result (λ now. now ≡ begun_after begun (line_at device begun (words_of line.now))) }
-    ensures setup { OnOk result (script.new.setup ≡ setup_after script.old.setup (line_at device begun (words_of line.now))) }
-    ensures steps { OnOk result (script.new.steps.items ≡ script.old.steps.items ++ steps_of_line (line_at device begun (words_of line.now))) }
+    ensures sound { OnOk result (line_at dialect begun (words_of dialect.spelling line.now) ≢ Faulty) }
+    ensures begun { IfOk result (λ now. now ≡ begun_after begun (line_at dialect begun (words_of dialect.spelling line.now))) }
+    ensures setup { OnOk result (script.new.setup ≡ setup_after script.old.setup (line_at dialect begun (words_of dialect.spelling line.now))) }
+    ensures steps { OnOk result (script.new.steps.items ≡ script.old.steps.items ++ steps_of_line (line_at dialect begun (words_of dialect.spelling line.now))) }
     ensures len { vec_len script.new.steps ≤ vec_len script.old.steps + 1 }
     ensures capacity { vec_capacity script.new.steps ≡ vec_capacity script.old.steps }
-    ensures err { IfErr result (λ fault. (fault.0 ≡ index + 1) × (line_at device begun (words_of line.now) ≡ Faulty)) }
+    ensures err { IfErr result (λ fault. (fault.0 ≡ index + 1) × (line_at dialect begun (words_of dialect.spelling line.now) ≡ Faulty)) }
 {
-    match line_of(device, line, begun) {
+    match line_of(dialect, line, begun) {
         Line::Skipped => Ok(begun),
         Line::Sets(setup) => {
             script.setup = setup;
@@ -196,13 +221,13 @@ fn read_line(
 }
 
 /// What a line says, behind lines that say something or nothing.
-fn line_of(device: Uid, line: &[u8], begun: bool) -> Line
-    ensures { result ≡ line_at device begun (words_of line.now) }
+fn line_of(dialect: Dialect, line: &[u8], begun: bool) -> Line
+    ensures { result ≡ line_at dialect begun (words_of dialect.spelling line.now) }
 {
-    let words = words_of(line);
+    let words = words_of(dialect.spelling, line);
     if begun {
-        line_in(device, words.as_slice())
+        line_in(dialect, words.as_slice())
     } else {
-        first_line_in(device, words.as_slice())
+        first_line_in(dialect, words.as_slice())
     }
 }

@@ -7,7 +7,9 @@ use rdm_crew::RunError;
 use rdm_frame::Uid;
 use rdm_outcomes::{Rule, Task};
 use rdm_params::{Outcome, Profile, Severity};
-use rdm_script::{DemoPanel, ProgramError, RuledPart, Stage, ruled_parts_fit, run_script_on};
+use rdm_script::{
+    DemoPanel, ProgramError, RuledPart, Spelling, Stage, ruled_parts_fit, run_script_on,
+};
 use std::alloc::Global;
 use std::process::Abort;
 use std::sync::Wait;
@@ -137,6 +139,7 @@ fn stage(device: Uid) -> Stage<RuledPart, RuledPart, DemoPanel> {
     Stage {
         device,
         profile: Profile::demo(3),
+        spelling: Spelling::Strict,
         first: RuledPart::new(&rules),
         second: RuledPart::new(&rules),
         panel: DemoPanel,

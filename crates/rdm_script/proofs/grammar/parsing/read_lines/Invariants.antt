@@ -6,8 +6,8 @@ use Rattle.rdm_script.proofs.grammar.parsing.read_lines.Given as goal
 
 abbrev pub invariant-loop-end : goal.invariant-loop-end
 invariant-loop-end l = record {
-  rest : said_from l.device l.begun (lines_of l.rest) ≡ drop l.index (said_by l.device (lines_of l.text));
-  said : AreSaid (take l.index (said_by l.device (lines_of l.text))) l.script.setup l.script.steps.items;
+  rest : said_from l.dialect l.begun (lines_of l.rest) ≡ drop l.index (said_by l.dialect (lines_of l.text));
+  said : AreSaid (take l.index (said_by l.dialect (lines_of l.text))) l.script.setup l.script.steps.items;
   within : l.index + length l.rest ≤ length l.text;
   len : vec_len l.script.steps ≤ l.index;
   room : length (lines_of l.text) ≤ vec_capacity l.script.steps;

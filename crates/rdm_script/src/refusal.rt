@@ -1,0 +1,159 @@
+//! What is told of a faulty line of a friendly script: its first word that isn't what it has to be.
+
+ghost use Rattle.std.specs.Prelude.{◌≡◌};
+
+use arrayvec::ArrayVec;
+use std::fmt;
+
+/// A word as a message shows it: its first 40 bytes.
+pub type Excerpt = ArrayVec<u8, 40>;
+
+/// What a word should have been.
+#[derive(Clone, Copy, Debug, PartialEq, Eq)]
+pub enum Wanted {
+    /// The name of a step.
+    Step,
+    /// Another step: a setup stands before all others.
+    SetupFirst,
+    /// Whom a command is for.
+    Destination,
+    /// A sub-device.
+    SubDevice,
+    /// A parameter.
+    Parameter,
+    /// The data of a command.
+    Load,
+    /// The double quote that ends a text.
+    QuoteEnd,
+    /// A text of printable ASCII characters.
+    Printable,
+    /// Data of at most 255 bytes.
+    ShorterLoad,
+    /// What goes wrong with a transaction.
+    Fault,
+    /// A slot.
+    Slot,
+    /// By how much a slot is raised.
+    Raise,
+    /// How many times nothing may be found.
+    Empties,
+    /// How many sub-devices there are.
+    SubDevices,
+    /// For how many results of slow commands there is room.
+    Room,
+    /// Which status entries the controller wants.
+    Messages,
+    /// The end of the line.
+    End,
+}
+
+impl Wanted {
+    /// What is told of a word that isn't what was wanted.
+    fn complaint(self) -> &'static str {
+        match self {
+            Wanted::Step => "is no step",
+            Wanted::SetupFirst => "stands too late",
+            Wanted::Destination => "is no destination",
+            Wanted::SubDevice => "is no sub-device",
+            Wanted::Parameter => "is no parameter",
+            Wanted::Load => "is no data",
+            Wanted::QuoteEnd => "has no end",
+            Wanted::Printable => "is no text",
+            Wanted::ShorterLoad => "is too long",
+            Wanted::Fault => "is no fault",
+            Wanted::Slot => "is no slot",
+            Wanted::Raise => "is no raise",
+            Wanted::Empties => "is no number of looks",
+            Wanted::SubDevices => "is no number of sub-devices",
+            Wanted::Room => "is no number of results",
+            Wanted::Messages => "is no status type",
+            Wanted::End => "is a word too many",
+        }
+    }
+
+    /// What was wanted.
+    fn words(self) -> &'static str {
+        match self {
+            Wanted::Step => "setup, get, set, disc, collect, draw, settle or panel",
+            Wanted::SetupFirst => "a setup stands before all other steps",
+            Wanted::Destination => "dev, all, maker, or a UID as 7FF0:00000001",
+            Wanted::SubDevice => "4 hexadecimal digits, root, or 0 to 512",
+            Wanted::Parameter => "4 hexadecimal digits, or a name of E1.20 as DEVICE_INFO",
+            Wanted::Load => "-, two hexadecimal digits for each byte, or a text in double quotes",
+            Wanted::QuoteEnd => "a double quote at the end of the text",
+            Wanted::Printable => "printable ASCII characters in double quotes",
+            Wanted::ShorterLoad => "at most 255 bytes",
+            Wanted::Fault => "lost-request, lost-reply, bad-request or bad-reply",
+            Wanted::Slot => "0 to 255",
+            Wanted::Raise => "1 to 255",
+            Wanted::Empties => "0 to 4294967295",
+            Wanted::SubDevices | Wanted::Room => "0 to 65535",
+            Wanted::Messages => "advisory, warning or error",
+            Wanted::End => "the line ends before it",
+        }
+    }
+}
+
+/// The first word of a script that isn't what it has to be. Its text is `LINE:COLUMN: WORD is no .., and what was wanted`.
+#[derive(Debug, Drop, PartialEq, Eq)]
+pub struct Refusal {
+    /// The line, from 1.
+    pub line: usize,
+    /// The column at which the word begins, in bytes from 1. Where a word is missing, it is the end of the line.
+    pub column: usize,
+    /// The word, or nothing where it is missing.
+    pub word: Excerpt,
+    /// What was wanted there.
+    pub wanted: Wanted,
+}
+
+impl Refusal {
+    /// At the word of a line that begins at this byte, or at the end of the line, where it is missing.
+    pub(crate) fn at(line: usize, at: usize, word: &[u8], wanted: Wanted) -> Refusal
+        ensures { result.line ≡ line }
+    {
+        Refusal {
+            line,
+            column: at.saturating_add(1),
+            word: excerpt_of(word),
+            wanted,
+        }
+    }
+}
+
+/// As much of a word as is shown.
+fn excerpt_of(word: &[u8]) -> Excerpt {
+    let mut excerpt = Excerpt::new();
+    for byte in word {
+        if excerpt.try_push(*byte).is_err() {
+            break;
+        }
+    }
+    excerpt
+}
+
+impl fmt::Display for Refusal {
+    fn fmt<W: fmt::Write>(&self, f: &mut fmt::Formatter<W>) -> fmt::Result {
+        let Refusal { line, column, .. } = self;
+        let wanted = self.wanted.words();
+        write!(f, "{line}:{column}: ")?;
+        if self.word.is_empty() {
+            return write!(f, "a word is missing: {wanted}");
+        }
+        f.write_str("\"")?;
+        for byte in self.word.as_slice() {
+            write_shown(f, *byte)?;
+        }
+        let complaint = self.wanted.complaint();
+        write!(f, "\" {complaint}: {wanted}")
+    }
+}
+
+/// Writes a byte of a word: as it is where it is printable ASCII, else by its number.
+fn write_shown<W: fmt::Write>(f: &mut fmt::Formatter<W>, byte: u8) -> fmt::Result {
+    if (0x20..0x7F).contains(&byte) {
+        f.write_char(char::from(byte))
+    } else {
+        write!(f, "\\x{byte:02X}")
+    }
+}

@@ -1,0 +1,245 @@
+//! What friendly lines say, what is told of faulty ones, and where runs stop.
+
+use rdm_crew::{CrewStep, RunError};
+use rdm_frame::Uid;
+use rdm_script::{Script, ScriptError, Spelling, parse, parse_as, refusal_at, stopped_line};
+use std::process::Abort;
+use std::test::Fail;
+
+/// The device of the scripts.
+const DEVICE: Uid = Uid {
+    maker: 0x7FF0,
+    device: 0x0000_0001,
+};
+
+/// Whether two steps are the same.
+fn is_same(step: &CrewStep, other: &CrewStep) -> bool {
+    match (step, other) {
+        (CrewStep::Ask(command, fault), CrewStep::Ask(same, as_bad)) => {
+            command == same && fault == as_bad
+        }
+        (CrewStep::Draw, CrewStep::Draw) => true,
+        _ => false,
+    }
+}
+
+/// Friendly scripts say the same as strict ones, the second of each pair.
+fn try_pairs(rt: &(impl Abort + AllocGlobal), rows: &[(&str, &str)]) -> Result<(), Fail> {
+    for (text, strict) in rows {
+        let Script { setup, steps } = parse_as(
+            rt.alloc(),
+            Spelling::Friendly,
+            DEVICE,
+            text.as_bytes(),
+        )?;
+        let other = parse(rt.alloc(), strict.as_bytes())?;
+        assert_eq!(rt;
+            (setup, steps.len()),
+            (other.setup, other.steps.len()),
+            "{text:?}"
+        );
+        for (step, wanted) in steps.iter().zip(other.steps.iter()) {
+            assert!(rt; is_same(step, wanted), "{text:?}");
+        }
+    }
+    Ok(())
+}
+
+/// What is told of each text.
+fn try_rows(rt: &(impl Abort + AllocGlobal), rows: &[(&str, &str)]) -> Result<(), Fail> {
+    for (text, wanted) in rows {
+        let Err(ScriptError::Line(line)) = parse_as(
+            rt.alloc(),
+            Spelling::Friendly,
+            DEVICE,
+            text.as_bytes(),
+        ) else {
+            return Err("a faulty line".into());
+        };
+        let refusal = refusal_at(Spelling::Friendly, DEVICE, text.as_bytes(), line);
+        let told = format!(in rt.alloc(); "{refusal}")?;
+        assert_eq!(rt; told.as_str(), *wanted, "{text:?}");
+    }
+    Ok(())
+}
+
+/// Names, sub-devices and texts.
+#[test]
+fn friendly_words(rt: HostRuntime) -> Result<(), Fail> {
+    try_pairs(
+        &rt,
+        &[
+            ("", ""),
+            ("# \"\r\n\n  draw\n", "# \"\r\n\n  draw\n"),
+            ("get dev 0000  1000 -", "get dev 0000  1000 -"),
+            ("get dev 0000 IDENTIFY_DEVICE -", "get dev 0000 1000 -"),
+            ("get dev root QUEUED_MESSAGE 01", "get dev 0000 0020 01"),
+            (
+                "\tget dev 0 PRESET_PLAYBACK  - lost-reply",
+                "get dev 0000 1031 - lost-reply",
+            ),
+            (
+                "disc dev root DISC_MUTE -\nget dev root REAL_TIME_CLOCK -",
+                "disc dev 0000 0002 -\nget dev 0000 0603 -",
+            ),
+            (
+                "disc all root DISC_UNIQUE_BRANCH 000000000000FFFFFFFFFFFF",
+                "disc all 0000 0001 000000000000FFFFFFFFFFFF",
+            ),
+            ("get all 512 1000 -", "get all 0200 1000 -"),
+            (
+                "get all 0100 1000 -\nget dev 100 1000 -",
+                "get all 0100 1000 -\nget dev 0064 1000 -",
+            ),
+            (
+                "set dev 0000 0082 \"Front truss 1\"",
+                "set dev 0000 0082 46726F6E742074727573732031",
+            ),
+            ("set dev 0000 0082 \"\"", "set dev 0000 0082 -"),
+            (
+                "set dev 0000 0082 \"# \" bad-reply 3 1\r\n",
+                "set dev 0000 0082 2320 bad-reply 3 1\n",
+            ),
+            (
+                "set 7ff0:00000001 root 0082 ab",
+                "set 7ff0:00000001 0000 0082 AB",
+            ),
+        ],
+    )
+}
+
+/// Faulty words, each with its line, its column and what was wanted there.
+#[test]
+fn refusals(rt: HostRuntime) -> Result<(), Fail> {
+    try_rows(
+        &rt,
+        &[
+            (
+                "draw\nget dev 000 1000 -",
+                "2:9: \"000\" is no sub-device: 4 hexadecimal digits, root, or 0 to 512",
+            ),
+            (
+                "get dev 513 1000 -",
+                "1:9: \"513\" is no sub-device: 4 hexadecimal digits, root, or 0 to 512",
+            ),
+            (
+                "get dev 01 1000 -",
+                "1:9: \"01\" is no sub-device: 4 hexadecimal digits, root, or 0 to 512",
+            ),
+            (
+                "\r\n  \nfoo\n",
+                "3:1: \"foo\" is no step: setup, get, set, disc, collect, draw, settle or panel",
+            ),
+            (
+                "draw\nsetup 0 8 advisory",
+                "2:1: \"setup\" stands too late: a setup stands before all other steps",
+            ),
+            (
+                "setup 65536 8 advisory",
+                "1:7: \"65536\" is no number of sub-devices: 0 to 65535",
+            ),
+            (
+                "setup 1 8x advisory",
+                "1:9: \"8x\" is no number of results: 0 to 65535",
+            ),
+            (
+                "setup 1 8 all",
+                "1:11: \"all\" is no status type: advisory, warning or error",
+            ),
+            (
+                "get me 0000 1000 -",
+                "1:5: \"me\" is no destination: dev, all, maker, or a UID as 7FF0:00000001",
+            ),
+            (
+                "get dev 0000 IDENTIFY -",
+                "1:14: \"IDENTIFY\" is no parameter: 4 hexadecimal digits, or a name of E1.20 as DEVICE_INFO",
+            ),
+            (
+                "get dev 0000 1000",
+                "1:18: a word is missing: -, two hexadecimal digits for each byte, or a text in double quotes",
+            ),
+            (
+                "set dev 0000 1000 1",
+                "1:19: \"1\" is no data: -, two hexadecimal digits for each byte, or a text in double quotes",
+            ),
+            (
+                "set dev 0000 0082 \"ab",
+                "1:19: \"\"ab\" has no end: a double quote at the end of the text",
+            ),
+            (
+                "set dev 0000 0082 \"a\tb\"",
+                "1:19: \"\"a\\x09b\"\" is no text: printable ASCII characters in double quotes",
+            ),
+            (
+                "get dev 0000 1000 - lost",
+                "1:21: \"lost\" is no fault: lost-request, lost-reply, bad-request or bad-reply",
+            ),
+            (
+                "collect bad-reply 256 1",
+                "1:19: \"256\" is no slot: 0 to 255",
+            ),
+            ("collect bad-reply 1 0", "1:21: \"0\" is no raise: 1 to 255"),
+            (
+                "draw now",
+                "1:6: \"now\" is a word too many: the line ends before it",
+            ),
+            (
+                "get dev root 1000 - lost-reply 1",
+                "1:32: \"1\" is a word too many: the line ends before it",
+            ),
+            (
+                "get dev root 1000 - bad-reply 3 4 5",
+                "1:35: \"5\" is a word too many: the line ends before it",
+            ),
+            (
+                "get dev 0000 1000 - bad-reply 3 4 lost-reply",
+                "1:35: \"lost-reply\" is a word too many: the line ends before it",
+            ),
+            (
+                "get dev 0000 1000 - bad-reply 3 4 5 6",
+                "1:35: \"5\" is a word too many: the line ends before it",
+            ),
+            (
+                "collect bad-reply 3 4 5",
+                "1:23: \"5\" is a word too many: the line ends before it",
+            ),
+            (
+                "setup 0 8 advisory 1",
+                "1:20: \"1\" is a word too many: the line ends before it",
+            ),
+            ("settle", "1:7: a word is missing: 0 to 4294967295"),
+            (
+                "panel -1",
+                "1:7: \"-1\" is no number of looks: 0 to 4294967295",
+            ),
+        ],
+    )
+}
+
+/// The line at which a run stops.
+#[test]
+fn stops(rt: HostRuntime) -> Result<(), Fail> {
+    let script =
+        b"# so\nsetup 600 8 error\nget dev root DEVICE_INFO -\nsettle 3\nget dev root 0030 00\nget dev 0000 0020 01";
+    for (error, line) in [
+        (RunError::BadSetup, Some(2)),
+        (RunError::Unsettled, Some(4)),
+        (RunError::Reserved, Some(5)),
+        (RunError::OutOfMemory, None),
+    ] {
+        assert_eq!(rt;
+            stopped_line(Spelling::Friendly, DEVICE, script, error),
+            line
+        );
+    }
+    assert_eq!(rt;
+        stopped_line(
+            Spelling::Friendly,
+            DEVICE,
+            b"settle 1\nsettle 2\n",
+            RunError::Unsettled
+        ),
+        None
+    );
+    Ok(())
+}
