@@ -1,0 +1,5 @@
+pub mod Cuts
+pub mod Decimals
+pub mod HexBack
+pub mod ReadBack
+pub mod Spacing

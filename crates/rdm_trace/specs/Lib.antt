@@ -1,0 +1,3 @@
+pub mod LineText
+pub mod Numbers
+pub mod Reading
