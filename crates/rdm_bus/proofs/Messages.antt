@@ -8,8 +8,8 @@ use Rattle.std.proofs.lemmas.List.{drop-map, drop-append-le, length-map}
 use Rattle.rdm_frame.specs.declared.frame.Frame.{Frame}
 use Rattle.rdm_frame.specs.FrameText.{frame_text}
 use Rattle.rdm_params.specs.declared.panel.Change.{Change}
-use Rattle.rdm_params.specs.declared.slow.message.Message.{Message}
-use Rattle.rdm_params.specs.Slow.Laws.{GetQueues, GetStatuses, SetFetchesNothing}
+use Rattle.rdm_params.specs.declared.jobs.message.Message.{Message}
+use Rattle.rdm_params.specs.Jobs.Laws.{GetQueues, GetStatuses, SetFetchesNothing}
 use Rattle.rdm_responder.specs.declared.report.Report.{Report}
 use Rattle.rdm_responder.specs.History.{History}
 use Rattle.rdm_responder.specs.Runs.{IsArrival, IsChange, outbox_of}

@@ -10,22 +10,22 @@ use Rattle.rdm_frame.specs.declared.frame.Frame.{Frame}
 use Rattle.rdm_frame.specs.Addressing.{is_broadcast, is_addressed}
 use Rattle.rdm_frame.specs.FrameText.{frame_text}
 use Rattle.rdm_frame.specs.Reading.{frame_in}
-use Rattle.rdm_params.specs.declared.slow.ask.Ask.{Ask}
-use Rattle.rdm_params.specs.declared.slow.ask.Ask.TheVariants as asks
+use Rattle.rdm_params.specs.declared.jobs.ask.Ask.{Ask}
+use Rattle.rdm_params.specs.declared.jobs.ask.Ask.TheVariants as asks
 use Rattle.rdm_params.specs.declared.panel.Change.{Change}
-use Rattle.rdm_params.specs.declared.slow.message.Message.{Message}
-use Rattle.rdm_params.specs.declared.slow.outcome.Outcome.{Outcome}
-use Rattle.rdm_params.specs.declared.slow.outcome.Outcome.TheVariants.{Done, Reading, Failed}
-use Rattle.rdm_params.specs.declared.slow.work.Work.{Work}
+use Rattle.rdm_params.specs.declared.jobs.message.Message.{Message}
+use Rattle.rdm_params.specs.declared.jobs.outcome.Outcome.{Outcome}
+use Rattle.rdm_params.specs.declared.jobs.outcome.Outcome.TheVariants.{Done, Reading, Failed}
+use Rattle.rdm_params.specs.declared.jobs.work.Work.{Work}
 use Rattle.rdm_params.specs.declared.verdict.Verdict.{Verdict}
 use Rattle.rdm_params.specs.declared.verdict.Verdict.TheVariants.{Reply, Start, Queue, Status, Clear, Refuse}
 use Rattle.rdm_params.specs.Commands.Panel.{change_message}
 use Rattle.rdm_params.specs.Commands.Commands.{got, answer_to_set, accepted}
 use Rattle.rdm_params.specs.Device.Parameters.{Parameters}
 use Rattle.rdm_params.specs.Table.Rows.{row_of, table}
-use Rattle.rdm_params.specs.Slow.Laws.{GetQueues, GetStatuses, SetFetchesNothing}
-use Rattle.rdm_params.specs.Slow.Work.{worker_of}
-use Rattle.rdm_params.specs.Slow.Commit.{committed}
+use Rattle.rdm_params.specs.Jobs.Laws.{GetQueues, GetStatuses, SetFetchesNothing}
+use Rattle.rdm_params.specs.Jobs.Work.{worker_of}
+use Rattle.rdm_params.specs.Jobs.Commit.{committed}
 use Rattle.rdm_outbox.specs.Account as outbox
 use Rattle.rdm_outbox.specs.declared.job.Job.{Job}
 use Rattle.rdm_outbox.specs.Jobs.{has_room, next_job, after_arrive}

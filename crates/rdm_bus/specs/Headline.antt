@@ -16,9 +16,9 @@
 -- * The device is switched on once, and whatever has happened to it before the start was lawful: `IsLawful`.
 -- * Calls that wait for another thread return.
 use Rattle.std.specs.Prelude.{◌≡◌, ◌≢◌, ℕ, Bool, false, Option, ◌+◌, ◌≤◌, List, [], ◌∷◌, ◌++◌, length, map, slice_get, Some}
-use Rattle.rdm_params.specs.declared.slow.message.Message.{Message}
-use Rattle.rdm_params.specs.Slow.Commit.{committed}
-use Rattle.rdm_params.specs.Slow.Work.{worker_of}
+use Rattle.rdm_params.specs.declared.jobs.message.Message.{Message}
+use Rattle.rdm_params.specs.Jobs.Commit.{committed}
+use Rattle.rdm_params.specs.Jobs.Work.{worker_of}
 use Rattle.rdm_outbox.specs.declared.job.Job.{Job}
 use Rattle.rdm_outbox.specs.Jobs.{jobs_of, outstanding_of}
 use Rattle.rdm_responder.specs.declared.report.Report.{Report}

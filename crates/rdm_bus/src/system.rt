@@ -2,7 +2,7 @@
 
 ghost use Rattle.std.specs.Prelude.{◌≡◌, ◌≢◌, ◌↔◌, ◌<◌, ◌++◌, ◌∷◌, [], ℕ, List, Some, None, length, IfOk, OnOk, OnErr, IfSome, IfErr, IsErrOf, slice_index};
 ghost use Rattle.std.specs.Option.{option_map, option_map_or};
-ghost use Rattle.rdm_params.specs.declared.slow.message.Message.{Message};
+ghost use Rattle.rdm_params.specs.declared.jobs.message.Message.{Message};
 ghost use Rattle.rdm_responder.specs.History.{History};
 ghost use Rattle.rdm_responder.specs.Lawful.{IsLawful, MayArrive};
 ghost use Rattle.rdm_responder.specs.Rules.{account_of};

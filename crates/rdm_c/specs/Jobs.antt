@@ -3,7 +3,7 @@ use Rattle.std.specs.Prelude.{ℕ, ◌==◌, if◌then◌else◌, Option, Some, 
 use Rattle.std.specs.Option.{option_map}
 use Rattle.rdm_params.specs.declared.kind.Verb.{Verb}
 use Rattle.rdm_params.specs.declared.kind.Verb.TheVariants.{Get, Set}
-use Rattle.rdm_params.specs.Slow.Work.{worker_of, estimate_of}
+use Rattle.rdm_params.specs.Jobs.Work.{worker_of, estimate_of}
 use Rattle.rdm_outbox.specs.declared.job.Job.{Job}
 use Rattle.rdm_c.specs.declared.job.JobNumbers.{JobNumbers}
 use Rattle.rdm_c.specs.declared.job.SteppedNumbers.{SteppedNumbers}

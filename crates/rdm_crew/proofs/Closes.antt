@@ -5,7 +5,7 @@ use Rattle.std.specs.List.{list_any}
 use Rattle.std.proofs.lemmas.Bool.{eqb-true, eq-eqb}
 use Rattle.std.proofs.lemmas.Bool.Decides.{eqb_tells}
 use Rattle.std.proofs.lemmas.List.Elements.{filter-append}
-use Rattle.rdm_params.specs.Slow.Work.{worker_of}
+use Rattle.rdm_params.specs.Jobs.Work.{worker_of}
 use Rattle.rdm_responder.specs.declared.report.Report.{Report}
 use Rattle.rdm_bus.specs.declared.event.Event.{Event}
 use Rattle.rdm_bus.specs.Happened.{reports_of}

@@ -1,9 +1,9 @@
 -- The headline of a run with workers: what they handed over the report lane, their closes among it.
 use Rattle.std.specs.Prelude.{◌≡◌, ℕ, List, [], ◌∷◌, ◌++◌}
-use Rattle.rdm_params.specs.declared.slow.message.Message.{Message}
+use Rattle.rdm_params.specs.declared.jobs.message.Message.{Message}
 use Rattle.rdm_responder.specs.declared.report.Report.{Report}
 use Rattle.std.specs.List.{flat_map}
-use Rattle.rdm_params.specs.Slow.Work.{worker_of}
+use Rattle.rdm_params.specs.Jobs.Work.{worker_of}
 use Rattle.rdm_bus.specs.declared.event.Event.{Event}
 use Rattle.rdm_bus.specs.declared.event.Step.{Step}
 use Rattle.rdm_bus.specs.declared.event.Step.TheVariants.{Ask, Collect, Arrive, Change}

@@ -7,7 +7,7 @@ use Rattle.std.proofs.lemmas.Bool.{eq-eqb, ne_eqb}
 use Rattle.std.proofs.lemmas.Int.{to_z-of_z}
 use Rattle.std.proofs.lemmas.Nat.{from_be_bytes-to_be_bytes_2}
 use Rattle.rdm_device.proofs.Maps.{update_append}
-use Rattle.rdm_device.specs.declared.device.state.Common.{Common}
+use Rattle.rdm_device.specs.declared.device.state.CommonValues.{CommonValues}
 use Rattle.rdm_device.specs.declared.device.state.Measured.{Measured}
 use Rattle.rdm_device.specs.Device.Map.{Entry, entry, update}
 use Rattle.rdm_device.specs.Device.Measuring.{signed_in, measured, measured_by}
@@ -55,12 +55,12 @@ none_from n k v (m ∷ ms) le = rw (ne_eqb n k (λ (same : n ≡ k). omega arith
 pub none_measures : (i : ℕ) (v : ℤ) (ms : List Measured) → length ms ≤ i → sensor_entries 0 ms ≡ update (measured_by i v) (sensor_entries 0 ms)
 none_measures i v ms le = none_from 0 i v ms (omega arith)
 
-others_keep : (number : ℕ) (v : ℤ) (d : Common) → update (measured_by number v) (common_entries d) ≡ common_entries d
+others_keep : (number : ℕ) (v : ℤ) (d : CommonValues) → update (measured_by number v) (common_entries d) ≡ common_entries d
 unfolding common_entries
 others_keep number v d = refl
 
 -- the values of the root after a sensor has measured
-pub root_measures : (number : ℕ) (v : ℤ) (d : Common) (before after : List Entry) → after ≡ update (measured_by number v) before → common_entries d ++ after ≡ update (measured_by number v) (common_entries d ++ before)
+pub root_measures : (number : ℕ) (v : ℤ) (d : CommonValues) (before after : List Entry) → after ≡ update (measured_by number v) before → common_entries d ++ after ≡ update (measured_by number v) (common_entries d ++ before)
 root_measures number v d before after e =
     ap (λ (es : List Entry). common_entries d ++ es) e ∙ ap (λ (es : List Entry). es ++ update (measured_by number v) before) (sym (others_keep number v d)) ∙ sym (update_append (measured_by number v) (common_entries d) before)
 

@@ -1,3 +1,3 @@
-pub mod Handed
+pub mod ValueRef
 pub mod Plain
 pub mod State

@@ -4,7 +4,7 @@ pub(crate) mod footprint;
 pub(crate) mod measuring;
 pub(crate) mod state;
 
-use crate::device::state::{Common, Own};
+use crate::device::state::{CommonValues, RootValues};
 use crate::{Profile, Unit};
 use std::marker::Model;
 
@@ -16,9 +16,9 @@ pub struct Place<'a> {
     /// What the profile says of the device.
     pub unit: &'a Unit,
     /// The values that every device keeps.
-    pub common: &'a Common,
+    pub common: &'a CommonValues,
     /// The values of the root; none at a sub-device.
-    pub own: Option<&'a Own>,
+    pub own: Option<&'a RootValues>,
 }
 
 impl<'a> Model for Place<'a> {

@@ -13,7 +13,7 @@ mod value;
 pub use device::Place;
 pub use device::footprint::footprint;
 pub use device::measuring::measure;
-pub use device::state::{Common, Measured, Own};
+pub use device::state::{CommonValues, Measured, RootValues};
 pub use laws::{
     personalities_are_equal_by_value, profiles_are_equal_by_value, self_tests_are_equal_by_value,
     sensor_defs_are_equal_by_value, slots_are_equal_by_value, status_texts_are_equal_by_value,

@@ -5,10 +5,10 @@ use Rattle.rdm_frame.specs.Addressing.{is_broadcast}
 use Rattle.rdm_device.specs.declared.profile.Profile.{Profile}
 use Rattle.rdm_device.specs.declared.profile.Unit.{Unit as DeviceUnit}
 use Rattle.rdm_device.specs.Device.Profiles.{CanBeMade}
-use Rattle.rdm_params.specs.declared.slow.outcome.Outcome.{Outcome}
-use Rattle.rdm_params.specs.declared.slow.outcome.Outcome.TheVariants.{Failed}
-use Rattle.rdm_params.specs.declared.slow.status.Severity.{Severity}
-use Rattle.rdm_params.specs.declared.slow.status.Severity.TheVariants.{Advisory, Warning, Error}
+use Rattle.rdm_params.specs.declared.jobs.outcome.Outcome.{Outcome}
+use Rattle.rdm_params.specs.declared.jobs.outcome.Outcome.TheVariants.{Failed}
+use Rattle.rdm_params.specs.declared.jobs.status.Severity.{Severity}
+use Rattle.rdm_params.specs.declared.jobs.status.Severity.TheVariants.{Advisory, Warning, Error}
 use Rattle.rdm_outcomes.specs.declared.rule.Rule.{Rule}
 use Rattle.rdm_outcomes.specs.Outcomes.{suits}
 use Rattle.rdm_fixture.specs.declared.fixture.Fixture.{Fixture}

@@ -1,7 +1,7 @@
 //! Runs with two workers and a panel.
 
 ghost use Rattle.std.specs.Prelude.{◌≡◌, true};
-ghost use Rattle.rdm_params.specs.Slow.Outcome.{ends};
+ghost use Rattle.rdm_params.specs.Jobs.Outcome.{ends};
 ghost use Rattle.rdm_crew.specs.RunTrace.{HaveFaults};
 
 use crate::bus::command;

@@ -1,7 +1,7 @@
 //! Two parts that wait for each other.
 
 ghost use Rattle.std.specs.Prelude.{◌≡◌, true};
-ghost use Rattle.rdm_params.specs.Slow.Outcome.{ends};
+ghost use Rattle.rdm_params.specs.Jobs.Outcome.{ends};
 
 use rdm_params::{Outcome, Severity, Verb};
 use std::alloc::{AllocError, Global};

@@ -4,8 +4,8 @@ use Rattle.std.specs.Prelude.{flat_map, map, nat_lt}
 use Rattle.std.proofs.Common.{length-append}
 use Rattle.std.proofs.lemmas.Grind.{take-set_at}
 use Rattle.std.proofs.lemmas.List.{append-nil, at_drop_more, drop_all, drop-set-lt}
-use Rattle.rdm_params.specs.declared.slow.ask.Ask.{Ask}
-use Rattle.rdm_params.specs.declared.slow.status.Entry.{Entry}
+use Rattle.rdm_params.specs.declared.jobs.ask.Ask.{Ask}
+use Rattle.rdm_params.specs.declared.jobs.status.Entry.{Entry}
 use Rattle.rdm_outbox.specs.Account.{Noted}
 use Rattle.rdm_outbox.specs.Statuses.{asks_for, cleared, first_asked, others, show, unshown, entry_slots}
 

@@ -1,7 +1,7 @@
 -- What has happened to an outbox since it was made: lists that only grow, and a count. E1.20 sections 10.3.1 and 10.3.2.
 use Rattle.std.specs.Prelude.{ℕ, Bool, List, []}
-use Rattle.rdm_params.specs.declared.slow.message.Message.{Message}
-use Rattle.rdm_params.specs.declared.slow.status.Entry.{Entry}
+use Rattle.rdm_params.specs.declared.jobs.message.Message.{Message}
+use Rattle.rdm_params.specs.declared.jobs.status.Entry.{Entry}
 use Rattle.rdm_outbox.specs.declared.job.Job.{Job}
 
 -- A status entry that was noted, and whether it counts as shown: a status message has shown it, or CLEAR_STATUS_ID came

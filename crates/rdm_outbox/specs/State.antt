@@ -1,7 +1,7 @@
 -- What a contract sees of an outbox.
 use Rattle.std.specs.Prelude.{ℕ, ◌+◌, ◌≤◌, ◌==◌, Bool, List, [], length, nat_lt, if◌then◌else◌}
-use Rattle.rdm_params.specs.declared.slow.message.Message.{Message}
-use Rattle.rdm_params.specs.declared.slow.status.Entry.{Entry}
+use Rattle.rdm_params.specs.declared.jobs.message.Message.{Message}
+use Rattle.rdm_params.specs.declared.jobs.status.Entry.{Entry}
 use Rattle.rdm_outbox.specs.declared.job.Job.{Job}
 
 -- Its two bounds; of the first and the second worker the outstanding jobs, and how many it was given; the messages that

@@ -4,7 +4,7 @@ ghost use Rattle.std.specs.Prelude.{◌≡◌, ◌<◌, ◌+◌, [], ◌∷◌, 
 ghost use Rattle.circular_buffer.specs.Buffer.{buffer};
 ghost use Rattle.rdm_outbox.specs.Jobs.{numbered};
 
-use crate::room::put;
+use crate::ring::put;
 use crate::{Full, Job};
 use circular_buffer::HeapCircularBuffer;
 use rdm_params::Work;

@@ -11,7 +11,7 @@ mod giving;
 mod job;
 mod laws;
 mod outbox;
-mod room;
+mod ring;
 mod showing;
 
 pub use dispensed::Dispensed;

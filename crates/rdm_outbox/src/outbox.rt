@@ -7,11 +7,11 @@ ghost use Rattle.rdm_outbox.specs.Jobs.{outstanding_of, outstanding_count, waiti
 ghost use Rattle.rdm_outbox.specs.Messages.{is_last, last_of, next_of, after_next, after_post, dispensed, after_dispense, status_dispensed, after_status};
 ghost use Rattle.rdm_outbox.specs.Shows.{Shows};
 ghost use Rattle.rdm_outbox.specs.State.{IsOutboxSize, jobs_at, place_in};
-ghost use Rattle.rdm_params.specs.Slow.Work.{worker_of};
+ghost use Rattle.rdm_params.specs.Jobs.Work.{worker_of};
 ghost use Rattle.rdm_outbox.specs.Statuses.{after_clear, can_note, after_note, status_now, after_status_now};
 
 use crate::giving::give;
-use crate::room::{drop_first, put};
+use crate::ring::{drop_first, put};
 use crate::showing::{empty_status, is_last, show_status};
 use crate::{Dispensed, Full, Job, NewError};
 use circular_buffer::HeapCircularBuffer;

@@ -1,9 +1,9 @@
 //! Laws of rules. Each is the contract of a call that does nothing.
 
 ghost use Rattle.std.specs.Prelude.{◌≡◌, ◌↔◌, List, true, IsTrue};
-ghost use Rattle.rdm_params.specs.declared.slow.outcome.Outcome.{Outcome as TheOutcome};
+ghost use Rattle.rdm_params.specs.declared.jobs.outcome.Outcome.{Outcome as TheOutcome};
 ghost use Rattle.rdm_params.specs.Commands.Commands.{command_of};
-ghost use Rattle.rdm_params.specs.Slow.Outcome.{fits};
+ghost use Rattle.rdm_params.specs.Jobs.Outcome.{fits};
 ghost use Rattle.rdm_params.specs.Table.Uses.{is_slow};
 ghost use Rattle.rdm_outbox.specs.declared.job.Job.{Job as TheJob};
 ghost use Rattle.rdm_outcomes.specs.declared.rule.Rule.{Rule as TheRule};

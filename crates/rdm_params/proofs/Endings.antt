@@ -7,16 +7,16 @@ use Rattle.rdm_params.specs.declared.kind.Verb.{Verb}
 use Rattle.rdm_params.specs.declared.kind.Verb.TheVariants.{Get, Set}
 use Rattle.rdm_params.specs.declared.panel.Change.{Change}
 use Rattle.rdm_params.specs.declared.panel.Change.TheVariants as changes
-use Rattle.rdm_params.specs.declared.slow.outcome.Outcome.{Outcome}
-use Rattle.rdm_params.specs.declared.slow.outcome.Outcome.TheVariants.{Done, Reading, Failed}
-use Rattle.rdm_params.specs.declared.slow.work.Work.{Work}
+use Rattle.rdm_params.specs.declared.jobs.outcome.Outcome.{Outcome}
+use Rattle.rdm_params.specs.declared.jobs.outcome.Outcome.TheVariants.{Done, Reading, Failed}
+use Rattle.rdm_params.specs.declared.jobs.work.Work.{Work}
 use Rattle.rdm_device.specs.declared.value.Value.{Value}
 use Rattle.rdm_device.specs.declared.value.Value.TheVariants.{Byte}
 use Rattle.rdm_params.specs.Commands.Commands.{command_of, carried_out, is_all_call}
 use Rattle.rdm_params.specs.Commands.Panel.{after_change, can_change, changed_pid, changed_value}
 use Rattle.rdm_params.specs.Laws.{keys_written, keys_committed, SameAt, IsSameBut, CommitChangesItsKey, CommitChangesItsKeys, ReadingChangesItsSensor, CommitLeavesTheRest, FailedChangesNothing, PanelChangesItsKey, PanelLeavesTheRest}
-use Rattle.rdm_params.specs.Slow.Commit.{after_commit}
-use Rattle.rdm_params.specs.Slow.Outcome.{ends}
+use Rattle.rdm_params.specs.Jobs.Commit.{after_commit}
+use Rattle.rdm_params.specs.Jobs.Outcome.{ends}
 use Rattle.rdm_device.specs.Device.Map.{Entry, lookup, update}
 use Rattle.rdm_device.specs.Device.Measuring.{measured, measured_by}
 use Rattle.rdm_device.specs.Device.Parameters.{Parameters}

@@ -7,11 +7,11 @@ use Rattle.rdm_params.specs.declared.kind.Verb.{Verb}
 use Rattle.rdm_params.specs.declared.kind.Verb.TheVariants.{Get, Set}
 use Rattle.rdm_params.specs.declared.nack.Nack.{Nack}
 use Rattle.rdm_params.specs.declared.nack.Nack.TheVariants.{FormatError, DataOutOfRange, SubDeviceOutOfRange}
-use Rattle.rdm_params.specs.declared.slow.ask.Ask.{Ask}
-use Rattle.rdm_params.specs.declared.slow.ask.Ask.TheVariants as asks
-use Rattle.rdm_params.specs.declared.slow.way.Way.{Way}
-use Rattle.rdm_params.specs.declared.slow.way.Way.TheVariants.{AtOnce, ByJob, FromQueue, FromStatus, Clears}
-use Rattle.rdm_params.specs.declared.slow.work.Work.{Work}
+use Rattle.rdm_params.specs.declared.jobs.ask.Ask.{Ask}
+use Rattle.rdm_params.specs.declared.jobs.ask.Ask.TheVariants as asks
+use Rattle.rdm_params.specs.declared.jobs.way.Way.{Way}
+use Rattle.rdm_params.specs.declared.jobs.way.Way.TheVariants.{AtOnce, ByJob, FromQueue, FromStatus, Clears}
+use Rattle.rdm_params.specs.declared.jobs.work.Work.{Work}
 use Rattle.rdm_device.specs.declared.value.Value.{Value}
 use Rattle.rdm_device.specs.declared.value.Value.TheVariants.{Byte}
 use Rattle.rdm_params.specs.declared.verdict.Verdict.{Verdict}
@@ -20,8 +20,8 @@ use Rattle.rdm_params.specs.Commands.Commands.{command_of, accepted, addressed, 
 use Rattle.rdm_device.specs.Columns.Forms.{byte}
 use Rattle.rdm_device.specs.Device.Parameters.{Parameters}
 use Rattle.rdm_device.specs.Columns.Ranges.{a_message_type}
-use Rattle.rdm_params.specs.Slow.Asks.{ask_of}
-use Rattle.rdm_params.specs.Slow.Laws.{IsWorkOf, GetStartsItsWork, SetStartsItsWork, GetQueues, GetStatuses, SetFetchesNothing, SetClears, GetClearsNothing}
+use Rattle.rdm_params.specs.Jobs.Asks.{ask_of}
+use Rattle.rdm_params.specs.Jobs.Laws.{IsWorkOf, GetStartsItsWork, SetStartsItsWork, GetQueues, GetStatuses, SetFetchesNothing, SetClears, GetClearsNothing}
 use Rattle.rdm_device.specs.Device.Spot.{Spot}
 use Rattle.rdm_params.specs.Table.Rows.{Command}
 use Rattle.rdm_params.specs.Table.Uses.{read_as, read, way_of, is_by_job, is_slow, in_range_of}

@@ -10,7 +10,7 @@ pub mod Plates
 pub mod ReadBack
 pub mod RowFacts
 pub mod Rows
-pub mod Suited
+pub mod ReadData
 pub mod StaysAccepted
 pub mod SubSteps
 pub mod TwoWorkers

@@ -5,7 +5,7 @@ use Rattle.std.specs.Option.{option_map}
 use Rattle.std.proofs.lemmas.Bool.{ne_eqb}
 use Rattle.std.proofs.lemmas.Option.{slice_get-map}
 use Rattle.rdm_params.specs.declared.kind.Verb.{Verb}
-use Rattle.rdm_device.specs.declared.device.state.Common.{Common}
+use Rattle.rdm_device.specs.declared.device.state.CommonValues.{CommonValues}
 use Rattle.rdm_params.specs.Commands.Commands.{addressed, is_all_call, sub_spot}
 use Rattle.rdm_device.specs.Device.Map.{Entry}
 use Rattle.rdm_device.specs.Device.Parameters.{Parameters}
@@ -13,7 +13,7 @@ use Rattle.rdm_device.specs.Device.Spot.{Spot}
 use Rattle.rdm_device.specs.Views.State.{common_entries}
 
 -- the entries of a sub-device
-pub at_place : (subs : List Common) (i : ℕ) → slice_get (map common_entries subs) i ≡ option_map common_entries (slice_get subs i)
+pub at_place : (subs : List CommonValues) (i : ℕ) → slice_get (map common_entries subs) i ≡ option_map common_entries (slice_get subs i)
 at_place subs i = slice_get-map common_entries subs i
 
 first_of : (f : List Entry → Spot) (o : Option (List Entry)) → slice_get (map f (option_to_list o)) 0 ≡ option_map f o

@@ -3,8 +3,8 @@ use Rattle.std.proofs.Common.{◌≡◌, ℕ, ◌<◌, Option, Some, None, refl,
 use Rattle.std.specs.List.{AllByRecursion}
 use Rattle.rdm_params.specs.declared.kind.Verb.{Verb}
 use Rattle.rdm_params.specs.declared.kind.Verb.TheVariants.{Get, Set}
-use Rattle.rdm_params.specs.declared.slow.way.Way.{Way}
-use Rattle.rdm_params.specs.declared.slow.way.Way.TheVariants.{AtOnce, ByJob, FromQueue, FromStatus, Clears}
+use Rattle.rdm_params.specs.declared.jobs.way.Way.{Way}
+use Rattle.rdm_params.specs.declared.jobs.way.Way.TheVariants.{AtOnce, ByJob, FromQueue, FromStatus, Clears}
 use Rattle.rdm_device.specs.declared.value.Value.{Value}
 use Rattle.rdm_params.specs.Commands.Commands.{command_of}
 use Rattle.rdm_device.specs.Columns.Forms.{byte}

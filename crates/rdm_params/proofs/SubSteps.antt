@@ -1,12 +1,12 @@
 -- Writes of one sub-device, and of each.
 use Rattle.std.proofs.Common.{◌≡◌, ℕ, zero, suc, ◌+◌, ◌<◌, List, [], ◌∷◌, ◌++◌, length, get_or, take, drop, set, map, refl, sym, ap, ◌∙◌, add-one, arith}
 use Rattle.std.proofs.lemmas.List.{map-set, get_or-map}
-use Rattle.rdm_device.specs.declared.device.state.Common.{Common}
+use Rattle.rdm_device.specs.declared.device.state.CommonValues.{CommonValues}
 use Rattle.rdm_device.specs.Device.Map.{Entry}
 use Rattle.rdm_device.specs.Views.State.{common_entries}
 
 -- a write of one
-pub one_written : (f : List Entry → List Entry) (subs : List Common) (i : ℕ) (old new : Common) → i < length subs → old ≡ get_or subs i old → common_entries new ≡ f (common_entries old) → map common_entries (set subs i new) ≡ set (map common_entries subs) i (f (get_or (map common_entries subs) i []))
+pub one_written : (f : List Entry → List Entry) (subs : List CommonValues) (i : ℕ) (old new : CommonValues) → i < length subs → old ≡ get_or subs i old → common_entries new ≡ f (common_entries old) → map common_entries (set subs i new) ≡ set (map common_entries subs) i (f (get_or (map common_entries subs) i []))
 one_written f subs i old new lt here e =
     let was : common_entries old ≡ get_or (map common_entries subs) i [] = ap common_entries here ∙ sym (get_or-map common_entries subs i old [] lt) in
     map-set common_entries subs i new ∙ ap (set (map common_entries subs) i) (e ∙ ap f was)

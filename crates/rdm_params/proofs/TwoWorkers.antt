@@ -1,11 +1,11 @@
 -- The table names two workers.
 use Rattle.std.proofs.Common.{ℕ, ◌<◌, Option, Some, None, arith}
 use Rattle.rdm_params.specs.declared.kind.Verb.{Verb}
-use Rattle.rdm_params.specs.declared.slow.way.Way.{Way}
-use Rattle.rdm_params.specs.declared.slow.way.Way.TheVariants.{AtOnce, ByJob, FromQueue, FromStatus, Clears}
-use Rattle.rdm_params.specs.declared.slow.work.Work.{Work}
+use Rattle.rdm_params.specs.declared.jobs.way.Way.{Way}
+use Rattle.rdm_params.specs.declared.jobs.way.Way.TheVariants.{AtOnce, ByJob, FromQueue, FromStatus, Clears}
+use Rattle.rdm_params.specs.declared.jobs.work.Work.{Work}
 use Rattle.rdm_params.specs.Commands.Commands.{command_of}
-use Rattle.rdm_params.specs.Slow.Work.{worker_in, worker_of}
+use Rattle.rdm_params.specs.Jobs.Work.{worker_in, worker_of}
 use Rattle.rdm_params.specs.Table.Rows.{Command}
 use Rattle.rdm_params.specs.Table.Uses.{way_of}
 use Rattle.rdm_params.proofs.RowFacts.{FactsOfWay, Facts, facts_of}

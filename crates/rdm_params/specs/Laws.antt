@@ -5,14 +5,14 @@ use Rattle.rdm_params.specs.declared.kind.Verb.{Verb}
 use Rattle.rdm_device.specs.declared.value.Value.{Value}
 use Rattle.rdm_device.specs.declared.value.Value.TheVariants.{Byte, Word, Long, Preset, Label}
 use Rattle.rdm_params.specs.declared.panel.Change.{Change}
-use Rattle.rdm_params.specs.declared.slow.outcome.Outcome.{Outcome}
-use Rattle.rdm_params.specs.declared.slow.outcome.Outcome.TheVariants.{Done, Reading, Failed}
-use Rattle.rdm_params.specs.declared.slow.status.Severity.{Severity}
-use Rattle.rdm_params.specs.declared.slow.work.Work.{Work}
+use Rattle.rdm_params.specs.declared.jobs.outcome.Outcome.{Outcome}
+use Rattle.rdm_params.specs.declared.jobs.outcome.Outcome.TheVariants.{Done, Reading, Failed}
+use Rattle.rdm_params.specs.declared.jobs.status.Severity.{Severity}
+use Rattle.rdm_params.specs.declared.jobs.work.Work.{Work}
 use Rattle.rdm_params.specs.Commands.Commands.{command_of, after_set}
 use Rattle.rdm_params.specs.Commands.Panel.{changed_pid, after_change}
-use Rattle.rdm_params.specs.Slow.Commit.{after_commit}
-use Rattle.rdm_params.specs.Slow.Outcome.{fits}
+use Rattle.rdm_params.specs.Jobs.Commit.{after_commit}
+use Rattle.rdm_params.specs.Jobs.Outcome.{fits}
 use Rattle.rdm_device.specs.Columns.Forms.{has_form}
 use Rattle.rdm_device.specs.Device.Map.{lookup}
 use Rattle.rdm_device.specs.Device.Parameters.{Parameters}

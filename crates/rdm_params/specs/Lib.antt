@@ -2,6 +2,6 @@ pub use Rattle.rdm_device.specs.Columns
 pub use Rattle.rdm_device.specs.Device
 pub mod Commands
 pub mod Laws
-pub mod Slow
+pub mod Jobs
 pub mod Table
 pub mod Views

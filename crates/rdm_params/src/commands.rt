@@ -15,21 +15,21 @@ ghost use Rattle.rdm_device.specs.Device.Profiles.{IsGoodProfile};
 ghost use Rattle.rdm_device.specs.Device.Values.{byte_or_0};
 ghost use Rattle.rdm_params.specs.Views.Verdicts.{verdict_with, NamesItsJob};
 ghost use Rattle.rdm_params.specs.Table.Uses.{way_of, in_range_of, reply};
-ghost use Rattle.rdm_params.specs.Slow.Asks.{ask_of};
+ghost use Rattle.rdm_params.specs.Jobs.Asks.{ask_of};
 
 mod commit;
 mod panel;
-mod suited;
+mod read_data;
 mod thresholds;
 
 use crate::commands::sub_devices::{all_in_range, start_each, store_at, store_each};
-use crate::slow::Way;
+use crate::jobs::Way;
 use crate::table::find::{Found, find};
 use crate::table::respond::reply_into;
 use crate::table::store::{store_common, store_own};
 use crate::table::within::is_in_range;
 use crate::{Answer, Ask, Kind, Nack, Profile, Value, Verb, Verdict, Work};
-use rdm_device::{Argument, Common, Own, Place, is_good};
+use rdm_device::{Argument, CommonValues, Place, RootValues, is_good};
 use rdm_frame::Body;
 use rdm_frame::standard::SUB_DEVICE_ALL_CALL;
 use std::alloc::Global;
@@ -57,9 +57,9 @@ pub enum NewError {
 pub struct Devices {
     // In its place once and for all: the profile is large, and devices are handed on by value.
     profile: Box<Profile>,
-    root: Common,
-    own: Own,
-    subs: Vec<Common>,
+    root: CommonValues,
+    own: RootValues,
+    subs: Vec<CommonValues>,
 }
 
 impl Model for Devices {
@@ -95,8 +95,8 @@ impl Devices {
         let Ok(profile) = Box::new(alloc, profile) else {
             return Err(NewError::OutOfMemory);
         };
-        let root = Common::at_start(&profile.root);
-        let own = Own::at_start(&profile);
+        let root = CommonValues::at_start(&profile.root);
+        let own = RootValues::at_start(&profile);
         let Ok(subs) = start_each(alloc, &profile.sub, profile.subs) else {
             return Err(NewError::OutOfMemory);
         };
@@ -199,7 +199,7 @@ impl Devices {
             .first_place(sub, Verb::Get)
             .ok_or(Nack::SubDeviceOutOfRange)?;
         let found = find(pid, sub == 0, Verb::Get)?;
-        let value = self.suited(sub, Verb::Get, found, &place, data)?;
+        let value = self.read_data(sub, Verb::Get, found, &place, data)?;
         Ok(answer(sub, Verb::Get, found, Some(place), &value, body))
     }
 
@@ -218,7 +218,7 @@ impl Devices {
             .first_place(sub, Verb::Set)
             .ok_or(Nack::SubDeviceOutOfRange)?;
         let found = find(pid, sub == 0, Verb::Set)?;
-        let value = self.suited(sub, Verb::Set, found, &place, data)?;
+        let value = self.read_data(sub, Verb::Set, found, &place, data)?;
         if !found.way.is_by_job() {
             self.carry_out(sub, found.kind, &value);
         }

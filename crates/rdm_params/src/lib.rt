@@ -7,15 +7,20 @@
 #![tactic(auto)]
 
 mod commands;
+mod jobs;
 mod kind;
 mod laws;
 mod nack;
 mod panel;
-mod slow;
 mod table;
 mod verdict;
 
 pub use commands::{Devices, NewError};
+pub use jobs::{
+    Ask, Entry, Message, Outcome, Severity, Work, estimate_of, fits, fitting_worker,
+    one_command_clears, slow_command_stays_accepted, started_work_is_its_command,
+    two_commands_fetch, worker_of,
+};
 pub use kind::{Kind, Verb, kind_of};
 pub use laws::{
     answers_are_equal_by_value, asks_are_equal_by_value, changes_are_equal_by_value,
@@ -29,11 +34,6 @@ pub use nack::Nack;
 pub use panel::{Change, Plate};
 pub use rdm_device::{
     Personality, Profile, SelfTest, SensorDef, Slot, StatusText, Unit, Value, write_value,
-};
-pub use slow::{
-    Ask, Entry, Message, Outcome, Severity, Work, estimate_of, fits, fitting_worker,
-    one_command_clears, slow_command_stays_accepted, started_work_is_its_command,
-    two_commands_fetch, worker_of,
 };
 pub use table::read::read_value;
 pub use verdict::{Answer, Verdict};

@@ -1,16 +1,16 @@
 -- The report of a job, and what it makes of an account.
 use Rattle.std.proofs.Common.{◌≡◌, ℕ, ◌<◌, Bool, true, false, cond, List, [], ◌∷◌, length, Option, Some, None, refl, sym, ap, subst, ◌∙◌, arith}
 use Rattle.std.specs.Prelude.{IsSome, slice_get, nat_lt}
-use Rattle.rdm_params.specs.declared.slow.message.Message.{Message}
-use Rattle.rdm_params.specs.declared.slow.outcome.Outcome.{Outcome}
-use Rattle.rdm_params.specs.declared.slow.outcome.Outcome.TheVariants.{Done, Reading, Failed}
-use Rattle.rdm_params.specs.declared.slow.status.Entry.{Entry as StatusEntry}
-use Rattle.rdm_params.specs.declared.slow.work.Work.{Work}
+use Rattle.rdm_params.specs.declared.jobs.message.Message.{Message}
+use Rattle.rdm_params.specs.declared.jobs.outcome.Outcome.{Outcome}
+use Rattle.rdm_params.specs.declared.jobs.outcome.Outcome.TheVariants.{Done, Reading, Failed}
+use Rattle.rdm_params.specs.declared.jobs.status.Entry.{Entry as StatusEntry}
+use Rattle.rdm_params.specs.declared.jobs.work.Work.{Work}
 use Rattle.rdm_params.specs.Device.Parameters.{Parameters}
-use Rattle.rdm_params.specs.Slow.Commit.{after_commit, committed}
-use Rattle.rdm_params.specs.Slow.Outcome.{fits}
-use Rattle.rdm_params.specs.Slow.Thresholds.{notes}
-use Rattle.rdm_params.specs.Slow.Work.{worker_of}
+use Rattle.rdm_params.specs.Jobs.Commit.{after_commit, committed}
+use Rattle.rdm_params.specs.Jobs.Outcome.{fits}
+use Rattle.rdm_params.specs.Jobs.Thresholds.{notes}
+use Rattle.rdm_params.specs.Jobs.Work.{worker_of}
 use Rattle.rdm_outbox.specs.declared.job.Job.{Job}
 use Rattle.rdm_outbox.specs.Account as outbox
 use Rattle.rdm_outbox.specs.Jobs.{outstanding_of, after_arrive}

@@ -1,7 +1,7 @@
 -- A change at the fixture's own menu, and what it makes of an account.
 use Rattle.std.proofs.Common.{◌≡◌, Option, ap, subst, ◌∙◌}
 use Rattle.rdm_params.specs.declared.panel.Change.{Change}
-use Rattle.rdm_params.specs.declared.slow.message.Message.{Message}
+use Rattle.rdm_params.specs.declared.jobs.message.Message.{Message}
 use Rattle.rdm_params.specs.Commands.Panel.{after_change, change_message}
 use Rattle.rdm_params.specs.Device.Parameters.{Parameters}
 use Rattle.rdm_outbox.specs.Shows as outbox_state

@@ -1,8 +1,8 @@
 -- How the code makes a response: its heading apart from its data.
 use Rattle.std.specs.Prelude.{ℕ, ◌+◌, List}
 use Rattle.rdm_frame.specs.declared.frame.Frame.{Frame}
-use Rattle.rdm_params.specs.declared.slow.message.Message.{Message}
-use Rattle.rdm_responder.specs.declared.response.Heading.{Heading}
+use Rattle.rdm_params.specs.declared.jobs.message.Message.{Message}
+use Rattle.rdm_responder.specs.declared.reply.Heading.{Heading}
 use Rattle.rdm_responder.specs.Rules.{Response}
 
 -- the response with this heading and these data

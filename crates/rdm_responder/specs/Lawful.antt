@@ -1,7 +1,7 @@
 -- Which reports may arrive, and when a change may come.
 use Rattle.std.specs.Prelude.{◌≡◌, true, List, [], ◌∷◌, Some, slice_get}
-use Rattle.rdm_params.specs.Slow.Outcome.{fits}
-use Rattle.rdm_params.specs.Slow.Work.{worker_of}
+use Rattle.rdm_params.specs.Jobs.Outcome.{fits}
+use Rattle.rdm_params.specs.Jobs.Work.{worker_of}
 use Rattle.rdm_outbox.specs.Jobs.{has_place, outstanding_of}
 use Rattle.rdm_responder.specs.declared.report.Report.{Report}
 use Rattle.rdm_responder.specs.History.{Event, Heard, Arrived, Changed, History}

@@ -12,20 +12,20 @@ use Rattle.rdm_frame.specs.Discovery.{branch_reply}
 use Rattle.rdm_params.specs.declared.nack.Nack.{Nack}
 use Rattle.rdm_params.specs.declared.nack.Nack.TheVariants.{BufferFull}
 use Rattle.rdm_params.specs.declared.panel.Change.{Change}
-use Rattle.rdm_params.specs.declared.slow.message.Message.{Message}
-use Rattle.rdm_params.specs.declared.slow.status.Entry.{Entry as StatusEntry}
-use Rattle.rdm_params.specs.declared.slow.outcome.Outcome.{Outcome}
-use Rattle.rdm_params.specs.declared.slow.outcome.Outcome.TheVariants.{Failed}
-use Rattle.rdm_params.specs.declared.slow.work.Work.{Work}
+use Rattle.rdm_params.specs.declared.jobs.message.Message.{Message}
+use Rattle.rdm_params.specs.declared.jobs.status.Entry.{Entry as StatusEntry}
+use Rattle.rdm_params.specs.declared.jobs.outcome.Outcome.{Outcome}
+use Rattle.rdm_params.specs.declared.jobs.outcome.Outcome.TheVariants.{Failed}
+use Rattle.rdm_params.specs.declared.jobs.work.Work.{Work}
 use Rattle.rdm_params.specs.declared.verdict.Verdict.{Verdict}
 use Rattle.rdm_params.specs.declared.verdict.Verdict.TheVariants.{Reply, Start, Queue, Status, Clear, Refuse}
 use Rattle.rdm_params.specs.Commands.Commands.{got, answer_to_set, after_set}
 use Rattle.rdm_params.specs.Commands.Nacks.{nack_code}
 use Rattle.rdm_params.specs.Commands.Panel.{after_change, change_message}
 use Rattle.rdm_params.specs.Device.Parameters.{Parameters, parameters_of}
-use Rattle.rdm_params.specs.Slow.Work.{worker_of, estimate_of}
-use Rattle.rdm_params.specs.Slow.Commit.{after_commit, committed}
-use Rattle.rdm_params.specs.Slow.Thresholds.{notes}
+use Rattle.rdm_params.specs.Jobs.Work.{worker_of, estimate_of}
+use Rattle.rdm_params.specs.Jobs.Commit.{after_commit, committed}
+use Rattle.rdm_params.specs.Jobs.Thresholds.{notes}
 use Rattle.rdm_outbox.specs.declared.job.Job.{Job}
 use Rattle.rdm_outbox.specs.Account as outbox
 use Rattle.rdm_outbox.specs.Jobs.{has_room, reserved, after_reserve, after_arrive, waiting_of}

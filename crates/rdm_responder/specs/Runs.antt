@@ -2,7 +2,7 @@
 -- another.
 use Rattle.std.specs.Prelude.{◌≡◌, List, [], ◌∷◌, ◌++◌, length, Option, nat_lt}
 use Rattle.rdm_params.specs.declared.panel.Change.{Change}
-use Rattle.rdm_params.specs.declared.slow.message.Message.{Message}
+use Rattle.rdm_params.specs.declared.jobs.message.Message.{Message}
 use Rattle.rdm_params.specs.Commands.Panel.{change_message}
 use Rattle.rdm_outbox.specs.Account as outbox
 use Rattle.rdm_responder.specs.declared.report.Arrival.{Arrival}

@@ -8,10 +8,11 @@
 //! All types that a fixture names are here, those of the crates below too.
 #![tactic(auto)]
 
+mod carry_out;
 mod laws;
+mod reply;
 mod report;
 mod responder;
-mod response;
 mod run;
 mod stepped;
 

@@ -8,8 +8,8 @@ ghost use Rattle.rdm_outbox.specs.Shows.{Shows as OutboxShows};
 ghost use Rattle.rdm_outbox.specs.State.{jobs_at};
 ghost use Rattle.rdm_params.specs.Device.Parameters.{parameters_of};
 ghost use Rattle.rdm_params.specs.Device.Profiles.{CanBeMade};
-ghost use Rattle.rdm_params.specs.Slow.Outcome.{fits};
-ghost use Rattle.rdm_params.specs.Slow.Work.{worker_of};
+ghost use Rattle.rdm_params.specs.Jobs.Outcome.{fits};
+ghost use Rattle.rdm_params.specs.Jobs.Work.{worker_of};
 ghost use Rattle.rdm_responder.specs.History.{History, Heard, Arrived, empty_history, then_event};
 ghost use Rattle.rdm_responder.specs.Lawful.{IsLawful, MayArrive};
 ghost use Rattle.rdm_responder.specs.Rules.{Account, account_of, account_after_report, after_outcome, answered, reply_of, job_of};
@@ -17,8 +17,8 @@ ghost use Rattle.rdm_responder.specs.Runs.{IsArrival, outbox_of};
 ghost use Rattle.rdm_responder.specs.StandsFor.{Shows, StandsFor, IsQueueSize};
 ghost use Rattle.rdm_responder.specs.Started.{job_in, IsAsInTable};
 
+mod hear;
 mod panel;
-mod rules;
 
 use crate::report::{Arrival, Astray, Report};
 use crate::stepped::Stepped;

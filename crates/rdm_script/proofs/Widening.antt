@@ -5,7 +5,7 @@ use Rattle.std.specs.Io.KnownBytes.{Appends}
 use Rattle.rdm_frame.specs.declared.uid.Uid.{Uid}
 use Rattle.rdm_device.specs.declared.profile.Profile.{Profile}
 use Rattle.rdm_params.specs.declared.panel.Change.{Change}
-use Rattle.rdm_params.specs.declared.slow.outcome.Outcome.{Outcome}
+use Rattle.rdm_params.specs.declared.jobs.outcome.Outcome.{Outcome}
 use Rattle.rdm_outbox.specs.declared.job.Job.{Job}
 use Rattle.rdm_responder.specs.declared.report.Report.{Report}
 use Rattle.rdm_bus.specs.declared.event.Event.{Event}

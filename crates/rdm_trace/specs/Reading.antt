@@ -7,11 +7,11 @@ use Rattle.std.specs.List.{before_first, after_first}
 use Rattle.rdm_frame.specs.DigitReading.{◌>>=◌, byte_in, bytes_in, number_in}
 use Rattle.rdm_params.specs.declared.panel.Change.{Change}
 use Rattle.rdm_params.specs.declared.panel.Change.TheVariants.{Start, Personality, Label}
-use Rattle.rdm_params.specs.declared.slow.message.Message.{Message as TheMessage}
-use Rattle.rdm_params.specs.declared.slow.outcome.Outcome.{Outcome}
-use Rattle.rdm_params.specs.declared.slow.outcome.Outcome.TheVariants.{Done, Reading, Failed}
-use Rattle.rdm_params.specs.declared.slow.status.Severity.{Severity}
-use Rattle.rdm_params.specs.declared.slow.status.Severity.TheVariants as severity
+use Rattle.rdm_params.specs.declared.jobs.message.Message.{Message as TheMessage}
+use Rattle.rdm_params.specs.declared.jobs.outcome.Outcome.{Outcome}
+use Rattle.rdm_params.specs.declared.jobs.outcome.Outcome.TheVariants.{Done, Reading, Failed}
+use Rattle.rdm_params.specs.declared.jobs.status.Severity.{Severity}
+use Rattle.rdm_params.specs.declared.jobs.status.Severity.TheVariants as severity
 use Rattle.rdm_bus.specs.declared.fault.Fault.{Fault}
 use Rattle.rdm_bus.specs.declared.fault.Fault.TheVariants as fault
 use Rattle.rdm_collector.specs.declared.transaction.Heard.{Heard as TheHeard}

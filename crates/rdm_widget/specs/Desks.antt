@@ -1,7 +1,7 @@
 -- The fixture in time: a worker has one job at a time, which ends when its estimate has passed. Times are in milliseconds.
 use Rattle.std.specs.Prelude.{◌≡◌, ℕ, zero, suc, ◌+◌, ◌*◌, ◌==◌, List, [], ◌∷◌, nat_lt, nat_le, slice_get, Option, Some, None, if◌then◌else◌}
 use Rattle.rdm_params.specs.declared.panel.Change.{Change}
-use Rattle.rdm_params.specs.Slow.Work.{estimate_of}
+use Rattle.rdm_params.specs.Jobs.Work.{estimate_of}
 use Rattle.rdm_outbox.specs.declared.job.Job.{Job}
 use Rattle.rdm_outbox.specs.Jobs.{outstanding_of, outstanding_count}
 use Rattle.rdm_outcomes.specs.declared.rule.Rule.{Rule}

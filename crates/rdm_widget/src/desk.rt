@@ -2,7 +2,7 @@
 
 ghost use Rattle.std.specs.Prelude.{◌≡◌, ◌≢◌, ◌↔◌, ℕ, Some, IsOk, IfOk, OnOk, OnErr, IfErr, IsErrOf};
 ghost use Rattle.rdm_params.specs.Device.Profiles.{CanBeMade};
-ghost use Rattle.rdm_params.specs.Slow.Work.{worker_of};
+ghost use Rattle.rdm_params.specs.Jobs.Work.{worker_of};
 ghost use Rattle.rdm_outbox.specs.Jobs.{outstanding_count};
 ghost use Rattle.rdm_responder.specs.History.{Changed, then_event};
 ghost use Rattle.rdm_responder.specs.Lawful.{IsLawful, MayChange};

@@ -1,7 +1,7 @@
 //! What the workers do, and that nobody stands at the panel.
 
 ghost use Rattle.std.specs.Prelude.{◌≡◌, true};
-ghost use Rattle.rdm_params.specs.Slow.Outcome.{ends};
+ghost use Rattle.rdm_params.specs.Jobs.Outcome.{ends};
 
 use rdm_crew::{Panel, Part};
 use rdm_outbox::Job;
@@ -32,7 +32,7 @@ pub(crate) struct Slow<R: Clock> {
 
 impl<R: Clock + Drop> Part for Slow<R> {
     ghost use Rattle.std.specs.Prelude.{◌≡◌, true};
-    ghost use Rattle.rdm_params.specs.Slow.Outcome.{ends};
+    ghost use Rattle.rdm_params.specs.Jobs.Outcome.{ends};
 
     ghost gives = { λ part job outcome. ends job.work.verb outcome ≡ true };
 

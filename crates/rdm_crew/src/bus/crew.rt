@@ -6,7 +6,7 @@ ghost use Rattle.rdm_outbox.specs.Jobs.{jobs_of, has_place};
 ghost use Rattle.rdm_responder.specs.Runs.{outbox_of};
 ghost use Rattle.rdm_lane.specs.Ends.{with_item, IsSameTake};
 ghost use Rattle.rdm_lane.specs.Lane.{items_from};
-ghost use Rattle.rdm_params.specs.Slow.Work.{worker_of};
+ghost use Rattle.rdm_params.specs.Jobs.Work.{worker_of};
 ghost use Rattle.rdm_bus.specs.BusRun.{raise_of, fault_of};
 ghost use Rattle.rdm_bus.specs.Systems.{refusal_in};
 ghost use Rattle.rdm_crew.specs.Crews.{IsTied, HasChanges, HasChanged, IsSameCrew, IsSent, HasSent, HasPlayed, HavePlayed, IsStopped, IsRefused};

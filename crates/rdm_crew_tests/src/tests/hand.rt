@@ -2,7 +2,7 @@
 //! that counts its jobs.
 
 ghost use Rattle.std.specs.Prelude.{◌≡◌, true};
-ghost use Rattle.rdm_params.specs.Slow.Outcome.{ends};
+ghost use Rattle.rdm_params.specs.Jobs.Outcome.{ends};
 
 use rdm_crew::Part;
 use rdm_outbox::Job;
@@ -39,7 +39,7 @@ pub(super) enum Hand {
 
 impl Part for Hand {
     ghost use Rattle.std.specs.Prelude.{◌≡◌, true};
-    ghost use Rattle.rdm_params.specs.Slow.Outcome.{ends};
+    ghost use Rattle.rdm_params.specs.Jobs.Outcome.{ends};
 
     ghost gives = { λ part job outcome. ends job.work.verb outcome ≡ true };
 

@@ -10,7 +10,7 @@ use Rattle.rdm_device.specs.Columns.Replies.{factory_pids}
 use Rattle.rdm_device.specs.Device.Spot.{Spot}
 use Rattle.rdm_device.specs.Device.Values.{bytes_of, byte_or_0}
 
--- the bytes that an entry of a device becomes, by a value that is handed in
+-- the bytes that an entry of a device becomes, by the value of a command
 abbrev pub Change : Type 0
 Change = Spot → Value → Entry → List ℕ
 

@@ -1,13 +1,13 @@
 -- The values that devices keep, as a map by keys.
 use Rattle.std.specs.Prelude.{ℕ, suc, List, [], ◌∷◌, ◌++◌, Option, Some, None}
-use Rattle.rdm_device.specs.declared.device.state.Common.{Common}
+use Rattle.rdm_device.specs.declared.device.state.CommonValues.{CommonValues}
 use Rattle.rdm_device.specs.declared.device.state.Measured.{Measured}
-use Rattle.rdm_device.specs.declared.device.state.Own.{Own}
+use Rattle.rdm_device.specs.declared.device.state.RootValues.{RootValues}
 use Rattle.rdm_device.specs.Device.Map.{Entry, entry}
 use Rattle.rdm_device.specs.Device.Values.{word_slots, long_slots, signed_slots}
 
 -- the keys of every device
-unfoldable pub common_entries : Common → List Entry
+unfoldable pub common_entries : CommonValues → List Entry
 common_entries d =
     entry 0x0033 0 (d.report_threshold ∷ [])
     ∷ entry 0x0082 0 d.label
@@ -31,7 +31,7 @@ sensor_entries n [] = []
 sensor_entries n (m ∷ ms) = entry 0x0201 n (measured_slots m) ∷ sensor_entries (suc n) ms
 
 -- the keys of the root alone
-unfoldable pub own_entries : Own → List Entry
+unfoldable pub own_entries : RootValues → List Entry
 own_entries d =
     entry 0x00B0 0 (word_slots d.language)
     ∷ entry 0x0400 0 (long_slots d.device_hours)
@@ -46,6 +46,6 @@ own_entries d =
     ∷ sensor_entries 0 d.sensors.items
 
 -- the keys that the root has and a sub-device lacks
-abbrev pub own_if : Option Own → List Entry
+abbrev pub own_if : Option RootValues → List Entry
 own_if None = []
 own_if (Some d) = own_entries d

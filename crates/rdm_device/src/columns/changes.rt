@@ -11,14 +11,14 @@ ghost use Rattle.rdm_device.specs.Device.Map.{entry, update};
 ghost use Rattle.rdm_device.specs.Views.State.{common_entries, own_entries, sensor_entries, measured_slots};
 
 use crate::Profile;
-use crate::device::state::{Common, Measured, Own};
+use crate::device::state::{CommonValues, Measured, RootValues};
 use crate::value::argument::Argument;
 use arrayvec::ArrayVec;
 
 /// Sets back what FACTORY_DEFAULTS sets back of the values that every device keeps.
 #[tactic(auto, unfolding(crate::specs::Views::State::common_entries, crate::specs::Device::Parameters::common_at_start, crate::specs::Device::Parameters::own_at_start))]
 #[inline(never)]
-pub fn common_set_back(profile: &Profile, common: &mut Common)
+pub fn common_set_back(profile: &Profile, common: &mut CommonValues)
     ensures { (v : Value) → IsChanged set_back v profile.now (common_entries common.old) (common_entries common.new) }
 {
     common.label = profile.root.label.copy();
@@ -30,7 +30,7 @@ pub fn common_set_back(profile: &Profile, common: &mut Common)
 /// Sets back what FACTORY_DEFAULTS sets back of the values that the root alone keeps.
 #[tactic(auto, unfolding(crate::specs::Views::State::own_entries, crate::specs::Device::Parameters::common_at_start, crate::specs::Device::Parameters::own_at_start), using(crate::proofs::Sensors::sensors_stay))]
 #[inline(never)]
-pub fn own_set_back(profile: &Profile, value: &Argument<'_>, own: &mut Own)
+pub fn own_set_back(profile: &Profile, value: &Argument<'_>, own: &mut RootValues)
     ensures { IsChanged set_back value.now profile.now (own_entries own.old) (own_entries own.new) }
 {
     let _ = value;
@@ -45,7 +45,7 @@ pub fn own_set_back(profile: &Profile, value: &Argument<'_>, own: &mut Own)
 /// Makes the lowest, the highest and the recorded value of the named sensors the present one.
 #[tactic(auto, unfolding(crate::specs::Views::State::own_entries))]
 #[inline(never)]
-pub fn sensors_reset(profile: &Profile, value: &Argument<'_>, own: &mut Own)
+pub fn sensors_reset(profile: &Profile, value: &Argument<'_>, own: &mut RootValues)
     ensures { IsChanged sensors_reset value.now profile.now (own_entries own.old) (own_entries own.new) }
 {
     own.sensors = changed(own.sensors.as_slice(), value.byte().unwrap_or(0), true);
@@ -54,7 +54,7 @@ pub fn sensors_reset(profile: &Profile, value: &Argument<'_>, own: &mut Own)
 /// Makes the recorded value of the named sensors the present one.
 #[tactic(auto, unfolding(crate::specs::Views::State::own_entries))]
 #[inline(never)]
-pub fn sensors_recorded(profile: &Profile, value: &Argument<'_>, own: &mut Own)
+pub fn sensors_recorded(profile: &Profile, value: &Argument<'_>, own: &mut RootValues)
     ensures { IsChanged sensors_recorded value.now profile.now (own_entries own.old) (own_entries own.new) }
 {
     own.sensors = changed(own.sensors.as_slice(), value.byte().unwrap_or(0), false);

@@ -3,7 +3,7 @@
 ghost use Rattle.std.specs.Prelude.{◌≡◌};
 ghost use Rattle.rdm_device.specs.Columns.Forms.{nothing, byte, word, long, preset, label, value_of};
 
-use crate::value::argument::{Argument, Handed};
+use crate::value::argument::{Argument, ValueRef};
 
 /// The most bytes of a text.
 const LONGEST_TEXT: usize = 32;
@@ -15,7 +15,7 @@ pub fn nothing(data: &[u8]) -> Option<Argument<'_>>
 {
     match data {
         [] => Some(Argument {
-            handed: Handed::Nothing,
+            value: ValueRef::Nothing,
         }),
         _ => None,
     }
@@ -28,7 +28,7 @@ pub fn byte(data: &[u8]) -> Option<Argument<'_>>
 {
     match data {
         [number] => Some(Argument {
-            handed: Handed::Byte(*number),
+            value: ValueRef::Byte(*number),
         }),
         _ => None,
     }
@@ -41,7 +41,7 @@ pub fn word(data: &[u8]) -> Option<Argument<'_>>
 {
     match data {
         [high, low] => Some(Argument {
-            handed: Handed::Word(u16::from_be_bytes([*high, *low])),
+            value: ValueRef::Word(u16::from_be_bytes([*high, *low])),
         }),
         _ => None,
     }
@@ -54,7 +54,7 @@ pub fn long(data: &[u8]) -> Option<Argument<'_>>
 {
     match data {
         [a, b, c, d] => Some(Argument {
-            handed: Handed::Long(u32::from_be_bytes([*a, *b, *c, *d])),
+            value: ValueRef::Long(u32::from_be_bytes([*a, *b, *c, *d])),
         }),
         _ => None,
     }
@@ -67,7 +67,7 @@ pub fn preset(data: &[u8]) -> Option<Argument<'_>>
 {
     match data {
         [high, low, level] => Some(Argument {
-            handed: Handed::Preset(u16::from_be_bytes([*high, *low]), *level),
+            value: ValueRef::Preset(u16::from_be_bytes([*high, *low]), *level),
         }),
         _ => None,
     }
@@ -82,6 +82,6 @@ pub fn label(data: &[u8]) -> Option<Argument<'_>>
         return None;
     }
     Some(Argument {
-        handed: Handed::Label(data),
+        value: ValueRef::Label(data),
     })
 }

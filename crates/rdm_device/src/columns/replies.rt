@@ -20,7 +20,7 @@ ghost use Rattle.rdm_device.specs.Device.Values.{bytes_of, word_slots};
 pub use crate::columns::replies::lists::{languages, slot_defaults, slot_infos};
 use crate::device::Place;
 use crate::device::footprint::footprint;
-use crate::device::state::{Common, Measured, Own};
+use crate::device::state::{CommonValues, Measured, RootValues};
 use crate::value::argument::Argument;
 use crate::value::writing::write_into;
 use crate::{Profile, SelfTest, StatusText, Value};
@@ -92,7 +92,7 @@ pub fn at_factory_defaults(place: &Place<'_>, body: &mut Body)
 }
 
 #[tactic(auto, unfolding(crate::specs::Views::State::common_entries, crate::specs::Views::State::own_entries, crate::specs::Device::Parameters::common_at_start, crate::specs::Device::Parameters::own_at_start))]
-fn is_set_back(profile: &Profile, common: &Common, own: &Own) -> bool
+fn is_set_back(profile: &Profile, common: &CommonValues, own: &RootValues) -> bool
     ensures { result ≡ list_all (λ pid. bytes_eq (lookup (common_entries common.now ++ own_entries own.now) pid 0)
         (lookup (root_at_start profile.now) pid 0)) factory_pids }
 {

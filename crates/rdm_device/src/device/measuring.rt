@@ -6,12 +6,12 @@ ghost use Rattle.rdm_device.specs.Device.Map.{update};
 ghost use Rattle.rdm_device.specs.Device.Measuring.{measured, measured_by};
 ghost use Rattle.rdm_device.specs.Views.State.{own_entries, sensor_entries, measured_slots};
 
-use crate::device::state::{Measured, Own};
+use crate::device::state::{Measured, RootValues};
 
 /// Makes a value the present one of the sensor of this number, if there is one, and takes it into the lowest and the
 /// highest value.
 #[tactic(auto, unfolding(crate::specs::Views::State::own_entries))]
-pub fn measure(own: &mut Own, number: u8, value: i16)
+pub fn measure(own: &mut RootValues, number: u8, value: i16)
     ensures { own_entries own.new ≡ update (measured_by number value) (own_entries own.old) }
 {
     measure_among(own.sensors.as_mut_slice(), number as usize, value);

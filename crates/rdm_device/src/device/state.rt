@@ -8,7 +8,7 @@ use rdm_frame::Text;
 
 /// What every device keeps (E1.20 section 10).
 #[derive(Debug, Drop)]
-pub struct Common {
+pub struct CommonValues {
     /// The least rank of the status entries that are noted, or 0.
     pub report_threshold: u8,
     /// The label (section 10.5.5).
@@ -31,16 +31,16 @@ pub struct Common {
     pub power_state: u8,
 }
 
-impl Common {
+impl CommonValues {
     ghost use Rattle.rdm_device.specs.Device.Parameters.{common_at_start};
     ghost use Rattle.rdm_device.specs.Views.State.{common_entries};
 
     /// What a device starts with.
     #[tactic(auto, unfolding(crate::specs::Views::State::common_entries, crate::specs::Device::Parameters::common_at_start))]
-    pub fn at_start(unit: &Unit) -> Common
+    pub fn at_start(unit: &Unit) -> CommonValues
         ensures { common_entries result ≡ common_at_start unit.now }
     {
-        Common {
+        CommonValues {
             report_threshold: 2,
             label: unit.label.copy(),
             personality: 1,
@@ -70,7 +70,7 @@ pub struct Measured {
 
 /// What the root device keeps beside it.
 #[derive(Debug, Drop)]
-pub struct Own {
+pub struct RootValues {
     /// The code of the language, of two letters (section 10.5.8).
     pub language: u16,
     /// The hours that the device was on (section 10.8.1).
@@ -95,16 +95,16 @@ pub struct Own {
     pub sensors: ArrayVec<Measured, 8>,
 }
 
-impl Own {
+impl RootValues {
     ghost use Rattle.rdm_device.specs.Device.Parameters.{own_at_start, sensors_at_start};
     ghost use Rattle.rdm_device.specs.Views.State.{own_entries, sensor_entries};
 
     /// What the root starts with.
     #[tactic(auto, unfolding(crate::specs::Views::State::own_entries, crate::specs::Device::Parameters::own_at_start))]
-    pub fn at_start(profile: &Profile) -> Own
+    pub fn at_start(profile: &Profile) -> RootValues
         ensures { own_entries result ≡ own_at_start profile.now }
     {
-        Own {
+        RootValues {
             language: profile.languages.first().copied().unwrap_or(0),
             device_hours: 0,
             power_cycles: 0,
@@ -115,7 +115,7 @@ impl Own {
             pan_tilt_swap: 0,
             self_test: 0,
             preset: (0, 0),
-            sensors: Own::sensors_at_start(&profile.sensors),
+            sensors: RootValues::sensors_at_start(&profile.sensors),
         }
     }
 

@@ -12,12 +12,12 @@ use std::marker::Model;
 /// The value that a command hands in, whose text stays where it lies: so it is cheap to move. A contract sees the value.
 #[derive(Debug, Drop)]
 pub struct Argument<'a> {
-    pub(crate) handed: Handed<'a>,
+    pub(crate) value: ValueRef<'a>,
 }
 
-/// The forms of what is handed in.
+/// The forms of such a value.
 #[derive(Debug, Drop)]
-pub(crate) enum Handed<'a> {
+pub(crate) enum ValueRef<'a> {
     /// No data.
     Nothing,
     /// An 8-bit number.
@@ -35,13 +35,13 @@ pub(crate) enum Handed<'a> {
 impl<'a> Model for Argument<'a> {
     ghost use Rattle.std.specs.Prelude.{◌≤◌};
     ghost use Rattle.rdm_device.specs.declared.value.Value.{Value as TheValue};
-    ghost use Rattle.rdm_device.specs.Views.Handed.{handed_value, text_length};
+    ghost use Rattle.rdm_device.specs.Views.ValueRef.{value_of_ref, text_length};
 
     ghost Value = { TheValue };
 
-    ghost view = { λ a. handed_value a.handed };
+    ghost view = { λ a. value_of_ref a.value };
 
-    ghost invariant = { λ a. text_length a.handed ≤ 32 };
+    ghost invariant = { λ a. text_length a.value ≤ 32 };
 }
 
 impl<'a> Argument<'a> {
@@ -49,16 +49,16 @@ impl<'a> Argument<'a> {
     pub fn of(value: &'a Value) -> Option<Self>
         ensures { result ≡ if is_of_a_form value.now then Some value.now else None }
     {
-        let handed = match value {
-            Value::Nothing => Handed::Nothing,
-            Value::Byte(number) => Handed::Byte(*number),
-            Value::Word(number) => Handed::Word(*number),
-            Value::Long(number) => Handed::Long(*number),
-            Value::Preset { mode, level } => Handed::Preset(*mode, *level),
-            Value::Label(text) => Handed::Label(text.as_slice()),
+        let value = match value {
+            Value::Nothing => ValueRef::Nothing,
+            Value::Byte(number) => ValueRef::Byte(*number),
+            Value::Word(number) => ValueRef::Word(*number),
+            Value::Long(number) => ValueRef::Long(*number),
+            Value::Preset { mode, level } => ValueRef::Preset(*mode, *level),
+            Value::Label(text) => ValueRef::Label(text.as_slice()),
             _ => return None,
         };
-        Some(Argument { handed })
+        Some(Argument { value })
     }
 
     /// No data.
@@ -67,7 +67,7 @@ impl<'a> Argument<'a> {
         ensures { result ≡ Nothing }
     {
         Argument {
-            handed: Handed::Nothing,
+            value: ValueRef::Nothing,
         }
     }
 
@@ -77,7 +77,7 @@ impl<'a> Argument<'a> {
         ensures { result ≡ Word number }
     {
         Argument {
-            handed: Handed::Word(number),
+            value: ValueRef::Word(number),
         }
     }
 
@@ -88,7 +88,7 @@ impl<'a> Argument<'a> {
         ensures { result ≡ Label text.now }
     {
         Argument {
-            handed: Handed::Label(text),
+            value: ValueRef::Label(text),
         }
     }
 
@@ -98,7 +98,7 @@ impl<'a> Argument<'a> {
         ensures { result ≡ Byte number }
     {
         Argument {
-            handed: Handed::Byte(number),
+            value: ValueRef::Byte(number),
         }
     }
 
@@ -106,16 +106,16 @@ impl<'a> Argument<'a> {
     pub fn to_value(&self) -> Value
         ensures { result ≡ self.now }
     {
-        match &self.handed {
-            Handed::Nothing => Value::Nothing,
-            Handed::Byte(number) => Value::Byte(*number),
-            Handed::Word(number) => Value::Word(*number),
-            Handed::Long(number) => Value::Long(*number),
-            Handed::Preset(mode, level) => Value::Preset {
+        match &self.value {
+            ValueRef::Nothing => Value::Nothing,
+            ValueRef::Byte(number) => Value::Byte(*number),
+            ValueRef::Word(number) => Value::Word(*number),
+            ValueRef::Long(number) => Value::Long(*number),
+            ValueRef::Preset(mode, level) => Value::Preset {
                 mode: *mode,
                 level: *level,
             },
-            Handed::Label(bytes) => Value::Label(Text::of(bytes)),
+            ValueRef::Label(bytes) => Value::Label(Text::of(bytes)),
         }
     }
 
@@ -124,7 +124,7 @@ impl<'a> Argument<'a> {
     pub fn is_nothing(&self) -> bool
         ensures { result ≡ has_form nothing self.now }
     {
-        matches!(&self.handed, Handed::Nothing)
+        matches!(&self.value, ValueRef::Nothing)
     }
 
     /// Whether the value is a text.
@@ -132,7 +132,7 @@ impl<'a> Argument<'a> {
     pub fn is_label(&self) -> bool
         ensures { result ≡ has_form label self.now }
     {
-        matches!(&self.handed, Handed::Label(_))
+        matches!(&self.value, ValueRef::Label(_))
     }
 
     /// The 8-bit number, if the value is one.
@@ -140,8 +140,8 @@ impl<'a> Argument<'a> {
     pub fn byte(&self) -> Option<u8>
         ensures { result ≡ byte_in self.now }
     {
-        match &self.handed {
-            Handed::Byte(number) => Some(*number),
+        match &self.value {
+            ValueRef::Byte(number) => Some(*number),
             _ => None,
         }
     }
@@ -151,8 +151,8 @@ impl<'a> Argument<'a> {
     pub fn word(&self) -> Option<u16>
         ensures { result ≡ word_in self.now }
     {
-        match &self.handed {
-            Handed::Word(number) => Some(*number),
+        match &self.value {
+            ValueRef::Word(number) => Some(*number),
             _ => None,
         }
     }
@@ -162,8 +162,8 @@ impl<'a> Argument<'a> {
     pub fn long(&self) -> Option<u32>
         ensures { result ≡ long_in self.now }
     {
-        match &self.handed {
-            Handed::Long(number) => Some(*number),
+        match &self.value {
+            ValueRef::Long(number) => Some(*number),
             _ => None,
         }
     }
@@ -173,8 +173,8 @@ impl<'a> Argument<'a> {
     pub fn preset(&self) -> Option<(u16, u8)>
         ensures { result ≡ preset_in self.now }
     {
-        match &self.handed {
-            Handed::Preset(mode, level) => Some((*mode, *level)),
+        match &self.value {
+            ValueRef::Preset(mode, level) => Some((*mode, *level)),
             _ => None,
         }
     }
@@ -184,8 +184,8 @@ impl<'a> Argument<'a> {
     pub fn label(&self) -> Option<Text>
         ensures { result ≡ label_in self.now }
     {
-        match &self.handed {
-            Handed::Label(bytes) => Some(Text::of(bytes)),
+        match &self.value {
+            ValueRef::Label(bytes) => Some(Text::of(bytes)),
             _ => None,
         }
     }

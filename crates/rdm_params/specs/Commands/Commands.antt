@@ -11,17 +11,17 @@ use Rattle.rdm_device.specs.declared.profile.Profile.{Profile}
 use Rattle.rdm_device.specs.declared.value.Value.{Value}
 use Rattle.rdm_params.specs.declared.verdict.Verdict.{Verdict}
 use Rattle.rdm_params.specs.declared.verdict.Verdict.TheVariants.{Reply, Start, Queue, Status, Clear, Refuse}
-use Rattle.rdm_params.specs.declared.slow.ask.Ask.{Ask}
-use Rattle.rdm_params.specs.declared.slow.way.Way.{Way}
-use Rattle.rdm_params.specs.declared.slow.way.Way.TheVariants.{AtOnce, ByJob, FromQueue, FromStatus, Clears}
-use Rattle.rdm_params.specs.declared.slow.work.Work.{Work}
+use Rattle.rdm_params.specs.declared.jobs.ask.Ask.{Ask}
+use Rattle.rdm_params.specs.declared.jobs.way.Way.{Way}
+use Rattle.rdm_params.specs.declared.jobs.way.Way.TheVariants.{AtOnce, ByJob, FromQueue, FromStatus, Clears}
+use Rattle.rdm_params.specs.declared.jobs.work.Work.{Work}
 use Rattle.rdm_params.specs.Table.Kinds.{pid_of}
 use Rattle.rdm_device.specs.Device.Map.{Entry, update}
 use Rattle.rdm_device.specs.Device.Parameters.{Parameters}
 use Rattle.rdm_device.specs.Device.Spot.{Spot}
 use Rattle.rdm_params.specs.Table.Rows.{Command, row_of, command_in}
 use Rattle.rdm_params.specs.Table.Uses.{access, read, way_of, is_slow, in_range_of, change, reply}
-use Rattle.rdm_params.specs.Slow.Asks.{ask_of}
+use Rattle.rdm_params.specs.Jobs.Asks.{ask_of}
 use Rattle.rdm_device.specs.Device.Values.{byte_or_0}
 
 -- the root
@@ -78,9 +78,9 @@ suits p sub pid verb value = do
   in_range ← check (list_all (λ spot. in_range_of (command_of pid verb) spot value) (addressed p sub verb)) DataOutOfRange
   check (not (is_all_call sub verb && is_slow (command_of pid verb))) SubDeviceOutOfRange
 
--- Rules 9 and 10 at one device: the value that the data hand in there. Rule 9 is that they have the length of the command.
-abbrev pub handed_in : Option Command → Spot → List ℕ → Result Value Nack
-handed_in command spot bytes = do
+-- Rules 9 and 10 at one device: the value that the data stand for. Rule 9 is that they have the length of the command.
+abbrev pub read_data_at : Option Command → Spot → List ℕ → Result Value Nack
+read_data_at command spot bytes = do
   value ← read command bytes
   in_range ← check (in_range_of command spot value) DataOutOfRange
   Ok value
@@ -91,17 +91,17 @@ taken p sub pid verb value = do
   fits ← suits p sub pid verb value
   Ok value
 
--- Rules 9 to 11: the value that the data hand in at all devices that are addressed.
-abbrev pub suited : Parameters → ℕ → ℕ → Verb → List ℕ → Result Value Nack
-suited p sub pid verb bytes = do
+-- Rules 9 to 11: the value that the data stand for, at all devices that are addressed.
+abbrev pub read_data : Parameters → ℕ → ℕ → Verb → List ℕ → Result Value Nack
+read_data p sub pid verb bytes = do
   value ← read (command_of pid verb) bytes
   taken p sub pid verb value
 
--- Rules 6 to 11: the value that a command hands in, or the first reason to refuse it.
+-- Rules 6 to 11: the value that the data of a command stand for, or the first reason to refuse it.
 unfoldable pub accepted : Parameters → ℕ → ℕ → Verb → List ℕ → Result Value Nack
 accepted p sub pid verb bytes = do
   found ← known p sub pid verb
-  suited p sub pid verb bytes
+  read_data p sub pid verb bytes
 
 -- Whether a value is in the range of a command at each device that it addresses; it is not where there is none, or
 -- where these have no such parameter or command.

@@ -4,7 +4,7 @@ use Rattle.std.specs.Prelude.{ℕ, Bool, Option, Some, None, if◌then◌else◌
 use Rattle.rdm_params.specs.declared.kind.Verb.TheVariants.{Get, Set}
 use Rattle.rdm_params.specs.declared.panel.Change.{Change}
 use Rattle.rdm_params.specs.declared.panel.Change.TheVariants as changes
-use Rattle.rdm_params.specs.declared.slow.message.Message.{Message}
+use Rattle.rdm_params.specs.declared.jobs.message.Message.{Message}
 use Rattle.rdm_device.specs.declared.value.Value.{Value}
 use Rattle.rdm_device.specs.declared.value.Value.TheVariants.{Nothing, Byte, Word, Label}
 use Rattle.rdm_params.specs.Commands.Commands.{command_of, carried_out, addressed, reply_at, root_spot}

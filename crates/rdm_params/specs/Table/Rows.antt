@@ -3,8 +3,8 @@ use Rattle.std.specs.Prelude.{ℕ, Bool, true, false, ◌==◌, ◌&&◌, ◌||�
 use Rattle.std.specs.List.{list_any}
 use Rattle.rdm_params.specs.declared.kind.Verb.{Verb}
 use Rattle.rdm_params.specs.declared.kind.Verb.TheVariants.{Get, Set}
-use Rattle.rdm_params.specs.declared.slow.way.Way.{Way}
-use Rattle.rdm_params.specs.declared.slow.way.Way.TheVariants.{AtOnce, ByJob, FromQueue, FromStatus, Clears}
+use Rattle.rdm_params.specs.declared.jobs.way.Way.{Way}
+use Rattle.rdm_params.specs.declared.jobs.way.Way.TheVariants.{AtOnce, ByJob, FromQueue, FromStatus, Clears}
 use Rattle.rdm_device.specs.declared.value.Value.{Value}
 use Rattle.rdm_device.specs.Columns.Changes.{Change, unchanged, stored_at, set_back, sensors_reset, sensors_recorded}
 use Rattle.rdm_device.specs.Columns.Forms.{Form, nothing, byte, word, long, preset, label}

@@ -4,7 +4,7 @@ use Rattle.rdm_params.specs.declared.verdict.Answer.{Answer}
 use Rattle.rdm_params.specs.declared.verdict.Answer.TheVariants.{Done, Starts, Queues, Statuses, Clears, Refused}
 use Rattle.rdm_params.specs.declared.verdict.Verdict.{Verdict}
 use Rattle.rdm_params.specs.declared.verdict.Verdict.TheVariants.{Reply, Start, Queue, Status, Clear, Refuse}
-use Rattle.rdm_params.specs.Slow.Work.{worker_of, estimate_of}
+use Rattle.rdm_params.specs.Jobs.Work.{worker_of, estimate_of}
 
 -- an answer with the data of its reply; one that is no reply has none
 abbrev pub verdict_with : Answer → List ℕ → Verdict

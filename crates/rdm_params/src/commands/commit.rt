@@ -6,7 +6,7 @@ ghost use Rattle.rdm_device.specs.declared.value.Value.TheVariants.{Byte};
 ghost use Rattle.rdm_params.specs.Commands.Commands.{command_of, carried_out};
 ghost use Rattle.rdm_device.specs.Device.Map.{update};
 ghost use Rattle.rdm_device.specs.Device.Measuring.{measured_by};
-ghost use Rattle.rdm_params.specs.Slow.Commit.{after_commit, committed, set_response, get_response};
+ghost use Rattle.rdm_params.specs.Jobs.Commit.{after_commit, committed, set_response, get_response};
 ghost use Rattle.rdm_params.specs.Table.Uses.{is_slow};
 
 use super::Devices;
@@ -22,7 +22,7 @@ impl Devices {
     /// `Done` carries out the SET, and the message is its response, without data. With `Reading` the sensor shows what
     /// it measured, and after `Failed` nothing has changed: the message is then the response to a GET, with the data
     /// that it reads now.
-    #[tactic(auto, unfolding(crate::specs::Slow::Commit::after_commit, crate::specs::Slow::Commit::committed))]
+    #[tactic(auto, unfolding(crate::specs::Jobs::Commit::after_commit, crate::specs::Jobs::Commit::committed))]
     pub fn commit(&mut self, work: &Work, outcome: Outcome) -> Message
         requires { is_slow (command_of work.now.pid work.now.verb) ≡ true }
         ensures message { result ≡ committed self.old work.now outcome }

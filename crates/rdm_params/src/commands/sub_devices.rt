@@ -12,16 +12,20 @@ ghost use Rattle.rdm_params.specs.Table.Uses.{in_range_of};
 use crate::table::store::store_common;
 use crate::table::within::is_in_range;
 use crate::{Kind, Profile, Unit, Verb};
-use rdm_device::{Argument, Common, Place};
+use rdm_device::{Argument, CommonValues, Place};
 use std::alloc::{AllocError, Global};
 
 /// As many sub-devices, with the values that they start with.
-pub(crate) fn start_each(alloc: Global, unit: &Unit, count: u16) -> Result<Vec<Common>, AllocError>
+pub(crate) fn start_each(
+    alloc: Global,
+    unit: &Unit,
+    count: u16,
+) -> Result<Vec<CommonValues>, AllocError>
     ensures { IfOk result (λ subs. map common_entries subs.items ≡ replicate count (common_at_start unit.now)) }
 {
     let mut subs = Vec::new(alloc);
     for _ in 0..count {
-        subs.push(Common::at_start(unit))?;
+        subs.push(CommonValues::at_start(unit))?;
     }
     Ok(subs)
 }
@@ -31,7 +35,7 @@ pub(crate) fn all_in_range<'a>(
     profile: &'a Profile,
     kind: Kind,
     verb: Verb,
-    subs: &'a [Common],
+    subs: &'a [CommonValues],
     value: &Argument<'_>,
 ) -> bool
     ensures { result ≡ list_all (λ spot. in_range_of (command_of (pid_of kind) verb) spot value.now)
@@ -52,7 +56,12 @@ pub(crate) fn all_in_range<'a>(
 }
 
 /// Carries out a SET at every sub-device.
-pub(crate) fn store_each(kind: Kind, value: &Argument<'_>, profile: &Profile, subs: &mut [Common])
+pub(crate) fn store_each(
+    kind: Kind,
+    value: &Argument<'_>,
+    profile: &Profile,
+    subs: &mut [CommonValues],
+)
     ensures { map common_entries subs.new
         ≡ map (λ entries. written (command_of (pid_of kind) Set) value.now (profile_sub_spot profile.now entries)) (map common_entries subs.old) }
 {
@@ -66,7 +75,7 @@ pub(crate) fn store_at(
     kind: Kind,
     value: &Argument<'_>,
     profile: &Profile,
-    subs: &mut [Common],
+    subs: &mut [CommonValues],
     index: usize,
 )
     ensures { map common_entries subs.new

@@ -6,7 +6,7 @@ ghost use Rattle.rdm_params.specs.Table.Kinds.{pid_of};
 ghost use Rattle.rdm_params.specs.Table.Rows.{row_of};
 ghost use Rattle.rdm_params.specs.Table.Uses.{access, way_of, is_bare};
 
-use crate::slow::Way;
+use crate::jobs::Way;
 use crate::table::rows;
 use crate::{Kind, Nack, Verb};
 

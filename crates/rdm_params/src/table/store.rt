@@ -11,7 +11,7 @@ ghost use Rattle.rdm_params.specs.Table.Uses.{after_store};
 use crate::table::rows;
 use crate::{Kind, Profile};
 use rdm_device::columns::changes;
-use rdm_device::{Argument, Common, Own};
+use rdm_device::{Argument, CommonValues, RootValues};
 use rdm_frame::Text;
 
 macro_rules! common_rows {
@@ -70,7 +70,12 @@ macro_rules! write_own {
 
 /// Writes what a SET writes of the values that every device keeps.
 #[tactic(auto, unfolding(crate::specs::Table::Rows::row_of, crate::specs::Table::Rows::table, rdm_device::specs::Views::State::common_entries))]
-pub(crate) fn store_common(kind: Kind, value: &Argument<'_>, profile: &Profile, common: &mut Common)
+pub(crate) fn store_common(
+    kind: Kind,
+    value: &Argument<'_>,
+    profile: &Profile,
+    common: &mut CommonValues,
+)
     ensures { (spot : Spot) → spot.profile ≡ profile.now
         → common_entries common.new ≡ after_store (row_of (pid_of kind)) spot value.now (common_entries common.old) }
 {
@@ -79,7 +84,7 @@ pub(crate) fn store_common(kind: Kind, value: &Argument<'_>, profile: &Profile, 
 
 /// Writes what a SET writes of the values that the root alone keeps.
 #[tactic(auto, unfolding(crate::specs::Table::Rows::row_of, crate::specs::Table::Rows::table, rdm_device::specs::Views::State::own_entries), using(rdm_device::proofs::Sensors::sensors_stay))]
-pub(crate) fn store_own(kind: Kind, value: &Argument<'_>, profile: &Profile, own: &mut Own)
+pub(crate) fn store_own(kind: Kind, value: &Argument<'_>, profile: &Profile, own: &mut RootValues)
     ensures { (spot : Spot) → spot.profile ≡ profile.now
         → own_entries own.new ≡ after_store (row_of (pid_of kind)) spot value.now (own_entries own.old) }
 {

@@ -1,6 +1,6 @@
 use Rattle.std.proofs.Common.{◌≡◌, ◌<◌, arith}
 use Rattle.std.proofs.lemmas.Grind.{common_steps}
-use Rattle.rdm_params.specs.Slow.Work.{worker_of}
+use Rattle.rdm_params.specs.Jobs.Work.{worker_of}
 use Rattle.rdm_params.proofs.TwoWorkers.{there_are_two_workers}
 use Rattle.rdm_outbox.proofs.outbox.Outbox.reserve_for.Goals as goal
 

@@ -1,7 +1,7 @@
 use Rattle.std.proofs.Common.{length, refl, sym, ap, subst, ◌∙◌}
 use Rattle.std.specs.Prelude.{nat_lt}
-use Rattle.rdm_params.specs.declared.slow.message.Message.{Message}
-use Rattle.rdm_params.specs.Slow.Commit.{after_commit, committed}
+use Rattle.rdm_params.specs.declared.jobs.message.Message.{Message}
+use Rattle.rdm_params.specs.Jobs.Commit.{after_commit, committed}
 use Rattle.rdm_outbox.specs.Jobs.{after_arrive}
 use Rattle.rdm_outbox.specs.Shows as outbox_state
 use Rattle.rdm_responder.specs.History.{Arrived}

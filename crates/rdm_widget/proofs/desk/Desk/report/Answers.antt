@@ -1,7 +1,7 @@
 use Rattle.std.proofs.Common.{◌≡◌, ◌∙◌, true, List, sym, ap, subst}
-use Rattle.rdm_params.specs.declared.slow.outcome.Outcome.{Outcome}
-use Rattle.rdm_params.specs.Slow.Outcome.{fits}
-use Rattle.rdm_params.specs.Slow.Work.{worker_of}
+use Rattle.rdm_params.specs.declared.jobs.outcome.Outcome.{Outcome}
+use Rattle.rdm_params.specs.Jobs.Outcome.{fits}
+use Rattle.rdm_params.specs.Jobs.Work.{worker_of}
 use Rattle.rdm_outbox.specs.declared.job.Job.{Job}
 use Rattle.rdm_responder.specs.declared.report.Report.{Report}
 use Rattle.rdm_responder.specs.declared.report.Astray.{Astray}

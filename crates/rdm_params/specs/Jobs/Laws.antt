@@ -1,0 +1,75 @@
+-- Laws of slow commands and of what is fetched, for all devices and commands.
+use Rattle.std.specs.Prelude.{◌≡◌, ◌≢◌, ℕ, true, List, length}
+use Rattle.rdm_params.specs.declared.kind.Verb.{Verb}
+use Rattle.rdm_params.specs.declared.kind.Verb.TheVariants.{Get, Set}
+use Rattle.rdm_params.specs.declared.jobs.ask.Ask.{Ask}
+use Rattle.rdm_params.specs.declared.jobs.ask.Ask.TheVariants as asks
+use Rattle.rdm_params.specs.declared.jobs.outcome.Outcome.{Outcome}
+use Rattle.rdm_params.specs.declared.jobs.work.Work.{Work}
+use Rattle.rdm_params.specs.declared.panel.Change.{Change}
+use Rattle.rdm_params.specs.declared.verdict.Verdict.TheVariants.{Start, Queue, Status, Clear}
+use Rattle.rdm_params.specs.Commands.Commands.{command_of, accepted, got, answer_to_set, after_set}
+use Rattle.rdm_params.specs.Commands.Panel.{after_change}
+use Rattle.rdm_device.specs.Device.Parameters.{Parameters}
+use Rattle.rdm_params.specs.Jobs.Commit.{after_commit}
+use Rattle.rdm_params.specs.Jobs.Work.{IsAccepted}
+use Rattle.rdm_params.specs.Table.Uses.{is_slow}
+
+-- They have one profile and as many sub-devices, whatever their values are.
+pub record SameDevices (p q : Parameters) : Type 0 where
+  pub profile : q.profile ≡ p.profile
+  pub subs : length q.subs ≡ length p.subs
+
+-- What is accepted as a slow command is accepted whatever the values are.
+abbrev pub StaysAccepted : Type 0
+StaysAccepted =
+    (p q : Parameters) (sub pid : ℕ) (verb : Verb) (bytes : List ℕ)
+    → SameDevices p q → is_slow (command_of pid verb) ≡ true → accepted q sub pid verb bytes ≡ accepted p sub pid verb bytes
+
+-- No SET, end of a job or change at the menu changes the profile, or how many sub-devices there are.
+abbrev pub SetKeepsDevices : Type 0
+SetKeepsDevices = (p : Parameters) (sub pid : ℕ) (bytes : List ℕ) → SameDevices p (after_set p sub pid bytes)
+
+abbrev pub CommitKeepsDevices : Type 0
+CommitKeepsDevices = (p : Parameters) (w : Work) (outcome : Outcome) → SameDevices p (after_commit p w outcome)
+
+abbrev pub PanelKeepsDevices : Type 0
+PanelKeepsDevices = (p : Parameters) (change : Change) → SameDevices p (after_change p change)
+
+-- A work is that of this command, a slow one that the devices accept.
+pub record IsWorkOf (p : Parameters) (sub pid : ℕ) (verb : Verb) (w : Work) : Type 0 where
+  pub same_sub : w.sub ≡ sub
+  pub same_pid : w.pid ≡ pid
+  pub same_verb : w.verb ≡ verb
+  pub accepted : IsAccepted p w
+
+-- The work that a GET or a SET starts is that of the command.
+abbrev pub GetStartsItsWork : Type 0
+GetStartsItsWork = (p : Parameters) (sub pid : ℕ) (bytes : List ℕ) (w : Work) → got p sub pid bytes ≡ Start w → IsWorkOf p sub pid Get w
+
+abbrev pub SetStartsItsWork : Type 0
+SetStartsItsWork =
+    (p : Parameters) (sub pid : ℕ) (bytes : List ℕ) (w : Work) → answer_to_set p sub pid bytes ≡ Start w → IsWorkOf p sub pid Set w
+
+-- QUEUED_MESSAGE alone asks for what waits, and never for nothing. Section 10.3.1.
+abbrev pub GetQueues : Type 0
+GetQueues =
+    (p : Parameters) (sub pid : ℕ) (bytes : List ℕ) (ask : Ask)
+    → got p sub pid bytes ≡ Queue ask → (pid ≡ 0x0020) × (ask ≢ asks.None)
+
+-- STATUS_MESSAGES alone asks for status entries. Section 10.3.2.
+abbrev pub GetStatuses : Type 0
+GetStatuses = (p : Parameters) (sub pid : ℕ) (bytes : List ℕ) (ask : Ask) → got p sub pid bytes ≡ Status ask → pid ≡ 0x0030
+
+-- A SET asks for neither.
+abbrev pub SetFetchesNothing : Type 0
+SetFetchesNothing =
+    (p : Parameters) (sub pid : ℕ) (bytes : List ℕ) (ask : Ask)
+    → (answer_to_set p sub pid bytes ≢ Queue ask) × (answer_to_set p sub pid bytes ≢ Status ask)
+
+-- A SET of CLEAR_STATUS_ID alone clears status entries. Section 10.3.4.
+abbrev pub SetClears : Type 0
+SetClears = (p : Parameters) (sub pid : ℕ) (bytes : List ℕ) → answer_to_set p sub pid bytes ≡ Clear → pid ≡ 0x0032
+
+abbrev pub GetClearsNothing : Type 0
+GetClearsNothing = (p : Parameters) (sub pid : ℕ) (bytes : List ℕ) → got p sub pid bytes ≢ Clear

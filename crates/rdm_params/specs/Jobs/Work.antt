@@ -1,0 +1,30 @@
+-- Slow commands: which worker has the job, how long it takes, and which work is accepted. E1.20 section 6.3.3.
+use Rattle.std.specs.Prelude.{◌≡◌, ℕ, true, [], ◌∷◌, Ok}
+use Rattle.rdm_params.specs.declared.jobs.way.Way.{Way}
+use Rattle.rdm_params.specs.declared.jobs.way.Way.TheVariants.{ByJob}
+use Rattle.rdm_params.specs.declared.jobs.work.Work.{Work}
+use Rattle.rdm_device.specs.declared.value.Value.TheVariants.{Byte}
+use Rattle.rdm_params.specs.Commands.Commands.{command_of, accepted}
+use Rattle.rdm_device.specs.Device.Parameters.{Parameters}
+use Rattle.rdm_params.specs.Table.Uses.{way_of, is_slow}
+
+abbrev pub worker_in : Way → ℕ
+worker_in (ByJob worker estimate) = worker
+worker_in _ = 1
+
+abbrev pub estimate_in : Way → ℕ
+estimate_in (ByJob worker estimate) = estimate
+estimate_in _ = 0
+
+-- the worker that has the job, and 1 where the work is no slow command
+abbrev pub worker_of : Work → ℕ
+worker_of w = worker_in (way_of (command_of w.pid w.verb))
+
+-- how long the job takes, in tenths of a second, and 0 where the work is no slow command
+abbrev pub estimate_of : Work → ℕ
+estimate_of w = estimate_in (way_of (command_of w.pid w.verb))
+
+-- The work is a slow command that these devices accept.
+pub record IsAccepted (p : Parameters) (w : Work) : Type 0 where
+  pub slow : is_slow (command_of w.pid w.verb) ≡ true
+  pub command : accepted p w.sub w.pid w.verb (w.arg ∷ []) ≡ Ok (Byte w.arg)

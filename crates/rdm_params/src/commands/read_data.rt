@@ -1,0 +1,88 @@
+//! What the data of a command stand for.
+
+ghost use Rattle.std.specs.Prelude.{Some, ◌≡◌, ◌≤◌, length, slice_get, true, IfSome};
+ghost use Rattle.rdm_params.specs.Commands.Commands.{read_data, suits, read_data_at, addressed, command_of, is_all_call};
+ghost use Rattle.rdm_params.specs.Table.Kinds.{pid_of};
+ghost use Rattle.rdm_params.specs.Table.Uses.{way_of, is_bare, in_range_of};
+
+use super::{Devices, is_all_call};
+use crate::commands::sub_devices::all_in_range;
+use crate::table::find::Found;
+use crate::table::read::read_argument;
+use crate::table::within::is_in_range;
+use crate::{Nack, Verb};
+use rdm_device::columns::forms;
+use rdm_device::{Argument, Place};
+
+impl Devices {
+    /// The value that the data of a command stand for, if the devices that it is for can take that, or the first reason why not.
+    #[inline(always)]
+    #[tactic(auto, using(crate::proofs::ReadData::one_device, crate::proofs::ReadData::refused_first, crate::proofs::ReadData::refused_later, crate::proofs::ReadData::taken_by_all))]
+    pub(super) fn read_data<'a>(
+        &self,
+        sub: u16,
+        verb: Verb,
+        found: Found,
+        place: &Place<'_>,
+        data: &'a [u8],
+    ) -> Result<Argument<'a>, Nack>
+        requires first { slice_get (addressed self.now sub verb) 0 ≡ Some place.now }
+        requires way { found.way ≡ way_of (command_of (pid_of found.kind) verb) }
+        requires bare { found.is_bare ≡ is_bare (command_of (pid_of found.kind) verb) }
+        ensures { result ≡ read_data self.now sub (pid_of found.kind) verb data.now }
+    {
+        let value = read_data_at(verb, found, place, data)?;
+        if is_all_call(sub, verb) {
+            self.suits_each(sub, verb, found, &value)?;
+        }
+        Ok(value)
+    }
+
+    /// Whether every sub-device can take a value at once, if the first can, or the first reason why not.
+    // A call, so that the other commands don't make room for it.
+    #[inline(never)]
+    fn suits_each(
+        &self,
+        sub: u16,
+        verb: Verb,
+        found: Found,
+        value: &Argument<'_>,
+    ) -> Result<(), Nack>
+        requires all { is_all_call sub verb ≡ true }
+        requires some { 1 ≤ length self.now.subs }
+        requires first { IfSome (slice_get (addressed self.now sub verb) 0) (λ spot. in_range_of (command_of (pid_of found.kind) verb) spot value.now ≡ true) }
+        requires way { found.way ≡ way_of (command_of (pid_of found.kind) verb) }
+        ensures { result ≡ suits self.now sub (pid_of found.kind) verb value.now }
+    {
+        // The first has been asked.
+        if !all_in_range(&self.profile, found.kind, verb, &self.subs[1..], value) {
+            return Err(Nack::DataOutOfRange);
+        }
+        if found.way.is_by_job() {
+            return Err(Nack::SubDeviceOutOfRange);
+        }
+        Ok(())
+    }
+}
+
+/// The value that the data of a command stand for, if that is in range at the device.
+#[inline(always)]
+#[tactic(auto, using(crate::proofs::ReadData::bare_command))]
+fn read_data_at<'a>(
+    verb: Verb,
+    found: Found,
+    place: &Place<'_>,
+    data: &'a [u8],
+) -> Result<Argument<'a>, Nack>
+    requires { found.is_bare ≡ is_bare (command_of (pid_of found.kind) verb) }
+    ensures { result ≡ read_data_at (command_of (pid_of found.kind) verb) place.now data.now }
+{
+    if found.is_bare {
+        return forms::nothing(data).ok_or(Nack::FormatError);
+    }
+    let value = read_argument(found.kind, verb, data)?;
+    if !is_in_range(found.kind, verb, place, &value) {
+        return Err(Nack::DataOutOfRange);
+    }
+    Ok(value)
+}

@@ -1,0 +1,32 @@
+//! Laws of slow commands and of what is fetched. Each is the contract of a call that does nothing.
+
+ghost use Rattle.rdm_params.specs.Jobs.Laws.{StaysAccepted, SetKeepsDevices, CommitKeepsDevices, GetStartsItsWork};
+ghost use Rattle.rdm_params.specs.Jobs.Laws.{SetStartsItsWork, GetQueues, GetStatuses, SetFetchesNothing};
+ghost use Rattle.rdm_params.specs.Jobs.Laws.{PanelKeepsDevices, SetClears, GetClearsNothing};
+
+/// A slow command that is accepted stays so, whatever is set, whatever jobs end and whatever a person changes.
+pub fn slow_command_stays_accepted()
+    ensures accepted { StaysAccepted }
+    ensures set { SetKeepsDevices }
+    ensures commit { CommitKeepsDevices }
+    ensures panel { PanelKeepsDevices }
+{}
+
+/// The work that a command starts has its sub-device, PID and verb, and is accepted as a slow command.
+pub fn started_work_is_its_command()
+    ensures get { GetStartsItsWork }
+    ensures set { SetStartsItsWork }
+{}
+
+/// QUEUED_MESSAGE and STATUS_MESSAGES are the GETs that fetch what waits for the controller; no SET does.
+pub fn two_commands_fetch()
+    ensures queue { GetQueues }
+    ensures status { GetStatuses }
+    ensures set { SetFetchesNothing }
+{}
+
+/// A SET of CLEAR_STATUS_ID is the one command that clears status entries.
+pub fn one_command_clears()
+    ensures set { SetClears }
+    ensures get { GetClearsNothing }
+{}

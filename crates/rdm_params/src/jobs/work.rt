@@ -1,0 +1,63 @@
+//! What a job is to do.
+
+ghost use Rattle.std.specs.Prelude.{◌≡◌, ◌<◌};
+ghost use Rattle.rdm_params.specs.Commands.Commands.{command_of};
+ghost use Rattle.rdm_params.specs.Jobs.Work.{worker_of, estimate_of};
+ghost use Rattle.rdm_params.specs.Table.Uses.{way_of, is_slow};
+
+use crate::Verb;
+use crate::jobs::Way;
+use crate::table::find::find;
+
+/// A slow command that was accepted.
+#[derive(Clone, Copy, Debug, PartialEq, Eq)]
+pub struct Work {
+    /// The sub-device, or 0 for the root.
+    pub sub: u16,
+    /// The PID.
+    pub pid: u16,
+    /// The command.
+    pub verb: Verb,
+    /// The byte of data that came with the command.
+    pub arg: u8,
+}
+
+/// The worker that has the job of this work: 0 or 1. It is 1 too where the work is no slow command.
+pub fn worker_of(work: &Work) -> u8
+    ensures worker { result ≡ worker_of work.now }
+    ensures two { result < 2 }
+{
+    match way(work) {
+        Way::ByJob { worker, .. } => worker,
+        Way::AtOnce | Way::FromQueue | Way::FromStatus | Way::Clears => 1,
+    }
+}
+
+/// How long the job of this work takes, in tenths of a second, for ACK_TIMER (E1.20 section 6.3.3). It is 0 where the
+/// work is no slow command.
+pub fn estimate_of(work: &Work) -> u16
+    ensures { result ≡ estimate_of work.now }
+{
+    match way(work) {
+        Way::ByJob { estimate, .. } => estimate,
+        Way::AtOnce | Way::FromQueue | Way::FromStatus | Way::Clears => 0,
+    }
+}
+
+/// The way in which the command of a work is answered.
+pub(super) fn way(work: &Work) -> Way
+    ensures { result ≡ way_of (command_of work.now.pid work.now.verb) }
+{
+    // The root has every parameter of the table.
+    match find(work.pid, true, work.verb) {
+        Ok(found) => found.way,
+        Err(_) => Way::AtOnce,
+    }
+}
+
+/// Whether the work is a slow command.
+pub(crate) fn is_slow(work: &Work) -> bool
+    ensures { result ≡ is_slow (command_of work.now.pid work.now.verb) }
+{
+    way(work).is_by_job()
+}

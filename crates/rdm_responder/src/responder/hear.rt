@@ -1,0 +1,146 @@
+//! What is answered to a request: a frame that was heard.
+
+ghost use Rattle.std.specs.Prelude.{◌≡◌, Option, None, IfSome};
+ghost use Rattle.std.specs.Bool.{OnFalse};
+ghost use Rattle.std.specs.Int.{w16, to_be_bytes};
+ghost use Rattle.rdm_responder.specs.Requests.{Branch, Muting, Set, request_of, get_of, discovery_of};
+ghost use Rattle.rdm_responder.specs.Rules.{answered, Account, answer_to, job_with, account_with, control_field};
+ghost use Rattle.rdm_responder.specs.StandsFor.{Shows};
+ghost use Rattle.rdm_responder.specs.Started.{job_in, IsAsInTable};
+
+use crate::Responder;
+use crate::carry_out::carry_out;
+use crate::reply::{Heading, send};
+use crate::stepped::Stepped;
+use rdm_frame::standard::{
+    ACK, DISC_MUTE, DISC_UN_MUTE, DISC_UNIQUE_BRANCH, DISCOVERY_COMMAND, GET_COMMAND, SET_COMMAND,
+};
+use rdm_frame::{Body, FrameView, Uid, Wire, disc_reply, uid_at};
+
+/// The control field of a device with sub-devices (E1.20 section 7.6).
+const HAS_SUB_DEVICES: u16 = 0x0002;
+
+impl Responder {
+    /// Writes what is answered to a frame, and says whether anything is, and which job started.
+    pub(super) fn answer(&mut self, request: &FrameView<'_>, wire: &mut Wire) -> Stepped
+        ensures reply { (a : Account) → Shows self.old a →
+            answered result.replied wire.new ≡ answer_to a (request_of a.setup.uid request.now) }
+        ensures silent { OnFalse result.replied (wire.new ≡ wire.old) }
+        ensures job { (a : Account) → Shows self.old a → job_in result.started ≡ job_with a (request_of a.setup.uid request.now) }
+        ensures table { IfSome result.started IsAsInTable }
+        ensures after { (a : Account) → Shows self.old a → Shows self.new (account_with a (request_of a.setup.uid request.now)) }
+    {
+        if !request.dst.addresses(self.uid) {
+            return Stepped::silent();
+        }
+        match request.class {
+            DISCOVERY_COMMAND => Stepped {
+                replied: self.answer_discovery(request, wire),
+                started: None,
+            },
+            GET_COMMAND => self.answer_get(request, wire),
+            SET_COMMAND => self.answer_set(request, wire),
+            _ => Stepped::silent(),
+        }
+    }
+
+    /// Answers a GET. One to more than one device is ignored.
+    fn answer_get(&mut self, request: &FrameView<'_>, wire: &mut Wire) -> Stepped
+        requires { request.now.class ≡ 0x20 }
+        ensures reply { (a : Account) → Shows self.old a → answered result.replied wire.new ≡ answer_to a (get_of request.now) }
+        ensures silent { OnFalse result.replied (wire.new ≡ wire.old) }
+        ensures job { (a : Account) → Shows self.old a → job_in result.started ≡ job_with a (get_of request.now) }
+        ensures table { IfSome result.started IsAsInTable }
+        ensures after { (a : Account) → Shows self.old a → Shows self.new (account_with a (get_of request.now)) }
+    {
+        if request.dst.is_broadcast() {
+            return Stepped::silent();
+        }
+        let mut body = Body::new();
+        let answer = self
+            .devices
+            .get_into(request.sub, request.pid, request.body, &mut body);
+        carry_out(self.uid, request, answer, &mut body, &mut self.outbox, wire)
+    }
+
+    /// Answers a SET.
+    fn answer_set(&mut self, request: &FrameView<'_>, wire: &mut Wire) -> Stepped
+        requires { request.now.class ≡ 0x30 }
+        ensures reply { (a : Account) → Shows self.old a → answered result.replied wire.new ≡ answer_to a (Set request.now) }
+        ensures silent { OnFalse result.replied (wire.new ≡ wire.old) }
+        ensures job { (a : Account) → Shows self.old a → job_in result.started ≡ job_with a (Set request.now) }
+        ensures table { IfSome result.started IsAsInTable }
+        ensures after { (a : Account) → Shows self.old a → Shows self.new (account_with a (Set request.now)) }
+    {
+        let mut body = Body::new();
+        let answer = self
+            .devices
+            .set_into(request.sub, request.pid, request.body, &mut body);
+        carry_out(self.uid, request, answer, &mut body, &mut self.outbox, wire)
+    }
+
+    /// Answers a discovery command.
+    #[tactic(auto, unfolding(crate::specs::Requests::discovery_of))]
+    // Inlined, with `answer_muting`: a call would keep the request in memory for every command.
+    #[inline(always)]
+    fn answer_discovery(&mut self, request: &FrameView<'_>, wire: &mut Wire) -> bool
+        requires { request.now.class ≡ 0x10 }
+        ensures reply { (a : Account) → Shows self.old a → answered result wire.new ≡ answer_to a (discovery_of request.now) }
+        ensures silent { OnFalse result (wire.new ≡ wire.old) }
+        ensures job { (a : Account) → job_with a (discovery_of request.now) ≡ None }
+        ensures after { (a : Account) → Shows self.old a → Shows self.new (account_with a (discovery_of request.now)) }
+    {
+        if request.sub != 0 {
+            return false;
+        }
+        let bounds = request.body;
+        match request.pid {
+            DISC_UNIQUE_BRANCH if bounds.len() == 12 => {
+                self.answer_branch(uid_at(bounds, 0), uid_at(bounds, 6), wire)
+            }
+            DISC_MUTE if bounds.is_empty() => self.answer_muting(request, true, wire),
+            DISC_UN_MUTE if bounds.is_empty() => self.answer_muting(request, false, wire),
+            _ => false,
+        }
+    }
+
+    /// Answers a search for unmuted devices from one UID to another.
+    fn answer_branch(&self, lower: Uid, upper: Uid, wire: &mut Wire) -> bool
+        ensures reply { (a : Account) → Shows self.now a → answered result wire.new ≡ answer_to a (Branch lower upper) }
+        ensures silent { OnFalse result (wire.new ≡ wire.old) }
+    {
+        let own = self.uid.number();
+        if self.muted || own < lower.number() || upper.number() < own {
+            return false;
+        }
+        wire.clear();
+        wire.append(&disc_reply(self.uid));
+        true
+    }
+
+    /// Mutes or un-mutes the device, and answers that.
+    // Inlined, as `answer_discovery` says.
+    #[inline(always)]
+    fn answer_muting(&mut self, request: &FrameView<'_>, muted: bool, wire: &mut Wire) -> bool
+        requires { request.now.class ≡ 0x10 }
+        ensures reply { (a : Account) → Shows self.old a → answered result wire.new ≡ answer_to a (Muting muted request.now) }
+        ensures silent { OnFalse result (wire.new ≡ wire.old) }
+        ensures after { (a : Account) → Shows self.old a → Shows self.new (account_with a (Muting muted request.now)) }
+    {
+        self.muted = muted;
+        let field = self.control_field();
+        let heading = Heading::of_own(request, ACK);
+        send(self.uid, request, heading, &field.to_be_bytes(), 0, wire)
+    }
+
+    /// Tells whether there are sub-devices (E1.20 section 7.6).
+    fn control_field(&self) -> u16
+        ensures { to_be_bytes w16 result ≡ control_field self.now.parameters }
+    {
+        if self.devices.sub_devices() == 0 {
+            0
+        } else {
+            HAS_SUB_DEVICES
+        }
+    }
+}
