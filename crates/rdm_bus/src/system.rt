@@ -1,17 +1,18 @@
 //! A device and a controller on one bus.
 
 ghost use Rattle.std.specs.Prelude.{◌≡◌, ◌≢◌, ◌↔◌, ◌<◌, ◌++◌, ◌∷◌, [], ℕ, List, Some, None, length, IfOk, OnOk, OnErr, IfSome, IfErr, IsErrOf, slice_index};
-ghost use Rattle.std.specs.Option.{option_map, option_map_or};
+ghost use Rattle.std.specs.Option.{option_map, option_map_or, option_to_list};
 ghost use Rattle.rdm_params.specs.declared.jobs.message.Message.{Message};
-ghost use Rattle.rdm_responder.specs.History.{History};
+ghost use Rattle.rdm_responder.specs.History.{History, Heard as HeardBytes, then_event};
 ghost use Rattle.rdm_responder.specs.Lawful.{IsLawful, MayArrive};
-ghost use Rattle.rdm_responder.specs.Rules.{account_of};
+ghost use Rattle.rdm_responder.specs.Rules.{account_of, reply_of, job_of};
 ghost use Rattle.rdm_responder.specs.StandsFor.{StandsFor};
+ghost use Rattle.rdm_responder.specs.Started.{job_in, IsAsInTable};
 ghost use Rattle.rdm_collector.specs.Collecting.{heard_in, after_hearing};
 ghost use Rattle.rdm_bus.specs.Faults.{reply_heard};
 ghost use Rattle.rdm_bus.specs.BusLaws.{BusLaws, recorded_by};
 ghost use Rattle.rdm_bus.specs.BusRun.{Start, after, after_all, after_reply, history_after, reply_in, transaction, raise_of, fault_of, IsFault, IsPlayed, IsAlteredInVain};
-ghost use Rattle.rdm_bus.specs.Happened.{handed_in};
+ghost use Rattle.rdm_bus.specs.Happened.{handed_in, started_in};
 ghost use Rattle.rdm_bus.specs.Headline.{Headline, unclosed};
 ghost use Rattle.rdm_bus.specs.Systems.{Stands, IsTrace, IsAstray, HasNoRoom, refusal_in, start_of};
 
@@ -21,8 +22,9 @@ use crate::laws::{bus_recording_laws_hold, headline_holds};
 use crate::ranges::bytes_fit;
 use rdm_collector::{Collector, Heard, MOST_DATA, PollError, is_reserved};
 use rdm_frame::Wire;
+use rdm_outbox::Job;
 use rdm_params::Message;
-use rdm_responder::Responder;
+use rdm_responder::{Responder, Started};
 use std::alloc::Global;
 use std::marker::Model;
 use thiserror::Error;
@@ -108,6 +110,33 @@ impl System {
         ensures no_room { IsErrOf result PlayError.NoRoom → HasNoRoom self.old.responder step.now }
         ensures err { OnErr result (self.new ≡ self.old) }
     {
+        self.play_started(step)?;
+        Ok(())
+    }
+
+    /// Plays a step as `play` does, and gives the job that it started, if it did, with its worker and its estimate (E1.20
+    /// section 6.3.3). It is the job of the event, which is then the last of the trace.
+    pub fn play_started(&mut self, step: &Step) -> Result<Option<Started>, PlayError>
+        requires { raise_of (fault_of step.now) ≢ Some 0 }
+        ensures trace { OnOk result ((start : Start) (steps : List Step) →
+            IsTrace start steps self.old → IsTrace start (steps ++ step.now ∷ []) self.new) }
+        ensures event { IfOk result (λ started. (event : Event) × (self.new.trace ≡ self.old.trace ++ event ∷ [])
+            × ((start : Start) (steps : List Step) →
+            IsTrace start steps self.old → IsPlayed (after_all start self.old.trace) step.now event)
+            × (started_in event ≡ option_to_list (job_in started))) }
+        ensures table { IfOk result (λ started. IfSome started IsAsInTable) }
+        ensures laws { OnOk result ((start : Start) (steps : List Step) →
+            IsTrace start steps self.old → BusLaws start self.new.trace) }
+        ensures headline { OnOk result ((start : Start) (steps : List Step) →
+            IsLawful start.history → IsTrace start steps self.old →
+            Headline start (steps ++ step.now ∷ []) (unclosed (handed_in (steps ++ step.now ∷ [])))
+            self.new.trace self.new.collector.recorded) }
+        ensures reserved { IsErrOf result PlayError.Reserved ↔ (refusal_in step.now ≡ Some PlayError.Reserved) }
+        ensures too_long { IsErrOf result PlayError.TooLong ↔ (refusal_in step.now ≡ Some PlayError.TooLong) }
+        ensures astray { IsErrOf result PlayError.Astray → IsAstray self.old.responder step.now }
+        ensures no_room { IsErrOf result PlayError.NoRoom → HasNoRoom self.old.responder step.now }
+        ensures err { OnErr result (self.new ≡ self.old) }
+    {
         // The trace is a run of the bus, and the laws and the headline hold of every run.
         bus_recording_laws_hold();
         headline_holds();
@@ -117,9 +146,9 @@ impl System {
         if self.trace.reserve(1).is_err() {
             return Err(PlayError::OutOfMemory);
         }
-        let event = happen(&mut self.responder, &mut self.collector, step)?;
-        self.trace.push_reserved(event);
-        Ok(())
+        let made = happen(&mut self.responder, &mut self.collector, step)?;
+        self.trace.push_reserved(made.event);
+        Ok(made.started)
     }
 
     /// What has happened, in order.
@@ -157,23 +186,44 @@ fn refusal_in(step: &Step) -> Option<PlayError>
     }
 }
 
-/// Plays a step on a responder and a collector, and gives the event. It is refused where a poll finds no memory for its
+/// What a step made: its event, and the job of it, if one started, with its worker.
+#[derive(Drop)]
+struct Made {
+    event: Event,
+    started: Option<Started>,
+}
+
+impl Made {
+    /// An event that starts no job.
+    fn idle(event: Event) -> Made
+        ensures { result ≡ record { event = event; started = None } }
+    {
+        Made {
+            event,
+            started: None,
+        }
+    }
+}
+
+/// Plays a step on a responder and a collector, and gives what it made. It is refused where a poll finds no memory for its
 /// answer, where a report is astray, and where there is no room for the message of a change.
 fn happen(
     responder: &mut Responder,
     collector: &mut Collector,
     step: &Step,
-) -> Result<Event, PlayError>
+) -> Result<Made, PlayError>
     requires idle { collector.now.transaction ≡ None }
     requires not_refused { refusal_in step.now ≡ None }
     requires fault { raise_of (fault_of step.now) ≢ Some 0 }
-    ensures played { IfOk result (λ event. (s : Start) (messages : List Message) →
-        Stands responder.old collector.old s messages → IsPlayed s step.now event) }
-    ensures stands { IfOk result (λ event. (s : Start) (messages : List Message) →
+    ensures played { IfOk result (λ made. (s : Start) (messages : List Message) →
+        Stands responder.old collector.old s messages → IsPlayed s step.now made.event) }
+    ensures stands { IfOk result (λ made. (s : Start) (messages : List Message) →
         Stands responder.old collector.old s messages →
-        Stands responder.new collector.new (after s event) (messages ++ recorded_by event)) }
-    ensures altered { IfOk result (λ event. (s : Start) (messages : List Message) →
-        Stands responder.old collector.old s messages → IsAlteredInVain event) }
+        Stands responder.new collector.new (after s made.event) (messages ++ recorded_by made.event)) }
+    ensures altered { IfOk result (λ made. (s : Start) (messages : List Message) →
+        Stands responder.old collector.old s messages → IsAlteredInVain made.event) }
+    ensures started { IfOk result (λ made. started_in made.event ≡ option_to_list (job_in made.started)) }
+    ensures table { IfOk result (λ made. IfSome made.started IsAsInTable) }
     ensures idle { collector.new.transaction ≡ None }
     ensures refused { IfErr result (λ e. (e ≢ PlayError.Reserved) × (e ≢ PlayError.TooLong)) }
     ensures astray { IsErrOf result PlayError.Astray → IsAstray responder.old step.now }
@@ -193,18 +243,18 @@ fn happen(
             Err(PollError::Busy) => unreachable!(),
         },
         Step::Arrive(report) => match responder.arrive(*report) {
-            Ok(arrival) => Ok(Event::Arrived {
+            Ok(arrival) => Ok(Made::idle(Event::Arrived {
                 report: *report,
                 message: arrival.message,
                 kept: arrival.kept,
-            }),
+            })),
             Err(_) => Err(PlayError::Astray),
         },
         Step::Change(change) => match responder.change(*change) {
-            Ok(message) => Ok(Event::Changed {
+            Ok(message) => Ok(Made::idle(Event::Changed {
                 change: *change,
                 message,
-            }),
+            })),
             Err(_) => Err(PlayError::NoRoom),
         },
     }
@@ -217,17 +267,19 @@ fn carry(
     sent: Wire,
     poll: bool,
     fault: Fault,
-) -> Event
-    ensures event { (h : History) → StandsFor responder.old h → result ≡ transaction h collector.old poll fault sent }
-    ensures responder { (h : History) → StandsFor responder.old h → StandsFor responder.new (history_after h result) }
-    ensures collector { collector.new ≡ after_reply collector.old fault (reply_in result) }
+) -> Made
+    ensures event { (h : History) → StandsFor responder.old h → result.event ≡ transaction h collector.old poll fault sent }
+    ensures responder { (h : History) → StandsFor responder.old h → StandsFor responder.new (history_after h result.event) }
+    ensures collector { collector.new ≡ after_reply collector.old fault (reply_in result.event) }
     ensures fault { raise_of fault ≢ Some 0 → IsFault fault }
-    ensures slots { IfSome (reply_in result) (λ slots. (i : ℕ) → slice_index slots i < 256) }
+    ensures slots { IfSome (reply_in result.event) (λ slots. (i : ℕ) → slice_index slots i < 256) }
+    ensures started { started_in result.event ≡ option_to_list (job_in result.started) }
+    ensures table { IfSome result.started IsAsInTable }
 {
     // A slot is raised by less than 256.
     let _ = fault.raise();
-    let (reply, job) = match fault.request_heard(&sent) {
-        Some(bytes) => responder.step(bytes.as_slice()),
+    let (reply, started) = match fault.request_heard(&sent) {
+        Some(bytes) => answer(responder, &bytes),
         None => (None, None),
     };
     let heard = match &reply {
@@ -238,13 +290,41 @@ fn carry(
         None => None,
     };
     collector.over();
-    Event::Bus {
+    let job = job_of(started);
+    let event = Event::Bus {
         sent,
         poll,
         fault,
         reply,
         job,
         heard,
+    };
+    Made { event, started }
+}
+
+/// Has the device hear bytes: its reply, and the job that started.
+fn answer(responder: &mut Responder, bytes: &Wire) -> (Option<Wire>, Option<Started>)
+    ensures reply { (h : History) → StandsFor responder.old h → result.0 ≡ reply_of h bytes.now }
+    ensures job { (h : History) → StandsFor responder.old h → job_in result.1 ≡ job_of h bytes.now }
+    ensures table { IfSome result.1 IsAsInTable }
+    ensures stands { (h : History) → StandsFor responder.old h → StandsFor responder.new (then_event h (HeardBytes bytes.now)) }
+{
+    let mut reply = Wire::new();
+    let stepped = responder.step_into(bytes.as_slice(), &mut reply);
+    if stepped.replied {
+        (Some(reply), stepped.started)
+    } else {
+        (None, stepped.started)
+    }
+}
+
+/// A job that started, by itself.
+fn job_of(started: Option<Started>) -> Option<Job>
+    ensures { result ≡ job_in started }
+{
+    match started {
+        Some(started) => Some(started.job),
+        None => None,
     }
 }
 

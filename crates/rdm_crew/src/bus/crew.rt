@@ -4,6 +4,7 @@ ghost use Rattle.std.specs.Prelude.{◌≡◌, ◌≢◌, ◌<◌, ◌++◌, ◌
 ghost use Rattle.std.specs.Option.{option_to_list};
 ghost use Rattle.rdm_outbox.specs.Jobs.{jobs_of, has_place};
 ghost use Rattle.rdm_responder.specs.Runs.{outbox_of};
+ghost use Rattle.rdm_responder.specs.Started.{IsAsInTable};
 ghost use Rattle.rdm_lane.specs.Ends.{with_item, IsSameTake};
 ghost use Rattle.rdm_lane.specs.Lane.{items_from};
 ghost use Rattle.rdm_params.specs.Jobs.Work.{worker_of};
@@ -11,7 +12,6 @@ ghost use Rattle.rdm_bus.specs.BusRun.{raise_of, fault_of};
 ghost use Rattle.rdm_bus.specs.Systems.{refusal_in};
 ghost use Rattle.rdm_crew.specs.Crews.{IsTied, HasChanges, HasChanged, IsSameCrew, IsSent, HasSent, HasPlayed, HavePlayed, IsStopped, IsRefused};
 ghost use Rattle.rdm_crew.specs.Desks.{IsDrawn, IsSameDesk, stands_at};
-ghost use Rattle.rdm_bus.specs.Happened.{started_in};
 ghost use Rattle.rdm_crew.specs.RunTrace.{HaveFaults, fault_at, first_refusal};
 
 use crate::bus::desk::{Desk, Drawn};
@@ -19,10 +19,11 @@ use crate::bus::stop::Stop;
 use crate::step::CrewStep;
 use crate::threads::putting::put;
 use crate::threads::waiting::{Bell, Waiter};
-use rdm_bus::{Event, PlayError, Step};
+use rdm_bus::{PlayError, Step};
 use rdm_lane::{Post, Take, Taken};
 use rdm_outbox::Job;
-use rdm_params::{Change, started_work_is_its_command, worker_of};
+use rdm_params::{Change, started_work_is_its_command};
+use rdm_responder::Started;
 use std::alloc::AllocError;
 use std::sync::Wait;
 
@@ -158,30 +159,30 @@ impl Crew {
     {
         // Its number is below the limit of the posts.
         started_work_is_its_command();
-        self.desk.system.play(step)?;
-        match started(self.desk.system.trace()) {
-            Some(job) => self.hand_out(rt, job),
+        match self.desk.system.play_started(step)? {
+            Some(started) => self.hand_out(rt, started),
             None => Ok(()),
         }
     }
 
     /// Puts a job into its worker's lane.
-    fn hand_out<R: Wait>(&mut self, rt: &R, job: Job) -> Result<(), Stop>
-        requires first { worker_of job.work ≡ 0 → length self.old.first.items < self.old.first.limit }
-        requires second { worker_of job.work ≡ 1 → length self.old.second.items < self.old.second.limit }
+    fn hand_out<R: Wait>(&mut self, rt: &R, started: Started) -> Result<(), Stop>
+        requires table { IsAsInTable started }
+        requires first { worker_of started.job.work ≡ 0 → length self.old.first.items < self.old.first.limit }
+        requires second { worker_of started.job.work ≡ 1 → length self.old.second.items < self.old.second.limit }
         ensures put { MatchResult result
-            (λ _. (self.new.first.items ≡ self.old.first.items ++ jobs_of 0 (job ∷ []))
-            × (self.new.second.items ≡ self.old.second.items ++ jobs_of 1 (job ∷ [])))
+            (λ _. (self.new.first.items ≡ self.old.first.items ++ jobs_of 0 (started.job ∷ []))
+            × (self.new.second.items ≡ self.old.second.items ++ jobs_of 1 (started.job ∷ [])))
             (λ stop. stop ≡ Stop.OutOfMemory) }
         ensures desk { self.new.desk ≡ self.old.desk }
         ensures changes { self.new.changes ≡ self.old.changes }
         ensures same { IsSameCrew self.old self.new }
     {
-        if worker_of(&job.work) == 0 {
-            put(rt, &mut self.first, job, &self.first_bell)?;
+        if started.worker == 0 {
+            put(rt, &mut self.first, started.job, &self.first_bell)?;
             return Ok(());
         }
-        put(rt, &mut self.second, job, &self.second_bell)?;
+        put(rt, &mut self.second, started.job, &self.second_bell)?;
         Ok(())
     }
 }
@@ -217,14 +218,4 @@ fn next_change<R: Wait>(
         }
     }
     unreachable!()
-}
-
-/// The job that the last event started, if it did.
-fn started(trace: &[Event]) -> Option<Job>
-    ensures { (es : List Event) (e : Event) → trace.now ≡ es ++ e ∷ [] → option_to_list result ≡ started_in e }
-{
-    match trace.last() {
-        Some(Event::Bus { job, .. }) => *job,
-        Some(Event::Arrived { .. } | Event::Changed { .. }) | None => None,
-    }
 }

@@ -21,8 +21,8 @@ returns-in-Ok-poll-clause-altered c s messages stands =
 pub returns-in-Ok-poll-clause-stands : goal.returns-in-Ok-poll-clause-stands
 returns-in-Ok-poll-clause-stands c s messages stands =
     let event = c.carry-in-Ok-poll.ensures.event s.history stands.responder ∙ ap (λ (w : State). transaction s.history w true c.in-Collect.fault c.in-Ok-poll.sent) c.in-Ok-poll.ensures.new in
-    let is = c.carry-in-Ok-poll.ensures.collector ∙ ap (λ (w : State). after_reply w c.in-Collect.fault (reply_in c.carry-in-Ok-poll.result)) c.in-Ok-poll.ensures.new in
+    let is = c.carry-in-Ok-poll.ensures.collector ∙ ap (λ (w : State). after_reply w c.in-Collect.fault (reply_in c.carry-in-Ok-poll.result.event)) c.in-Ok-poll.ensures.new in
     record {
       responder = c.carry-in-Ok-poll.ensures.responder s.history stands.responder;
-      collector_is = poll_ends s messages c.args.collector.now c.carry-in-Ok-poll.new.collector c.in-Collect.fault c.in-Ok-poll.sent c.carry-in-Ok-poll.result stands.collector_is is event (returns-in-Ok-poll-clause-altered c s messages stands);
+      collector_is = poll_ends s messages c.args.collector.now c.carry-in-Ok-poll.new.collector c.in-Collect.fault c.in-Ok-poll.sent c.carry-in-Ok-poll.result.event stands.collector_is is event (returns-in-Ok-poll-clause-altered c s messages stands);
     }

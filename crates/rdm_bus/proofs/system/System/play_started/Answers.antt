@@ -5,18 +5,18 @@ use Rattle.rdm_bus.specs.BusLaws.{recorded}
 use Rattle.rdm_bus.specs.BusRun.{after_all, IsPlayed}
 use Rattle.rdm_bus.specs.Systems.{Played, IsTrace}
 use Rattle.rdm_bus.proofs.Systems.{trace_more, headline_of_trace}
-use Rattle.rdm_bus.proofs.system.System.play.Goals as goal
+use Rattle.rdm_bus.proofs.system.System.play_started.Goals as goal
 
 pub returns-clause-trace : goal.returns-clause-trace
 returns-clause-trace c start steps trace =
     let before = subst (IsTrace start steps) (sym c.self.view_is) trace in
-    let pushed = c.push_reserved.ensures.items ∙ ap (λ (es : List Event). es ++ c.in_ok-event.event ∷ []) c.reserve.ensures.items in
+    let pushed = c.push_reserved.ensures.items ∙ ap (λ (es : List Event). es ++ c.in_ok-made.made.event ∷ []) c.reserve.ensures.items in
     let at = after_all start c.self.inside.trace.items in
     let messages = recorded c.self.inside.trace.items in
-    trace_more start steps _ _ c.args.step.now c.in_ok-event.event before pushed
-    (c.in_ok-event.ensures.played at messages before.stands)
-    (c.in_ok-event.ensures.stands at messages before.stands)
-    (c.in_ok-event.ensures.altered at messages before.stands)
+    trace_more start steps _ _ c.args.step.now c.in_ok-made.made.event before pushed
+    (c.in_ok-made.ensures.played at messages before.stands)
+    (c.in_ok-made.ensures.stands at messages before.stands)
+    (c.in_ok-made.ensures.altered at messages before.stands)
 
 pub returns-clause-laws : goal.returns-clause-laws
 returns-clause-laws c start steps trace =
@@ -28,12 +28,13 @@ returns-clause-headline c start steps lawful trace =
 
 pub returns-clause-event : goal.returns-clause-event
 returns-clause-event c =
-    let pushed = c.push_reserved.ensures.items ∙ ap (λ (es : List Event). es ++ c.in_ok-event.event ∷ []) c.reserve.ensures.items in (
-      c.in_ok-event.event,
-      pushed ∙ ap (λ (p : Played). p.trace ++ c.in_ok-event.event ∷ []) c.self.view_is,
+    let pushed = c.push_reserved.ensures.items ∙ ap (λ (es : List Event). es ++ c.in_ok-made.made.event ∷ []) c.reserve.ensures.items in (
+      c.in_ok-made.made.event,
+      pushed ∙ ap (λ (p : Played). p.trace ++ c.in_ok-made.made.event ∷ []) c.self.view_is,
       λ start steps trace.
           let before = subst (IsTrace start steps) (sym c.self.view_is) trace in
           let at = after_all start c.self.inside.trace.items in
-          subst (λ (p : Played). IsPlayed (after_all start p.trace) c.args.step.now c.in_ok-event.event) c.self.view_is
-          (c.in_ok-event.ensures.played at (recorded c.self.inside.trace.items) before.stands),
+          subst (λ (p : Played). IsPlayed (after_all start p.trace) c.args.step.now c.in_ok-made.made.event) c.self.view_is
+          (c.in_ok-made.ensures.played at (recorded c.self.inside.trace.items) before.stands),
+      c.in_ok-made.ensures.started,
     )
