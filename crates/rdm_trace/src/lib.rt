@@ -1,7 +1,8 @@
 //! The lines of a trace: what happens on a bus, as the programs that play scripts tell it.
 //!
 //! A `Line` is what a line says. `put_line` writes it, `read` reads it, and what is written is read back
-//! (`written_line_is_read_back`); `text_of` and `lines_of` do so for a whole trace. The text of each line stands in `specs/LineText.antt`, and how a line is read in
+//! (`written_line_is_read_back`); `text_of` and `lines_of` do so for a whole trace. `trace_lines` gives the lines of a run. Which
+//! lines these are stands in `specs/RunLines.antt`, the text of each in `specs/LineText.antt`, and how a line is read in
 //! `specs/Reading.antt`.
 #![tactic(auto)]
 
@@ -15,6 +16,7 @@ mod panel;
 mod put;
 mod reading;
 mod report;
+mod run_lines;
 mod text;
 mod words;
 mod writing;
@@ -24,5 +26,6 @@ pub use digits::wire_in;
 pub use laws::{trace_errors_are_equal_by_value, written_line_is_read_back};
 pub use line::{JobName, Line};
 pub use reading::read;
+pub use run_lines::{put_event, trace_lines};
 pub use text::{TraceError, lines_of, text_of};
 pub use writing::put_line;

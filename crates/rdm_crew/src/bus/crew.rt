@@ -168,6 +168,7 @@ impl Crew {
     /// Puts a job into its worker's lane.
     fn hand_out<R: Wait>(&mut self, rt: &R, started: Started) -> Result<(), Stop>
         requires table { IsAsInTable started }
+        requires two { started.worker < 2 }
         requires first { worker_of started.job.work ≡ 0 → length self.old.first.items < self.old.first.limit }
         requires second { worker_of started.job.work ≡ 1 → length self.old.second.items < self.old.second.limit }
         ensures put { MatchResult result

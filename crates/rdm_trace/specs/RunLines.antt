@@ -1,0 +1,33 @@
+-- The lines that tell of a run.
+use Rattle.std.specs.Prelude.{Bool, true, false, List, [], ◌∷◌, ◌++◌, map, Option, Some, None}
+use Rattle.std.specs.Option.{option_to_list}
+use Rattle.std.specs.List.{flat_map}
+use Rattle.rdm_params.specs.declared.slow.message.Message.{Message as TheMessage}
+use Rattle.rdm_params.specs.Slow.Work.{worker_of}
+use Rattle.rdm_outbox.specs.declared.job.Job.{Job as TheJob}
+use Rattle.rdm_bus.specs.declared.event.Event.{Event}
+use Rattle.rdm_bus.specs.declared.event.Event.TheVariants.{Bus, Arrived, Changed}
+use Rattle.rdm_trace.specs.declared.line.JobName.{JobName}
+use Rattle.rdm_trace.specs.declared.line.Line.{Line}
+use Rattle.rdm_trace.specs.declared.line.Line.TheVariants.{Send, Reply, Job, Heard, Arrive, Panel, Message, End}
+
+-- a job is named by its worker and its number
+abbrev pub name_of : TheJob → JobName
+name_of job = record { worker = worker_of job.work; number = job.number }
+
+-- a change is refused where there is no message of it
+abbrev pub is_refused : Option TheMessage → Bool
+is_refused None = true
+is_refused (Some message) = false
+
+-- The lines of a transaction: what was sent and what goes wrong, what was replied, the job that started, and what the
+-- controller took the reply for. A report has one line, and so has a change.
+unfoldable pub event_lines : Event → List Line
+event_lines (Bus sent poll fault reply job heard) =
+    Send sent fault ∷ Reply reply ∷ [] ++ map (λ j. Job (name_of j)) (option_to_list job) ++ Heard heard ∷ []
+event_lines (Arrived report message kept) = Arrive (name_of report.job) report.outcome ∷ []
+event_lines (Changed change message) = Panel change (is_refused message) ∷ []
+
+-- The lines of a whole trace: those of each event in order, one for each recorded message in order, and the last line.
+abbrev pub trace_lines : List Event → List TheMessage → List Line
+trace_lines events messages = flat_map event_lines events ++ map (λ m. Message m) messages ++ End ∷ []
