@@ -2,8 +2,8 @@
 use Rattle.std.specs.Prelude.{Bool, true, false, List, [], ◌∷◌, ◌++◌, map, Option, Some, None}
 use Rattle.std.specs.Option.{option_to_list}
 use Rattle.std.specs.List.{flat_map}
-use Rattle.rdm_params.specs.declared.slow.message.Message.{Message as TheMessage}
-use Rattle.rdm_params.specs.Slow.Work.{worker_of}
+use Rattle.rdm_params.specs.declared.jobs.message.Message.{Message as TheMessage}
+use Rattle.rdm_params.specs.Jobs.Work.{worker_of}
 use Rattle.rdm_outbox.specs.declared.job.Job.{Job as TheJob}
 use Rattle.rdm_bus.specs.declared.event.Event.{Event}
 use Rattle.rdm_bus.specs.declared.event.Event.TheVariants.{Bus, Arrived, Changed}

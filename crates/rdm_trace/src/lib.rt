@@ -26,6 +26,6 @@ pub use digits::wire_in;
 pub use laws::{trace_errors_are_equal_by_value, written_line_is_read_back};
 pub use line::{JobName, Line};
 pub use reading::read;
-pub use run_lines::{put_event, trace_lines};
+pub use run_lines::trace_lines;
 pub use text::{TraceError, lines_of, text_of};
 pub use writing::put_line;

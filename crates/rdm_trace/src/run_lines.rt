@@ -50,7 +50,7 @@ fn put_messages(lines: &mut Vec<Line>, recorded: &[Message]) -> Result<(), Alloc
 
 /// Puts the lines of an event behind others (E1.20 sections 6.2 and 10.3.1). Fails only where memory is refused.
 #[tactic(auto, unfolding(crate::specs::RunLines::event_lines))]
-pub fn put_event(lines: &mut Vec<Line>, event: &Event) -> Result<(), AllocError>
+fn put_event(lines: &mut Vec<Line>, event: &Event) -> Result<(), AllocError>
     ensures { OnOk result (lines.new.items ≡ lines.old.items ++ event_lines event.now) }
 {
     match event {
