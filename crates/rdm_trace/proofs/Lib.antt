@@ -3,3 +3,4 @@ pub mod Decimals
 pub mod HexBack
 pub mod ReadBack
 pub mod Spacing
+pub mod Traces

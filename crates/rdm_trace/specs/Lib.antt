@@ -2,3 +2,4 @@ pub mod LineText
 pub mod Numbers
 pub mod Reading
 pub mod RunLines
+pub mod Traces

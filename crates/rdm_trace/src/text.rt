@@ -1,11 +1,14 @@
 //! Whole traces, as text.
 
-ghost use Rattle.std.specs.Prelude.{◌≡◌, ◌++◌, IfOk, OnOk};
+ghost use Rattle.std.specs.Prelude.{◌≡◌, ℕ, ◌+◌, ◌^◌, ◌<◌, ◌++◌, true, None, IfOk, OnOk};
+ghost use Rattle.std.specs.Option.{option_to_list};
 ghost use Rattle.std.specs.List.{flat_map};
 ghost use Rattle.rdm_trace.specs.LineText.{whole_line, lines_text};
+ghost use Rattle.rdm_trace.specs.Traces.{line_of, is_line, pieces_of, lines_said, AreWhole, IsFirstUnread};
+ghost use Rattle.rdm_trace.specs.declared.text.TraceError.TheVariants.{OutOfMemory};
 
 use crate::{Line, may_begin_line, put_line, read};
-use rdm_streams::without_return;
+use rdm_streams::{line_end, without_return};
 use std::alloc::{AllocError, AllocFailed, Global};
 use thiserror::Error;
 
@@ -35,32 +38,67 @@ pub fn text_of(alloc: Global, lines: &[Line]) -> Result<Vec<u8>, AllocError>
 ///
 /// A line that is none of a trace is refused, but for what stands behind the last end of a line: where that is no line, but
 /// may begin one, it was cut off, and is left out.
-pub fn lines_of(alloc: Global, trace: &[u8]) -> Result<Vec<Line>, TraceError> {
-    let pieces: Vec<&[u8]> = trace.split(|byte| *byte == b'\n').collect(alloc)?;
+pub fn lines_of(alloc: Global, trace: &[u8]) -> Result<Vec<Line>, TraceError>
+    ensures said { IfOk result (λ lines. lines.items ≡ lines_said (pieces_of trace.now)) }
+    ensures whole { IfOk result (λ _. AreWhole (pieces_of trace.now)) }
+    ensures line { (number : ℕ) → result ≡ Err (TraceError.Line number) → IsFirstUnread (pieces_of trace.now) number }
+{
     let mut lines = Vec::new(alloc);
-    let mut number = 0usize;
-    for piece in &pieces {
-        number = number.saturating_add(1);
-        let text = without_return(piece);
-        match read(text) {
-            Some(line) => lines.push(line)?,
-            None => {
-                if number < pieces.len() || !may_begin_line(text) {
-                    return Err(TraceError::Line(number));
-                }
-            }
-        }
+    let mut rest = trace;
+    let mut index = 0;
+    while let Some(end) = line_end(rest) {
+        put_whole(&mut lines, &rest[..end], index)?;
+        rest = &rest[end + 1..];
+        index += 1;
     }
+    put_last(&mut lines, rest, index)?;
     Ok(lines)
 }
 
+/// What a line says, with the CR at its end or without.
+fn read_piece(piece: &[u8]) -> Option<Line>
+    ensures { result ≡ line_of piece.now }
+{
+    read(without_return(piece))
+}
+
+/// Puts what the line at this index says, which is whole.
+fn put_whole(lines: &mut Vec<Line>, piece: &[u8], index: usize) -> Result<(), TraceError>
+    requires within { index < 2 ^ 63 }
+    ensures said { OnOk result (lines.new.items ≡ lines.old.items ++ option_to_list (line_of piece.now)) }
+    ensures line { OnOk result (is_line piece.now ≡ true) }
+    ensures unread { (number : ℕ) → result ≡ Err (TraceError.Line number) → (number ≡ index + 1) × (line_of piece.now ≡ None) }
+{
+    match read_piece(piece) {
+        Some(line) => Ok(lines.push(line)?),
+        None => Err(TraceError::Line(index + 1)),
+    }
+}
+
+/// Puts what the last line says, which is at this index, unless it was cut off.
+fn put_last(lines: &mut Vec<Line>, piece: &[u8], index: usize) -> Result<(), TraceError>
+    requires within { index < 2 ^ 63 }
+    ensures said { OnOk result (lines.new.items ≡ lines.old.items ++ option_to_list (line_of piece.now)) }
+    ensures unread { (number : ℕ) → result ≡ Err (TraceError.Line number) → (number ≡ index + 1) × (line_of piece.now ≡ None) }
+{
+    match read_piece(piece) {
+        Some(line) => Ok(lines.push(line)?),
+        None if may_begin_line(without_return(piece)) => Ok(()),
+        None => Err(TraceError::Line(index + 1)),
+    }
+}
+
 impl From<AllocError> for TraceError {
+    ghost from_gives = { λ _ e. e ≡ OutOfMemory };
+
     fn from(_error: AllocError) -> TraceError {
         TraceError::OutOfMemory
     }
 }
 
 impl<T: Drop> From<AllocFailed<T>> for TraceError {
+    ghost from_gives = { λ _ e. e ≡ OutOfMemory };
+
     fn from(_error: AllocFailed<T>) -> TraceError {
         TraceError::OutOfMemory
     }
