@@ -22,7 +22,7 @@ static uint8_t exchange(felosumay_collector *console, felosumay_responder *devic
 }
 
 /* The user strikes the lamp: the device starts a job, which fails. */
-static felosumay_status strike(felosumay_collector *console, felosumay_responder *device) {
+static felosumay_result strike(felosumay_collector *console, felosumay_responder *device) {
     const felosumay_command lamp = {FIXTURE, MAKER, 0, 0x0403, FELOSUMAY_SET}, queue = {FIXTURE, MAKER, 0, 0x0020, FELOSUMAY_GET},
                             none = {FIXTURE, MAKER, 0, 0x0403, 0x99};
     const felosumay_outcome failed = {FELOSUMAY_JOB_FAILED, 4, 0, 0x8001, 1, 2};
@@ -33,7 +33,7 @@ static felosumay_status strike(felosumay_collector *console, felosumay_responder
     printf("too long %u, reserved %u, unknown %u\n", felosumay_collector_ask(console, &lamp, on, 232, request, &count),
            felosumay_collector_ask(console, &queue, on, 1, request, &count),
            felosumay_collector_ask(console, &none, on, 1, request, &count));
-    felosumay_status status = felosumay_collector_ask(console, &lamp, on, 1, request, &count);
+    felosumay_result status = felosumay_collector_ask(console, &lamp, on, 1, request, &count);
     printf("poll while a command is open: %u\n", felosumay_collector_poll(console, request, &count));
     printf("lamp %u: heard %u\n", status, exchange(console, device, request, count, 0, &job));
     status = felosumay_responder_arrive(device, &job, &failed, &kept);
@@ -42,13 +42,13 @@ static felosumay_status strike(felosumay_collector *console, felosumay_responder
 }
 
 /* The console polls until an answer has no data: the first answer is lost, and asked for again. */
-static felosumay_status collect(felosumay_collector *console, felosumay_responder *device) {
+static felosumay_result collect(felosumay_collector *console, felosumay_responder *device) {
     uint8_t request[FELOSUMAY_FRAME_BYTES];
     felosumay_job job = {0, 0, 0, 0, 0, 0, 0};
     felosumay_message message;
     size_t count = 0;
     for (int round = 0; round < 4; round++) {
-        felosumay_status status = felosumay_collector_poll(console, request, &count);
+        felosumay_result status = felosumay_collector_poll(console, request, &count);
         if (status != FELOSUMAY_DONE)
             return status;
         printf("poll: heard %u\n", exchange(console, device, request, count, round == 0, &job));
@@ -71,14 +71,14 @@ static int is_same(const felosumay_message *one, const felosumay_message *other)
 /* The request of the second poll is lost, though the first was answered. The third asks for the last message again, by slot 24,
  * and gets the one that the console has: where a message is equal to the one before it, and was asked for again, it is most
  * likely the same. */
-static felosumay_status repeat(felosumay_collector *console, felosumay_responder *device) {
+static felosumay_result repeat(felosumay_collector *console, felosumay_responder *device) {
     uint8_t request[FELOSUMAY_FRAME_BYTES];
     felosumay_job job = {0, 0, 0, 0, 0, 0, 0};
     felosumay_message message, last = {0, 0, 0, 0, {0}};
     size_t count = 0;
     printf("start 7: %u\n", felosumay_responder_change_start(device, 7));
     for (int round = 0; round < 3; round++) {
-        felosumay_status status = felosumay_collector_poll(console, request, &count);
+        felosumay_result status = felosumay_collector_poll(console, request, &count);
         if (status != FELOSUMAY_DONE)
             return status;
         if (round == 1)
@@ -94,13 +94,13 @@ static felosumay_status repeat(felosumay_collector *console, felosumay_responder
 }
 
 /* Ten thousand messages are collected and taken: the collector keeps none of them. */
-static felosumay_status run_on(felosumay_collector *console, felosumay_responder *device) {
+static felosumay_result run_on(felosumay_collector *console, felosumay_responder *device) {
     uint8_t request[FELOSUMAY_FRAME_BYTES];
     felosumay_job job = {0, 0, 0, 0, 0, 0, 0};
     felosumay_message message;
     size_t count = 0, taken = 0;
     for (int round = 0; round < 10000; round++) {
-        felosumay_status status = felosumay_collector_poll(console, request, &count);
+        felosumay_result status = felosumay_collector_poll(console, request, &count);
         if (status != FELOSUMAY_DONE)
             return status;
         exchange(console, device, request, count, 0, &job);
@@ -113,7 +113,7 @@ static felosumay_status run_on(felosumay_collector *console, felosumay_responder
 int main(void) {
     felosumay_responder device = {0};
     felosumay_collector console = {0};
-    felosumay_status status = felosumay_responder_demo(&device, MAKER, FIXTURE, 2, QUEUE_SIZE);
+    felosumay_result status = felosumay_responder_demo(&device, MAKER, FIXTURE, 2, QUEUE_SIZE);
     size_t waiting = 0;
     if (status == FELOSUMAY_DONE)
         status = felosumay_collector_new(&console, MAKER, CONSOLE, MAKER, FIXTURE, 2);

@@ -3,7 +3,7 @@
  * A handle starts as {0}. It belongs to the library from then on: never copy it, and never look behind its pointer or write
  * it. Pointers are valid, also where a length is 0, and no two of one call overlap. Each handle is in one call at a time; which
  * thread makes the call is all the same, so a mutex may hand a handle from thread to thread. Those are the only duties: all
- * else is tested, and a status says so. Where a call isn't DONE, what stands behind its other pointers has no meaning, unless
+ * else is tested, and the result says so. Where a call isn't DONE, what stands behind its other pointers has no meaning, unless
  * the call says more.
  *
  * The library runs on x86-64 processors of the level x86-64-v2, which have SSE4.2. */
@@ -20,14 +20,14 @@ typedef struct { void *at; } felosumay_responder;
 typedef struct { void *at; } felosumay_collector;
 
 /* What became of a call. */
-typedef uint8_t felosumay_status;
+typedef uint8_t felosumay_result;
 enum {
     FELOSUMAY_DONE = 0,          /* it was carried out */
     FELOSUMAY_OUT_OF_MEMORY = 1, /* memory was refused */
     FELOSUMAY_BAD_PROFILE = 2,   /* the profile breaks one of the rules that stand below it */
     FELOSUMAY_BAD_SIZE = 3,      /* the size of the queue isn't 1 to 1,024 */
     FELOSUMAY_BAD_UID = 4,       /* the UID addresses more than one device */
-    FELOSUMAY_ABSENT = 5,        /* the handle holds no such party */
+    FELOSUMAY_ABSENT = 5,        /* the handle holds nothing that the call is for */
     FELOSUMAY_ASTRAY = 6,        /* the report isn't of the oldest job of its worker, or its outcome doesn't fit */
     FELOSUMAY_UNKNOWN = 7,       /* a number that was handed in stands for nothing */
     FELOSUMAY_REFUSED = 8,       /* the command is refused, and a reason is given */
@@ -170,42 +170,42 @@ enum {
 /* Makes a responder of this profile, or the demonstration fixture with so many sub-devices, in the place of what the handle
  * held. Where it isn't DONE, the handle stays as it was. BAD_UID, BAD_SIZE, BAD_PROFILE, OUT_OF_MEMORY, in this order. The
  * new responder counts its jobs from 0 again: end the jobs of the old one first, or drop their reports. */
-felosumay_status felosumay_responder_new(felosumay_responder *responder, uint16_t maker, uint32_t device,
+felosumay_result felosumay_responder_new(felosumay_responder *responder, uint16_t maker, uint32_t device,
                                          const felosumay_profile *profile, uint16_t queue_size);
-felosumay_status felosumay_responder_demo(felosumay_responder *responder, uint16_t maker, uint32_t device, uint16_t subs,
+felosumay_result felosumay_responder_demo(felosumay_responder *responder, uint16_t maker, uint32_t device, uint16_t subs,
                                           uint16_t queue_size);
 
 /* Hears bytes. Where there is a reply, it stands at the front of `reply`; the answer to discovery is a reply as any other,
  * and has no break before it. What stands behind the reply has no meaning. ABSENT: `replied` and `started` are 0 then. */
-felosumay_status felosumay_responder_step(felosumay_responder *responder, const uint8_t *bytes, size_t length,
+felosumay_result felosumay_responder_step(felosumay_responder *responder, const uint8_t *bytes, size_t length,
                                           uint8_t reply[FELOSUMAY_FRAME_BYTES], felosumay_stepped *stepped);
 
 /* Takes the report of a job. `kept` is 1 where it left a status entry that is kept, else 0. UNKNOWN, ABSENT, ASTRAY, in this
  * order; nothing changes then. A job is known by its numbers alone: that of another responder, or of the one that the handle
  * held before, isn't told from one of this responder that has the same numbers. */
-felosumay_status felosumay_responder_arrive(felosumay_responder *responder, const felosumay_job *job,
+felosumay_result felosumay_responder_arrive(felosumay_responder *responder, const felosumay_job *job,
                                             const felosumay_outcome *outcome, uint8_t *kept);
 
 /* A person changes something at the fixture's own menu, and the message that tells the controller waits; each DONE adds one,
  * also where the value is as it was. Only polls take messages away: where no controller polls the queue fills up, and each
  * change is NO_ROOM from then on. A SET that the firmware steps itself needs no room (c/fixture.c, `set_own`). TOO_LONG for a
  * label, then ABSENT, NO_ROOM, OUT_OF_RANGE, in this order; nothing changes then. */
-felosumay_status felosumay_responder_change_start(felosumay_responder *responder, uint16_t start);
-felosumay_status felosumay_responder_change_personality(felosumay_responder *responder, uint8_t number);
-felosumay_status felosumay_responder_change_label(felosumay_responder *responder, const uint8_t *label, size_t length);
+felosumay_result felosumay_responder_change_start(felosumay_responder *responder, uint16_t start);
+felosumay_result felosumay_responder_change_personality(felosumay_responder *responder, uint8_t number);
+felosumay_result felosumay_responder_change_label(felosumay_responder *responder, const uint8_t *label, size_t length);
 
 /* Whether there is room for the message of a change: `there` is 1 then, else 0. ABSENT. */
-felosumay_status felosumay_responder_room(felosumay_responder *responder, uint8_t *there);
+felosumay_result felosumay_responder_room(felosumay_responder *responder, uint8_t *there);
 
 /* Reads a parameter as a GET would. ABSENT; REFUSED, with the code of the NACK in `reason`; NO_VALUE where the command starts
  * a job or fetches a message. Nothing changes. */
-felosumay_status felosumay_responder_get(felosumay_responder *responder, uint16_t sub, uint16_t pid, const uint8_t *argument,
+felosumay_result felosumay_responder_get(felosumay_responder *responder, uint16_t sub, uint16_t pid, const uint8_t *argument,
                                          size_t length, uint8_t value[FELOSUMAY_VALUE_BYTES], size_t *count,
                                          uint16_t *reason);
 
 /* How many messages wait, and how many jobs are outstanding. ABSENT. */
-felosumay_status felosumay_responder_waiting(felosumay_responder *responder, size_t *count);
-felosumay_status felosumay_responder_outstanding(felosumay_responder *responder, size_t *count);
+felosumay_result felosumay_responder_waiting(felosumay_responder *responder, size_t *count);
+felosumay_result felosumay_responder_outstanding(felosumay_responder *responder, size_t *count);
 
 /* Gives up what the handle holds, if anything. The handle is {0} again. */
 void felosumay_responder_free(felosumay_responder *responder);
@@ -234,31 +234,31 @@ enum { FELOSUMAY_IGNORED = 0, FELOSUMAY_MESSAGE = 1, FELOSUMAY_REPLY = 2 };
 /* Makes a collector, in the place of what the handle held. `wants` is 02 for status entries of every severity, 03 for warnings
  * and errors, 04 for errors alone. UNKNOWN; BAD_UID where its own UID or its target's addresses more than one device;
  * OUT_OF_MEMORY, in this order; the handle stays as it was then. */
-felosumay_status felosumay_collector_new(felosumay_collector *collector, uint16_t maker, uint32_t device,
+felosumay_result felosumay_collector_new(felosumay_collector *collector, uint16_t maker, uint32_t device,
                                          uint16_t target_maker, uint32_t target_device, uint8_t wants);
 
 /* Sends a command, or a poll for the target's next message: the request stands at the front of `request`, and a transaction
  * is open. Of `ask` UNKNOWN, ABSENT, RESERVED, BUSY, TOO_LONG, and of `poll` ABSENT, BUSY, OUT_OF_MEMORY, in this order;
  * nothing changes then. */
-felosumay_status felosumay_collector_ask(felosumay_collector *collector, const felosumay_command *command,
+felosumay_result felosumay_collector_ask(felosumay_collector *collector, const felosumay_command *command,
                                          const uint8_t *load, size_t length, uint8_t request[FELOSUMAY_FRAME_BYTES],
                                          size_t *count);
-felosumay_status felosumay_collector_poll(felosumay_collector *collector, uint8_t request[FELOSUMAY_FRAME_BYTES],
+felosumay_result felosumay_collector_poll(felosumay_collector *collector, uint8_t request[FELOSUMAY_FRAME_BYTES],
                                           size_t *count);
 
 /* Hears bytes, and says what they are taken for. Discovery's answers are no frames, and are ignored; so is an answer to a poll
  * that isn't ACK. ABSENT. */
-felosumay_status felosumay_collector_hear(felosumay_collector *collector, const uint8_t *bytes, size_t length,
+felosumay_result felosumay_collector_hear(felosumay_collector *collector, const uint8_t *bytes, size_t length,
                                           uint8_t *heard);
 
 /* Ends the open transaction, if there is one, without an answer. The next poll asks for the last message again where a poll
  * ended so. ABSENT. */
-felosumay_status felosumay_collector_over(felosumay_collector *collector);
+felosumay_result felosumay_collector_over(felosumay_collector *collector);
 
 /* Takes the first message that was recorded and not taken yet, and lets go of it. A message may come twice in a row: where the
  * request of a poll was lost, the next poll asks for the last message, which may have been recorded already. ABSENT, NO_MORE,
  * in this order. */
-felosumay_status felosumay_collector_next(felosumay_collector *collector, felosumay_message *message);
+felosumay_result felosumay_collector_next(felosumay_collector *collector, felosumay_message *message);
 
 /* Gives up what the handle holds, if anything. The handle is {0} again. */
 void felosumay_collector_free(felosumay_collector *collector);

@@ -47,12 +47,12 @@ static felosumay_stepped ask(felosumay_collector *bus, felosumay_responder *fixt
 }
 
 /* The controller fetches the next message that waits. */
-static felosumay_status fetch(felosumay_collector *bus, felosumay_responder *fixture) {
+static felosumay_result fetch(felosumay_collector *bus, felosumay_responder *fixture) {
     uint8_t request[FELOSUMAY_FRAME_BYTES], reply[FELOSUMAY_FRAME_BYTES], heard = FELOSUMAY_IGNORED;
     felosumay_stepped stepped;
     felosumay_message message;
     size_t count = 0;
-    felosumay_status status = felosumay_collector_poll(bus, request, &count);
+    felosumay_result status = felosumay_collector_poll(bus, request, &count);
     if (status != FELOSUMAY_DONE)
         return status;
     felosumay_responder_step(fixture, request, count, reply, &stepped);
@@ -85,7 +85,7 @@ static void strike(felosumay_collector *bus, felosumay_responder *fixture) {
 }
 
 /* A person changes the start address and the label at the menu, as long as there is room for the messages. */
-static felosumay_status change(felosumay_collector *bus, felosumay_responder *fixture) {
+static felosumay_result change(felosumay_collector *bus, felosumay_responder *fixture) {
     const uint8_t label[33] = "Right of stage";
     uint8_t room = 9;
     printf("start 513: %u\n", felosumay_responder_change_start(fixture, 513));
@@ -94,7 +94,7 @@ static felosumay_status change(felosumay_collector *bus, felosumay_responder *fi
     printf("label: %u\n", felosumay_responder_change_label(fixture, label, 14));
     felosumay_responder_room(fixture, &room);
     printf("room %u, start 7: %u\n", room, felosumay_responder_change_start(fixture, 7));
-    felosumay_status status = fetch(bus, fixture);
+    felosumay_result status = fetch(bus, fixture);
     printf("start 7: %u\n", felosumay_responder_change_start(fixture, 7));
     return status;
 }
@@ -102,10 +102,10 @@ static felosumay_status change(felosumay_collector *bus, felosumay_responder *fi
 /* The firmware sets a value by a request of its own, as a controller would: no message waits for it, so it needs no room, and
  * FACTORY_DEFAULTS still knows the profile's values. So it sets what it kept over power-off, and what a person changes at the
  * menu while the queue is full. */
-static felosumay_status set_own(felosumay_responder *fixture) {
+static felosumay_result set_own(felosumay_responder *fixture) {
     const uint8_t start[2] = {0x00, 0x08};
     felosumay_collector own = {0};
-    felosumay_status status = felosumay_collector_new(&own, MAKER, FIRMWARE, MAKER, FIXTURE, 2);
+    felosumay_result status = felosumay_collector_new(&own, MAKER, FIRMWARE, MAKER, FIXTURE, 2);
     printf("start 8: %u\n", felosumay_responder_change_start(fixture, 8));
     ask(&own, fixture, 0x00F0, FELOSUMAY_SET, start, 2);
     felosumay_collector_free(&own);
@@ -135,7 +135,7 @@ static void read(felosumay_responder *fixture) {
 int main(void) {
     felosumay_responder fixture = {0};
     felosumay_collector bus = {0};
-    felosumay_status status = felosumay_responder_new(&fixture, MAKER, FIXTURE, &PROFILE, QUEUE_SIZE);
+    felosumay_result status = felosumay_responder_new(&fixture, MAKER, FIXTURE, &PROFILE, QUEUE_SIZE);
     size_t waiting = 0;
     if (status == FELOSUMAY_DONE)
         status = felosumay_collector_new(&bus, MAKER, CONSOLE, MAKER, FIXTURE, 2);

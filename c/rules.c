@@ -16,9 +16,9 @@ static felosumay_profile *least(void) {
     return &profile;
 }
 
-static void expect(int rule, const char *what, felosumay_status wanted) {
+static void expect(int rule, const char *what, felosumay_result wanted) {
     felosumay_responder responder = {0};
-    felosumay_status status = felosumay_responder_new(&responder, 0x7FF0, 1, &profile, 1);
+    felosumay_result status = felosumay_responder_new(&responder, 0x7FF0, 1, &profile, 1);
     felosumay_responder_free(&responder);
     if (status != wanted) {
         printf("rule %d, %s: status %u\n", rule, what, status);

@@ -1,6 +1,6 @@
--- The machine values of a `Spot` and of a `Hold`. Assumes `Logic`.
---     spot_opens, spot_closes     a spot by value is [what lies at its place; the handle of the heap]
---     hold_opens, hold_closes     a hold by value is what its pointer owns
+-- The machine values of a `RawBox` and of a `Handle`. Assumes `Logic`.
+--     raw_box_opens, raw_box_closes     a raw_box by value is [what lies at its place; the handle of the heap]
+--     handle_opens, handle_closes     a handle by value is what its pointer owns
 use Rattle.std.proofs.Common.{◌≡◌, ℕ, List, [], ◌∷◌, ◌++◌, refl, sym, ap, ◌∙◌, subst}
 use mathlib.Core.Bool.{Bool, true, false, not, ◌&&◌}
 use lib.Dec.{T, lit<}
@@ -32,9 +32,9 @@ use Rattle.std_heap.specs.contracts.Global as heap
 use Rattle.std_heap.proofs.Global.TheLaws as heap_laws
 use Rattle.std_heap.specs.contracts.GlobalAllocator.TheImpl.{ghosts}
 use Rattle.rdm_c.specs.Held.{held_at, may_free, any_handle}
-use Rattle.rdm_c.specs.contracts.spot.Spot as spot
-use Rattle.rdm_c.specs.contracts.hold.Hold as hold
-use Rattle.rdm_c.specs.contracts.party.Party as party
+use Rattle.rdm_c.specs.contracts.raw_box.RawBox as raw_box
+use Rattle.rdm_c.specs.contracts.handle.Handle as handle
+use Rattle.rdm_c.specs.contracts.endpoint.Endpoint as endpoint
 
 -- the C library's heap, of which no method is called here
 abbrev pub the_heap : Al
@@ -45,15 +45,15 @@ pub spot_fits : (Z : Al) (b o : ℕ) (h : Val) → Fits Z h → T (has_ty (α Z)
 spot_fits Z b o h fits = (and_tt (has_ty (α Z) h) fits.0, (tt, (fits.1, tt)))
 
 module _ (R : RattleType) (Z : Al) where
-  abbrev pub Spot : RattleType
-  Spot = spot.the_row R Z.row Z.g
+  abbrev pub RawBox : RattleType
+  RawBox = raw_box.the_row R Z.row Z.g
 
   module _ {M : Type 1} {𝓤 : Ura M} {𝓛 : Logic 𝓤} {K : Type 0} {Γ : List (Item 𝓤)} {G : Goal 𝓤 𝓛.H} where
-    pub spot_opens : K → (s : Spot.Denot) (vs : List Val)
+    pub raw_box_opens : K → (s : RawBox.Denot) (vs : List Val)
         → ((b o : ℕ) (h : Val) → s.place ≡ block_ptr b o → vs ≡ pair_val (vptr b o) h ∷ [] → Fits Z h
         → Seq K 𝓛 (‵ (box_owns (token Z s.heap) R (block_ptr b o) s.value) ∷ ‵ (Z.row.own_val s.heap (h ∷ [])) ∷ Γ) G)
-        → Seq K 𝓛 (‵ (Spot.own_val s vs) ∷ Γ) G
-    spot_opens t s vs k =
+        → Seq K 𝓛 (‵ (RawBox.own_val s vs) ∷ Γ) G
+    raw_box_opens t s vs k =
         fsplit t $ move t (1 ∷ []) $
         in_a_block t s.place (λ p. box_owns (token Z s.heap) R p s.value) (fst∗ 𝓤 (never 𝓤) (sem 𝓛 (token Z s.heap (bare (lone R.mir)) null_ptr))) (λ b o lies.
         -- [what lies there; the fields]
@@ -61,13 +61,13 @@ module _ (R : RattleType) (Z : Al) where
         move t (1 ∷ []) $ drop t $ move t (1 ∷ []) $
         k b o h lies (whole ∙ (λ i. vstruct (of_list ((word ∙ ap (λ (p : Ptr). ptr_val p ∷ []) lies) i ++ (one i ++ []))) ∷ [])) fits)))))
 
-    pub spot_closes : K → (b o : ℕ) (h : Val) (a : Z.row.Denot) (x : R.Denot)
-        → Step K 𝓛 (‵ (Spot.own_val (record { place = block_ptr b o; heap = a; value = x }) (pair_val (vptr b o) h ∷ [])) ∷ Γ) G
+    pub raw_box_closes : K → (b o : ℕ) (h : Val) (a : Z.row.Denot) (x : R.Denot)
+        → Step K 𝓛 (‵ (RawBox.own_val (record { place = block_ptr b o; heap = a; value = x }) (pair_val (vptr b o) h ∷ [])) ∷ Γ) G
         (‵ (box_owns (token Z a) R (block_ptr b o) x) ∷ ‵ (Z.row.own_val a (h ∷ [])) ∷ Γ) G
-    spot_closes t b o h a x = step (λ s.
+    raw_box_closes t b o h a x = step (λ s.
         move t (1 ∷ []) $ feq_i t (List Val) (vptr b o ∷ []) (vptr b o ∷ []) refl $
         use2 𝓛 (‵ ((Tuple (RawPtr ∷ Z.row ∷ [])).own_val (block_ptr b o, a) (pair_val (vptr b o) h ∷ []))) (pair_of 𝓛 RawPtr Z.row (block_ptr b o) a (vptr b o) h) $
-        use2 𝓛 (‵ (Spot.own_val (record { place = block_ptr b o; heap = a; value = x }) (pair_val (vptr b o) h ∷ []))) (id⊢ 𝓤 _) $ s)
+        use2 𝓛 (‵ (RawBox.own_val (record { place = block_ptr b o; heap = a; value = x }) (pair_val (vptr b o) h ∷ []))) (id⊢ 𝓤 _) $ s)
 
 -- ---- the pointer that C holds
 
@@ -79,16 +79,16 @@ ptr_fits (block_ptr b o) = (tt, tt)
 ptr_fits null_ptr = (tt, record { fits = lit< tt })
 
 module _ {M : Type 1} {𝓤 : Ura M} {𝓛 : Logic 𝓤} {K : Type 0} {Γ : List (Item 𝓤)} {G : Goal 𝓤 𝓛.H} where
-  pub hold_opens : K → (d : (hold.the_row).Denot) (vs : List Val) → (vs ≡ word d.at ∷ [] → Seq K 𝓛 (‵ (held_at d.at d.held) ∷ Γ) G) → Seq K 𝓛 (‵ ((hold.the_row).own_val d vs) ∷ Γ) G
-  hold_opens t d vs k =
+  pub handle_opens : K → (d : (handle.the_row).Denot) (vs : List Val) → (vs ≡ word d.at ∷ [] → Seq K 𝓛 (‵ (held_at d.at d.held) ∷ Γ) G) → Seq K 𝓛 (‵ ((handle.the_row).own_val d vs) ∷ Γ) G
+  handle_opens t d vs k =
       fsplit t $ fpick t (λ vss. fsplit t $ feq_l t (λ ev. fsplit t $ feq_l t (λ ep. drop t $
       k (ev ∙ (λ j. vstruct (of_list (ep j ++ [])) ∷ [])))))
 
-  pub hold_closes : K → (p : Ptr) (x : Option (party.the_row).Denot)
-      → Step K 𝓛 (‵ ((hold.the_row).own_val (record { at = p; held = x }) (word p ∷ [])) ∷ Γ) G (‵ (held_at p x) ∷ Γ) G
-  hold_closes t p x = step (λ s.
+  pub handle_closes : K → (p : Ptr) (x : Option (endpoint.the_row).Denot)
+      → Step K 𝓛 (‵ ((handle.the_row).own_val (record { at = p; held = x }) (word p ∷ [])) ∷ Γ) G (‵ (held_at p x) ∷ Γ) G
+  handle_closes t p x = step (λ s.
       nothing t $ feq_i t (List Val) (ptr_val p ∷ []) (ptr_val p ∷ []) refl $ fjoin t $ feq_i t (List Val) (word p ∷ []) (word p ∷ []) refl $ fjoin t $
-      fpack t (Valss (RawPtr ∷ [])) (within (shape hold.the_type) (p, tt) (word p ∷ [])) (ptr_val p ∷ [], tt) $ fjoin t $ s)
+      fpack t (Valss (RawPtr ∷ [])) (within (shape handle.the_type) (p, tt) (word p ∷ [])) (ptr_val p ∷ [], tt) $ fjoin t $ s)
 
 pub by_some {ℓ} : {X : Type 0} {P : Type ℓ} (o : Option X) → IsSome o → ((x : X) → o ≡ Some x → P) → P
 by_some None there k = absurd (subst T (sym there) tt)
@@ -98,12 +98,12 @@ by_some (Some x) there k = k x refl
 abbrev pub Tells : Ptr → Bool → Type 0
 Tells p there = Testable p × (op2_val ptr_eq (ptr_val p) vnull ≡ vbool (not there))
 
-pub tells_held : {M : Type 1} {𝓤 : Ura M} (𝓛 : Logic 𝓤) (p : Ptr) (x : Option (party.the_row).Denot) → ent 𝓤 (sem 𝓛 (held_at p x)) (fact 𝓤 (Tells p (is_some x)))
+pub tells_held : {M : Type 1} {𝓤 : Ura M} (𝓛 : Logic 𝓤) (p : Ptr) (x : Option (endpoint.the_row).Denot) → ent 𝓤 (sem 𝓛 (held_at p x)) (fact 𝓤 (Tells p (is_some x)))
 tells_held {𝓤 = 𝓤} 𝓛 p None =
     qed 𝓛 (‵ (feq Ptr p null_ptr) ∷ []) ∵ feq_l ! (λ e.
     use0 𝓛 (raw (fact 𝓤 (Tells p false))) (fact_i 𝓤 (Tells p false) (emp 𝓤) (subst (λ (q : Ptr). Tells q false) (sym e) (lit< tt, refl))) $ done !)
 tells_held {𝓤 = 𝓤} 𝓛 p (Some x) =
-    qed 𝓛 (‵ (box_owns may_free party.the_row p x) ∷ []) ∵ in_a_block ! p (λ q. box_owns may_free party.the_row q x) (fst∗ 𝓤 (never 𝓤) (sem 𝓛 (may_free (bare (lone (party.the_row).mir)) null_ptr))) (λ b o e.
+    qed 𝓛 (‵ (box_owns may_free endpoint.the_row p x) ∷ []) ∵ in_a_block ! p (λ q. box_owns may_free endpoint.the_row q x) (fst∗ 𝓤 (never 𝓤) (sem 𝓛 (may_free (bare (lone (endpoint.the_row).mir)) null_ptr))) (λ b o e.
     fsplit ! $ drop ! $ use1 𝓛 (raw (fact 𝓤 (Testable (block_ptr b o)))) (dealloc_token-Testable 𝓛 any_handle _ (block_ptr b o)) $ heard ! (Testable (block_ptr b o)) (λ good.
     use0 𝓛 (raw (fact 𝓤 (Tells p true))) (fact_i 𝓤 (Tells p true) (emp 𝓤) (subst (λ (q : Ptr). Tells q true) (sym e) (good, refl))) $ done !))
 

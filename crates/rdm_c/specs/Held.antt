@@ -6,7 +6,7 @@ use Rattle.std.specs.Prelude.{Option, Some, None}
 use Rattle.std_alloc.specs.Box.Ownership.{box_owns}
 use Rattle.std_heap.specs.declared.Global.{Global}
 use Rattle.std_heap.specs.contracts.GlobalAllocator.TheImpl.{ghosts}
-use Rattle.rdm_c.specs.contracts.party.Party.{the_row}
+use Rattle.rdm_c.specs.contracts.endpoint.Endpoint.{the_row}
 
 -- the right to free a block of the C library's heap, which is the same for each handle of that heap
 abbrev pub any_handle : Global

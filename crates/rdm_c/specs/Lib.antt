@@ -3,5 +3,5 @@ pub mod Statuses
 pub mod Jobs
 pub mod Outcomes
 pub mod Profiles
-pub mod Parties
+pub mod Endpoints
 pub mod Messages

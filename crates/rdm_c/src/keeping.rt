@@ -3,19 +3,19 @@
 ghost use Rattle.std.specs.Prelude.{◌≡◌, ◌≢◌, Option, Some, None};
 ghost use Rattle.std.specs.Option.{option_map};
 
-use crate::hold::Hold;
-use crate::party::Party;
-use crate::spot::Spot;
+use crate::endpoint::Endpoint;
+use crate::handle::Handle;
+use crate::raw_box::RawBox;
 use crate::status::Status;
 use std::alloc::Global;
 use std::mem;
 
-/// Takes the party out of a handle, if there is one.
-pub(crate) fn take(alloc: Global, hold: &mut Hold) -> Option<Box<Party>>
-    ensures party { option_map (λ boxed. boxed.value) result ≡ hold.old.held }
-    ensures empty { hold.new.held ≡ None }
+/// Takes the endpoint out of a handle, if there is one.
+pub(crate) fn take(alloc: Global, handle: &mut Handle) -> Option<Box<Endpoint>>
+    ensures endpoint { option_map (λ boxed. boxed.value) result ≡ handle.old.held }
+    ensures empty { handle.new.held ≡ None }
 {
-    let (there, held) = mem::replace(hold, Hold::none()).tell();
+    let (there, held) = mem::replace(handle, Handle::none()).tell();
     if there {
         Some(held.open(alloc).into_box())
     } else {
@@ -24,31 +24,31 @@ pub(crate) fn take(alloc: Global, hold: &mut Hold) -> Option<Box<Party>>
     }
 }
 
-/// Puts a party into a handle that is empty.
-pub(crate) fn put(hold: &mut Hold, party: Box<Party>)
-    requires { hold.old.held ≡ None }
-    ensures { hold.new.held ≡ Some party.value }
+/// Puts an endpoint into a handle that is empty.
+pub(crate) fn put(handle: &mut Handle, endpoint: Box<Endpoint>)
+    requires { handle.old.held ≡ None }
+    ensures { handle.new.held ≡ Some endpoint.value }
 {
-    mem::replace(hold, Hold::of(Spot::of(party))).discard();
+    mem::replace(handle, Handle::of(RawBox::of(endpoint))).discard();
 }
 
-/// Puts a party in the place of what a handle held, or says that there is no memory for it. The handle stays as it was then.
-pub(crate) fn replace(alloc: Global, hold: &mut Hold, party: Party) -> Status
-    ensures done { result ≡ Status.Done → hold.new.held ≡ Some party }
-    ensures refused { result ≢ Status.Done → hold.new ≡ hold.old }
+/// Puts an endpoint in the place of what a handle held, or says that there is no memory for it. The handle stays as it was then.
+pub(crate) fn replace(alloc: Global, handle: &mut Handle, endpoint: Endpoint) -> Status
+    ensures done { result ≡ Status.Done → handle.new.held ≡ Some endpoint }
+    ensures refused { result ≢ Status.Done → handle.new ≡ handle.old }
     ensures statuses { result ≢ Status.Done → result ≡ Status.OutOfMemory }
 {
-    let Ok(boxed) = Box::new(alloc, party) else {
+    let Ok(boxed) = Box::new(alloc, endpoint) else {
         return Status::OutOfMemory;
     };
-    free(alloc, hold);
-    put(hold, boxed);
+    free(alloc, handle);
+    put(handle, boxed);
     Status::Done
 }
 
 /// Gives up what a handle holds, if anything.
-pub(crate) fn free(alloc: Global, hold: &mut Hold)
-    ensures { hold.new.held ≡ None }
+pub(crate) fn free(alloc: Global, handle: &mut Handle)
+    ensures { handle.new.held ≡ None }
 {
-    drop(take(alloc, hold));
+    drop(take(alloc, handle));
 }

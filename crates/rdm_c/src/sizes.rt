@@ -1,6 +1,6 @@
 //! How many bytes the structs have that C hands in and out. `c/sizes.c` says the same of those in the header.
 
-use crate::hold::Hold;
+use crate::handle::Handle;
 use crate::job::{JobNumbers, SteppedNumbers};
 use crate::message::{CommandNumbers, MessageNumbers};
 use crate::outcome::OutcomeNumbers;
@@ -10,7 +10,7 @@ use crate::profile::{
 };
 use std::mem::size_of;
 
-const _: () = prove!(size_of::<Hold>() == 8);
+const _: () = prove!(size_of::<Handle>() == 8);
 
 const _: () = prove!(size_of::<TextNumbers>() == 33);
 

@@ -16,7 +16,7 @@ pub enum Status {
     BadSize,
     /// The UID addresses more than one device.
     BadUid,
-    /// The handle holds no such party.
+    /// The handle holds nothing that such a call is for.
     Absent,
     /// The report isn't of the oldest job of its worker, or its outcome doesn't fit.
     Astray,

@@ -32,13 +32,13 @@ use Rattle.core.proofs.cell.Inside.{Good}
 use Rattle.std_alloc.proofs.BoxSteps.Form as box
 use Rattle.std_alloc.proofs.BoxSteps.Steps.{box_out, box_in}
 use Rattle.std.proofs.raw_atomic.Walks.{proved_at, leaves}
-use Rattle.rdm_c.proofs.Values.{Spot, spot_fits, spot_opens}
+use Rattle.rdm_c.proofs.Values.{RawBox, spot_fits, raw_box_opens}
 use Rattle.std_alloc.specs.contracts.boxed.Box.from_raw as callee
 use Rattle.std_alloc.proofs.boxed.Box.from_raw.Met.{met}
-use Rattle.rdm_c.specs.contracts.spot.Spot.into_box.{ended, clauses}
-use Rattle.rdm_c.specs.contracts.spot.Spot.into_box.Key.{name as #self}
-use Rattle.rdm_c.proofs.spot.Spot.into_box.Statement.{statement}
-use Rattle.rdm_c.proofs.spot.Spot.into_box.Code as code
+use Rattle.rdm_c.specs.contracts.raw_box.RawBox.into_box.{ended, clauses}
+use Rattle.rdm_c.specs.contracts.raw_box.RawBox.into_box.Key.{name as #self}
+use Rattle.rdm_c.proofs.raw_box.RawBox.into_box.Statement.{statement}
+use Rattle.rdm_c.proofs.raw_box.RawBox.into_box.Code as code
 
 pub into_box_spec : {M : Type 1} → statement M
 into_box_spec 𝓤 𝓛 𝓜 𝓡 wired T A L LA g d dx dd allocator glue glued =
@@ -47,14 +47,14 @@ into_box_spec 𝓤 𝓛 𝓜 𝓡 wired T A L LA g d dx dd allocator glue glued 
     let En = ended T A g d dx dd in let c = clauses T A g d dx dd 𝓛 𝓜.mem 𝓡.returns in
     let E : box.Bx = record { row = T; laws = L; al = record { row = A; laws = LA; g = g; d = d; drops = dd } } in let B : RattleType = box.B E in
     let inst = bounded (a_type ∷ a_type ∷ []) (T, (A, tt)) (dcons d (dcons dx (dcons dd dnil))) in let fn = inst_fn inst code.function in
-    let hs : Stays En.signature.params En.kept = (stay_dropped (plain (λ _. Spot R Z)) no, tt) in
-    proved_at 𝓛 En hs c 𝓜 𝓡 (Goes-blank 𝓛 2 (plain (λ _. Spot R Z)) no (λ κs x f. tt), tt) (#self inst) fn (code.unfolded 𝓤 H 𝓜 𝓡 wired (T, (A, tt)) d dx dd) (λ z are.
+    let hs : Stays En.signature.params En.kept = (stay_dropped (plain (λ _. RawBox R Z)) no, tt) in
+    proved_at 𝓛 En hs c 𝓜 𝓡 (Goes-blank 𝓛 2 (plain (λ _. RawBox R Z)) no (λ κs x f. tt), tt) (#self inst) fn (code.unfolded 𝓤 H 𝓜 𝓡 wired (T, (A, tt)) d dx dd) (λ z are.
     let κs = z.0.0 in let qs = z.0.1 in let s = z.0.3.0 in let inT = κs.0 ⊑ T.lives in let inA = κs.1.0 ⊑ A.lives in
     let Post : Val → SProp 𝓤 = (walk_of 𝓛 En hs c).post z in let Run : List Val → SProp 𝓤 = λ ws. WpFn 𝓤 H 𝓣.C 𝓣.Λ fn ws Post in
     let toks = ‵ (flft κs.0 qs.0) ⊛ ‵ (flft κs.1.0 qs.1.0) ⊛ ‵ ftrue in
     let Made = triple_of 𝓛 (callee.signature T A g d dd) (callee.spec T A g d dd 𝓛 𝓜.mem 𝓡.returns) in
     qed 𝓛 ((toks ⊛ ‵ (owns (types_at En.signature.params κs) z.0.3 z.0.4)) ∷ raw ((c κs z.0.3).requires z.1) ∷ []) ∵ split ! $ move ! (1 ∷ []) $ fsplit !
-    $ spot_opens R Z ! s z.0.4.0 (λ b o h lies shape fits. let w : Val = pair_val (vptr b o) h in let typed = spot_fits Z b o h fits in
+    $ raw_box_opens R Z ! s z.0.4.0 (λ b o h lies shape fits. let w : Val = pair_val (vptr b o) h in let typed = spot_fits Z b o h fits in
     let y : Made.Ghost = ((κs, qs, tt, (s.heap, (block_ptr b o, tt)), (h ∷ [], (vptr b o ∷ [], tt))), s.value) in
     -- [what lies there; the handle; nothing; the tokens; what is asked]
     move ! (4 ∷ []) $ use1 𝓛 (raw (fact 𝓤 inT) ⊛ raw (fact 𝓤 inA) ⊛ ‵ ftrue) (id⊢ 𝓤 _) $ split3 ! $ move ! (2 ∷ []) $ drop ! $ move ! (1 ∷ 2 ∷ []) $ join ! $ move ! (1 ∷ 0 ∷ []) $ join ! $

@@ -14,49 +14,49 @@ use Rattle.rdm_responder.specs.Runs.{outbox_of}
 use Rattle.rdm_responder.specs.Rules.{account_of, answered}
 use Rattle.rdm_responder.specs.StandsFor.{StandsFor}
 use Rattle.rdm_collector.specs.Collecting.{State}
-use Rattle.rdm_c.specs.declared.party.Party.{Party}
-use Rattle.rdm_c.specs.declared.party.Party.TheVariants.{Responder, Collector}
+use Rattle.rdm_c.specs.declared.endpoint.Endpoint.{Endpoint}
+use Rattle.rdm_c.specs.declared.endpoint.Endpoint.TheVariants.{Responder, Collector}
 use Rattle.rdm_c.specs.declared.status.Status.{Status}
 use Rattle.rdm_c.specs.declared.status.Status.TheVariants as status
 use Rattle.rdm_c.specs.Statuses.{code_of}
 
 -- It is a responder, and stands for this history.
-abbrev pub IsFor : Party → History → Type 0
-IsFor (Responder station) h = StandsFor station.responder h
+abbrev pub IsFor : Endpoint → History → Type 0
+IsFor (Responder running) h = StandsFor running.responder h
 IsFor (Collector collector) h = ⊥
 
 -- the handle holds a responder that stands for this history
-abbrev pub HeldFor : Option Party → History → Type 0
+abbrev pub HeldFor : Option Endpoint → History → Type 0
 HeldFor None h = ⊥
-HeldFor (Some party) h = IsFor party h
+HeldFor (Some endpoint) h = IsFor endpoint h
 
 -- It is a collector in this state.
-abbrev pub IsIn : Party → State → Type 0
-IsIn (Responder station) s = ⊥
+abbrev pub IsIn : Endpoint → State → Type 0
+IsIn (Responder running) s = ⊥
 IsIn (Collector collector) s = collector ≡ s
 
 -- the handle holds a collector in this state
-abbrev pub HeldIn : Option Party → State → Type 0
+abbrev pub HeldIn : Option Endpoint → State → Type 0
 HeldIn None s = ⊥
-HeldIn (Some party) s = IsIn party s
+HeldIn (Some endpoint) s = IsIn endpoint s
 
-abbrev pub is_responder : Party → Bool
-is_responder (Responder station) = true
+abbrev pub is_responder : Endpoint → Bool
+is_responder (Responder running) = true
 is_responder (Collector collector) = false
 
 -- whether the handle holds a responder
-abbrev pub holds_responder : Option Party → Bool
+abbrev pub holds_responder : Option Endpoint → Bool
 holds_responder None = false
-holds_responder (Some party) = is_responder party
+holds_responder (Some endpoint) = is_responder endpoint
 
-abbrev pub is_collector : Party → Bool
-is_collector (Responder station) = false
+abbrev pub is_collector : Endpoint → Bool
+is_collector (Responder running) = false
 is_collector (Collector collector) = true
 
 -- whether the handle holds a collector
-abbrev pub holds_collector : Option Party → Bool
+abbrev pub holds_collector : Option Endpoint → Bool
 holds_collector None = false
-holds_collector (Some party) = is_collector party
+holds_collector (Some endpoint) = is_collector endpoint
 
 -- what a call comes to that nothing else can keep from being carried out
 abbrev pub found : Bool → Status

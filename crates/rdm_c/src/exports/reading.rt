@@ -7,11 +7,11 @@ ghost use Rattle.rdm_responder.specs.History.{History};
 ghost use Rattle.rdm_responder.specs.Rules.{account_of};
 ghost use Rattle.rdm_responder.specs.Runs.{outbox_of};
 ghost use Rattle.rdm_c.specs.Statuses.{code_of};
-ghost use Rattle.rdm_c.specs.Parties.{HeldFor, GetTold, found, holds_responder};
+ghost use Rattle.rdm_c.specs.Endpoints.{HeldFor, GetTold, found, holds_responder};
 
-use crate::hold::Hold;
+use crate::endpoint::responder::{get, outstanding, room, waiting};
+use crate::handle::Handle;
 use crate::keeping::{put, take};
-use crate::station::{get, outstanding, room, waiting};
 use crate::status::Status;
 use std::alloc::Global;
 
@@ -21,7 +21,7 @@ use std::alloc::Global;
 #[unsafe(no_mangle)]
 pub extern "C" fn felosumay_responder_get(
     alloc: Global,
-    responder: &mut Hold,
+    responder: &mut Handle,
     sub: u16,
     pid: u16,
     argument: &[u8],
@@ -34,11 +34,11 @@ pub extern "C" fn felosumay_responder_get(
     ensures absent { (result ≡ code_of Status.Absent) ↔ (holds_responder responder.old.held ≡ false) }
     ensures same { responder.new.held ≡ responder.old.held }
 {
-    let Some(party) = take(alloc, responder) else {
+    let Some(endpoint) = take(alloc, responder) else {
         return Status::Absent.code();
     };
-    let status = get(&party, sub, pid, argument, value, count, reason);
-    put(responder, party);
+    let status = get(&endpoint, sub, pid, argument, value, count, reason);
+    put(responder, endpoint);
     status.code()
 }
 
@@ -46,18 +46,18 @@ pub extern "C" fn felosumay_responder_get(
 #[unsafe(no_mangle)]
 pub extern "C" fn felosumay_responder_waiting(
     alloc: Global,
-    responder: &mut Hold,
+    responder: &mut Handle,
     count: &mut usize,
 ) -> u8
     ensures status { result ≡ code_of (found (holds_responder responder.old.held)) }
     ensures count { (h : History) → HeldFor responder.old.held h → count.new ≡ length (waiting_of (outbox_of h)) }
     ensures same { responder.new.held ≡ responder.old.held }
 {
-    let Some(party) = take(alloc, responder) else {
+    let Some(endpoint) = take(alloc, responder) else {
         return Status::Absent.code();
     };
-    let status = waiting(&party, count);
-    put(responder, party);
+    let status = waiting(&endpoint, count);
+    put(responder, endpoint);
     status.code()
 }
 
@@ -65,18 +65,18 @@ pub extern "C" fn felosumay_responder_waiting(
 #[unsafe(no_mangle)]
 pub extern "C" fn felosumay_responder_outstanding(
     alloc: Global,
-    responder: &mut Hold,
+    responder: &mut Handle,
     count: &mut usize,
 ) -> u8
     ensures status { result ≡ code_of (found (holds_responder responder.old.held)) }
     ensures count { (h : History) → HeldFor responder.old.held h → count.new ≡ outstanding_count (outbox_of h) }
     ensures same { responder.new.held ≡ responder.old.held }
 {
-    let Some(party) = take(alloc, responder) else {
+    let Some(endpoint) = take(alloc, responder) else {
         return Status::Absent.code();
     };
-    let status = outstanding(&party, count);
-    put(responder, party);
+    let status = outstanding(&endpoint, count);
+    put(responder, endpoint);
     status.code()
 }
 
@@ -84,17 +84,17 @@ pub extern "C" fn felosumay_responder_outstanding(
 #[unsafe(no_mangle)]
 pub extern "C" fn felosumay_responder_room(
     alloc: Global,
-    responder: &mut Hold,
+    responder: &mut Handle,
     there: &mut u8,
 ) -> u8
     ensures status { result ≡ code_of (found (holds_responder responder.old.held)) }
     ensures room { (h : History) → HeldFor responder.old.held h → (there.new == 1) ≡ has_place (outbox_of h) }
     ensures same { responder.new.held ≡ responder.old.held }
 {
-    let Some(party) = take(alloc, responder) else {
+    let Some(endpoint) = take(alloc, responder) else {
         return Status::Absent.code();
     };
-    let status = room(&party, there);
-    put(responder, party);
+    let status = room(&endpoint, there);
+    put(responder, endpoint);
     status.code()
 }

@@ -4,36 +4,36 @@ ghost use Rattle.std.specs.Prelude.{◌≡◌, ◌≢◌, ◌↔◌, [], ◌∷�
 ghost use Rattle.rdm_frame.specs.FrameText.{frame_text, IsFrame};
 ghost use Rattle.rdm_collector.specs.Collecting.{State, refusal_of, poll_request, command_request, after_ask, after_poll, heard_in, after_hearing, without_transaction};
 ghost use Rattle.rdm_c.specs.Messages.{heard_code, message_in};
-ghost use Rattle.rdm_c.specs.Parties.{IsIn, found, is_collector};
+ghost use Rattle.rdm_c.specs.Endpoints.{IsIn, found, is_collector};
 ghost use Rattle.rdm_c.specs.Statuses.{of_refusal};
 
+use crate::endpoint::Endpoint;
 use crate::front::write_front;
 use crate::message::{MessageNumbers, heard_code};
-use crate::party::Party;
 use crate::status::Status;
 use rdm_collector::{AskError, Collector, Command, PollError};
 
 /// Sends a command: writes its request to the front.
 pub(crate) fn ask(
-    party: &mut Party,
+    endpoint: &mut Endpoint,
     command: &Command,
     request: &mut [u8; 257],
     count: &mut usize,
 ) -> Status
-    ensures refused { (s : State) → IsIn party.old s → result ≡ of_refusal (refusal_of s command.now) }
-    ensures sent { (s : State) → IsIn party.old s → result ≡ Status.Done →
+    ensures refused { (s : State) → IsIn endpoint.old s → result ≡ of_refusal (refusal_of s command.now) }
+    ensures sent { (s : State) → IsIn endpoint.old s → result ≡ Status.Done →
         take count.new request.new ≡ frame_text (command_request s command.now) }
-    ensures count { (s : State) → IsIn party.old s → result ≡ Status.Done →
+    ensures count { (s : State) → IsIn endpoint.old s → result ≡ Status.Done →
         count.new ≡ length (frame_text (command_request s command.now)) }
-    ensures is_frame { (s : State) → IsIn party.old s → result ≡ Status.Done → IsFrame (command_request s command.now) }
-    ensures after { (s : State) → IsIn party.old s → result ≡ Status.Done → IsIn party.new (after_ask s command.now) }
-    ensures same { result ≢ Status.Done → party.new ≡ party.old }
-    ensures absent { (result ≡ Status.Absent) ↔ (is_collector party.old ≡ false) }
+    ensures is_frame { (s : State) → IsIn endpoint.old s → result ≡ Status.Done → IsFrame (command_request s command.now) }
+    ensures after { (s : State) → IsIn endpoint.old s → result ≡ Status.Done → IsIn endpoint.new (after_ask s command.now) }
+    ensures same { result ≢ Status.Done → endpoint.new ≡ endpoint.old }
+    ensures absent { (result ≡ Status.Absent) ↔ (is_collector endpoint.old ≡ false) }
     ensures known { result ≢ Status.Unknown }
 {
-    match party {
-        Party::Responder(_) => Status::Absent,
-        Party::Collector(collector) => send(collector, command, request, count),
+    match endpoint {
+        Endpoint::Responder(_) => Status::Absent,
+        Endpoint::Collector(collector) => send(collector, command, request, count),
     }
 }
 
@@ -64,19 +64,19 @@ fn send(
 }
 
 /// Sends a poll: writes its request to the front.
-pub(crate) fn poll(party: &mut Party, request: &mut [u8; 257], count: &mut usize) -> Status
-    ensures busy { (s : State) → IsIn party.old s → ((result ≡ Status.Busy) ↔ IsSome s.transaction) }
-    ensures sent { (s : State) → IsIn party.old s → result ≡ Status.Done → take count.new request.new ≡ frame_text (poll_request s) }
-    ensures count { (s : State) → IsIn party.old s → result ≡ Status.Done → count.new ≡ length (frame_text (poll_request s)) }
-    ensures is_frame { (s : State) → IsIn party.old s → result ≡ Status.Done → IsFrame (poll_request s) }
-    ensures after { (s : State) → IsIn party.old s → result ≡ Status.Done → IsIn party.new (after_poll s) }
-    ensures same { result ≢ Status.Done → party.new ≡ party.old }
-    ensures absent { (result ≡ Status.Absent) ↔ (is_collector party.old ≡ false) }
+pub(crate) fn poll(endpoint: &mut Endpoint, request: &mut [u8; 257], count: &mut usize) -> Status
+    ensures busy { (s : State) → IsIn endpoint.old s → ((result ≡ Status.Busy) ↔ IsSome s.transaction) }
+    ensures sent { (s : State) → IsIn endpoint.old s → result ≡ Status.Done → take count.new request.new ≡ frame_text (poll_request s) }
+    ensures count { (s : State) → IsIn endpoint.old s → result ≡ Status.Done → count.new ≡ length (frame_text (poll_request s)) }
+    ensures is_frame { (s : State) → IsIn endpoint.old s → result ≡ Status.Done → IsFrame (poll_request s) }
+    ensures after { (s : State) → IsIn endpoint.old s → result ≡ Status.Done → IsIn endpoint.new (after_poll s) }
+    ensures same { result ≢ Status.Done → endpoint.new ≡ endpoint.old }
+    ensures absent { (result ≡ Status.Absent) ↔ (is_collector endpoint.old ≡ false) }
     ensures statuses { result ≢ Status.Done → result ≢ Status.Absent → result ≢ Status.Busy → result ≡ Status.OutOfMemory }
 {
-    match party {
-        Party::Responder(_) => Status::Absent,
-        Party::Collector(collector) => send_poll(collector, request, count),
+    match endpoint {
+        Endpoint::Responder(_) => Status::Absent,
+        Endpoint::Collector(collector) => send_poll(collector, request, count),
     }
 }
 
@@ -102,15 +102,15 @@ fn send_poll(collector: &mut Collector, request: &mut [u8; 257], count: &mut usi
 }
 
 /// Hears bytes, and tells what they are taken for.
-pub(crate) fn hear(party: &mut Party, bytes: &[u8], heard: &mut u8) -> Status
-    ensures status { result ≡ found (is_collector party.old) }
-    ensures heard { (s : State) → IsIn party.old s → heard.new ≡ heard_code (heard_in s bytes.now) }
-    ensures after { (s : State) → IsIn party.old s → IsIn party.new (after_hearing s bytes.now) }
-    ensures absent { result ≢ Status.Done → party.new ≡ party.old }
+pub(crate) fn hear(endpoint: &mut Endpoint, bytes: &[u8], heard: &mut u8) -> Status
+    ensures status { result ≡ found (is_collector endpoint.old) }
+    ensures heard { (s : State) → IsIn endpoint.old s → heard.new ≡ heard_code (heard_in s bytes.now) }
+    ensures after { (s : State) → IsIn endpoint.old s → IsIn endpoint.new (after_hearing s bytes.now) }
+    ensures absent { result ≢ Status.Done → endpoint.new ≡ endpoint.old }
 {
-    match party {
-        Party::Responder(_) => Status::Absent,
-        Party::Collector(collector) => {
+    match endpoint {
+        Endpoint::Responder(_) => Status::Absent,
+        Endpoint::Collector(collector) => {
             *heard = heard_code(collector.hear(bytes));
             Status::Done
         }
@@ -118,14 +118,14 @@ pub(crate) fn hear(party: &mut Party, bytes: &[u8], heard: &mut u8) -> Status
 }
 
 /// Ends the open transaction, if there is one, without an answer.
-pub(crate) fn over(party: &mut Party) -> Status
-    ensures status { result ≡ found (is_collector party.old) }
-    ensures after { (s : State) → IsIn party.old s → IsIn party.new (without_transaction s) }
-    ensures absent { result ≢ Status.Done → party.new ≡ party.old }
+pub(crate) fn over(endpoint: &mut Endpoint) -> Status
+    ensures status { result ≡ found (is_collector endpoint.old) }
+    ensures after { (s : State) → IsIn endpoint.old s → IsIn endpoint.new (without_transaction s) }
+    ensures absent { result ≢ Status.Done → endpoint.new ≡ endpoint.old }
 {
-    match party {
-        Party::Responder(_) => Status::Absent,
-        Party::Collector(collector) => {
+    match endpoint {
+        Endpoint::Responder(_) => Status::Absent,
+        Endpoint::Collector(collector) => {
             collector.over();
             Status::Done
         }
@@ -133,17 +133,17 @@ pub(crate) fn over(party: &mut Party) -> Status
 }
 
 /// Takes the first message that was recorded, and tells of it.
-pub(crate) fn next(party: &mut Party, message: &mut MessageNumbers) -> Status
-    ensures next { (s : State) → IsIn party.old s → MatchOption (slice_get s.recorded 0) (result ≡ Status.NoMore)
+pub(crate) fn next(endpoint: &mut Endpoint, message: &mut MessageNumbers) -> Status
+    ensures next { (s : State) → IsIn endpoint.old s → MatchOption (slice_get s.recorded 0) (result ≡ Status.NoMore)
         (λ m. (result ≡ Status.Done) × (message_in message.new ≡ m)) }
-    ensures count { (s : State) → IsIn party.old s → IfSome (slice_get s.recorded 0) (λ m. message.new.count ≡ length m.body) }
-    ensures after { (s : State) → IsIn party.old s → IsIn party.new (record s { recorded = drop 1 s.recorded }) }
-    ensures absent { (result ≡ Status.Absent) ↔ (is_collector party.old ≡ false) }
-    ensures same { is_collector party.old ≡ false → party.new ≡ party.old }
+    ensures count { (s : State) → IsIn endpoint.old s → IfSome (slice_get s.recorded 0) (λ m. message.new.count ≡ length m.body) }
+    ensures after { (s : State) → IsIn endpoint.old s → IsIn endpoint.new (record s { recorded = drop 1 s.recorded }) }
+    ensures absent { (result ≡ Status.Absent) ↔ (is_collector endpoint.old ≡ false) }
+    ensures same { is_collector endpoint.old ≡ false → endpoint.new ≡ endpoint.old }
 {
-    match party {
-        Party::Responder(_) => Status::Absent,
-        Party::Collector(collector) => take_first(collector, message),
+    match endpoint {
+        Endpoint::Responder(_) => Status::Absent,
+        Endpoint::Collector(collector) => take_first(collector, message),
     }
 }
 

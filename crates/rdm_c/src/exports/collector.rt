@@ -4,14 +4,14 @@ ghost use Rattle.std.specs.Prelude.{◌≡◌, ◌≢◌, ◌↔◌, ◌⊎◌, 
 ghost use Rattle.rdm_frame.specs.FrameText.{frame_text, IsFrame};
 ghost use Rattle.rdm_collector.specs.Collecting.{State, new_collector, refusal_of, poll_request, command_request, after_ask, after_poll, heard_in, after_hearing, without_transaction};
 ghost use Rattle.rdm_c.specs.Messages.{action_in, command_in, heard_code, message_in, want_in};
-ghost use Rattle.rdm_c.specs.Parties.{HeldIn, found, holds_collector};
+ghost use Rattle.rdm_c.specs.Endpoints.{HeldIn, found, holds_collector};
 ghost use Rattle.rdm_c.specs.Statuses.{code_of, of_refusal};
 
-use crate::console;
-use crate::hold::Hold;
+use crate::endpoint;
+use crate::endpoint::Endpoint;
+use crate::handle::Handle;
 use crate::keeping::{free, put, replace, take};
 use crate::message::{CommandNumbers, MessageNumbers, want_in};
-use crate::party::Party;
 use crate::status::Status;
 use rdm_collector::Collector;
 use rdm_frame::Uid;
@@ -25,7 +25,7 @@ use std::alloc::Global;
 #[unsafe(no_mangle)]
 pub extern "C" fn felosumay_collector_new(
     alloc: Global,
-    collector: &mut Hold,
+    collector: &mut Handle,
     maker: u16,
     device: u32,
     target_maker: u16,
@@ -53,7 +53,7 @@ pub extern "C" fn felosumay_collector_new(
         return Status::BadUid.code();
     }
     let made = Collector::new(alloc, uid, target, want);
-    replace(alloc, collector, Party::Collector(made)).code()
+    replace(alloc, collector, Endpoint::Collector(made)).code()
 }
 
 /// Sends a command: its request stands at the front of `request` then, and a transaction is open.
@@ -64,7 +64,7 @@ pub extern "C" fn felosumay_collector_new(
 #[unsafe(no_mangle)]
 pub extern "C" fn felosumay_collector_ask(
     alloc: Global,
-    collector: &mut Hold,
+    collector: &mut Handle,
     command: &CommandNumbers,
     load: &[u8],
     request: &mut [u8; 257],
@@ -88,11 +88,11 @@ pub extern "C" fn felosumay_collector_ask(
     let Some(command) = command.command(load) else {
         return Status::Unknown.code();
     };
-    let Some(mut party) = take(alloc, collector) else {
+    let Some(mut endpoint) = take(alloc, collector) else {
         return Status::Absent.code();
     };
-    let status = console::ask(&mut party, &command, request, count);
-    put(collector, party);
+    let status = endpoint::collector::ask(&mut endpoint, &command, request, count);
+    put(collector, endpoint);
     status.code()
 }
 
@@ -102,7 +102,7 @@ pub extern "C" fn felosumay_collector_ask(
 #[unsafe(no_mangle)]
 pub extern "C" fn felosumay_collector_poll(
     alloc: Global,
-    collector: &mut Hold,
+    collector: &mut Handle,
     request: &mut [u8; 257],
     count: &mut usize,
 ) -> u8
@@ -119,11 +119,11 @@ pub extern "C" fn felosumay_collector_poll(
     ensures codes { result ≢ code_of Status.Done → result ≢ code_of Status.Absent → result ≢ code_of Status.Busy →
         result ≡ code_of Status.OutOfMemory }
 {
-    let Some(mut party) = take(alloc, collector) else {
+    let Some(mut endpoint) = take(alloc, collector) else {
         return Status::Absent.code();
     };
-    let status = console::poll(&mut party, request, count);
-    put(collector, party);
+    let status = endpoint::collector::poll(&mut endpoint, request, count);
+    put(collector, endpoint);
     status.code()
 }
 
@@ -132,7 +132,7 @@ pub extern "C" fn felosumay_collector_poll(
 #[unsafe(no_mangle)]
 pub extern "C" fn felosumay_collector_hear(
     alloc: Global,
-    collector: &mut Hold,
+    collector: &mut Handle,
     bytes: &[u8],
     heard: &mut u8,
 ) -> u8
@@ -141,26 +141,26 @@ pub extern "C" fn felosumay_collector_hear(
     ensures after { (s : State) → HeldIn collector.old.held s → HeldIn collector.new.held (after_hearing s bytes.now) }
     ensures absent { result ≢ code_of Status.Done → collector.new.held ≡ collector.old.held }
 {
-    let Some(mut party) = take(alloc, collector) else {
+    let Some(mut endpoint) = take(alloc, collector) else {
         return Status::Absent.code();
     };
-    let status = console::hear(&mut party, bytes, heard);
-    put(collector, party);
+    let status = endpoint::collector::hear(&mut endpoint, bytes, heard);
+    put(collector, endpoint);
     status.code()
 }
 
 /// Ends the open transaction, if there is one, without an answer. A poll that ends so stays unanswered.
 #[unsafe(no_mangle)]
-pub extern "C" fn felosumay_collector_over(alloc: Global, collector: &mut Hold) -> u8
+pub extern "C" fn felosumay_collector_over(alloc: Global, collector: &mut Handle) -> u8
     ensures status { result ≡ code_of (found (holds_collector collector.old.held)) }
     ensures after { (s : State) → HeldIn collector.old.held s → HeldIn collector.new.held (without_transaction s) }
     ensures absent { result ≢ code_of Status.Done → collector.new.held ≡ collector.old.held }
 {
-    let Some(mut party) = take(alloc, collector) else {
+    let Some(mut endpoint) = take(alloc, collector) else {
         return Status::Absent.code();
     };
-    let status = console::over(&mut party);
-    put(collector, party);
+    let status = endpoint::collector::over(&mut endpoint);
+    put(collector, endpoint);
     status.code()
 }
 
@@ -169,7 +169,7 @@ pub extern "C" fn felosumay_collector_over(alloc: Global, collector: &mut Hold) 
 #[unsafe(no_mangle)]
 pub extern "C" fn felosumay_collector_next(
     alloc: Global,
-    collector: &mut Hold,
+    collector: &mut Handle,
     message: &mut MessageNumbers,
 ) -> u8
     ensures next { (s : State) → HeldIn collector.old.held s → MatchOption (slice_get s.recorded 0) (result ≡ code_of Status.NoMore)
@@ -181,17 +181,17 @@ pub extern "C" fn felosumay_collector_next(
     ensures absent { (result ≡ code_of Status.Absent) ↔ (holds_collector collector.old.held ≡ false) }
     ensures same { holds_collector collector.old.held ≡ false → collector.new.held ≡ collector.old.held }
 {
-    let Some(mut party) = take(alloc, collector) else {
+    let Some(mut endpoint) = take(alloc, collector) else {
         return Status::Absent.code();
     };
-    let status = console::next(&mut party, message);
-    put(collector, party);
+    let status = endpoint::collector::next(&mut endpoint, message);
+    put(collector, endpoint);
     status.code()
 }
 
 /// Gives up the collector that the handle holds, if any, and its memory.
 #[unsafe(no_mangle)]
-pub extern "C" fn felosumay_collector_free(alloc: Global, collector: &mut Hold)
+pub extern "C" fn felosumay_collector_free(alloc: Global, collector: &mut Handle)
     ensures { collector.new.held ≡ None }
 {
     free(alloc, collector);

@@ -5,11 +5,11 @@ ghost use Rattle.rdm_params.specs.declared.panel.Change.{Change};
 ghost use Rattle.rdm_params.specs.declared.panel.Change.TheVariants.{Start, Personality, Label};
 ghost use Rattle.rdm_responder.specs.History.{History, Changed, then_event};
 ghost use Rattle.rdm_c.specs.Statuses.{code_of};
-ghost use Rattle.rdm_c.specs.Parties.{HeldFor, changed, holds_responder};
+ghost use Rattle.rdm_c.specs.Endpoints.{HeldFor, changed, holds_responder};
 
-use crate::hold::Hold;
+use crate::endpoint;
+use crate::handle::Handle;
 use crate::keeping::{put, take};
-use crate::station;
 use crate::status::Status;
 use rdm_params::{Change, Plate};
 use std::alloc::Global;
@@ -20,7 +20,7 @@ use std::alloc::Global;
 #[unsafe(no_mangle)]
 pub extern "C" fn felosumay_responder_change_start(
     alloc: Global,
-    responder: &mut Hold,
+    responder: &mut Handle,
     start: u16,
 ) -> u8
     ensures told { (h : History) → HeldFor responder.old.held h → result ≡ code_of (changed h (Start start)) }
@@ -38,7 +38,7 @@ pub extern "C" fn felosumay_responder_change_start(
 #[unsafe(no_mangle)]
 pub extern "C" fn felosumay_responder_change_personality(
     alloc: Global,
-    responder: &mut Hold,
+    responder: &mut Handle,
     number: u8,
 ) -> u8
     ensures told { (h : History) → HeldFor responder.old.held h → result ≡ code_of (changed h (Personality number)) }
@@ -56,7 +56,7 @@ pub extern "C" fn felosumay_responder_change_personality(
 #[unsafe(no_mangle)]
 pub extern "C" fn felosumay_responder_change_label(
     alloc: Global,
-    responder: &mut Hold,
+    responder: &mut Handle,
     label: &[u8],
 ) -> u8
     ensures too_long { (result ≡ code_of Status.TooLong) ↔ (32 < length label.now) }
@@ -76,7 +76,7 @@ pub extern "C" fn felosumay_responder_change_label(
 }
 
 /// Changes a parameter of the root.
-fn change(alloc: Global, responder: &mut Hold, change: Change) -> Status
+fn change(alloc: Global, responder: &mut Handle, change: Change) -> Status
     ensures told { (h : History) → HeldFor responder.old.held h → result ≡ changed h change }
     ensures stands { (h : History) → HeldFor responder.old.held h → result ≢ Status.NoRoom →
         HeldFor responder.new.held (then_event h (Changed change)) }
@@ -85,10 +85,10 @@ fn change(alloc: Global, responder: &mut Hold, change: Change) -> Status
     ensures same { holds_responder responder.old.held ≡ false → responder.new.held ≡ responder.old.held }
     ensures short { result ≢ Status.TooLong }
 {
-    let Some(mut party) = take(alloc, responder) else {
+    let Some(mut endpoint) = take(alloc, responder) else {
         return Status::Absent;
     };
-    let status = station::change(&mut party, change);
-    put(responder, party);
+    let status = endpoint::responder::change(&mut endpoint, change);
+    put(responder, endpoint);
     status
 }

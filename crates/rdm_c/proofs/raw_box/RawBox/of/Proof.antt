@@ -1,4 +1,4 @@
--- `of`: the pointer and the handle that the box comes apart into are a `Spot`, with what lies at the pointer.
+-- `of`: the pointer and the handle that the box comes apart into are a `RawBox`, with what lies at the pointer.
 use Rattle.std.proofs.Common.{◌≡◌, List, [], ◌∷◌, ◌++◌, refl, sym, ap, subst}
 use mir.Syntax.{a_type, dcons, dnil}
 use mir.Val.{Val, vptr}
@@ -31,13 +31,13 @@ use Rattle.std_alloc.specs.Box.Ownership.{box_owns}
 use Rattle.std_alloc.proofs.BoxSteps.Form as box
 use Rattle.std_alloc.proofs.BoxSteps.Steps.{box_out, box_in}
 use Rattle.std.proofs.raw_atomic.Walks.{proved_at, leaves}
-use Rattle.rdm_c.proofs.Values.{Spot, spot_fits, spot_opens, spot_closes}
+use Rattle.rdm_c.proofs.Values.{RawBox, spot_fits, raw_box_opens, raw_box_closes}
 use Rattle.std_alloc.specs.contracts.boxed.Box.into_raw_with_allocator as callee
 use Rattle.std_alloc.proofs.boxed.Box.into_raw_with_allocator.Met.{met}
-use Rattle.rdm_c.specs.contracts.spot.Spot.of.{ended, clauses}
-use Rattle.rdm_c.specs.contracts.spot.Spot.of.Key.{name as #self}
-use Rattle.rdm_c.proofs.spot.Spot.of.Statement.{statement}
-use Rattle.rdm_c.proofs.spot.Spot.of.Code as code
+use Rattle.rdm_c.specs.contracts.raw_box.RawBox.of.{ended, clauses}
+use Rattle.rdm_c.specs.contracts.raw_box.RawBox.of.Key.{name as #self}
+use Rattle.rdm_c.proofs.raw_box.RawBox.of.Statement.{statement}
+use Rattle.rdm_c.proofs.raw_box.RawBox.of.Code as code
 
 pub of_spec : {M : Type 1} → statement M
 of_spec 𝓤 𝓛 𝓜 𝓡 wired T A L LA g d dx dd allocator glue glued =
@@ -62,13 +62,13 @@ of_spec 𝓤 𝓛 𝓜 𝓡 wired T A L LA g d dx dd allocator glue glued =
     calls_at ! (fm 𝓛 𝓜 𝓡) Cut (met 𝓤 𝓛 𝓜 𝓡 (code.calls-std_alloc::boxed::Box::into_raw_with_allocator 𝓡.env wired) T A L LA g d dd dx allocator glued glue) y (and_then ! (get ! refl) (no_more !)) (λ u.
     use1 𝓛 (later (some (λ (r : Ptr × A.Denot). (toks ⊛ ‵ ((Tuple (RawPtr ∷ Z.row ∷ [])).own_val r (u ∷ []))) ⊛ some (λ (_ : (Unit {0} × (Unit {0} × Unit {0})) × Unit {0}).
     ‵ (fsep (fsep ftrue (fsep ftrue ftrue)) ftrue) ⊛ (raw (fact 𝓤 (r.1 ≡ a)) ⊛ ‵ (box_owns (token Z a) R r.0 v.value)))))) (id⊢ 𝓤 _) $
-    await ! tt $ pick ! (λ r. split ! $ move ! (1 ∷ []) $ pick ! (λ _. split3 ! $ drop ! $ heard ! (r.1 ≡ a) (λ same. let s : (Spot R Z).Denot = record { place = r.0; heap = r.1; value = v.value } in
+    await ! tt $ pick ! (λ r. split ! $ move ! (1 ∷ []) $ pick ! (λ _. split3 ! $ drop ! $ heard ! (r.1 ≡ a) (λ same. let s : (RawBox R Z).Denot = record { place = r.0; heap = r.1; value = v.value } in
     -- [what lies at the place; the tokens and the pair]
     rewrite ! 0 (λ (t : A.Denot). ‵ (box_owns (token Z t) R r.0 v.value)) (sym same) refl $ move ! (1 ∷ []) $ split ! $ move ! (1 ∷ 2 ∷ 0 ∷ []) $
-    use2 𝓛 (‵ ((Spot R Z).own_val s (u ∷ []))) (id⊢ 𝓤 _) $ spot_opens R Z ! s (u ∷ []) (λ b' o' h' lies shape fits'. let good = spot_fits Z b' o' h' fits' in
+    use2 𝓛 (‵ ((RawBox R Z).own_val s (u ∷ []))) (id⊢ 𝓤 _) $ raw_box_opens R Z ! s (u ∷ []) (λ b' o' h' lies shape fits'. let good = spot_fits Z b' o' h' fits' in
     lands_as ! (ap only shape) refl good $
     sets ! (of_opd ! (get_in ! (fld ! refl (stop !)) (sub ! 0 refl (whole !)))) refl (tt, tt) $ sets ! (of_opd ! (get_in ! (fld ! refl (stop !)) (sub ! 1 refl (whole !)))) refl fits' $
-    sets ! (of_opd ! (get ! refl)) refl fits' $ sets ! (agg ! (and_then ! (get ! refl) (and_then ! (get ! refl) (no_more !)))) refl good $ spot_closes R Z ! b' o' h' r.1 v.value $
+    sets ! (of_opd ! (get ! refl)) refl fits' $ sets ! (agg ! (and_then ! (get ! refl) (and_then ! (get ! refl) (no_more !)))) refl good $ raw_box_closes R Z ! b' o' h' r.1 v.value $
     use0 𝓛 (raw (fact 𝓤 (v.value ≡ v.value))) (fact_i 𝓤 (v.value ≡ v.value) (emp 𝓤) refl) $ nothing ! $ nothing ! $ fjoin ! $
     returns ! (look_at ! 0 refl) $ free_all ! refl $ keep ! (3 ∷ 0 ∷ 2 ∷ 1 ∷ []) $
     by ! (leaves 𝓛 En hs c z (pair_val (vptr b' o') h') (record { place = block_ptr b' o'; heap = r.1; value = v.value }) ((tt, (tt, tt)), tt) (tt, tt))))))))))

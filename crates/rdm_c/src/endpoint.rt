@@ -1,4 +1,7 @@
-//! What stands behind a handle.
+//! What stands behind a handle, and what it does for C.
+
+pub(crate) mod collector;
+pub(crate) mod responder;
 
 use rdm_collector::Collector;
 use rdm_frame::Wire;
@@ -6,7 +9,7 @@ use rdm_responder::Responder;
 
 /// A responder, and the room for the bytes of its replies.
 #[derive(Drop)]
-pub struct Station {
+pub struct RunningResponder {
     /// The device on the bus.
     pub(crate) responder: Responder,
     /// Where each reply is written first.
@@ -15,9 +18,9 @@ pub struct Station {
 
 /// What stands behind a handle.
 #[derive(Drop)]
-pub enum Party {
+pub enum Endpoint {
     /// A device on the bus.
-    Responder(Station),
+    Responder(RunningResponder),
     /// A controller that collects the messages of a device.
     Collector(Collector),
 }

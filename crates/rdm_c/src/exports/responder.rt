@@ -12,15 +12,15 @@ ghost use Rattle.rdm_c.specs.Statuses.{code_of};
 ghost use Rattle.rdm_c.specs.Jobs.{numbers_of, started_in};
 ghost use Rattle.rdm_c.specs.Outcomes.{report_in};
 ghost use Rattle.rdm_c.specs.Profiles.{profile_in};
-ghost use Rattle.rdm_c.specs.Parties.{HeldFor, found, holds_responder, is_noted, setup_of, told};
+ghost use Rattle.rdm_c.specs.Endpoints.{HeldFor, found, holds_responder, is_noted, setup_of, told};
 
-use crate::hold::Hold;
+use crate::endpoint::responder::{arrive, step};
+use crate::endpoint::{Endpoint, RunningResponder};
+use crate::handle::Handle;
 use crate::job::{JobNumbers, SteppedNumbers};
 use crate::keeping::{free, put, replace, take};
 use crate::outcome::{OutcomeNumbers, report_in};
-use crate::party::{Party, Station};
 use crate::profile::ProfileNumbers;
-use crate::station::{arrive, step};
 use crate::status::Status;
 use rdm_frame::{Uid, Wire};
 use rdm_params::Profile;
@@ -35,7 +35,7 @@ use std::alloc::Global;
 #[unsafe(no_mangle)]
 pub extern "C" fn felosumay_responder_new(
     alloc: Global,
-    responder: &mut Hold,
+    responder: &mut Handle,
     maker: u16,
     device: u32,
     profile: &ProfileNumbers,
@@ -59,7 +59,7 @@ pub extern "C" fn felosumay_responder_new(
 #[unsafe(no_mangle)]
 pub extern "C" fn felosumay_responder_demo(
     alloc: Global,
-    responder: &mut Hold,
+    responder: &mut Handle,
     maker: u16,
     device: u32,
     subs: u16,
@@ -82,7 +82,7 @@ pub extern "C" fn felosumay_responder_demo(
 #[unsafe(no_mangle)]
 pub extern "C" fn felosumay_responder_step(
     alloc: Global,
-    responder: &mut Hold,
+    responder: &mut Handle,
     bytes: &[u8],
     reply: &mut [u8; 257],
     stepped: &mut SteppedNumbers,
@@ -95,12 +95,12 @@ pub extern "C" fn felosumay_responder_step(
     ensures absent { holds_responder responder.old.held ≡ false →
         (responder.new.held ≡ responder.old.held) × (stepped.new.replied ≡ 0) × (stepped.new.started ≡ 0) }
 {
-    let Some(mut party) = take(alloc, responder) else {
+    let Some(mut endpoint) = take(alloc, responder) else {
         stepped.clear();
         return Status::Absent.code();
     };
-    let status = step(&mut party, bytes, reply, stepped);
-    put(responder, party);
+    let status = step(&mut endpoint, bytes, reply, stepped);
+    put(responder, endpoint);
     status.code()
 }
 
@@ -112,7 +112,7 @@ pub extern "C" fn felosumay_responder_step(
 #[unsafe(no_mangle)]
 pub extern "C" fn felosumay_responder_arrive(
     alloc: Global,
-    responder: &mut Hold,
+    responder: &mut Handle,
     job: &JobNumbers,
     outcome: &OutcomeNumbers,
     kept: &mut u8,
@@ -133,24 +133,30 @@ pub extern "C" fn felosumay_responder_arrive(
     let Some(report) = report_in(job, outcome) else {
         return Status::Unknown.code();
     };
-    let Some(mut party) = take(alloc, responder) else {
+    let Some(mut endpoint) = take(alloc, responder) else {
         return Status::Absent.code();
     };
-    let status = arrive(&mut party, report, kept);
-    put(responder, party);
+    let status = arrive(&mut endpoint, report, kept);
+    put(responder, endpoint);
     status.code()
 }
 
 /// Gives up the responder that the handle holds, if any, and its memory.
 #[unsafe(no_mangle)]
-pub extern "C" fn felosumay_responder_free(alloc: Global, responder: &mut Hold)
+pub extern "C" fn felosumay_responder_free(alloc: Global, responder: &mut Handle)
     ensures { responder.new.held ≡ None }
 {
     free(alloc, responder);
 }
 
 /// Makes a responder, in the place of what the handle held.
-fn start(alloc: Global, responder: &mut Hold, uid: Uid, profile: Profile, queue_size: u16) -> Status
+fn start(
+    alloc: Global,
+    responder: &mut Handle,
+    uid: Uid,
+    profile: Profile,
+    queue_size: u16,
+) -> Status
     ensures made { result ≡ Status.Done → HeldFor responder.new.held (empty_history (setup_of uid.maker uid.device profile queue_size)) }
     ensures bad_uid { (result ≡ Status.BadUid) ↔ (uid.device ≡ 0xFFFFFFFF) }
     ensures bad_size { (result ≡ Status.BadSize) ↔ ((uid.device ≢ 0xFFFFFFFF) × ¬ IsQueueSize queue_size) }
@@ -158,14 +164,19 @@ fn start(alloc: Global, responder: &mut Hold, uid: Uid, profile: Profile, queue_
     ensures codes { code_of result ≤ 4 }
     ensures refused { result ≢ Status.Done → responder.new ≡ responder.old }
 {
-    match station(alloc, uid, profile, queue_size) {
-        Ok(made) => replace(alloc, responder, Party::Responder(made)),
+    match running_responder(alloc, uid, profile, queue_size) {
+        Ok(made) => replace(alloc, responder, Endpoint::Responder(made)),
         Err(status) => status,
     }
 }
 
 /// A responder with the room for its replies.
-fn station(alloc: Global, uid: Uid, profile: Profile, queue_size: u16) -> Result<Station, Status>
+fn running_responder(
+    alloc: Global,
+    uid: Uid,
+    profile: Profile,
+    queue_size: u16,
+) -> Result<RunningResponder, Status>
     ensures made { IfOk result (λ s. StandsFor s.responder (empty_history (setup_of uid.maker uid.device profile queue_size))) }
     ensures bad_uid { (result ≡ Err Status.BadUid) ↔ (uid.device ≡ 0xFFFFFFFF) }
     ensures bad_size { (result ≡ Err Status.BadSize) ↔ ((uid.device ≢ 0xFFFFFFFF) × ¬ IsQueueSize queue_size) }
@@ -174,7 +185,7 @@ fn station(alloc: Global, uid: Uid, profile: Profile, queue_size: u16) -> Result
     ensures codes { IfErr result (λ status. (code_of status ≤ 4) × (status ≢ Status.Done)) }
 {
     match Responder::new(alloc, uid, profile, queue_size) {
-        Ok(made) => Ok(Station {
+        Ok(made) => Ok(RunningResponder {
             responder: made,
             wire: Wire::new(),
         }),

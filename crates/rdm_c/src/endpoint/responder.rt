@@ -1,0 +1,206 @@
+//! What a responder does for C.
+
+ghost use Rattle.std.specs.Prelude.{◌≡◌, ◌≢◌, ◌==◌, ◌↔◌, IfSome, false, length};
+ghost use Rattle.std.specs.Option.{option_map};
+ghost use Rattle.rdm_params.specs.Commands.Commands.{got};
+ghost use Rattle.rdm_outbox.specs.Jobs.{has_place, outstanding_count, waiting_of};
+ghost use Rattle.rdm_responder.specs.History.{History, Heard, Arrived, Changed, then_event};
+ghost use Rattle.rdm_responder.specs.Lawful.{IsLawful};
+ghost use Rattle.rdm_responder.specs.Rules.{account_of, reply_of, job_of};
+ghost use Rattle.rdm_responder.specs.Runs.{outbox_of};
+ghost use Rattle.rdm_responder.specs.StandsFor.{StandsFor};
+ghost use Rattle.rdm_c.specs.Jobs.{numbers_of, started_in};
+ghost use Rattle.rdm_c.specs.Statuses.{code_of};
+ghost use Rattle.rdm_c.specs.Endpoints.{changed, GetTold, IsFor, found, is_noted, is_responder, told};
+
+use crate::endpoint::{Endpoint, RunningResponder};
+use crate::front::write_front;
+use crate::job::SteppedNumbers;
+use crate::status::Status;
+use rdm_params::{Change, Verdict};
+use rdm_responder::Report;
+
+/// Hears bytes, and tells of the reply and of the job that started.
+pub(crate) fn step(
+    endpoint: &mut Endpoint,
+    bytes: &[u8],
+    reply: &mut [u8; 257],
+    stepped: &mut SteppedNumbers,
+) -> Status
+    ensures status { result ≡ found (is_responder endpoint.old) }
+    ensures reply { (h : History) → IsFor endpoint.old h → told stepped.new.replied stepped.new.count reply.new ≡ reply_of h bytes.now }
+    ensures count { (h : History) → IsFor endpoint.old h → IfSome (reply_of h bytes.now) (λ r. stepped.new.count ≡ length r) }
+    ensures job { (h : History) → IsFor endpoint.old h → started_in stepped.new ≡ option_map numbers_of (job_of h bytes.now) }
+    ensures stands { (h : History) → IsFor endpoint.old h → IsFor endpoint.new (then_event h (Heard bytes.now)) }
+    ensures absent { result ≢ Status.Done → (endpoint.new ≡ endpoint.old) × (stepped.new.replied ≡ 0) × (stepped.new.started ≡ 0) }
+{
+    match endpoint {
+        Endpoint::Responder(running) => {
+            hear(running, bytes, reply, stepped);
+            Status::Done
+        }
+        Endpoint::Collector(_) => {
+            stepped.clear();
+            Status::Absent
+        }
+    }
+}
+
+/// Hears bytes, as `step`.
+fn hear(
+    running: &mut RunningResponder,
+    bytes: &[u8],
+    reply: &mut [u8; 257],
+    stepped: &mut SteppedNumbers,
+)
+    ensures reply { (h : History) → StandsFor running.old.responder h →
+        told stepped.new.replied stepped.new.count reply.new ≡ reply_of h bytes.now }
+    ensures count { (h : History) → StandsFor running.old.responder h →
+        IfSome (reply_of h bytes.now) (λ r. stepped.new.count ≡ length r) }
+    ensures job { (h : History) → StandsFor running.old.responder h →
+        started_in stepped.new ≡ option_map numbers_of (job_of h bytes.now) }
+    ensures stands { (h : History) → StandsFor running.old.responder h →
+        StandsFor running.new.responder (then_event h (Heard bytes.now)) }
+{
+    let outcome = running.responder.step_into(bytes, &mut running.wire);
+    stepped.clear();
+    if outcome.replied {
+        stepped.count = write_front(running.wire.as_slice(), reply);
+        stepped.replied = 1;
+    }
+    stepped.tell_job(outcome.started);
+}
+
+/// Takes the report of a job, and says whether it noted a status entry.
+pub(crate) fn arrive(endpoint: &mut Endpoint, report: Report, kept: &mut u8) -> Status
+    ensures absent { (result ≡ Status.Absent) ↔ (is_responder endpoint.old ≡ false) }
+    ensures lawful { (h : History) → IsLawful h → IsFor endpoint.old h →
+        ((result ≡ Status.Done) ↔ IsLawful (then_event h (Arrived report))) }
+    ensures stands { (h : History) → IsFor endpoint.old h → result ≡ Status.Done → IsFor endpoint.new (then_event h (Arrived report)) }
+    ensures kept { (h : History) → IsFor endpoint.old h → result ≡ Status.Done → (kept.new == 1) ≡ is_noted h report }
+    ensures same { result ≢ Status.Done → endpoint.new ≡ endpoint.old }
+    ensures statuses { (result ≢ Status.Absent) → result ≢ Status.Done → result ≡ Status.Astray }
+{
+    match endpoint {
+        Endpoint::Responder(running) => take_report(running, report, kept),
+        Endpoint::Collector(_) => Status::Absent,
+    }
+}
+
+/// Takes the report of a job, as `arrive`.
+fn take_report(running: &mut RunningResponder, report: Report, kept: &mut u8) -> Status
+    ensures lawful { (h : History) → IsLawful h → StandsFor running.old.responder h →
+        ((result ≡ Status.Done) ↔ IsLawful (then_event h (Arrived report))) }
+    ensures stands { (h : History) → StandsFor running.old.responder h → result ≡ Status.Done →
+        StandsFor running.new.responder (then_event h (Arrived report)) }
+    ensures kept { (h : History) → StandsFor running.old.responder h → result ≡ Status.Done →
+        (kept.new == 1) ≡ is_noted h report }
+    ensures same { result ≢ Status.Done → running.new ≡ running.old }
+    ensures statuses { result ≢ Status.Done → result ≡ Status.Astray }
+{
+    match running.responder.arrive(report) {
+        Ok(arrival) => {
+            *kept = if arrival.kept { 1 } else { 0 };
+            Status::Done
+        }
+        Err(_) => Status::Astray,
+    }
+}
+
+/// Changes a parameter of the root, as a person does at the fixture's own menu.
+pub(crate) fn change(endpoint: &mut Endpoint, change: Change) -> Status
+    ensures told { (h : History) → IsFor endpoint.old h → result ≡ changed h change }
+    ensures stands { (h : History) → IsFor endpoint.old h → result ≢ Status.NoRoom → IsFor endpoint.new (then_event h (Changed change)) }
+    ensures no_room { result ≡ Status.NoRoom → endpoint.new ≡ endpoint.old }
+    ensures absent { (result ≡ Status.Absent) ↔ (is_responder endpoint.old ≡ false) }
+    ensures same { is_responder endpoint.old ≡ false → endpoint.new ≡ endpoint.old }
+    ensures short { result ≢ Status.TooLong }
+{
+    match endpoint {
+        Endpoint::Responder(running) => take_change(running, change),
+        Endpoint::Collector(_) => Status::Absent,
+    }
+}
+
+/// Changes a parameter of the root, as `change`.
+fn take_change(running: &mut RunningResponder, change: Change) -> Status
+    ensures told { (h : History) → StandsFor running.old.responder h → result ≡ changed h change }
+    ensures stands { (h : History) → StandsFor running.old.responder h → result ≢ Status.NoRoom →
+        StandsFor running.new.responder (then_event h (Changed change)) }
+    ensures no_room { result ≡ Status.NoRoom → running.new ≡ running.old }
+    ensures found { (result ≢ Status.Absent) × (result ≢ Status.TooLong) }
+{
+    match running.responder.change(change) {
+        Ok(Some(_)) => Status::Done,
+        Ok(None) => Status::OutOfRange,
+        Err(_) => Status::NoRoom,
+    }
+}
+
+/// Writes what a GET answers: the value to the front, or the reason of the refusal.
+pub(crate) fn get(
+    endpoint: &Endpoint,
+    sub: u16,
+    pid: u16,
+    argument: &[u8],
+    value: &mut [u8; 231],
+    count: &mut usize,
+    reason: &mut u16,
+) -> Status
+    ensures told { (h : History) → IsFor endpoint.now h →
+        GetTold (code_of result) count.new value.new reason.new (got (account_of h).parameters sub pid argument.now) }
+    ensures absent { (result ≡ Status.Absent) ↔ (is_responder endpoint.now ≡ false) }
+{
+    let Endpoint::Responder(running) = endpoint else {
+        return Status::Absent;
+    };
+    match running.responder.devices().get(sub, pid, argument) {
+        Verdict::Reply(body) => {
+            *count = write_front(body.as_slice(), value);
+            Status::Done
+        }
+        Verdict::Refuse(nack) => {
+            *reason = nack.code();
+            Status::Refused
+        }
+        Verdict::Start(_) | Verdict::Queue(_) | Verdict::Status(_) | Verdict::Clear => {
+            Status::NoValue
+        }
+    }
+}
+
+/// Tells how many messages wait.
+pub(crate) fn waiting(endpoint: &Endpoint, count: &mut usize) -> Status
+    ensures status { result ≡ found (is_responder endpoint.now) }
+    ensures count { (h : History) → IsFor endpoint.now h → count.new ≡ length (waiting_of (outbox_of h)) }
+{
+    let Endpoint::Responder(running) = endpoint else {
+        return Status::Absent;
+    };
+    *count = running.responder.waiting();
+    Status::Done
+}
+
+/// Tells how many jobs are outstanding.
+pub(crate) fn outstanding(endpoint: &Endpoint, count: &mut usize) -> Status
+    ensures status { result ≡ found (is_responder endpoint.now) }
+    ensures count { (h : History) → IsFor endpoint.now h → count.new ≡ outstanding_count (outbox_of h) }
+{
+    let Endpoint::Responder(running) = endpoint else {
+        return Status::Absent;
+    };
+    *count = running.responder.outstanding();
+    Status::Done
+}
+
+/// Tells whether there is room for the message of a change.
+pub(crate) fn room(endpoint: &Endpoint, room: &mut u8) -> Status
+    ensures status { result ≡ found (is_responder endpoint.now) }
+    ensures room { (h : History) → IsFor endpoint.now h → (room.new == 1) ≡ has_place (outbox_of h) }
+{
+    let Endpoint::Responder(running) = endpoint else {
+        return Status::Absent;
+    };
+    *room = if running.responder.room() { 1 } else { 0 };
+    Status::Done
+}

@@ -1,0 +1,6 @@
+//! The calls of the header. Each takes what its handle holds, has `endpoint` do the work, and puts it back.
+
+pub(crate) mod change;
+pub(crate) mod collector;
+pub(crate) mod reading;
+pub(crate) mod responder;
