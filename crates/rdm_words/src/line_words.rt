@@ -39,10 +39,8 @@ pub fn words_of_lines(
     ensures told { IfOk result (λ out. AreToldInTurn lines.now out.items) }
 {
     let mut out = Vec::new(alloc);
-    let mut rest = lines;
-    while let [line, more @ ..] = rest {
+    for line in lines {
         put_line_words(&mut out, line, known)?;
-        rest = more;
     }
     Ok(out)
 }
