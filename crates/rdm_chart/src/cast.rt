@@ -1,8 +1,7 @@
 //! Who takes part in a trace.
 
 use crate::layout::{CONTROLLER_X, Px, RESPONDER_X, WORK_STEP, WORK_X};
-use crate::lines::Line;
-use rdm_words::TraceLine;
+use rdm_trace::Line;
 use std::alloc::{AllocError, Global};
 
 /// Someone with a lifeline, in the order from left to right.
@@ -22,12 +21,12 @@ pub(crate) struct Cast {
 
 impl Cast {
     /// The controller, the responder, and those whom the lines name.
-    pub(crate) fn of(alloc: Global, lines: &[Line<'_>]) -> Result<Self, AllocError> {
+    pub(crate) fn of(alloc: Global, lines: &[Line]) -> Result<Self, AllocError> {
         let mut parties = Vec::new(alloc);
         parties.push(Party::Controller)?;
         parties.push(Party::Responder)?;
         for line in lines {
-            if let Some(party) = named_by(&line.said)
+            if let Some(party) = named_by(line)
                 && !parties.contains(&party)
             {
                 parties.push(party)?;
@@ -57,15 +56,15 @@ impl Cast {
 }
 
 /// Who but the controller and the responder takes part in what a line says.
-fn named_by(line: &TraceLine) -> Option<Party> {
+fn named_by(line: &Line) -> Option<Party> {
     match line {
-        TraceLine::Job(job) | TraceLine::Arrive { job, .. } => Some(Party::Worker(job.worker)),
-        TraceLine::Panel { .. } => Some(Party::Panel),
-        TraceLine::Send { .. }
-        | TraceLine::Reply(_)
-        | TraceLine::Heard(_)
-        | TraceLine::Message(_)
-        | TraceLine::End => None,
+        Line::Job(job) | Line::Arrive { job, .. } => Some(Party::Worker(job.worker)),
+        Line::Panel { .. } => Some(Party::Panel),
+        Line::Send { .. }
+        | Line::Reply(_)
+        | Line::Heard(_)
+        | Line::Message(_)
+        | Line::End => None,
     }
 }
 

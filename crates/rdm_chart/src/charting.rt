@@ -4,8 +4,8 @@ ghost use Rattle.std.specs.Prelude.{◌≡◌, ◌++◌, ℕ, List, IfOk, codes}
 
 use crate::cast::Cast;
 use crate::drawing::Drawing;
-use crate::lines::lines_of;
 use crate::page::page;
+use rdm_trace::{TraceError, lines_of};
 use rdm_words::Known;
 use std::alloc::{AllocError, AllocFailed, Global};
 use thiserror::Error;
@@ -35,6 +35,15 @@ pub fn chart(alloc: Global, trace: &[u8], known: &Known<'_>) -> Result<Vec<u8>, 
         drawing.draw(alloc, line, known)?;
     }
     Ok(page(alloc, &drawing)?.into_bytes())
+}
+
+impl From<TraceError> for ChartError {
+    fn from(error: TraceError) -> ChartError {
+        match error {
+            TraceError::OutOfMemory => ChartError::OutOfMemory,
+            TraceError::Line(number) => ChartError::Line(number),
+        }
+    }
 }
 
 impl From<AllocError> for ChartError {

@@ -9,14 +9,14 @@ use crate::layout::{
     WORK_X,
 };
 use crate::lettering::broken_lines;
-use crate::lines::Line;
 use crate::recorded::draw_message;
 use crate::svg::Svg;
 use crate::transaction::{draw_heard, draw_reply, draw_request};
 use crate::wording::line_words;
 use crate::work::{draw_change, draw_job, draw_report};
 use rdm_bus::Fault;
-use rdm_words::{Known, TraceLine};
+use rdm_trace::Line;
+use rdm_words::Known;
 use std::alloc::{AllocError, Global};
 
 /// A chart that is drawn so far.
@@ -75,29 +75,29 @@ impl Drawing {
     pub(crate) fn draw(
         &mut self,
         alloc: Global,
-        line: &Line<'_>,
+        line: &Line,
         known: &Known<'_>,
     ) -> Result<(), AllocError> {
-        match &line.said {
-            TraceLine::Send { bytes, fault } => {
+        match line {
+            Line::Send { bytes, fault } => {
                 draw_request(self, alloc, bytes.as_slice(), *fault, known)
             }
-            TraceLine::Reply(reply) => draw_reply(self, alloc, reply, known),
-            TraceLine::Job(job) => draw_job(self, alloc, *job),
-            TraceLine::Heard(heard) => draw_heard(self, alloc, *heard),
-            TraceLine::Arrive { job, .. } => {
-                let words = line_words(alloc, line.text, known)?;
+            Line::Reply(reply) => draw_reply(self, alloc, reply, known),
+            Line::Job(job) => draw_job(self, alloc, *job),
+            Line::Heard(heard) => draw_heard(self, alloc, *heard),
+            Line::Arrive { job, .. } => {
+                let words = line_words(alloc, line, known)?;
                 draw_report(self, alloc, *job, words.as_str())
             }
-            TraceLine::Panel { refused, .. } => {
-                let words = line_words(alloc, line.text, known)?;
+            Line::Panel { refused, .. } => {
+                let words = line_words(alloc, line, known)?;
                 draw_change(self, alloc, *refused, words.as_str())
             }
-            TraceLine::Message(_) => {
-                let words = line_words(alloc, line.text, known)?;
+            Line::Message(_) => {
+                let words = line_words(alloc, line, known)?;
                 draw_message(self, alloc, words.as_str())
             }
-            TraceLine::End => Ok(()),
+            Line::End => Ok(()),
         }
     }
 

@@ -16,7 +16,6 @@ mod heads;
 mod laws;
 mod layout;
 mod lettering;
-mod lines;
 mod page;
 mod recorded;
 mod svg;

@@ -1,5 +1,6 @@
 //! The words of what is drawn.
 
+use rdm_trace::Line;
 use rdm_words::{Known, put_line_words, put_reply_words, put_request_words};
 use std::alloc::{AllocError, Global};
 
@@ -28,7 +29,7 @@ pub(crate) fn reply_words(
 /// What a line of a trace says.
 pub(crate) fn line_words(
     alloc: Global,
-    line: &[u8],
+    line: &Line,
     known: &Known<'_>,
 ) -> Result<String, AllocError> {
     let mut words = Vec::new(alloc);

@@ -5,7 +5,7 @@ use crate::cast::Party;
 use crate::class::Class;
 use crate::drawing::{Drawing, Label};
 use crate::layout::{ABOVE_ARROW, BELOW_ARROW, GAP, LINE_HEIGHT, RESPONDER_X};
-use rdm_words::JobName;
+use rdm_trace::JobName;
 use std::alloc::{AllocError, Global};
 
 /// Draws the start of a job, beside the reply to the command that starts it.

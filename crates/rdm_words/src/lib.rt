@@ -6,9 +6,7 @@
 #![tactic(auto)]
 
 mod class;
-mod cut;
 mod device_info;
-mod digits;
 mod discovery;
 mod form;
 mod frame_words;
@@ -18,18 +16,15 @@ mod layout;
 mod line_words;
 mod lists;
 mod place;
-mod report;
 mod sensors;
 mod short;
 mod slots;
 mod statuses;
 pub mod tables;
 mod text;
-mod trace;
 mod trace_words;
 mod values;
 
 pub use known::Known;
-pub use line_words::{put_line_words, words};
+pub use line_words::{put_line_words, words, words_of_lines};
 pub use short::{put_reply_words, put_request_words};
-pub use trace::{JobName, TraceLine, may_begin_trace_line, trace_line};

@@ -2,14 +2,13 @@
 
 ghost use Rattle.std.specs.Prelude.{◌≡◌, ◌<◌, ◌==◌, ℕ, List, [], ◌∷◌, ◌++◌, length, position, IfOk, IfSome, OnOk, string_bytes};
 ghost use Rattle.std.specs.Str.Lines.{lines};
-ghost use Rattle.rdm_words.specs.Said.{Says, SayInTurn};
+ghost use Rattle.rdm_words.specs.Said.{Says, SayInTurn, IsTold, AreToldInTurn};
 
 use crate::Known;
-use crate::digits::wire_in;
 use crate::frame_words::put_bytes_words;
 use crate::text::put_escaped;
-use crate::trace::trace_line;
 use crate::trace_words::put_trace_line;
+use rdm_trace::{Line, read, wire_in};
 use rdm_streams::{line_end, without_return};
 use std::alloc::{AllocError, Global};
 
@@ -21,20 +20,44 @@ pub fn words(alloc: Global, text: &[u8], known: &Known<'_>) -> Result<Vec<u8>, A
     let mut out = Vec::new(alloc);
     let mut rest = text;
     while let Some(end) = line_end(rest) {
-        put_line_words(&mut out, without_return(&rest[..end]), known)?;
+        put_text_line(&mut out, without_return(&rest[..end]), known)?;
         rest = &rest[end + 1..];
     }
     if rest.is_empty() {
         return Ok(out);
     }
-    put_line_words(&mut out, rest, known)?;
+    put_text_line(&mut out, rest, known)?;
     Ok(out)
 }
 
-/// Puts the words of one line at the end: one or more lines of text, each of which ends with LF. The line, without its line
-/// end, is one of a trace, or a frame in hexadecimal digits of either case, with spaces between the bytes or without. Any
-/// other line is shown as it stands. Fails only where memory is refused.
-pub fn put_line_words(out: &mut Vec<u8>, line: &[u8], known: &Known<'_>) -> Result<(), AllocError>
+/// The words of each of these lines of a trace, in order. Fails only where memory is refused.
+pub fn words_of_lines(
+    alloc: Global,
+    lines: &[Line],
+    known: &Known<'_>,
+) -> Result<Vec<u8>, AllocError>
+    ensures told { IfOk result (λ out. AreToldInTurn lines.now out.items) }
+{
+    let mut out = Vec::new(alloc);
+    for line in lines {
+        put_line_words(&mut out, line, known)?;
+    }
+    Ok(out)
+}
+
+/// Puts the words of a line of a trace at the end: one or more lines of text, each of which ends with LF. Fails only where
+/// memory is refused.
+pub fn put_line_words(out: &mut Vec<u8>, line: &Line, known: &Known<'_>) -> Result<(), AllocError>
+    ensures told { OnOk result ((own : List ℕ) × IsTold own × (out.new.items ≡ out.old.items ++ own)) }
+{
+    let mut text = String::new(*out.allocator());
+    put_trace_line(&mut text, line, known)?;
+    put_whole(out, text.as_bytes())?;
+    Ok(())
+}
+
+/// Puts the words of one line of a text at the end, as `words` has them.
+fn put_text_line(out: &mut Vec<u8>, line: &[u8], known: &Known<'_>) -> Result<(), AllocError>
     ensures said { OnOk result ((own : List ℕ) × Says line.now own × (out.new.items ≡ out.old.items ++ own)) }
 {
     let mut text = String::new(*out.allocator());
@@ -54,7 +77,7 @@ pub fn put_line_words(out: &mut Vec<u8>, line: &[u8], known: &Known<'_>) -> Resu
 
 /// The words of a line, without the last line end, or none where it is neither a line of a trace nor a frame.
 fn put_read(text: &mut String, line: &[u8], known: &Known<'_>) -> Result<(), AllocError> {
-    if let Some(said) = trace_line(line) {
+    if let Some(said) = read(line) {
         return put_trace_line(text, &said, known);
     }
     match wire_in(line) {

@@ -7,37 +7,38 @@ use crate::layout::layout_of;
 use crate::place::put_place;
 use crate::statuses::{Status, put_failure};
 use crate::text::put_quoted;
-use crate::{JobName, Known, TraceLine};
+use crate::Known;
 use rdm_bus::{Fault, Heard};
 use rdm_params::{Change, Message, Outcome};
+use rdm_trace::{JobName, Line};
 use std::alloc::AllocError;
 use std::fmt::Write;
 
 /// The words of a line of a trace.
 pub(crate) fn put_trace_line(
     text: &mut String,
-    line: &TraceLine,
+    line: &Line,
     known: &Known<'_>,
 ) -> Result<(), AllocError> {
     match line {
-        TraceLine::Send { bytes, fault } => {
+        Line::Send { bytes, fault } => {
             put_bytes_words(text, bytes.as_slice(), known)?;
             put_fault(text, *fault)
         }
-        TraceLine::Reply(Some(bytes)) => put_bytes_words(text, bytes.as_slice(), known),
-        TraceLine::Reply(None) => text.push_str("no reply"),
-        TraceLine::Job(job) => {
+        Line::Reply(Some(bytes)) => put_bytes_words(text, bytes.as_slice(), known),
+        Line::Reply(None) => text.push_str("no reply"),
+        Line::Job(job) => {
             put_job(text, job)?;
             text.push_str(" starts")
         }
-        TraceLine::Heard(heard) => text.push_str(heard_words(*heard)),
-        TraceLine::Arrive { job, outcome } => {
+        Line::Heard(heard) => text.push_str(heard_words(*heard)),
+        Line::Arrive { job, outcome } => {
             put_job(text, job)?;
             put_outcome(text, *outcome, known)
         }
-        TraceLine::Panel { change, refused } => put_panel(text, change, *refused),
-        TraceLine::Message(message) => put_message(text, message, known),
-        TraceLine::End => text.push_str("end of the trace"),
+        Line::Panel { change, refused } => put_panel(text, change, *refused),
+        Line::Message(message) => put_message(text, message, known),
+        Line::End => text.push_str("end of the trace"),
     }
 }
 

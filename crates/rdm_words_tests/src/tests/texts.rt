@@ -1,6 +1,7 @@
 //! Whole texts: a trace that is cut anywhere, and bytes that are no text.
 
-use rdm_words::{Known, trace_line, words};
+use rdm_trace::read;
+use rdm_words::{Known, words};
 use std::test::Fail;
 
 /// A trace with each kind of line.
@@ -50,7 +51,7 @@ fn line_count(text: &[u8]) -> usize {
 #[test]
 fn every_line_of_the_trace_is_read(rt: HostRuntime) {
     for line in TRACE.lines() {
-        assert!(rt; trace_line(line.as_bytes()).is_some(), "{line}");
+        assert!(rt; read(line.as_bytes()).is_some(), "{line}");
     }
 }
 

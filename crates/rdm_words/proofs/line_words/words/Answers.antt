@@ -9,7 +9,7 @@ loop-end-preserved c =
     let text = c.args.text.now in
     let rest = c.loop-end.rest.now in
     let behind = c.in-Some.end + 1 in
-    let said = c.in_ok-put_line_words.ensures.said in
+    let said = c.in_ok-put_text_line.ensures.said in
     rw (take_all (length rest - behind) (drop behind rest) (omega (arith, length-drop behind rest)), said.2)
     (said_more text rest c.without_return.result.now c.loop-end.out.items said.0 c.in-Some.end (sym c.in-Some.ensures.end) c.without_return.ensures.front said.1 c.loop-end.invariant)
 
@@ -21,5 +21,5 @@ returns-then-is_empty c =
 pub returns : goal.returns
 returns c =
     let rest = c.loop-end.rest.now in
-    let said = c.in_ok-put_line_words-2.ensures.said in
+    let said = c.in_ok-put_text_line-2.ensures.said in
     record { said = rw said.2 (said_last c.args.text.now rest c.loop-end.out.items said.0 (sym c.in_default.ensures.end) (eqb-false (length rest) 0 (sym c.if-is_empty.ensures)) said.1 c.loop-end.invariant) }
