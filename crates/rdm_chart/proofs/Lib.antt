@@ -1,2 +1,3 @@
+pub mod Documents
 mod Escaping
 mod Plainness

@@ -1,1 +1,4 @@
+pub mod Arrows
+pub mod Elements
 pub mod Markup
+pub mod Pictures

@@ -1,7 +1,10 @@
 //! Arrows between lifelines.
 
-use crate::class::Class;
+ghost use Rattle.std.specs.Prelude.{OnOk};
+ghost use Rattle.rdm_chart.specs.Pictures.{IsOneMore};
+
 use crate::layout::{ABOVE_ARROW, ABOVE_CROSS, PADDING, Px, TIP_LENGTH};
+use crate::style::Class;
 use crate::svg::Svg;
 use std::alloc::AllocError;
 
@@ -40,37 +43,41 @@ impl Arrow {
         }
     }
 
-    /// Draws the arrow at this height.
-    pub(crate) fn draw(&self, svg: &mut Svg, y: Px) -> Result<(), AllocError> {
+    /// Draws the arrow at this height: its shaft, and what stands at its end.
+    pub(crate) fn draw(&self, shafts: &mut Svg, ends: &mut Svg, y: Px) -> Result<(), AllocError>
+        ensures { OnOk result (IsOneMore shafts.old shafts.new) }
+    {
+        let (end, looks) = self.shaft();
+        shafts.across(looks, self.from, end, y)?;
         match self.passage {
-            Passage::Whole => self.draw_whole(svg, y, Class::Arrow, Class::Tip),
-            Passage::Altered => self.draw_whole(svg, y, Class::Altered, Class::AlteredTip),
-            Passage::Lost => {
-                // after three fifths of the way
-                let left = self.from.abs_diff(self.to) / 5 * 2;
-                self.draw_crossed(svg, y, self.before_end(left))
-            }
-            Passage::Refused => self.draw_crossed(svg, y, self.before_end(PADDING)),
+            Passage::Whole => ends.tip(Class::Tip, self.to, y, self.goes_right()),
+            Passage::Altered => ends.tip(Class::AlteredTip, self.to, y, self.goes_right()),
+            Passage::Lost | Passage::Refused => ends.cross(end, y),
         }
     }
 
-    fn draw_whole(&self, svg: &mut Svg, y: Px, shaft: Class, tip: Class) -> Result<(), AllocError> {
-        let to_the_right = self.from < self.to;
-        // the shaft ends within the tip
-        let end = self.before_end(TIP_LENGTH);
-        svg.across(shaft, self.from, end, y)?;
-        svg.tip(tip, self.to, y, to_the_right)
+    /// Where the shaft ends, and how it looks.
+    fn shaft(&self) -> (Px, Class) {
+        match self.passage {
+            // within the tip
+            Passage::Whole => (self.before_end(TIP_LENGTH), Class::Arrow),
+            Passage::Altered => (self.before_end(TIP_LENGTH), Class::Altered),
+            // after three fifths of the way
+            Passage::Lost => (
+                self.before_end(self.from.abs_diff(self.to) / 5 * 2),
+                Class::Lost,
+            ),
+            Passage::Refused => (self.before_end(PADDING), Class::Lost),
+        }
     }
 
-    /// An arrow that ends here, in a cross.
-    fn draw_crossed(&self, svg: &mut Svg, y: Px, end: Px) -> Result<(), AllocError> {
-        svg.across(Class::Lost, self.from, end, y)?;
-        svg.cross(end, y)
+    fn goes_right(&self) -> bool {
+        self.from < self.to
     }
 
     /// What lies so far before the end of the way.
     fn before_end(&self, left: Px) -> Px {
-        if self.from < self.to {
+        if self.goes_right() {
             self.to.saturating_sub(left)
         } else {
             self.to.saturating_add(left)

@@ -1,13 +1,17 @@
 //! A trace as a picture.
 
-ghost use Rattle.std.specs.Prelude.{◌≡◌, ◌++◌, ℕ, List, IfOk, codes};
+ghost use Rattle.std.specs.Prelude.{◌≡◌, ℕ, length, IfOk};
+ghost use Rattle.rdm_trace.specs.Traces.{pieces_of, lines_said, AreWhole, IsFirstUnread};
+ghost use Rattle.rdm_chart.specs.Pictures.{IsDocument};
+ghost use Rattle.rdm_chart.specs.Arrows.{with_arrow, HasArrows, chart_error};
+ghost use Rattle.rdm_chart.specs.declared.charting.ChartError.TheVariants.{OutOfMemory};
 
 use crate::cast::Cast;
 use crate::drawing::Drawing;
-use crate::page::page;
-use rdm_trace::{TraceError, lines_of};
+use crate::page::Picture;
+use rdm_trace::{Line, TraceError, lines_of};
 use rdm_words::Known;
-use std::alloc::{AllocError, AllocFailed, Global};
+use std::alloc::{AllocError, Global};
 use thiserror::Error;
 
 /// Why no chart was drawn.
@@ -26,18 +30,41 @@ pub enum ChartError {
 /// A trace that stops before its `end` is drawn as far as it goes. A line that is none of a trace is refused, but for what
 /// stands behind the last end of a line: where that is no line, but may begin one, it was cut off, and is left out.
 pub fn chart(alloc: Global, trace: &[u8], known: &Known<'_>) -> Result<Vec<u8>, ChartError>
-    ensures ends { IfOk result (λ svg. (front : List ℕ) × (svg.items ≡ front ++ codes "</svg>\n")) }
+    ensures document { IfOk result (λ svg. IsDocument svg.items) }
+    ensures arrows { IfOk result (λ svg. HasArrows (lines_said (pieces_of trace.now)) svg.items) }
+    ensures whole { IfOk result (λ _. AreWhole (pieces_of trace.now)) }
+    ensures line { (number : ℕ) → result ≡ Err (ChartError.Line number) → IsFirstUnread (pieces_of trace.now) number }
 {
     let lines = lines_of(alloc, trace)?;
-    let cast = Cast::of(alloc, lines.as_slice())?;
+    Ok(chart_of(alloc, lines.as_slice(), known)?)
+}
+
+/// The lines of a trace as a sequence chart: a document of SVG 1.1, in UTF-8. Fails only where memory is refused.
+#[tactic(auto, using(crate::proofs::Documents::is_document))]
+pub fn chart_of(alloc: Global, lines: &[Line], known: &Known<'_>) -> Result<Vec<u8>, AllocError>
+    ensures document { IfOk result (λ svg. IsDocument svg.items) }
+    ensures arrows { IfOk result (λ svg. HasArrows lines.now svg.items) }
+{
+    let drawing = drawn(alloc, lines, known)?;
+    let picture = Picture::of(alloc, drawing)?;
+    Ok(picture.text(alloc)?.into_bytes())
+}
+
+/// What is drawn of lines.
+fn drawn(alloc: Global, lines: &[Line], known: &Known<'_>) -> Result<Drawing, AllocError>
+    ensures { IfOk result (λ drawing. length drawing.arrows.elements.items ≡ length (with_arrow lines.now)) }
+{
+    let cast = Cast::of(alloc, lines)?;
     let mut drawing = Drawing::new(alloc, cast)?;
-    for line in &lines {
+    for line in lines {
         drawing.draw(alloc, line, known)?;
     }
-    Ok(page(alloc, &drawing)?.into_bytes())
+    Ok(drawing)
 }
 
 impl From<TraceError> for ChartError {
+    ghost from_gives = { λ error e. e ≡ chart_error error };
+
     fn from(error: TraceError) -> ChartError {
         match error {
             TraceError::OutOfMemory => ChartError::OutOfMemory,
@@ -47,13 +74,9 @@ impl From<TraceError> for ChartError {
 }
 
 impl From<AllocError> for ChartError {
-    fn from(_error: AllocError) -> ChartError {
-        ChartError::OutOfMemory
-    }
-}
+    ghost from_gives = { λ _ e. e ≡ OutOfMemory };
 
-impl<T: Drop> From<AllocFailed<T>> for ChartError {
-    fn from(_error: AllocFailed<T>) -> ChartError {
+    fn from(_error: AllocError) -> ChartError {
         ChartError::OutOfMemory
     }
 }

@@ -1,8 +1,11 @@
 //! A chart that is being drawn, from the top downwards.
 
+ghost use Rattle.std.specs.Prelude.{◌≡◌, ◌+◌, [], length, OnOk, IfOk};
+ghost use Rattle.rdm_chart.specs.Arrows.{arrows_of};
+ghost use Rattle.rdm_chart.specs.Pictures.{IsOneMore};
+
 use crate::arrow::Arrow;
 use crate::cast::Cast;
-use crate::class::Class;
 use crate::heads::draw_heads;
 use crate::layout::{
     BASE, BELOW_ARROW, CONTROLLER_X, GAP, HEAD_HEIGHT, LINE_HEIGHT, PADDING, Px, RESPONDER_X, TOP,
@@ -10,6 +13,7 @@ use crate::layout::{
 };
 use crate::lettering::broken_lines;
 use crate::recorded::draw_message;
+use crate::style::Class;
 use crate::svg::Svg;
 use crate::transaction::{draw_heard, draw_reply, draw_request};
 use crate::wording::line_words;
@@ -28,6 +32,8 @@ pub(crate) struct Drawing {
     pub(crate) back: Svg,
     /// What lies before them.
     pub(crate) front: Svg,
+    /// The arrows, each without what stands at its end: that lies before the lifelines too.
+    pub(crate) arrows: Svg,
     /// How far the chart reaches.
     pub(crate) y: Px,
     /// How far the lifelines reach, once they have ended.
@@ -54,13 +60,16 @@ pub(crate) struct Label<'a> {
 
 impl Drawing {
     /// The heads of those who take part.
-    pub(crate) fn new(alloc: Global, cast: Cast) -> Result<Self, AllocError> {
+    pub(crate) fn new(alloc: Global, cast: Cast) -> Result<Self, AllocError>
+        ensures { IfOk result (λ drawing. drawing.arrows.elements.items ≡ []) }
+    {
         let mut front = Svg::new(alloc);
         draw_heads(alloc, &mut front, &cast, TOP)?;
         Ok(Drawing {
             cast,
             back: Svg::new(alloc),
             front,
+            arrows: Svg::new(alloc),
             y: TOP + HEAD_HEIGHT + GAP,
             lives_to: None,
             transactions: 0,
@@ -77,7 +86,10 @@ impl Drawing {
         alloc: Global,
         line: &Line,
         known: &Known<'_>,
-    ) -> Result<(), AllocError> {
+    ) -> Result<(), AllocError>
+        ensures { OnOk result (length self.new.arrows.elements.items
+            ≡ length self.old.arrows.elements.items + length (arrows_of line.now)) }
+    {
         match line {
             Line::Send { bytes, fault } => {
                 draw_request(self, alloc, bytes.as_slice(), *fault, known)
@@ -102,7 +114,9 @@ impl Drawing {
     }
 
     /// Goes down by so much.
-    pub(crate) fn skip(&mut self, height: Px) {
+    pub(crate) fn skip(&mut self, height: Px)
+        ensures { self.new.arrows ≡ self.old.arrows }
+    {
         self.y = self.y.saturating_add(height);
     }
 
@@ -112,26 +126,43 @@ impl Drawing {
         alloc: Global,
         arrow: Arrow,
         label: Label<'_>,
-    ) -> Result<(), AllocError> {
+    ) -> Result<(), AllocError>
+        ensures { OnOk result (IsOneMore self.old.arrows self.new.arrows) }
+    {
         let left = arrow.left();
         let x = left.saturating_add(PADDING);
         self.skip(GAP);
         let lines = broken_lines(alloc, label.words, room_beside(left))?;
-        for line in &lines {
-            self.draw_text(label.class, x, line.as_str())?;
-        }
+        self.draw_lines(label.class, x, lines.as_slice())?;
         if !label.note.is_empty() {
             self.draw_text(Class::Note, x, label.note)?;
         }
         self.skip(arrow.room_above());
-        arrow.draw(&mut self.front, self.y)?;
+        arrow.draw(&mut self.arrows, &mut self.front, self.y)?;
         self.skip(BELOW_ARROW);
         self.has_room_beside = false;
         Ok(())
     }
 
+    /// Draws lines of text below what is drawn.
+    pub(crate) fn draw_lines(
+        &mut self,
+        class: Class,
+        x: Px,
+        lines: &[String],
+    ) -> Result<(), AllocError>
+        ensures { OnOk result (self.new.arrows ≡ self.old.arrows) }
+    {
+        for line in lines {
+            self.draw_text(class, x, line.as_str())?;
+        }
+        Ok(())
+    }
+
     /// Draws a line of text below what is drawn.
-    pub(crate) fn draw_text(&mut self, class: Class, x: Px, words: &str) -> Result<(), AllocError> {
+    pub(crate) fn draw_text(&mut self, class: Class, x: Px, words: &str) -> Result<(), AllocError>
+        ensures { OnOk result (self.new.arrows ≡ self.old.arrows) }
+    {
         self.front
             .text(class, x, self.y.saturating_add(BASE), words)?;
         self.skip(LINE_HEIGHT);

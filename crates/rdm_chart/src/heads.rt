@@ -1,8 +1,8 @@
 //! The heads of the lifelines.
 
 use crate::cast::{Cast, Party};
-use crate::class::Class;
 use crate::layout::{HEAD_BASE, HEAD_HEIGHT, HEAD_WIDTH, Px};
+use crate::style::Class;
 use crate::svg::{Area, Svg};
 use std::alloc::{AllocError, Global};
 

@@ -9,8 +9,8 @@
 mod arrow;
 mod cast;
 mod charting;
-mod class;
 mod drawing;
+mod element;
 mod escape;
 mod heads;
 mod laws;
@@ -18,11 +18,12 @@ mod layout;
 mod lettering;
 mod page;
 mod recorded;
+mod style;
 mod svg;
 mod transaction;
 mod wording;
 mod work;
 
-pub use charting::{ChartError, chart};
+pub use charting::{ChartError, chart, chart_of};
 pub use escape::put_escaped;
 pub use laws::{chart_errors_are_equal_by_value, escaped_text_has_no_tags};

@@ -1,29 +1,78 @@
 //! The page around a chart.
 
-ghost use Rattle.std.specs.Prelude.{◌≡◌, ◌++◌, ℕ, List, IfOk, codes, string_bytes};
+ghost use Rattle.std.specs.Prelude.{◌≡◌, ◌++◌, IfOk, OnOk, string_bytes};
+ghost use Rattle.rdm_chart.specs.Pictures.{content_text, picture_text};
 
 use crate::cast::Cast;
-use crate::class::{Class, STYLE};
 use crate::drawing::Drawing;
+use crate::element::{Attribute, Element, Key, Tag, put_elements, put_end_tag, put_tag_front};
 use crate::layout::{GAP, HEAD_HEIGHT, HEAD_WIDTH, MARGIN, Px, TITLE_Y, TOP};
+use crate::style::{Class, STYLE};
 use crate::svg::{Area, Svg};
 use std::alloc::{AllocError, Global};
 
-/// The document of a chart.
-pub(crate) fn page(alloc: Global, drawing: &Drawing) -> Result<String, AllocError>
-    ensures { IfOk result (λ page. (front : List ℕ) × (string_bytes page ≡ front ++ codes "</svg>\n")) }
-{
-    let width = width_of(&drawing.cast);
-    let height = drawing.y.saturating_add(MARGIN);
-    let mut page = String::new(alloc);
-    put_opening(&mut page, width, height, drawing.transactions)?;
-    page.push_str(STYLE)?;
-    page.push_str(ground(alloc, drawing, width, height)?.markup())?;
-    page.push_str(drawing.back.markup())?;
-    page.push_str(lives(alloc, drawing)?.markup())?;
-    page.push_str(drawing.front.markup())?;
-    page.push_str("</svg>\n")?;
-    Ok(page)
+/// By what name the document points to its title.
+const TITLE_ID: &str = "title";
+
+/// A picture: the attributes of its document, and its elements, in the order in which they are painted.
+#[derive(Drop)]
+pub(crate) struct Picture {
+    pub(crate) attributes: Vec<Attribute>,
+    /// The title, the looks and the ground.
+    pub(crate) ground: Svg,
+    /// What lies behind the lifelines.
+    pub(crate) back: Svg,
+    pub(crate) lives: Svg,
+    pub(crate) arrows: Svg,
+    /// What lies before the lifelines.
+    pub(crate) front: Svg,
+}
+
+impl Picture {
+    /// The page of a chart.
+    pub(crate) fn of(alloc: Global, drawing: Drawing) -> Result<Picture, AllocError>
+        ensures { IfOk result (λ picture. picture.arrows ≡ drawing.arrows) }
+    {
+        let width = width_of(&drawing.cast);
+        let height = drawing.y.saturating_add(MARGIN);
+        let attributes = attributes_of(alloc, width, height)?;
+        let ground = ground(alloc, drawing.transactions, width, height)?;
+        let lives = lives(alloc, &drawing)?;
+        Ok(Picture {
+            attributes,
+            ground,
+            back: drawing.back,
+            lives,
+            arrows: drawing.arrows,
+            front: drawing.front,
+        })
+    }
+
+    /// The document of the picture.
+    #[tactic(auto, unfolding(crate::specs::Pictures::picture_text))]
+    pub(crate) fn text(&self, alloc: Global) -> Result<String, AllocError>
+        ensures text { IfOk result (λ text. string_bytes text ≡ picture_text self.now) }
+    {
+        let mut text = String::new(alloc);
+        put_tag_front(&mut text, Tag::Svg, self.attributes.as_slice())?;
+        text.push_str(">\n")?;
+        self.put_content(&mut text)?;
+        put_end_tag(&mut text, Tag::Svg)?;
+        text.push_str("\n")?;
+        Ok(text)
+    }
+
+    /// Puts the elements of the picture.
+    #[tactic(auto, unfolding(crate::specs::Pictures::content_text))]
+    fn put_content(&self, text: &mut String) -> Result<(), AllocError>
+        ensures { OnOk result (string_bytes text.new ≡ string_bytes text.old ++ content_text self.now) }
+    {
+        put_elements(text, self.ground.elements.as_slice())?;
+        put_elements(text, self.back.elements.as_slice())?;
+        put_elements(text, self.lives.elements.as_slice())?;
+        put_elements(text, self.arrows.elements.as_slice())?;
+        put_elements(text, self.front.elements.as_slice())
+    }
 }
 
 /// How wide the page is.
@@ -31,30 +80,30 @@ pub(crate) fn width_of(cast: &Cast) -> Px {
     cast.last_x().saturating_add(HEAD_WIDTH / 2 + MARGIN)
 }
 
-/// The tag that opens the document, and its title.
-fn put_opening(
-    page: &mut String,
-    width: Px,
-    height: Px,
-    transactions: u64,
-) -> Result<(), AllocError> {
-    write!(
-        page,
-        "<svg xmlns=\"http://www.w3.org/2000/svg\" viewBox=\"0 0 {width} {height}\" "
-    )?;
-    write!(
-        page,
-        "width=\"{width}\" height=\"{height}\" role=\"img\" aria-labelledby=\"title\">\n"
-    )?;
-    write!(
-        page,
-        "<title id=\"title\">A trace: {transactions} transactions</title>\n"
-    )
+/// The attributes of the document.
+fn attributes_of(alloc: Global, width: Px, height: Px) -> Result<Vec<Attribute>, AllocError> {
+    let mut svg = Element::new(alloc, Tag::Svg);
+    let namespace = String::from_str(alloc, "http://www.w3.org/2000/svg")?;
+    svg.say(Key::Namespace, namespace)?;
+    svg.say(Key::ViewBox, format!(in alloc; "0 0 {width} {height}")?)?;
+    svg.say(Key::Width, format!(in alloc; "{width}")?)?;
+    svg.say(Key::Height, format!(in alloc; "{height}")?)?;
+    svg.say(Key::Role, String::from_str(alloc, "img")?)?;
+    svg.say(Key::LabelledBy, String::from_str(alloc, TITLE_ID)?)?;
+    Ok(svg.attributes)
 }
 
-/// The page that the chart is drawn on.
-fn ground(alloc: Global, drawing: &Drawing, width: Px, height: Px) -> Result<Svg, AllocError> {
+/// The title of the document, how its elements look, and the page that the chart is drawn on.
+fn ground(alloc: Global, transactions: u64, width: Px, height: Px) -> Result<Svg, AllocError> {
+    let words = format!(in alloc; "A trace: {transactions} transactions")?;
     let mut svg = Svg::new(alloc);
+    let mut title = Element::new(alloc, Tag::Title);
+    title.say(Key::Id, String::from_str(alloc, TITLE_ID)?)?;
+    title.words.push_str(words.as_str())?;
+    svg.elements.push(title)?;
+    let mut style = Element::new(alloc, Tag::Style);
+    style.words.push_str(STYLE)?;
+    svg.elements.push(style)?;
     let area = Area {
         x: 1,
         y: 1,
@@ -62,9 +111,7 @@ fn ground(alloc: Global, drawing: &Drawing, width: Px, height: Px) -> Result<Svg
         height: height.saturating_sub(2),
     };
     svg.area(Class::Page, area, 10)?;
-    let count = drawing.transactions;
-    let title = format!(in alloc; "A trace: {count} transactions")?;
-    svg.text(Class::Title, MARGIN, TITLE_Y, title.as_str())?;
+    svg.text(Class::Title, MARGIN, TITLE_Y, words.as_str())?;
     Ok(svg)
 }
 

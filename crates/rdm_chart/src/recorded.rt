@@ -1,10 +1,12 @@
 //! The list of the messages that the controller recorded.
 
-use crate::class::Class;
+ghost use Rattle.std.specs.Prelude.{◌≡◌, OnOk};
+
 use crate::drawing::Drawing;
 use crate::layout::{BASE, GAP, MARGIN};
 use crate::lettering::broken_lines;
 use crate::page::width_of;
+use crate::style::Class;
 use std::alloc::{AllocError, Global};
 
 /// Lists a message below the lifelines, which end there.
@@ -12,7 +14,9 @@ pub(crate) fn draw_message(
     drawing: &mut Drawing,
     alloc: Global,
     words: &str,
-) -> Result<(), AllocError> {
+) -> Result<(), AllocError>
+    ensures { OnOk result (drawing.new.arrows ≡ drawing.old.arrows) }
+{
     end_lives(drawing)?;
     drawing.listed = drawing.listed.saturating_add(1);
     let number = drawing.listed;
@@ -23,15 +27,15 @@ pub(crate) fn draw_message(
         .text(Class::Count, MARGIN + GAP, base, count.as_str())?;
     let room = width_of(&drawing.cast).saturating_sub(4 * MARGIN);
     let lines = broken_lines(alloc, words, room)?;
-    for line in &lines {
-        drawing.draw_text(Class::Words, 3 * MARGIN, line.as_str())?;
-    }
+    drawing.draw_lines(Class::Words, 3 * MARGIN, lines.as_slice())?;
     drawing.skip(GAP / 2);
     Ok(())
 }
 
 /// Ends the lifelines, and writes what comes below them.
-fn end_lives(drawing: &mut Drawing) -> Result<(), AllocError> {
+fn end_lives(drawing: &mut Drawing) -> Result<(), AllocError>
+    ensures { OnOk result (drawing.new.arrows ≡ drawing.old.arrows) }
+{
     if drawing.lives_to.is_some() {
         return Ok(());
     }

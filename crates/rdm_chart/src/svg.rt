@@ -1,14 +1,17 @@
-//! The elements of a picture.
+//! What is drawn, element by element.
 
-use crate::class::Class;
-use crate::escape::put_escaped;
+ghost use Rattle.std.specs.Prelude.{◌≡◌, [], OnOk};
+ghost use Rattle.rdm_chart.specs.Pictures.{IsOneMore};
+
+use crate::element::{Element, Key, Tag};
 use crate::layout::{Px, TIP_LENGTH};
+use crate::style::Class;
 use std::alloc::{AllocError, Global};
 
 /// Elements of SVG, in the order in which they are painted.
 #[derive(Drop)]
 pub(crate) struct Svg {
-    markup: String,
+    pub(crate) elements: Vec<Element>,
 }
 
 /// A rectangle: its upper left corner and its size.
@@ -22,15 +25,16 @@ pub(crate) struct Area {
 
 impl Svg {
     /// No elements.
-    pub(crate) fn new(alloc: Global) -> Self {
+    pub(crate) fn new(alloc: Global) -> Self
+        ensures { result.elements.items ≡ [] }
+    {
         Svg {
-            markup: String::new(alloc),
+            elements: Vec::new(alloc),
         }
     }
 
-    /// The markup of the elements.
-    pub(crate) fn markup(&self) -> &str {
-        self.markup.as_str()
+    fn alloc(&self) -> Global {
+        *self.elements.allocator()
     }
 
     /// A text, from this place on its base line, or as its class says.
@@ -41,50 +45,48 @@ impl Svg {
         y: Px,
         words: &str,
     ) -> Result<(), AllocError> {
-        let class = class.name();
-        write!(self.markup, "<text class=\"{class}\" x=\"{x}\" y=\"{y}\">")?;
-        put_escaped(&mut self.markup, words)?;
-        self.markup.push_str("</text>\n")
+        let alloc = self.alloc();
+        let mut text = element_of(alloc, Tag::Text, class)?;
+        text.say(Key::X, format!(in alloc; "{x}")?)?;
+        text.say(Key::Y, format!(in alloc; "{y}")?)?;
+        text.words.push_str(words)?;
+        Ok(self.elements.push(text)?)
     }
 
     /// A rectangle with corners of this radius.
     pub(crate) fn area(&mut self, class: Class, area: Area, radius: Px) -> Result<(), AllocError> {
-        let class = class.name();
+        let alloc = self.alloc();
+        let mut rect = element_of(alloc, Tag::Rect, class)?;
         let Area {
             x,
             y,
             width,
             height,
         } = area;
-        write!(self.markup, "<rect class=\"{class}\" x=\"{x}\" y=\"{y}\" ")?;
-        write!(
-            self.markup,
-            "width=\"{width}\" height=\"{height}\" rx=\"{radius}\"/>\n"
-        )
+        for (key, length) in [
+            (Key::X, x),
+            (Key::Y, y),
+            (Key::Width, width),
+            (Key::Height, height),
+            (Key::Radius, radius),
+        ] {
+            rect.say(key, format!(in alloc; "{length}")?)?;
+        }
+        Ok(self.elements.push(rect)?)
     }
 
     /// A line from left to right or back.
-    pub(crate) fn across(
-        &mut self,
-        class: Class,
-        from: Px,
-        to: Px,
-        y: Px,
-    ) -> Result<(), AllocError> {
-        let class = class.name();
-        write!(
-            self.markup,
-            "<path class=\"{class}\" d=\"M {from} {y} H {to}\"/>\n"
-        )
+    pub(crate) fn across(&mut self, class: Class, from: Px, to: Px, y: Px) -> Result<(), AllocError>
+        ensures { OnOk result (IsOneMore self.old self.new) }
+    {
+        let way = format!(in self.alloc(); "M {from} {y} H {to}")?;
+        self.path(class, way)
     }
 
     /// A line downwards.
     pub(crate) fn down(&mut self, class: Class, x: Px, from: Px, to: Px) -> Result<(), AllocError> {
-        let class = class.name();
-        write!(
-            self.markup,
-            "<path class=\"{class}\" d=\"M {x} {from} V {to}\"/>\n"
-        )
+        let way = format!(in self.alloc(); "M {x} {from} V {to}")?;
+        self.path(class, way)
     }
 
     /// The tip of an arrow that ends here, pointing to the right or to the left.
@@ -95,20 +97,30 @@ impl Svg {
         y: Px,
         to_the_right: bool,
     ) -> Result<(), AllocError> {
-        let class = class.name();
         let back = if to_the_right { "-" } else { "" };
-        write!(
-            self.markup,
-            "<path class=\"{class}\" d=\"M {x} {y} l {back}{TIP_LENGTH} -5 v 10 z\"/>\n"
-        )
+        let way = format!(in self.alloc(); "M {x} {y} l {back}{TIP_LENGTH} -5 v 10 z")?;
+        self.path(class, way)
     }
 
     /// A cross with its centre here.
     pub(crate) fn cross(&mut self, x: Px, y: Px) -> Result<(), AllocError> {
-        let class = Class::Cross.name();
-        write!(
-            self.markup,
-            "<path class=\"{class}\" d=\"M {x} {y} m -6 -6 l 12 12 m 0 -12 l -12 12\"/>\n"
-        )
+        let way = format!(in self.alloc(); "M {x} {y} m -6 -6 l 12 12 m 0 -12 l -12 12")?;
+        self.path(Class::Cross, way)
     }
+
+    /// A line that goes this way.
+    fn path(&mut self, class: Class, way: String) -> Result<(), AllocError>
+        ensures { OnOk result (IsOneMore self.old self.new) }
+    {
+        let mut path = element_of(self.alloc(), Tag::Path, class)?;
+        path.say(Key::Way, way)?;
+        Ok(self.elements.push(path)?)
+    }
+}
+
+/// An element that looks so.
+fn element_of(alloc: Global, tag: Tag, class: Class) -> Result<Element, AllocError> {
+    let mut element = Element::new(alloc, tag);
+    element.say(Key::Class, String::from_str(alloc, class.name())?)?;
+    Ok(element)
 }

@@ -1,7 +1,11 @@
 //! Transactions on the bus: a request, its reply, and what the controller took this for.
 
+ghost use Rattle.std.specs.Prelude.{◌≡◌, ◌+◌, length, OnOk};
+ghost use Rattle.rdm_trace.specs.declared.line.Line.TheVariants.{Reply};
+ghost use Rattle.rdm_chart.specs.Arrows.{arrows_of};
+ghost use Rattle.rdm_chart.specs.Pictures.{IsOneMore};
+
 use crate::arrow::{Arrow, Passage};
-use crate::class::Class;
 use crate::drawing::{Drawing, Label};
 use crate::heads::draw_heads;
 use crate::layout::{
@@ -9,6 +13,7 @@ use crate::layout::{
     RESPONDER_X, TAG_HEIGHT, TAG_WIDTH,
 };
 use crate::page::width_of;
+use crate::style::Class;
 use crate::svg::Area;
 use crate::wording::{reply_words, request_words};
 use rdm_bus::{Fault, Heard};
@@ -23,7 +28,9 @@ pub(crate) fn draw_request(
     bytes: &[u8],
     fault: Fault,
     known: &Known<'_>,
-) -> Result<(), AllocError> {
+) -> Result<(), AllocError>
+    ensures { OnOk result (IsOneMore drawing.old.arrows drawing.new.arrows) }
+{
     begin_transaction(drawing, alloc)?;
     drawing.fault = fault;
     let passage = match fault {
@@ -47,14 +54,18 @@ fn draw_frame(
     arrow: Arrow,
     class: Class,
     words: &str,
-) -> Result<(), AllocError> {
+) -> Result<(), AllocError>
+    ensures { OnOk result (IsOneMore drawing.old.arrows drawing.new.arrows) }
+{
     let note = note_of(alloc, drawing.fault, arrow.passage)?;
     let note = note.as_str();
     drawing.draw_arrow(alloc, arrow, Label { class, words, note })
 }
 
 /// Draws a line above a transaction, and its number, counted from 0 as transaction numbers are.
-fn begin_transaction(drawing: &mut Drawing, alloc: Global) -> Result<(), AllocError> {
+fn begin_transaction(drawing: &mut Drawing, alloc: Global) -> Result<(), AllocError>
+    ensures { OnOk result (drawing.new.arrows ≡ drawing.old.arrows) }
+{
     let number = drawing.transactions;
     if number > 0 && number.is_multiple_of(HEADS_EVERY) {
         drawing.skip(2 * GAP);
@@ -90,7 +101,9 @@ pub(crate) fn draw_reply(
     alloc: Global,
     reply: &Option<Wire>,
     known: &Known<'_>,
-) -> Result<(), AllocError> {
+) -> Result<(), AllocError>
+    ensures { OnOk result (length drawing.new.arrows.elements.items ≡ length drawing.old.arrows.elements.items + length (arrows_of (Reply reply.now))) }
+{
     let Some(bytes) = reply else {
         return draw_silence(drawing);
     };
@@ -111,7 +124,9 @@ pub(crate) fn draw_reply(
 }
 
 /// A remark that a device which heard the request doesn't reply.
-fn draw_silence(drawing: &mut Drawing) -> Result<(), AllocError> {
+fn draw_silence(drawing: &mut Drawing) -> Result<(), AllocError>
+    ensures { OnOk result (drawing.new.arrows ≡ drawing.old.arrows) }
+{
     drawing.has_room_beside = false;
     if drawing.fault == Fault::LostRequest {
         return Ok(());
@@ -127,7 +142,9 @@ pub(crate) fn draw_heard(
     drawing: &mut Drawing,
     alloc: Global,
     heard: Option<Heard>,
-) -> Result<(), AllocError> {
+) -> Result<(), AllocError>
+    ensures { OnOk result (drawing.new.arrows ≡ drawing.old.arrows) }
+{
     match heard {
         Some(Heard::Message) => draw_tag(drawing, alloc),
         Some(Heard::Ignored) => {
@@ -141,7 +158,9 @@ pub(crate) fn draw_heard(
 }
 
 /// Draws a tag that says which message is recorded.
-fn draw_tag(drawing: &mut Drawing, alloc: Global) -> Result<(), AllocError> {
+fn draw_tag(drawing: &mut Drawing, alloc: Global) -> Result<(), AllocError>
+    ensures { OnOk result (drawing.new.arrows ≡ drawing.old.arrows) }
+{
     drawing.recorded = drawing.recorded.saturating_add(1);
     let number = drawing.recorded;
     let area = Area {

@@ -1,19 +1,20 @@
 //! What happens between the responder and the rest of the fixture: jobs, their reports, and changes at its panel.
 
+ghost use Rattle.std.specs.Prelude.{OnOk};
+ghost use Rattle.rdm_chart.specs.Pictures.{IsOneMore};
+
 use crate::arrow::{Arrow, Passage};
 use crate::cast::Party;
-use crate::class::Class;
 use crate::drawing::{Drawing, Label};
 use crate::layout::{ABOVE_ARROW, BELOW_ARROW, GAP, LINE_HEIGHT, RESPONDER_X};
+use crate::style::Class;
 use rdm_trace::JobName;
 use std::alloc::{AllocError, Global};
 
 /// Draws the start of a job, beside the reply to the command that starts it.
-pub(crate) fn draw_job(
-    drawing: &mut Drawing,
-    alloc: Global,
-    job: JobName,
-) -> Result<(), AllocError> {
+pub(crate) fn draw_job(drawing: &mut Drawing, alloc: Global, job: JobName) -> Result<(), AllocError>
+    ensures { OnOk result (IsOneMore drawing.old.arrows drawing.new.arrows) }
+{
     if drawing.has_room_beside {
         let height = GAP + LINE_HEIGHT + ABOVE_ARROW + BELOW_ARROW;
         drawing.y = drawing.y.saturating_sub(height);
@@ -34,7 +35,9 @@ pub(crate) fn draw_report(
     alloc: Global,
     job: JobName,
     words: &str,
-) -> Result<(), AllocError> {
+) -> Result<(), AllocError>
+    ensures { OnOk result (IsOneMore drawing.old.arrows drawing.new.arrows) }
+{
     let arrow = Arrow {
         from: drawing.cast.x_of(Party::Worker(job.worker)),
         to: RESPONDER_X,
@@ -49,7 +52,9 @@ pub(crate) fn draw_change(
     alloc: Global,
     refused: bool,
     words: &str,
-) -> Result<(), AllocError> {
+) -> Result<(), AllocError>
+    ensures { OnOk result (IsOneMore drawing.old.arrows drawing.new.arrows) }
+{
     let passage = if refused {
         Passage::Refused
     } else {
@@ -68,7 +73,9 @@ fn draw_words(
     alloc: Global,
     arrow: Arrow,
     words: &str,
-) -> Result<(), AllocError> {
+) -> Result<(), AllocError>
+    ensures { OnOk result (IsOneMore drawing.old.arrows drawing.new.arrows) }
+{
     let label = Label {
         class: Class::Words,
         words,

@@ -72,7 +72,7 @@ impl Class {
 }
 
 /// The style sheet: for a light page, and then what is different on a dark one.
-pub(crate) const STYLE: &str = "<style>
+pub(crate) const STYLE: &str = "
 text { font: 13px Helvetica, Arial, sans-serif; fill: #1e293b; }
 .page { fill: #f1f5f9; stroke: #94a3b8; stroke-width: 2; }
 .title { font-size: 17px; font-weight: bold; }
@@ -110,5 +110,4 @@ text { fill: #e2e8f0; }
 .tag { fill: #14532d; stroke: #4ade80; }
 .tag-name { fill: #dcfce7; }
 }
-</style>
 ";
