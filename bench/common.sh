@@ -36,15 +36,24 @@ c_archive() {
     printf '%s/c/liblibc_c.a\n' "$(dirname "$(rt doc)")"
 }
 
-# Builds $made/driver, which hears the rows of a file of frames in-process, over the library of crates/rdm_bench.
+# Builds $made/driver, which hears the rows of a file of frames in-process, over the library of crates/rdm_bench, or over the one
+# that LIBRARY names, already built.
 build_driver() {
-    build_library "$made/lib.log"
+    [[ -n ${LIBRARY:-} ]] || build_library "$made/lib.log"
     "$compiler" -std=c11 -D_POSIX_C_SOURCE=200809L -O3 -Wall -Wextra \
         -Wl,--wrap=malloc,--wrap=calloc,--wrap=realloc \
-        "$bench/driver.c" "$crate/out/librdm_bench.a" "$(c_archive)" -o "$made/driver"
+        "$bench/driver.c" "${LIBRARY:-$crate/out/librdm_bench.a}" "$(c_archive)" -o "$made/driver"
 }
 
 # How many instructions a program executes, with these arguments.
 instructions_of() {
     valgrind --tool=callgrind --callgrind-out-file=/dev/null "$@" 2>&1 >/dev/null | sed -n 's/.*Collected : //p'
+}
+
+# How many instructions a request of a row of $made/driver takes: of few rounds, of many, and by how many a round is divided.
+row_instructions() {
+    local frames=$1 row=$2 few=$3 many=$4 divisor=$5 rounds
+    # The instructions before the first round are in both runs, and drop out.
+    rounds=$(((many - few) * divisor))
+    echo $((($(instructions_of "$made/driver" "$frames" "$row" "$many") - $(instructions_of "$made/driver" "$frames" "$row" "$few") + rounds / 2) / rounds))
 }

@@ -3,7 +3,9 @@
  *   driver FRAMES                 a line for each row of the file FRAMES, with tabs between: its name, nanoseconds,
  *                                 allocations, nanoseconds of the floor, and three numbers for callgrind: few rounds,
  *                                 many rounds, and by how many a round is divided
- *   driver FRAMES ROW ROUNDS      hears the frames of one row, counted from 0, that many times over
+ *   driver FRAMES rows            the same lines with no measure: the name and the three numbers
+ *   driver FRAMES ROW             hears the frames of one row, counted from 0, and prints nanoseconds of one run
+ *   driver FRAMES ROW ROUNDS      hears the frames of one row that many times over, and prints nothing
  */
 #include <ctype.h>
 #include <stdbool.h>
@@ -391,20 +393,34 @@ static void read_rows(const char *path)
     fclose(file);
 }
 
+/* What callgrind needs to know of a row. */
+static void print_rounds(const struct row *row)
+{
+    printf("%s\t%u\t%u\t%zu\n", row->name, few_rounds(row), many_rounds(row), row->divided_by);
+}
+
+static void for_each_row(void (*print)(const struct row *row))
+{
+    for (size_t row = 0; row < row_count; row++)
+        print(&rows[row]);
+}
+
 int main(int count, char **words)
 {
-    if (count != 2 && count != 4)
+    if (count < 2 || count > 4)
         return 2;
     read_rows(words[1]);
-    if (count == 4) {
-        size_t at = strtoul(words[2], NULL, 10);
-        if (at >= row_count)
-            return 2;
-        const struct row *row = &rows[at];
-        kept = hear(row, row->round.length, (uint32_t)strtoul(words[3], NULL, 10)).total;
-    } else {
-        for (size_t row = 0; row < row_count; row++)
-            print_row(&rows[row]);
+    if (count == 2 || strcmp(words[2], "rows") == 0) {
+        for_each_row(count == 2 ? print_row : print_rounds);
+        return 0;
     }
+    size_t at = strtoul(words[2], NULL, 10);
+    if (at >= row_count)
+        return 2;
+    const struct row *row = &rows[at];
+    if (count == 3)
+        printf("%.1f\n", round_time(row, NULL) / (double)row->divided_by);
+    else
+        kept = hear(row, row->round.length, (uint32_t)strtoul(words[3], NULL, 10)).total;
     return 0;
 }

@@ -1,8 +1,8 @@
 // What a request costs OLA's MovingLightResponder: from its bytes to the bytes of the reply, which are summed as
 // bench/driver.c sums them.
 //
-//   ola FRAMES ROW ROUNDS    hears the frames of a row of bench/frames.txt so often, and prints the name of the row and the best
-//                            nanoseconds of five runs for each frame
+//   ola FRAMES ROW ROUNDS    hears the frames of a row of bench/frames.txt so often, and prints nanoseconds of a frame, how many frames the
+//                            row has, and what their bytes come to
 //
 // The rows are those before the one whose frames are a *, and that one, which is all of them.
 #include <ola/Callback.h>
@@ -13,10 +13,9 @@
 #include <ola/rdm/RDMReply.h>
 #include <ola/rdm/UID.h>
 
-#include <algorithm>
-#include <chrono>
 #include <cstdio>
 #include <cstdlib>
+#include <ctime>
 #include <fstream>
 #include <string>
 #include <vector>
@@ -61,6 +60,13 @@ Bytes Frame(const std::string &text) {
   return bytes;
 }
 
+// Nanoseconds of this process, as bench/driver.c takes them.
+double Now() {
+  timespec time;
+  clock_gettime(CLOCK_PROCESS_CPUTIME_ID, &time);
+  return time.tv_sec * 1e9 + time.tv_nsec;
+}
+
 }  // namespace
 
 int main(int argc, char **argv) {
@@ -72,11 +78,10 @@ int main(int argc, char **argv) {
   const int row = atoi(argv[2]);
   const long rounds = atol(argv[3]);
   std::vector<Bytes> frames;
-  std::string line, name;
+  std::string line;
   for (int i = 0; i <= row && std::getline(file, line);) {
     if (line.empty() || line[0] == '#') continue;
     const std::string last = line.substr(line.rfind('|') + 1);
-    name = line.substr(0, line.find_last_not_of(' ', line.find('|') - 1) + 1);
     if (last.find('*') == std::string::npos) {
       if (i == row) frames.clear();
       frames.push_back(Frame(last));
@@ -84,27 +89,23 @@ int main(int argc, char **argv) {
     i++;
   }
   ola::rdm::MovingLightResponder responder(ola::rdm::UID(0x7FF0, 1));
-  double best = 0;
-  for (int run = 0; run < 5; run++) {
-    const auto start = std::chrono::steady_clock::now();
-    for (long i = 0; i < rounds; i++) {
-      for (const Bytes &frame : frames) {
-        // OLA reads a frame without its START code.
-        ola::rdm::RDMRequest *request = ola::rdm::RDMRequest::InflateFromData(frame.data() + 1, frame.size() - 1);
-        if (!request) {
-          fprintf(stderr, "row %d: not a request\n", row);
-          return 1;
-        }
-        responder.SendRDMRequest(request, ola::NewSingleCallback(TakeReply));
+  const double start = Now();
+  for (long i = 0; i < rounds; i++) {
+    for (const Bytes &frame : frames) {
+      // OLA reads a frame without its START code.
+      ola::rdm::RDMRequest *request = ola::rdm::RDMRequest::InflateFromData(frame.data() + 1, frame.size() - 1);
+      if (!request) {
+        fprintf(stderr, "row %d: not a request\n", row);
+        return 1;
       }
+      responder.SendRDMRequest(request, ola::NewSingleCallback(TakeReply));
     }
-    const std::chrono::duration<double, std::nano> time = std::chrono::steady_clock::now() - start;
-    best = run == 0 ? time.count() : std::min(best, time.count());
   }
-  if (replies != 5 * rounds * frames.size()) {
+  const double time = Now() - start;
+  if (replies != rounds * frames.size()) {
     fprintf(stderr, "row %d: %lu replies\n", row, replies);
     return 1;
   }
-  printf("%s\t%.0f\t%zu\t%lu\n", name.c_str(), best / (rounds * frames.size()), frames.size(), sum);
+  printf("%.1f\t%zu\t%lu\n", time / (rounds * frames.size()), frames.size(), sum);
   return 0;
 }

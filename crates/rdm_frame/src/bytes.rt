@@ -1,22 +1,48 @@
 //! Lists of bytes of a bounded length, which lie in the value itself.
 
-ghost use Rattle.std.specs.Prelude.{◌≡◌, ◌+◌, ◌≤◌, ◌↔◌, ℕ, List, [], ◌++◌, length, IsSome, IfSome};
+ghost use Rattle.std.specs.Prelude.{◌≡◌, ◌+◌, ◌≤◌, ◌↔◌, [], ◌++◌, length, nat_eq, IsSome, IfSome};
+ghost use Rattle.std.specs.Cmp.{partial_equiv_from_equiv};
+ghost use Rattle.std.specs.Cmp.Lexicographic.{pointwise, nat_list_eq_equiv};
 
-use arrayvec::ArrayVec;
+use std::fmt;
 use std::marker::Model;
 
 /// At most `N` bytes. A contract sees the list of them.
-#[derive(Debug, Drop, PartialEq, Eq)]
+// Not an `ArrayVec`: what lies after the bytes is never read, so that to clear a list blanks nothing.
+#[derive(Drop)]
 pub struct Bytes<const N: usize> {
-    items: ArrayVec<u8, N>,
+    cells: [u8; N],
+    len: usize,
 }
 
 impl<const N: usize> Model for Bytes<N> {
+    ghost use Rattle.std.specs.Prelude.{◌≡◌, ◌≤◌, ℕ, List, length, take};
+
     ghost Value = { List ℕ };
 
-    ghost view = { λ b. b.items.items };
+    ghost view = { λ b. take b.len b.cells };
 
-    ghost inverse = { λ xs. record { items = record { items = xs } } };
+    ghost invariant = { λ b. (b.len ≤ N) × (length b.cells ≡ N) };
+}
+
+impl<const N: usize> PartialEq for Bytes<N> {
+    ghost eq = { pointwise nat_eq };
+
+    ghost laws = { partial_equiv_from_equiv nat_list_eq_equiv };
+
+    fn eq(&self, other: &Self) -> bool {
+        self.as_slice() == other.as_slice()
+    }
+}
+
+impl<const N: usize> Eq for Bytes<N> {
+    ghost laws = { nat_list_eq_equiv };
+}
+
+impl<const N: usize> fmt::Debug for Bytes<N> {
+    fn fmt<W: fmt::Write>(&self, f: &mut fmt::Formatter<W>) -> fmt::Result {
+        f.debug_list().entries(self.as_slice()).finish()
+    }
 }
 
 /// The parameter data of a frame: at most 231 slots (E1.20 section 6.2.10).
@@ -34,11 +60,13 @@ pub type Text = Bytes<32>;
 
 impl<const N: usize> Bytes<N> {
     /// No bytes.
+    #[inline]
     pub fn new() -> Self
         ensures { result ≡ [] }
     {
         Bytes {
-            items: ArrayVec::new(),
+            cells: [0; N],
+            len: 0,
         }
     }
 
@@ -57,40 +85,50 @@ impl<const N: usize> Bytes<N> {
         ensures fits { IsSome result ↔ (length bytes.now ≤ N) }
         ensures value { IfSome result (λ b. b ≡ bytes.now) }
     {
-        let mut items = ArrayVec::new();
-        items.try_extend_from_slice(bytes).ok()?;
-        Some(Bytes { items })
+        if bytes.len() <= N {
+            Some(Bytes::of(bytes))
+        } else {
+            None
+        }
     }
 
     /// The bytes.
+    #[inline]
     pub fn as_slice(&self) -> &[u8]
         ensures value { result.now ≡ self.now }
         ensures fits { length result.now ≤ N }
     {
-        self.items.as_slice()
+        let cells = &self.cells[..];
+        &cells[..self.len]
     }
 
     /// The same bytes again.
     pub fn copy(&self) -> Self
         ensures { result ≡ self.now }
     {
-        let mut twin = Bytes::new();
-        twin.append(self.as_slice());
-        twin
+        Bytes {
+            cells: self.cells,
+            len: self.len,
+        }
     }
 
     /// Takes all bytes away.
+    #[inline]
     pub fn clear(&mut self)
         ensures { self.new ≡ [] }
     {
-        self.items.clear();
+        self.len = 0;
     }
 
     /// Puts these bytes at the end. There must be room.
+    #[inline]
     pub fn append(&mut self, bytes: &[u8])
         requires { length self.old + length bytes.now ≤ N }
         ensures { self.new ≡ self.old ++ bytes.now }
     {
-        let _ = self.items.try_extend_from_slice(bytes);
+        let end = self.len + bytes.len();
+        let cells = &mut self.cells[..];
+        cells[self.len..end].copy_from_slice(bytes);
+        self.len = end;
     }
 }

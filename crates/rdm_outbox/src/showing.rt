@@ -1,6 +1,7 @@
 //! Status entries, and the status message that shows them.
 
-ghost use Rattle.std.specs.Prelude.{◌≡◌, ◌≤◌, ◌+◌, ◌*◌, ◌&&◌, [], ◌++◌, length, take, flat_map, nat_lt, IsTrue};
+ghost use Rattle.std.specs.Prelude.{◌≡◌, ◌≤◌, ◌+◌, ◌*◌, ◌&&◌, [], ◌++◌, length, take, flat_map, nat_lt, unwrap_or, IsTrue};
+ghost use Rattle.std.specs.List.{position};
 ghost use Rattle.rdm_outbox.specs.Statuses.{asks_for, entry_slots, first_asked, others, status_message};
 ghost use Rattle.std.specs.Vec.{vec_capacity};
 ghost use Rattle.rdm_outbox.specs.Messages.{is_last};
@@ -60,8 +61,8 @@ fn show_asked(entries: &mut [Entry], most: usize, ask: Ask, body: &mut Body) -> 
     ensures within { result ≤ length entries.old }
 {
     let mut room = most;
-    let mut kept = 0;
-    for at in 0..entries.len() {
+    let mut kept = first_place(entries, ask);
+    for at in kept..entries.len() {
         let entry = entries[at];
         if is_shown(room, ask, &entry) {
             append_entry(&entry, body);
@@ -72,6 +73,20 @@ fn show_asked(entries: &mut [Entry], most: usize, ask: Ask, body: &mut Body) -> 
         }
     }
     kept
+}
+
+/// The place of the first entry that is asked for, or how many there are: so many stay where they are.
+fn first_place(entries: &[Entry], ask: Ask) -> usize
+    ensures { result ≡ unwrap_or (position (asks_for ask) entries.now) (length entries.now) }
+{
+    first_shown(entries, ask).unwrap_or(entries.len())
+}
+
+/// The place of the first entry that is asked for, if there is one.
+fn first_shown(entries: &[Entry], ask: Ask) -> Option<usize>
+    ensures { result ≡ position (asks_for ask) entries.now }
+{
+    entries.iter().position(|entry| asks_for(ask, entry))
 }
 
 /// Whether there is room for an entry, and it is asked for.

@@ -3,6 +3,7 @@ pub mod Endings
 pub mod Fetches
 pub mod OtherDevices
 pub mod OtherForms
+pub mod OtherRanges
 pub mod OwnKeys
 pub mod Places
 pub mod PlateEquality

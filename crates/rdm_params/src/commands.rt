@@ -80,6 +80,8 @@ impl Devices {
     /// The devices of a profile, with the values that they start with.
     ///
     /// It is `TooManySubs` over 512 sub-devices, else `BadProfile` where the profile breaks a rule.
+    // Inlined, since a call would have a copy of the profile on the stack.
+    #[inline(always)]
     #[tactic(auto, unfolding(rdm_device::specs::Device::Parameters::parameters_of))]
     pub fn new(alloc: Global, profile: Profile) -> Result<Devices, NewError>
         ensures ok { IfOk result (λ devices. devices ≡ parameters_of profile) }

@@ -22,7 +22,7 @@ mod panel;
 
 use crate::report::{Arrival, Astray, Report};
 use crate::stepped::Stepped;
-use rdm_frame::{Uid, Wire, decode_view};
+use rdm_frame::{Body, Uid, Wire, decode_view};
 use rdm_outbox::{Job, MOST_WAITING, Outbox};
 use rdm_params::{Devices, Entry, Message, Outcome, Profile, Work, fitting_worker};
 use std::alloc::Global;
@@ -56,6 +56,8 @@ pub struct Responder {
     devices: Devices,
     muted: bool,
     outbox: Outbox,
+    // The data of the last reply. It has a place here so that none is made for each.
+    body: Body,
 }
 
 impl Model for Responder {
@@ -95,6 +97,7 @@ impl Responder {
             devices,
             muted: false,
             outbox,
+            body: Body::new(),
         })
     }
 
@@ -234,6 +237,8 @@ fn note_failure(devices: &Devices, outbox: &mut Outbox, work: &Work, outcome: Ou
 }
 
 /// The devices of a profile, with its initial values.
+// Inlined, since a call would have a copy of the profile on the stack.
+#[inline(always)]
 fn devices_of(alloc: Global, profile: Profile) -> Result<Devices, NewError>
     ensures ok { IfOk result (λ devices. devices ≡ parameters_of profile) }
     ensures bad_profile { (result ≡ Err NewError.BadProfile) ↔ (¬ CanBeMade profile) }

@@ -1,6 +1,6 @@
 //! What a command hands in.
 
-ghost use Rattle.std.specs.Prelude.{◌≡◌, ◌≤◌, length, Some, None, if◌then◌else◌};
+ghost use Rattle.std.specs.Prelude.{◌≡◌, ◌≤◌, length, unwrap_or, Some, None, if◌then◌else◌};
 ghost use Rattle.rdm_device.specs.declared.value.Value.TheVariants.{Nothing, Byte, Word, Label};
 ghost use Rattle.rdm_device.specs.Columns.Forms.{nothing, label, has_form, is_of_a_form};
 ghost use Rattle.rdm_device.specs.Device.Values.{byte_in, word_in, long_in, preset_in, label_in};
@@ -179,14 +179,15 @@ impl<'a> Argument<'a> {
         }
     }
 
-    /// The text, if the value is one.
-    #[inline]
-    pub fn label(&self) -> Option<Text>
-        ensures { result ≡ label_in self.now }
+    /// Writes the text over another one, if the value is a text.
+    // A call: if the text lay among the bytes of a match over all rows, each SET would make room for it.
+    #[inline(never)]
+    pub fn write_label(&self, label: &mut Text)
+        ensures { label.new ≡ unwrap_or (label_in self.now) label.old }
     {
-        match &self.value {
-            ValueRef::Label(bytes) => Some(Text::of(bytes)),
-            _ => None,
+        if let ValueRef::Label(bytes) = &self.value {
+            label.clear();
+            label.append(bytes);
         }
     }
 }

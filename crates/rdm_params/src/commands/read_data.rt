@@ -1,6 +1,7 @@
 //! What the data of a command stand for.
 
 ghost use Rattle.std.specs.Prelude.{Some, ◌≡◌, ◌≤◌, length, slice_get, true, IfSome};
+ghost use Rattle.std.specs.List.{list_all};
 ghost use Rattle.rdm_params.specs.Commands.Commands.{read_data, suits, read_data_at, addressed, command_of, is_all_call};
 ghost use Rattle.rdm_params.specs.Table.Kinds.{pid_of};
 ghost use Rattle.rdm_params.specs.Table.Uses.{way_of, is_bare, in_range_of};
@@ -10,7 +11,7 @@ use crate::commands::sub_devices::all_in_range;
 use crate::table::find::Found;
 use crate::table::read::read_argument;
 use crate::table::within::is_in_range;
-use crate::{Nack, Verb};
+use crate::{Kind, Nack, Verb};
 use rdm_device::columns::forms;
 use rdm_device::{Argument, Place};
 
@@ -54,14 +55,29 @@ impl Devices {
         requires way { found.way ≡ way_of (command_of (pid_of found.kind) verb) }
         ensures { result ≡ suits self.now sub (pid_of found.kind) verb value.now }
     {
-        // The first has been asked.
-        if !all_in_range(&self.profile, found.kind, verb, &self.subs[1..], value) {
+        if !self.is_in_range_at_each(sub, found.kind, verb, value) {
             return Err(Nack::DataOutOfRange);
         }
         if found.way.is_by_job() {
             return Err(Nack::SubDeviceOutOfRange);
         }
         Ok(())
+    }
+
+    /// Whether a value that is in the range of a SET of every sub-device at the first of them is so at all.
+    // The range of a start address alone depends on what a sub-device keeps: no other is asked for again.
+    #[tactic(auto, using(crate::proofs::OtherRanges::in_range_at_all))]
+    fn is_in_range_at_each(&self, sub: u16, kind: Kind, verb: Verb, value: &Argument<'_>) -> bool
+        requires all { is_all_call sub verb ≡ true }
+        requires some { 1 ≤ length self.now.subs }
+        requires first { IfSome (slice_get (addressed self.now sub verb) 0) (λ spot. in_range_of (command_of (pid_of kind) verb) spot value.now ≡ true) }
+        ensures { result ≡ list_all (λ spot. in_range_of (command_of (pid_of kind) verb) spot value.now) (addressed self.now sub verb) }
+    {
+        if kind.pid() == Kind::DmxStartAddress.pid() {
+            all_in_range(&self.profile, kind, verb, &self.subs[1..], value)
+        } else {
+            true
+        }
     }
 }
 

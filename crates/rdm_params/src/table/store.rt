@@ -1,9 +1,8 @@
 //! What a SET writes.
 
-ghost use Rattle.std.specs.Prelude.{◌≡◌, unwrap_or};
+ghost use Rattle.std.specs.Prelude.{◌≡◌};
 ghost use Rattle.rdm_params.specs.Table.Kinds.{pid_of};
 ghost use Rattle.rdm_device.specs.Device.Spot.{Spot};
-ghost use Rattle.rdm_device.specs.Device.Values.{label_in};
 ghost use Rattle.rdm_device.specs.Views.State.{common_entries, own_entries};
 ghost use Rattle.rdm_params.specs.Table.Rows.{row_of};
 ghost use Rattle.rdm_params.specs.Table.Uses.{after_store};
@@ -12,7 +11,6 @@ use crate::table::rows;
 use crate::{Kind, Profile};
 use rdm_device::columns::changes;
 use rdm_device::{Argument, CommonValues, RootValues};
-use rdm_frame::Text;
 
 macro_rules! common_rows {
     (($kind:ident $value:ident $profile:ident $common:ident) $(($name:ident $pid:tt $at:ident $get:tt $set:tt))*) => {
@@ -24,7 +22,7 @@ macro_rules! common_rows {
 
 macro_rules! write_common {
     ((takes label $range:tt (common $field:ident)) $value:ident $profile:ident $common:ident) => {
-        store_label($value, &mut $common.$field)
+        $value.write_label(&mut $common.$field)
     };
     ((takes $form:ident $range:tt (common $field:ident)) $value:ident $profile:ident $common:ident) => {
         if let Some(written) = $value.$form() {
@@ -89,15 +87,4 @@ pub(crate) fn store_own(kind: Kind, value: &Argument<'_>, profile: &Profile, own
         → own_entries own.new ≡ after_store (row_of (pid_of kind)) spot value.now (own_entries own.old) }
 {
     rows!(own_rows!(kind value profile own))
-}
-
-/// Writes a text, if the value is one.
-// A call: if the text lay among the bytes of `store_common`, each SET would make room for it.
-#[inline(never)]
-fn store_label(value: &Argument<'_>, label: &mut Text)
-    ensures { label.new ≡ unwrap_or (label_in value.now) label.old }
-{
-    if let Some(written) = value.label() {
-        *label = written;
-    }
 }

@@ -15,7 +15,7 @@ use crate::stepped::Stepped;
 use rdm_frame::standard::{
     ACK, DISC_MUTE, DISC_UN_MUTE, DISC_UNIQUE_BRANCH, DISCOVERY_COMMAND, GET_COMMAND, SET_COMMAND,
 };
-use rdm_frame::{Body, FrameView, Uid, Wire, disc_reply, uid_at};
+use rdm_frame::{FrameView, Uid, Wire, disc_reply, uid_at};
 
 /// The control field of a device with sub-devices (E1.20 section 7.6).
 const HAS_SUB_DEVICES: u16 = 0x0002;
@@ -56,11 +56,11 @@ impl Responder {
         if request.dst.is_broadcast() {
             return Stepped::silent();
         }
-        let mut body = Body::new();
         let answer = self
             .devices
-            .get_into(request.sub, request.pid, request.body, &mut body);
-        carry_out(self.uid, request, answer, &mut body, &mut self.outbox, wire)
+            .get_into(request.sub, request.pid, request.body, &mut self.body);
+        let body = &mut self.body;
+        carry_out(self.uid, request, answer, body, &mut self.outbox, wire)
     }
 
     /// Answers a SET.
@@ -72,11 +72,11 @@ impl Responder {
         ensures table { IfSome result.started IsAsInTable }
         ensures after { (a : Account) → Shows self.old a → Shows self.new (account_with a (Set request.now)) }
     {
-        let mut body = Body::new();
         let answer = self
             .devices
-            .set_into(request.sub, request.pid, request.body, &mut body);
-        carry_out(self.uid, request, answer, &mut body, &mut self.outbox, wire)
+            .set_into(request.sub, request.pid, request.body, &mut self.body);
+        let body = &mut self.body;
+        carry_out(self.uid, request, answer, body, &mut self.outbox, wire)
     }
 
     /// Answers a discovery command.

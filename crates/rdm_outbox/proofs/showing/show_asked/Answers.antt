@@ -1,7 +1,16 @@
 use Rattle.std.proofs.Common.{arith, sym, take}
 use Rattle.rdm_outbox.proofs.Entries.{said_shown, left_shown, room_shown, said_kept, left_kept, left_whole}
+use Rattle.rdm_outbox.proofs.Fronts.{said_at_first, left_at_first}
 use Rattle.rdm_outbox.proofs.showing.show_asked.Goals as goal
 use Rattle.rdm_outbox.proofs.showing.show_asked.Goals.{then-is_shown, else-is_shown}
+
+pub loop-at-init : goal.loop-at-init
+loop-at-init c = record {
+  said = said_at_first c.args.body.now c.args.most c.args.ask c.args.entries.now c.first_place-kept.result c.requires.empty c.first_place-kept.ensures;
+  left = left_at_first c.args.most c.args.ask c.args.entries.now c.first_place-kept.result c.first_place-kept.ensures;
+  room = rw c.requires.empty (omega arith);
+  kept = omega arith;
+}
 
 pub loop-at-preserved : goal.loop-at-preserved
 loop-at-preserved c =
