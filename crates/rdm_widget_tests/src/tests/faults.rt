@@ -78,8 +78,8 @@ fn what_is_read_is_answered_before_more_is_read(rt: HostRuntime) {
     };
     let mut clock = Told { times: &[] };
     let mut held = Packet::new();
-    let mut desk = fixture(&rt);
-    let read = serve_some(&mut line, &mut writer, &mut clock, &mut desk, &mut held);
+    let mut fixture = fixture(&rt);
+    let read = serve_some(&mut line, &mut writer, &mut clock, &mut fixture, &mut held);
     assert_eq!(rt; read, Ok(5));
     assert_eq!(rt; line.turn, 2);
     assert_eq!(rt; writer.taken, 9);
