@@ -1,6 +1,7 @@
 //! Lines that fail.
 
 use super::{Told, fixture, serve_at};
+use rdm_streams::{ReadFault, WriteFault};
 use rdm_widget::{Packet, ServeError, serve_some};
 use std::io;
 use std::io::{ErrorKind, Read, Write};
@@ -93,4 +94,10 @@ fn a_fault_says_what_failed(rt: HostRuntime) {
         let told = format!(in alloc; "{fault}").expect(&rt, "memory");
         assert_eq!(rt; told.as_str(), word);
     }
+    let fault = ReadFault;
+    let told = format!(in alloc; "{fault}").expect(&rt, "memory");
+    assert_eq!(rt; told.as_str(), "read");
+    let fault = WriteFault;
+    let told = format!(in alloc; "{fault}").expect(&rt, "memory");
+    assert_eq!(rt; told.as_str(), "write");
 }
