@@ -2,7 +2,6 @@
 
 use rdm_outcomes::Rule;
 use rdm_params::{Outcome, Severity};
-use rdm_words::tables::parameters::parameter;
 use std::io;
 use std::io::Print;
 
@@ -17,7 +16,7 @@ pub fn tell_outcomes(rt: &impl Print, rules: &[Rule]) -> io::Result<()> {
 
 /// Prints of which jobs a rule speaks, and leaves the line open.
 fn tell_jobs(rt: &impl Print, rule: &Rule) -> io::Result<()> {
-    let name = parameter(rule.task.pid()).unwrap_or("parameter");
+    let name = rule.task.kind().name();
     print!(rt; "  outcome of {name}")?;
     if let Some(value) = rule.value {
         print!(rt; " {value}")?;

@@ -7,7 +7,7 @@ use crate::watched::Watched;
 use crate::{fixture, usage};
 use clap::ArgMatches;
 use rdm_fixture::Fixture;
-use rdm_widget::{Desk, RealClock, ServeError, serve};
+use rdm_widget::{LiveFixture, RealClock, ServeError, serve};
 use std::io;
 
 /// How many results of slow commands there is room for.
@@ -29,8 +29,8 @@ pub fn run<'a, S: System>(rt: S, asked: &ArgMatches<'a>) -> Result<(), Fault<'a>
         profile,
         outcomes,
     } = fixture;
-    let mut desk = match Desk::new(rt.alloc(), uid, profile, QUEUE_SIZE, &outcomes) {
-        Ok(desk) => desk,
+    let mut live = match LiveFixture::new(rt.alloc(), uid, profile, QUEUE_SIZE, &outcomes) {
+        Ok(live) => live,
         Err(error) => return Err(Fault::from(error)),
     };
     let mut clock = match RealClock::start(&rt, speed) {
@@ -39,7 +39,7 @@ pub fn run<'a, S: System>(rt: S, asked: &ArgMatches<'a>) -> Result<(), Fault<'a>
     };
     let mut reader = Watched::new(rt.reader());
     let mut writer = Watched::new(io::writer(&rt));
-    match serve(&mut reader, &mut writer, &mut clock, &mut desk) {
+    match serve(&mut reader, &mut writer, &mut clock, &mut live) {
         Ok(()) => Ok(()),
         Err(ServeError::Read) => Err(Fault::Io(INPUT, reader.error())),
         Err(ServeError::Write) => Err(Fault::Io(OUTPUT, writer.error())),

@@ -93,7 +93,7 @@ fn task_in(value: &Value) -> Option<Task>
     }
 }
 
-/// The value that is handed in with the command, or each.
+/// The byte of data that comes with the command, or each.
 fn value(table: &Table) -> Option<Option<u8>>
     ensures { result ≡ may None (says.only_number 0 0xFF) (get_member (codes "value") (table_view table.now)) }
 {

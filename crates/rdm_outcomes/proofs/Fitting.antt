@@ -17,7 +17,7 @@ use Rattle.rdm_outcomes.specs.declared.planned.Counted.{Counted}
 use Rattle.rdm_outcomes.specs.declared.rule.Rule.{Rule}
 use Rattle.rdm_outcomes.specs.declared.rule.Task.{Task}
 use Rattle.rdm_outcomes.specs.declared.rule.Task.TheVariants.{LampState, PowerState, PerformSelfTest, SensorValue}
-use Rattle.rdm_outcomes.specs.Outcomes.{pid_of, suits, holds, is_for, outcome_by, outcome_at, CanEnd}
+use Rattle.rdm_outcomes.specs.Outcomes.{task_pid, suits, holds, is_for, outcome_by, outcome_at, CanEnd}
 
 -- ---- the slow commands of the table: GET SENSOR_VALUE, and SETs of other parameters
 
@@ -64,7 +64,7 @@ a_sensor pid e slow =
 none : {A : Type 0} → ⊥ → A
 none e = absurd e
 
-rule_ends : (task : Task) (outcome : Outcome) (pid : ℕ) (verb : Verb) → (pid == pid_of task) ≡ true → suits task outcome ≡ true → is_slow (command_of pid verb) ≡ true → ends verb outcome ≡ true
+rule_ends : (task : Task) (outcome : Outcome) (pid : ℕ) (verb : Verb) → (pid == task_pid task) ≡ true → suits task outcome ≡ true → is_slow (command_of pid verb) ≡ true → ends verb outcome ≡ true
 rule_ends task (Failed severity id v1 v2) pid Get here suit slow = refl
 rule_ends task (Failed severity id v1 v2) pid Set here suit slow = refl
 rule_ends SensorValue (Reading value) pid Get here suit slow = refl
@@ -106,7 +106,7 @@ all_end (c ∷ cs) job slow =
     chosen c (find (λ (d : Counted). holds d.rule d.seen job) cs) job
     (λ e.
     let parts = and_parts (is_for c.rule job) _ e in
-    rule_ends c.rule.task c.rule.outcome job.work.pid job.work.verb (and_parts (job.work.pid == pid_of c.rule.task) _ parts.0).0 (and_parts (suits c.rule.task c.rule.outcome) _ parts.1).0 slow)
+    rule_ends c.rule.task c.rule.outcome job.work.pid job.work.verb (and_parts (job.work.pid == task_pid c.rule.task) _ parts.0).0 (and_parts (suits c.rule.task c.rule.outcome) _ parts.1).0 slow)
     (all_end cs job slow) (holds c.rule c.seen job) refl
 
 both_hold : (a b : Bool) → a ≡ true → b ≡ true → (a && b) ≡ true

@@ -8,7 +8,7 @@ use Rattle.rdm_outbox.specs.declared.job.Job.{Job}
 use Rattle.rdm_outcomes.specs.declared.rule.Rule.{Rule}
 use Rattle.rdm_outcomes.specs.declared.rule.Task.{Task}
 use Rattle.rdm_outcomes.specs.declared.rule.Task.TheVariants.{LampState, PerformSelfTest}
-use Rattle.rdm_outcomes.specs.Outcomes.{usual_outcome}
+use Rattle.rdm_outcomes.specs.Outcomes.{task_pid, usual_outcome}
 
 -- each job of a task for the value 2 fails so
 abbrev pub failing : Task → Severity → ℕ → Rule
@@ -21,5 +21,5 @@ demo_rules = failing LampState Error 0x8001 ∷ failing PerformSelfTest Warning 
 -- 10.11); each sensor measures 25 and its own number, and every other job is done.
 abbrev pub demo_outcome : Job → Outcome
 demo_outcome job =
-    if (job.work.pid == 0x0403) && (job.work.arg == 2) then Failed Error 0x8001 2 0
-    else (if (job.work.pid == 0x1020) && (job.work.arg == 2) then Failed Warning 0x8002 2 0 else usual_outcome job)
+    if (job.work.pid == task_pid LampState) && (job.work.arg == 2) then Failed Error 0x8001 2 0
+    else (if (job.work.pid == task_pid PerformSelfTest) && (job.work.arg == 2) then Failed Warning 0x8002 2 0 else usual_outcome job)

@@ -1,5 +1,8 @@
 -- How jobs end by rules. E1.20 section 6.3.3 lets a responder take its time; what a job comes to is its device's to say.
 use Rattle.std.specs.Prelude.{◌≡◌, ℕ, suc, ◌+◌, ◌==◌, ◌&&◌, Bool, true, false, pos, List, map, find, count_by, nat_le, Option, Some, None, if◌then◌else◌}
+use Rattle.rdm_params.specs.Table.Kinds.{pid_of}
+use Rattle.rdm_params.specs.declared.kind.Kind.{Kind}
+use Rattle.rdm_params.specs.declared.kind.Kind.TheVariants as kinds
 use Rattle.rdm_params.specs.declared.jobs.outcome.Outcome.{Outcome}
 use Rattle.rdm_params.specs.declared.jobs.outcome.Outcome.TheVariants.{Done, Reading, Failed}
 use Rattle.rdm_outbox.specs.declared.job.Job.{Job}
@@ -9,12 +12,16 @@ use Rattle.rdm_outcomes.specs.declared.rule.Task.TheVariants.{LampState, PowerSt
 use Rattle.rdm_outcomes.specs.declared.planned.Counted.{Counted}
 use Rattle.rdm_outcomes.specs.declared.planned.Planned.{Planned}
 
--- the PID of a task's command, from table A-3
-abbrev pub pid_of : Task → ℕ
-pid_of LampState = 0x0403
-pid_of PowerState = 0x1010
-pid_of PerformSelfTest = 0x1020
-pid_of SensorValue = 0x0201
+-- the parameter of a task's command
+abbrev pub kind_of : Task → Kind
+kind_of LampState = kinds.LampState
+kind_of PowerState = kinds.PowerState
+kind_of PerformSelfTest = kinds.PerformSelfTest
+kind_of SensorValue = kinds.SensorValue
+
+-- its PID
+abbrev pub task_pid : Task → ℕ
+task_pid task = pid_of (kind_of task)
 
 -- a task can have an outcome: a sensor gives a reading (section 10.7.2), each other task is done, and each may fail
 abbrev pub suits : Task → Outcome → Bool
@@ -30,7 +37,7 @@ is_value (Some only) value = value == only
 
 -- a rule speaks of a job: it is of its task, and for its value, if it has one
 abbrev pub is_for : Rule → Job → Bool
-is_for rule job = (job.work.pid == pid_of rule.task) && is_value rule.value job.work.arg
+is_for rule job = (job.work.pid == task_pid rule.task) && is_value rule.value job.work.arg
 
 -- it is the turn of what comes after so many
 abbrev pub is_turn : Option ℕ → ℕ → Bool
@@ -43,7 +50,7 @@ holds rule seen job = is_for rule job && (suits rule.task rule.outcome && is_tur
 
 -- without a rule a sensor measures 25 and its own number (SENSOR_VALUE, section 10.7.2), and every other job is done
 abbrev pub usual_outcome : Job → Outcome
-usual_outcome job = if job.work.pid == 0x0201 then Reading (pos (25 + job.work.arg)) else Done
+usual_outcome job = if job.work.pid == task_pid SensorValue then Reading (pos (25 + job.work.arg)) else Done
 
 abbrev pub outcome_by : Option Counted → Job → Outcome
 outcome_by None job = usual_outcome job

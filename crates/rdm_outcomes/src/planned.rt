@@ -8,7 +8,7 @@ ghost use Rattle.rdm_outcomes.specs.Outcomes.{outcome_of, outcome_at, usual_outc
 use crate::rule::{MOST_RULES, Rule};
 use arrayvec::ArrayVec;
 use rdm_outbox::Job;
-use rdm_params::Outcome;
+use rdm_params::{Kind, Outcome};
 
 /// A rule, and how many jobs that it speaks of have ended.
 #[derive(Clone, Copy, Debug, Default, PartialEq, Eq)]
@@ -100,7 +100,7 @@ fn note_all(counted: &mut [Counted], job: &Job)
 fn usual(job: &Job) -> Outcome
     ensures { result ≡ usual_outcome job.now }
 {
-    if job.work.pid == 0x0201 {
+    if job.work.pid == Kind::SensorValue.pid() {
         Outcome::Reading(25 + i16::from(job.work.arg))
     } else {
         Outcome::Done

@@ -1,10 +1,10 @@
 //! What is said of how a job ends.
 
 ghost use Rattle.std.specs.Prelude.{◌≡◌};
-ghost use Rattle.rdm_outcomes.specs.Outcomes.{pid_of, is_for, suits, is_turn, holds};
+ghost use Rattle.rdm_outcomes.specs.Outcomes.{kind_of, is_for, suits, is_turn, holds};
 
 use rdm_outbox::Job;
-use rdm_params::Outcome;
+use rdm_params::{Kind, Outcome};
 
 /// How many rules a fixture may have.
 pub const MOST_RULES: usize = 32;
@@ -23,15 +23,15 @@ pub enum Task {
 }
 
 impl Task {
-    /// Its PID, from table A-3.
-    pub fn pid(self) -> u16
-        ensures { result ≡ pid_of self }
+    /// The parameter of its command.
+    pub fn kind(self) -> Kind
+        ensures { result ≡ kind_of self }
     {
         match self {
-            Task::LampState => 0x0403,
-            Task::PowerState => 0x1010,
-            Task::PerformSelfTest => 0x1020,
-            Task::SensorValue => 0x0201,
+            Task::LampState => Kind::LampState,
+            Task::PowerState => Kind::PowerState,
+            Task::PerformSelfTest => Kind::PerformSelfTest,
+            Task::SensorValue => Kind::SensorValue,
         }
     }
 }
@@ -43,7 +43,7 @@ impl Task {
 pub struct Rule {
     /// What is to be done.
     pub task: Task,
-    /// The value that is handed in with the command, or `None` for each.
+    /// The byte of data that comes with the command, or `None` for each.
     pub value: Option<u8>,
     /// Which of the jobs that the rule speaks of, counted from 1, or `None` for each.
     pub turn: Option<u16>,
@@ -68,7 +68,8 @@ impl Rule {
     pub fn is_for(&self, job: &Job) -> bool
         ensures { result ≡ is_for self.now job.now }
     {
-        job.work.pid == self.task.pid() && self.value.is_none_or(|value| job.work.arg == value)
+        job.work.pid == self.task.kind().pid()
+            && self.value.is_none_or(|value| job.work.arg == value)
     }
 
     /// Whether the rule says how a job ends that comes after so many that it speaks of.

@@ -12,8 +12,8 @@ use Rattle.rdm_responder.specs.Runs.{outbox_of}
 use Rattle.rdm_responder.specs.declared.report.Report.{Report}
 use Rattle.rdm_responder.proofs.Accounts.{account_of-then}
 use Rattle.rdm_responder.proofs.Growth.{Grows, event_grows}
-use Rattle.rdm_widget.specs.declared.desk.ending.Ended.{Ended}
-use Rattle.rdm_widget.specs.Desks.{Situation, oldest_of, ended_by, earlier, first_ended, report_of, after_report, after_ended, after_next, after_several, since_when, begun, ready, NoneHasEnded}
+use Rattle.rdm_widget.specs.declared.live_fixture.ending.Ended.{Ended}
+use Rattle.rdm_widget.specs.LiveFixtures.{Situation, oldest_of, ended_by, earlier, first_ended, report_of, after_report, after_ended, after_next, after_several, since_when, begun, ready, NoneHasEnded}
 use Rattle.rdm_widget.proofs.Reports.{first_is, which}
 
 -- ---- where none has ended

@@ -25,8 +25,8 @@ use Rattle.rdm_responder.specs.Requests.{Request, Ignored, Branch, Muting, Get, 
 use Rattle.rdm_responder.specs.Rules.{Account, account_of, account_before, account_after, job_with, started_by}
 use Rattle.rdm_responder.specs.Runs.{outbox_of}
 use Rattle.rdm_responder.proofs.Growth.{job_at, event_grows}
-use Rattle.rdm_widget.specs.declared.desk.ending.Ended.{Ended}
-use Rattle.rdm_widget.specs.Desks.{Situation, oldest_of, ended_by, end_of, earlier, first_ended, reported_in}
+use Rattle.rdm_widget.specs.declared.live_fixture.ending.Ended.{Ended}
+use Rattle.rdm_widget.specs.LiveFixtures.{Situation, oldest_of, ended_by, end_of, earlier, first_ended, reported_in}
 
 -- ---- lists of jobs
 

@@ -5,9 +5,9 @@ use Rattle.std.specs.Io.KnownBytes.{Appends, Consumes, Keeps}
 use Rattle.std.proofs.Math.Seq.{drop-append_seam}
 use Rattle.std.proofs.Math.ListN.{drop_of_length-le}
 use Rattle.std.proofs.lemmas.List.{map-append, take_all, length-drop, drop-drop}
-use Rattle.rdm_widget.specs.declared.desk.Desk.{Desk}
+use Rattle.rdm_widget.specs.declared.live_fixture.LiveFixture.{LiveFixture}
 use Rattle.rdm_widget.specs.Framing.{Message, IsMessage, message_bytes, bytes_of, IsUnfinished, IsStray, Piece, Rubbish, Said, stream_of, messages_of, AreCut}
-use Rattle.rdm_widget.specs.Desks.{Situation, IsIn}
+use Rattle.rdm_widget.specs.LiveFixtures.{Situation, IsIn}
 use Rattle.rdm_widget.specs.Protocol.{answer_to, after_message}
 use Rattle.rdm_widget.proofs.Frames.{unfinished_none}
 use Rattle.rdm_widget.specs.Serving.{Turn, messages_in, times_of, after_turns, answer_in, answers, Tells, IsServed, AreDone, AllWritten, LastCutShort, IsServedOnce, IsCutShort}
@@ -112,7 +112,7 @@ consumes_kept (Some a) (Some b) (Some c) xs h k = h ∙ ap (λ (zs : List ℕ). 
 
 -- ---- parts
 
-pub join : {C : Type 0} (tells : C → ℕ → C → Type 0) (a b c : C) (bytes mid rest : List ℕ) (s : Situation) (d e : Desk) (W V U : Situation → List Turn → Type 0)
+pub join : {C : Type 0} (tells : C → ℕ → C → Type 0) (a b c : C) (bytes mid rest : List ℕ) (s : Situation) (d e : LiveFixture) (W V U : Situation → List Turn → Type 0)
     → (one : AreDone tells a b bytes mid s d W) → AreDone tells b c mid rest (after_turns s one.turns) e V
     → ((ts us : List Turn) → W s ts → V (after_turns s ts) us → U s (ts ++ us)) → AreDone tells a c bytes rest s e U
 join tells a b c bytes mid rest s d e W V U one two all =
@@ -130,11 +130,11 @@ join tells a b c bytes mid rest s d e W V U one two all =
           subst (λ l. Tells tells a l c) (sym (map-append (λ (t : Turn). t.at) one.turns two.turns))
           (Tells-append tells a b c (times_of one.turns) (times_of two.turns) one.times two.times);
       written = all one.turns two.turns one.written two.written;
-      desk = subst (IsIn e) (sym (after_turns-append s one.turns two.turns)) two.desk;
+      fixture = subst (IsIn e) (sym (after_turns-append s one.turns two.turns)) two.fixture;
     }
 
 -- more is read behind what is left
-pub more_read : {C : Type 0} (tells : C → ℕ → C → Type 0) (a b : C) (bytes rest more : List ℕ) (s : Situation) (d : Desk) (W : Situation → List Turn → Type 0)
+pub more_read : {C : Type 0} (tells : C → ℕ → C → Type 0) (a b : C) (bytes rest more : List ℕ) (s : Situation) (d : LiveFixture) (W : Situation → List Turn → Type 0)
     → AreDone tells a b bytes rest s d W → AreDone tells a b (bytes ++ more) (rest ++ more) s d W
 more_read tells a b bytes rest more s d W one = record {
   pieces = one.pieces;
@@ -144,11 +144,11 @@ more_read tells a b bytes rest more s d W one = record {
   said = one.said;
   times = one.times;
   written = one.written;
-  desk = one.desk;
+  fixture = one.fixture;
 }
 
 -- nothing is done yet
-pub none_done : {C : Type 0} (tells : C → ℕ → C → Type 0) (a : C) (bytes : List ℕ) (s : Situation) (d : Desk) (old : Option (List ℕ))
+pub none_done : {C : Type 0} (tells : C → ℕ → C → Type 0) (a : C) (bytes : List ℕ) (s : Situation) (d : LiveFixture) (old : Option (List ℕ))
     → IsIn d s → AreDone tells a a bytes bytes s d (AllWritten old old)
 none_done tells a bytes s d old is = record {
   pieces = [];
@@ -158,11 +158,11 @@ none_done tells a bytes s d old is = record {
   said = refl;
   times = refl;
   written = appends_none old;
-  desk = is;
+  fixture = is;
 }
 
 -- a stray byte is passed over
-pub stray_done : {C : Type 0} (tells : C → ℕ → C → Type 0) (a : C) (bytes : List ℕ) (s : Situation) (d : Desk) (old : Option (List ℕ))
+pub stray_done : {C : Type 0} (tells : C → ℕ → C → Type 0) (a : C) (bytes : List ℕ) (s : Situation) (d : LiveFixture) (old : Option (List ℕ))
     → IsIn d s → 0 < length bytes → IsStray bytes → AreDone tells a a bytes (drop 1 bytes) s d (AllWritten old old)
 stray_done tells a [] s d old is some stray = absurd (omega (arith, some))
 stray_done tells a (b ∷ bytes) s d old is some stray = record {
@@ -173,13 +173,13 @@ stray_done tells a (b ∷ bytes) s d old is some stray = record {
   said = refl;
   times = refl;
   written = appends_none old;
-  desk = is;
+  fixture = is;
 }
 
 -- a message is answered
-pub said_done : {C : Type 0} (tells : C → ℕ → C → Type 0) (a b : C) (bytes rest : List ℕ) (m : Message) (now : ℕ) (s : Situation) (d : Desk) (W : Situation → List Turn → Type 0)
+pub said_done : {C : Type 0} (tells : C → ℕ → C → Type 0) (a b : C) (bytes rest : List ℕ) (m : Message) (now : ℕ) (s : Situation) (d : LiveFixture) (W : Situation → List Turn → Type 0)
     → IsMessage m → bytes ≡ message_bytes m ++ rest → tells a now b → W s (record { at = now; message = m } ∷ []) → IsIn d (after_message now s m) → AreDone tells a b bytes rest s d W
-said_done tells a b bytes rest m now s d W is whole told written desk = record {
+said_done tells a b bytes rest m now s d W is whole told written fixture = record {
   pieces = Said m ∷ [];
   turns = record { at = now; message = m } ∷ [];
   whole = whole ∙ ap (λ l. l ++ rest) (sym (append-nil (message_bytes m)));
@@ -187,7 +187,7 @@ said_done tells a b bytes rest m now s d W is whole told written desk = record {
   said = refl;
   times = (b, (told, refl));
   written = written;
-  desk = desk;
+  fixture = fixture;
 }
 
 length-message_bytes : (m : Message) → length (message_bytes m) ≡ length m.body + 5
@@ -204,7 +204,7 @@ reaches bytes rest m whole =
 
 -- ---- what has been served
 
-pub served : {C : Type 0} (tells : C → ℕ → C → Type 0) (a b : C) (unread left old new : Option (List ℕ)) (input rest : List ℕ) (s : Situation) (d : Desk)
+pub served : {C : Type 0} (tells : C → ℕ → C → Type 0) (a b : C) (unread left old new : Option (List ℕ)) (input rest : List ℕ) (s : Situation) (d : LiveFixture)
     → Consumes unread left input → AreDone tells a b input rest s d (AllWritten old new) → IsUnfinished rest → IsServed tells a b unread left old new s d
 served tells a b unread left old new input rest s d read done unfinished = record {
   input = input;
@@ -213,12 +213,12 @@ served tells a b unread left old new input rest s d read done unfinished = recor
   holds = record { pieces = done.pieces; rest = rest; whole = done.whole; cut = done.cut; unfinished = unfinished; said = done.said };
   times = done.times;
   written = done.written;
-  desk = done.desk;
+  fixture = done.fixture;
 }
 
 -- ---- an answer that is written, whole or in part
 
-pub answered_ok : {C A E : Type 0} (tells : C → ℕ → C → Type 0) (a b : C) (m : Message) (now : ℕ) (d e : Desk) (old new : Option (List ℕ)) (packet : List ℕ) (r : Result A E)
+pub answered_ok : {C A E : Type 0} (tells : C → ℕ → C → Type 0) (a b : C) (m : Message) (now : ℕ) (d e : LiveFixture) (old new : Option (List ℕ)) (packet : List ℕ) (r : Result A E)
     → tells a now b → ((s : Situation) → IsIn d s → packet ≡ bytes_of (answer_to now s m)) → ((s : Situation) → IsIn d s → IsIn e (after_message now s m)) → OnOk r (Appends old new packet)
     → OnOk r ((s : Situation) (bytes rest : List ℕ) → IsIn d s → IsMessage m → bytes ≡ message_bytes m ++ rest → AreDone tells a b bytes rest s e (AllWritten old new))
 answered_ok tells a b m now d e old new packet (Ok u) told bytes_are after written =
@@ -239,7 +239,7 @@ one_short old new s turn packet is cut = record {
   written = subst (λ (l : List ℕ). Appends old new (take cut.0 l)) is cut.2;
 }
 
-pub answered_err : {C A E : Type 0} (tells : C → ℕ → C → Type 0) (a b : C) (m : Message) (now : ℕ) (d e : Desk) (old new : Option (List ℕ)) (packet : List ℕ) (r : Result A E)
+pub answered_err : {C A E : Type 0} (tells : C → ℕ → C → Type 0) (a b : C) (m : Message) (now : ℕ) (d e : LiveFixture) (old new : Option (List ℕ)) (packet : List ℕ) (r : Result A E)
     → tells a now b → ((s : Situation) → IsIn d s → packet ≡ bytes_of (answer_to now s m)) → ((s : Situation) → IsIn d s → IsIn e (after_message now s m))
     → OnErr r ((count : ℕ) × (count < length packet) × Appends old new (take count packet))
     → OnErr r ((s : Situation) (bytes rest : List ℕ) → IsIn d s → IsMessage m → bytes ≡ message_bytes m ++ rest → AreDone tells a b bytes rest s e (LastCutShort old new))
@@ -257,21 +257,21 @@ on_ok (Err e) P Q holds then = holds
 tail_of : (bytes : List ℕ) (done : ℕ) → take (length bytes - done) (drop done bytes) ≡ drop done bytes
 tail_of bytes done = take_all (length bytes - done) (drop done bytes) (omega (arith, length-drop done bytes))
 
-pub next_done : {C : Type 0} (tells : C → ℕ → C → Type 0) (a b c : C) (bytes : List ℕ) (done count : ℕ) (s : Situation) (d e : Desk) (W V U : Situation → List Turn → Type 0)
+pub next_done : {C : Type 0} (tells : C → ℕ → C → Type 0) (a b c : C) (bytes : List ℕ) (done count : ℕ) (s : Situation) (d e : LiveFixture) (W V U : Situation → List Turn → Type 0)
     → AreDone tells a b bytes (drop done bytes) s d W
     → ((t : Situation) → IsIn d t → AreDone tells b c (take (length bytes - done) (drop done bytes)) (drop count (take (length bytes - done) (drop done bytes))) t e V)
     → ((ts us : List Turn) → W s ts → V (after_turns s ts) us → U s (ts ++ us)) → AreDone tells a c bytes (drop (done + count) bytes) s e U
 next_done tells a b c bytes done count s d e W V U one then all =
     subst (λ (l : List ℕ). AreDone tells a c bytes l s e U) (drop-drop count done bytes)
     (join tells a b c bytes (drop done bytes) (drop count (drop done bytes)) s d e W V U one
-    (subst (λ (l : List ℕ). AreDone tells b c l (drop count l) (after_turns s one.turns) e V) (tail_of bytes done) (then (after_turns s one.turns) one.desk)) all)
+    (subst (λ (l : List ℕ). AreDone tells b c l (drop count l) (after_turns s one.turns) e V) (tail_of bytes done) (then (after_turns s one.turns) one.fixture)) all)
 
-pub next_fails : {C : Type 0} (tells : C → ℕ → C → Type 0) (a b c : C) (bytes : List ℕ) (done : ℕ) (s : Situation) (d e : Desk) (W V U : Situation → List Turn → Type 0)
+pub next_fails : {C : Type 0} (tells : C → ℕ → C → Type 0) (a b c : C) (bytes : List ℕ) (done : ℕ) (s : Situation) (d e : LiveFixture) (W V U : Situation → List Turn → Type 0)
     → AreDone tells a b bytes (drop done bytes) s d W
     → ((t : Situation) → IsIn d t → (rest : List ℕ) × AreDone tells b c (take (length bytes - done) (drop done bytes)) rest t e V)
     → ((ts us : List Turn) → W s ts → V (after_turns s ts) us → U s (ts ++ us)) → (rest : List ℕ) × AreDone tells a c bytes rest s e U
 next_fails tells a b c bytes done s d e W V U one then all =
-    let two = then (after_turns s one.turns) one.desk in (
+    let two = then (after_turns s one.turns) one.fixture in (
       two.0,
       join tells a b c bytes (drop done bytes) two.0 s d e W V U one
           (subst (λ (l : List ℕ). AreDone tells b c l two.0 (after_turns s one.turns) e V) (tail_of bytes done) two.1) all,
@@ -293,13 +293,13 @@ none_left bytes done all = subst IsUnfinished (sym (drop_of_length-le bytes all)
 -- ---- one read after another
 
 -- what was read since the start, and what is held of it
-pub record SoFar {C : Type 0} (tells : C → ℕ → C → Type 0) (a b : C) (unread left old new : Option (List ℕ)) (held : List ℕ) (s : Situation) (d : Desk) : Type 0 where
+pub record SoFar {C : Type 0} (tells : C → ℕ → C → Type 0) (a b : C) (unread left old new : Option (List ℕ)) (held : List ℕ) (s : Situation) (d : LiveFixture) : Type 0 where
   pub input : List ℕ
   pub read : Consumes unread left input
   pub done : AreDone tells a b input held s d (AllWritten old new)
   pub unfinished : IsUnfinished held
 
-pub nothing_so_far : {C : Type 0} (tells : C → ℕ → C → Type 0) (a : C) (unread old : Option (List ℕ)) (held : List ℕ) (s : Situation) (d : Desk)
+pub nothing_so_far : {C : Type 0} (tells : C → ℕ → C → Type 0) (a : C) (unread old : Option (List ℕ)) (held : List ℕ) (s : Situation) (d : LiveFixture)
     → held ≡ [] → IsIn d s → SoFar tells a a unread unread old old held s d
 nothing_so_far tells a unread old held s d none is = record {
   input = [];
@@ -308,7 +308,7 @@ nothing_so_far tells a unread old held s d none is = record {
   unfinished = subst IsUnfinished (sym none) unfinished_none;
 }
 
-pub read_once : {C : Type 0} (tells : C → ℕ → C → Type 0) (a b : C) (unread left old new : Option (List ℕ)) (held bytes buffer kept : List ℕ) (count done : ℕ) (s : Situation) (d : Desk)
+pub read_once : {C : Type 0} (tells : C → ℕ → C → Type 0) (a b : C) (unread left old new : Option (List ℕ)) (held bytes buffer kept : List ℕ) (count done : ℕ) (s : Situation) (d : LiveFixture)
     → buffer ≡ held ++ bytes → length bytes ≡ count → Consumes unread left bytes → kept ≡ drop done buffer → AreDone tells a b buffer (drop done buffer) s d (AllWritten old new)
     → IsUnfinished (drop done buffer) → IsServedOnce tells a b unread left old new held kept count s d
 read_once tells a b unread left old new held bytes buffer kept count done s d is size read kept_is all unfinished = record {
@@ -321,7 +321,7 @@ read_once tells a b unread left old new held bytes buffer kept count done s d is
   unfinished = subst IsUnfinished (sym kept_is) unfinished;
 }
 
-pub cut_once : {C : Type 0} (tells : C → ℕ → C → Type 0) (a b : C) (unread left old new : Option (List ℕ)) (held bytes buffer : List ℕ) (s : Situation) (d : Desk)
+pub cut_once : {C : Type 0} (tells : C → ℕ → C → Type 0) (a b : C) (unread left old new : Option (List ℕ)) (held bytes buffer : List ℕ) (s : Situation) (d : LiveFixture)
     → buffer ≡ held ++ bytes → Consumes unread left bytes → (rest : List ℕ) × AreDone tells a b buffer rest s d (LastCutShort old new)
     → IsCutShort tells a b unread left old new held s d
 cut_once tells a b unread left old new held bytes buffer s d is read short = record {
@@ -331,12 +331,12 @@ cut_once tells a b unread left old new held bytes buffer s d is read short = rec
   done = subst (λ (l : List ℕ). AreDone tells a b l short.0 s d (LastCutShort old new)) is short.1;
 }
 
-pub served_on : {C : Type 0} (tells : C → ℕ → C → Type 0) (a b c : C) (unread then left old mid new : Option (List ℕ)) (held kept : List ℕ) (count : ℕ) (s : Situation) (d e : Desk)
+pub served_on : {C : Type 0} (tells : C → ℕ → C → Type 0) (a b c : C) (unread then left old mid new : Option (List ℕ)) (held kept : List ℕ) (count : ℕ) (s : Situation) (d e : LiveFixture)
     → SoFar tells a b unread then old mid held s d → ((t : Situation) → IsIn d t → IsServedOnce tells b c then left mid new held kept count t e)
     → SoFar tells a c unread left old new kept s e
 unfolding more_read
 served_on tells a b c unread then left old mid new held kept count s d e so next =
-    let two = next (after_turns s so.done.turns) so.done.desk in
+    let two = next (after_turns s so.done.turns) so.done.fixture in
     let first : AreDone tells a b (so.input ++ two.input) (held ++ two.input) s d (AllWritten old mid) =
     more_read tells a b so.input held two.input s d (AllWritten old mid) so.done in
     record {
@@ -348,12 +348,12 @@ served_on tells a b c unread then left old mid new held kept count s d e so next
       unfinished = two.unfinished;
     }
 
-pub fails_on : {C : Type 0} (tells : C → ℕ → C → Type 0) (a b c : C) (unread then left old mid new : Option (List ℕ)) (held : List ℕ) (s : Situation) (d e : Desk)
+pub fails_on : {C : Type 0} (tells : C → ℕ → C → Type 0) (a b c : C) (unread then left old mid new : Option (List ℕ)) (held : List ℕ) (s : Situation) (d e : LiveFixture)
     → SoFar tells a b unread then old mid held s d → ((t : Situation) → IsIn d t → IsCutShort tells b c then left mid new held t e)
     → IsCutShort tells a c unread left old new [] s e
 unfolding more_read
 fails_on tells a b c unread then left old mid new held s d e so next =
-    let two = next (after_turns s so.done.turns) so.done.desk in
+    let two = next (after_turns s so.done.turns) so.done.fixture in
     let first : AreDone tells a b (so.input ++ two.input) (held ++ two.input) s d (AllWritten old mid) =
     more_read tells a b so.input held two.input s d (AllWritten old mid) so.done in
     record {
@@ -365,12 +365,12 @@ fails_on tells a b c unread then left old mid new held s d e so next =
           first two.done (short_then old mid new s);
     }
 
-pub all_served : {C : Type 0} (tells : C → ℕ → C → Type 0) (a b : C) (unread left old new : Option (List ℕ)) (held : List ℕ) (s : Situation) (d : Desk)
+pub all_served : {C : Type 0} (tells : C → ℕ → C → Type 0) (a b : C) (unread left old new : Option (List ℕ)) (held : List ℕ) (s : Situation) (d : LiveFixture)
     → SoFar tells a b unread left old new held s d → IsServed tells a b unread left old new s d
 all_served tells a b unread left old new held s d so = served tells a b unread left old new so.input held s d so.read so.done so.unfinished
 
 -- a read that failed
-pub not_read : {C : Type 0} (tells : C → ℕ → C → Type 0) (a b : C) (unread then left old new : Option (List ℕ)) (held : List ℕ) (s : Situation) (d : Desk)
+pub not_read : {C : Type 0} (tells : C → ℕ → C → Type 0) (a b : C) (unread then left old new : Option (List ℕ)) (held : List ℕ) (s : Situation) (d : LiveFixture)
     → Keeps then left → SoFar tells a b unread then old new held s d → IsServed tells a b unread left old new s d
 not_read tells a b unread then left old new held s d kept so =
     served tells a b unread left old new so.input held s d (consumes_kept unread then left so.input so.read kept) so.done so.unfinished

@@ -1,4 +1,4 @@
 pub mod Framing
-pub mod Desks
+pub mod LiveFixtures
 pub mod Protocol
 pub mod Serving

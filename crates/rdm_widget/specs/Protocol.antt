@@ -2,7 +2,7 @@
 use Rattle.std.specs.Prelude.{ℕ, ◌==◌, ◌||◌, List, [], ◌∷◌, Option, Some, None, if◌then◌else◌}
 use Rattle.rdm_responder.specs.Rules.{reply_of}
 use Rattle.rdm_widget.specs.Framing.{Message}
-use Rattle.rdm_widget.specs.Desks.{Situation, ready, after_heard}
+use Rattle.rdm_widget.specs.LiveFixtures.{Situation, ready, after_heard}
 
 -- ---- to the host
 

@@ -1,9 +1,9 @@
 -- What serving a stream comes to.
 use Rattle.std.specs.Prelude.{◌≡◌, ◌<◌, ℕ, List, [], ◌∷◌, ◌++◌, length, map, take, Option}
 use Rattle.std.specs.Io.KnownBytes.{Consumes, Appends}
-use Rattle.rdm_widget.specs.declared.desk.Desk.{Desk}
+use Rattle.rdm_widget.specs.declared.live_fixture.LiveFixture.{LiveFixture}
 use Rattle.rdm_widget.specs.Framing.{Message, Piece, IsUnfinished, stream_of, messages_of, AreCut, Holds, bytes_of}
-use Rattle.rdm_widget.specs.Desks.{Situation, IsIn}
+use Rattle.rdm_widget.specs.LiveFixtures.{Situation, IsIn}
 use Rattle.rdm_widget.specs.Protocol.{answer_to, after_message}
 
 -- A message, and when it came.
@@ -37,17 +37,17 @@ Tells tells before [] after = after ≡ before
 Tells {C} tells before (time ∷ times) after = (mid : C) × (tells before time mid × Tells tells mid times after)
 
 -- All messages of what was read are answered, each by the clock. What was written before stays.
-pub record IsServed {C : Type 0} (tells : C → ℕ → C → Type 0) (before after : C) (unread left old new : Option (List ℕ)) (s : Situation) (d : Desk) : Type 0 where
+pub record IsServed {C : Type 0} (tells : C → ℕ → C → Type 0) (before after : C) (unread left old new : Option (List ℕ)) (s : Situation) (d : LiveFixture) : Type 0 where
   pub input : List ℕ
   pub turns : List Turn
   pub read : Consumes unread left input
   pub holds : Holds input (messages_in turns)
   pub times : Tells tells before (times_of turns) after
   pub written : Appends old new (answers s turns)
-  pub desk : IsIn d (after_turns s turns)
+  pub fixture : IsIn d (after_turns s turns)
 
 -- These pieces of what was read are done with, each message of them in its turn, and so much was written.
-pub record AreDone {C : Type 0} (tells : C → ℕ → C → Type 0) (before after : C) (bytes rest : List ℕ) (s : Situation) (d : Desk) (AreWritten : Situation → List Turn → Type 0) : Type 0 where
+pub record AreDone {C : Type 0} (tells : C → ℕ → C → Type 0) (before after : C) (bytes rest : List ℕ) (s : Situation) (d : LiveFixture) (AreWritten : Situation → List Turn → Type 0) : Type 0 where
   pub pieces : List Piece
   pub turns : List Turn
   pub whole : bytes ≡ stream_of pieces ++ rest
@@ -55,7 +55,7 @@ pub record AreDone {C : Type 0} (tells : C → ℕ → C → Type 0) (before aft
   pub said : messages_in turns ≡ messages_of pieces
   pub times : Tells tells before (times_of turns) after
   pub written : AreWritten s turns
-  pub desk : IsIn d (after_turns s turns)
+  pub fixture : IsIn d (after_turns s turns)
 
 -- All answers of these turns were written.
 abbrev pub AllWritten : Option (List ℕ) → Option (List ℕ) → Situation → List Turn → Type 0
@@ -73,7 +73,7 @@ pub record LastCutShort (old new : Option (List ℕ)) (s : Situation) (turns : L
 
 -- One read: what it gave stands behind what was held. All messages that are whole then are answered, each by the clock, and
 -- held is what is left, the beginning of a message.
-pub record IsServedOnce {C : Type 0} (tells : C → ℕ → C → Type 0) (before after : C) (unread left old new : Option (List ℕ)) (held kept : List ℕ) (count : ℕ) (s : Situation) (d : Desk) : Type 0 where
+pub record IsServedOnce {C : Type 0} (tells : C → ℕ → C → Type 0) (before after : C) (unread left old new : Option (List ℕ)) (held kept : List ℕ) (count : ℕ) (s : Situation) (d : LiveFixture) : Type 0 where
   pub input : List ℕ
   pub size : length input ≡ count
   pub read : Consumes unread left input
@@ -81,7 +81,7 @@ pub record IsServedOnce {C : Type 0} (tells : C → ℕ → C → Type 0) (befor
   pub unfinished : IsUnfinished kept
 
 -- The writer failed in the last turn. What was read after its message isn't answered.
-pub record IsCutShort {C : Type 0} (tells : C → ℕ → C → Type 0) (before after : C) (unread left old new : Option (List ℕ)) (held : List ℕ) (s : Situation) (d : Desk) : Type 0 where
+pub record IsCutShort {C : Type 0} (tells : C → ℕ → C → Type 0) (before after : C) (unread left old new : Option (List ℕ)) (held : List ℕ) (s : Situation) (d : LiveFixture) : Type 0 where
   pub input : List ℕ
   pub rest : List ℕ
   pub read : Consumes unread left input

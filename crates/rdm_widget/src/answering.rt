@@ -1,13 +1,13 @@
 //! The messages of a buffer are answered.
 
 ghost use Rattle.std.specs.Prelude.{◌≡◌, ◌≤◌, ◌++◌, ℕ, List, length, drop, IfOk, OnOk, OnErr};
-ghost use Rattle.rdm_widget.specs.Desks.{Situation, IsIn};
+ghost use Rattle.rdm_widget.specs.LiveFixtures.{Situation, IsIn};
 ghost use Rattle.rdm_widget.specs.Framing.{IsMessage, IsUnfinished, message_bytes, message_in};
 ghost use Rattle.rdm_widget.specs.Serving.{AreDone, AllWritten, LastCutShort};
 
 use crate::clock::Clock;
-use crate::desk::Desk;
 use crate::framing::{FRAME_BYTES, Front, MessageView, front_of};
+use crate::live_fixture::LiveFixture;
 use crate::protocol::answer;
 use rdm_streams::{WriteFault, write_all};
 use std::io::Write;
@@ -16,18 +16,18 @@ use std::io::Write;
 pub(crate) fn answer_all<W: Write, C: Clock>(
     writer: &mut W,
     clock: &mut C,
-    desk: &mut Desk,
+    fixture: &mut LiveFixture,
     bytes: &[u8],
 ) -> Result<usize, WriteFault>
-    ensures ok { IfOk result (λ count. (s : Situation) → IsIn desk.old s → AreDone C.tells clock.old clock.new
-        bytes.now (drop count bytes.now) s desk.new (AllWritten (W.contents writer.old) (W.contents writer.new))) }
+    ensures ok { IfOk result (λ count. (s : Situation) → IsIn fixture.old s → AreDone C.tells clock.old clock.new
+        bytes.now (drop count bytes.now) s fixture.new (AllWritten (W.contents writer.old) (W.contents writer.new))) }
     ensures rest { IfOk result (λ count. (count ≤ length bytes.now) × IsUnfinished (drop count bytes.now)) }
-    ensures err { OnErr result ((s : Situation) → IsIn desk.old s → (rest : List ℕ) × AreDone C.tells clock.old clock.new
-        bytes.now rest s desk.new (LastCutShort (W.contents writer.old) (W.contents writer.new))) }
+    ensures err { OnErr result ((s : Situation) → IsIn fixture.old s → (rest : List ℕ) × AreDone C.tells clock.old clock.new
+        bytes.now rest s fixture.new (LastCutShort (W.contents writer.old) (W.contents writer.new))) }
 {
     let mut done = 0;
     while done < bytes.len() {
-        match answer_front(writer, clock, desk, &bytes[done..]) {
+        match answer_front(writer, clock, fixture, &bytes[done..]) {
             Ok(count) => {
                 done += count;
                 if count == 0 {
@@ -45,20 +45,20 @@ pub(crate) fn answer_all<W: Write, C: Clock>(
 fn answer_front<W: Write, C: Clock>(
     writer: &mut W,
     clock: &mut C,
-    desk: &mut Desk,
+    fixture: &mut LiveFixture,
     bytes: &[u8],
 ) -> Result<usize, WriteFault>
-    ensures ok { IfOk result (λ count. (s : Situation) → IsIn desk.old s → AreDone C.tells clock.old clock.new
-        bytes.now (drop count bytes.now) s desk.new (AllWritten (W.contents writer.old) (W.contents writer.new))) }
+    ensures ok { IfOk result (λ count. (s : Situation) → IsIn fixture.old s → AreDone C.tells clock.old clock.new
+        bytes.now (drop count bytes.now) s fixture.new (AllWritten (W.contents writer.old) (W.contents writer.new))) }
     ensures within { IfOk result (λ count. count ≤ length bytes.now) }
     ensures unfinished { IfOk result (λ count. count ≡ 0 → IsUnfinished bytes.now) }
-    ensures err { OnErr result ((s : Situation) → IsIn desk.old s → (rest : List ℕ) × AreDone C.tells clock.old clock.new
-        bytes.now rest s desk.new (LastCutShort (W.contents writer.old) (W.contents writer.new))) }
+    ensures err { OnErr result ((s : Situation) → IsIn fixture.old s → (rest : List ℕ) × AreDone C.tells clock.old clock.new
+        bytes.now rest s fixture.new (LastCutShort (W.contents writer.old) (W.contents writer.new))) }
 {
     match front_of(bytes) {
         Front::Unfinished => Ok(0),
         Front::Stray => Ok(1),
-        Front::Whole(message) => match answer_one(writer, clock, desk, &message) {
+        Front::Whole(message) => match answer_one(writer, clock, fixture, &message) {
             Ok(()) => Ok(message.body.len() + FRAME_BYTES),
             Err(fault) => Err(fault),
         },
@@ -69,17 +69,17 @@ fn answer_front<W: Write, C: Clock>(
 fn answer_one<W: Write, C: Clock>(
     writer: &mut W,
     clock: &mut C,
-    desk: &mut Desk,
+    fixture: &mut LiveFixture,
     message: &MessageView<'_>,
 ) -> Result<(), WriteFault>
-    ensures ok { OnOk result ((s : Situation) (bytes rest : List ℕ) → IsIn desk.old s → IsMessage (message_in message.now) →
+    ensures ok { OnOk result ((s : Situation) (bytes rest : List ℕ) → IsIn fixture.old s → IsMessage (message_in message.now) →
         bytes ≡ message_bytes (message_in message.now) ++ rest → AreDone C.tells clock.old clock.new
-        bytes rest s desk.new (AllWritten (W.contents writer.old) (W.contents writer.new))) }
-    ensures err { OnErr result ((s : Situation) (bytes rest : List ℕ) → IsIn desk.old s → IsMessage (message_in message.now) →
+        bytes rest s fixture.new (AllWritten (W.contents writer.old) (W.contents writer.new))) }
+    ensures err { OnErr result ((s : Situation) (bytes rest : List ℕ) → IsIn fixture.old s → IsMessage (message_in message.now) →
         bytes ≡ message_bytes (message_in message.now) ++ rest → AreDone C.tells clock.old clock.new
-        bytes rest s desk.new (LastCutShort (W.contents writer.old) (W.contents writer.new))) }
+        bytes rest s fixture.new (LastCutShort (W.contents writer.old) (W.contents writer.new))) }
 {
     let now = clock.now();
-    let packet = answer(desk, now, message);
+    let packet = answer(fixture, now, message);
     write_all(writer, packet.as_slice())
 }

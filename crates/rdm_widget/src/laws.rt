@@ -2,7 +2,7 @@
 
 ghost use Rattle.std.specs.Prelude.{◌≡◌, ◌↔◌, ℕ, List, IsTrue};
 ghost use Rattle.std.specs.List.{All};
-ghost use Rattle.rdm_widget.specs.Desks.{ReportsAreHandedIn};
+ghost use Rattle.rdm_widget.specs.LiveFixtures.{ReportsAreHandedIn};
 ghost use Rattle.rdm_widget.specs.Framing.{Message, IsMessage, Holds, bytes_of};
 
 use crate::ServeError;

@@ -6,18 +6,18 @@
 
 mod answering;
 mod clock;
-mod desk;
 mod framing;
 mod laws;
+mod live_fixture;
 mod protocol;
 mod reading;
 mod serving;
 
 pub use clock::{Clock, RealClock};
-pub use desk::Desk;
 pub use framing::{Front, MOST_BODY, MessageView, Packet, front_of, packet_of};
 pub use laws::{
     no_job_is_overdue, serve_errors_are_equal_by_value, stream_holds_one_list,
     written_messages_are_read_back,
 };
+pub use live_fixture::LiveFixture;
 pub use serving::{ServeError, serve, serve_some};

@@ -3,13 +3,13 @@
 ghost use Rattle.std.specs.Prelude.{◌≡◌, ◌≤◌, ◌<◌, ◌+◌, [], length, drop, IfOk, OnOk};
 ghost use Rattle.std.specs.Io.KnownBytes.{IsAtEnd, Keeps};
 ghost use Rattle.rdm_widget.specs.declared.serving.ServeError.TheVariants.{Read as ReadFault, Write as WriteFault};
-ghost use Rattle.rdm_widget.specs.Desks.{Situation, IsIn};
+ghost use Rattle.rdm_widget.specs.LiveFixtures.{Situation, IsIn};
 ghost use Rattle.rdm_widget.specs.Serving.{IsServed, IsServedOnce, IsCutShort};
 
 use crate::answering::answer_all;
 use crate::clock::Clock;
-use crate::desk::Desk;
 use crate::framing::Packet;
+use crate::live_fixture::LiveFixture;
 use crate::reading::take_more;
 use rdm_frame::Bytes;
 use std::io::{Read, Write};
@@ -34,29 +34,29 @@ pub fn serve_some<R: Read, W: Write, C: Clock>(
     reader: &mut R,
     writer: &mut W,
     clock: &mut C,
-    desk: &mut Desk,
+    fixture: &mut LiveFixture,
     held: &mut Packet,
 ) -> Result<usize, ServeError>
     requires { length held.old < 605 }
     // All messages that are whole are answered, and only the beginning of one is held.
-    ensures ok { IfOk result (λ count. (s : Situation) → IsIn desk.old s → IsServedOnce C.tells clock.old clock.new
+    ensures ok { IfOk result (λ count. (s : Situation) → IsIn fixture.old s → IsServedOnce C.tells clock.old clock.new
         (R.remaining reader.old) (R.remaining reader.new) (W.contents writer.old) (W.contents writer.new)
-        held.old held.new count s desk.new) }
+        held.old held.new count s fixture.new) }
     // No more is read than there is room for behind what was held.
     ensures within { IfOk result (λ count. length held.old + count ≤ 605) }
     ensures room { OnOk result (length held.new < 605) }
     ensures end { result ≡ Ok 0 → IsAtEnd (R.remaining reader.new) }
     // Where the reader failed nothing has changed.
     ensures read { result ≡ Err ReadFault → Keeps (R.remaining reader.old) (R.remaining reader.new)
-        × (writer.new ≡ writer.old) × (clock.new ≡ clock.old) × (desk.new ≡ desk.old) × (held.new ≡ held.old) }
+        × (writer.new ≡ writer.old) × (clock.new ≡ clock.old) × (fixture.new ≡ fixture.old) × (held.new ≡ held.old) }
     // Where the writer failed, a message was read whose answer isn't all written, and the answers before it are.
-    ensures write { result ≡ Err WriteFault → (s : Situation) → IsIn desk.old s → IsCutShort C.tells clock.old clock.new
-        (R.remaining reader.old) (R.remaining reader.new) (W.contents writer.old) (W.contents writer.new) held.old s desk.new }
+    ensures write { result ≡ Err WriteFault → (s : Situation) → IsIn fixture.old s → IsCutShort C.tells clock.old clock.new
+        (R.remaining reader.old) (R.remaining reader.new) (W.contents writer.old) (W.contents writer.new) held.old s fixture.new }
 {
     let Ok(count) = take_more(reader, held) else {
         return Err(ServeError::Read);
     };
-    let Ok(done) = answer_all(writer, clock, desk, held.as_slice()) else {
+    let Ok(done) = answer_all(writer, clock, fixture, held.as_slice()) else {
         return Err(ServeError::Write);
     };
     *held = rest_of(held, done);
@@ -70,23 +70,23 @@ pub fn serve<R: Read, W: Write, C: Clock>(
     reader: &mut R,
     writer: &mut W,
     clock: &mut C,
-    desk: &mut Desk,
+    fixture: &mut LiveFixture,
 ) -> Result<(), ServeError>
     // All messages of the stream are answered,
-    ensures ok { OnOk result ((s : Situation) → IsIn desk.old s → IsServed C.tells clock.old clock.new
-        (R.remaining reader.old) (R.remaining reader.new) (W.contents writer.old) (W.contents writer.new) s desk.new) }
+    ensures ok { OnOk result ((s : Situation) → IsIn fixture.old s → IsServed C.tells clock.old clock.new
+        (R.remaining reader.old) (R.remaining reader.new) (W.contents writer.old) (W.contents writer.new) s fixture.new) }
     // and it is read to its end.
     ensures whole { OnOk result (IsAtEnd (R.remaining reader.new)) }
     // Where the reader failed, all messages of what was read before are answered.
-    ensures read { result ≡ Err ReadFault → (s : Situation) → IsIn desk.old s → IsServed C.tells clock.old clock.new
-        (R.remaining reader.old) (R.remaining reader.new) (W.contents writer.old) (W.contents writer.new) s desk.new }
+    ensures read { result ≡ Err ReadFault → (s : Situation) → IsIn fixture.old s → IsServed C.tells clock.old clock.new
+        (R.remaining reader.old) (R.remaining reader.new) (W.contents writer.old) (W.contents writer.new) s fixture.new }
     // Where the writer failed, a message was read whose answer isn't all written, and the answers before it are.
-    ensures write { result ≡ Err WriteFault → (s : Situation) → IsIn desk.old s → IsCutShort C.tells clock.old clock.new
-        (R.remaining reader.old) (R.remaining reader.new) (W.contents writer.old) (W.contents writer.new) [] s desk.new }
+    ensures write { result ≡ Err WriteFault → (s : Situation) → IsIn fixture.old s → IsCutShort C.tells clock.old clock.new
+        (R.remaining reader.old) (R.remaining reader.new) (W.contents writer.old) (W.contents writer.new) [] s fixture.new }
 {
     let mut held = Packet::new();
     for _turn in 0..u64::MAX {
-        match serve_some(reader, writer, clock, desk, &mut held) {
+        match serve_some(reader, writer, clock, fixture, &mut held) {
             Ok(count) => {
                 if count == 0 {
                     return Ok(());

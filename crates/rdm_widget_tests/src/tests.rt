@@ -7,7 +7,7 @@ mod time;
 use rdm_frame::Uid;
 use rdm_outcomes::demo_rules;
 use rdm_params::Profile;
-use rdm_widget::{Clock, Desk, ServeError, packet_of, serve};
+use rdm_widget::{Clock, LiveFixture, ServeError, packet_of, serve};
 use std::io::{Read, Write};
 use std::process::Abort;
 
@@ -54,12 +54,12 @@ fn put(rt: &(impl AllocGlobal + Abort), bytes: &mut Vec<u8>, label: u8, head: &s
 }
 
 /// The demonstration fixture.
-fn fixture(rt: &(impl AllocGlobal + Abort)) -> Desk {
+fn fixture(rt: &(impl AllocGlobal + Abort)) -> LiveFixture {
     let device = Uid {
         maker: 0x7FF0,
         device: 1,
     };
-    Desk::new(rt.alloc(), device, Profile::demo(0), 8, &demo_rules()).expect(rt, "memory")
+    LiveFixture::new(rt.alloc(), device, Profile::demo(0), 8, &demo_rules()).expect(rt, "memory")
 }
 
 /// Serves what is read by a clock that tells these times.

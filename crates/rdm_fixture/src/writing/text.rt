@@ -3,8 +3,8 @@
 use crate::fixture::Fixture;
 use rdm_device::{Personality, Profile, SensorDef, Unit};
 use rdm_frame::Text;
-use rdm_outcomes::{Rule, Task};
-use rdm_params::{Outcome, Severity};
+use rdm_outcomes::Rule;
+use rdm_params::Outcome;
 use std::alloc::{AllocError, Global};
 use std::fmt::Write;
 
@@ -136,9 +136,9 @@ fn push_tests_and_statuses(text: &mut String, profile: &Profile) -> Result<(), A
     Ok(())
 }
 
-/// How jobs end. The severity of what is over has no name, so a rule with it isn't read back.
+/// How jobs end. A rule with the severity of what is over isn't read back, since no fixture may say it.
 fn push_rule(text: &mut String, rule: &Rule) -> Result<(), AllocError> {
-    let task = task_name(rule.task);
+    let task = rule.task.kind().name();
     write!(text, "\n[[outcome]]\nparameter = \"{task}\"\n")?;
     if let Some(value) = rule.value {
         write!(text, "value = {value}\n")?;
@@ -155,28 +155,10 @@ fn push_rule(text: &mut String, rule: &Rule) -> Result<(), AllocError> {
             v1,
             v2,
         } => {
-            let severity = severity_name(severity);
+            let severity = severity.name();
             write!(text, "severity = \"{severity}\"\nstatus_id = 0x{id:04X}\n")?;
             write!(text, "data_value_1 = {v1}\ndata_value_2 = {v2}\n")
         }
-    }
-}
-
-fn task_name(task: Task) -> &'static str {
-    match task {
-        Task::LampState => "LAMP_STATE",
-        Task::PowerState => "POWER_STATE",
-        Task::PerformSelfTest => "PERFORM_SELFTEST",
-        Task::SensorValue => "SENSOR_VALUE",
-    }
-}
-
-fn severity_name(severity: Severity) -> &'static str {
-    match severity {
-        Severity::Advisory => "advisory",
-        Severity::Warning => "warning",
-        Severity::Error => "error",
-        _ => "",
     }
 }
 

@@ -1,6 +1,7 @@
 //! Lines that fail.
 
 use super::{Told, fixture, serve_at};
+use rdm_streams::{ReadFault, WriteFault};
 use rdm_widget::{Packet, ServeError, serve_some};
 use std::io;
 use std::io::{ErrorKind, Read, Write};
@@ -78,8 +79,8 @@ fn what_is_read_is_answered_before_more_is_read(rt: HostRuntime) {
     };
     let mut clock = Told { times: &[] };
     let mut held = Packet::new();
-    let mut desk = fixture(&rt);
-    let read = serve_some(&mut line, &mut writer, &mut clock, &mut desk, &mut held);
+    let mut fixture = fixture(&rt);
+    let read = serve_some(&mut line, &mut writer, &mut clock, &mut fixture, &mut held);
     assert_eq!(rt; read, Ok(5));
     assert_eq!(rt; line.turn, 2);
     assert_eq!(rt; writer.taken, 9);
@@ -93,4 +94,10 @@ fn a_fault_says_what_failed(rt: HostRuntime) {
         let told = format!(in alloc; "{fault}").expect(&rt, "memory");
         assert_eq!(rt; told.as_str(), word);
     }
+    let fault = ReadFault;
+    let told = format!(in alloc; "{fault}").expect(&rt, "memory");
+    assert_eq!(rt; told.as_str(), "read");
+    let fault = WriteFault;
+    let told = format!(in alloc; "{fault}").expect(&rt, "memory");
+    assert_eq!(rt; told.as_str(), "write");
 }

@@ -8,7 +8,7 @@ pub loop-turn-init : goal.loop-turn-init
 loop-turn-init g c = record {
   room = subst (λ (l : List ℕ). length l < 605) (sym c.new-held.ensures) (omega arith);
   served = λ s is.
-      nothing_so_far g.C.Clock.tells c.args.clock.now (g.R.Read.remaining c.args.reader.now) (g.W.Write.contents c.args.writer.now) c.new-held.result s c.args.desk.now
+      nothing_so_far g.C.Clock.tells c.args.clock.now (g.R.Read.remaining c.args.reader.now) (g.W.Write.contents c.args.writer.now) c.new-held.result s c.args.fixture.now
       c.new-held.ensures is;
 }
 
@@ -19,22 +19,22 @@ loop-turn-preserved g c = record {
       served_on g.C.Clock.tells c.args.clock.now c.loop-turn.clock c.serve_some.new.clock
       (g.R.Read.remaining c.args.reader.now) (g.R.Read.remaining c.loop-turn.reader) (g.R.Read.remaining c.serve_some.new.reader)
       (g.W.Write.contents c.args.writer.now) (g.W.Write.contents c.loop-turn.writer) (g.W.Write.contents c.serve_some.new.writer)
-      c.loop-turn.held c.serve_some.new.held c.in-Ok.count s c.loop-turn.desk c.serve_some.new.desk (c.loop-turn.invariant.served s is) c.in-Ok.ensures.ok;
+      c.loop-turn.held c.serve_some.new.held c.in-Ok.count s c.loop-turn.fixture c.serve_some.new.fixture (c.loop-turn.invariant.served s is) c.in-Ok.ensures.ok;
 }
 
 pub returns-then-count-eq0-clause-ok : goal.returns-then-count-eq0-clause-ok
 returns-then-count-eq0-clause-ok g c = λ s is.
     all_served g.C.Clock.tells c.args.clock.now c.serve_some.new.clock (g.R.Read.remaining c.args.reader.now) (g.R.Read.remaining c.serve_some.new.reader)
-    (g.W.Write.contents c.args.writer.now) (g.W.Write.contents c.serve_some.new.writer) c.serve_some.new.held s c.serve_some.new.desk
+    (g.W.Write.contents c.args.writer.now) (g.W.Write.contents c.serve_some.new.writer) c.serve_some.new.held s c.serve_some.new.fixture
     (served_on g.C.Clock.tells c.args.clock.now c.loop-turn.clock c.serve_some.new.clock
     (g.R.Read.remaining c.args.reader.now) (g.R.Read.remaining c.loop-turn.reader) (g.R.Read.remaining c.serve_some.new.reader)
     (g.W.Write.contents c.args.writer.now) (g.W.Write.contents c.loop-turn.writer) (g.W.Write.contents c.serve_some.new.writer)
-    c.loop-turn.held c.serve_some.new.held c.in-Ok.count s c.loop-turn.desk c.serve_some.new.desk (c.loop-turn.invariant.served s is) c.in-Ok.ensures.ok)
+    c.loop-turn.held c.serve_some.new.held c.in-Ok.count s c.loop-turn.fixture c.serve_some.new.fixture (c.loop-turn.invariant.served s is) c.in-Ok.ensures.ok)
 
 pub returns-in-Err-clause-write : goal.returns-in-Err-clause-write
 returns-in-Err-clause-write g c = λ failed s is.
     fails_on g.C.Clock.tells c.args.clock.now c.loop-turn.clock c.serve_some.new.clock
     (g.R.Read.remaining c.args.reader.now) (g.R.Read.remaining c.loop-turn.reader) (g.R.Read.remaining c.serve_some.new.reader)
     (g.W.Write.contents c.args.writer.now) (g.W.Write.contents c.loop-turn.writer) (g.W.Write.contents c.serve_some.new.writer)
-    c.loop-turn.held s c.loop-turn.desk c.serve_some.new.desk (c.loop-turn.invariant.served s is)
+    c.loop-turn.held s c.loop-turn.fixture c.serve_some.new.fixture (c.loop-turn.invariant.served s is)
     (c.in-Err.ensures.write (ap (as_fault {A = Unit {0}} {B = ℕ} {E = ServeError} Write) failed))

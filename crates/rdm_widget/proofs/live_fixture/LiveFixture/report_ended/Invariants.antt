@@ -1,6 +1,6 @@
 use Rattle.std.proofs.Common.{◌≡◌, ◌-◌}
-use Rattle.rdm_widget.specs.Desks.{Situation, IsIn, after_several}
-use Rattle.rdm_widget.proofs.desk.Desk.report_ended.Given as goal
+use Rattle.rdm_widget.specs.LiveFixtures.{Situation, IsIn, after_several}
+use Rattle.rdm_widget.proofs.live_fixture.LiveFixture.report_ended.Given as goal
 
 abbrev pub invariant-loop-turn : goal.invariant-loop-turn
 invariant-loop-turn l = (s : Situation) → IsIn l.fn.self s

@@ -10,8 +10,8 @@ use Rattle.rdm_responder.specs.declared.report.Report.{Report}
 use Rattle.rdm_responder.specs.History.{Setup, Event, Heard, Arrived, Changed, History, empty_history, then_event}
 use Rattle.rdm_responder.specs.Runs.{outbox_of}
 use Rattle.rdm_responder.specs.StandsFor.{StandsFor}
-use Rattle.rdm_widget.specs.declared.desk.Desk.{Desk}
-use Rattle.rdm_widget.specs.declared.desk.ending.Ended.{Ended}
+use Rattle.rdm_widget.specs.declared.live_fixture.LiveFixture.{LiveFixture}
+use Rattle.rdm_widget.specs.declared.live_fixture.ending.Ended.{Ended}
 
 -- By which rules jobs end, what has happened to the responder, and since when each worker is at its oldest job. A worker
 -- without a job may begin one from then on.
@@ -116,7 +116,7 @@ after_panel s change = record s { history = then_event s.history (Changed change
 
 -- ---- when a fixture is in a situation
 
-pub record IsIn (d : Desk) (s : Situation) : Type 0 where
+pub record IsIn (d : LiveFixture) (s : Situation) : Type 0 where
   pub responder : StandsFor d.responder s.history
   pub planned : HasEnded d.planned s.rules (reported_in s.history.events)
   pub first : d.first_since ≡ s.first_since

@@ -1,8 +1,8 @@
 use Rattle.std.proofs.Common.{◌≡◌, ◌∙◌, Option, Some, sym, subst}
-use Rattle.rdm_widget.specs.declared.desk.ending.Ended.{Ended}
-use Rattle.rdm_widget.specs.Desks.{IsIn, first_ended, after_ended}
+use Rattle.rdm_widget.specs.declared.live_fixture.ending.Ended.{Ended}
+use Rattle.rdm_widget.specs.LiveFixtures.{IsIn, first_ended, after_ended}
 use Rattle.rdm_widget.proofs.Reports.{first_is}
-use Rattle.rdm_widget.proofs.desk.Desk.report_next.Goals as goal
+use Rattle.rdm_widget.proofs.live_fixture.LiveFixture.report_next.Goals as goal
 
 pub returns-in-Some : goal.returns-in-Some
 returns-in-Some c = λ s is.

@@ -9,7 +9,7 @@ ghost use Rattle.rdm_responder.specs.Lawful.{IsLawful, MayChange};
 ghost use Rattle.rdm_responder.specs.Rules.{account_of, answered, reply_of};
 ghost use Rattle.rdm_responder.specs.Runs.{IsChange, outbox_of};
 ghost use Rattle.rdm_responder.specs.StandsFor.{IsQueueSize, StandsFor};
-ghost use Rattle.rdm_widget.specs.Desks.{Situation, IsIn, switched_on, oldest_of, first_ended, after_report, after_next, after_several, begun, ready, after_heard, after_panel};
+ghost use Rattle.rdm_widget.specs.LiveFixtures.{Situation, IsIn, switched_on, oldest_of, first_ended, after_report, after_next, after_several, begun, ready, after_heard, after_panel};
 
 mod ending;
 
@@ -23,7 +23,7 @@ use std::alloc::Global;
 
 /// A fixture: a responder, and the workers that do its slow commands in their time. It keeps no queue of its own.
 #[derive(Debug, Drop)]
-pub struct Desk {
+pub struct LiveFixture {
     responder: Responder,
     // How jobs end.
     planned: Planned,
@@ -32,7 +32,7 @@ pub struct Desk {
     second_since: u64,
 }
 
-impl Desk {
+impl LiveFixture {
     /// A fixture with this UID and profile, with room for so many results of slow commands, whose jobs end by these rules.
     ///
     /// It is refused as `Responder::new` refuses it.
@@ -42,8 +42,8 @@ impl Desk {
         profile: Profile,
         queue_size: u16,
         rules: &ArrayVec<Rule, MOST_RULES>,
-    ) -> Result<Desk, NewError>
-        ensures desk { IfOk result (λ d.
+    ) -> Result<LiveFixture, NewError>
+        ensures fixture { IfOk result (λ d.
             IsIn d (switched_on rules.now.items (record { uid = uid; profile = profile; queue_size = queue_size }))) }
         ensures bad_uid { IsErrOf result NewError.BadUid ↔ (uid.device ≡ 0xFFFFFFFF) }
         ensures bad_size { IsErrOf result NewError.BadSize ↔ ((uid.device ≢ 0xFFFFFFFF) × ¬ IsQueueSize queue_size) }
@@ -51,7 +51,7 @@ impl Desk {
             ↔ ((uid.device ≢ 0xFFFFFFFF) × IsQueueSize queue_size × ¬ CanBeMade profile) }
     {
         match Responder::new(alloc, uid, profile, queue_size) {
-            Ok(responder) => Ok(Desk {
+            Ok(responder) => Ok(LiveFixture {
                 responder,
                 planned: Planned::new(rules),
                 first_since: 0,
@@ -67,7 +67,7 @@ impl Desk {
         ensures lawful { (s : Situation) → IsLawful s.history → IsIn self.old s →
             (IsOk result ↔ IsLawful (then_event s.history (Changed change))) }
         ensures change { IfOk result (λ message. (s : Situation) → IsIn self.old s → IsChange s.history change message) }
-        ensures desk { OnOk result ((s : Situation) → IsIn self.old s → IsIn self.new (after_panel s change)) }
+        ensures fixture { OnOk result ((s : Situation) → IsIn self.old s → IsIn self.new (after_panel s change)) }
         ensures no_room { IfErr result (λ refused. (refused.change ≡ change)
             × ((s : Situation) → IsIn self.old s → ¬ MayChange (account_of s.history))) }
         ensures same { OnErr result (self.new ≡ self.old) }
@@ -85,7 +85,7 @@ impl Desk {
     /// Hears a request on the line at this time, and says whether there is a reply, whose bytes are put into `reply`.
     pub(crate) fn hear(&mut self, now: u64, request: &[u8], reply: &mut Wire) -> bool
         ensures reply { (s : Situation) → IsIn self.old s → answered result reply.new ≡ reply_of (ready now s).history request.now }
-        ensures desk { (s : Situation) → IsIn self.old s → IsIn self.new (after_heard (ready now s) request.now) }
+        ensures fixture { (s : Situation) → IsIn self.old s → IsIn self.new (after_heard (ready now s) request.now) }
     {
         self.make_ready(now);
         self.responder.step_into(request, reply).replied

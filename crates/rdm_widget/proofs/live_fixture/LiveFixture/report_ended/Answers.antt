@@ -1,6 +1,6 @@
 use Rattle.std.proofs.Common.{◌≡◌, ◌∙◌, ◌+◌, ◌-◌, suc, sym, ap, subst, arith}
-use Rattle.rdm_widget.specs.Desks.{IsIn, after_next, after_several}
-use Rattle.rdm_widget.proofs.desk.Desk.report_ended.Goals as goal
+use Rattle.rdm_widget.specs.LiveFixtures.{IsIn, after_next, after_several}
+use Rattle.rdm_widget.proofs.live_fixture.LiveFixture.report_ended.Goals as goal
 
 pub loop-turn-init : goal.loop-turn-init
 loop-turn-init c = λ s is.

@@ -10,10 +10,10 @@ use Rattle.rdm_responder.specs.Lawful.{MayArrive}
 use Rattle.rdm_responder.specs.Rules.{account_of}
 use Rattle.rdm_responder.specs.StandsFor.{StandsFor}
 use Rattle.rdm_outcomes.specs.Outcomes.{CanEnd, HasEnded}
-use Rattle.rdm_widget.specs.Desks.{reported_in, report_of, since_after}
+use Rattle.rdm_widget.specs.LiveFixtures.{reported_in, report_of, since_after}
 use Rattle.rdm_widget.proofs.Ends.{can_end}
 use Rattle.rdm_widget.proofs.Reports.{IsSlowJob, oldest_is, reported-then, never_astray}
-use Rattle.rdm_widget.proofs.desk.Desk.report.Goals as goal
+use Rattle.rdm_widget.proofs.live_fixture.LiveFixture.report.Goals as goal
 
 pub returns : goal.returns
 returns c = λ s is oldest.

@@ -1,7 +1,7 @@
 //! When jobs end.
 
 ghost use Rattle.std.specs.Prelude.{◌≡◌};
-ghost use Rattle.rdm_widget.specs.Desks as says;
+ghost use Rattle.rdm_widget.specs.LiveFixtures as says;
 
 use rdm_outbox::Job;
 use rdm_params::estimate_of;

@@ -1,12 +1,12 @@
 use Rattle.std.proofs.Common.{List, sym, subst}
 use Rattle.rdm_outbox.specs.declared.job.Job.{Job}
 use Rattle.rdm_outcomes.specs.Outcomes.{HasEnded}
-use Rattle.rdm_widget.specs.Desks.{ready}
+use Rattle.rdm_widget.specs.LiveFixtures.{ready}
 use Rattle.rdm_widget.proofs.Reports.{reported-heard}
-use Rattle.rdm_widget.proofs.desk.Desk.hear.Goals as goal
+use Rattle.rdm_widget.proofs.live_fixture.LiveFixture.hear.Goals as goal
 
-pub returns-clause-desk : goal.returns-clause-desk
-returns-clause-desk c = λ s is.
+pub returns-clause-fixture : goal.returns-clause-fixture
+returns-clause-fixture c = λ s is.
     let made = c.make_ready.ensures s is in
     record {
       responder = c.step_into.ensures.stands (ready c.args.now s).history made.responder;

@@ -3,13 +3,13 @@ use Rattle.rdm_outbox.specs.declared.job.Job.{Job}
 use Rattle.rdm_outcomes.specs.Outcomes.{HasEnded}
 use Rattle.rdm_responder.specs.History.{History, Changed, then_event}
 use Rattle.rdm_responder.specs.StandsFor.{StandsFor}
-use Rattle.rdm_widget.specs.Desks.{Situation, IsIn, after_panel}
+use Rattle.rdm_widget.specs.LiveFixtures.{Situation, IsIn, after_panel}
 use Rattle.rdm_widget.proofs.Reports.{reported-changed}
 use Rattle.rdm_widget.proofs.Turns.{on_ok}
-use Rattle.rdm_widget.proofs.desk.Desk.change.Goals as goal
+use Rattle.rdm_widget.proofs.live_fixture.LiveFixture.change.Goals as goal
 
-pub returns-clause-desk : goal.returns-clause-desk
-returns-clause-desk c =
+pub returns-clause-fixture : goal.returns-clause-fixture
+returns-clause-fixture c =
     on_ok c.change.result
     ((h : History) → StandsFor c.args.self.now.responder h → StandsFor c.change.new.self (then_event h (Changed c.args.change)))
     ((s : Situation) → IsIn c.args.self.now s → IsIn (record c.args.self.now { responder = c.change.new.self }) (after_panel s c.args.change))
