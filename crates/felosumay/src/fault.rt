@@ -51,8 +51,8 @@ pub enum Fault<'a> {
     NoText(&'a str, Place),
     /// A file is no document of TOML, at this place.
     Syntax(&'a str, Place, toml::de::Error),
-    /// A file is no fixture, by this line of it if it is known (else 0).
-    Fixture(&'a str, usize, Refusal),
+    /// A file is no fixture, by this line of it if it is known.
+    Fixture(&'a str, Option<usize>, Refusal),
     /// There can be no device of the fixture.
     NoDevice,
 }
@@ -96,7 +96,11 @@ impl<'a> Fault<'a> {
             }
             FixtureError::Refused(refusal) => {
                 let line = refusal.line;
-                Fault::Fixture(name, line, Refusal { line: 0, ..refusal })
+                let refusal = Refusal {
+                    line: None,
+                    ..refusal
+                };
+                Fault::Fixture(name, line, refusal)
             }
         }
     }
@@ -211,8 +215,10 @@ impl fmt::Display for Fault<'_> {
             Fault::NoTrace(name, line) => write!(f, "{name}:{line}: this is no line of a trace"),
             Fault::NoText(name, place) => write!(f, "{name}:{place}: no text in UTF-8"),
             Fault::Syntax(name, place, error) => write!(f, "{name}:{place}: {}", error.message()),
-            Fault::Fixture(name, 0, refusal) => write!(f, "{name}: {refusal}"),
-            Fault::Fixture(name, line, refusal) => write!(f, "{name}:{line}: {refusal}"),
+            Fault::Fixture(name, line, refusal) => {
+                write_place(f, name, *line)?;
+                write!(f, "{refusal}")
+            }
             Fault::NoDevice => f.write_str("error: there can be no such device"),
             _ => write_refused(f, self),
         }

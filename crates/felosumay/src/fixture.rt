@@ -6,7 +6,7 @@ use crate::system::System;
 use crate::{telling, usage};
 use clap::ArgMatches;
 use rdm_device::Profile;
-use rdm_fixture::{Fixture, profile_of};
+use rdm_fixture::Fixture;
 use rdm_frame::Uid;
 use rdm_outcomes::demo_rules;
 use std::str;
@@ -81,7 +81,7 @@ impl<'a> FixtureFile<'a> {
             Ok(text) => text,
             Err(error) => return Err(Fault::no_text(self.name, bytes, error.valid_up_to())),
         };
-        match profile_of(rt.alloc(), text) {
+        match Fixture::from_toml(rt.alloc(), text) {
             Ok(fixture) => Ok(fixture),
             Err(error) => Err(Fault::fixture(self.name, bytes, error)),
         }

@@ -1,9 +1,10 @@
 -- `==` of refusals.
-use Rattle.std.proofs.Common.{◌≡◌, Option, Some, None, refl}
+use Rattle.std.proofs.Common.{◌≡◌, ◌==◌, ℕ, Option, Some, None, refl, ap}
 use Rattle.std.specs.Bool.{Decides}
 use Rattle.std.specs.Cmp.{booleans_Decides}
 use Rattle.std.specs.Option.{option_eq}
 use Rattle.std.proofs.lemmas.Bool.Decides.{Decides-and, Decides-like, Decides-eqb}
+use Rattle.std.proofs.lemmas.Option.{same_Some}
 use Rattle.std.proofs.lemmas.Slice.Eq.{slice_eq-Decides}
 use Rattle.rdm_fixture.specs.declared.refusal.Entry.{Entry}
 use Rattle.rdm_fixture.specs.declared.refusal.Refusal.{Refusal}
@@ -23,9 +24,15 @@ place_decides entry None (Some b) = (λ e. absurd cc, λ e. absurd e)
 place_decides entry (Some a) None = (λ e. absurd cc, λ e. absurd e)
 place_decides entry (Some a) (Some b) = entry a b
 
+line_decides : (a b : Option ℕ) → Decides (option_eq (λ x y. x == y) a b) (a ≡ b)
+line_decides None None = (λ _. refl, λ _. refl)
+line_decides None (Some b) = (λ e. absurd cc, λ e. absurd cc)
+line_decides (Some a) None = (λ e. absurd cc, λ e. absurd cc)
+line_decides (Some a) (Some b) = Decides-like _ (ap Some) (same_Some _ _) (Decides-eqb a b)
+
 pub refusal_decides : ((a b : Entry) → Decides (entries.ghosts.eq a b) (IsSameEntry a b)) → ((a b : Wanted) → Decides (wanteds.ghosts.eq a b) (a ≡ b))
     → (a b : Refusal) → Decides (refusals.ghosts.eq a b) (IsSameRefusal a b)
 refusal_decides entry wanted a b =
     Decides-like _ (λ e. record { in_sub_devices = e.0; entry = e.1.0; key = e.1.1.0; wanted = e.1.1.1.0; line = e.1.1.1.1 })
     (λ e. (e.in_sub_devices, (e.entry, (e.key, (e.wanted, e.line)))))
-    (Decides-and _ _ (booleans_Decides a.in_sub_devices b.in_sub_devices) (Decides-and _ _ (place_decides entry a.entry b.entry) (Decides-and _ _ (slice_eq-Decides Decides-eqb a.key.bytes b.key.bytes _ refl) (Decides-and _ _ (wanted a.wanted b.wanted) (Decides-eqb a.line b.line)))))
+    (Decides-and _ _ (booleans_Decides a.in_sub_devices b.in_sub_devices) (Decides-and _ _ (place_decides entry a.entry b.entry) (Decides-and _ _ (slice_eq-Decides Decides-eqb a.key.bytes b.key.bytes _ refl) (Decides-and _ _ (wanted a.wanted b.wanted) (line_decides a.line b.line)))))

@@ -36,24 +36,26 @@ pub enum FixtureError {
     Refused(Refusal),
 }
 
-/// The fixture that the text describes.
-///
-/// It is refused exactly where it describes none: with `Syntax` where it is no document of TOML, else with a key that doesn't
-/// say what it has to.
-pub fn profile_of(alloc: Global, text: &str) -> Result<Fixture, FixtureError>
-    ensures ok { IfOk result (Describes text.now) }
-    ensures made { IfOk result (λ f. CanBeMade f.profile) }
-    ensures describable { IfOk result CanBeDescribed }
-    ensures refused { IfErr result (λ e. e ≢ FixtureError.OutOfMemory → DescribesNothing text.now) }
-    ensures document { IfErr result (IsCause (parse_document text.now)) }
-{
-    let table = match toml::table_from_str(alloc, text) {
-        Ok(table) => table,
-        Err(error) => return Err(not_read(error)),
-    };
-    match fixture_of(&table) {
-        Ok(fixture) => Ok(fixture),
-        Err(refusal) => Err(FixtureError::Refused(with_line(alloc, text, refusal))),
+impl Fixture {
+    /// The fixture that the text describes.
+    ///
+    /// It is refused exactly where it describes none: with `Syntax` where it is no document of TOML, else with a key that
+    /// doesn't say what it has to.
+    pub fn from_toml(alloc: Global, text: &str) -> Result<Fixture, FixtureError>
+        ensures ok { IfOk result (Describes text.now) }
+        ensures made { IfOk result (λ f. CanBeMade f.profile) }
+        ensures describable { IfOk result CanBeDescribed }
+        ensures refused { IfErr result (λ e. e ≢ FixtureError.OutOfMemory → DescribesNothing text.now) }
+        ensures document { IfErr result (IsCause (parse_document text.now)) }
+    {
+        let table = match toml::table_from_str(alloc, text) {
+            Ok(table) => table,
+            Err(error) => return Err(not_read(error)),
+        };
+        match fixture_of(&table) {
+            Ok(fixture) => Ok(fixture),
+            Err(refusal) => Err(FixtureError::Refused(with_line(alloc, text, refusal))),
+        }
     }
 }
 
@@ -70,7 +72,7 @@ fn not_read(error: toml::de::Error) -> FixtureError
 }
 
 /// The fixture of a table, with no key besides those of the format.
-pub fn fixture_of(table: &Table) -> Result<Fixture, Refusal>
+fn fixture_of(table: &Table) -> Result<Fixture, Refusal>
     ensures read { Reads IsFixture (table_view table.now) result }
     ensures made { IfOk result (λ f. CanBeMade f.profile) }
     ensures describable { IfOk result CanBeDescribed }

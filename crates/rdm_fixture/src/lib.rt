@@ -1,8 +1,8 @@
 //! A fixture from a file: a document of TOML says what a device is made with, each parameter of ANSI E1.20-2010 under
 //! its name.
 //!
-//! `profile_of` reads the text, and refuses what isn't a fixture with the key and what was wanted there; `to_toml` writes
-//! one. The format is `specs/Format.antt`.
+//! `Fixture::from_toml` reads the text, and refuses what isn't a fixture with the key and what was wanted there;
+//! `Fixture::to_toml` writes one. The format is `specs/Format.antt`.
 #![tactic(auto)]
 
 mod document;
@@ -18,11 +18,11 @@ mod refusal;
 mod unit;
 mod writing;
 
-pub use document::{FixtureError, fixture_of, profile_of};
+pub use document::FixtureError;
 pub use fixture::Fixture;
 pub use laws::{
     entries_are_equal_by_value, fixtures_are_equal_by_value, refusals_are_equal_by_value,
     text_describes_one_fixture, wanteds_are_equal_by_value, write_errors_are_equal_by_value,
 };
 pub use refusal::{Entry, Name, Refusal, Wanted};
-pub use writing::{WriteError, to_toml};
+pub use writing::WriteError;

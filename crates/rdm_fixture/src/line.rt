@@ -12,10 +12,10 @@ use way::way_to;
 /// the table where a key is missing. It is the last line of the text where that is the table at the top.
 pub(crate) fn with_line(alloc: Global, text: &str, refusal: Refusal) -> Refusal {
     let line = match place_of(alloc, text, way_to(&refusal).as_slice()) {
-        Ok(Some(behind)) => line_before(text, behind),
-        Ok(None) => text.lines().count().max(1),
+        Ok(Some(behind)) => Some(line_before(text, behind)),
+        Ok(None) => Some(text.lines().count().max(1)),
         // There was no memory to look for it.
-        Err(_) => 0,
+        Err(_) => None,
     };
     refusal.in_line(line)
 }

@@ -65,8 +65,8 @@ pub struct Refusal {
     /// What was wanted of it.
     pub wanted: Wanted,
     /// The line where the text has it, from 1: that of the key, or where it is missing that of its table, which is the last
-    /// line for the table at the top. It is 0 where there was no text, or no memory to look for it.
-    pub line: usize,
+    /// line for the table at the top. There is none if there was no memory to look for it.
+    pub line: Option<usize>,
 }
 
 impl Refusal {
@@ -77,7 +77,7 @@ impl Refusal {
             entry: None,
             key: name_of(key),
             wanted,
-            line: 0,
+            line: None,
         }
     }
 
@@ -106,8 +106,8 @@ impl Refusal {
         }
     }
 
-    /// The same in this line of the text.
-    pub(crate) fn in_line(self, line: usize) -> Refusal {
+    /// The same in this line of the text, if it is known.
+    pub(crate) fn in_line(self, line: Option<usize>) -> Refusal {
         Refusal { line, ..self }
     }
 }
@@ -128,8 +128,7 @@ pub(crate) fn name_of(key: &str) -> Name {
 
 impl fmt::Display for Refusal {
     fn fmt<W: fmt::Write>(&self, f: &mut fmt::Formatter<W>) -> fmt::Result {
-        if self.line > 0 {
-            let line = self.line;
+        if let Some(line) = self.line {
             write!(f, "line {line}: ")?;
         }
         if self.in_sub_devices {

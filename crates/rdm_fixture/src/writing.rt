@@ -7,7 +7,7 @@ ghost use Rattle.rdm_fixture.specs.Describable.{CanBeDescribed};
 mod checks;
 mod text;
 
-use crate::document::{FixtureError, profile_of};
+use crate::document::FixtureError;
 use crate::fixture::Fixture;
 use crate::laws::fixtures_are_equal_by_value;
 use checks::can_be_described;
@@ -31,25 +31,27 @@ pub enum WriteError {
     NotReadBack,
 }
 
-/// A text that describes the fixture.
-///
-/// It is refused as `Indescribable` exactly where one of the conditions of `CanBeDescribed` fails, and then no text describes
-/// it. The text is read again before it is handed out, so it is never one of another fixture.
-pub fn to_toml(alloc: Global, fixture: &Fixture) -> Result<String, WriteError>
-    ensures ok { IfOk result (λ text. Describes (string_bytes text) fixture.now) }
-    ensures indescribable { (result ≡ Err WriteError.Indescribable) ↔ ¬ CanBeDescribed fixture.now }
-    ensures refused { result ≡ Err WriteError.Indescribable → (text : List ℕ) → ¬ Describes text fixture.now }
-{
-    if !can_be_described(fixture) {
-        return Err(WriteError::Indescribable);
-    }
-    let Ok(text) = text_of(alloc, fixture) else {
-        return Err(WriteError::OutOfMemory);
-    };
-    match profile_of(alloc, text.as_str()) {
-        Ok(read) => same_or_none(text, &read, fixture),
-        Err(FixtureError::OutOfMemory) => Err(WriteError::OutOfMemory),
-        Err(_) => Err(WriteError::NotReadBack),
+impl Fixture {
+    /// A text that describes the fixture.
+    ///
+    /// It is refused as `Indescribable` exactly where one of the conditions of `CanBeDescribed` fails, and then no text
+    /// describes it. The text is read again before it is handed out, so it is never one of another fixture.
+    pub fn to_toml(&self, alloc: Global) -> Result<String, WriteError>
+        ensures ok { IfOk result (λ text. Describes (string_bytes text) self.now) }
+        ensures indescribable { (result ≡ Err WriteError.Indescribable) ↔ ¬ CanBeDescribed self.now }
+        ensures refused { result ≡ Err WriteError.Indescribable → (text : List ℕ) → ¬ Describes text self.now }
+    {
+        if !can_be_described(self) {
+            return Err(WriteError::Indescribable);
+        }
+        let Ok(text) = text_of(alloc, self) else {
+            return Err(WriteError::OutOfMemory);
+        };
+        match Fixture::from_toml(alloc, text.as_str()) {
+            Ok(read) => same_or_none(text, &read, self),
+            Err(FixtureError::OutOfMemory) => Err(WriteError::OutOfMemory),
+            Err(_) => Err(WriteError::NotReadBack),
+        }
     }
 }
 

@@ -4,7 +4,7 @@ mod outcomes;
 mod refusals;
 mod values;
 
-use rdm_fixture::{profile_of, to_toml};
+use rdm_fixture::Fixture;
 use std::alloc::Global;
 use std::process::Abort;
 use std::test::Fail;
@@ -15,9 +15,9 @@ const LEAST: &str =
 
 /// What is told of a text: nothing where it describes a fixture, which then has a text of its own.
 fn told(alloc: Global, text: &str) -> Result<String, Fail> {
-    match profile_of(alloc, text) {
+    match Fixture::from_toml(alloc, text) {
         Ok(fixture) => {
-            to_toml(alloc, &fixture)?;
+            fixture.to_toml(alloc)?;
             Ok(String::new(alloc))
         }
         Err(error) => Ok(format!(in alloc; "{error}")?),

@@ -1,7 +1,7 @@
 //! How jobs end: what may stand in a rule, and what is told of anything else.
 
 use super::{LEAST, told, try_rows};
-use rdm_fixture::{WriteError, profile_of, to_toml};
+use rdm_fixture::{Fixture, WriteError};
 use rdm_outcomes::{Rule, demo_rules};
 use rdm_params::{Outcome, Severity};
 use std::test::Fail;
@@ -129,10 +129,13 @@ fn how_many(rt: HostRuntime) -> Result<(), Fail> {
 /// parameter can't have its outcome.
 #[test]
 fn written(rt: HostRuntime) -> Result<(), Fail> {
-    let mut fixture = profile_of(rt.alloc(), LEAST)?;
+    let mut fixture = Fixture::from_toml(rt.alloc(), LEAST)?;
     fixture.outcomes = demo_rules();
-    let text = to_toml(rt.alloc(), &fixture)?;
-    assert!(rt; profile_of(rt.alloc(), text.as_str())? == fixture, "{text}");
+    let text = fixture.to_toml(rt.alloc())?;
+    assert!(rt;
+        Fixture::from_toml(rt.alloc(), text.as_str())? == fixture,
+        "{text}"
+    );
     let over = Outcome::Failed {
         severity: Severity::ErrorCleared,
         id: 1,
@@ -150,7 +153,7 @@ fn written(rt: HostRuntime) -> Result<(), Fail> {
             outcome,
             ..Rule::default()
         });
-        assert!(rt; to_toml(rt.alloc(), &fixture).err() == Some(WriteError::Indescribable));
+        assert!(rt; fixture.to_toml(rt.alloc()).err() == Some(WriteError::Indescribable));
     }
     Ok(())
 }

@@ -1,7 +1,7 @@
 //! Texts, and what is told of each.
 
 use super::{LEAST, told, try_rows};
-use rdm_fixture::{WriteError, profile_of, to_toml};
+use rdm_fixture::{Fixture, WriteError};
 use rdm_frame::{Text, Uid};
 use std::test::Fail;
 
@@ -374,18 +374,18 @@ fn a_megabyte_of_comments(rt: HostRuntime) -> Result<(), Fail> {
 /// What no file can say isn't written, and quotation marks are.
 #[test]
 fn written(rt: HostRuntime) -> Result<(), Fail> {
-    let mut fixture = profile_of(rt.alloc(), LEAST)?;
+    let mut fixture = Fixture::from_toml(rt.alloc(), LEAST)?;
     fixture.profile.root.label = Text::of(b"a \"label\" \\");
-    let text = to_toml(rt.alloc(), &fixture)?;
+    let text = fixture.to_toml(rt.alloc())?;
     assert!(rt;
         text.as_str()
             .contains("device_label = \"a \\\"label\\\" \\\\\"\n"),
         "{text}"
     );
     fixture.profile.root.label = Text::of(b"two\nlines");
-    assert!(rt; to_toml(rt.alloc(), &fixture).err() == Some(WriteError::Indescribable));
+    assert!(rt; fixture.to_toml(rt.alloc()).err() == Some(WriteError::Indescribable));
     fixture.profile.root.label = Text::new();
     fixture.uid = Uid::ALL;
-    assert!(rt; to_toml(rt.alloc(), &fixture).err() == Some(WriteError::Indescribable));
+    assert!(rt; fixture.to_toml(rt.alloc()).err() == Some(WriteError::Indescribable));
     Ok(())
 }
