@@ -1,2 +1,5 @@
 pub mod Lines
+pub mod Plainness
+pub mod Says
 pub mod Telling
+pub mod Unescaping

@@ -18,7 +18,7 @@ pub told_more : (lines : List Line) (i : ℕ) (x : Line) → i < length lines �
 told_more lines i x lt said own told before =
     next lines (get_or lines i x) (drop (i + 1) lines) said own told
     (subst (λ (ls : List Line). ToldBefore lines ls said)
-      (drop-cons lines i x lt ∙ ap (λ (k : ℕ). get_or lines i x ∷ drop k lines) (sym (add-one i))) before)
+    (drop-cons lines i x lt ∙ ap (λ (k : ℕ). get_or lines i x ∷ drop k lines) (sym (add-one i))) before)
 
 -- where no line is left
 pub told_whole : (lines rest : List Line) (said : List ℕ) → length rest ≡ 0 → ToldBefore lines rest said → AreToldInTurn lines said

@@ -2,13 +2,9 @@
 
 use crate::text::put_hex;
 use crate::values::put_data;
-use rdm_frame::{Uid, disc_reply, uid_at};
+use rdm_frame::uid_at;
 use std::alloc::AllocError;
 use std::fmt::Write;
-
-/// How many bytes of the preamble stand before the separator in the answer to DISC_UNIQUE_BRANCH (section 7.5). Some of them
-/// may be missing.
-const PREAMBLE: usize = 7;
 
 /// Between which UIDs devices are looked for.
 pub(crate) fn put_branch(text: &mut String, data: &[u8]) -> Result<(), AllocError> {
@@ -53,31 +49,4 @@ fn put_flag(text: &mut String, flags: u8, flag: u8, words: &str) -> Result<(), A
         return Ok(());
     }
     text.push_str(words)
-}
-
-/// The UID of the device that answers DISC_UNIQUE_BRANCH with these bytes, or `None` where they are no such answer.
-pub(crate) fn branch_uid(bytes: &[u8]) -> Option<Uid> {
-    let coded = without_preamble(bytes);
-    let [_, a, b, c, d, e, f, g, h, i, j, k, l, ..] = coded else {
-        return None;
-    };
-    let uid = [a & b, c & d, e & f, g & h, i & j, k & l];
-    let uid = uid_at(&uid, 0);
-    if &disc_reply(uid)[PREAMBLE..] == coded {
-        Some(uid)
-    } else {
-        None
-    }
-}
-
-/// The bytes from the separator on: at most seven bytes of the preamble stand before it.
-fn without_preamble(bytes: &[u8]) -> &[u8] {
-    let mut rest = bytes;
-    for _ in 0..PREAMBLE {
-        match rest {
-            [0xFE, more @ ..] => rest = more,
-            _ => break,
-        }
-    }
-    rest
 }

@@ -2,7 +2,6 @@
 
 use crate::Known;
 use crate::class::Class;
-use crate::discovery::branch_uid;
 use crate::form::{Form, Layout};
 use crate::header::{put_request, put_response, put_stranger};
 use crate::layout::layout_of;
@@ -10,7 +9,7 @@ use crate::lists::put_entries;
 use crate::text::put_hex;
 use crate::values::{put_data, put_value};
 use rdm_frame::standard::{ACK_TIMER, NACK_REASON};
-use rdm_frame::{FrameError, FrameView, decode_view};
+use rdm_frame::{FrameError, FrameView, branch_uid, decode_view};
 use std::alloc::AllocError;
 use std::fmt::Write;
 

@@ -2,7 +2,8 @@
 //! their fields, units and enumerations.
 //!
 //! `words` reads a whole text, of which each line is a line of a trace or a frame in hexadecimal digits, as a sniffer
-//! writes it. No line is lost: one that is neither is shown as it stands. `docs/WORDS.md` has the forms.
+//! writes it. No line is lost: one that is neither is shown escaped, and nothing is
+//! written that commands a terminal. `docs/WORDS.md` has the forms.
 #![tactic(auto)]
 
 mod class;
@@ -12,6 +13,7 @@ mod form;
 mod frame_words;
 mod header;
 mod known;
+mod laws;
 mod layout;
 mod line_words;
 mod lists;
@@ -26,5 +28,6 @@ mod trace_words;
 mod values;
 
 pub use known::Known;
+pub use laws::{escaped_text_is_read_back, what_is_said_is_plain};
 pub use line_words::{put_line_words, words, words_of_lines};
 pub use short::{put_reply_words, put_request_words};

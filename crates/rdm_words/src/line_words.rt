@@ -1,15 +1,16 @@
 //! The words of lines, one by one and of a whole text.
 
-ghost use Rattle.std.specs.Prelude.{◌≡◌, ◌<◌, ◌==◌, ℕ, List, [], ◌∷◌, ◌++◌, length, position, IfOk, IfSome, OnOk, string_bytes};
+ghost use Rattle.std.specs.Prelude.{◌≡◌, ◌<◌, ℕ, List, [], ◌∷◌, ◌++◌, length, IfOk, OnOk, codes};
 ghost use Rattle.std.specs.Str.Lines.{lines};
+ghost use Rattle.rdm_words.specs.Plain.{escaped, shown};
 ghost use Rattle.rdm_words.specs.Said.{Says, SayInTurn, IsTold, AreToldInTurn};
 
 use crate::Known;
 use crate::frame_words::put_bytes_words;
-use crate::text::put_escaped;
+use crate::text::{put_escaped, put_shown};
 use crate::trace_words::put_trace_line;
-use rdm_trace::{Line, read, wire_in};
 use rdm_streams::{line_end, without_return};
+use rdm_trace::{Line, read, wire_in};
 use std::alloc::{AllocError, Global};
 
 /// The words of each line of a text, in order. A line ends with LF, before which a CR is dropped; the last LF may be
@@ -52,55 +53,67 @@ pub fn put_line_words(out: &mut Vec<u8>, line: &Line, known: &Known<'_>) -> Resu
 {
     let mut text = String::new(*out.allocator());
     put_trace_line(&mut text, line, known)?;
-    put_whole(out, text.as_bytes())?;
-    Ok(())
+    put_told(out, text.as_bytes())
 }
 
 /// Puts the words of one line of a text at the end, as `words` has them.
+#[tactic(auto, using(crate::proofs::Says::empty, crate::proofs::Says::trace, crate::proofs::Says::wire, crate::proofs::Says::unread))]
 fn put_text_line(out: &mut Vec<u8>, line: &[u8], known: &Known<'_>) -> Result<(), AllocError>
     ensures said { OnOk result ((own : List ℕ) × Says line.now own × (out.new.items ≡ out.old.items ++ own)) }
 {
-    let mut text = String::new(*out.allocator());
-    put_read(&mut text, line, known)?;
-    if !text.is_empty() {
-        put_whole(out, text.as_bytes())?;
-        return Ok(());
-    }
     if line.is_empty() {
-        put_whole(out, b"")?;
+        out.extend_from_slice(b"\n")?;
         return Ok(());
     }
-    put_unread(&mut text, line)?;
-    put_whole(out, text.as_bytes())?;
+    if let Some(said) = read(line) {
+        put_line_words(out, &said, known)?;
+        return Ok(());
+    }
+    if let Some(bytes) = wire_in(line) {
+        put_wire_words(out, bytes.as_slice(), known)?;
+        return Ok(());
+    }
+    put_unread(out, line)?;
     Ok(())
 }
 
-/// The words of a line, without the last line end, or none where it is neither a line of a trace nor a frame.
-fn put_read(text: &mut String, line: &[u8], known: &Known<'_>) -> Result<(), AllocError> {
-    if let Some(said) = read(line) {
-        return put_trace_line(text, &said, known);
-    }
-    match wire_in(line) {
-        Some(bytes) => put_bytes_words(text, bytes.as_slice(), known),
-        None => Ok(()),
-    }
+/// The words of bytes from the bus.
+fn put_wire_words(out: &mut Vec<u8>, bytes: &[u8], known: &Known<'_>) -> Result<(), AllocError>
+    ensures told { OnOk result ((own : List ℕ) × IsTold own × (out.new.items ≡ out.old.items ++ own)) }
+{
+    let mut text = String::new(*out.allocator());
+    put_bytes_words(&mut text, bytes, known)?;
+    put_told(out, text.as_bytes())
 }
 
 /// A line that isn't read, as it stands.
-fn put_unread(text: &mut String, line: &[u8]) -> Result<(), AllocError>
-    ensures { OnOk result (0 < length (string_bytes text.new)) }
+fn put_unread(out: &mut Vec<u8>, line: &[u8]) -> Result<(), AllocError>
+    ensures { OnOk result (out.new.items ≡ out.old.items ++ (codes "not read: " ++ escaped line.now ++ 10 ∷ [])) }
 {
-    let mut shown = String::new(*text.allocator());
-    put_escaped(&mut shown, line)?;
-    text.push_str("not read: ")?;
-    text.push_str(shown.as_str())?;
+    out.extend_from_slice(b"not read: ")?;
+    put_escaped(out, line)?;
+    out.extend_from_slice(b"\n")
+}
+
+/// A line of its own, with these words, or with a remark that there are none.
+fn put_told(out: &mut Vec<u8>, words: &[u8]) -> Result<(), AllocError>
+    ensures told { OnOk result ((own : List ℕ) × IsTold own × (out.new.items ≡ out.old.items ++ own)) }
+{
+    put_whole(out, some_words(words))?;
     Ok(())
 }
 
 /// A line of its own, with these words.
 fn put_whole(out: &mut Vec<u8>, words: &[u8]) -> Result<(), AllocError>
-    ensures { OnOk result (out.new.items ≡ out.old.items ++ (words.now ++ 10 ∷ [])) }
+    ensures { OnOk result (out.new.items ≡ out.old.items ++ (shown words.now ++ 10 ∷ [])) }
 {
-    out.extend_from_slice(words)?;
+    put_shown(out, words)?;
     out.extend_from_slice(b"\n")
+}
+
+/// The words, where there are any.
+fn some_words(words: &[u8]) -> &[u8]
+    ensures { 0 < length result.now }
+{
+    if words.is_empty() { b"no words" } else { words }
 }

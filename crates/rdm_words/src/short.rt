@@ -1,11 +1,11 @@
 //! What a frame says in a few words, for a picture.
 
 ghost use Rattle.std.specs.Prelude.{◌≡◌, ℕ, List, ◌++◌, OnOk};
+ghost use Rattle.rdm_words.specs.Plain.{IsPlain};
 
 use crate::Known;
 use crate::class::Class;
 use crate::device_info::put_product_in_short;
-use crate::discovery::branch_uid;
 use crate::form::{Form, Layout};
 use crate::header::put_response_type;
 use crate::layout::layout_of;
@@ -13,9 +13,10 @@ use crate::place::put_place;
 use crate::sensors::put_sensor_in_short;
 use crate::tables::parameters::parameter;
 use crate::tables::replies::nack_reason;
+use crate::text::put_shown;
 use crate::values::put_value;
 use rdm_frame::standard::{ACK, ACK_TIMER, NACK_REASON, ROOT_DEVICE};
-use rdm_frame::{FrameView, decode_view};
+use rdm_frame::{FrameView, branch_uid, decode_view};
 use std::alloc::AllocError;
 use std::fmt::Write;
 
@@ -24,25 +25,27 @@ const LONGEST_VALUE: usize = 64;
 
 /// Puts what a request says at the end, in one line of at most some 80 characters without its line end, as `GET DEVICE_INFO`
 /// or `SET DMX_START_ADDRESS: 101`. Bytes that are no frame are named as such.
+#[tactic(auto, using(crate::proofs::Plainness::plain_shown))]
 pub fn put_request_words(
     out: &mut Vec<u8>,
     bytes: &[u8],
     known: &Known<'_>,
 ) -> Result<(), AllocError>
-    ensures kept { OnOk result ((own : List ℕ) × (out.new.items ≡ out.old.items ++ own)) }
+    ensures plain { OnOk result ((own : List ℕ) × IsPlain own × (out.new.items ≡ out.old.items ++ own)) }
 {
     let mut text = String::new(*out.allocator());
     match decode_view(bytes) {
         Ok(frame) => put_request(&mut text, &frame, &known.at(frame.dst))?,
         Err(error) => write!(text, "no frame: {error}")?,
     }
-    out.extend_from_slice(text.as_bytes())
+    put_shown(out, text.as_bytes())
 }
 
 /// Puts what a reply says at the end, in one line of at most some 80 characters without its line end, as `ACK`,
 /// `ACK_TIMER 5.0 s` or `NACK: data out of range`. Bytes that are no frame and no answer to discovery are named as such.
+#[tactic(auto, using(crate::proofs::Plainness::plain_shown))]
 pub fn put_reply_words(out: &mut Vec<u8>, bytes: &[u8], known: &Known<'_>) -> Result<(), AllocError>
-    ensures kept { OnOk result ((own : List ℕ) × (out.new.items ≡ out.old.items ++ own)) }
+    ensures plain { OnOk result ((own : List ℕ) × IsPlain own × (out.new.items ≡ out.old.items ++ own)) }
 {
     let mut text = String::new(*out.allocator());
     match decode_view(bytes) {
@@ -52,7 +55,7 @@ pub fn put_reply_words(out: &mut Vec<u8>, bytes: &[u8], known: &Known<'_>) -> Re
             None => write!(text, "no frame: {error}")?,
         },
     }
-    out.extend_from_slice(text.as_bytes())
+    put_shown(out, text.as_bytes())
 }
 
 fn put_request(

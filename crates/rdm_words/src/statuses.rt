@@ -4,7 +4,7 @@ use crate::Known;
 use crate::place::put_place;
 use crate::tables::slots::slot_label;
 use crate::tables::statuses::{status_id, status_type};
-use crate::text::put_escaped;
+use crate::text::put_foreign;
 use crate::values::{put_coded, put_data};
 use std::alloc::AllocError;
 use std::fmt::Write;
@@ -23,7 +23,7 @@ pub(crate) fn put_status_id(
     match template(id, known) {
         Some(words) => {
             text.push_str(", ")?;
-            put_escaped(text, words)
+            put_foreign(text, words)
         }
         None => Ok(()),
     }
@@ -98,7 +98,7 @@ fn put_filled(text: &mut String, words: &[u8], status: &Status) -> Result<(), Al
                 after
             }
             _ => {
-                put_escaped(text, &[*byte])?;
+                put_foreign(text, &[*byte])?;
                 more
             }
         };

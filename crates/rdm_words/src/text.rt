@@ -1,5 +1,8 @@
 //! Bytes as text.
 
+ghost use Rattle.std.specs.Prelude.{◌≡◌, ◌++◌, OnOk};
+ghost use Rattle.rdm_words.specs.Plain.{is_printable, is_of_tables, is_plain, by_digits, shown_byte, shown, escaped_byte, escaped};
+
 use rdm_frame::digits::digit;
 use std::alloc::AllocError;
 
@@ -14,31 +17,95 @@ pub(crate) fn put_hex(text: &mut String, bytes: &[u8]) -> Result<(), AllocError>
 /// The bytes as a text of the fixture, in quotes.
 pub(crate) fn put_quoted(text: &mut String, bytes: &[u8]) -> Result<(), AllocError> {
     text.push('"')?;
-    put_escaped(text, bytes)?;
+    put_foreign(text, bytes)?;
     text.push('"')
 }
 
-/// The bytes as text: a byte that is no printable ASCII character stands as `\x` and its digits, and a quote or a backslash
-/// has a backslash before it. So no byte is lost, and none reaches a terminal as a command.
-pub(crate) fn put_escaped(text: &mut String, bytes: &[u8]) -> Result<(), AllocError> {
-    for byte in bytes {
-        put_character(text, *byte)?;
+/// A text of the fixture, escaped.
+pub(crate) fn put_foreign(text: &mut String, bytes: &[u8]) -> Result<(), AllocError> {
+    let mut shown = Vec::new(*text.allocator());
+    put_escaped(&mut shown, bytes)?;
+    for byte in &shown {
+        text.push(char::from(*byte))?;
     }
     Ok(())
 }
 
-fn put_character(text: &mut String, byte: u8) -> Result<(), AllocError> {
-    match byte {
-        b'"' | b'\\' => {
-            text.push('\\')?;
-            text.push(char::from(byte))
-        }
-        b' '..=b'~' => text.push(char::from(byte)),
-        _ => {
-            text.push_str("\\x")?;
-            put_byte(text, byte)
-        }
+/// The bytes as text: a byte that is no printable ASCII character stands as `\x` and its digits, and a quote or a backslash
+/// has a backslash before it. So no byte is lost, and none reaches a terminal as a command.
+pub(crate) fn put_escaped(out: &mut Vec<u8>, bytes: &[u8]) -> Result<(), AllocError>
+    ensures { OnOk result (out.new.items ≡ out.old.items ++ escaped bytes.now) }
+{
+    for byte in bytes {
+        put_escaped_byte(out, *byte)?;
     }
+    Ok(())
+}
+
+#[tactic(auto, unfolding(crate::specs::Plain::escaped_byte))]
+fn put_escaped_byte(out: &mut Vec<u8>, byte: u8) -> Result<(), AllocError>
+    ensures { OnOk result (out.new.items ≡ out.old.items ++ escaped_byte byte) }
+{
+    if byte == b'"' || byte == b'\\' {
+        out.extend_from_slice(&[b'\\', byte])
+    } else if is_printable(byte) {
+        out.extend_from_slice(&[byte])
+    } else {
+        put_by_digits(out, byte)
+    }
+}
+
+/// Words as they are written: a byte that isn't plain stands as `\x` and its digits.
+pub(crate) fn put_shown(out: &mut Vec<u8>, words: &[u8]) -> Result<(), AllocError>
+    ensures { OnOk result (out.new.items ≡ out.old.items ++ shown words.now) }
+{
+    for byte in words {
+        put_shown_byte(out, *byte)?;
+    }
+    Ok(())
+}
+
+#[tactic(auto, unfolding(crate::specs::Plain::shown_byte))]
+fn put_shown_byte(out: &mut Vec<u8>, byte: u8) -> Result<(), AllocError>
+    ensures { OnOk result (out.new.items ≡ out.old.items ++ shown_byte byte) }
+{
+    if is_plain(byte) {
+        out.extend_from_slice(&[byte])
+    } else {
+        put_by_digits(out, byte)
+    }
+}
+
+/// `\x` and the digits of a byte.
+fn put_by_digits(out: &mut Vec<u8>, byte: u8) -> Result<(), AllocError>
+    ensures { OnOk result (out.new.items ≡ out.old.items ++ by_digits byte) }
+{
+    out.extend_from_slice(&[b'\\', b'x', digit(byte / 16), digit(byte % 16)])
+}
+
+/// Whether a byte may be written as it is: printable ASCII, LF, or a byte of the characters of the tables.
+fn is_plain(byte: u8) -> bool
+    ensures { result ≡ is_plain byte }
+{
+    is_printable(byte) || byte == b'\n' || is_of_tables(byte)
+}
+
+fn is_printable(byte: u8) -> bool
+    ensures { result ≡ is_printable byte }
+{
+    0x20 <= byte && byte <= 0x7E
+}
+
+fn is_of_tables(byte: u8) -> bool
+    ensures { result ≡ is_of_tables byte }
+{
+    byte == 0xC2
+        || byte == 0xB0
+        || byte == 0xB2
+        || byte == 0xB3
+        || byte == 0xB5
+        || byte == 0xCE
+        || byte == 0xA9
 }
 
 fn put_byte(text: &mut String, byte: u8) -> Result<(), AllocError> {

@@ -1,5 +1,6 @@
 //! The words of the lines of a trace.
 
+use crate::Known;
 use crate::class::Class;
 use crate::frame_words::{put_bytes_words, put_data_lines};
 use crate::header::put_parameter;
@@ -7,7 +8,6 @@ use crate::layout::layout_of;
 use crate::place::put_place;
 use crate::statuses::{Status, put_failure};
 use crate::text::put_quoted;
-use crate::Known;
 use rdm_bus::{Fault, Heard};
 use rdm_params::{Change, Message, Outcome};
 use rdm_trace::{JobName, Line};

@@ -1,0 +1,87 @@
+-- What is written is plain, and an escaped text is read back.
+use Rattle.std.proofs.Common.{◌≡◌, ◌≢◌, ℕ, ◌+◌, ◌*◌, ◌/◌, ◌%◌, ◌<◌, ◌==◌, Bool, true, false, cond, ◌||◌, List, [], ◌∷◌, ◌++◌, length, codes, refl, sym, subst, ap, ◌∙◌, arith}
+use Rattle.std.specs.List.{AllByRecursion}
+use Rattle.std.proofs.lemmas.Bool.Decides.{nat_tests}
+use Rattle.rdm_frame.specs.Digits.{digit}
+use Rattle.rdm_words.specs.Plain.{is_printable, is_plain, IsPlain, by_digits, shown_byte, shown, escaped_byte, escaped}
+use Rattle.rdm_words.specs.Said.{IsTold, SaysBy, SayInTurn, AreToldInTurn, is_read}
+use Rattle.rdm_trace.specs.declared.line.Line.{Line}
+
+-- ---- plain texts
+
+pub plain_append : (xs ys : List ℕ) → IsPlain xs → IsPlain ys → IsPlain (xs ++ ys)
+plain_append [] ys p q = q
+plain_append (x ∷ xs) ys p q = (p.0, plain_append xs ys p.1 q)
+
+pub plain_line : (words : List ℕ) → IsPlain words → IsPlain (words ++ 10 ∷ [])
+plain_line words p = plain_append words (10 ∷ []) p (refl, tt)
+
+digit_plain : (n : ℕ) → n < 16 → is_plain (digit n) ≡ true
+digit_plain n h = grind (arith, nat_tests)
+
+plain_digits : (b : ℕ) → IsPlain (by_digits b)
+plain_digits b = (refl, (refl, (digit_plain (b % 256 / 16) (omega arith), (digit_plain (b % 256 % 16) (omega arith), tt))))
+
+plain_byte : (b : ℕ) → IsPlain (shown_byte b)
+unfolding shown_byte
+plain_byte b = by (is_plain b) refl
+  where
+    by : (x : Bool) → is_plain b ≡ x → IsPlain (cond x (b ∷ []) (by_digits b))
+    by true e = (e, tt)
+    by false e = plain_digits b
+
+pub plain_shown : (words : List ℕ) → IsPlain (shown words)
+plain_shown [] = tt
+plain_shown (b ∷ words) = plain_append (shown_byte b) (shown words) (plain_byte b) (plain_shown words)
+
+printable_plain : (b : ℕ) → is_printable b ≡ true → is_plain b ≡ true
+printable_plain b h = rw h refl
+
+plain_escaped_byte : (b : ℕ) → IsPlain (escaped_byte b)
+unfolding escaped_byte
+plain_escaped_byte b = by ((b == 0x22) || (b == 0x5C)) (is_printable b) refl refl
+  where
+    marked : (b : ℕ) → ((b == 0x22) || (b == 0x5C)) ≡ true → is_plain b ≡ true
+    marked b h = grind (arith, nat_tests)
+
+    by : (x y : Bool) → ((b == 0x22) || (b == 0x5C)) ≡ x → is_printable b ≡ y → IsPlain (cond x (0x5C ∷ b ∷ []) (cond y (b ∷ []) (by_digits b)))
+    by true y e f = (refl, (marked b e, tt))
+    by false true e f = (printable_plain b f, tt)
+    by false false e f = plain_digits b
+
+pub plain_escaped : (text : List ℕ) → IsPlain (escaped text)
+plain_escaped [] = tt
+plain_escaped (b ∷ text) = plain_append (escaped_byte b) (escaped text) (plain_escaped_byte b) (plain_escaped text)
+
+shown_some : (words : List ℕ) → 0 < length words → shown words ≢ []
+unfolding shown_byte
+shown_some [] h e = absurd (omega (arith, h))
+shown_some (b ∷ words) h e = by (is_plain b) e
+  where
+    by : (x : Bool) → cond x (b ∷ []) (by_digits b) ++ shown words ≢ []
+    by true e = absurd cc
+    by false e = absurd cc
+
+-- words and the end of their line
+pub told_line : (words : List ℕ) → 0 < length words → IsTold (shown words ++ 10 ∷ [])
+told_line words h = record { words = shown words; whole = refl; some = shown_some words h; plain = plain_line (shown words) (plain_shown words) }
+
+-- what is said of a line, by whether it is empty and whether it is read
+plain_says : (empty read : Bool) (line own : List ℕ) → SaysBy empty read line own → IsPlain own
+plain_says true read line own s = subst (λ (o : List ℕ). IsPlain o) (sym s) (refl, tt)
+plain_says false true line own s = s.plain
+plain_says false false line own s =
+    subst (λ (o : List ℕ). IsPlain o) (sym s) (plain_append (codes "not read: ") (escaped line ++ 10 ∷ []) front (plain_line (escaped line) (plain_escaped line)))
+  where
+    front : IsPlain (codes "not read: ")
+    front = (refl, (refl, (refl, (refl, (refl, (refl, (refl, (refl, (refl, (refl, tt))))))))))
+
+pub said_plain : (lines : List (List ℕ)) (said : List ℕ) → SayInTurn lines said → IsPlain said
+said_plain [] said s = subst (λ (o : List ℕ). IsPlain o) (sym s) tt
+said_plain (line ∷ lines) said (own, rest, parts, one, more) =
+    subst (λ (o : List ℕ). IsPlain o) (sym parts) (plain_append own rest (plain_says (length line == 0) (is_read line) line own one) (said_plain lines rest more))
+
+pub told_plain : (lines : List Line) (said : List ℕ) → AreToldInTurn lines said → IsPlain said
+told_plain [] said s = subst (λ (o : List ℕ). IsPlain o) (sym s) tt
+told_plain (line ∷ lines) said (own, rest, parts, one, more) =
+    subst (λ (o : List ℕ). IsPlain o) (sym parts) (plain_append own rest one.plain (told_plain lines rest more))
