@@ -1,4 +1,4 @@
-/* Felosumay: a responder and a collector for Remote Device Management (ANSI E1.20-2010).
+/* Felosumay: a responder, a collector and discovery for Remote Device Management (ANSI E1.20-2010).
  *
  * A handle starts as {0}. It belongs to the library from then on: never copy it, and never look behind its pointer or write
  * it. Pointers are valid, also where a length is 0, and no two of one call overlap. Each handle is in one call at a time; which
@@ -18,6 +18,7 @@ extern "C" {
 
 typedef struct { void *at; } felosumay_responder;
 typedef struct { void *at; } felosumay_collector;
+typedef struct { void *at; } felosumay_search;
 
 /* What became of a call. */
 typedef uint8_t felosumay_result;
@@ -37,7 +38,8 @@ enum {
     FELOSUMAY_TOO_LONG = 12,     /* there are more data than a frame can carry, or a label is longer than 32 bytes */
     FELOSUMAY_NO_MORE = 13,      /* there is nothing more */
     FELOSUMAY_NO_ROOM = 14,      /* there is no room for one more message */
-    FELOSUMAY_OUT_OF_RANGE = 15  /* a SET of the value would be out of range */
+    FELOSUMAY_OUT_OF_RANGE = 15, /* a SET of the value would be out of range */
+    FELOSUMAY_LIMIT = 16         /* the search took as many transactions as it may */
 };
 
 enum {
@@ -262,6 +264,46 @@ felosumay_result felosumay_collector_next(felosumay_collector *collector, felosu
 
 /* Gives up what the handle holds, if anything. The handle is {0} again. */
 void felosumay_collector_free(felosumay_collector *collector);
+
+/* ---- the search for the fixtures of a line */
+
+/* A fixture that was found, and what its answer to DISC_MUTE says. */
+typedef struct {
+    uint32_t device;
+    uint32_t binding_device; /* 0 where it told no binding UID, and so is binding_maker */
+    uint16_t maker;
+    uint16_t binding_maker;
+    uint16_t control;    /* bit 0 a managed proxy, bit 1 sub-devices, bit 2 a boot loader, bit 3 a proxied device */
+    uint8_t has_binding; /* 1 where it told the UID by which the ports of one device say that they are one, else 0 */
+} felosumay_found;
+
+/* Makes a search for all fixtures of the line, in the place of what the handle held. The first UID is the controller's own. It
+ * takes `limit` transactions at most: 74 for each fixture that the line may have, and 2 more, are enough on every line, however
+ * collisions sound. BAD_UID, OUT_OF_MEMORY, in this order; the handle stays as it was then. */
+felosumay_result felosumay_search_new(felosumay_search *search, uint16_t maker, uint32_t device, uint32_t limit);
+
+/* Tells what to send: the request stands at the front of `request`. Nothing changes: until `hear` each call tells the same.
+ * ABSENT; NO_MORE where the search has ended, and each fixture was found; LIMIT where it hasn't and no transaction is left, since
+ * the line sounds though nobody answers, or has more fixtures than the limit is for. */
+felosumay_result felosumay_search_next(felosumay_search *search, uint8_t request[FELOSUMAY_FRAME_BYTES], size_t *count);
+
+/* Hears what came after the request that `next` told: all bytes of it, also where they are no answer, as after a collision; of
+ * length 0 where nothing came. ABSENT; OUT_OF_MEMORY: the search stands where it stood then, and the same bytes can be heard
+ * again. */
+felosumay_result felosumay_search_hear(felosumay_search *search, const uint8_t *bytes, size_t length);
+
+/* Begins again with what was found, for fixtures that were plugged in since, or that lost power. It un-mutes none, so that those
+ * which were found stay silent: 74 transactions for each of the others and 1 more are enough. ABSENT. */
+felosumay_result felosumay_search_resume(felosumay_search *search, uint32_t limit);
+
+/* How many fixtures were found so far. ABSENT. */
+felosumay_result felosumay_search_count(felosumay_search *search, size_t *count);
+
+/* The fixture with this index, from 0, in the order in which they were found. ABSENT; NO_MORE where no more were found. */
+felosumay_result felosumay_search_found(felosumay_search *search, size_t index, felosumay_found *found);
+
+/* Gives up what the handle holds, if anything. The handle is {0} again. */
+void felosumay_search_free(felosumay_search *search);
 
 /* ---- the heap: what the library calls for memory. libfelosumay_heap.a has the three functions over malloc, realloc and free
  * (c/heap.c). A program that takes memory from a pool defines them itself, and doesn't link that library. An alignment is 1, 2,

@@ -10,6 +10,7 @@
 
 SIZE_IS(felosumay_responder, 8);
 SIZE_IS(felosumay_collector, 8);
+SIZE_IS(felosumay_search, 8);
 SIZE_IS(felosumay_text, 33);
 SIZE_IS(felosumay_personality, 36);
 SIZE_IS(felosumay_slot, 38);
@@ -23,3 +24,4 @@ SIZE_IS(felosumay_stepped, 32);
 SIZE_IS(felosumay_outcome, 10);
 SIZE_IS(felosumay_command, 12);
 SIZE_IS(felosumay_message, 248);
+SIZE_IS(felosumay_found, 16);

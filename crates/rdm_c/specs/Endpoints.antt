@@ -15,15 +15,17 @@ use Rattle.rdm_responder.specs.Rules.{account_of, answered}
 use Rattle.rdm_responder.specs.StandsFor.{StandsFor}
 use Rattle.rdm_collector.specs.Collecting.{State}
 use Rattle.rdm_c.specs.declared.endpoint.Endpoint.{Endpoint}
-use Rattle.rdm_c.specs.declared.endpoint.Endpoint.TheVariants.{Responder, Collector}
+use Rattle.rdm_c.specs.declared.endpoint.Endpoint.TheVariants.{Responder, Collector, Searcher}
 use Rattle.rdm_c.specs.declared.status.Status.{Status}
 use Rattle.rdm_c.specs.declared.status.Status.TheVariants as status
 use Rattle.rdm_c.specs.Statuses.{code_of}
+use Rattle.rdm_c.specs.SearchStates.{SearchState}
 
 -- It is a responder, and stands for this history.
 abbrev pub IsFor : Endpoint → History → Type 0
 IsFor (Responder running) h = StandsFor running.responder h
 IsFor (Collector collector) h = ⊥
+IsFor (Searcher search) h = ⊥
 
 -- the handle holds a responder that stands for this history
 abbrev pub HeldFor : Option Endpoint → History → Type 0
@@ -34,6 +36,7 @@ HeldFor (Some endpoint) h = IsFor endpoint h
 abbrev pub IsIn : Endpoint → State → Type 0
 IsIn (Responder running) s = ⊥
 IsIn (Collector collector) s = collector ≡ s
+IsIn (Searcher search) s = ⊥
 
 -- the handle holds a collector in this state
 abbrev pub HeldIn : Option Endpoint → State → Type 0
@@ -43,6 +46,7 @@ HeldIn (Some endpoint) s = IsIn endpoint s
 abbrev pub is_responder : Endpoint → Bool
 is_responder (Responder running) = true
 is_responder (Collector collector) = false
+is_responder (Searcher search) = false
 
 -- whether the handle holds a responder
 abbrev pub holds_responder : Option Endpoint → Bool
@@ -52,11 +56,23 @@ holds_responder (Some endpoint) = is_responder endpoint
 abbrev pub is_collector : Endpoint → Bool
 is_collector (Responder running) = false
 is_collector (Collector collector) = true
+is_collector (Searcher search) = false
 
 -- whether the handle holds a collector
 abbrev pub holds_collector : Option Endpoint → Bool
 holds_collector None = false
 holds_collector (Some endpoint) = is_collector endpoint
+
+-- the search, where it is one
+abbrev pub search_of : Endpoint → Option SearchState
+search_of (Responder running) = None
+search_of (Collector collector) = None
+search_of (Searcher search) = Some search
+
+-- the search that the handle holds, if it holds one
+abbrev pub held_search : Option Endpoint → Option SearchState
+held_search None = None
+held_search (Some endpoint) = search_of endpoint
 
 -- what a call comes to that nothing else can keep from being carried out
 abbrev pub found : Bool → Status

@@ -5,3 +5,5 @@ pub mod Outcomes
 pub mod Profiles
 pub mod Endpoints
 pub mod Messages
+pub mod SearchStates
+pub mod Searches

@@ -3,7 +3,7 @@ use Rattle.std.specs.Prelude.{ℕ, Option, Some, None}
 use Rattle.rdm_collector.specs.declared.collector.AskError.{AskError}
 use Rattle.rdm_collector.specs.declared.collector.AskError.TheVariants as ask
 use Rattle.rdm_c.specs.declared.status.Status.{Status}
-use Rattle.rdm_c.specs.declared.status.Status.TheVariants.{Done, OutOfMemory, BadProfile, BadSize, BadUid, Absent, Astray, Unknown, Refused, NoValue, Reserved, Busy, TooLong, NoMore, NoRoom, OutOfRange}
+use Rattle.rdm_c.specs.declared.status.Status.TheVariants.{Done, OutOfMemory, BadProfile, BadSize, BadUid, Absent, Astray, Unknown, Refused, NoValue, Reserved, Busy, TooLong, NoMore, NoRoom, OutOfRange, Limit}
 
 abbrev pub code_of : Status → ℕ
 code_of Done = 0
@@ -22,6 +22,7 @@ code_of TooLong = 12
 code_of NoMore = 13
 code_of NoRoom = 14
 code_of OutOfRange = 15
+code_of Limit = 16
 
 -- what a collector's refusal of a command is called, and what it is called that there is none
 abbrev pub of_refusal : Option AskError → Status

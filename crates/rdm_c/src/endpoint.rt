@@ -2,7 +2,9 @@
 
 pub(crate) mod collector;
 pub(crate) mod responder;
+pub(crate) mod search;
 
+use crate::running_search::RunningSearch;
 use rdm_collector::Collector;
 use rdm_frame::Wire;
 use rdm_responder::Responder;
@@ -23,4 +25,6 @@ pub enum Endpoint {
     Responder(RunningResponder),
     /// A controller that collects the messages of a device.
     Collector(Collector),
+    /// A controller that finds the fixtures of its line.
+    Searcher(RunningSearch),
 }

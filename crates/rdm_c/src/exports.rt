@@ -4,3 +4,4 @@ pub(crate) mod change;
 pub(crate) mod collector;
 pub(crate) mod reading;
 pub(crate) mod responder;
+pub(crate) mod search;

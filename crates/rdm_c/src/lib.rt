@@ -1,13 +1,14 @@
-//! The library for programs in C and C++, whose header is `c/felosumay.h`: a responder, or a collector of a device's
-//! messages, behind a handle.
+//! The library for programs in C and C++, whose header is `c/felosumay.h`: a responder, a collector of a device's messages,
+//! or a search for the fixtures of a line, behind a handle.
 //!
-//! Each export says by its contract what the call of the library below says, over the history or the collector that stands
-//! behind the handle. None has a condition. What a handle owns stands in `specs/Held.antt`.
-//! The calls of C stand in `exports/`; what each does to the responder or the collector, in the file of the same name in `endpoint/`.
+//! Each export says by its contract what the call of the library below says, over the history, the collector or the search
+//! that stands behind the handle. None has a condition. What a handle owns stands in `specs/Held.antt`.
+//! The calls of C stand in `exports/`; what each does to what the handle holds, in the file of the same name in `endpoint/`.
 #![tactic(auto)]
 
 mod endpoint;
 mod exports;
+mod found;
 mod front;
 mod handle;
 mod job;
@@ -16,6 +17,7 @@ mod message;
 mod outcome;
 mod profile;
 mod raw_box;
+mod running_search;
 mod sizes;
 mod status;
 
@@ -36,6 +38,11 @@ pub use exports::responder::{
     felosumay_responder_arrive, felosumay_responder_demo, felosumay_responder_free,
     felosumay_responder_new, felosumay_responder_step,
 };
+pub use exports::search::{
+    felosumay_search_count, felosumay_search_found, felosumay_search_free, felosumay_search_hear,
+    felosumay_search_new, felosumay_search_next, felosumay_search_resume,
+};
+pub use found::FoundNumbers;
 pub use handle::Handle;
 pub use job::{JobNumbers, SteppedNumbers};
 pub use message::{CommandNumbers, MessageNumbers};

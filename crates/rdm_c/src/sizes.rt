@@ -1,5 +1,6 @@
 //! How many bytes the structs have that C hands in and out. `c/sizes.c` says the same of those in the header.
 
+use crate::found::FoundNumbers;
 use crate::handle::Handle;
 use crate::job::{JobNumbers, SteppedNumbers};
 use crate::message::{CommandNumbers, MessageNumbers};
@@ -37,3 +38,5 @@ const _: () = prove!(size_of::<OutcomeNumbers>() == 10);
 const _: () = prove!(size_of::<CommandNumbers>() == 12);
 
 const _: () = prove!(size_of::<MessageNumbers>() == 248);
+
+const _: () = prove!(size_of::<FoundNumbers>() == 16);

@@ -38,6 +38,8 @@ pub enum Status {
     NoRoom,
     /// A SET of the value would be out of range.
     OutOfRange,
+    /// The search took as many transactions as it may.
+    Limit,
 }
 
 impl Status {
@@ -62,6 +64,7 @@ impl Status {
             Status::NoMore => 13,
             Status::NoRoom => 14,
             Status::OutOfRange => 15,
+            Status::Limit => 16,
         }
     }
 }

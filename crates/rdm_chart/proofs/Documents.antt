@@ -6,10 +6,9 @@ use Rattle.rdm_chart.specs.declared.element.Attribute.{Attribute}
 use Rattle.rdm_chart.specs.declared.element.Element.{Element}
 use Rattle.rdm_chart.specs.declared.element.Tag.{Tag}
 use Rattle.rdm_chart.specs.declared.element.Tag.TheVariants.{Svg}
-use Rattle.rdm_chart.specs.declared.page.Picture.{Picture}
 use Rattle.rdm_chart.specs.Markup.{in_markup}
-use Rattle.rdm_chart.specs.Elements.{attributes_text, tag_front, tag_rest, end_tag, escaped, element_text, elements_text}
-use Rattle.rdm_chart.specs.Pictures.{content_text, picture_text, IsContent, Nothing, Words, Element as Whole, Empty, IsDocument}
+use Rattle.rdm_chart.specs.Elements.{tag_front, tag_rest, end_tag, escaped, element_text, elements_text}
+use Rattle.rdm_chart.specs.Pictures.{content_text, painting_text, IsContent, Nothing, Words, Element as Whole, Empty, IsDocument, Painting}
 
 -- a line end stands in markup as it is
 line_end : flat_map in_markup (10 ∷ []) ≡ codes "\n"
@@ -38,34 +37,42 @@ element_content e rest content =
     (sym (append_assoc (front ++ inner) (codes "\n") rest ∙ append_assoc front inner (codes "\n" ++ rest)))
     (rest_content e.tag e.attributes.items (string_bytes e.words) (codes "\n" ++ rest) (length (string_bytes e.words) == 0) (line_ended rest content))
 
+-- five texts in a row
+joined : (g b l a f : List ℕ) → g ++ b ++ l ++ a ++ f ≡ g ++ (b ++ (l ++ (a ++ f)))
+joined g b l a f = append_assoc (g ++ b ++ l) a f ∙ append_assoc (g ++ b) l (a ++ f) ∙ append_assoc g b (l ++ (a ++ f))
+
+-- the five layers of a painting, put one after another
+pub layers : (o g b l a f : List ℕ) → o ++ g ++ b ++ l ++ a ++ f ≡ o ++ (g ++ b ++ l ++ a ++ f)
+layers o g b l a f =
+    joined (o ++ g) b l a f ∙ append_assoc o g (b ++ (l ++ (a ++ f))) ∙ ap (λ (t : List ℕ). o ++ t) (sym (joined g b l a f))
+
 elements_content : (es : List Element) (rest : List ℕ) → IsContent rest → IsContent (elements_text es ++ rest)
 elements_content [] rest content = content
 elements_content (e ∷ es) rest content =
     subst (λ (t : List ℕ). IsContent t) (sym (append_assoc (element_text e) (elements_text es) rest))
     (element_content e (elements_text es ++ rest) (elements_content es rest content))
 
-content : (p : Picture) → IsContent (content_text p)
+content : (p : Painting) → IsContent (content_text p)
 unfolding content_text
 content p =
-    let g = elements_text p.ground.elements.items in
-    let b = elements_text p.back.elements.items in
-    let l = elements_text p.lives.elements.items in
-    let a = elements_text p.arrows.elements.items in
-    let f = elements_text p.front.elements.items in
-    let last = subst (λ (t : List ℕ). IsContent t) (append-nil f) (elements_content p.front.elements.items [] Nothing) in
-    subst (λ (t : List ℕ). IsContent t)
-    (sym (append_assoc (g ++ b ++ l) a f ∙ append_assoc (g ++ b) l (a ++ f) ∙ append_assoc g b (l ++ (a ++ f))))
-    (elements_content p.ground.elements.items _ (elements_content p.back.elements.items _ (elements_content p.lives.elements.items _ (elements_content p.arrows.elements.items f last))))
+    let g = elements_text p.ground in
+    let b = elements_text p.back in
+    let l = elements_text p.lives in
+    let a = elements_text p.arrows in
+    let f = elements_text p.front in
+    let last = subst (λ (t : List ℕ). IsContent t) (append-nil f) (elements_content p.front [] Nothing) in
+    subst (λ (t : List ℕ). IsContent t) (sym (joined g b l a f))
+    (elements_content p.ground _ (elements_content p.back _ (elements_content p.lives _ (elements_content p.arrows f last))))
 
--- the text of each picture is a document
-pub is_document : (p : Picture) → IsDocument (picture_text p)
-unfolding picture_text
+-- the text of each painting is a document
+pub is_document : (p : Painting) → IsDocument (painting_text p)
+unfolding painting_text
 is_document p =
-    let front = tag_front Svg p.attributes.items in
+    let front = tag_front Svg p.attributes in
     let inner = content_text p in
     let end = end_tag Svg in
     record {
-      attributes = p.attributes.items;
+      attributes = p.attributes;
       content = codes "\n" ++ inner;
       well_formed = line_ended inner (content p);
       whole = append_assoc (front ++ codes ">\n" ++ inner) end (codes "\n") ∙ append_assoc (front ++ codes ">\n") inner (end ++ codes "\n") ∙ append_assoc front (codes ">\n") (inner ++ (end ++ codes "\n"));

@@ -1,3 +1,4 @@
 pub mod Documents
 mod Escaping
+pub mod Paintings
 mod Plainness

@@ -1,5 +1,5 @@
 -- How many arrows a chart has.
-use Rattle.std.specs.Prelude.{◌≡◌, ℕ, Bool, true, false, List, [], ◌∷◌, length, Some, None}
+use Rattle.std.specs.Prelude.{ℕ, List, [], ◌∷◌, length, Some, None}
 use Rattle.std.specs.List.{flat_map}
 use Rattle.rdm_trace.specs.declared.line.Line.{Line}
 use Rattle.rdm_trace.specs.declared.line.Line.TheVariants.{Send, Reply, Job, Heard, Arrive, Panel, Message, End}
@@ -7,8 +7,7 @@ use Rattle.rdm_trace.specs.declared.text.TraceError.{TraceError}
 use Rattle.rdm_trace.specs.declared.text.TraceError.TheVariants as trace
 use Rattle.rdm_chart.specs.declared.charting.ChartError.{ChartError}
 use Rattle.rdm_chart.specs.declared.charting.ChartError.TheVariants as chart
-use Rattle.rdm_chart.specs.declared.page.Picture.{Picture}
-use Rattle.rdm_chart.specs.Pictures.{picture_text}
+use Rattle.rdm_chart.specs.Pictures.{HasArrowCount}
 
 -- An arrow is drawn of each request, also of one that is lost; of each reply that is sent; of the start of each job and of its
 -- report; and of each change at the panel, also of one that is refused.
@@ -27,11 +26,9 @@ arrows_of End = []
 abbrev pub with_arrow : List Line → List Line
 with_arrow lines = flat_map arrows_of lines
 
--- The text is that of a picture with one arrow for each of them.
-pub record HasArrows (lines : List Line) (text : List ℕ) : Type 0 where
-  pub picture : Picture
-  pub drawn : text ≡ picture_text picture
-  pub each : length picture.arrows.elements.items ≡ length (with_arrow lines)
+-- The text is that of a painting with one arrow for each of them.
+abbrev pub HasArrows : List Line → List ℕ → Type 0
+HasArrows lines text = HasArrowCount (length (with_arrow lines)) text
 
 -- a line that is none of a trace is told by its number
 abbrev pub chart_error : TraceError → ChartError

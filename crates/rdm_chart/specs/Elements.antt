@@ -1,5 +1,5 @@
 -- The text of the elements of a picture (XML 1.0, fifth edition, section 3.1).
-use Rattle.std.specs.Prelude.{ℕ, List, [], ◌∷◌, ◌++◌, length, ◌==◌, if◌then◌else◌, chars, codes, string_bytes}
+use Rattle.std.specs.Prelude.{ℕ, List, ◌++◌, length, ◌==◌, if◌then◌else◌, chars, codes, string_bytes}
 use Rattle.std.specs.List.{flat_map}
 use Rattle.rdm_chart.specs.declared.element.Tag.{Tag}
 use Rattle.rdm_chart.specs.declared.element.Tag.TheVariants as tag

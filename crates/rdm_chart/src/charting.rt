@@ -2,7 +2,7 @@
 
 ghost use Rattle.std.specs.Prelude.{◌≡◌, ℕ, length, IfOk};
 ghost use Rattle.rdm_trace.specs.Traces.{pieces_of, lines_said, AreWhole, IsFirstUnread};
-ghost use Rattle.rdm_chart.specs.Pictures.{IsDocument};
+ghost use Rattle.rdm_chart.specs.Pictures.{IsDocument, HasArrowCount};
 ghost use Rattle.rdm_chart.specs.Arrows.{with_arrow, HasArrows, chart_error};
 ghost use Rattle.rdm_chart.specs.declared.charting.ChartError.TheVariants.{OutOfMemory};
 
@@ -36,23 +36,33 @@ pub fn chart(alloc: Global, trace: &[u8], known: &Known<'_>) -> Result<Vec<u8>, 
     ensures line { (number : ℕ) → result ≡ Err (ChartError.Line number) → IsFirstUnread (pieces_of trace.now) number }
 {
     let lines = lines_of(alloc, trace)?;
-    Ok(chart_of(alloc, lines.as_slice(), known)?)
+    let drawing = drawn(alloc, lines.as_slice(), known)?;
+    // they take more memory than what is drawn of them
+    drop(lines);
+    Ok(page_of(alloc, drawing)?)
 }
 
 /// The lines of a trace as a sequence chart: a document of SVG 1.1, in UTF-8. Fails only where memory is refused.
-#[tactic(auto, using(crate::proofs::Documents::is_document))]
 pub fn chart_of(alloc: Global, lines: &[Line], known: &Known<'_>) -> Result<Vec<u8>, AllocError>
     ensures document { IfOk result (λ svg. IsDocument svg.items) }
     ensures arrows { IfOk result (λ svg. HasArrows lines.now svg.items) }
 {
     let drawing = drawn(alloc, lines, known)?;
+    page_of(alloc, drawing)
+}
+
+/// The document of what is drawn.
+fn page_of(alloc: Global, drawing: Drawing) -> Result<Vec<u8>, AllocError>
+    ensures document { IfOk result (λ svg. IsDocument svg.items) }
+    ensures arrows { IfOk result (λ svg. HasArrowCount (length drawing.arrows.shapes.items) svg.items) }
+{
     let picture = Picture::of(alloc, drawing)?;
     Ok(picture.text(alloc)?.into_bytes())
 }
 
 /// What is drawn of lines.
 fn drawn(alloc: Global, lines: &[Line], known: &Known<'_>) -> Result<Drawing, AllocError>
-    ensures { IfOk result (λ drawing. length drawing.arrows.elements.items ≡ length (with_arrow lines.now)) }
+    ensures { IfOk result (λ drawing. length drawing.arrows.shapes.items ≡ length (with_arrow lines.now)) }
 {
     let cast = Cast::of(alloc, lines)?;
     let mut drawing = Drawing::new(alloc, cast)?;

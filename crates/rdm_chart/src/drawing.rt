@@ -61,7 +61,7 @@ pub(crate) struct Label<'a> {
 impl Drawing {
     /// The heads of those who take part.
     pub(crate) fn new(alloc: Global, cast: Cast) -> Result<Self, AllocError>
-        ensures { IfOk result (λ drawing. drawing.arrows.elements.items ≡ []) }
+        ensures { IfOk result (λ drawing. drawing.arrows.shapes.items ≡ []) }
     {
         let mut front = Svg::new(alloc);
         draw_heads(alloc, &mut front, &cast, TOP)?;
@@ -87,8 +87,8 @@ impl Drawing {
         line: &Line,
         known: &Known<'_>,
     ) -> Result<(), AllocError>
-        ensures { OnOk result (length self.new.arrows.elements.items
-            ≡ length self.old.arrows.elements.items + length (arrows_of line.now)) }
+        ensures { OnOk result (length self.new.arrows.shapes.items
+            ≡ length self.old.arrows.shapes.items + length (arrows_of line.now)) }
     {
         match line {
             Line::Send { bytes, fault } => {

@@ -2,7 +2,7 @@
 
 ghost use Rattle.std.specs.Prelude.{◌≡◌, ◌++◌, ◌∷◌, [], OnOk, IfOk, string_bytes};
 ghost use Rattle.std.specs.List.{flat_map};
-ghost use Rattle.rdm_chart.specs.Elements.{tag_name, key_name, attribute_text, attributes_text, tag_front, tag_rest, end_tag, element_text, elements_text};
+ghost use Rattle.rdm_chart.specs.Elements.{tag_name, key_name, attribute_text, attributes_text, tag_front, tag_rest, end_tag, element_text};
 
 use crate::escape::put_escaped;
 use std::alloc::{AllocError, Global};
@@ -122,19 +122,9 @@ impl Key {
     }
 }
 
-/// Puts elements at the end of markup, each on a line of its own.
-pub(crate) fn put_elements(markup: &mut String, elements: &[Element]) -> Result<(), AllocError>
-    ensures { OnOk result (string_bytes markup.new ≡ string_bytes markup.old ++ elements_text elements.now) }
-{
-    for element in elements {
-        put_element(markup, element)?;
-    }
-    Ok(())
-}
-
-/// Puts an element at the end.
+/// Puts an element at the end of markup, on a line of its own.
 #[tactic(auto, unfolding(crate::specs::Elements::element_text))]
-fn put_element(markup: &mut String, element: &Element) -> Result<(), AllocError>
+pub(crate) fn put_element(markup: &mut String, element: &Element) -> Result<(), AllocError>
     ensures { OnOk result (string_bytes markup.new ≡ string_bytes markup.old ++ element_text element.now) }
 {
     put_tag_front(markup, element.tag, element.attributes.as_slice())?;

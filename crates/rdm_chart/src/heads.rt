@@ -2,8 +2,9 @@
 
 use crate::cast::{Cast, Party};
 use crate::layout::{HEAD_BASE, HEAD_HEIGHT, HEAD_WIDTH, Px};
+use crate::shape::Area;
 use crate::style::Class;
-use crate::svg::{Area, Svg};
+use crate::svg::Svg;
 use std::alloc::{AllocError, Global};
 
 /// Draws the head of each lifeline, with its upper edge at this height.

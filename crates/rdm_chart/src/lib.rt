@@ -18,6 +18,7 @@ mod layout;
 mod lettering;
 mod page;
 mod recorded;
+mod shape;
 mod style;
 mod svg;
 mod transaction;

@@ -1,20 +1,18 @@
 //! The page around a chart.
 
-ghost use Rattle.std.specs.Prelude.{◌≡◌, ◌++◌, IfOk, OnOk, string_bytes};
-ghost use Rattle.rdm_chart.specs.Pictures.{content_text, picture_text};
+ghost use Rattle.std.specs.Prelude.{◌≡◌, IfOk, OnOk, length, string_bytes};
+ghost use Rattle.rdm_chart.specs.Pictures.{IsContentOf, HasArrowCount};
 
 use crate::cast::Cast;
 use crate::drawing::Drawing;
-use crate::element::{Attribute, Element, Key, Tag, put_elements, put_end_tag, put_tag_front};
+use crate::element::{Attribute, Element, Key, Tag, put_end_tag, put_tag_front};
 use crate::layout::{GAP, HEAD_HEIGHT, HEAD_WIDTH, MARGIN, Px, TITLE_Y, TOP};
-use crate::style::{Class, STYLE};
-use crate::svg::{Area, Svg};
+use crate::shape::{Area, Shape, TITLE_ID, put_shapes};
+use crate::style::Class;
+use crate::svg::Svg;
 use std::alloc::{AllocError, Global};
 
-/// By what name the document points to its title.
-const TITLE_ID: &str = "title";
-
-/// A picture: the attributes of its document, and its elements, in the order in which they are painted.
+/// A picture: the attributes of its document, and its layers, in the order in which they are painted.
 #[derive(Drop)]
 pub(crate) struct Picture {
     pub(crate) attributes: Vec<Attribute>,
@@ -49,29 +47,28 @@ impl Picture {
     }
 
     /// The document of the picture.
-    #[tactic(auto, unfolding(crate::specs::Pictures::picture_text))]
     pub(crate) fn text(&self, alloc: Global) -> Result<String, AllocError>
-        ensures text { IfOk result (λ text. string_bytes text ≡ picture_text self.now) }
+        ensures { IfOk result (λ text. HasArrowCount (length self.now.arrows.shapes.items) (string_bytes text)) }
     {
         let mut text = String::new(alloc);
         put_tag_front(&mut text, Tag::Svg, self.attributes.as_slice())?;
         text.push_str(">\n")?;
-        self.put_content(&mut text)?;
+        self.put_content(&mut text, alloc)?;
         put_end_tag(&mut text, Tag::Svg)?;
         text.push_str("\n")?;
         Ok(text)
     }
 
     /// Puts the elements of the picture.
-    #[tactic(auto, unfolding(crate::specs::Pictures::content_text))]
-    fn put_content(&self, text: &mut String) -> Result<(), AllocError>
-        ensures { OnOk result (string_bytes text.new ≡ string_bytes text.old ++ content_text self.now) }
+    fn put_content(&self, text: &mut String, alloc: Global) -> Result<(), AllocError>
+        ensures { OnOk result (IsContentOf self.now (string_bytes text.old) (string_bytes text.new)) }
     {
-        put_elements(text, self.ground.elements.as_slice())?;
-        put_elements(text, self.back.elements.as_slice())?;
-        put_elements(text, self.lives.elements.as_slice())?;
-        put_elements(text, self.arrows.elements.as_slice())?;
-        put_elements(text, self.front.elements.as_slice())
+        put_shapes(text, alloc, self.ground.shapes.as_slice())?;
+        put_shapes(text, alloc, self.back.shapes.as_slice())?;
+        put_shapes(text, alloc, self.lives.shapes.as_slice())?;
+        put_shapes(text, alloc, self.arrows.shapes.as_slice())?;
+        put_shapes(text, alloc, self.front.shapes.as_slice())?;
+        Ok(())
     }
 }
 
@@ -97,13 +94,9 @@ fn attributes_of(alloc: Global, width: Px, height: Px) -> Result<Vec<Attribute>,
 fn ground(alloc: Global, transactions: u64, width: Px, height: Px) -> Result<Svg, AllocError> {
     let words = format!(in alloc; "A trace: {transactions} transactions")?;
     let mut svg = Svg::new(alloc);
-    let mut title = Element::new(alloc, Tag::Title);
-    title.say(Key::Id, String::from_str(alloc, TITLE_ID)?)?;
-    title.words.push_str(words.as_str())?;
-    svg.elements.push(title)?;
-    let mut style = Element::new(alloc, Tag::Style);
-    style.words.push_str(STYLE)?;
-    svg.elements.push(style)?;
+    let title = String::from_str(alloc, words.as_str())?;
+    svg.shapes.push(Shape::Title(title))?;
+    svg.shapes.push(Shape::Style)?;
     let area = Area {
         x: 1,
         y: 1,

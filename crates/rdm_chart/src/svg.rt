@@ -1,40 +1,31 @@
-//! What is drawn, element by element.
+//! What is drawn, shape by shape.
 
 ghost use Rattle.std.specs.Prelude.{◌≡◌, [], OnOk};
 ghost use Rattle.rdm_chart.specs.Pictures.{IsOneMore};
 
-use crate::element::{Element, Key, Tag};
-use crate::layout::{Px, TIP_LENGTH};
+use crate::layout::Px;
+use crate::shape::{Area, Shape, Way};
 use crate::style::Class;
 use std::alloc::{AllocError, Global};
 
-/// Elements of SVG, in the order in which they are painted.
+/// What is drawn in a layer, in the order in which it is painted.
 #[derive(Drop)]
 pub(crate) struct Svg {
-    pub(crate) elements: Vec<Element>,
-}
-
-/// A rectangle: its upper left corner and its size.
-#[derive(Clone, Copy)]
-pub(crate) struct Area {
-    pub(crate) x: Px,
-    pub(crate) y: Px,
-    pub(crate) width: Px,
-    pub(crate) height: Px,
+    pub(crate) shapes: Vec<Shape>,
 }
 
 impl Svg {
-    /// No elements.
+    /// Nothing.
     pub(crate) fn new(alloc: Global) -> Self
-        ensures { result.elements.items ≡ [] }
+        ensures { result.shapes.items ≡ [] }
     {
         Svg {
-            elements: Vec::new(alloc),
+            shapes: Vec::new(alloc),
         }
     }
 
     fn alloc(&self) -> Global {
-        *self.elements.allocator()
+        *self.shapes.allocator()
     }
 
     /// A text, from this place on its base line, or as its class says.
@@ -45,48 +36,31 @@ impl Svg {
         y: Px,
         words: &str,
     ) -> Result<(), AllocError> {
-        let alloc = self.alloc();
-        let mut text = element_of(alloc, Tag::Text, class)?;
-        text.say(Key::X, format!(in alloc; "{x}")?)?;
-        text.say(Key::Y, format!(in alloc; "{y}")?)?;
-        text.words.push_str(words)?;
-        Ok(self.elements.push(text)?)
+        let words = String::from_str(self.alloc(), words)?;
+        Ok(self.shapes.push(Shape::Text { class, x, y, words })?)
     }
 
     /// A rectangle with corners of this radius.
     pub(crate) fn area(&mut self, class: Class, area: Area, radius: Px) -> Result<(), AllocError> {
-        let alloc = self.alloc();
-        let mut rect = element_of(alloc, Tag::Rect, class)?;
-        let Area {
-            x,
-            y,
-            width,
-            height,
-        } = area;
-        for (key, length) in [
-            (Key::X, x),
-            (Key::Y, y),
-            (Key::Width, width),
-            (Key::Height, height),
-            (Key::Radius, radius),
-        ] {
-            rect.say(key, format!(in alloc; "{length}")?)?;
-        }
-        Ok(self.elements.push(rect)?)
+        Ok(
+            self.shapes.push(Shape::Rect {
+                class,
+                area,
+                radius,
+            })?,
+        )
     }
 
     /// A line from left to right or back.
     pub(crate) fn across(&mut self, class: Class, from: Px, to: Px, y: Px) -> Result<(), AllocError>
         ensures { OnOk result (IsOneMore self.old self.new) }
     {
-        let way = format!(in self.alloc(); "M {from} {y} H {to}")?;
-        self.path(class, way)
+        self.path(class, Way::Across { from, to, y })
     }
 
     /// A line downwards.
     pub(crate) fn down(&mut self, class: Class, x: Px, from: Px, to: Px) -> Result<(), AllocError> {
-        let way = format!(in self.alloc(); "M {x} {from} V {to}")?;
-        self.path(class, way)
+        self.path(class, Way::Down { x, from, to })
     }
 
     /// The tip of an arrow that ends here, pointing to the right or to the left.
@@ -97,30 +71,18 @@ impl Svg {
         y: Px,
         to_the_right: bool,
     ) -> Result<(), AllocError> {
-        let back = if to_the_right { "-" } else { "" };
-        let way = format!(in self.alloc(); "M {x} {y} l {back}{TIP_LENGTH} -5 v 10 z")?;
-        self.path(class, way)
+        self.path(class, Way::Tip { x, y, to_the_right })
     }
 
     /// A cross with its centre here.
     pub(crate) fn cross(&mut self, x: Px, y: Px) -> Result<(), AllocError> {
-        let way = format!(in self.alloc(); "M {x} {y} m -6 -6 l 12 12 m 0 -12 l -12 12")?;
-        self.path(Class::Cross, way)
+        self.path(Class::Cross, Way::Cross { x, y })
     }
 
     /// A line that goes this way.
-    fn path(&mut self, class: Class, way: String) -> Result<(), AllocError>
+    fn path(&mut self, class: Class, way: Way) -> Result<(), AllocError>
         ensures { OnOk result (IsOneMore self.old self.new) }
     {
-        let mut path = element_of(self.alloc(), Tag::Path, class)?;
-        path.say(Key::Way, way)?;
-        Ok(self.elements.push(path)?)
+        Ok(self.shapes.push(Shape::Path { class, way })?)
     }
-}
-
-/// An element that looks so.
-fn element_of(alloc: Global, tag: Tag, class: Class) -> Result<Element, AllocError> {
-    let mut element = Element::new(alloc, tag);
-    element.say(Key::Class, String::from_str(alloc, class.name())?)?;
-    Ok(element)
 }

@@ -13,8 +13,8 @@ use crate::layout::{
     RESPONDER_X, TAG_HEIGHT, TAG_WIDTH,
 };
 use crate::page::width_of;
+use crate::shape::Area;
 use crate::style::Class;
-use crate::svg::Area;
 use crate::wording::{reply_words, request_words};
 use rdm_bus::{Fault, Heard};
 use rdm_frame::Wire;
@@ -102,7 +102,7 @@ pub(crate) fn draw_reply(
     reply: &Option<Wire>,
     known: &Known<'_>,
 ) -> Result<(), AllocError>
-    ensures { OnOk result (length drawing.new.arrows.elements.items ≡ length drawing.old.arrows.elements.items + length (arrows_of (Reply reply.now))) }
+    ensures { OnOk result (length drawing.new.arrows.shapes.items ≡ length drawing.old.arrows.shapes.items + length (arrows_of (Reply reply.now))) }
 {
     let Some(bytes) = reply else {
         return draw_silence(drawing);

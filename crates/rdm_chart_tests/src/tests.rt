@@ -59,6 +59,47 @@ fn each_message_has_its_arrow(rt: HostRuntime) -> Result<(), Fail> {
     Ok(())
 }
 
+/// Each worker has a lifeline, and a job goes to that of its own.
+const WORKERS: &[u8] = b"job 0 0\njob 1 0\narrive 1 0 done\nend\n";
+
+/// A request that nobody hears, so that no reply is missed.
+const UNHEARD: &[u8] = b"send CC01187FF0000000017FF00000000200010000002010000003F7 lost-request
+reply none
+heard nothing
+end
+";
+
+/// A label that has no room beside the words before it.
+const BROKEN: &[u8] =
+    b"send CC01387FF0000000017FF00000000200010000003000822057575757575757575757575757575757575757575757575757575757575757570F99
+end
+";
+
+#[test]
+fn rows_of_charts(rt: HostRuntime) -> Result<(), Fail> {
+    for (trace, part, expected) in [
+        (WORKERS, "class=\"name\"", 4),
+        (WORKERS, ">worker 0</text>", 1),
+        (WORKERS, ">worker 1</text>", 1),
+        // from the responder to each worker, less the tip of an arrow; the second has its lifeline, that tip, and a report
+        (WORKERS, " H 910\"", 1),
+        (WORKERS, " H 1060\"", 1),
+        (WORKERS, "\"M 1070 ", 3),
+        (UNHEARD, "class=\"arrow lost\"", 1),
+        (UNHEARD, "no reply", 0),
+        (BROKEN, ">SET DEVICE_LABEL:</text>", 1),
+        (
+            BROKEN,
+            ">&quot;WWWWWWWWWWWWWWWWWWWWWWWWWWWWWWWW&quot;</text>",
+            1,
+        ),
+    ] {
+        let found = count(rt.alloc(), trace, part)?;
+        assert_eq!(rt; found, expected, "{part}");
+    }
+    Ok(())
+}
+
 #[test]
 fn a_trace_is_drawn_as_far_as_it_goes(rt: HostRuntime) -> Result<(), Fail> {
     let mut whole = 0usize;

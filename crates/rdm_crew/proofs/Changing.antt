@@ -109,7 +109,7 @@ pub sent_keeps : (p : Step) (c d : Crew) (r : Result Unit Stop) → IsSent p →
 sent_keeps p c d (Ok u) sent played same has = subst (HasChanges d.desk) (sym same) (sent_has p c.desk d.desk c.changes sent played.1 has)
 sent_keeps p c d (Err why) sent played same has = tt
 
-pub drawn_keeps : (c d : Crew) (r : Result Unit Stop) → MatchResult r (λ _. IsTied d × HasPlayed Draw c.desk d.desk) (λ why. IsStopped (Draw ∷ []) d why) → d.changes ≡ c.changes → HasChanges c.desk c.changes
+pub drawn_keeps : (c d : Crew) (r : Result Unit Stop) → MatchResult r (λ _. IsTied d × HasPlayed Draw c.desk d.desk) (λ why. IsStopped Draw d why) → d.changes ≡ c.changes → HasChanges c.desk c.changes
     → OnOk r (HasChanges d.desk d.changes)
 drawn_keeps c d (Ok u) played same has = subst (HasChanges d.desk) (sym same) (arrived_has c.desk d.desk c.changes (played.1.0, played.1.1, played.1.2.0) has)
 drawn_keeps c d (Err why) played same has = tt

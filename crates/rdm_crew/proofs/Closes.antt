@@ -1,13 +1,11 @@
 -- Nothing of a worker comes after its close, by the law of the report lane.
 use Rattle.std.proofs.Common.{◌≡◌, ℕ, zero, suc, ◌+◌, ◌<◌, ◌≢◌, ◌==◌, Bool, true, false, cond, List, [], ◌∷◌, ◌++◌, refl, sym, ap, subst, ◌∙◌, arith, append_assoc, ⊎_elim}
-use Rattle.std.specs.Prelude.{Result, Ok, Err, IfOk}
 use Rattle.std.specs.List.{list_any}
 use Rattle.std.proofs.lemmas.Bool.{eqb-true, eq-eqb}
 use Rattle.std.proofs.lemmas.Bool.Decides.{eqb_tells}
 use Rattle.std.proofs.lemmas.List.Elements.{filter-append}
 use Rattle.rdm_params.specs.Jobs.Work.{worker_of}
 use Rattle.rdm_responder.specs.declared.report.Report.{Report}
-use Rattle.rdm_bus.specs.declared.event.Event.{Event}
 use Rattle.rdm_bus.specs.Happened.{reports_of}
 use Rattle.rdm_bus.specs.Headline.{Handed, Result as Came, Close, results_in, NothingAfterClose}
 use Rattle.rdm_lane.specs.declared.taken.Taken.{Taken}
@@ -15,8 +13,6 @@ use Rattle.rdm_lane.specs.declared.taken.Taken.TheVariants.{Item, Mark, Empty, C
 use Rattle.rdm_lane.specs.Ends.{IsOver}
 use Rattle.rdm_lane.specs.Lane.{is_from, of, is_mark, has_mark, numbered, items_of, items_from}
 use Rattle.rdm_crew.specs.declared.bus.desk.Desk.{Desk}
-use Rattle.rdm_crew.specs.declared.error.RunError.{RunError}
-use Rattle.rdm_crew.specs.declared.trace.Ended.{Ended}
 use Rattle.rdm_crew.specs.Closes.{handed_by, HasClosed, IsHandedOver, AfterTheMarkIsRuledOut}
 use Rattle.rdm_crew.specs.Desks.{OfTwo, IsDrawn}
 use Rattle.rdm_crew.specs.Settling.{IsTakenOf}
@@ -170,12 +166,3 @@ not_later (Closed ∷ before) between after p n r closed = not_later before betw
 
 pub after_the_mark : AfterTheMarkIsRuledOut
 after_the_mark setup steps before between after p n r events collected law = not_later before between after p n r law.headline.nothing_after_close
-
--- ---- the run
-
-pub handed_in : (d : Desk) (r : Result Ended RunError) → IfOk r (λ e. e.system.trace ≡ d.system.trace) → IfOk r (λ e. e.reports.taken ≡ d.reports.taken)
-    → IfOk r (λ e. IsHandedOver d.system.trace (handed_by d.reports.taken)) → IfOk r (λ e. IsHandedOver e.system.trace (handed_by e.reports.taken))
-handed_in d (Ok e) events taken over =
-    subst (λ (es : List Event). IsHandedOver es (handed_by e.reports.taken)) (sym events)
-    (subst (λ (l : List (Taken Report)). IsHandedOver d.system.trace (handed_by l)) (sym taken) over)
-handed_in d (Err e) events taken over = tt

@@ -2,6 +2,7 @@ pub mod Accounts
 pub mod Items
 pub mod Drawing
 pub mod Playing
+pub mod Stopping
 pub mod Working
 pub mod Law
 pub mod Sorted

@@ -1,7 +1,6 @@
 -- What each step makes of a crew.
-use Rattle.std.proofs.Common.{◌≡◌, ℕ, zero, suc, ◌+◌, ◌<◌, ◌==◌, List, [], ◌∷◌, ◌++◌, length, drop, get_or, Option, Some, None, refl, sym, ap, subst, ◌∙◌, arith, append_assoc, append-nil, add-one}
-use Rattle.std.specs.Prelude.{Result, Ok, Err, MatchResult, slice_get}
-use Rattle.std.specs.Option.{option_or}
+use Rattle.std.proofs.Common.{◌≡◌, ℕ, ◌+◌, ◌<◌, ◌==◌, List, [], ◌∷◌, ◌++◌, length, drop, get_or, Some, refl, sym, ap, subst, ◌∙◌, arith, append_assoc, append-nil, add-one}
+use Rattle.std.specs.Prelude.{Result, Ok, Err, MatchResult}
 use Rattle.std.proofs.Math.Seq.{drop-cons}
 use Rattle.std.proofs.lemmas.List.Elements.{filter-append}
 use Rattle.rdm_params.specs.declared.panel.Change.{Change}
@@ -33,7 +32,7 @@ use Rattle.rdm_crew.specs.declared.bus.stop.Stop.TheVariants as stop
 use Rattle.rdm_crew.specs.Crews.{HasJobs, HasChanged, IsTied, IsSameCrew, IsSent, HasSent, HasPlayed, HavePlayed, IsRefused, IsStopped}
 use Rattle.rdm_crew.specs.Desks.{stands_at, HasRun, OfTwo, IsDrawn, IsSameDesk, HasArrived, HaveArrived, HaveSettled, IsCutShort, AfterDraw}
 use Rattle.rdm_bus.specs.Happened.{started_in, arrived_in, jobs_in, reports_in}
-use Rattle.rdm_crew.specs.RunTrace.{AreArrivals, IsCut, HasSettle, first_refusal, refusal_at}
+use Rattle.rdm_crew.specs.RunTrace.{AreArrivals, IsCut, refusal_at}
 use Rattle.rdm_crew.specs.Stops.{stop_of}
 use Rattle.rdm_crew.specs.Workers.{most}
 use Rattle.rdm_crew.proofs.Accounts.{IsNextJob, Each, Tells, event_starts, run_tells}
@@ -146,16 +145,16 @@ changed_tied c d change event tied done first second =
 
 -- ---- a step
 
-ask_stops : (s : CrewStep) (p : Step) (c : Crew) (why : Stop) → refusal_in p ≡ refusal_at s → IsRefused p why → IsStopped (s ∷ []) c why
+ask_stops : (s : CrewStep) (p : Step) (c : Crew) (why : Stop) → refusal_in p ≡ refusal_at s → IsRefused p why → IsStopped s c why
 ask_stops s p c stop.OutOfMemory same is = tt
-ask_stops s p c stop.Reserved same is = ap (λ (o : Option PlayError). option_or o None) (sym same ∙ is)
-ask_stops s p c stop.TooLong same is = ap (λ (o : Option PlayError). option_or o None) (sym same ∙ is)
+ask_stops s p c stop.Reserved same is = sym same ∙ is
+ask_stops s p c stop.TooLong same is = sym same ∙ is
 ask_stops s p c stop.Unsettled same is = absurd is
 ask_stops s p c stop.Astray same is = absurd is
 
 -- a command or a poll is the piece of its step
 pub asked : (s : CrewStep) (p : Step) (c d : Crew) (r : Result Unit Stop) → refusal_in p ≡ refusal_at s → (HasSent p c.desk d.desk → HasPlayed s c.desk d.desk)
-    → MatchResult r (λ _. IsTied d × HasSent p c.desk d.desk) (λ why. IsRefused p why) → MatchResult r (λ _. IsTied d × HasPlayed s c.desk d.desk) (λ why. IsStopped (s ∷ []) d why)
+    → MatchResult r (λ _. IsTied d × HasSent p c.desk d.desk) (λ why. IsRefused p why) → MatchResult r (λ _. IsTied d × HasPlayed s c.desk d.desk) (λ why. IsStopped s d why)
 asked s p c d (Ok u) same piece is = (is.0, piece is.1)
 asked s p c d (Err why) same piece is = ask_stops s p d why same is
 
@@ -179,9 +178,9 @@ still_tied c d tied drawn arrived first second =
       second_limit = ap (λ (p : PostState Job). p.limit) second ∙ tied.second_limit;
     }
 
-cut_stops : (c d : Crew) (n : ℕ) (why : Stop) → IsTied c → d.first ≡ c.first → d.second ≡ c.second → IsCutShort c.desk d.desk why → IsStopped (Settle n ∷ []) d why
+cut_stops : (c d : Crew) (n : ℕ) (why : Stop) → IsTied c → d.first ≡ c.first → d.second ≡ c.second → IsCutShort c.desk d.desk why → IsStopped (Settle n) d why
 cut_stops c d n stop.OutOfMemory tied first second is = tt
-cut_stops c d n stop.Unsettled tied first second is = (0, n, refl)
+cut_stops c d n stop.Unsettled tied first second is = (n, refl)
 cut_stops c d n stop.Astray tied first second is = (
   is.0,
   (
@@ -194,28 +193,28 @@ cut_stops c d n stop.TooLong tied first second is = absurd is
 
 pub settled : (c d : Crew) (n : ℕ) (r : Result Unit Stop) → IsTied c → d.first ≡ c.first → d.second ≡ c.second
     → MatchResult r (λ _. IsDrawn d.desk × HaveSettled c.desk d.desk) (λ why. IsCutShort c.desk d.desk why)
-    → MatchResult r (λ _. IsTied d × HasPlayed (Settle n) c.desk d.desk) (λ why. IsStopped (Settle n ∷ []) d why)
+    → MatchResult r (λ _. IsTied d × HasPlayed (Settle n) c.desk d.desk) (λ why. IsStopped (Settle n) d why)
 settled c d n (Ok u) tied first second is = (still_tied c d tied is.0 (is.1.0, is.1.1, is.1.2.0) first second, (is.1.0, is.1.1, is.1.2))
 settled c d n (Err why) tied first second is = cut_stops c d n why tied first second is
 
 pub settled_step : (c d : Crew) (s : CrewStep) (n : ℕ) (r : Result Unit Stop) → s ≡ Settle n → IsTied c → d.first ≡ c.first → d.second ≡ c.second
     → MatchResult r (λ _. IsDrawn d.desk × HaveSettled c.desk d.desk) (λ why. IsCutShort c.desk d.desk why)
-    → MatchResult r (λ _. IsTied d × HasPlayed s c.desk d.desk) (λ why. IsStopped (s ∷ []) d why)
+    → MatchResult r (λ _. IsTied d × HasPlayed s c.desk d.desk) (λ why. IsStopped s d why)
 settled_step c d s n r is tied first second after =
-    subst (λ (t : CrewStep). MatchResult r (λ _. IsTied d × HasPlayed t c.desk d.desk) (λ why. IsStopped (t ∷ []) d why)) (sym is) (settled c d n r tied first second after)
+    subst (λ (t : CrewStep). MatchResult r (λ _. IsTied d × HasPlayed t c.desk d.desk) (λ why. IsStopped t d why)) (sym is) (settled c d n r tied first second after)
 
 pub asked_step : (c d : Crew) (s : CrewStep) (q : Command) (f : Fault) (r : Result Unit Stop) → s ≡ Ask q f
     → MatchResult r (λ _. IsTied d × HasSent (bus.Ask q f) c.desk d.desk) (λ why. IsRefused (bus.Ask q f) why)
-    → MatchResult r (λ _. IsTied d × HasPlayed s c.desk d.desk) (λ why. IsStopped (s ∷ []) d why)
+    → MatchResult r (λ _. IsTied d × HasPlayed s c.desk d.desk) (λ why. IsStopped s d why)
 asked_step c d s q f r is after =
-    subst (λ (t : CrewStep). MatchResult r (λ _. IsTied d × HasPlayed t c.desk d.desk) (λ why. IsStopped (t ∷ []) d why)) (sym is)
+    subst (λ (t : CrewStep). MatchResult r (λ _. IsTied d × HasPlayed t c.desk d.desk) (λ why. IsStopped t d why)) (sym is)
     (asked (Ask q f) (bus.Ask q f) c d r refl (ask_piece q f c.desk d.desk) after)
 
 pub collected_step : (c d : Crew) (s : CrewStep) (f : Fault) (r : Result Unit Stop) → s ≡ Collect f
     → MatchResult r (λ _. IsTied d × HasSent (bus.Collect f) c.desk d.desk) (λ why. IsRefused (bus.Collect f) why)
-    → MatchResult r (λ _. IsTied d × HasPlayed s c.desk d.desk) (λ why. IsStopped (s ∷ []) d why)
+    → MatchResult r (λ _. IsTied d × HasPlayed s c.desk d.desk) (λ why. IsStopped s d why)
 collected_step c d s f r is after =
-    subst (λ (t : CrewStep). MatchResult r (λ _. IsTied d × HasPlayed t c.desk d.desk) (λ why. IsStopped (t ∷ []) d why)) (sym is)
+    subst (λ (t : CrewStep). MatchResult r (λ _. IsTied d × HasPlayed t c.desk d.desk) (λ why. IsStopped t d why)) (sym is)
     (asked (Collect f) (bus.Collect f) c d r refl (collect_piece f c.desk d.desk) after)
 
 pub arrived_is : (d e : Desk) (x : Drawn) → x ≡ drawn.Arrived → AfterDraw d e (Ok x) → IsDrawn e × HasArrived d e
@@ -225,7 +224,7 @@ pub empty_is : (d e : Desk) (x : Drawn) → x ≡ drawn.Empty → AfterDraw d e 
 empty_is d e x is after = subst (λ (y : Drawn). AfterDraw d e (Ok y)) is after
 
 -- a draw that ends early
-pub draw_stops : (c d : Crew) (why : Stop) → IsTied c → d.first ≡ c.first → d.second ≡ c.second → AfterDraw c.desk d.desk (Err why) → IsStopped (Draw ∷ []) d why
+pub draw_stops : (c d : Crew) (why : Stop) → IsTied c → d.first ≡ c.first → d.second ≡ c.second → AfterDraw c.desk d.desk (Err why) → IsStopped Draw d why
 draw_stops c d stop.OutOfMemory tied first second is = tt
 draw_stops c d stop.Unsettled tied first second is = absurd is
 draw_stops c d stop.Astray tied first second is = (
@@ -251,59 +250,26 @@ drawn_none c d tied drawn still first second =
 
 -- ---- all steps
 
--- The steps up to these were played: with pieces for these the events are cut, and none of those is refused.
+-- The steps up to these were played: with pieces for these the events are cut.
 abbrev pub IsPlayedSoFar : List CrewStep → List CrewStep → Desk → Desk → Type 0
 IsPlayedSoFar steps left d e =
-    (first_refusal steps ≡ first_refusal left)
-    × ((k n : ℕ) → slice_get left k ≡ Some (Settle n) → HasSettle steps)
-    × ((es : List Event) × (e.system.trace ≡ d.system.trace ++ es) × ((rest : List Event) → IsCut (stands_at e) left rest → IsCut (stands_at d) steps (es ++ rest)))
+    (es : List Event) × (e.system.trace ≡ d.system.trace ++ es) × ((rest : List Event) → IsCut (stands_at e) left rest → IsCut (stands_at d) steps (es ++ rest))
 
 pub none_played : (steps : List CrewStep) (d : Desk) → IsPlayedSoFar steps steps d d
-none_played steps d = (refl, (λ k n at. (k, n, at)), ([], sym (append-nil d.system.trace), λ rest cut. cut))
+none_played steps d = ([], sym (append-nil d.system.trace), λ rest cut. cut)
 
-or_next : (o p : Option PlayError) → option_or o None ≡ None → option_or o p ≡ p
-or_next None p e = refl
-or_next (Some x) p e = absurd cc
-
-not_refused : (s : CrewStep) (left : List CrewStep) → first_refusal (s ∷ []) ≡ None → first_refusal (s ∷ left) ≡ first_refusal left
-not_refused s left none = or_next (refusal_at s) (first_refusal left) none
-
-pub one_played : (steps left : List CrewStep) (s : CrewStep) (d m e : Desk) → IsSameDesk d m → IsPlayedSoFar steps (s ∷ left) d m → HasPlayed s m e → first_refusal (s ∷ []) ≡ None → IsSameDesk m e → IsPlayedSoFar steps left d e
-one_played steps left s d m e same before one none same' =
+pub one_played : (steps left : List CrewStep) (s : CrewStep) (d m e : Desk) → IsSameDesk d m → IsPlayedSoFar steps (s ∷ left) d m → HasPlayed s m e → IsSameDesk m e → IsPlayedSoFar steps left d e
+one_played steps left s d m e same before one same' =
     let at : stands_at e ≡ after_all (stands_at m) one.0 = stands_after m e one.0 same'.0 one.1 in (
-      before.0 ∙ not_refused s left none,
-      (λ k n found. before.1 (suc k) n found),
-      (
-        before.2.0 ++ one.0,
-        one.1 ∙ ap (λ (l : List Event). l ++ one.0) before.2.1 ∙ append_assoc d.system.trace before.2.0 one.0,
-        λ rest cut.
-            subst (IsCut (stands_at d) steps) (sym (append_assoc before.2.0 one.0 rest))
-            (before.2.2 (one.0 ++ rest) (one.0, rest, refl, one.2, subst (λ (b : Start). IsCut b left rest) at cut)),
-      ),
+      before.0 ++ one.0,
+      one.1 ∙ ap (λ (l : List Event). l ++ one.0) before.1 ∙ append_assoc d.system.trace before.0 one.0,
+      λ rest cut.
+          subst (IsCut (stands_at d) steps) (sym (append_assoc before.0 one.0 rest))
+          (before.2 (one.0 ++ rest) (one.0, rest, refl, one.2, subst (λ (b : Start). IsCut b left rest) at cut)),
     )
 
 pub all_played : (steps : List CrewStep) (d e : Desk) → IsPlayedSoFar steps [] d e → HavePlayed steps d e
-all_played steps d e before = (before.2.0, before.2.1, λ last is. before.2.2 last is)
-
-or_first : (o p : Option PlayError) (x : PlayError) → option_or o None ≡ Some x → option_or o p ≡ Some x
-or_first None p x e = absurd cc
-or_first (Some y) p x e = e
-
-or_too_long : (o p : Option PlayError) → option_or o None ≡ Some refused.TooLong → option_or o p ≡ Some refused.TooLong
-or_too_long None p e = absurd cc
-or_too_long (Some y) p e = e
-
-settle_in : (steps left : List CrewStep) (s : CrewStep) → HasSettle (s ∷ []) → ((k n : ℕ) → slice_get (s ∷ left) k ≡ Some (Settle n) → HasSettle steps) → HasSettle steps
-settle_in steps left s (zero, n, at) tells = tells 0 n at
-settle_in steps left s (suc k, n, at) tells = absurd cc
-
--- why the steps end early is told of all steps
-pub stopped : (steps left : List CrewStep) (s : CrewStep) (d m : Desk) (c : Crew) (why : Stop) → IsPlayedSoFar steps (s ∷ left) d m → IsStopped (s ∷ []) c why → IsStopped steps c why
-stopped steps left s d m c stop.OutOfMemory before is = tt
-stopped steps left s d m c stop.Reserved before is = before.0 ∙ or_first (refusal_at s) (first_refusal left) refused.Reserved is
-stopped steps left s d m c stop.TooLong before is = before.0 ∙ or_too_long (refusal_at s) (first_refusal left) is
-stopped steps left s d m c stop.Unsettled before is = settle_in steps left s is before.1
-stopped steps left s d m c stop.Astray before is = is
+all_played steps d e before = (before.0, before.1, λ last is. before.2 last is)
 
 pub same_crew : (c d e : Crew) → IsSameCrew c d → IsSameCrew d e → IsSameCrew c e
 same_crew c d e one two = (
@@ -321,8 +287,5 @@ module _ (steps : List CrewStep) (i : ℕ) (x s : CrewStep) (at : s ≡ get_or s
       subst (λ (l : List CrewStep). IsPlayedSoFar steps l d m)
       (drop-cons steps i x lt ∙ ap (λ (k : ℕ). get_or steps i x ∷ drop k steps) (sym (add-one i)) ∙ ap (λ (t : CrewStep). t ∷ drop (i + 1) steps) (sym at)) before
 
-  pub step_stops : (c : Crew) (why : Stop) → IsStopped (s ∷ []) c why → IsStopped steps c why
-  step_stops c why is = stopped steps (drop (i + 1) steps) s d m c why from_here is
-
-  pub step_done : (e : Desk) → IsSameDesk d m → HasPlayed s m e → first_refusal (s ∷ []) ≡ None → IsSameDesk m e → IsPlayedSoFar steps (drop (i + 1) steps) d e
-  step_done e same one none same' = one_played steps (drop (i + 1) steps) s d m e same from_here one none same'
+  pub step_done : (e : Desk) → IsSameDesk d m → HasPlayed s m e → IsSameDesk m e → IsPlayedSoFar steps (drop (i + 1) steps) d e
+  step_done e same one same' = one_played steps (drop (i + 1) steps) s d m e same from_here one same'

@@ -1,6 +1,5 @@
 -- The whole run: the pieces of the steps, and the last piece.
 use Rattle.std.proofs.Common.{◌≡◌, ℕ, List, [], ◌++◌, sym, ap, subst, ◌∙◌}
-use Rattle.std.specs.Prelude.{Result, Ok, Err, IfOk}
 use Rattle.rdm_params.specs.declared.panel.Change.{Change}
 use Rattle.rdm_params.specs.declared.jobs.outcome.Outcome.{Outcome}
 use Rattle.rdm_outbox.specs.declared.job.Job.{Job}
@@ -11,7 +10,6 @@ use Rattle.rdm_bus.specs.BusRun.{Start, after_all}
 use Rattle.rdm_lane.specs.Ends.{PostState}
 use Rattle.rdm_crew.specs.declared.bus.crew.Crew.{Crew}
 use Rattle.rdm_crew.specs.declared.bus.desk.Desk.{Desk}
-use Rattle.rdm_crew.specs.declared.error.RunError.{RunError}
 use Rattle.rdm_crew.specs.declared.step.CrewStep.{CrewStep}
 use Rattle.rdm_crew.specs.declared.trace.Ended.{Ended}
 use Rattle.rdm_crew.specs.Crews.{HasJobs, IsTied, HavePlayed}
@@ -35,9 +33,8 @@ run_cut steps d m e new same played arrived none =
     let events : e.system.trace ≡ played.0 ++ arrived.0 = arrived.1 ∙ ap (λ (l : List Event). l ++ arrived.0) (played.1 ∙ ap (λ (l : List Event). l ++ played.0) new) in
     subst (IsCut (began d) steps) (sym events) (subst (λ (l : List Event). IsCut (after_all (began d) l) steps (played.0 ++ arrived.0)) new last)
 
-pub run_trace : (steps : List CrewStep) (d m e : Desk) (g0 g1 : Job → Outcome → Type 0) (offers : ℕ → Change → Type 0) (r : Result Ended RunError) → d.system.trace ≡ [] → IsSameDesk m e → HavePlayed steps d m → HaveArrived m e
-    → IfOk r (λ t. t.system.trace ≡ e.system.trace) → IfOk r (λ t. outstanding_count (outbox_of (stands_at e).history) ≡ 0) → IfOk r (λ t. IsAnswered 0 g0 e.system.trace) → IfOk r (λ t. IsAnswered 1 g1 e.system.trace)
-    → IfOk r (λ t. AreOffered offers 0 (changes_in e.system.trace)) → IfOk r (λ t. IsRunTrace d.setup.value g0 g1 offers steps t.system.trace)
-run_trace steps d m e g0 g1 offers (Ok t) new same played arrived events none first second changes =
+pub run_trace : (steps : List CrewStep) (d m e : Desk) (g0 g1 : Job → Outcome → Type 0) (offers : ℕ → Change → Type 0) (t : Ended) → d.system.trace ≡ [] → IsSameDesk m e → HavePlayed steps d m → HaveArrived m e
+    → t.system.trace ≡ e.system.trace → outstanding_count (outbox_of (stands_at e).history) ≡ 0 → IsAnswered 0 g0 e.system.trace → IsAnswered 1 g1 e.system.trace
+    → AreOffered offers 0 (changes_in e.system.trace) → IsRunTrace d.setup.value g0 g1 offers steps t.system.trace
+run_trace steps d m e g0 g1 offers t new same played arrived events none first second changes =
     subst (IsRunTrace d.setup.value g0 g1 offers steps) (sym events) (record { cut = run_cut steps d m e new same played arrived none; first = first; second = second; changes = changes })
-run_trace steps d m e g0 g1 offers (Err x) new same played arrived events none first second changes = tt

@@ -13,6 +13,10 @@ use Rattle.rdm_lane.specs.Lane.{items_of, items_from}
 use Rattle.rdm_crew.specs.declared.bus.crew.Crew.{Crew}
 use Rattle.rdm_crew.specs.declared.bus.desk.Desk.{Desk}
 use Rattle.rdm_crew.specs.declared.error.RunError.{RunError}
+use Rattle.rdm_crew.specs.declared.error.RunError.TheVariants as run
+use Rattle.rdm_crew.specs.declared.stopped.Stopped.{Stopped}
+use Rattle.rdm_crew.specs.declared.stopped.Stopped.TheVariants.{OutOfMemory, BadSetup, Reserved, TooLong, Unsettled}
+use Rattle.rdm_crew.specs.Stops.{error_of}
 use Rattle.rdm_crew.specs.Crews.{HasChanges, IsTied}
 use Rattle.rdm_crew.specs.Desks.{began, OfTwo, IsDrawn}
 use Rattle.rdm_bus.specs.Happened.{changes_in, jobs_in, reports_in}
@@ -78,13 +82,27 @@ unchanged d changes post trace lane = (
   },
 )
 
-abbrev error_in : {A : Type 0} → RunError → Result A RunError → RunError
+abbrev error_in : {A E : Type 0} → E → Result A E → E
 error_in d (Ok a) = d
 error_in d (Err e) = e
 
 -- an answer of another type is the same error
-same_error : {A B : Type 0} (e x : RunError) → IsErrOf {T = A} (Err e) x → IsErrOf {T = B} (Err e) x
+same_error : {A B : Type 0} (e x : Stopped) → IsErrOf {T = A} (Err e) x → IsErrOf {T = B} (Err e) x
 same_error e x is = ap Err (ap (error_in e) is)
 
-pub told_also : {A B : Type 0} (e x : RunError) (S : Type 0) → (IsErrOf {T = A} (Err e) x ↔ S) → (IsErrOf {T = B} (Err e) x ↔ S)
+pub told_also : {A B : Type 0} (e x : Stopped) (S : Type 0) → (IsErrOf {T = A} (Err e) x ↔ S) → (IsErrOf {T = B} (Err e) x ↔ S)
 told_also {A} {B} e x S both = (λ is. both.0 (same_error {A = B} {B = A} e x is), λ s. same_error {A = A} {B = B} e x (both.1 s))
+
+bad_only : (s : Stopped) → error_of s ≡ run.BadSetup → s ≡ BadSetup
+bad_only OutOfMemory e = absurd cc
+bad_only BadSetup e = refl
+bad_only (Reserved k) e = absurd cc
+bad_only (TooLong k) e = absurd cc
+bad_only (Unsettled k) e = absurd cc
+
+-- the error of a stop tells of a bad setup where the stop does
+pub told_bad : {A : Type 0} (s : Stopped) (e : RunError) (S : Type 0) → e ≡ error_of s → (IsErrOf {T = A} (Err s) BadSetup ↔ S) → (IsErrOf {T = A} (Err e) run.BadSetup ↔ S)
+told_bad {A} s e S same both = (
+  λ is. both.0 (ap Err (bad_only s (sym same ∙ ap (error_in e) is))),
+  λ t. ap Err (same ∙ ap error_of (ap (error_in s) (both.1 t))),
+)

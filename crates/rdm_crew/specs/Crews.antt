@@ -1,5 +1,5 @@
 -- The bus thread's ends of all three lanes, and what has happened on the bus.
-use Rattle.std.specs.Prelude.{◌≡◌, List, [], ◌∷◌, ◌++◌, Some}
+use Rattle.std.specs.Prelude.{◌≡◌, ℕ, List, [], ◌∷◌, ◌++◌, Some}
 use Rattle.rdm_params.specs.declared.panel.Change.{Change}
 use Rattle.rdm_outbox.specs.declared.job.Job.{Job}
 use Rattle.rdm_outbox.specs.Jobs.{jobs_of}
@@ -14,11 +14,14 @@ use Rattle.rdm_lane.specs.Lane.{items_from}
 use Rattle.rdm_crew.specs.declared.bus.crew.Crew.{Crew}
 use Rattle.rdm_crew.specs.declared.bus.desk.Desk.{Desk}
 use Rattle.rdm_crew.specs.declared.step.CrewStep.{CrewStep}
+use Rattle.rdm_crew.specs.declared.step.CrewStep.TheVariants.{Settle}
 use Rattle.rdm_crew.specs.declared.bus.stop.Stop.{Stop}
 use Rattle.rdm_crew.specs.declared.bus.stop.Stop.TheVariants as stop
+use Rattle.rdm_crew.specs.declared.bus.stop.StopAt.{StopAt}
 use Rattle.rdm_crew.specs.Desks.{IsDrawn, IsSuspect, IsSameDesk, stands_at}
 use Rattle.rdm_bus.specs.Happened.{jobs_in, changes_in}
-use Rattle.rdm_crew.specs.RunTrace.{AreLast, IsPiece, IsCut, HasSettle, first_refusal}
+use Rattle.rdm_crew.specs.RunTrace.{AreLast, IsPiece, IsCut, refusal_at}
+use Rattle.rdm_crew.specs.Stops.{IsReached}
 use Rattle.rdm_crew.specs.Workers.{most}
 
 -- Each worker's jobs were put into its lane, in order.
@@ -75,10 +78,14 @@ HavePlayed steps d e =
     (es : List Event) × (e.system.trace ≡ d.system.trace ++ es)
     × ((last : List Event) → AreLast (stands_at e) last → IsCut (stands_at d) steps (es ++ last))
 
--- why steps end early
-abbrev pub IsStopped : List CrewStep → Crew → Stop → Type 0
-IsStopped steps c stop.OutOfMemory = Unit {0}
-IsStopped steps c stop.Reserved = first_refusal steps ≡ Some refused.Reserved
-IsStopped steps c stop.TooLong = first_refusal steps ≡ Some refused.TooLong
-IsStopped steps c stop.Unsettled = HasSettle steps
-IsStopped steps c stop.Astray = IsSuspect c.desk × HasJobs c.desk c.first c.second
+-- why a step isn't played to its end
+abbrev pub IsStopped : CrewStep → Crew → Stop → Type 0
+IsStopped step c stop.OutOfMemory = Unit {0}
+IsStopped step c stop.Reserved = refusal_at step ≡ Some refused.Reserved
+IsStopped step c stop.TooLong = refusal_at step ≡ Some refused.TooLong
+IsStopped step c stop.Unsettled = (empties : ℕ) × (step ≡ Settle empties)
+IsStopped step c stop.Astray = IsSuspect c.desk × HasJobs c.desk c.first c.second
+
+-- Steps end early at this one: no step before it is refused, and it isn't played to its end.
+abbrev pub AreStopped : List CrewStep → Crew → StopAt → Type 0
+AreStopped steps c at = (step : CrewStep) × IsReached steps at.step step × IsStopped step c at.why

@@ -1,9 +1,9 @@
 pub mod Errors
 pub mod Setups
-pub mod Stops
 pub mod Workers
 pub mod Law
 pub mod RunTrace
+pub mod Stops
 pub mod Traces
 pub mod Desks
 pub mod Crews

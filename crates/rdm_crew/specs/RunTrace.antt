@@ -19,12 +19,9 @@ use Rattle.rdm_bus.specs.declared.event.Step.TheVariants as bus
 use Rattle.rdm_bus.specs.declared.fault.Fault.{Fault}
 use Rattle.rdm_bus.specs.declared.fault.Fault.TheVariants as fault
 use Rattle.rdm_bus.specs.declared.system.PlayError.{PlayError}
-use Rattle.rdm_bus.specs.declared.system.PlayError.TheVariants as refused
 use Rattle.rdm_bus.specs.BusRun.{Start, IsPlayed, after, after_all, raise_of}
 use Rattle.rdm_bus.specs.Happened.{jobs_in, reports_in, changes_in, reports_of}
 use Rattle.rdm_bus.specs.Systems.{refusal_in}
-use Rattle.rdm_crew.specs.declared.error.RunError.{RunError}
-use Rattle.rdm_crew.specs.declared.error.RunError.TheVariants as run
 use Rattle.rdm_crew.specs.declared.setup.Setup.{Setup}
 use Rattle.rdm_crew.specs.declared.step.CrewStep.{CrewStep}
 use Rattle.rdm_crew.specs.declared.step.CrewStep.TheVariants.{Ask, Collect, Draw, Settle, Panel}
@@ -99,16 +96,6 @@ first_refusal (step ∷ steps) = option_or (refusal_at step) (first_refusal step
 -- a Settle is among the steps
 abbrev pub HasSettle : List CrewStep → Type 0
 HasSettle steps = (k empties : ℕ) × (slice_get steps k ≡ Some (Settle empties))
-
--- What each error of a run tells of its steps. Three of them never come once the run is set up.
-abbrev pub IsRunError : List CrewStep → RunError → Type 0
-IsRunError steps run.OutOfMemory = Unit {0}
-IsRunError steps run.Reserved = first_refusal steps ≡ Some refused.Reserved
-IsRunError steps run.TooLong = first_refusal steps ≡ Some refused.TooLong
-IsRunError steps run.Unsettled = HasSettle steps
-IsRunError steps run.Astray = ⊥
-IsRunError steps run.Missing = ⊥
-IsRunError steps run.BadSetup = ⊥
 
 -- what goes wrong at a step
 abbrev pub fault_at : CrewStep → Fault

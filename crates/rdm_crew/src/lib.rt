@@ -3,8 +3,9 @@
 //!
 //! `run` plays steps on the calling thread. Each `Part` works on a thread of its own: the jobs that the device starts
 //! are handed to it over a lane, and its reports come back over another. What a run is stands in `specs/RunTrace.antt`.
+//! `run_steps` does the same, and says at which step a run stopped (`specs/Stops.antt`).
 //!
-//! `running` has the call. `bus` is what the bus thread does while there are steps, `threads` are the threads beside it with what
+//! `running` has both calls. `bus` is what the bus thread does while there are steps, `threads` are the threads beside it with what
 //! they share, and `end` joins them and settles the lanes. It is for runs that end: each end of a lane keeps all that went through.
 #![tactic(auto)]
 
@@ -17,6 +18,7 @@ mod part;
 mod running;
 mod setup;
 mod step;
+mod stopped;
 mod threads;
 mod trace;
 
@@ -27,9 +29,10 @@ pub use laws::{
 };
 pub use panel::Panel;
 pub use part::Part;
-pub use running::run;
+pub use running::{run, run_steps};
 pub use setup::Setup;
 pub use step::CrewStep;
+pub use stopped::Stopped;
 pub use trace::Trace;
 // What `Trace::reports` shows.
 pub use rdm_lane::{Settled, Taken};

@@ -1,6 +1,6 @@
 //! The run.
 
-ghost use Rattle.std.specs.Prelude.{◌≡◌, ◌≢◌, ◌↔◌, [], true, Some, List, IfOk, IfErr, OnOk, IsErrOf, ◌⊎◌};
+ghost use Rattle.std.specs.Prelude.{◌≡◌, ◌≢◌, ◌↔◌, ◌<◌, [], true, Some, List, length, IfOk, IfErr, IfSome, OnOk, IsErrOf, ◌⊎◌};
 ghost use Rattle.rdm_bus.specs.BusLaws.{BusLaws, recorded};
 ghost use Rattle.rdm_bus.specs.BusRun.{IsBusRun};
 ghost use Rattle.rdm_bus.specs.Systems.{IsTrace};
@@ -9,9 +9,10 @@ ghost use Rattle.rdm_lane.specs.Lane.{LaneLaw};
 ghost use Rattle.rdm_crew.specs.Closes.{handed_by, IsHandedOver, HeadlineOfRun};
 ghost use Rattle.rdm_crew.specs.Crews.{IsTied, HasJobs, HasChanges};
 ghost use Rattle.rdm_crew.specs.Desks.{IsDrawn, HasRun};
-ghost use Rattle.rdm_crew.specs.RunTrace.{IsRunTrace, IsRunError, HaveFaults, HasSettle, FitsFor, first_refusal};
+ghost use Rattle.rdm_crew.specs.RunTrace.{IsRunTrace, HaveFaults, HasSettle, FitsFor, first_refusal};
 ghost use Rattle.rdm_crew.specs.Settling.{IsLaneOfOne, AreLanes};
 ghost use Rattle.rdm_crew.specs.Setups.{switched_on, IsBadSetup};
+ghost use Rattle.rdm_crew.specs.Stops.{IsStopAt, error_of, step_of};
 
 use crate::bus::crew::Crew;
 use crate::bus::desk::Desk;
@@ -23,7 +24,7 @@ use crate::threads::putting::close;
 use crate::threads::watcher::{Watched, Watches, watch};
 use crate::threads::worker::{Worked, Works, start};
 use crate::trace::Ended;
-use crate::{CrewStep, Panel, Part, RunError, Setup, Trace};
+use crate::{CrewStep, Panel, Part, RunError, Setup, Stopped, Trace};
 use rdm_bus::{PlayError, Step, System, bus_recording_laws_hold, messages_are_kept};
 use rdm_collector::Collector;
 use rdm_frame::Uid;
@@ -70,6 +71,44 @@ where
     ensures unsettled { IsErrOf result RunError.Unsettled → HasSettle steps.now }
     ensures never { IfErr result (λ e. (e ≢ RunError.Astray) × (e ≢ RunError.Missing)) }
 {
+    match run_steps(rt, alloc, setup, steps, part0, part1, panel) {
+        Ok(trace) => Ok(trace),
+        Err(stopped) => Err(stopped.error()),
+    }
+}
+
+/// Plays the steps as `run` does, and where they end early says at which of them. The step of a `Reserved` or `TooLong` is the
+/// first whose command can't be sent, for this cause; that of an `Unsettled` is a `Settle`, and each command before it can be
+/// sent. Want of memory and a bad setup have no step.
+pub fn run_steps<P, Q, N, R>(
+    rt: R,
+    alloc: Global,
+    setup: Setup,
+    steps: &[CrewStep],
+    part0: P,
+    part1: Q,
+    panel: N,
+) -> Result<Trace, Stopped>
+where
+    P: Part + Send + 'static,
+    Q: Part + Send + 'static,
+    N: Panel + Send + 'static,
+    R: Threads + Wait + Copy + Send + 'static,
+    requires fits { FitsFor 0 (P.gives part0) × FitsFor 1 (Q.gives part1) }
+    requires faults { HaveFaults steps.now }
+    ensures trace { IfOk result (λ trace. IsRunTrace setup (P.gives part0) (Q.gives part1) (N.offers panel) steps.now trace.events) }
+    ensures recorded { IfOk result (λ trace. trace.recorded ≡ recorded trace.events) }
+    ensures bus { IfOk result (λ trace. (bus : List Step) × IsBusRun (switched_on setup) bus trace.events) }
+    ensures laws { IfOk result (λ trace. BusLaws (switched_on setup) trace.events) }
+    ensures headline { IfOk result (λ trace. HeadlineOfRun setup steps.now trace.reports.taken trace.events trace.recorded) }
+    ensures lane { IfOk result (λ trace. LaneLaw 2 trace.reports.taken trace.reports.posted) }
+    ensures bad_setup { IsErrOf result Stopped.BadSetup ↔ IsBadSetup setup }
+    ensures stop { IfErr result (λ stopped. IsStopAt steps.now stopped) }
+    ensures within { IfErr result (λ stopped. IfSome (step_of stopped) (λ step. step < length steps.now)) }
+    ensures reserved { IfErr result (λ stopped. error_of stopped ≡ RunError.Reserved → first_refusal steps.now ≡ Some PlayError.Reserved) }
+    ensures too_long { IfErr result (λ stopped. error_of stopped ≡ RunError.TooLong → first_refusal steps.now ≡ Some PlayError.TooLong) }
+    ensures unsettled { IfErr result (λ stopped. error_of stopped ≡ RunError.Unsettled → HasSettle steps.now) }
+{
     // The trace is a run of the bus, and the laws, from which the headline follows, hold of every run.
     bus_recording_laws_hold();
     messages_are_kept();
@@ -83,17 +122,17 @@ where
     let (first, second) = (kit.first, kit.second);
     // The watcher ends by itself: its lane has room for all changes and the mark.
     let Ok(watcher) = watch(rt, kit.offered, panel, kit.panel_bell) else {
-        return Err(RunError::OutOfMemory);
+        return Err(Stopped::OutOfMemory);
     };
     let Ok(first_worker) = start(rt, first.jobs, first.reports, part0, first.signals) else {
         let _ = watcher.join(&rt);
-        return Err(RunError::OutOfMemory);
+        return Err(Stopped::OutOfMemory);
     };
     let Ok(second_worker) = start(rt, second.jobs, second.reports, part1, second.signals) else {
         let _ = close(&rt, first.post, &first.bell);
         let _ = first_worker.join(&rt);
         let _ = watcher.join(&rt);
-        return Err(RunError::OutOfMemory);
+        return Err(Stopped::OutOfMemory);
     };
     let desk = Desk {
         setup: began,
@@ -130,7 +169,7 @@ fn play<P: Part, Q: Part, N: Panel, R: Threads + Wait>(
     second_worker: Started<Worked, Works<Q>>,
     watcher: Started<Watched, Watches<N>>,
     rooms: Rooms,
-) -> Result<Ended, RunError>
+) -> Result<Ended, Stopped>
     requires fits { FitsFor 0 (P.gives first_worker.part.value) × FitsFor 1 (Q.gives second_worker.part.value) }
     requires faults { HaveFaults steps.now }
     requires new { IsTied crew × (crew.desk.system.trace ≡ []) }
@@ -144,7 +183,8 @@ fn play<P: Part, Q: Part, N: Panel, R: Threads + Wait>(
     ensures recorded { IfOk result (λ ended. ended.system.collector.recorded ≡ recorded ended.system.trace) }
     ensures handed { IfOk result (λ ended. IsHandedOver ended.system.trace (handed_by ended.reports.taken)) }
     ensures lane { IfOk result (λ ended. LaneLaw 2 ended.reports.taken ended.reports.posted) }
-    ensures err { IfErr result (λ e. IsRunError steps.now e) }
+    ensures stop { IfErr result (λ stopped. IsStopAt steps.now stopped) }
+    ensures set_up { IfErr result (λ stopped. stopped ≢ Stopped.BadSetup) }
 {
     let mut crew = crew;
     let played = crew.play_all(rt, steps);
@@ -170,31 +210,38 @@ fn play<P: Part, Q: Part, N: Panel, R: Threads + Wait>(
     };
     match played {
         Ok(()) => {}
-        Err(stop) => return Err(closing.give_up(rt, stop)),
+        Err(at) => {
+            closing.give_up(rt, at.why);
+            return Err(at.told());
+        }
     }
     match closing.desk.draw_all(rt) {
-        Ok(()) => closing.finish(rt),
-        Err(stop) => Err(closing.give_up(rt, stop)),
+        Ok(()) => Ok(closing.finish(rt)?),
+        Err(why) => {
+            // Memory was refused, also where a report seemed astray. No step is the cause.
+            closing.give_up(rt, why);
+            Err(Stopped::OutOfMemory)
+        }
     }
 }
 
 /// The device and the controller of a setup on one bus.
-fn system_of(alloc: Global, setup: Setup) -> Result<System, RunError>
+fn system_of(alloc: Global, setup: Setup) -> Result<System, Stopped>
     ensures new { IfOk result (λ system. IsTrace (switched_on setup) [] system) }
     ensures size { OnOk result (IsQueueSize setup.queue_size) }
-    ensures bad { IsErrOf result RunError.BadSetup ↔ IsBadSetup setup }
-    ensures err { IfErr result (λ e. (e ≡ RunError.BadSetup) ⊎ (e ≡ RunError.OutOfMemory)) }
+    ensures bad { IsErrOf result Stopped.BadSetup ↔ IsBadSetup setup }
+    ensures err { IfErr result (λ e. (e ≡ Stopped.BadSetup) ⊎ (e ≡ Stopped.OutOfMemory)) }
 {
     if setup.controller.is_broadcast() || is_same(setup.controller, setup.device) {
-        return Err(RunError::BadSetup);
+        return Err(Stopped::BadSetup);
     }
     let collector = Collector::new(alloc, setup.controller, setup.device, setup.want);
     match Responder::new(alloc, setup.device, setup.profile, setup.queue_size) {
         Ok(responder) => Ok(System::new(alloc, responder, collector)),
-        Err(NewError::OutOfMemory) => Err(RunError::OutOfMemory),
-        Err(NewError::BadProfile) => Err(RunError::BadSetup),
-        Err(NewError::BadSize) => Err(RunError::BadSetup),
-        Err(NewError::BadUid) => Err(RunError::BadSetup),
+        Err(NewError::OutOfMemory) => Err(Stopped::OutOfMemory),
+        Err(NewError::BadProfile) => Err(Stopped::BadSetup),
+        Err(NewError::BadSize) => Err(Stopped::BadSetup),
+        Err(NewError::BadUid) => Err(Stopped::BadSetup),
     }
 }
 

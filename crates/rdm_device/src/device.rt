@@ -4,6 +4,9 @@ pub(crate) mod footprint;
 pub(crate) mod measuring;
 pub(crate) mod state;
 
+ghost use Rattle.std.specs.Prelude.{◌≡◌, ◌++◌, true, false};
+ghost use Rattle.rdm_device.specs.Views.State.{common_entries, own_entries};
+
 use crate::device::state::{CommonValues, RootValues};
 use crate::{Profile, Unit};
 use std::marker::Model;
@@ -30,4 +33,34 @@ impl<'a> Model for Place<'a> {
     ghost Value = { Spot };
 
     ghost view = { λ p. record { profile = p.profile.now; unit = p.unit.now; is_root = is_some p.own; entries = common_entries p.common.now ++ own_if (option_copied p.own) } };
+}
+
+impl<'a> Place<'a> {
+    /// The root, with the values that every device keeps and its own.
+    #[inline(always)]
+    #[tactic(auto, unfolding(crate::specs::Views::State::common_entries))]
+    pub fn of_root(profile: &'a Profile, common: &'a CommonValues, own: &'a RootValues) -> Self
+        ensures { result ≡ record { profile = profile.now; unit = profile.now.root; is_root = true; entries = common_entries common.now ++ own_entries own.now } }
+    {
+        Place {
+            profile,
+            unit: &profile.root,
+            common,
+            own: Some(own),
+        }
+    }
+
+    /// A sub-device with these values.
+    #[inline(always)]
+    #[tactic(auto, unfolding(crate::specs::Views::State::common_entries))]
+    pub fn of_sub(profile: &'a Profile, common: &'a CommonValues) -> Self
+        ensures { result ≡ record { profile = profile.now; unit = profile.now.sub; is_root = false; entries = common_entries common.now } }
+    {
+        Place {
+            profile,
+            unit: &profile.sub,
+            common,
+            own: None,
+        }
+    }
 }

@@ -6,3 +6,7 @@ pub mod Made
 pub mod Described
 pub mod Equality
 pub mod RefusalEquality
+pub mod Parts
+pub mod WrongEntries
+pub mod Names
+pub mod WrongRules

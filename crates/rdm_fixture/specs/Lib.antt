@@ -6,3 +6,6 @@ pub mod Describes
 pub mod Describable
 pub mod Cause
 pub mod Refusals
+pub mod Faults
+pub mod Wrong
+pub mod FirstWrong

@@ -8,8 +8,11 @@ ghost use Rattle.rdm_device.specs.Device.Profiles.{CanBeMade};
 ghost use Rattle.rdm_fixture.specs.Describes.{Describes, DescribesNothing};
 ghost use Rattle.rdm_fixture.specs.Describable.{CanBeDescribed};
 ghost use Rattle.rdm_fixture.specs.Cause.{IsCause};
+ghost use Rattle.rdm_fixture.specs.Faults.{told};
+ghost use Rattle.rdm_fixture.specs.FirstWrong.{fixture_parts};
 ghost use Rattle.rdm_fixture.specs.Format.{IsFixture};
 ghost use Rattle.rdm_fixture.specs.Keys.{Reads};
+ghost use Rattle.rdm_fixture.specs.Wrong.{FirstWrong};
 
 use crate::keys::{only, own_uid};
 use crate::line::with_line;
@@ -39,7 +42,7 @@ pub enum FixtureError {
 impl Fixture {
     /// The fixture that the text describes.
     ///
-    /// It is refused exactly where it describes none: with `Syntax` where it is no document of TOML, else with a key that
+    /// It is refused exactly where it describes none: with `Syntax` where it is no document of TOML, else with the first key that
     /// doesn't say what it has to.
     pub fn from_toml(alloc: Global, text: &str) -> Result<Fixture, FixtureError>
         ensures ok { IfOk result (Describes text.now) }
@@ -76,6 +79,7 @@ fn fixture_of(table: &Table) -> Result<Fixture, Refusal>
     ensures read { Reads IsFixture (table_view table.now) result }
     ensures made { IfOk result (λ f. CanBeMade f.profile) }
     ensures describable { IfOk result CanBeDescribed }
+    ensures wrong { IfErr result (λ e. FirstWrong fixture_parts (table_view table.now) (told e)) }
 {
     only(
         table,

@@ -1,6 +1,8 @@
 //! The entries of the lists: personalities, slots, sensors, self tests and status IDs.
 
+ghost use Rattle.rdm_fixture.specs.FirstWrong as parts;
 ghost use Rattle.rdm_fixture.specs.Format.{IsPersonality, IsSlot, IsSensor, IsSelfTest, IsStatus};
+ghost use Rattle.rdm_fixture.specs.Wrong.{FirstWrong};
 
 use crate::keys::{number, number_or, only, signed_or, text_or_none};
 use crate::lists::FromEntry;
@@ -10,6 +12,8 @@ use toml::Table;
 
 impl FromEntry for Personality {
     ghost says = { IsPersonality };
+
+    ghost wrong = { λ slots. FirstWrong (parts.personality_parts slots) };
 
     fn from_entry(table: &Table, slots: u16) -> Result<Personality, Refusal> {
         only(table, &["dmx_footprint", "description"])?;
@@ -23,11 +27,13 @@ impl FromEntry for Personality {
 impl FromEntry for Slot {
     ghost says = { λ _. IsSlot };
 
+    ghost wrong = { λ _. FirstWrong parts.slot_parts };
+
     fn from_entry(table: &Table, _slots: u16) -> Result<Slot, Refusal> {
         only(table, &["type", "label_id", "default_value", "description"])?;
         Ok(Slot {
-            kind: number_or(table, "type", 0, 0, 0xFF)? as u8,
             label: number(table, "label_id", 0, 0xFFFF)? as u16,
+            kind: number_or(table, "type", 0, 0, 0xFF)? as u8,
             value: number_or(table, "default_value", 0, 0, 0xFF)? as u8,
             name: text_or_none(table, "description")?,
         })
@@ -36,6 +42,8 @@ impl FromEntry for Slot {
 
 impl FromEntry for SensorDef {
     ghost says = { λ _. IsSensor };
+
+    ghost wrong = { λ _. FirstWrong parts.sensor_parts };
 
     fn from_entry(table: &Table, _slots: u16) -> Result<SensorDef, Refusal> {
         only(
@@ -69,6 +77,8 @@ impl FromEntry for SensorDef {
 impl FromEntry for SelfTest {
     ghost says = { λ _. IsSelfTest };
 
+    ghost wrong = { λ _. FirstWrong parts.self_test_parts };
+
     fn from_entry(table: &Table, _slots: u16) -> Result<SelfTest, Refusal> {
         only(table, &["number", "description"])?;
         Ok(SelfTest {
@@ -80,6 +90,8 @@ impl FromEntry for SelfTest {
 
 impl FromEntry for StatusText {
     ghost says = { λ _. IsStatus };
+
+    ghost wrong = { λ _. FirstWrong parts.status_parts };
 
     fn from_entry(table: &Table, _slots: u16) -> Result<StatusText, Refusal> {
         only(table, &["id", "description"])?;

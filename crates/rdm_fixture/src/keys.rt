@@ -1,6 +1,6 @@
 //! What a key of a table says.
 
-ghost use Rattle.std.specs.Prelude.{◌≡◌, ◌≤◌, ℕ, pos, IfOk, IfSome, IsOk, IsTrue, ◌↔◌, [], map, option_map};
+ghost use Rattle.std.specs.Prelude.{◌≡◌, ◌≤◌, ℕ, pos, neg_ℤ, None, IfOk, IfErr, IfSome, IsOk, IsTrue, ◌↔◌, [], map, option_map};
 ghost use Rattle.std.specs.Result.{result_ok};
 ghost use Rattle.std.specs.List.{list_any, list_all};
 ghost use Rattle.std.specs.Str.{bytes_eq};
@@ -8,6 +8,9 @@ ghost use Rattle.toml.specs.Data.{get_member};
 ghost use Rattle.toml.specs.View.{view, table_view};
 ghost use Rattle.rdm_fixture.specs.Values as says;
 ghost use Rattle.rdm_fixture.specs.Keys.{must, may, has_only};
+ghost use Rattle.rdm_fixture.specs.Faults.{fault, told};
+ghost use Rattle.rdm_fixture.specs.Wrong as parts;
+ghost use Rattle.rdm_fixture.specs.declared.refusal.Wanted.TheVariants as wanted;
 
 use crate::refusal::{Refusal, Wanted};
 use rdm_frame::{Text, Uid};
@@ -22,7 +25,8 @@ pub(crate) fn find<'a>(table: &'a Table, key: &str) -> Option<&'a Value>
 
 /// Refuses the first key that isn't one of these.
 pub(crate) fn only(table: &Table, keys: &[&str]) -> Result<(), Refusal>
-    ensures { IsOk result ↔ IsTrue (has_only (map (λ k. k.now) keys.now) (table_view table.now)) }
+    ensures variant { IsOk result ↔ IsTrue (has_only (map (λ k. k.now) keys.now) (table_view table.now)) }
+    ensures wrong { IfErr result (λ e. (parts.only (map (λ k. k.now) keys.now)).Wrong (table_view table.now) (told e)) }
 {
     for (key, _) in table.iter() {
         if !is_one_of(key.as_str(), keys) {
@@ -45,6 +49,7 @@ fn is_one_of(key: &str, keys: &[&str]) -> bool
 pub(crate) fn number(table: &Table, key: &str, least: u32, most: u32) -> Result<u32, Refusal>
     ensures value { result_ok result ≡ must (says.number least most) (get_member key.now (table_view table.now)) }
     ensures within { IfOk result (λ n. (least ≤ n) × (n ≤ most)) }
+    ensures wrong { IfErr result (λ e. (parts.needed_number key.now least most).Wrong (table_view table.now) (told e)) }
 {
     match find(table, key) {
         Some(value) => number_in(value, key, least, most),
@@ -63,6 +68,7 @@ pub(crate) fn number_or(
     requires { (least ≤ default) × (default ≤ most) }
     ensures value { result_ok result ≡ may default (says.number least most) (get_member key.now (table_view table.now)) }
     ensures within { IfOk result (λ n. (least ≤ n) × (n ≤ most)) }
+    ensures wrong { IfErr result (λ e. (parts.free_number key.now least most).Wrong (table_view table.now) (told e)) }
 {
     match find(table, key) {
         Some(value) => number_in(value, key, least, most),
@@ -73,6 +79,7 @@ pub(crate) fn number_or(
 fn number_in(value: &Value, key: &str, least: u32, most: u32) -> Result<u32, Refusal>
     ensures value { result_ok result ≡ says.number least most (view value.now) }
     ensures within { IfOk result (λ n. (least ≤ n) × (n ≤ most)) }
+    ensures wrong { IfErr result (λ e. told e ≡ fault key.now (wanted.Number (pos least) (pos most))) }
 {
     match integer_in(value, least, most) {
         Some(n) => Ok(n),
@@ -102,7 +109,8 @@ pub(crate) fn integer_in(value: &Value, least: u32, most: u32) -> Option<u32>
 
 /// The signed number of 16 bits of a key that may be left out.
 pub(crate) fn signed_or(table: &Table, key: &str, default: i16) -> Result<i16, Refusal>
-    ensures { result_ok result ≡ may default says.signed (get_member key.now (table_view table.now)) }
+    ensures value { result_ok result ≡ may default says.signed (get_member key.now (table_view table.now)) }
+    ensures wrong { IfErr result (λ e. (parts.free_signed key.now).Wrong (table_view table.now) (told e)) }
 {
     match find(table, key) {
         Some(value) => signed_in(value, key),
@@ -111,7 +119,8 @@ pub(crate) fn signed_or(table: &Table, key: &str, default: i16) -> Result<i16, R
 }
 
 fn signed_in(value: &Value, key: &str) -> Result<i16, Refusal>
-    ensures { result_ok result ≡ says.signed (view value.now) }
+    ensures value { result_ok result ≡ says.signed (view value.now) }
+    ensures wrong { IfErr result (λ e. told e ≡ fault key.now (wanted.Number (neg_ℤ (pos 32768)) (pos 32767))) }
 {
     match integer16_in(value) {
         Some(z) => Ok(z),
@@ -142,7 +151,8 @@ pub(crate) fn integer16_in(value: &Value) -> Option<i16>
 
 /// The text of a key that may be left out: it is empty then.
 pub(crate) fn text_or_none(table: &Table, key: &str) -> Result<Text, Refusal>
-    ensures { result_ok result ≡ may [] says.text (get_member key.now (table_view table.now)) }
+    ensures value { result_ok result ≡ may [] says.text (get_member key.now (table_view table.now)) }
+    ensures wrong { IfErr result (λ e. (parts.free_text key.now).Wrong (table_view table.now) (told e)) }
 {
     match find(table, key) {
         Some(value) => text_in(value, key),
@@ -151,7 +161,8 @@ pub(crate) fn text_or_none(table: &Table, key: &str) -> Result<Text, Refusal>
 }
 
 fn text_in(value: &Value, key: &str) -> Result<Text, Refusal>
-    ensures { result_ok result ≡ says.text (view value.now) }
+    ensures value { result_ok result ≡ says.text (view value.now) }
+    ensures wrong { IfErr result (λ e. told e ≡ fault key.now wanted.Text) }
 {
     if let Value::String(text) = value {
         let bytes = text.as_bytes();
@@ -171,7 +182,8 @@ pub(crate) fn are_printable(bytes: &[u8]) -> bool
 
 /// The UID of a key that has to be there.
 pub(crate) fn own_uid(table: &Table, key: &str) -> Result<Uid, Refusal>
-    ensures { result_ok result ≡ must says.uid (get_member key.now (table_view table.now)) }
+    ensures value { result_ok result ≡ must says.uid (get_member key.now (table_view table.now)) }
+    ensures wrong { IfErr result (λ e. (parts.needed key.now says.uid wanted.Uid).Wrong (table_view table.now) (told e)) }
 {
     match find(table, key) {
         Some(value) => uid_in(value).ok_or(Refusal::at(key, Wanted::Uid)),

@@ -1,4 +1,7 @@
-//! On which line of the text stands what a refusal is about, for the message. No clause speaks of it.
+//! On which line of the text stands what a refusal is about, for the message. No clause speaks of the line.
+
+ghost use Rattle.std.specs.Prelude.{◌≡◌};
+ghost use Rattle.rdm_fixture.specs.Faults.{told};
 
 mod walk;
 mod way;
@@ -10,7 +13,9 @@ use way::way_to;
 
 /// The refusal, with its line: that of what is wrong, or of the nearest thing around it that the text has, as the header of
 /// the table where a key is missing. It is the last line of the text where that is the table at the top.
-pub(crate) fn with_line(alloc: Global, text: &str, refusal: Refusal) -> Refusal {
+pub(crate) fn with_line(alloc: Global, text: &str, refusal: Refusal) -> Refusal
+    ensures { told result ≡ told refusal }
+{
     let line = match place_of(alloc, text, way_to(&refusal).as_slice()) {
         Ok(Some(behind)) => Some(line_before(text, behind)),
         Ok(None) => Some(text.lines().count().max(1)),

@@ -1,9 +1,11 @@
 //! Lists of a table.
 
-ghost use Rattle.std.specs.Prelude.{◌≡◌, ◌≢◌, ◌≤◌, ◌↔◌, ℕ, List, IfOk, IsTrue, AllPairs, length, codes};
+ghost use Rattle.std.specs.Prelude.{◌≡◌, ◌≢◌, ◌≤◌, ◌↔◌, ℕ, List, IfOk, IfErr, IsTrue, AllPairs, length, codes};
 ghost use Rattle.toml.specs.Data.{Members, get_member};
 ghost use Rattle.toml.specs.View.{view, array_view, table_view};
+ghost use Rattle.rdm_fixture.specs.Faults.{Fault, told};
 ghost use Rattle.rdm_fixture.specs.Keys.{Reads, OfTable, EachIs, Lists};
+ghost use Rattle.rdm_fixture.specs.Wrong.{InEntry, FirstEntry, entries as list_part};
 
 use crate::keys::find;
 use crate::refusal::{Refusal, Wanted};
@@ -15,9 +17,12 @@ use toml::{Table, Value};
 pub(crate) trait FromEntry: Default + Drop {
     ghost says: { ℕ → Members → Self → Type 0 };
 
+    ghost wrong: { ℕ → Members → Fault → Type 0 };
+
     /// Reads the entry.
     fn from_entry(table: &Table, slots: u16) -> Result<Self, Refusal>
-        ensures { Reads (says slots) (table_view table.now) result };
+        ensures read { Reads (says slots) (table_view table.now) result }
+        ensures wrong { IfErr result (λ e. wrong slots (table_view table.now) (told e)) };
 }
 
 /// The list at a key, of `least` entries or more.
@@ -27,7 +32,8 @@ pub(crate) fn list<E: FromEntry, const N: usize>(
     least: usize,
     slots: u16,
 ) -> Result<ArrayVec<E, N>, Refusal>
-    ensures { Reads (λ t xs. Lists t key.now (OfTable (E.says slots)) least N xs.items) (table_view table.now) result }
+    ensures read { Reads (λ t xs. Lists t key.now (OfTable (E.says slots)) least N xs.items) (table_view table.now) result }
+    ensures wrong { IfErr result (λ e. (list_part key.now (E.says slots) (E.wrong slots) least N).Wrong (table_view table.now) (told e)) }
 {
     let Some(value) = find(table, key) else {
         if least > 0 {
@@ -51,7 +57,8 @@ fn entries_of<E: FromEntry, const N: usize>(
     slots: u16,
 ) -> Result<ArrayVec<E, N>, Refusal>
     requires { length entries.now.items ≤ N }
-    ensures { Reads (λ ds xs. EachIs (OfTable (E.says slots)) ds xs.items) (array_view entries.now) result }
+    ensures read { Reads (λ ds xs. EachIs (OfTable (E.says slots)) ds xs.items) (array_view entries.now) result }
+    ensures wrong { IfErr result (λ e. FirstEntry key.now (E.says slots) (E.wrong slots) 1 (array_view entries.now) (told e)) }
 {
     let mut read = ArrayVec::new();
     for (i, entry) in entries.iter().enumerate() {
@@ -65,7 +72,8 @@ fn entries_of<E: FromEntry, const N: usize>(
 
 /// The entry, which has to be a table.
 fn entry_of<E: FromEntry>(entry: &Value, key: &str, slots: u16) -> Result<E, Refusal>
-    ensures { Reads (OfTable (E.says slots)) (view entry.now) result }
+    ensures read { Reads (OfTable (E.says slots)) (view entry.now) result }
+    ensures wrong { IfErr result (λ e. InEntry key.now (E.wrong slots) (view entry.now) (told e)) }
 {
     match entry {
         Value::Table(table) => E::from_entry(table, slots),

@@ -1,12 +1,15 @@
 //! How jobs end.
 
-ghost use Rattle.std.specs.Prelude.{◌≡◌, ◌↔◌, IsOk, IsTrue, Some, None, MatchOption, codes};
+ghost use Rattle.std.specs.Prelude.{◌≡◌, ◌↔◌, IfErr, IsOk, IsTrue, Some, None, MatchOption, codes};
 ghost use Rattle.toml.specs.Data.{get_member};
 ghost use Rattle.toml.specs.View.{view, table_view};
+ghost use Rattle.rdm_fixture.specs.Faults.{told};
+ghost use Rattle.rdm_fixture.specs.FirstWrong.{rule_parts};
 ghost use Rattle.rdm_fixture.specs.Keys.{must, may, has_only};
 ghost use Rattle.rdm_fixture.specs.Outcomes as says;
 ghost use Rattle.rdm_fixture.specs.Outcomes.{IsOutcome};
 ghost use Rattle.rdm_fixture.specs.Values.{number};
+ghost use Rattle.rdm_fixture.specs.Wrong.{FirstWrong, only as only_part};
 
 mod wrong;
 
@@ -29,6 +32,8 @@ pub(crate) use and_job_keys;
 
 impl FromEntry for Rule {
     ghost says = { λ _. IsOutcome };
+
+    ghost wrong = { λ _. FirstWrong rule_parts };
 
     fn from_entry(table: &Table, _slots: u16) -> Result<Rule, Refusal> {
         match rule(table) {
@@ -57,7 +62,8 @@ fn rule(table: &Table) -> Option<Rule>
 
 /// Refuses the first key that a rule of this outcome hasn't got.
 fn only_its_keys(table: &Table, outcome: &Outcome) -> Result<(), Refusal>
-    ensures { IsOk result ↔ IsTrue (has_only (says.rule_keys outcome.now) (table_view table.now)) }
+    ensures variant { IsOk result ↔ IsTrue (has_only (says.rule_keys outcome.now) (table_view table.now)) }
+    ensures wrong { IfErr result (λ e. (only_part (says.rule_keys outcome.now)).Wrong (table_view table.now) (told e)) }
 {
     match outcome {
         Outcome::Done => only(table, and_job_keys!("done")),

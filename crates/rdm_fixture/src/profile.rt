@@ -1,11 +1,15 @@
 //! What a device is made with.
 
-ghost use Rattle.std.specs.Prelude.{◌≡◌, ◌≢◌, ◌≤◌, ◌↔◌, ℕ, Some, None, IfOk, IsTrue, AllPairs, length, codes};
+ghost use Rattle.std.specs.Prelude.{◌≡◌, ◌≢◌, ◌≤◌, ◌↔◌, ℕ, Some, None, IfOk, IfErr, IfSome, IsTrue, AllPairs, length, [], ◌∷◌, codes};
 ghost use Rattle.toml.specs.Data.{get_member};
 ghost use Rattle.toml.specs.View.{view, array_view, table_view};
+ghost use Rattle.rdm_fixture.specs.Faults.{fault, in_entry, told};
+ghost use Rattle.rdm_fixture.specs.FirstWrong as parts;
 ghost use Rattle.rdm_fixture.specs.Format.{IsProfile, IsSlot, IsSelfTest, IsStatus, LanguagesAt, slot_count};
 ghost use Rattle.rdm_fixture.specs.Keys.{Reads, OfTable, EachIs, Lists};
 ghost use Rattle.rdm_fixture.specs.Values as says;
+ghost use Rattle.rdm_fixture.specs.Wrong.{FirstWrong, entries};
+ghost use Rattle.rdm_fixture.specs.declared.refusal.Wanted.TheVariants as wanted;
 
 use crate::keys::{find, number_or, text_or_none};
 use crate::lists::list;
@@ -18,8 +22,13 @@ use toml::{Table, Value};
 
 /// The profile of a table, of which only the keys of a profile are looked at.
 pub(crate) fn profile(table: &Table) -> Result<Profile, Refusal>
-    ensures { Reads IsProfile (table_view table.now) result }
+    ensures read { Reads IsProfile (table_view table.now) result }
+    ensures wrong { IfErr result (λ e. FirstWrong parts.profile_parts (table_view table.now) (told e)) }
 {
+    let boot = number_or(table, "boot_software_version_id", 0, 0, 0xFFFF_FFFF)?;
+    let boot_text = text_or_none(table, "boot_software_version_label")?;
+    let languages = languages(table)?;
+    let presets = number_or(table, "presets", 0, 0, 65534)? as u16;
     let slots = slots(table)?;
     let count = slots.len() as u16;
     let root = unit(table, count)?;
@@ -28,27 +37,29 @@ pub(crate) fn profile(table: &Table) -> Result<Profile, Refusal>
         root,
         sub,
         subs,
-        boot: number_or(table, "boot_software_version_id", 0, 0, 0xFFFF_FFFF)?,
-        boot_text: text_or_none(table, "boot_software_version_label")?,
-        languages: languages(table)?,
+        boot,
+        boot_text,
+        languages,
         slots,
         sensors: list(table, "sensor", 0, 0)?,
         tests: self_tests(table)?,
         status_texts: status_texts(table)?,
-        presets: number_or(table, "presets", 0, 0, 65534)? as u16,
+        presets,
     })
 }
 
 fn slots(table: &Table) -> Result<ArrayVec<Slot, 46>, Refusal>
     ensures read { Reads (λ t xs. Lists t (codes "slot") (OfTable IsSlot) 0 46 xs.items) (table_view table.now) result }
     ensures count { IfOk result (λ xs. length xs.items ≡ slot_count (get_member (codes "slot") (table_view table.now))) }
+    ensures wrong { IfErr result (λ e. (entries (codes "slot") IsSlot (FirstWrong parts.slot_parts) 0 46).Wrong (table_view table.now) (told e)) }
 {
     list(table, "slot", 0, 0)
 }
 
 /// The languages, of which there is one at least.
 fn languages(table: &Table) -> Result<ArrayVec<u16, 8>, Refusal>
-    ensures { Reads (λ t xs. LanguagesAt (get_member (codes "languages") t) xs.items) (table_view table.now) result }
+    ensures read { Reads (λ t xs. LanguagesAt (get_member (codes "languages") t) xs.items) (table_view table.now) result }
+    ensures wrong { IfErr result (λ e. parts.WrongLanguages (get_member (codes "languages") (table_view table.now)) (told e)) }
 {
     let Some(value) = find(table, "languages") else {
         let mut english = ArrayVec::new();
@@ -64,12 +75,13 @@ fn languages(table: &Table) -> Result<ArrayVec<u16, 8>, Refusal>
     languages_of(codes)
 }
 
-fn languages_of(codes: &Array) -> Result<ArrayVec<u16, 8>, Refusal>
-    requires { length codes.now.items ≤ 8 }
-    ensures { Reads (λ ds xs. EachIs (λ d x. says.language d ≡ Some x) ds xs.items) (array_view codes.now) result }
+fn languages_of(list: &Array) -> Result<ArrayVec<u16, 8>, Refusal>
+    requires { length list.now.items ≤ 8 }
+    ensures read { Reads (λ ds xs. EachIs (λ d x. says.language d ≡ Some x) ds xs.items) (array_view list.now) result }
+    ensures wrong { IfErr result (λ e. told e ≡ fault (codes "languages") wanted.Language) }
 {
     let mut languages = ArrayVec::new();
-    for code in codes {
+    for code in list {
         let Some(language) = language_of(code) else {
             return Err(Refusal::at("languages", Wanted::Language));
         };
@@ -94,24 +106,27 @@ fn language_of(code: &Value) -> Option<u16>
 
 /// The self tests, of which no two have one number.
 fn self_tests(table: &Table) -> Result<ArrayVec<SelfTest, 8>, Refusal>
-    ensures { Reads (λ t xs. Lists t (codes "self_test") (OfTable IsSelfTest) 0 8 xs.items
+    ensures read { Reads (λ t xs. Lists t (codes "self_test") (OfTable IsSelfTest) 0 8 xs.items
         × AllPairs (λ a b. a.number ≢ b.number) xs.items) (table_view table.now) result }
+    ensures wrong { IfErr result (λ e. FirstWrong (entries (codes "self_test") IsSelfTest (FirstWrong parts.self_test_parts) 0 8
+        ∷ parts.differing (codes "self_test") (codes "number") IsSelfTest (λ a. a.number) ∷ []) (table_view table.now) (told e)) }
 {
     let tests = list(table, "self_test", 0, 0)?;
     match test_again(tests.as_slice()) {
         None => Ok(tests),
-        Some(again) => Err(Refusal::at("number", Wanted::Other).in_entry("self_test", again)),
+        Some(again) => Err(Refusal::at("number", Wanted::Other).in_entry("self_test", again + 1)),
     }
 }
 
-/// A test, from 1, that has the number of an earlier one, if there is one.
+/// The first test that has the number of an earlier one, if there is one.
 fn test_again(tests: &[SelfTest]) -> Option<usize>
-    ensures { (result ≡ None) ↔ AllPairs (λ a b. a.number ≢ b.number) tests.now }
+    ensures none { (result ≡ None) ↔ AllPairs (λ a b. a.number ≢ b.number) tests.now }
+    ensures first { IfSome result (λ n. parts.IsFirstAgain (λ a. a.number) tests.now n) }
 {
-    for i in 0..tests.len() {
-        for j in i + 1..tests.len() {
-            if tests[i].number == tests[j].number {
-                return Some(j + 1);
+    for n in 0..tests.len() {
+        for i in 0..n {
+            if tests[i].number == tests[n].number {
+                return Some(n);
             }
         }
     }
@@ -120,24 +135,27 @@ fn test_again(tests: &[SelfTest]) -> Option<usize>
 
 /// The status IDs, of which no two are alike.
 fn status_texts(table: &Table) -> Result<ArrayVec<StatusText, 8>, Refusal>
-    ensures { Reads (λ t xs. Lists t (codes "status") (OfTable IsStatus) 0 8 xs.items
+    ensures read { Reads (λ t xs. Lists t (codes "status") (OfTable IsStatus) 0 8 xs.items
         × AllPairs (λ a b. a.id ≢ b.id) xs.items) (table_view table.now) result }
+    ensures wrong { IfErr result (λ e. FirstWrong (entries (codes "status") IsStatus (FirstWrong parts.status_parts) 0 8
+        ∷ parts.differing (codes "status") (codes "id") IsStatus (λ a. a.id) ∷ []) (table_view table.now) (told e)) }
 {
     let texts = list(table, "status", 0, 0)?;
     match status_again(texts.as_slice()) {
         None => Ok(texts),
-        Some(again) => Err(Refusal::at("id", Wanted::Other).in_entry("status", again)),
+        Some(again) => Err(Refusal::at("id", Wanted::Other).in_entry("status", again + 1)),
     }
 }
 
-/// A status ID, from 1, that is an earlier one again, if there is one.
+/// The first status ID that is an earlier one again, if there is one.
 fn status_again(texts: &[StatusText]) -> Option<usize>
-    ensures { (result ≡ None) ↔ AllPairs (λ a b. a.id ≢ b.id) texts.now }
+    ensures none { (result ≡ None) ↔ AllPairs (λ a b. a.id ≢ b.id) texts.now }
+    ensures first { IfSome result (λ n. parts.IsFirstAgain (λ a. a.id) texts.now n) }
 {
-    for i in 0..texts.len() {
-        for j in i + 1..texts.len() {
-            if texts[i].id == texts[j].id {
-                return Some(j + 1);
+    for n in 0..texts.len() {
+        for i in 0..n {
+            if texts[i].id == texts[n].id {
+                return Some(n);
             }
         }
     }

@@ -1,13 +1,15 @@
 //! Why a table is no fixture, and where in it.
 
+ghost use Rattle.std.specs.Prelude.{◌≡◌, ◌≤◌, length, map, chars};
+ghost use Rattle.rdm_fixture.specs.Faults as says;
+ghost use Rattle.rdm_fixture.specs.Faults.{shown, kept, fault, in_entry, in_sub_devices, told};
+ghost use Rattle.rdm_fixture.specs.declared.refusal.Wanted.TheVariants as wanted_as;
+
 use arrayvec::ArrayString;
 use std::fmt;
 
 /// The name of a key as it is shown: one of more than 40 bytes is cut, and ends in `..`. A control character is `?` in it.
 pub type Name = ArrayString<40>;
-
-/// How many bytes are shown of a name that is cut.
-const KEPT: usize = 38;
 
 /// What was wanted of a key.
 #[derive(Clone, Copy, Debug, PartialEq, Eq)]
@@ -71,7 +73,9 @@ pub struct Refusal {
 
 impl Refusal {
     /// At a key of the table that is read.
-    pub(crate) fn at(key: &str, wanted: Wanted) -> Refusal {
+    pub(crate) fn at(key: &str, wanted: Wanted) -> Refusal
+        ensures { told result ≡ fault key.now wanted }
+    {
         Refusal {
             in_sub_devices: false,
             entry: None,
@@ -82,7 +86,9 @@ impl Refusal {
     }
 
     /// The same in an entry of a list.
-    pub(crate) fn in_entry(self, list: &str, number: usize) -> Refusal {
+    pub(crate) fn in_entry(self, list: &str, number: usize) -> Refusal
+        ensures { told result ≡ in_entry list.now number (told self) }
+    {
         let list = name_of(list);
         Refusal {
             entry: Some(Entry { list, number }),
@@ -91,7 +97,9 @@ impl Refusal {
     }
 
     /// The same in the table of the sub-devices.
-    pub(crate) fn in_sub_devices(self) -> Refusal {
+    pub(crate) fn in_sub_devices(self) -> Refusal
+        ensures { told result ≡ in_sub_devices (told self) }
+    {
         Refusal {
             in_sub_devices: true,
             ..self
@@ -99,7 +107,9 @@ impl Refusal {
     }
 
     /// The same, where the key is one of another outcome than that of its entry.
-    pub(crate) fn beside_an_outcome(self) -> Refusal {
+    pub(crate) fn beside_an_outcome(self) -> Refusal
+        ensures { told result ≡ record (told self) { wanted = wanted_as.OneOutcome } }
+    {
         Refusal {
             wanted: Wanted::OneOutcome,
             ..self
@@ -107,23 +117,47 @@ impl Refusal {
     }
 
     /// The same in this line of the text, if it is known.
-    pub(crate) fn in_line(self, line: Option<usize>) -> Refusal {
+    pub(crate) fn in_line(self, line: Option<usize>) -> Refusal
+        ensures { told result ≡ told self }
+    {
         Refusal { line, ..self }
     }
 }
 
 /// What is shown of a key.
-pub(crate) fn name_of(key: &str) -> Name {
+#[tactic(auto, unfolding(crate::specs::Faults::shown))]
+pub(crate) fn name_of(key: &str) -> Name
+    ensures { result.bytes ≡ shown key.now }
+{
+    if key.len() <= 40 {
+        return front_of(key, 40);
+    }
+    let mut name = front_of(key, 38);
+    name.push_str("..");
+    name
+}
+
+/// As many of its characters as so many bytes have room for.
+fn front_of(key: &str, room: usize) -> Name
+    requires { room ≤ 40 }
+    ensures value { result.bytes ≡ kept room (map says.shown_character (chars key.now)) }
+    ensures fits { length result.bytes ≤ room }
+{
     let mut name = Name::new();
-    let is_whole = key.len() <= name.capacity();
     for c in key.chars() {
-        if !is_whole && name.len().saturating_add(c.len_utf8()) > KEPT {
-            let _ = name.try_push_str("..");
-            break;
+        let shown = shown_character(c);
+        if name.len() + shown.len_utf8() > room {
+            return name;
         }
-        let _ = name.try_push(if c.is_control() { '?' } else { c });
+        name.push(shown);
     }
     name
+}
+
+fn shown_character(c: char) -> char
+    ensures { result ≡ says.shown_character c }
+{
+    if c.is_control() { '?' } else { c }
 }
 
 impl fmt::Display for Refusal {

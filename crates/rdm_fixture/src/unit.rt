@@ -1,10 +1,13 @@
 //! What the root and each sub-device say of themselves.
 
-ghost use Rattle.std.specs.Prelude.{◌≡◌, ℕ, codes};
+ghost use Rattle.std.specs.Prelude.{◌≡◌, ℕ, IfErr, codes};
 ghost use Rattle.toml.specs.Data.{get_member};
 ghost use Rattle.toml.specs.View.{view, table_view};
+ghost use Rattle.rdm_fixture.specs.Faults.{told};
+ghost use Rattle.rdm_fixture.specs.FirstWrong.{unit_parts, sub_parts, WrongSubs};
 ghost use Rattle.rdm_fixture.specs.Format.{IsUnit, IsSub, SubDevices};
 ghost use Rattle.rdm_fixture.specs.Keys.{Reads};
+ghost use Rattle.rdm_fixture.specs.Wrong.{FirstWrong};
 
 use crate::keys::{find, number, number_or, only, text_or_none};
 use crate::lists::list;
@@ -34,25 +37,28 @@ pub(crate) use and_unit_keys;
 
 /// A device whose personalities have so many slots at most.
 pub(crate) fn unit(table: &Table, slots: u16) -> Result<Unit, Refusal>
-    ensures { Reads (IsUnit slots) (table_view table.now) result }
+    ensures read { Reads (IsUnit slots) (table_view table.now) result }
+    ensures wrong { IfErr result (λ e. FirstWrong (unit_parts slots) (table_view table.now) (told e)) }
 {
     Ok(Unit {
         model: number(table, "device_model_id", 0, 0xFFFF)? as u16,
-        category: number_or(table, "product_category", 0, 0, 0xFFFF)? as u16,
-        software: number_or(table, "software_version_id", 0, 0, 0xFFFF_FFFF)?,
         model_text: text_or_none(table, "device_model_description")?,
         maker_text: text_or_none(table, "manufacturer_label")?,
         label: text_or_none(table, "device_label")?,
+        category: number_or(table, "product_category", 0, 0, 0xFFFF)? as u16,
+        software: number_or(table, "software_version_id", 0, 0, 0xFFFF_FFFF)?,
         software_text: text_or_none(table, "software_version_label")?,
-        personalities: list(table, "personality", 1, slots)?,
         start: number_or(table, "dmx_start_address", 1, 1, 512)? as u16,
+        personalities: list(table, "personality", 1, slots)?,
     })
 }
 
 /// How many sub-devices there are, and what each starts as. Without their table there are none, and what they would
-/// start as is the root.
+/// start as is the root, which has been read.
 pub(crate) fn sub_devices(table: &Table, slots: u16) -> Result<(u16, Unit), Refusal>
-    ensures { Reads (λ t s. SubDevices slots t (get_member (codes "sub_devices") t) s.0 s.1) (table_view table.now) result }
+    requires { (u : Unit) × IsUnit slots (table_view table.now) u }
+    ensures read { Reads (λ t s. SubDevices slots t (get_member (codes "sub_devices") t) s.0 s.1) (table_view table.now) result }
+    ensures wrong { IfErr result (λ e. WrongSubs (get_member (codes "sub_devices") (table_view table.now)) (told e)) }
 {
     let Some(value) = find(table, "sub_devices") else {
         return Ok((0, unit(table, slots)?));
@@ -67,7 +73,8 @@ pub(crate) fn sub_devices(table: &Table, slots: u16) -> Result<(u16, Unit), Refu
 }
 
 fn counted_unit(table: &Table) -> Result<(u16, Unit), Refusal>
-    ensures { Reads (λ t s. IsSub t s.0 s.1) (table_view table.now) result }
+    ensures read { Reads (λ t s. IsSub t s.0 s.1) (table_view table.now) result }
+    ensures wrong { IfErr result (λ e. FirstWrong sub_parts (table_view table.now) (told e)) }
 {
     only(table, and_unit_keys!("count"))?;
     let count = number(table, "count", 0, 512)? as u16;

@@ -2,6 +2,7 @@
 
 ghost use Rattle.std.specs.Prelude.{◌≡◌, ◌+◌, ◌≤◌, ◌↔◌, ℕ, List, [], ◌++◌, length, IsSome, IfSome};
 
+use crate::standard::{MOST_DATA, MOST_SLOTS, MOST_TEXT};
 use arrayvec::ArrayVec;
 use std::marker::Model;
 
@@ -20,17 +21,17 @@ impl<const N: usize> Model for Bytes<N> {
 }
 
 /// The parameter data of a frame: at most 231 slots (E1.20 section 6.2.10).
-pub type Body = Bytes<231>;
+pub type Body = Bytes<MOST_DATA>;
 
 /// The bytes of a frame on the bus: at most 24 slots of header, 231 of parameter data and 2 of checksum.
-pub type Wire = Bytes<257>;
+pub type Wire = Bytes<MOST_SLOTS>;
 
 /// Parameter data that a command asks to send. It may be longer than a frame can carry, so that the refusal is
 /// the sender's.
 pub type Load = Bytes<255>;
 
 /// A text of the device, such as its label: at most 32 bytes, of any value.
-pub type Text = Bytes<32>;
+pub type Text = Bytes<MOST_TEXT>;
 
 impl<const N: usize> Bytes<N> {
     /// No bytes.

@@ -1,11 +1,12 @@
 //! Numbers and bytes in hexadecimal digits.
 
-ghost use Rattle.std.specs.Prelude.{◌≡◌, ◌≤◌, ◌<◌, length, IfSome};
+ghost use Rattle.std.specs.Prelude.{◌≡◌, ◌++◌, ◌≤◌, ◌<◌, length, IfSome, OnOk};
 ghost use Rattle.std.specs.Int.{w16, w32};
 ghost use Rattle.rdm_frame.specs.DigitReading.{digit_value, byte_in, bytes_in, number_in};
-ghost use Rattle.rdm_frame.specs.Digits.{digit};
+ghost use Rattle.rdm_frame.specs.Digits.{digit, digits};
 
 use crate::Load;
+use std::alloc::AllocError;
 
 /// The digit of a number below 16, in upper case.
 pub fn digit(number: u8) -> u8
@@ -17,6 +18,16 @@ pub fn digit(number: u8) -> u8
     } else {
         b'A' - 10 + number
     }
+}
+
+/// Puts the digits of bytes at the end of a text: two for each, in upper case.
+pub fn put_digits(text: &mut Vec<u8>, bytes: &[u8]) -> Result<(), AllocError>
+    ensures { OnOk result (text.new.items ≡ text.old.items ++ digits bytes.now) }
+{
+    for byte in bytes {
+        text.extend_from_slice(&[digit(byte / 16), digit(byte % 16)])?;
+    }
+    Ok(())
 }
 
 /// The bytes that a word spells, two digits each. The word has at most the digits of 255 bytes.

@@ -48,3 +48,22 @@ pub const ROOT_DEVICE: u16 = 0x0000;
 
 /// The sub-device number by which a SET is for every sub-device at once (section 9).
 pub const SUB_DEVICE_ALL_CALL: u16 = 0xFFFF;
+
+/// The greatest number of sub-devices (section 9).
+pub const MOST_SUB_DEVICES: u16 = 512;
+
+/// The port ID of a controller that has one port (section 6.2.7).
+pub const FIRST_PORT: u8 = 1;
+
+/// The most slots of a frame: as many as the greatest message length says, 255, and the two of the checksum
+/// (sections 6.2.3 and 6.2.11).
+pub const MOST_SLOTS: usize = 257;
+
+/// The most parameter data that a frame can carry (section 6.2.10).
+pub const MOST_DATA: usize = 231;
+
+/// The most bytes of a text (section 10.5).
+pub const MOST_TEXT: usize = 32;
+
+/// The number by which a command is for every sensor at once (section 10.7).
+pub const ALL_SENSORS: u8 = 0xFF;

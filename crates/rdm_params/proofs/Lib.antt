@@ -1,6 +1,7 @@
 pub mod Bools
 pub mod Endings
 pub mod Fetches
+pub mod KindNames
 pub mod OtherDevices
 pub mod OtherForms
 pub mod OtherRanges

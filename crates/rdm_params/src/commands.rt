@@ -8,7 +8,7 @@ ghost use Rattle.std.specs.Option.{option_map, option_map_or};
 ghost use Rattle.rdm_params.specs.declared.kind.Verb.TheVariants.{Set};
 ghost use Rattle.rdm_params.specs.declared.verdict.Verdict.TheVariants.{Refuse};
 ghost use Rattle.rdm_params.specs.Commands.Commands.{got, answer_to_set, after_set, in_range, answered, work};
-ghost use Rattle.rdm_params.specs.Commands.Commands.{addressed, command_of, carried_out, is_all_call, sub_spot};
+ghost use Rattle.rdm_params.specs.Commands.Commands.{addressed, command_of, carried_out, is_all_call, root_spot, sub_spot};
 ghost use Rattle.rdm_params.specs.Table.Kinds.{pid_of};
 ghost use Rattle.rdm_device.specs.Device.Parameters.{parameters_of};
 ghost use Rattle.rdm_device.specs.Device.Profiles.{IsGoodProfile};
@@ -31,7 +31,7 @@ use crate::table::within::is_in_range;
 use crate::{Answer, Ask, Kind, Nack, Profile, Value, Verb, Verdict, Work};
 use rdm_device::{Argument, CommonValues, Place, RootValues, is_good};
 use rdm_frame::Body;
-use rdm_frame::standard::SUB_DEVICE_ALL_CALL;
+use rdm_frame::standard::{MOST_SUB_DEVICES, SUB_DEVICE_ALL_CALL};
 use std::alloc::Global;
 use std::marker::Model;
 use thiserror::Error;
@@ -73,9 +73,6 @@ impl Model for Devices {
     ghost view = { λ d. record { profile = d.profile.value; root = common_entries d.root ++ own_entries d.own; subs = map common_entries d.subs.items } };
 }
 
-/// The greatest number of sub-devices (E1.20 section 9).
-const MAX_SUBS: u16 = 512;
-
 impl Devices {
     /// The devices of a profile, with the values that they start with.
     ///
@@ -88,7 +85,7 @@ impl Devices {
         ensures too_many { (result ≡ Err NewError.TooManySubs) ↔ (512 < profile.subs) }
         ensures bad { (result ≡ Err NewError.BadProfile) ↔ ((profile.subs ≤ 512) × ¬ IsGoodProfile profile) }
     {
-        if profile.subs > MAX_SUBS {
+        if profile.subs > MOST_SUB_DEVICES {
             return Err(NewError::TooManySubs);
         }
         if !is_good(&profile) {
@@ -266,17 +263,12 @@ impl Devices {
     }
 
     /// The first device that a command is for, if there is one.
-    #[tactic(auto, unfolding(rdm_device::specs::Views::State::common_entries), using(crate::proofs::Places::first_of_subs, crate::proofs::Places::first_of_one))]
+    #[tactic(auto, using(crate::proofs::Places::first_of_subs, crate::proofs::Places::first_of_one))]
     fn first_place(&self, sub: u16, verb: Verb) -> Option<Place<'_>>
         ensures { result ≡ slice_get (addressed self.now sub verb) 0 }
     {
         if sub == 0 {
-            return Some(Place {
-                profile: &self.profile,
-                unit: &self.profile.root,
-                common: &self.root,
-                own: Some(&self.own),
-            });
+            return Some(self.root_place());
         }
         if is_all_call(sub, verb) {
             return self.sub_place(0);
@@ -285,19 +277,22 @@ impl Devices {
     }
 
     /// The sub-device at this place, from 0, if there is one.
-    #[tactic(auto, unfolding(rdm_device::specs::Views::State::common_entries), using(crate::proofs::Places::at_place))]
+    #[tactic(auto, using(crate::proofs::Places::at_place))]
     fn sub_place(&self, index: usize) -> Option<Place<'_>>
         ensures { result ≡ option_map (sub_spot self.now) (slice_get self.now.subs index) }
     {
         match self.subs.get(index) {
-            Some(common) => Some(Place {
-                profile: &self.profile,
-                unit: &self.profile.sub,
-                common,
-                own: None,
-            }),
+            Some(common) => Some(Place::of_sub(&self.profile, common)),
             None => None,
         }
+    }
+
+    /// The root.
+    #[inline(always)]
+    fn root_place(&self) -> Place<'_>
+        ensures { result ≡ root_spot self.now }
+    {
+        Place::of_root(&self.profile, &self.root, &self.own)
     }
 }
 

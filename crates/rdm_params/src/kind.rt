@@ -1,7 +1,8 @@
 //! Which parameters there are, and which commands.
 
-ghost use Rattle.std.specs.Prelude.{◌≡◌, ◌↔◌, IfSome, IsSome};
-ghost use Rattle.rdm_params.specs.Table.Kinds.{pid_of, name_of};
+ghost use Rattle.std.specs.Prelude.{◌≡◌, ◌↔◌, Some, IfSome, IsSome, find, option_copied};
+ghost use Rattle.std.specs.Str.{bytes_eq};
+ghost use Rattle.rdm_params.specs.Table.Kinds.{pid_of, name_of, kinds, kind_named};
 ghost use Rattle.rdm_params.specs.Table.Rows.{row_of};
 
 use crate::table::rows;
@@ -110,7 +111,29 @@ macro_rules! kind_rows {
     };
 }
 
+macro_rules! each_kind {
+    ((all) $(($name:ident $pid:tt $at:ident $get:tt $set:tt))*) => {
+        [$(Kind::$name),*]
+    };
+}
+
 impl Kind {
+    /// Every parameter of the table, in the order of the PIDs.
+    pub fn all() -> [Kind; 41]
+        ensures { result ≡ kinds }
+    {
+        rows!(each_kind!(all))
+    }
+
+    /// The parameter with this name in the standard, as `DMX_START_ADDRESS`, or `None` where the table has none: the text is
+    /// compared byte for byte.
+    pub fn named(name: &[u8]) -> Option<Kind>
+        ensures value { result ≡ kind_named name.now }
+        ensures named { (kind : Kind) → (result ≡ Some kind) ↔ (name_of kind ≡ name.now) }
+    {
+        kind_named(name)
+    }
+
     /// The PID (E1.20 table A-3).
     pub fn pid(self) -> u16
         ensures { result ≡ pid_of self }
@@ -167,6 +190,21 @@ impl Kind {
             Kind::PresetPlayback => "PRESET_PLAYBACK",
         }
     }
+}
+
+/// The first parameter with this name.
+#[tactic(auto, unfolding(crate::specs::Table::Kinds::kind_named))]
+fn kind_named(name: &[u8]) -> Option<Kind>
+    ensures { result ≡ kind_named name.now }
+{
+    first_named(&Kind::all(), name).copied()
+}
+
+/// The first of these parameters with this name.
+fn first_named<'a>(kinds: &'a [Kind], name: &[u8]) -> Option<&'a Kind>
+    ensures { option_copied result ≡ find (λ kind. bytes_eq (name_of kind) name.now) kinds.now }
+{
+    kinds.iter().find(|kind| kind.name().as_bytes() == name)
 }
 
 /// What a command does with a parameter (E1.20 section 6.2.10).

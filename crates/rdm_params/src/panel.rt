@@ -5,16 +5,14 @@ ghost use Rattle.rdm_params.specs.Table.Kinds.{pid_of};
 
 use crate::Kind;
 use rdm_device::Argument;
+use rdm_frame::standard::MOST_TEXT;
 use std::marker::Model;
-
-/// The most bytes of a label (E1.20 section 10.5.5).
-const LONGEST_LABEL: usize = 32;
 
 /// The text of a label: at most 32 bytes, of any value. A contract sees the list of them.
 #[derive(Clone, Copy, Debug, PartialEq, Eq)]
 pub struct Plate {
     /// The text, and 00 after it.
-    bytes: [u8; LONGEST_LABEL],
+    bytes: [u8; MOST_TEXT],
     len: u8,
 }
 
@@ -39,10 +37,10 @@ impl Plate {
         ensures fits { IsSome result ↔ (length text.now ≤ 32) }
         ensures value { IfSome result (λ plate. plate ≡ text.now) }
     {
-        if text.len() > LONGEST_LABEL {
+        if text.len() > MOST_TEXT {
             return None;
         }
-        let mut bytes = [0; LONGEST_LABEL];
+        let mut bytes = [0; MOST_TEXT];
         bytes[..text.len()].copy_from_slice(text);
         let len = text.len() as u8;
         Some(Plate { bytes, len })

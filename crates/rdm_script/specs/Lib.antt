@@ -10,4 +10,5 @@ pub mod Rules
 pub mod Running
 pub mod Scene
 pub mod Spelling
+pub mod StepLines
 pub mod TraceText

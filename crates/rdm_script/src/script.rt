@@ -30,4 +30,8 @@ pub struct Script {
     pub setup: Setup,
     /// The steps.
     pub steps: Vec<CrewStep>,
+    /// The line of each step, counted from 1.
+    pub lines: Vec<usize>,
+    /// The line of the setup, counted from 1, if the script says one.
+    pub setup_line: Option<usize>,
 }

@@ -3,6 +3,7 @@
 mod collecting;
 mod endings;
 mod friendly;
+mod lines;
 mod odd;
 mod panel;
 mod parsing;

@@ -22,7 +22,7 @@ pub struct Search {
 }
 
 impl Search {
-    ghost use Rattle.std.specs.Prelude.{◌≡◌, ◌-◌, [], Ok, None, OnOk, OnErr};
+    ghost use Rattle.std.specs.Prelude.{◌≡◌, ◌+◌, ◌-◌, ◌%◌, [], Ok, None, OnOk, OnErr};
     ghost use Rattle.rdm_search.specs.declared.stage.Stage.TheVariants.{Start, Asking};
     ghost use Rattle.rdm_search.specs.Answers.{found_uids};
     ghost use Rattle.rdm_search.specs.Stages.{Hears, request_of, whole};
@@ -85,15 +85,30 @@ impl Search {
         // What it notes is the answer of a device to its mute.
         ensures found { OnOk result (self.new.found.items ≡ found_after self.old.stage self.old.found.items bytes.now) }
         ensures left { OnOk result (self.new.left ≡ self.old.left - 1) }
+        // The next request has the next transaction number.
+        ensures tn { OnOk result (self.new.tn ≡ (self.old.tn + 1) % 256) }
         ensures err { result ≡ Err SearchError.Limit → ⊥ }
         ensures same { OnErr result ((self.new.stage ≡ self.old.stage)
-            × (self.new.found.items ≡ self.old.found.items) × (self.new.left ≡ self.old.left)) }
+            × (self.new.found.items ≡ self.old.found.items) × (self.new.left ≡ self.old.left) × (self.new.tn ≡ self.old.tn)) }
         ensures source { self.new.source ≡ self.old.source }
     {
         self.stage = after(&mut self.found, self.stage, bytes)?;
         self.tn = self.tn.wrapping_add(1);
         self.left = self.left.saturating_sub(1);
         Ok(())
+    }
+
+    /// Begins again with what was found, in this many transactions at most, as `resume` does: for the fixtures that were plugged
+    /// in since.
+    pub fn go_on(&mut self, limit: u32)
+        ensures stage { self.new.stage ≡ Asking whole }
+        ensures found { self.new.found.items ≡ self.old.found.items }
+        ensures left { self.new.left ≡ limit }
+        ensures source { self.new.source ≡ self.old.source }
+        ensures tn { self.new.tn ≡ self.old.tn }
+    {
+        self.stage = Stage::Asking(Range::WHOLE);
+        self.left = limit;
     }
 
     /// The fixtures that were found so far, each with what its answer to DISC_MUTE says.

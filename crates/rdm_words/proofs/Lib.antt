@@ -1,3 +1,4 @@
+pub mod Fixed
 pub mod Lines
 pub mod Plainness
 pub mod Says

@@ -1,10 +1,11 @@
 -- What is written is plain, and an escaped text is read back.
-use Rattle.std.proofs.Common.{◌≡◌, ◌≢◌, ℕ, ◌+◌, ◌*◌, ◌/◌, ◌%◌, ◌<◌, ◌==◌, Bool, true, false, cond, ◌||◌, List, [], ◌∷◌, ◌++◌, length, codes, refl, sym, subst, ap, ◌∙◌, arith}
+use Rattle.std.proofs.Common.{◌≡◌, ◌≢◌, ℕ, ◌+◌, ◌*◌, ◌/◌, ◌%◌, ◌<◌, ◌==◌, Bool, true, false, cond, ◌||◌, List, [], ◌∷◌, ◌++◌, length, Option, Some, None, codes, refl, sym, subst, ap, ◌∙◌, arith}
 use Rattle.std.specs.List.{AllByRecursion}
 use Rattle.std.proofs.lemmas.Bool.Decides.{nat_tests}
 use Rattle.rdm_frame.specs.Digits.{digit}
 use Rattle.rdm_words.specs.Plain.{is_printable, is_plain, IsPlain, by_digits, shown_byte, shown, escaped_byte, escaped}
-use Rattle.rdm_words.specs.Said.{IsTold, SaysBy, SayInTurn, AreToldInTurn, is_read}
+use Rattle.rdm_trace.specs.Reading.{line_in, wire_in}
+use Rattle.rdm_words.specs.Said.{IsTold, SaysBy, SayInTurn, AreToldInTurn}
 use Rattle.rdm_trace.specs.declared.line.Line.{Line}
 
 -- ---- plain texts
@@ -16,8 +17,11 @@ plain_append (x ∷ xs) ys p q = (p.0, plain_append xs ys p.1 q)
 pub plain_line : (words : List ℕ) → IsPlain words → IsPlain (words ++ 10 ∷ [])
 plain_line words p = plain_append words (10 ∷ []) p (refl, tt)
 
-digit_plain : (n : ℕ) → n < 16 → is_plain (digit n) ≡ true
+pub digit_plain : (n : ℕ) → n < 16 → is_plain (digit n) ≡ true
 digit_plain n h = grind (arith, nat_tests)
+
+pub digit_small : (n : ℕ) → n < 16 → digit n < 128
+digit_small n h = grind (arith, nat_tests)
 
 plain_digits : (b : ℕ) → IsPlain (by_digits b)
 plain_digits b = (refl, (refl, (digit_plain (b % 256 / 16) (omega arith), (digit_plain (b % 256 % 16) (omega arith), tt))))
@@ -53,9 +57,9 @@ pub plain_escaped : (text : List ℕ) → IsPlain (escaped text)
 plain_escaped [] = tt
 plain_escaped (b ∷ text) = plain_append (escaped_byte b) (escaped text) (plain_escaped_byte b) (plain_escaped text)
 
-shown_some : (words : List ℕ) → 0 < length words → shown words ≢ []
+shown_some : (words : List ℕ) → words ≢ [] → shown words ≢ []
 unfolding shown_byte
-shown_some [] h e = absurd (omega (arith, h))
+shown_some [] h e = absurd (h refl)
 shown_some (b ∷ words) h e = by (is_plain b) e
   where
     by : (x : Bool) → cond x (b ∷ []) (by_digits b) ++ shown words ≢ []
@@ -63,14 +67,15 @@ shown_some (b ∷ words) h e = by (is_plain b) e
     by false e = absurd cc
 
 -- words and the end of their line
-pub told_line : (words : List ℕ) → 0 < length words → IsTold (shown words ++ 10 ∷ [])
+pub told_line : (words : List ℕ) → words ≢ [] → IsTold (shown words ++ 10 ∷ [])
 told_line words h = record { words = shown words; whole = refl; some = shown_some words h; plain = plain_line (shown words) (plain_shown words) }
 
--- what is said of a line, by whether it is empty and whether it is read
-plain_says : (empty read : Bool) (line own : List ℕ) → SaysBy empty read line own → IsPlain own
-plain_says true read line own s = subst (λ (o : List ℕ). IsPlain o) (sym s) (refl, tt)
-plain_says false true line own s = s.plain
-plain_says false false line own s =
+-- what is said of a line, by what it is
+plain_says : (empty : Bool) (said : Option Line) (frame : Option (List ℕ)) (line own : List ℕ) → SaysBy empty said frame line own → IsPlain own
+plain_says true said frame line own s = subst (λ (o : List ℕ). IsPlain o) (sym s) (refl, tt)
+plain_says false (Some said) frame line own s = s.told.plain
+plain_says false None (Some bytes) line own s = s.told.plain
+plain_says false None None line own s =
     subst (λ (o : List ℕ). IsPlain o) (sym s) (plain_append (codes "not read: ") (escaped line ++ 10 ∷ []) front (plain_line (escaped line) (plain_escaped line)))
   where
     front : IsPlain (codes "not read: ")
@@ -79,9 +84,9 @@ plain_says false false line own s =
 pub said_plain : (lines : List (List ℕ)) (said : List ℕ) → SayInTurn lines said → IsPlain said
 said_plain [] said s = subst (λ (o : List ℕ). IsPlain o) (sym s) tt
 said_plain (line ∷ lines) said (own, rest, parts, one, more) =
-    subst (λ (o : List ℕ). IsPlain o) (sym parts) (plain_append own rest (plain_says (length line == 0) (is_read line) line own one) (said_plain lines rest more))
+    subst (λ (o : List ℕ). IsPlain o) (sym parts) (plain_append own rest (plain_says (length line == 0) (line_in line) (wire_in line) line own one) (said_plain lines rest more))
 
 pub told_plain : (lines : List Line) (said : List ℕ) → AreToldInTurn lines said → IsPlain said
 told_plain [] said s = subst (λ (o : List ℕ). IsPlain o) (sym s) tt
 told_plain (line ∷ lines) said (own, rest, parts, one, more) =
-    subst (λ (o : List ℕ). IsPlain o) (sym parts) (plain_append own rest one.plain (told_plain lines rest more))
+    subst (λ (o : List ℕ). IsPlain o) (sym parts) (plain_append own rest one.told.plain (told_plain lines rest more))

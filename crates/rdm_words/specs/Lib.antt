@@ -1,3 +1,4 @@
+pub mod Fixed
 pub mod Plain
 pub mod Said
 pub mod Unescaping

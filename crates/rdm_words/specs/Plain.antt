@@ -1,5 +1,5 @@
 -- What is written: nothing that a terminal takes for a command, whatever the lines and the texts of a fixture hold.
-use Rattle.std.specs.Prelude.{ℕ, ◌≡◌, ◌%◌, Bool, true, ◌==◌, ◌||◌, List, [], ◌∷◌, if◌then◌else◌}
+use Rattle.std.specs.Prelude.{ℕ, ◌≡◌, ◌≢◌, ◌%◌, Bool, true, ◌==◌, ◌||◌, List, [], ◌∷◌, if◌then◌else◌}
 use Rattle.std.specs.List.{flat_map, AllByRecursion}
 use Rattle.rdm_frame.specs.Digits.{digits, within}
 
@@ -18,6 +18,11 @@ is_plain b = is_printable b || (b == 0x0A) || is_of_tables b
 -- Nothing else stands there.
 abbrev pub IsPlain : List ℕ → Type 0
 IsPlain bytes = AllByRecursion (λ b. is_plain b ≡ true) bytes
+
+-- There are such words, and they are plain: so they are written as they are.
+pub record IsFixed (words : List ℕ) : Type 0 where
+  pub some : words ≢ []
+  pub plain : IsPlain words
 
 -- a byte, which is below 256, as `\x` and its digits
 abbrev pub by_digits : ℕ → List ℕ

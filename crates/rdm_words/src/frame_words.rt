@@ -1,5 +1,9 @@
 //! The words of a frame: a line of its header, and lines of its data below.
 
+ghost use Rattle.std.specs.Prelude.{◌≡◌, ℕ, List, ◌++◌, OnOk, string_bytes};
+ghost use Rattle.rdm_words.specs.Fixed.{AreWordsOfBytes, IsAnswerOf, answer_words, cause_words, stray_words};
+ghost use Rattle.rdm_words.specs.Plain.{IsFixed};
+
 use crate::Known;
 use crate::class::Class;
 use crate::form::{Form, Layout};
@@ -9,7 +13,7 @@ use crate::lists::put_entries;
 use crate::text::put_hex;
 use crate::values::{put_data, put_value};
 use rdm_frame::standard::{ACK_TIMER, NACK_REASON};
-use rdm_frame::{FrameError, FrameView, branch_uid, decode_view};
+use rdm_frame::{FrameError, FrameView, Uid, branch_uid, decode_view};
 use std::alloc::AllocError;
 use std::fmt::Write;
 
@@ -21,7 +25,10 @@ pub(crate) fn put_bytes_words(
     text: &mut String,
     bytes: &[u8],
     known: &Known<'_>,
-) -> Result<(), AllocError> {
+) -> Result<(), AllocError>
+    ensures fixed { OnOk result
+        ((words : List ℕ) → AreWordsOfBytes bytes.now words → IsFixed words × (string_bytes text.new ≡ string_bytes text.old ++ words)) }
+{
     match decode_view(bytes) {
         Ok(frame) => put_frame(text, &frame, known),
         Err(error) => put_other(text, bytes, error),
@@ -29,12 +36,30 @@ pub(crate) fn put_bytes_words(
 }
 
 /// Bytes that are no frame: the answer to DISC_UNIQUE_BRANCH, or bytes that are shown as they are.
-fn put_other(text: &mut String, bytes: &[u8], error: FrameError) -> Result<(), AllocError> {
+fn put_other(text: &mut String, bytes: &[u8], error: FrameError) -> Result<(), AllocError>
+    ensures answer { (uid : Uid) → IsAnswerOf uid bytes.now → OnOk result (string_bytes text.new ≡ string_bytes text.old ++ answer_words uid) }
+    ensures stray { ((uid : Uid) → IsAnswerOf uid bytes.now → ⊥) → OnOk result (string_bytes text.new ≡ string_bytes text.old ++ stray_words error bytes.now) }
+{
     if let Some(uid) = branch_uid(bytes) {
         return write!(text, "{uid} answers: DISC_UNIQUE_BRANCH");
     }
-    write!(text, "no frame ({error}): ")?;
+    let cause = cause_of(error);
+    write!(text, "no frame ({cause}): ")?;
     put_hex(text, bytes)
+}
+
+/// Why bytes are no frame.
+pub(crate) fn cause_of(error: FrameError) -> &'static str
+    ensures { result.now ≡ cause_words error }
+{
+    match error {
+        FrameError::Short => "fewer bytes than the shortest frame",
+        FrameError::Start => "wrong START code",
+        FrameError::SubStart => "wrong sub-START code",
+        FrameError::Length => "the message length doesn't match the number of bytes",
+        FrameError::Pdl => "the parameter data length doesn't match the message length",
+        FrameError::Checksum => "wrong checksum",
+    }
 }
 
 fn put_frame(

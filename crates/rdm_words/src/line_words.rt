@@ -1,9 +1,9 @@
 //! The words of lines, one by one and of a whole text.
 
-ghost use Rattle.std.specs.Prelude.{◌≡◌, ◌<◌, ℕ, List, [], ◌∷◌, ◌++◌, length, IfOk, OnOk, codes};
+ghost use Rattle.std.specs.Prelude.{◌≡◌, ◌≢◌, ℕ, List, [], ◌∷◌, ◌++◌, IfOk, OnOk, codes};
 ghost use Rattle.std.specs.Str.Lines.{lines};
-ghost use Rattle.rdm_words.specs.Plain.{escaped, shown};
-ghost use Rattle.rdm_words.specs.Said.{Says, SayInTurn, IsTold, AreToldInTurn};
+ghost use Rattle.rdm_words.specs.Plain.{IsFixed, escaped, shown};
+ghost use Rattle.rdm_words.specs.Said.{Says, SayInTurn, Tells, TellsLine, TellsBytes, AreToldInTurn};
 
 use crate::Known;
 use crate::frame_words::put_bytes_words;
@@ -49,7 +49,7 @@ pub fn words_of_lines(
 /// Puts the words of a line of a trace at the end: one or more lines of text, each of which ends with LF. Fails only where
 /// memory is refused.
 pub fn put_line_words(out: &mut Vec<u8>, line: &Line, known: &Known<'_>) -> Result<(), AllocError>
-    ensures told { OnOk result ((own : List ℕ) × IsTold own × (out.new.items ≡ out.old.items ++ own)) }
+    ensures told { OnOk result ((own : List ℕ) × TellsLine line.now own × (out.new.items ≡ out.old.items ++ own)) }
 {
     let mut text = String::new(*out.allocator());
     put_trace_line(&mut text, line, known)?;
@@ -79,7 +79,7 @@ fn put_text_line(out: &mut Vec<u8>, line: &[u8], known: &Known<'_>) -> Result<()
 
 /// The words of bytes from the bus.
 fn put_wire_words(out: &mut Vec<u8>, bytes: &[u8], known: &Known<'_>) -> Result<(), AllocError>
-    ensures told { OnOk result ((own : List ℕ) × IsTold own × (out.new.items ≡ out.old.items ++ own)) }
+    ensures told { OnOk result ((own : List ℕ) × TellsBytes bytes.now own × (out.new.items ≡ out.old.items ++ own)) }
 {
     let mut text = String::new(*out.allocator());
     put_bytes_words(&mut text, bytes, known)?;
@@ -97,7 +97,7 @@ fn put_unread(out: &mut Vec<u8>, line: &[u8]) -> Result<(), AllocError>
 
 /// A line of its own, with these words, or with a remark that there are none.
 fn put_told(out: &mut Vec<u8>, words: &[u8]) -> Result<(), AllocError>
-    ensures told { OnOk result ((own : List ℕ) × IsTold own × (out.new.items ≡ out.old.items ++ own)) }
+    ensures told { OnOk result ((own : List ℕ) × Tells (λ said. IsFixed said × (said ≡ words.now)) own × (out.new.items ≡ out.old.items ++ own)) }
 {
     put_whole(out, some_words(words))?;
     Ok(())
@@ -113,7 +113,8 @@ fn put_whole(out: &mut Vec<u8>, words: &[u8]) -> Result<(), AllocError>
 
 /// The words, where there are any.
 fn some_words(words: &[u8]) -> &[u8]
-    ensures { 0 < length result.now }
+    ensures some { result.now ≢ [] }
+    ensures same { words.now ≢ [] → result.now ≡ words.now }
 {
     if words.is_empty() { b"no words" } else { words }
 }

@@ -7,6 +7,7 @@ use crate::Known;
 use crate::class::Class;
 use crate::device_info::put_product_in_short;
 use crate::form::{Form, Layout};
+use crate::frame_words::cause_of;
 use crate::header::put_response_type;
 use crate::layout::layout_of;
 use crate::place::put_place;
@@ -16,7 +17,7 @@ use crate::tables::replies::nack_reason;
 use crate::text::put_shown;
 use crate::values::put_value;
 use rdm_frame::standard::{ACK, ACK_TIMER, NACK_REASON, ROOT_DEVICE};
-use rdm_frame::{FrameView, branch_uid, decode_view};
+use rdm_frame::{FrameError, FrameView, branch_uid, decode_view};
 use std::alloc::AllocError;
 use std::fmt::Write;
 
@@ -36,7 +37,7 @@ pub fn put_request_words(
     let mut text = String::new(*out.allocator());
     match decode_view(bytes) {
         Ok(frame) => put_request(&mut text, &frame, &known.at(frame.dst))?,
-        Err(error) => write!(text, "no frame: {error}")?,
+        Err(error) => put_no_frame(&mut text, error)?,
     }
     put_shown(out, text.as_bytes())
 }
@@ -52,10 +53,15 @@ pub fn put_reply_words(out: &mut Vec<u8>, bytes: &[u8], known: &Known<'_>) -> Re
         Ok(frame) => put_reply(&mut text, &frame, &known.at(frame.src))?,
         Err(error) => match branch_uid(bytes) {
             Some(uid) => write!(text, "{uid}")?,
-            None => write!(text, "no frame: {error}")?,
+            None => put_no_frame(&mut text, error)?,
         },
     }
     put_shown(out, text.as_bytes())
+}
+
+fn put_no_frame(text: &mut String, error: FrameError) -> Result<(), AllocError> {
+    let cause = cause_of(error);
+    write!(text, "no frame: {cause}")
 }
 
 fn put_request(

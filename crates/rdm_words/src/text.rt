@@ -1,13 +1,16 @@
 //! Bytes as text.
 
-ghost use Rattle.std.specs.Prelude.{◌≡◌, ◌++◌, OnOk};
+ghost use Rattle.std.specs.Prelude.{◌≡◌, ◌/◌, ◌%◌, [], ◌∷◌, ◌++◌, OnOk, string_bytes};
+ghost use Rattle.rdm_frame.specs.Digits.{digit, digits};
 ghost use Rattle.rdm_words.specs.Plain.{is_printable, is_of_tables, is_plain, by_digits, shown_byte, shown, escaped_byte, escaped};
 
 use rdm_frame::digits::digit;
 use std::alloc::AllocError;
 
 /// The bytes in hexadecimal digits.
-pub(crate) fn put_hex(text: &mut String, bytes: &[u8]) -> Result<(), AllocError> {
+pub(crate) fn put_hex(text: &mut String, bytes: &[u8]) -> Result<(), AllocError>
+    ensures { OnOk result (string_bytes text.new ≡ string_bytes text.old ++ digits bytes.now) }
+{
     for byte in bytes {
         put_byte(text, *byte)?;
     }
@@ -108,7 +111,10 @@ fn is_of_tables(byte: u8) -> bool
         || byte == 0xA9
 }
 
-fn put_byte(text: &mut String, byte: u8) -> Result<(), AllocError> {
+#[tactic(auto, using(crate::proofs::Plainness::digit_small))]
+fn put_byte(text: &mut String, byte: u8) -> Result<(), AllocError>
+    ensures { OnOk result (string_bytes text.new ≡ string_bytes text.old ++ digit (byte / 16) ∷ digit (byte % 16) ∷ []) }
+{
     text.push(char::from(digit(byte / 16)))?;
     text.push(char::from(digit(byte % 16)))
 }

@@ -1,5 +1,9 @@
 //! The words of the lines of a trace.
 
+ghost use Rattle.std.specs.Prelude.{◌≡◌, ℕ, List, ◌++◌, OnOk, string_bytes};
+ghost use Rattle.rdm_words.specs.Fixed.{AreWordsOfBytes, AreWordsOfLine, fault_line, heard_words, job_words, raised_words};
+ghost use Rattle.rdm_words.specs.Plain.{IsFixed, IsPlain};
+
 use crate::Known;
 use crate::class::Class;
 use crate::frame_words::{put_bytes_words, put_data_lines};
@@ -10,7 +14,7 @@ use crate::statuses::{Status, put_failure};
 use crate::text::put_quoted;
 use rdm_bus::{Fault, Heard};
 use rdm_params::{Change, Message, Outcome};
-use rdm_trace::{JobName, Line};
+use rdm_trace::Line;
 use std::alloc::AllocError;
 use std::fmt::Write;
 
@@ -19,21 +23,26 @@ pub(crate) fn put_trace_line(
     text: &mut String,
     line: &Line,
     known: &Known<'_>,
-) -> Result<(), AllocError> {
+) -> Result<(), AllocError>
+    ensures fixed { OnOk result
+        ((words : List ℕ) → AreWordsOfLine line.now words → IsFixed words × (string_bytes text.new ≡ string_bytes text.old ++ words)) }
+{
     match line {
         Line::Send { bytes, fault } => {
             put_bytes_words(text, bytes.as_slice(), known)?;
             put_fault(text, *fault)
         }
-        Line::Reply(Some(bytes)) => put_bytes_words(text, bytes.as_slice(), known),
-        Line::Reply(None) => text.push_str("no reply"),
+        Line::Reply(reply) => match reply {
+            Some(bytes) => put_bytes_words(text, bytes.as_slice(), known),
+            None => text.push_str("no reply"),
+        },
         Line::Job(job) => {
-            put_job(text, job)?;
+            put_job(text, job.worker, job.number)?;
             text.push_str(" starts")
         }
         Line::Heard(heard) => text.push_str(heard_words(*heard)),
         Line::Arrive { job, outcome } => {
-            put_job(text, job)?;
+            put_job(text, job.worker, job.number)?;
             put_outcome(text, *outcome, known)
         }
         Line::Panel { change, refused } => put_panel(text, change, *refused),
@@ -43,33 +52,42 @@ pub(crate) fn put_trace_line(
 }
 
 /// What goes wrong with a transaction, on a line of its own.
-fn put_fault(text: &mut String, fault: Fault) -> Result<(), AllocError> {
+fn put_fault(text: &mut String, fault: Fault) -> Result<(), AllocError>
+    ensures words { OnOk result (string_bytes text.new ≡ string_bytes text.old ++ fault_line fault) }
+    ensures plain { IsPlain (fault_line fault) }
+{
     match fault {
         Fault::None => Ok(()),
         Fault::LostRequest => text.push_str("\n  fault: the request is lost"),
         Fault::LostReply => text.push_str("\n  fault: the reply is lost"),
-        Fault::BadRequest(slot, raise) => {
-            write!(
-                text,
-                "\n  fault: slot {slot} of the request is raised by {raise}"
-            )
-        }
-        Fault::BadReply(slot, raise) => {
-            write!(
-                text,
-                "\n  fault: slot {slot} of the reply is raised by {raise}"
-            )
-        }
+        Fault::BadRequest(slot, raise) => put_raised(text, slot, "request", raise),
+        Fault::BadReply(slot, raise) => put_raised(text, slot, "reply", raise),
     }
 }
 
-fn put_job(text: &mut String, job: &JobName) -> Result<(), AllocError> {
-    let (worker, number) = (job.worker, job.number);
+/// A slot that is raised, on a line of its own.
+fn put_raised(text: &mut String, slot: u16, of: &str, raise: u8) -> Result<(), AllocError>
+    ensures words { OnOk result (string_bytes text.new ≡ string_bytes text.old ++ raised_words slot of.now raise) }
+    ensures plain { IsPlain of.now → IsPlain (raised_words slot of.now raise) }
+{
+    write!(
+        text,
+        "\n  fault: slot {slot} of the {of} is raised by {raise}"
+    )
+}
+
+/// Which job.
+fn put_job(text: &mut String, worker: u8, number: u32) -> Result<(), AllocError>
+    ensures words { OnOk result (string_bytes text.new ≡ string_bytes text.old ++ job_words worker number) }
+    ensures plain { IsPlain (job_words worker number) }
+{
     write!(text, "job {number} of worker {worker}")
 }
 
 /// What the controller took a reply for.
-fn heard_words(heard: Option<Heard>) -> &'static str {
+fn heard_words(heard: Option<Heard>) -> &'static str
+    ensures { result.now ≡ heard_words heard }
+{
     match heard {
         Some(Heard::Message) => "the controller records the message",
         Some(Heard::Reply) => "the controller has its reply",

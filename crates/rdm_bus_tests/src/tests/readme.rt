@@ -1,4 +1,4 @@
-//! The menu of the README's fixture, as its text has it. What is sent was worked out by hand.
+//! The front panel of docs/FIXTURES.md, as its text has it. What is sent was worked out by hand.
 
 use super::{DEVICE as FIXTURE, bytes_of};
 use rdm_frame::{Body, Wire};

@@ -32,7 +32,7 @@ pub(crate) fn ask(
     ensures known { result ≢ Status.Unknown }
 {
     match endpoint {
-        Endpoint::Responder(_) => Status::Absent,
+        Endpoint::Responder(_) | Endpoint::Searcher(_) => Status::Absent,
         Endpoint::Collector(collector) => send(collector, command, request, count),
     }
 }
@@ -75,7 +75,7 @@ pub(crate) fn poll(endpoint: &mut Endpoint, request: &mut [u8; 257], count: &mut
     ensures statuses { result ≢ Status.Done → result ≢ Status.Absent → result ≢ Status.Busy → result ≡ Status.OutOfMemory }
 {
     match endpoint {
-        Endpoint::Responder(_) => Status::Absent,
+        Endpoint::Responder(_) | Endpoint::Searcher(_) => Status::Absent,
         Endpoint::Collector(collector) => send_poll(collector, request, count),
     }
 }
@@ -109,7 +109,7 @@ pub(crate) fn hear(endpoint: &mut Endpoint, bytes: &[u8], heard: &mut u8) -> Sta
     ensures absent { result ≢ Status.Done → endpoint.new ≡ endpoint.old }
 {
     match endpoint {
-        Endpoint::Responder(_) => Status::Absent,
+        Endpoint::Responder(_) | Endpoint::Searcher(_) => Status::Absent,
         Endpoint::Collector(collector) => {
             *heard = heard_code(collector.hear(bytes));
             Status::Done
@@ -124,7 +124,7 @@ pub(crate) fn over(endpoint: &mut Endpoint) -> Status
     ensures absent { result ≢ Status.Done → endpoint.new ≡ endpoint.old }
 {
     match endpoint {
-        Endpoint::Responder(_) => Status::Absent,
+        Endpoint::Responder(_) | Endpoint::Searcher(_) => Status::Absent,
         Endpoint::Collector(collector) => {
             collector.over();
             Status::Done
@@ -142,7 +142,7 @@ pub(crate) fn next(endpoint: &mut Endpoint, message: &mut MessageNumbers) -> Sta
     ensures same { is_collector endpoint.old ≡ false → endpoint.new ≡ endpoint.old }
 {
     match endpoint {
-        Endpoint::Responder(_) => Status::Absent,
+        Endpoint::Responder(_) | Endpoint::Searcher(_) => Status::Absent,
         Endpoint::Collector(collector) => take_first(collector, message),
     }
 }

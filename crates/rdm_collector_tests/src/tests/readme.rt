@@ -1,4 +1,4 @@
-//! The console of the README, as its text has it. What is sent was worked out by hand.
+//! The console of docs/CONSOLES.md, as its text has it. What is sent was worked out by hand.
 
 use super::{CONTROLLER as CONSOLE, DEVICE as FIXTURE, command};
 use rdm_collector::{Action, Collector, Heard, Want};

@@ -10,12 +10,12 @@ ghost use Rattle.rdm_lane.specs.Lane.{items_from};
 ghost use Rattle.rdm_params.specs.Jobs.Work.{worker_of};
 ghost use Rattle.rdm_bus.specs.BusRun.{raise_of, fault_of};
 ghost use Rattle.rdm_bus.specs.Systems.{refusal_in};
-ghost use Rattle.rdm_crew.specs.Crews.{IsTied, HasChanges, HasChanged, IsSameCrew, IsSent, HasSent, HasPlayed, HavePlayed, IsStopped, IsRefused};
+ghost use Rattle.rdm_crew.specs.Crews.{IsTied, HasChanges, HasChanged, IsSameCrew, IsSent, HasSent, HasPlayed, HavePlayed, IsStopped, AreStopped, IsRefused};
 ghost use Rattle.rdm_crew.specs.Desks.{IsDrawn, IsSameDesk, stands_at};
-ghost use Rattle.rdm_crew.specs.RunTrace.{HaveFaults, fault_at, first_refusal};
+ghost use Rattle.rdm_crew.specs.RunTrace.{HaveFaults, fault_at, refusal_at};
 
 use crate::bus::desk::{Desk, Drawn};
-use crate::bus::stop::Stop;
+use crate::bus::stop::{Stop, StopAt};
 use crate::step::CrewStep;
 use crate::threads::putting::put;
 use crate::threads::waiting::{Bell, Waiter};
@@ -45,20 +45,20 @@ pub(crate) struct Crew {
 
 impl Crew {
     /// Plays steps, one after another.
-    pub(crate) fn play_all<R: Wait>(&mut self, rt: &R, steps: &[CrewStep]) -> Result<(), Stop>
+    pub(crate) fn play_all<R: Wait>(&mut self, rt: &R, steps: &[CrewStep]) -> Result<(), StopAt>
         requires tied { IsTied self.old }
         requires changes { HasChanges self.old.desk self.old.changes }
         requires faults { HaveFaults steps.now }
         ensures played { MatchResult result
             (λ _. IsTied self.new × HavePlayed steps.now self.old.desk self.new.desk)
-            (λ stop. IsStopped steps.now self.new stop) }
+            (λ at. AreStopped steps.now self.new at) }
         ensures changes { OnOk result (HasChanges self.new.desk self.new.changes) }
         ensures same { IsSameCrew self.old self.new }
     {
-        for step in steps {
+        for (index, step) in steps.iter().enumerate() {
             match self.play(rt, step) {
                 Ok(()) => {}
-                Err(stop) => return Err(stop),
+                Err(why) => return Err(StopAt { why, step: index }),
             }
         }
         Ok(())
@@ -71,9 +71,9 @@ impl Crew {
         requires fault { raise_of (fault_at step.now) ≢ Some 0 }
         ensures played { MatchResult result
             (λ _. IsTied self.new × HasPlayed step.now self.old.desk self.new.desk)
-            (λ stop. IsStopped (step.now ∷ []) self.new stop) }
+            (λ stop. IsStopped step.now self.new stop) }
         ensures changes { OnOk result (HasChanges self.new.desk self.new.changes) }
-        ensures never_refused { OnOk result (first_refusal (step.now ∷ []) ≡ None) }
+        ensures never_refused { OnOk result (refusal_at step.now ≡ None) }
         ensures same { IsSameCrew self.old self.new }
     {
         match step {
@@ -90,7 +90,7 @@ impl Crew {
         requires tied { IsTied self.old }
         ensures played { MatchResult result
             (λ _. IsTied self.new × HasPlayed CrewStep.Draw self.old.desk self.new.desk)
-            (λ stop. IsStopped (CrewStep.Draw ∷ []) self.new stop) }
+            (λ stop. IsStopped CrewStep.Draw self.new stop) }
         ensures changes { self.new.changes ≡ self.old.changes }
         ensures same { IsSameCrew self.old self.new }
     {

@@ -1,13 +1,13 @@
 //! Why the steps of a run end early.
 
 ghost use Rattle.std.specs.Prelude.{◌≡◌};
-ghost use Rattle.rdm_crew.specs.Stops.{stop_of, error_of};
+ghost use Rattle.rdm_crew.specs.Stops.{stop_of, told_of};
 
-use crate::RunError;
+use crate::Stopped;
 use rdm_bus::PlayError;
 use std::alloc::AllocError;
 
-/// Why the steps end early, while the workers are still there.
+/// Why a step isn't played to its end, while the workers are still there.
 #[derive(Clone, Copy, Debug, PartialEq, Eq)]
 pub(crate) enum Stop {
     OutOfMemory,
@@ -15,6 +15,28 @@ pub(crate) enum Stop {
     TooLong,
     Unsettled,
     Astray,
+}
+
+/// Why the steps of a run end early, and at which of them.
+#[derive(Clone, Copy)]
+pub(crate) struct StopAt {
+    pub(crate) why: Stop,
+    /// Steps count from 0.
+    pub(crate) step: usize,
+}
+
+impl StopAt {
+    /// What is told of it when the run has ended. Where a report seemed astray memory was refused.
+    pub(crate) fn told(self) -> Stopped
+        ensures { result ≡ told_of self.why self.step }
+    {
+        match self.why {
+            Stop::OutOfMemory | Stop::Astray => Stopped::OutOfMemory,
+            Stop::Reserved => Stopped::Reserved(self.step),
+            Stop::TooLong => Stopped::TooLong(self.step),
+            Stop::Unsettled => Stopped::Unsettled(self.step),
+        }
+    }
 }
 
 impl From<PlayError> for Stop {
@@ -38,19 +60,5 @@ impl From<AllocError> for Stop {
 
     fn from(_e: AllocError) -> Stop {
         Stop::OutOfMemory
-    }
-}
-
-impl From<Stop> for RunError {
-    ghost from_gives = { λ stop e. e ≡ error_of stop };
-
-    fn from(stop: Stop) -> RunError {
-        match stop {
-            Stop::OutOfMemory => RunError::OutOfMemory,
-            Stop::Reserved => RunError::Reserved,
-            Stop::TooLong => RunError::TooLong,
-            Stop::Unsettled => RunError::Unsettled,
-            Stop::Astray => RunError::Astray,
-        }
     }
 }

@@ -1,6 +1,6 @@
 //! The end of a run: the workers and the watcher of the panel are joined, and their lanes settled.
 
-ghost use Rattle.std.specs.Prelude.{◌≡◌, ◌≢◌, IfOk, IfErr};
+ghost use Rattle.std.specs.Prelude.{◌≡◌, IfOk};
 ghost use Rattle.rdm_bus.specs.BusLaws.{recorded};
 ghost use Rattle.rdm_lane.specs.Ends.{IsOver};
 ghost use Rattle.rdm_lane.specs.Lane.{LaneLaw};
@@ -12,7 +12,6 @@ ghost use Rattle.rdm_crew.specs.Desks.{IsDrawn, IsSuspect, stands_at};
 ghost use Rattle.rdm_bus.specs.Happened.{changes_in};
 ghost use Rattle.rdm_crew.specs.RunTrace.{IsAnswered, FitsFor};
 ghost use Rattle.rdm_crew.specs.Settling.{AreLanes, IsLaneOfOne};
-ghost use Rattle.rdm_crew.specs.Stops.{error_of};
 ghost use Rattle.rdm_crew.specs.Watchers.{AreOffered};
 
 use crate::bus::desk::Desk;
@@ -22,10 +21,11 @@ use crate::threads::joining::Started;
 use crate::threads::watcher::{Watched, Watches};
 use crate::threads::worker::{Worked, Works};
 use crate::trace::Ended;
-use crate::{Panel, Part, RunError};
+use crate::{Panel, Part};
 use rdm_lane::{ClosedPost, Take};
 use rdm_outbox::Job;
 use rdm_params::{Change, started_work_is_its_command};
+use std::alloc::AllocError;
 use std::sync::Wait;
 use std::thread::Threads;
 
@@ -44,7 +44,7 @@ pub(crate) struct Closing<P: Part, Q: Part, N: Panel> {
 
 impl<P: Part, Q: Part, N: Panel> Closing<P, Q, N> {
     /// Ends a run whose reports were all drawn.
-    pub(crate) fn finish<R: Threads + Wait>(self, rt: &R) -> Result<Ended, RunError>
+    pub(crate) fn finish<R: Threads + Wait>(self, rt: &R) -> Result<Ended, AllocError>
         requires drawn { IsDrawn self.desk × IsOver self.desk.reports }
         requires jobs { HasJobs self.desk self.first self.second }
         requires changes { HasChanges self.desk self.changes × IsLaneOfOne self.changes self.watcher.changes.value }
@@ -60,7 +60,6 @@ impl<P: Part, Q: Part, N: Panel> Closing<P, Q, N> {
         ensures taken { IfOk result (λ ended. ended.reports.taken ≡ self.desk.reports.taken) }
         ensures lane { IfOk result (λ ended. LaneLaw 2 ended.reports.taken ended.reports.posted) }
         ensures changes { IfOk result (λ ended. AreOffered (N.offers self.watcher.panel.value) 0 (changes_in self.desk.system.trace)) }
-        ensures err { IfErr result (λ e. e ≡ RunError.OutOfMemory) }
     {
         let Closing {
             desk,
@@ -87,24 +86,22 @@ impl<P: Part, Q: Part, N: Panel> Closing<P, Q, N> {
         let reports = settle(rt, rooms.workers, first, second, reports, a, b);
         settle_one(rt, rooms.changes, changes, watched.changes);
         if first_refused || second_refused || watcher_refused {
-            return Err(RunError::OutOfMemory);
+            return Err(AllocError);
         }
         if system.responder().outstanding() > 0 {
             // Each worker has reported on all its jobs, and every report has arrived.
-            return Err(RunError::Missing);
+            unreachable!();
         }
         Ok(Ended { system, reports })
     }
 
     /// Ends a run whose steps, or whose drawing of reports, ended early.
-    pub(crate) fn give_up<R: Threads + Wait>(self, rt: &R, stop: Stop) -> RunError
+    pub(crate) fn give_up<R: Threads + Wait>(self, rt: &R, stop: Stop)
         requires fits { FitsFor 0 (P.gives self.first_worker.part.value) × FitsFor 1 (Q.gives self.second_worker.part.value) }
         requires lanes { AreLanes self.desk.reports self.first self.second
             self.first_worker.jobs.value self.first_worker.reports.value
             self.second_worker.jobs.value self.second_worker.reports.value }
         requires suspect { stop ≡ Stop.Astray → IsSuspect self.desk × HasJobs self.desk self.first self.second }
-        ensures astray { stop ≡ Stop.Astray → result ≡ RunError.OutOfMemory }
-        ensures others { stop ≢ Stop.Astray → result ≡ error_of stop }
     {
         if stop == Stop::Astray {
             return self.look_into(rt);
@@ -122,17 +119,16 @@ impl<P: Part, Q: Part, N: Panel> Closing<P, Q, N> {
         let _ = first_worker.join(rt);
         let _ = second_worker.join(rt);
         let _ = watcher.join(rt);
-        RunError::from(stop)
     }
 
-    /// Ends a run in which a report seemed astray: the lists of all lanes tell whether it was.
-    fn look_into<R: Threads + Wait>(self, rt: &R) -> RunError
+    /// Ends a run in which a report seemed astray. The lists of all lanes tell that it wasn't, unless memory is refused before
+    /// they are complete.
+    fn look_into<R: Threads + Wait>(self, rt: &R)
         requires fits { FitsFor 0 (P.gives self.first_worker.part.value) × FitsFor 1 (Q.gives self.second_worker.part.value) }
         requires lanes { AreLanes self.desk.reports self.first self.second
             self.first_worker.jobs.value self.first_worker.reports.value
             self.second_worker.jobs.value self.second_worker.reports.value }
         requires suspect { IsSuspect self.desk × HasJobs self.desk self.first self.second }
-        ensures { result ≡ RunError.OutOfMemory }
     {
         let Closing {
             mut desk,
@@ -158,10 +154,10 @@ impl<P: Part, Q: Part, N: Panel> Closing<P, Q, N> {
         } = desk;
         match drained {
             Ok(()) => {}
-            Err(_) => return RunError::OutOfMemory,
+            Err(_) => return,
         }
         let _ = settle(rt, rooms.workers, first, second, reports, a, b);
         // The report is of the oldest outstanding job of its worker, so that it may arrive.
-        RunError::Astray
+        unreachable!()
     }
 }

@@ -14,6 +14,7 @@ use crate::Profile;
 use crate::device::state::{CommonValues, Measured, RootValues};
 use crate::value::argument::Argument;
 use arrayvec::ArrayVec;
+use rdm_frame::standard::ALL_SENSORS;
 
 /// Sets back what FACTORY_DEFAULTS sets back of the values that every device keeps.
 #[tactic(auto, unfolding(crate::specs::Views::State::common_entries, crate::specs::Device::Parameters::common_at_start, crate::specs::Device::Parameters::own_at_start))]
@@ -82,7 +83,7 @@ fn changed_at(sensors: &[Measured], index: usize, number: u8, resets: bool) -> M
         ≡ sensor_change (if resets then reset else record_present) number (entry 0x0201 index (measured_slots (slice_index_or sensors.now index d))) }
 {
     let measured = sensors[index];
-    if number == 0xFF || index == number as usize {
+    if number == ALL_SENSORS || index == number as usize {
         renewed(measured, resets)
     } else {
         measured

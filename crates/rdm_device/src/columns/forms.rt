@@ -4,9 +4,7 @@ ghost use Rattle.std.specs.Prelude.{◌≡◌};
 ghost use Rattle.rdm_device.specs.Columns.Forms.{nothing, byte, word, long, preset, label, value_of};
 
 use crate::value::argument::{Argument, ValueRef};
-
-/// The most bytes of a text.
-const LONGEST_TEXT: usize = 32;
+use rdm_frame::standard::MOST_TEXT;
 
 /// No data.
 #[inline]
@@ -78,7 +76,7 @@ pub fn preset(data: &[u8]) -> Option<Argument<'_>>
 pub fn label(data: &[u8]) -> Option<Argument<'_>>
     ensures { result ≡ value_of label data.now }
 {
-    if data.len() > LONGEST_TEXT {
+    if data.len() > MOST_TEXT {
         return None;
     }
     Some(Argument {

@@ -13,6 +13,7 @@ use crate::device::Place;
 use crate::device::footprint::footprint;
 use crate::value::argument::Argument;
 use crate::{SelfTest, StatusText};
+use rdm_frame::standard::ALL_SENSORS;
 
 /// An 8-bit number below a limit.
 #[inline]
@@ -129,7 +130,7 @@ pub fn sensors(place: &Place<'_>, value: &Argument<'_>) -> bool
     match value.byte() {
         Some(number) => {
             let count = place.profile.sensors.len();
-            (number as usize) < count || (number == 0xFF && 0 < count)
+            (number as usize) < count || (number == ALL_SENSORS && 0 < count)
         }
         None => false,
     }

@@ -25,6 +25,7 @@ use crate::value::argument::Argument;
 use crate::value::writing::write_into;
 use crate::{Profile, SelfTest, StatusText, Value};
 use rdm_frame::Body;
+use rdm_frame::standard::ALL_SENSORS;
 
 /// The version of the protocol: 1.0 (E1.20 section 10.5.1).
 const PROTOCOL_VERSION: u16 = 0x0100;
@@ -207,8 +208,8 @@ pub fn sensor_measured(place: &Place<'_>, value: &Argument<'_>, body: &mut Body)
     ensures { body.new ≡ sensor_measured place.now value.now }
 {
     let number = value.byte().unwrap_or(0);
-    if number == 0xFF {
-        body.append(&[0xFF, 0, 0, 0, 0, 0, 0, 0, 0]);
+    if number == ALL_SENSORS {
+        body.append(&[ALL_SENSORS, 0, 0, 0, 0, 0, 0, 0, 0]);
         return;
     }
     match place.own {

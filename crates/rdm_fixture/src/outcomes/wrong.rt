@@ -1,4 +1,14 @@
-//! What is wrong with a table that is no rule, for the message. No clause speaks of it.
+//! What is wrong with a table that is no rule, for the message.
+
+ghost use Rattle.std.specs.Prelude.{◌≡◌, MatchOption, None};
+ghost use Rattle.rdm_fixture.specs.Faults.{fault, told};
+ghost use Rattle.rdm_fixture.specs.FirstWrong as parts;
+ghost use Rattle.rdm_fixture.specs.Outcomes as says;
+ghost use Rattle.rdm_fixture.specs.Outcomes.{IsOutcome};
+ghost use Rattle.rdm_fixture.specs.Wrong.{FirstWrong, AllRight};
+ghost use Rattle.rdm_fixture.specs.declared.refusal.Wanted.TheVariants as wanted;
+ghost use Rattle.rdm_outcomes.specs.declared.rule.Rule.{Rule};
+ghost use Rattle.toml.specs.View.{table_view};
 
 use super::{
     and_job_keys, data_value, only_its_keys, outcome, severity, status_id, task, turn, value,
@@ -9,7 +19,10 @@ use rdm_params::Outcome;
 use toml::Table;
 
 /// The first thing that is wrong: a key that no rule has got, then the jobs, then what they come to.
-pub(super) fn what_is_wrong(table: &Table) -> Refusal {
+pub(super) fn what_is_wrong(table: &Table) -> Refusal
+    requires { (r : Rule) → ¬ IsOutcome (table_view table.now) r }
+    ensures { FirstWrong parts.rule_parts (table_view table.now) (told result) }
+{
     let keys = and_job_keys!(
         "done",
         "reading",
@@ -34,7 +47,10 @@ pub(super) fn what_is_wrong(table: &Table) -> Refusal {
 }
 
 /// What is wrong with the jobs that a rule is to speak of, if anything is.
-fn wrong_jobs(table: &Table) -> Option<Refusal> {
+fn wrong_jobs(table: &Table) -> Option<Refusal>
+    ensures { MatchOption result (AllRight parts.job_parts (table_view table.now))
+        (λ e. FirstWrong parts.job_parts (table_view table.now) (told e)) }
+{
     if find(table, "parameter").is_none() {
         return Some(Refusal::at("parameter", Wanted::Key));
     }
@@ -51,13 +67,24 @@ fn wrong_jobs(table: &Table) -> Option<Refusal> {
 }
 
 /// What is wrong where a table tells no outcome.
-fn wrong_outcome(table: &Table) -> Refusal {
+fn wrong_outcome(table: &Table) -> Refusal
+    requires { says.outcome_in (table_view table.now) ≡ None }
+    ensures { parts.outcome.Wrong (table_view table.now) (told result) }
+{
     if find(table, "done").is_some() {
         return Refusal::at("done", Wanted::True);
     }
     if find(table, "reading").is_some() {
         return out_of_range("reading", -32768, 32767);
     }
+    wrong_failure(table)
+}
+
+/// The same where it would be a failure.
+fn wrong_failure(table: &Table) -> Refusal
+    requires { says.failed_in (table_view table.now) ≡ None }
+    ensures { FirstWrong parts.failure_parts (table_view table.now) (told result) }
+{
     if find(table, "severity").is_none() {
         return Refusal::at("severity", Wanted::Outcome);
     }
@@ -76,12 +103,16 @@ fn wrong_outcome(table: &Table) -> Refusal {
     out_of_range("data_value_2", 0, 0xFFFF)
 }
 
-fn out_of_range(key: &str, least: i64, most: i64) -> Refusal {
+fn out_of_range(key: &str, least: i64, most: i64) -> Refusal
+    ensures { told result ≡ fault key.now (wanted.Number least most) }
+{
     Refusal::at(key, Wanted::Number { least, most })
 }
 
 /// The key that tells which outcome it is.
-fn key_of(outcome: &Outcome) -> &'static str {
+fn key_of(outcome: &Outcome) -> &'static str
+    ensures { result.now ≡ parts.key_of outcome.now }
+{
     match outcome {
         Outcome::Done => "done",
         Outcome::Reading(_) => "reading",

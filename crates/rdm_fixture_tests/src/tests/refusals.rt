@@ -109,6 +109,11 @@ fn texts_and_keys(rt: HostRuntime) -> Result<(), Fail> {
                 "line 1: there is no key `a key whose name is longer than forty ..`",
             ),
             (
+                "\"\\u0080\\u0080\\u0080\\u0080\\u0080\\u0080\\u0080\\u0080\\u0080\\u0080\\u0080\\u0080\\u0080\\u0080\\u0080\\u0080\\u0080\\u0080\\u0080\\u0080\\u0080\" = 1",
+                "",
+                "line 1: there is no key `?????????????????????..`",
+            ),
+            (
                 "",
                 "footprint = 1",
                 "line 6: in personality 1, there is no key `footprint`",
@@ -187,6 +192,21 @@ fn lists_and_sub_devices(rt: HostRuntime) -> Result<(), Fail> {
                 "",
                 "[[self_test]]\nnumber = 7\n[[self_test]]\nnumber = 8\n[[self_test]]\nnumber = 7",
                 "line 11: in self_test 3, `number` is that of an earlier entry",
+            ),
+            (
+                "",
+                "[[self_test]]\nnumber = 1\n[[self_test]]\nnumber = 2\n[[self_test]]\nnumber = 2\n[[self_test]]\nnumber = 1",
+                "line 11: in self_test 3, `number` is that of an earlier entry",
+            ),
+            (
+                "presets = -1\nlanguages = 1",
+                "",
+                "line 2: `languages` isn't a list of 1 to 8 entries",
+            ),
+            (
+                "product_category = -1\ndevice_label = 1",
+                "",
+                "line 2: `device_label` isn't a text of at most 32 printable ASCII characters",
             ),
             (
                 "",
@@ -332,9 +352,14 @@ fn the_nearest_line(rt: HostRuntime) -> Result<(), Fail> {
                 "line 2: in [sub_devices], in personality 2, the key `dmx_footprint` is missing",
             ),
             (
-                "presets = -1 # \"\"\"\ndevice_label = \"\"\"\n[[slot]]\npresets = -1\"\"\"",
+                "presets = 1 # \"\"\"\ndevice_label = \"\"\"\n[[slot]]\npresets = -1\"\"\"",
                 "",
                 "line 2: `device_label` isn't a text of at most 32 printable ASCII characters",
+            ),
+            (
+                "device_label = \"\"\"\n[[slot]]\npresets = -1\"\"\"\npresets = -1",
+                "",
+                "line 4: `presets` isn't an integer from 0 to 65534",
             ),
             (
                 "manufacturer_label = '''presets = 1'''\r\npresets = -1 # presets\r",

@@ -1,5 +1,6 @@
 -- The PIDs and the names of the parameters. E1.20 table A-3.
-use Rattle.std.specs.Prelude.{ℕ, List, codes}
+use Rattle.std.specs.Prelude.{ℕ, List, [], ◌∷◌, Option, find, codes}
+use Rattle.std.specs.Str.{bytes_eq}
 use Rattle.rdm_params.specs.declared.kind.Kind.{Kind}
 use Rattle.rdm_params.specs.declared.kind.Kind.TheVariants.{QueuedMessage, StatusMessages, StatusIdDescription, ClearStatusId, SubDeviceStatusReportThreshold, SupportedParameters, DeviceInfo, DeviceModelDescription, ManufacturerLabel, DeviceLabel, FactoryDefaults, LanguageCapabilities, Language, SoftwareVersionLabel, BootSoftwareVersionId, BootSoftwareVersionLabel, DmxPersonality, DmxPersonalityDescription, DmxStartAddress, SlotInfo, SlotDescription, DefaultSlotValue, SensorDefinition, SensorValue, RecordSensors, DeviceHours, LampHours, LampStrikes, LampState, LampOnMode, DevicePowerCycles, DisplayInvert, DisplayLevel, PanInvert, TiltInvert, PanTiltSwap, IdentifyDevice, PowerState, PerformSelfTest, SelfTestDescription, PresetPlayback}
 
@@ -54,3 +55,19 @@ pid_of kind = (pid_and_name kind).0
 -- the name in the standard
 abbrev pub name_of : Kind → List ℕ
 name_of kind = (pid_and_name kind).1
+
+-- every parameter, in the order of the PIDs
+abbrev pub kinds : List Kind
+kinds =
+    QueuedMessage ∷ StatusMessages ∷ StatusIdDescription ∷ ClearStatusId ∷ SubDeviceStatusReportThreshold ∷
+    SupportedParameters ∷ DeviceInfo ∷ DeviceModelDescription ∷ ManufacturerLabel ∷ DeviceLabel ∷ FactoryDefaults ∷ LanguageCapabilities ∷
+    Language ∷ SoftwareVersionLabel ∷ BootSoftwareVersionId ∷ BootSoftwareVersionLabel ∷
+    DmxPersonality ∷ DmxPersonalityDescription ∷ DmxStartAddress ∷ SlotInfo ∷ SlotDescription ∷ DefaultSlotValue ∷
+    SensorDefinition ∷ SensorValue ∷ RecordSensors ∷
+    DeviceHours ∷ LampHours ∷ LampStrikes ∷ LampState ∷ LampOnMode ∷ DevicePowerCycles ∷
+    DisplayInvert ∷ DisplayLevel ∷ PanInvert ∷ TiltInvert ∷ PanTiltSwap ∷
+    IdentifyDevice ∷ PowerState ∷ PerformSelfTest ∷ SelfTestDescription ∷ PresetPlayback ∷ []
+
+-- the parameter with this name in the standard
+unfoldable pub kind_named : List ℕ → Option Kind
+kind_named name = find (λ kind. bytes_eq (name_of kind) name) kinds

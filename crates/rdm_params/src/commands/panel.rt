@@ -1,14 +1,13 @@
 //! Changes at the fixture's own menu.
 
 ghost use Rattle.std.specs.Prelude.{◌≡◌};
-ghost use Rattle.rdm_params.specs.Commands.Commands.{root_spot};
 ghost use Rattle.rdm_params.specs.Commands.Panel.{after_change, change_message, told};
 
 use super::Devices;
 use crate::table::respond::reply_into;
 use crate::table::within::is_in_range;
 use crate::{Change, Message, Verb};
-use rdm_device::{Argument, Place};
+use rdm_device::Argument;
 use rdm_frame::Body;
 use rdm_frame::standard::GET_COMMAND_RESPONSE;
 
@@ -43,19 +42,6 @@ impl Devices {
             pid: kind.pid(),
             sub: 0,
             body,
-        }
-    }
-
-    /// The root.
-    #[tactic(auto, unfolding(rdm_device::specs::Views::State::common_entries))]
-    fn root_place(&self) -> Place<'_>
-        ensures { result ≡ root_spot self.now }
-    {
-        Place {
-            profile: &self.profile,
-            unit: &self.profile.root,
-            common: &self.root,
-            own: Some(&self.own),
         }
     }
 }

@@ -42,12 +42,7 @@ pub(crate) fn all_in_range<'a>(
         (map (profile_sub_spot profile.now) (map common_entries subs.now)) }
 {
     for common in subs {
-        let place = Place {
-            profile,
-            unit: &profile.sub,
-            common,
-            own: None,
-        };
+        let place = Place::of_sub(profile, common);
         if !is_in_range(kind, verb, &place, value) {
             return false;
         }

@@ -10,26 +10,26 @@ use rdm_frame::Body;
 macro_rules! listed_rows {
     (($is_root:ident $list:ident) $(($name:ident $pid:tt $at:ident $get:tt $set:tt))*) => {
         if $is_root {
-            $(list_row!($pid $list);)*
+            $(list_row!($name $pid $list);)*
         } else {
-            $(list_at!($at $pid $list);)*
+            $(list_at!($at $name $pid $list);)*
         }
     };
 }
 
 macro_rules! list_at {
-    (both $pid:tt $list:ident) => { list_row!($pid $list) };
-    (root $pid:tt $list:ident) => { {} };
+    (both $name:ident $pid:tt $list:ident) => { list_row!($name $pid $list) };
+    (root $name:ident $pid:tt $list:ident) => { {} };
 }
 
 // The list leaves out itself and what every device has.
 macro_rules! list_row {
-    (0x0050 $list:ident) => { {} };
-    (0x0060 $list:ident) => { {} };
-    (0x00C0 $list:ident) => { {} };
-    (0x00F0 $list:ident) => { {} };
-    (0x1000 $list:ident) => { {} };
-    ($pid:tt $list:ident) => { $list.append(&u16::to_be_bytes($pid)) };
+    (SupportedParameters $pid:tt $list:ident) => { {} };
+    (DeviceInfo $pid:tt $list:ident) => { {} };
+    (SoftwareVersionLabel $pid:tt $list:ident) => { {} };
+    (DmxStartAddress $pid:tt $list:ident) => { {} };
+    (IdentifyDevice $pid:tt $list:ident) => { {} };
+    ($name:ident $pid:tt $list:ident) => { $list.append(&u16::to_be_bytes($pid)) };
 }
 
 /// The PIDs that the device supports, in their order, beside those that every device does.

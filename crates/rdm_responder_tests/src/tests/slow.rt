@@ -1,4 +1,4 @@
-//! Long runs of slow commands, and the example of README.md.
+//! Long runs of slow commands, and the example of docs/FIXTURES.md.
 
 use super::{CONTROLLER, DEVICE, GET, IDENTIFY_DEVICE, SET, printed, request, responder_with};
 use rdm_frame::{Body, Frame, Wire, encode};
@@ -200,7 +200,7 @@ fn a_lamp_is_struck(rt: HostRuntime) -> Result<(), Fail> {
     let lamp_is_on = printed(&rt, IT_IS_ON);
     let one = Body::from_slice(&[0, 1]).ok_or("two bytes")?;
 
-    // The example of README.md, as it stands there.
+    // The example of docs/FIXTURES.md, as it is there.
     let mut responder = Responder::new(rt.alloc(), DEVICE, Profile::demo(0), 8)?;
     // SET LAMP_STATE is slow: the reply is ACK_TIMER, in 5 seconds, and a job starts.
     let (reply, job) = responder.step(set_lamp_on.as_slice());

@@ -1,6 +1,7 @@
 //! From the bytes of a script to its setup and its steps.
 
-ghost use Rattle.std.specs.Prelude.{◌≡◌, ◌≢◌, ℕ, ◌+◌, ◌^◌, ◌<◌, ◌≤◌, ◌==◌, List, [], ◌++◌, length, count_by, position, vec_len, vec_capacity, IfSome, OnOk, IfOk, IfErr, MatchResult};
+ghost use Rattle.std.specs.Prelude.{◌≡◌, ◌≢◌, ℕ, ◌+◌, ◌^◌, ◌<◌, ◌≤◌, ◌==◌, List, [], ◌++◌, length, count_by, position, vec_len, vec_capacity, None, IfSome, OnOk, IfOk, IfErr, MatchResult};
+ghost use Rattle.std.specs.Option.{option_or};
 ghost use Rattle.rdm_crew.specs.declared.step.CrewStep.{CrewStep as TheStep};
 ghost use Rattle.rdm_crew.specs.RunTrace.{HaveFaults};
 ghost use Rattle.rdm_script.specs.declared.script.Setup.{Setup as TheSetup};
@@ -8,6 +9,7 @@ ghost use Rattle.rdm_script.specs.Dialects.{dialect_of, strict};
 ghost use Rattle.rdm_script.specs.Parties.{demo_device, plain_setup};
 ghost use Rattle.rdm_script.specs.Grammar.{words_of, line_at, begun_after, said_by, lines_of, setup_after, steps_of_line, AreSaid, IsFirstFaulty, IsRead, Refuses};
 ghost use Rattle.rdm_script.specs.Spelling.{IsScript};
+ghost use Rattle.rdm_script.specs.StepLines.{step_line, set_line, step_lines, setup_line};
 ghost use Rattle.rdm_script.specs.declared.grammar.parsing.ScriptError.TheVariants.{OutOfMemory, Line as LineError};
 ghost use Rattle.rdm_script.specs.declared.grammar.line.Line.TheVariants.{Faulty};
 
@@ -87,6 +89,9 @@ pub fn parse(alloc: Global, text: &[u8]) -> Result<Script, ScriptError>
     ensures too_long { 65536 < length text.now → result ≡ Err ScriptError.TooLong }
     // What goes wrong at a step alters something.
     ensures faults { IfOk result (λ script. HaveFaults script.steps.items) }
+    // The script knows the line of each step, and that of its setup.
+    ensures lines { IfOk result (λ script. script.lines.items ≡ step_lines (strict demo_device) text.now) }
+    ensures setup_line { IfOk result (λ script. script.setup_line ≡ setup_line (strict demo_device) text.now) }
 {
     parse_for(alloc, DEVICE, text)
 }
@@ -106,6 +111,9 @@ pub fn parse_for(alloc: Global, device: Uid, text: &[u8]) -> Result<Script, Scri
     ensures too_long { 65536 < length text.now → result ≡ Err ScriptError.TooLong }
     // What goes wrong at a step alters something.
     ensures faults { IfOk result (λ script. HaveFaults script.steps.items) }
+    // The script knows the line of each step, and that of its setup.
+    ensures lines { IfOk result (λ script. script.lines.items ≡ step_lines (strict device) text.now) }
+    ensures setup_line { IfOk result (λ script. script.setup_line ≡ setup_line (strict device) text.now) }
 {
     parse_as(alloc, Spelling::Strict, device, text)
 }
@@ -129,6 +137,9 @@ pub fn parse_as(
     ensures too_long { 65536 < length text.now → result ≡ Err ScriptError.TooLong }
     // What goes wrong at a step alters something.
     ensures faults { IfOk result (λ script. HaveFaults script.steps.items) }
+    // The script knows the line of each step, and that of its setup.
+    ensures lines { IfOk result (λ script. script.lines.items ≡ step_lines (dialect_of device spelling) text.now) }
+    ensures setup_line { IfOk result (λ script. script.setup_line ≡ setup_line (dialect_of device spelling) text.now) }
 {
     read_script(alloc, Dialect { device, spelling }, text)
 }
@@ -140,13 +151,18 @@ fn read_script(alloc: Global, dialect: Dialect, text: &[u8]) -> Result<Script, S
         MatchResult result (λ script. (script.setup ≡ setup) × (script.steps.items ≡ steps)) (λ e. e ≡ OutOfMemory) }
     ensures err { IfErr result (λ e. Refuses dialect e text.now) }
     ensures too_long { 65536 < length text.now → result ≡ Err ScriptError.TooLong }
+    ensures lines { IfOk result (λ script. script.lines.items ≡ step_lines dialect text.now) }
+    ensures setup_line { IfOk result (λ script. script.setup_line ≡ setup_line dialect text.now) }
 {
     if text.len() > MOST_BYTES {
         return Err(ScriptError::TooLong);
     }
+    let count = line_count(text);
     let mut script = Script {
         setup: Setup::PLAIN,
-        steps: Vec::with_capacity(alloc, line_count(text))?,
+        steps: Vec::with_capacity(alloc, count)?,
+        lines: Vec::with_capacity(alloc, count)?,
+        setup_line: None,
     };
     read_lines(dialect, text, &mut script)?;
     Ok(script)
@@ -172,8 +188,13 @@ fn line_end_count(text: &[u8]) -> usize
 fn read_lines(dialect: Dialect, text: &[u8], script: &mut Script) -> Result<(), FaultyLine>
     requires plain { script.old.setup ≡ plain_setup }
     requires none { script.old.steps.items ≡ [] }
+    requires no_lines { script.old.lines.items ≡ [] }
+    requires no_setup { script.old.setup_line ≡ None }
     requires room { length (lines_of text.now) ≤ vec_capacity script.old.steps }
+    requires lines_room { length (lines_of text.now) ≤ vec_capacity script.old.lines }
     ensures ok { OnOk result (AreSaid (said_by dialect (lines_of text.now)) script.new.setup script.new.steps.items) }
+    ensures lines { OnOk result (script.new.lines.items ≡ step_lines dialect text.now) }
+    ensures setup_line { OnOk result (script.new.setup_line ≡ setup_line dialect text.now) }
     ensures err { IfErr result (λ fault. IsFirstFaulty (said_by dialect (lines_of text.now)) fault.0) }
 {
     let mut rest = text;
@@ -198,22 +219,29 @@ fn read_line(
 ) -> Result<bool, FaultyLine>
     requires within { index < 2 ^ 63 }
     requires room { vec_len script.old.steps < vec_capacity script.old.steps }
+    requires lines_room { vec_len script.old.lines < vec_capacity script.old.lines }
     ensures sound { OnOk result (line_at dialect begun (words_of dialect.spelling line.now) ≢ Faulty) }
     ensures begun { IfOk result (λ now. now ≡ begun_after begun (line_at dialect begun (words_of dialect.spelling line.now))) }
     ensures setup { OnOk result (script.new.setup ≡ setup_after script.old.setup (line_at dialect begun (words_of dialect.spelling line.now))) }
     ensures steps { OnOk result (script.new.steps.items ≡ script.old.steps.items ++ steps_of_line (line_at dialect begun (words_of dialect.spelling line.now))) }
     ensures len { vec_len script.new.steps ≤ vec_len script.old.steps + 1 }
     ensures capacity { vec_capacity script.new.steps ≡ vec_capacity script.old.steps }
+    ensures lines { OnOk result (script.new.lines.items ≡ script.old.lines.items ++ step_line (index + 1) (line_at dialect begun (words_of dialect.spelling line.now))) }
+    ensures lines_len { vec_len script.new.lines ≤ vec_len script.old.lines + 1 }
+    ensures lines_capacity { vec_capacity script.new.lines ≡ vec_capacity script.old.lines }
+    ensures setup_line { OnOk result (script.new.setup_line ≡ option_or script.old.setup_line (set_line (index + 1) (line_at dialect begun (words_of dialect.spelling line.now)))) }
     ensures err { IfErr result (λ fault. (fault.0 ≡ index + 1) × (line_at dialect begun (words_of dialect.spelling line.now) ≡ Faulty)) }
 {
     match line_of(dialect, line, begun) {
         Line::Skipped => Ok(begun),
         Line::Sets(setup) => {
             script.setup = setup;
+            script.setup_line = script.setup_line.or(Some(index + 1));
             Ok(true)
         }
         Line::Says(step) => {
             script.steps.push_reserved(step);
+            script.lines.push_reserved(index + 1);
             Ok(true)
         }
         Line::Faulty => Err(FaultyLine(index + 1)),

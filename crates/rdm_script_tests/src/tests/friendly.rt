@@ -26,7 +26,7 @@ fn is_same(step: &CrewStep, other: &CrewStep) -> bool {
 /// Friendly scripts say the same as strict ones, the second of each pair.
 fn try_pairs(rt: &(impl Abort + AllocGlobal), rows: &[(&str, &str)]) -> Result<(), Fail> {
     for (text, strict) in rows {
-        let Script { setup, steps } = parse_as(
+        let Script { setup, steps, .. } = parse_as(
             rt.alloc(),
             Spelling::Friendly,
             DEVICE,

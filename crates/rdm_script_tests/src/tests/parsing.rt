@@ -24,7 +24,11 @@ fn is_faulty(rt: &impl Abort, alloc: Global, script: &str, line: usize) {
 
 /// The only step of a script that has the plain setup.
 fn step_in(rt: &impl Abort, alloc: Global, line: &str) -> Result<CrewStep, Fail> {
-    let Script { setup, mut steps } = parse(alloc, line.as_bytes())?;
+    let Script {
+        setup,
+        mut steps,
+        ..
+    } = parse(alloc, line.as_bytes())?;
     assert_eq!(rt; (setup, steps.len()), (Setup::PLAIN, 1), "{line:?}");
     Ok(steps.pop().ok_or("a step")?)
 }

@@ -1,4 +1,4 @@
-//! The test tool of the README, as its text has it.
+//! The test tool of docs/TESTERS.md, as its text has it.
 
 use rdm_script::run_script;
 use std::test::Fail;

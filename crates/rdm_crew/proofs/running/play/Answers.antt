@@ -1,7 +1,9 @@
+use Rattle.std.proofs.Common.{sym, subst}
+use Rattle.rdm_crew.specs.Stops.{IsStopAt}
 use Rattle.rdm_crew.proofs.Changing.{arrived_has}
-use Rattle.rdm_crew.proofs.Closes.{handed_in}
 use Rattle.rdm_crew.proofs.Watching.{same_lane}
 use Rattle.rdm_crew.proofs.Runs.{closing_jobs, run_trace}
+use Rattle.rdm_crew.proofs.Stopping.{told_at}
 use Rattle.rdm_crew.proofs.running.play.Goals as goal
 
 pub finish-requires-clause-jobs : goal.finish-requires-clause-jobs
@@ -10,12 +12,12 @@ finish-requires-clause-jobs g c =
 
 pub returns-in-Ok-draw_all-clause-trace : goal.returns-in-Ok-draw_all-clause-trace
 returns-in-Ok-draw_all-clause-trace g c =
-    run_trace c.args.steps.now c.args.crew.desk c.play_all-played.new.self.desk c.draw_all.new.self (g.P.Part.gives c.args.first_worker.part.value) (g.Q.Part.gives c.args.second_worker.part.value) (g.N.Panel.offers c.args.watcher.panel.value) c.finish.result
-    c.requires.new.1 c.draw_all.ensures.same c.in-Ok.ensures.played.1 c.in-Ok-draw_all.ensures.drawn.1 c.finish.ensures.events c.finish.ensures.last c.finish.ensures.first c.finish.ensures.second c.finish.ensures.changes
+    run_trace c.args.steps.now c.args.crew.desk c.play_all-played.new.self.desk c.draw_all.new.self (g.P.Part.gives c.args.first_worker.part.value) (g.Q.Part.gives c.args.second_worker.part.value) (g.N.Panel.offers c.args.watcher.panel.value) c.in_ok-finish-in-Ok-draw_all.field-0
+    c.requires.new.1 c.draw_all.ensures.same c.in-Ok.ensures.played.1 c.in-Ok-draw_all.ensures.drawn.1 c.in_ok-finish-in-Ok-draw_all.ensures.events c.in_ok-finish-in-Ok-draw_all.ensures.last c.in_ok-finish-in-Ok-draw_all.ensures.first c.in_ok-finish-in-Ok-draw_all.ensures.second c.in_ok-finish-in-Ok-draw_all.ensures.changes
 
 pub finish-requires-clause-changes : goal.finish-requires-clause-changes
 finish-requires-clause-changes g c =
     (arrived_has c.play_all-played.new.self.desk c.draw_all.new.self c.play_all-played.new.self.changes c.in-Ok-draw_all.ensures.drawn.1 c.in-Ok.ensures.changes, same_lane c.args.crew.changes c.play_all-played.new.self.changes c.args.watcher.changes.value c.play_all-played.ensures.same.3 c.requires.changes.1)
 
-pub returns-in-Ok-draw_all-clause-handed : goal.returns-in-Ok-draw_all-clause-handed
-returns-in-Ok-draw_all-clause-handed g c = handed_in c.draw_all.new.self c.finish.result c.finish.ensures.events c.finish.ensures.taken c.finish.ensures.handed
+pub returns-in-Err-clause-stop : goal.returns-in-Err-clause-stop
+returns-in-Err-clause-stop g c = subst (IsStopAt c.args.steps.now) (sym c.told.ensures) (told_at c.args.steps.now c.play_all-played.new.self c.in-Err.at c.in-Err.ensures.played)

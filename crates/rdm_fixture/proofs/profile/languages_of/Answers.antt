@@ -4,9 +4,9 @@ use Rattle.rdm_fixture.specs.Values.{language}
 use Rattle.rdm_fixture.proofs.ListEntries.{EachIs-at, EachIs-more}
 use Rattle.rdm_fixture.proofs.profile.languages_of.Goals as goal
 
-pub returns-in_default : goal.returns-in_default
-returns-in_default c = λ xs h.
-    let codes = c.args.codes.now.items in
+pub returns-in_default-clause-read : goal.returns-in_default-clause-read
+returns-in_default-clause-read c = λ xs h.
+    let codes = c.args.list.now.items in
     let at = EachIs-at (λ d x. language d ≡ Some x) codes xs.items c.loop-code.code-index c.code-item.result h (omega arith) in
     let here : get_or codes c.loop-code.code-index c.code-item.result ≡ c.code-item.result =
     ap (λ vs. get_or vs c.loop-code.code-index c.code-item.result) (sym c.deref-code-items.ensures.value) ∙ sym c.code-item.is in
@@ -15,7 +15,7 @@ returns-in_default c = λ xs h.
 
 pub loop-code-preserved : goal.loop-code-preserved
 loop-code-preserved c =
-    let codes = c.args.codes.now.items in
+    let codes = c.args.list.now.items in
     let here : get_or codes c.loop-code.code-index c.code-item.result ≡ c.code-item.result =
     ap (λ vs. get_or vs c.loop-code.code-index c.code-item.result) (sym c.deref-code-items.ensures.value) ∙ sym c.code-item.is in
     let said : language (view c.code-item.result) ≡ Some c.in-Some.language = sym c.language_of.ensures ∙ c.in-Some.is in

@@ -6,6 +6,6 @@ use Rattle.rdm_fixture.proofs.profile.languages_of.Given as goal
 
 abbrev pub invariant-loop-code : goal.invariant-loop-code
 invariant-loop-code l = record {
-  read : EachIs (λ d x. language d ≡ Some x) (items_view (take l.code-index l.codes.items)) l.languages.items;
+  read : EachIs (λ d x. language d ≡ Some x) (items_view (take l.code-index l.list.items)) l.languages.items;
   count : length l.languages.items ≡ l.code-index;
 }

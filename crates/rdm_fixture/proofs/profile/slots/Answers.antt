@@ -13,4 +13,4 @@ pub returns-clause-count : goal.returns-clause-count
 returns-clause-count c =
     Reads-ok {A = ArrayVec Slot 46 (Unit {0})} (λ t xs. Lists t (codes "slot") (OfTable IsSlot) 0 46 xs.items)
     (λ xs. length xs.items ≡ slot_count (get_member (codes "slot") (table_view c.args.table.now))) (table_view c.args.table.now) _
-    (λ xs h. slot_count-of (OfTable IsSlot) _ xs.items h.items) c.list.ensures
+    (λ xs h. slot_count-of (OfTable IsSlot) _ xs.items h.items) c.list.ensures.read

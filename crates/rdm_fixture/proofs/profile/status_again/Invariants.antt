@@ -1,13 +1,13 @@
-use Rattle.std.proofs.Common.{◌≢◌, ℕ, ◌<◌, length, slice_index_or}
+use Rattle.std.proofs.Common.{◌≢◌, ℕ, ◌<◌, slice_index_or}
 use Rattle.rdm_device.specs.declared.profile.StatusText.{StatusText}
 use Rattle.rdm_fixture.proofs.profile.status_again.Given as goal
 
--- those before this one are alike to none after them
-abbrev pub invariant-loop-i : goal.invariant-loop-i
-invariant-loop-i l = (a b : ℕ) (d : StatusText) → a < l.i → a < b → b < length l.texts → (slice_index_or l.texts a d).id ≢ (slice_index_or l.texts b d).id
+-- those before this one differ
+abbrev pub invariant-loop-n : goal.invariant-loop-n
+invariant-loop-n l = (i j : ℕ) (d : StatusText) → i < j → j < l.n → (slice_index_or l.texts i d).id ≢ (slice_index_or l.texts j d).id
 
-abbrev pub invariant-loop-j : goal.invariant-loop-j
-invariant-loop-j l = record {
-  before : (a b : ℕ) (d : StatusText) → a < l.i → a < b → b < length l.texts → (slice_index_or l.texts a d).id ≢ (slice_index_or l.texts b d).id;
-  here : (b : ℕ) (d : StatusText) → l.i < b → b < l.j → (slice_index_or l.texts l.i d).id ≢ (slice_index_or l.texts b d).id;
+abbrev pub invariant-loop-i : goal.invariant-loop-i
+invariant-loop-i l = record {
+  before : (i j : ℕ) (d : StatusText) → i < j → j < l.n → (slice_index_or l.texts i d).id ≢ (slice_index_or l.texts j d).id;
+  here : (i : ℕ) (d : StatusText) → i < l.i → (slice_index_or l.texts i d).id ≢ (slice_index_or l.texts l.n d).id;
 }

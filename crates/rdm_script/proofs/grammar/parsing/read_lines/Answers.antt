@@ -3,6 +3,7 @@ use Rattle.std.proofs.lemmas.List.{take_all, length-drop}
 use Rattle.std.proofs.lemmas.Result.{err_from_is_err_and}
 use Rattle.rdm_script.specs.Grammar.{said_by, lines_of}
 use Rattle.rdm_script.proofs.Lines.{said_count, at_line, at_last, passes, fails, last_passes}
+use Rattle.rdm_script.proofs.LinesRead.{steps_more, steps_last, set_more, set_last}
 use Rattle.rdm_script.proofs.grammar.parsing.read_lines.Goals as goal
 
 pub read_line-requires-clause-room : goal.read_line-requires-clause-room
@@ -10,6 +11,12 @@ read_line-requires-clause-room c =
     let text = c.args.text.now in
     let here = at_line c.args.dialect (said_by c.args.dialect (lines_of text)) c.loop-end.begun c.loop-end.rest.now c.loop-end.index c.in-Some.end c.without_return.result.now _ (sym c.in-Some.ensures.end) c.without_return.ensures.front refl c.loop-end.invariant.rest in
     omega (arith, here.lt, said_count c.args.dialect text, c.loop-end.invariant.len, c.loop-end.invariant.room)
+
+pub read_line-requires-clause-lines_room : goal.read_line-requires-clause-lines_room
+read_line-requires-clause-lines_room c =
+    let text = c.args.text.now in
+    let here = at_line c.args.dialect (said_by c.args.dialect (lines_of text)) c.loop-end.begun c.loop-end.rest.now c.loop-end.index c.in-Some.end c.without_return.result.now _ (sym c.in-Some.ensures.end) c.without_return.ensures.front refl c.loop-end.invariant.rest in
+    omega (arith, here.lt, said_count c.args.dialect text, c.loop-end.invariant.lines_len, c.loop-end.invariant.lines_room)
 
 pub returns-in_err-begun-clause-err : goal.returns-in_err-begun-clause-err
 returns-in_err-begun-clause-err c =
@@ -30,6 +37,10 @@ loop-end-preserved c =
       within = omega (arith, length-drop behind rest, c.in-Some.ensures.within, c.loop-end.invariant.within);
       len = omega (arith, c.in_ok-begun.ensures.len, c.loop-end.invariant.len);
       room = omega (arith, c.in_ok-begun.ensures.capacity, c.loop-end.invariant.room);
+      lines = rw c.in_ok-begun.ensures.lines (steps_more _ _ _ _ _ _ here c.loop-end.invariant.lines);
+      lines_len = omega (arith, c.in_ok-begun.ensures.lines_len, c.loop-end.invariant.lines_len);
+      lines_room = omega (arith, c.in_ok-begun.ensures.lines_capacity, c.loop-end.invariant.lines_room);
+      setup_line = rw c.in_ok-begun.ensures.setup_line (set_more _ _ _ _ _ _ here c.loop-end.invariant.setup_line);
     }
 
 pub read_line-requires-2-clause-room : goal.read_line-requires-2-clause-room
@@ -37,6 +48,12 @@ read_line-requires-2-clause-room c =
     let text = c.args.text.now in
     let here = at_last c.args.dialect (said_by c.args.dialect (lines_of text)) c.loop-end.begun c.loop-end.rest.now c.loop-end.index (sym c.in_default.ensures.end) c.loop-end.invariant.rest in
     omega (arith, here.lt, said_count c.args.dialect text, c.loop-end.invariant.len, c.loop-end.invariant.room)
+
+pub read_line-requires-2-clause-lines_room : goal.read_line-requires-2-clause-lines_room
+read_line-requires-2-clause-lines_room c =
+    let text = c.args.text.now in
+    let here = at_last c.args.dialect (said_by c.args.dialect (lines_of text)) c.loop-end.begun c.loop-end.rest.now c.loop-end.index (sym c.in_default.ensures.end) c.loop-end.invariant.rest in
+    omega (arith, here.lt, said_count c.args.dialect text, c.loop-end.invariant.lines_len, c.loop-end.invariant.lines_room)
 
 pub returns-in_err-read_line-clause-err : goal.returns-in_err-read_line-clause-err
 returns-in_err-read_line-clause-err c =
@@ -50,3 +67,15 @@ returns-clause-ok c =
     let text = c.args.text.now in
     let here = at_last c.args.dialect (said_by c.args.dialect (lines_of text)) c.loop-end.begun c.loop-end.rest.now c.loop-end.index (sym c.in_default.ensures.end) c.loop-end.invariant.rest in
     rw (c.in_ok-read_line.ensures.setup, c.in_ok-read_line.ensures.steps) (last_passes _ _ _ _ _ here c.in_ok-read_line.ensures.sound c.loop-end.invariant.said)
+
+pub returns-clause-lines : goal.returns-clause-lines
+returns-clause-lines c =
+    let text = c.args.text.now in
+    let here = at_last c.args.dialect (said_by c.args.dialect (lines_of text)) c.loop-end.begun c.loop-end.rest.now c.loop-end.index (sym c.in_default.ensures.end) c.loop-end.invariant.rest in
+    rw c.in_ok-read_line.ensures.lines (steps_last _ _ _ _ _ here c.loop-end.invariant.lines)
+
+pub returns-clause-setup_line : goal.returns-clause-setup_line
+returns-clause-setup_line c =
+    let text = c.args.text.now in
+    let here = at_last c.args.dialect (said_by c.args.dialect (lines_of text)) c.loop-end.begun c.loop-end.rest.now c.loop-end.index (sym c.in_default.ensures.end) c.loop-end.invariant.rest in
+    rw c.in_ok-read_line.ensures.setup_line (set_last _ _ _ _ _ here c.loop-end.invariant.setup_line)

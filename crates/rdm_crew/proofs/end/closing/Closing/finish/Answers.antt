@@ -26,8 +26,8 @@ returns-clause-second g c =
     c.args.self.first c.args.self.second c.args.self.desk c.join-a.result c.join-b.result c.join-a.ensures c.join-b.ensures c.settle-reports.ensures.first c.settle-reports.ensures.second c.requires.jobs
     c.requires.drawn.0 c.requires.drawn.1 c.requires.lanes.second.posts c.if-second_refused.false
 
-pub returns-then-outstanding-gt0-clause-err : goal.returns-then-outstanding-gt0-clause-err
-returns-then-outstanding-gt0-clause-err g c =
+pub unreachable-requires : goal.unreachable-requires
+unreachable-requires g c =
     let g0 = g.P.Part.gives c.args.self.first_worker.part.value in
     let g1 = g.Q.Part.gives c.args.self.second_worker.part.value in
     let first = first_answered g0 g1

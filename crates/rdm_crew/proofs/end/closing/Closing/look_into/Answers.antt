@@ -1,8 +1,8 @@
 use Rattle.rdm_crew.proofs.Ending.{not_astray, still_has_jobs}
 use Rattle.rdm_crew.proofs.end.closing.Closing.look_into.Goals as goal
 
-pub returns : goal.returns
-returns g c =
+pub unreachable-requires : goal.unreachable-requires
+unreachable-requires g c =
     absurd (not_astray (g.P.Part.gives c.args.self.first_worker.part.value) (g.Q.Part.gives c.args.self.second_worker.part.value)
     c.args.self.first_worker.jobs.value c.args.self.second_worker.jobs.value c.args.self.first_worker.reports.value c.args.self.second_worker.reports.value
     c.args.self.first c.args.self.second c.drain-drained.new.self c.join-a.result c.join-b.result c.join-a.ensures c.join-b.ensures c.settle.ensures.first c.settle.ensures.second

@@ -1,0 +1,152 @@
+//! The search for the fixtures of a line, as C calls it.
+
+ghost use Rattle.std.specs.Prelude.{◌≡◌, ◌≢◌, ◌↔◌, IfSome, IsSomeAnd, MatchOption, None, Some, is_some, length, slice_get};
+ghost use Rattle.rdm_search.specs.Searches.{next_of};
+ghost use Rattle.rdm_search.specs.Stages.{request_of};
+ghost use Rattle.rdm_c.specs.Endpoints.{found, held_search};
+ghost use Rattle.rdm_c.specs.SearchStates.{HasHeard, IsNewSearch, resumed};
+ghost use Rattle.rdm_c.specs.Searches.{NextTold, found_numbers};
+ghost use Rattle.rdm_c.specs.Statuses.{code_of};
+
+use crate::endpoint;
+use crate::endpoint::Endpoint;
+use crate::found::FoundNumbers;
+use crate::handle::Handle;
+use crate::keeping::{free, put, replace, take};
+use crate::running_search::RunningSearch;
+use crate::status::Status;
+use rdm_frame::Uid;
+use std::alloc::Global;
+
+/// Makes a search for all fixtures of the line (E1.20 sections 7.5 and 7.6), by the controller with this UID, in the place of
+/// what the handle held. It takes `limit` transactions at most: 74 for each fixture that the line may have, and 2 more, are
+/// enough on every line.
+///
+/// A UID that addresses more than one device is refused first, and last comes want of memory. Where it is refused, the handle
+/// stays as it was.
+#[unsafe(no_mangle)]
+pub extern "C" fn felosumay_search_new(
+    alloc: Global,
+    search: &mut Handle,
+    maker: u16,
+    device: u32,
+    limit: u32,
+) -> u8
+    ensures made { result ≡ code_of Status.Done →
+        IsSomeAnd (held_search search.new.held) (IsNewSearch (record { maker = maker; device = device }) limit) }
+    ensures bad_uid { (result ≡ code_of Status.BadUid) ↔ (device ≡ 0xFFFFFFFF) }
+    ensures refused { result ≢ code_of Status.Done → search.new ≡ search.old }
+    ensures codes { result ≢ code_of Status.Done → result ≢ code_of Status.BadUid → result ≡ code_of Status.OutOfMemory }
+{
+    let uid = Uid { maker, device };
+    if uid.is_broadcast() {
+        return Status::BadUid.code();
+    }
+    let made = RunningSearch::new(alloc, uid, limit);
+    replace(alloc, search, Endpoint::Searcher(made)).code()
+}
+
+/// Tells what to send next: the request stands at the front of `request` then. There is no more where the search has ended:
+/// it asked everywhere. Else its limit may be reached. Nothing changes, so that a call tells the same until `hear`.
+#[unsafe(no_mangle)]
+pub extern "C" fn felosumay_search_next(
+    alloc: Global,
+    search: &mut Handle,
+    request: &mut [u8; 257],
+    count: &mut usize,
+) -> u8
+    ensures told { IfSome (held_search search.old.held) (λ s.
+        NextTold result count.new request.new (next_of s.source s.tn (request_of s.stage) s.left)) }
+    ensures absent { (result ≡ code_of Status.Absent) ↔ (held_search search.old.held ≡ None) }
+    ensures same { search.new.held ≡ search.old.held }
+{
+    let Some(endpoint) = take(alloc, search) else {
+        return Status::Absent.code();
+    };
+    let status = endpoint::search::next(&endpoint, request, count);
+    put(search, endpoint);
+    status.code()
+}
+
+/// Hears the bytes that came after the request that `felosumay_search_next` told; none where nothing came. Where memory for a
+/// fixture that was found is refused, the search stands where it stood, and the same bytes can be heard again.
+#[unsafe(no_mangle)]
+pub extern "C" fn felosumay_search_hear(alloc: Global, search: &mut Handle, bytes: &[u8]) -> u8
+    ensures heard { IfSome (held_search search.old.held) (λ s. result ≡ code_of Status.Done →
+        IsSomeAnd (held_search search.new.held) (HasHeard s bytes.now)) }
+    ensures absent { (result ≡ code_of Status.Absent) ↔ (held_search search.old.held ≡ None) }
+    ensures same { result ≢ code_of Status.Done → search.new.held ≡ search.old.held }
+    ensures codes { result ≢ code_of Status.Done → result ≢ code_of Status.Absent → result ≡ code_of Status.OutOfMemory }
+{
+    let Some(mut endpoint) = take(alloc, search) else {
+        return Status::Absent.code();
+    };
+    let status = endpoint::search::hear(&mut endpoint, bytes);
+    put(search, endpoint);
+    status.code()
+}
+
+/// Begins again with what was found, in `limit` transactions at most: for the fixtures that were plugged in since, or that lost
+/// power. It un-mutes none, so that 74 transactions for each of these and 1 more are enough.
+#[unsafe(no_mangle)]
+pub extern "C" fn felosumay_search_resume(alloc: Global, search: &mut Handle, limit: u32) -> u8
+    ensures status { result ≡ code_of (found (is_some (held_search search.old.held))) }
+    ensures after { IfSome (held_search search.old.held) (λ s. held_search search.new.held ≡ Some (resumed s limit)) }
+    ensures same { held_search search.old.held ≡ None → search.new.held ≡ search.old.held }
+{
+    let Some(mut endpoint) = take(alloc, search) else {
+        return Status::Absent.code();
+    };
+    let status = endpoint::search::resume(&mut endpoint, limit);
+    put(search, endpoint);
+    status.code()
+}
+
+/// Tells how many fixtures were found so far.
+#[unsafe(no_mangle)]
+pub extern "C" fn felosumay_search_count(
+    alloc: Global,
+    search: &mut Handle,
+    count: &mut usize,
+) -> u8
+    ensures status { result ≡ code_of (found (is_some (held_search search.old.held))) }
+    ensures count { IfSome (held_search search.old.held) (λ s. count.new ≡ length s.found) }
+    ensures same { search.new.held ≡ search.old.held }
+{
+    let Some(endpoint) = take(alloc, search) else {
+        return Status::Absent.code();
+    };
+    let status = endpoint::search::count(&endpoint, count);
+    put(search, endpoint);
+    status.code()
+}
+
+/// Tells of a fixture that was found: that with this index, from 0, in the order in which they were found. There may be no more.
+#[unsafe(no_mangle)]
+pub extern "C" fn felosumay_search_found(
+    alloc: Global,
+    search: &mut Handle,
+    index: usize,
+    fixture: &mut FoundNumbers,
+) -> u8
+    ensures told { IfSome (held_search search.old.held) (λ s.
+        MatchOption (slice_get s.found index) (result ≡ code_of Status.NoMore)
+        (λ f. (result ≡ code_of Status.Done) × (fixture.new ≡ found_numbers f))) }
+    ensures absent { (result ≡ code_of Status.Absent) ↔ (held_search search.old.held ≡ None) }
+    ensures same { search.new.held ≡ search.old.held }
+{
+    let Some(endpoint) = take(alloc, search) else {
+        return Status::Absent.code();
+    };
+    let status = endpoint::search::fixture(&endpoint, index, fixture);
+    put(search, endpoint);
+    status.code()
+}
+
+/// Gives up the search that the handle holds, if any, and its memory.
+#[unsafe(no_mangle)]
+pub extern "C" fn felosumay_search_free(alloc: Global, search: &mut Handle)
+    ensures { search.new.held ≡ None }
+{
+    free(alloc, search);
+}

@@ -1,0 +1,76 @@
+//! A search that C runs.
+
+use rdm_frame::{Frame, Uid};
+use rdm_search::{Found, Search, SearchError};
+use std::alloc::Global;
+use std::marker::Model;
+
+/// A search that C runs. Contracts see it as plain data, since it lies behind a handle.
+#[derive(Drop)]
+pub struct RunningSearch {
+    search: Search,
+}
+
+impl Model for RunningSearch {
+    ghost use Rattle.rdm_c.specs.SearchStates.{SearchState};
+
+    ghost Value = { SearchState };
+
+    ghost view = { λ r. record {
+      source = r.search.source;
+      tn = r.search.tn;
+      left = r.search.left;
+      stage = r.search.stage;
+      found = r.search.found.items;
+    } };
+}
+
+impl RunningSearch {
+    ghost use Rattle.std.specs.Prelude.{◌≡◌, ◌+◌, ◌-◌, ◌%◌, OnOk, OnErr};
+    ghost use Rattle.rdm_search.specs.Answers.{found_uids};
+    ghost use Rattle.rdm_search.specs.Searches.{found_after, next_of};
+    ghost use Rattle.rdm_search.specs.Stages.{Hears, request_of};
+    ghost use Rattle.rdm_c.specs.SearchStates.{IsNewSearch, resumed};
+
+    /// A search for all fixtures, by the controller with this UID, in so many transactions at most.
+    pub(crate) fn new(alloc: Global, source: Uid, limit: u32) -> RunningSearch
+        ensures { IsNewSearch source limit result }
+    {
+        RunningSearch {
+            search: Search::new(alloc, source, limit),
+        }
+    }
+
+    /// The frame to send, if the search hasn't ended.
+    pub(crate) fn next(&self) -> Result<Option<Frame>, SearchError>
+        ensures { result ≡ next_of self.now.source self.now.tn (request_of self.now.stage) self.now.left }
+    {
+        self.search.next()
+    }
+
+    /// Hears what came after the frame. Only memory can be refused, and nothing changes then.
+    pub(crate) fn hear(&mut self, bytes: &[u8]) -> Result<(), SearchError>
+        ensures hears { OnOk result (Hears self.old.stage (found_uids self.old.found) bytes.now self.new.stage (found_uids self.new.found)) }
+        ensures found { OnOk result (self.new.found ≡ found_after self.old.stage self.old.found bytes.now) }
+        ensures left { OnOk result (self.new.left ≡ self.old.left - 1) }
+        ensures tn { OnOk result (self.new.tn ≡ (self.old.tn + 1) % 256) }
+        ensures source { self.new.source ≡ self.old.source }
+        ensures same { OnErr result (self.new ≡ self.old) }
+    {
+        self.search.hear(bytes)
+    }
+
+    /// Begins again, with what was found.
+    pub(crate) fn resume(&mut self, limit: u32)
+        ensures { self.new ≡ resumed self.old limit }
+    {
+        self.search.go_on(limit);
+    }
+
+    /// What was found so far.
+    pub(crate) fn found(&self) -> &[Found]
+        ensures { result.now ≡ self.now.found }
+    {
+        self.search.found()
+    }
+}

@@ -1,0 +1,53 @@
+-- The first entry of a list that says nothing, and the first key that is another.
+use Rattle.std.proofs.Common.{◌≡◌, ℕ, zero, suc, ◌+◌, ◌<◌, ◌≤◌, Bool, true, false, List, [], ◌∷◌, ◌++◌, length, get_or, take, IsTrue, string_bytes, inl, inr, Some, Result, Ok, Err, IfErr, codes, refl, ap, ◌∙◌, arith}
+use Rattle.std.proofs.lemmas.Bool.{and_parts, leb-true}
+use Rattle.std.specs.List.{list_any}
+use Rattle.std.specs.Str.{bytes_eq}
+use Rattle.toml.specs.Data.{array, Items, Members}
+use Rattle.toml.specs.View.{view, items_view, members_view}
+use Rattle.toml.specs.declared.value.Value.{Value}
+use Rattle.toml.proofs.Views.{Entry}
+use Rattle.arrayvec.specs.declared.array_vec.ArrayVec.{ArrayVec}
+use Rattle.rdm_fixture.specs.declared.refusal.Refusal.{Refusal}
+use Rattle.rdm_fixture.specs.declared.refusal.Wanted.TheVariants as wanted
+use Rattle.rdm_fixture.specs.Faults.{Fault, fault, in_entry, told}
+use Rattle.rdm_fixture.specs.FirstWrong.{WrongLanguages}
+use Rattle.rdm_fixture.specs.Keys.{has_only, OfTable, EachIs, items_count, Reads}
+use Rattle.rdm_fixture.specs.Values.{within, language}
+use Rattle.rdm_fixture.specs.Wrong.{FirstOther, InEntry, FirstEntry}
+
+pub other_at : (keys : List (List ℕ)) (done : List Entry) (e : Entry) (left : List Entry) → IsTrue (has_only keys (members_view done))
+    → list_any (bytes_eq (string_bytes e.0)) keys ≡ false → FirstOther keys (members_view (done ++ e ∷ left)) (string_bytes e.0)
+other_at keys [] e left h missed = inl (missed, refl)
+other_at keys (d ∷ done) e left h missed =
+    let (here, rest) = and_parts _ _ h in inr (here, other_at keys done e left rest missed)
+
+pub first_at : {A : Type 0} (list : List ℕ) (P : Members → A → Type 0) (W : Members → Fault → Type 0) (vs : List Value) (xs : List A) (i : ℕ) (d : Value) (n : ℕ) (g f : Fault)
+    → EachIs (OfTable P) (items_view (take i vs)) xs → i < length vs → InEntry list W (view (get_or vs i d)) g → f ≡ in_entry list (n + i) g
+    → FirstEntry list P W n (items_view vs) f
+first_at list P W [] xs i d n g f h less here e = absurd (omega arith)
+first_at list P W (v ∷ vs) xs zero d n g f h less here e =
+    let same : n + 0 ≡ n = omega arith in inl (g, here, e ∙ ap (λ m. in_entry list m g) same)
+first_at list P W (v ∷ vs) [] (suc i) d n g f h less here e = absurd h
+first_at list P W (v ∷ vs) (x ∷ xs) (suc i) d n g f h less here e =
+    let same : n + suc i ≡ n + 1 + i = omega arith in
+    inr ((x, h.0), first_at list P W vs xs i d (n + 1) g f h.1 (omega arith) here (e ∙ ap (λ m. in_entry list m g) same))
+
+pub count_items : (vs : List Value) → items_count (items_view vs) ≡ length vs
+count_items [] = refl
+count_items (v ∷ vs) = let more = count_items vs in omega arith
+
+outside_at : (least most n : ℕ) (b : Bool) → within least most n ≡ b → (least ≤ n → n ≤ most → ⊥) → b ≡ false
+outside_at least most n false e none = refl
+outside_at least most n true e none =
+    let (low, high) = and_parts _ _ e in absurd (none (leb-true least n low) (leb-true n most high))
+
+pub outside : (least most n : ℕ) → (least ≤ n → n ≤ most → ⊥) → within least most n ≡ false
+outside least most n none = outside_at least most n (within least most n) refl none
+
+-- a list of languages in which one is none
+pub language_wrong : (r : Result (ArrayVec ℕ 8 (Unit {0})) Refusal) (ds : Items)
+    → Reads (λ ds xs. EachIs (λ d x. language d ≡ Some x) ds xs.items) ds r → IfErr r (λ e. told e ≡ fault (codes "languages") wanted.Language)
+    → IfErr r (λ e. WrongLanguages (Some (array ds)) (told e))
+language_wrong (Ok xs) ds h w = tt
+language_wrong (Err e) ds h w = inr (λ xs said. h (record { items = xs }) said, w)

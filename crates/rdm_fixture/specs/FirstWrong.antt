@@ -1,0 +1,160 @@
+-- What the tables of a fixture are looked at for, part by part, in the order in which it is done.
+use Rattle.std.specs.Prelude.{◌≡◌, ◌≢◌, ℕ, ◌+◌, ◌<◌, pos, neg_ℤ, false, ◌⊎◌, IsTrue, List, [], ◌∷◌, ◌++◌, length, slice_index_or, Option, Some, None, IsSome, AllPairs, codes}
+use Rattle.toml.specs.Data.{Data, table, array, Members, get_member}
+use Rattle.rdm_device.specs.declared.profile.Unit.{Unit as DeviceUnit}
+use Rattle.rdm_params.specs.declared.jobs.outcome.Outcome.{Outcome}
+use Rattle.rdm_params.specs.declared.jobs.outcome.Outcome.TheVariants.{Done, Reading, Failed}
+use Rattle.rdm_outcomes.specs.declared.rule.Task.{Task}
+use Rattle.rdm_outcomes.specs.Outcomes as rules
+use Rattle.rdm_fixture.specs.declared.refusal.Wanted.TheVariants as wanted
+use Rattle.rdm_fixture.specs.Faults.{Fault, fault, in_entry, in_sub_devices}
+use Rattle.rdm_fixture.specs.Format.{IsPersonality, IsSlot, IsSensor, IsSelfTest, IsStatus, IsUnit, SubDevices, LanguagesAt, IsProfile, personality_keys, slot_keys, sensor_keys, self_test_keys, status_keys, unit_keys, fixture_keys, slot_count}
+use Rattle.rdm_fixture.specs.Keys.{must, has_only, OfTable, EachIs, Lists, items_count}
+use Rattle.rdm_fixture.specs.Outcomes.{IsOutcome, task, severity, outcome_in, and_job_keys, rule_keys}
+use Rattle.rdm_fixture.specs.Values.{within, number, language, uid}
+use Rattle.rdm_fixture.specs.Wrong.{Part, FirstWrong, says_one, FirstOther, only, needed_as, needed, needed_number, free_number, free_signed, free_text, entries}
+
+-- ---- the entries of lists
+
+abbrev pub personality_parts : ℕ → List Part
+personality_parts slots = only personality_keys ∷ needed_number (codes "dmx_footprint") 0 slots ∷ free_text (codes "description") ∷ []
+
+abbrev pub slot_parts : List Part
+slot_parts =
+    only slot_keys ∷ needed_number (codes "label_id") 0 0xFFFF ∷ free_number (codes "type") 0 0xFF
+    ∷ free_number (codes "default_value") 0 0xFF ∷ free_text (codes "description") ∷ []
+
+abbrev pub sensor_parts : List Part
+sensor_parts =
+    only sensor_keys ∷ needed_number (codes "type") 0 0xFF ∷ free_number (codes "unit") 0 0xFF ∷ free_number (codes "prefix") 0 0xFF
+    ∷ free_signed (codes "range_minimum_value") ∷ free_signed (codes "range_maximum_value")
+    ∷ free_signed (codes "normal_minimum_value") ∷ free_signed (codes "normal_maximum_value")
+    ∷ free_number (codes "recorded_value_support") 0 0xFF ∷ free_text (codes "description") ∷ []
+
+abbrev pub self_test_parts : List Part
+self_test_parts = only self_test_keys ∷ needed_number (codes "number") 1 254 ∷ free_text (codes "description") ∷ []
+
+abbrev pub status_parts : List Part
+status_parts = only status_keys ∷ needed_number (codes "id") 0 0xFFFF ∷ free_text (codes "description") ∷ []
+
+-- ---- how jobs end
+
+-- a failure's fields; without `severity` no outcome is told
+abbrev pub failure_parts : List Part
+failure_parts =
+    needed_as wanted.Outcome (codes "severity") severity wanted.Severity ∷ needed_number (codes "status_id") 0 0xFFFF
+    ∷ free_number (codes "data_value_1") 0 0xFFFF ∷ free_number (codes "data_value_2") 0 0xFFFF ∷ []
+
+-- what is wrong where no outcome is told, by what the keys `done` and `reading` hold
+abbrev pub WrongOutcome : Option Data → Option Data → Members → Fault → Type 0
+WrongOutcome (Some d) reading t f = f ≡ fault (codes "done") wanted.True
+WrongOutcome None (Some d) t f = f ≡ fault (codes "reading") (wanted.Number (neg_ℤ (pos 32768)) (pos 32767))
+WrongOutcome None None t f = FirstWrong failure_parts t f
+
+abbrev pub outcome : Part
+outcome = record {
+  Right = λ t. IsSome (outcome_in t);
+  Wrong = λ t f. (outcome_in t ≡ None) × WrongOutcome (get_member (codes "done") t) (get_member (codes "reading") t) t f;
+}
+
+-- no key of another outcome stands beside it
+abbrev pub one_outcome : Part
+one_outcome = record {
+  Right = λ t. (o : Outcome) × (outcome_in t ≡ Some o) × IsTrue (has_only (rule_keys o) t);
+  Wrong = λ t f. (o : Outcome) × (outcome_in t ≡ Some o) × ((key : List ℕ) × FirstOther (rule_keys o) t key × (f ≡ fault key wanted.OneOutcome));
+}
+
+-- the key that tells which outcome it is
+abbrev pub key_of : Outcome → List ℕ
+key_of Done = codes "done"
+key_of (Reading value) = codes "reading"
+key_of (Failed severity id v1 v2) = codes "severity"
+
+-- the parameter can have the outcome
+abbrev pub suiting : Part
+suiting = record {
+  Right = λ t. (x : Task) × (o : Outcome) × (must task (get_member (codes "parameter") t) ≡ Some x) × (outcome_in t ≡ Some o) × IsTrue (rules.suits x o);
+  Wrong = λ t f. (x : Task) × (o : Outcome) × (must task (get_member (codes "parameter") t) ≡ Some x) × (outcome_in t ≡ Some o)
+      × (rules.suits x o ≡ false) × (f ≡ fault (key_of o) wanted.Suiting);
+}
+
+-- the keys of any rule
+abbrev pub all_rule_keys : List (List ℕ)
+all_rule_keys =
+    and_job_keys (codes "done" ∷ codes "reading" ∷ codes "severity" ∷ codes "status_id" ∷ codes "data_value_1" ∷ codes "data_value_2" ∷ [])
+
+-- the jobs that it speaks of
+abbrev pub job_parts : List Part
+job_parts = needed (codes "parameter") task wanted.Task ∷ free_number (codes "value") 0 0xFF ∷ free_number (codes "job") 1 0xFFFF ∷ []
+
+abbrev pub rule_parts : List Part
+rule_parts = only all_rule_keys ∷ (job_parts ++ (outcome ∷ one_outcome ∷ suiting ∷ []))
+
+-- ---- the root and the sub-devices
+
+-- the keys of each device, whose personalities have so many slots at most
+abbrev pub unit_parts : ℕ → List Part
+unit_parts slots =
+    needed_number (codes "device_model_id") 0 0xFFFF ∷ free_text (codes "device_model_description")
+    ∷ free_text (codes "manufacturer_label") ∷ free_text (codes "device_label") ∷ free_number (codes "product_category") 0 0xFFFF
+    ∷ free_number (codes "software_version_id") 0 0xFFFFFFFF ∷ free_text (codes "software_version_label")
+    ∷ free_number (codes "dmx_start_address") 1 512
+    ∷ entries (codes "personality") (IsPersonality slots) (FirstWrong (personality_parts slots)) 1 8 ∷ []
+
+-- as many slots as the list of them has
+abbrev pub slots_of : Members → ℕ
+slots_of t = slot_count (get_member (codes "slot") t)
+
+abbrev pub root : Part
+root = says_one (λ t (u : DeviceUnit). IsUnit (slots_of t) t u) (λ t f. FirstWrong (unit_parts (slots_of t)) t f)
+
+abbrev pub sub_parts : List Part
+sub_parts = only (codes "count" ∷ unit_keys) ∷ needed_number (codes "count") 0 512 ∷ unit_parts 512
+
+abbrev pub WrongSubs : Option Data → Fault → Type 0
+WrongSubs None f = ⊥
+WrongSubs (Some (table s)) f = (g : Fault) × FirstWrong sub_parts s g × (f ≡ in_sub_devices g)
+WrongSubs (Some _) f = f ≡ fault (codes "sub_devices") wanted.Table
+
+abbrev pub sub_devices : Part
+sub_devices =
+    says_one (λ t (s : ℕ × DeviceUnit). SubDevices (slots_of t) t (get_member (codes "sub_devices") t) s.0 s.1)
+    (λ t f. WrongSubs (get_member (codes "sub_devices") t) f)
+
+-- ---- the whole
+
+abbrev pub WrongLanguages : Option Data → Fault → Type 0
+WrongLanguages None f = ⊥
+WrongLanguages (Some (array ds)) f =
+    ((within 1 8 (items_count ds) ≡ false) × (f ≡ fault (codes "languages") (wanted.List 1 8)))
+    ⊎ (((xs : List ℕ) → ¬ EachIs (λ d x. language d ≡ Some x) ds xs) × (f ≡ fault (codes "languages") wanted.Language))
+WrongLanguages (Some _) f = f ≡ fault (codes "languages") (wanted.List 1 8)
+
+abbrev pub languages : Part
+languages =
+    says_one (λ t (xs : List ℕ). LanguagesAt (get_member (codes "languages") t) xs) (λ t f. WrongLanguages (get_member (codes "languages") t) f)
+
+-- the entry at n (from 0) is the first whose number is that of one before it
+pub record IsFirstAgain {A : Type 0} (number : A → ℕ) (xs : List A) (n : ℕ) : Type 0 where
+  pub there : n < length xs
+  pub before : (i j : ℕ) (d : A) → i < j → j < n → number (slice_index_or xs i d) ≢ number (slice_index_or xs j d)
+  pub again : (i : ℕ) × (i < n) × ((d : A) → number (slice_index_or xs i d) ≡ number (slice_index_or xs n d))
+
+-- the entries of a list of up to 8 differ in what this key says
+abbrev pub differing : {A : Type 0} → List ℕ → List ℕ → (Members → A → Type 0) → (A → ℕ) → Part
+differing {A = A} list key P number =
+    says_one (λ t (xs : List A). Lists t list (OfTable P) 0 8 xs × AllPairs (λ a b. number a ≢ number b) xs)
+    (λ t f. (xs : List A) × (n : ℕ) × Lists t list (OfTable P) 0 8 xs × IsFirstAgain number xs n × (f ≡ in_entry list (n + 1) (fault key wanted.Other)))
+
+abbrev pub profile_parts : List Part
+profile_parts =
+    free_number (codes "boot_software_version_id") 0 0xFFFFFFFF ∷ free_text (codes "boot_software_version_label") ∷ languages
+    ∷ free_number (codes "presets") 0 65534 ∷ entries (codes "slot") IsSlot (FirstWrong slot_parts) 0 46 ∷ root ∷ sub_devices
+    ∷ entries (codes "sensor") IsSensor (FirstWrong sensor_parts) 0 8
+    ∷ entries (codes "self_test") IsSelfTest (FirstWrong self_test_parts) 0 8 ∷ differing (codes "self_test") (codes "number") IsSelfTest (λ a. a.number)
+    ∷ entries (codes "status") IsStatus (FirstWrong status_parts) 0 8 ∷ differing (codes "status") (codes "id") IsStatus (λ a. a.id) ∷ []
+
+abbrev pub fixture_parts : List Part
+fixture_parts =
+    only fixture_keys ∷ needed (codes "uid") uid wanted.Uid ∷ says_one IsProfile (FirstWrong profile_parts)
+    ∷ entries (codes "outcome") IsOutcome (FirstWrong rule_parts) 0 32 ∷ []

@@ -1,0 +1,49 @@
+-- The lines of the steps and of the setup, as far as a text is read.
+use Rattle.std.proofs.Common.{◌≡◌, ℕ, ◌+◌, List, [], ◌∷◌, ◌++◌, drop, Option, Some, None, refl, sym, ap, ◌∙◌, add-one, append_assoc}
+use Rattle.std.proofs.lemmas.List.{append-nil}
+use Rattle.std.specs.Option.{option_or}
+use Rattle.std.proofs.Math.Seq.{drop-cons}
+use Rattle.rdm_script.specs.declared.grammar.line.Line.{Line}
+use Rattle.rdm_script.specs.StepLines.{step_line, set_line, step_lines_from, set_line_from}
+use Rattle.rdm_script.proofs.Lines.{AtLine}
+
+drop_at : (said : List Line) (i : ℕ) (line : Line) (behind : List Line) → AtLine said i line behind → drop i said ≡ line ∷ behind
+drop_at said i line behind here =
+    let parts : drop i said ≡ _ ∷ drop (i + 1) said = rw add-one (drop-cons said i line here.lt) in
+    rw here.rest (parts ∙ ap (λ (x : Line). x ∷ drop (i + 1) said) here.is)
+
+or_assoc : (a b c : Option ℕ) → option_or (option_or a b) c ≡ option_or a (option_or b c)
+or_assoc None b c = refl
+or_assoc (Some x) b c = refl
+
+or_none : (a : Option ℕ) → option_or a None ≡ a
+or_none None = refl
+or_none (Some x) = refl
+
+-- ---- the steps
+
+steps_behind : (said : List Line) (i : ℕ) (line : Line) (behind : List Line) (found all : List ℕ) → AtLine said i line behind → found ++ step_lines_from (i + 1) (drop i said) ≡ all
+    → found ++ step_line (i + 1) line ++ step_lines_from (i + 1 + 1) behind ≡ all
+steps_behind said i line behind found all here so_far =
+    append_assoc found (step_line (i + 1) line) (step_lines_from (i + 1 + 1) behind) ∙ ap (λ (ls : List Line). found ++ step_lines_from (i + 1) ls) (sym (drop_at said i line behind here)) ∙ so_far
+
+pub steps_more : (said : List Line) (i : ℕ) (line : Line) (behind : List Line) (found all : List ℕ) → AtLine said i line behind → found ++ step_lines_from (i + 1) (drop i said) ≡ all
+    → found ++ step_line (i + 1) line ++ step_lines_from (i + 1 + 1) (drop (i + 1) said) ≡ all
+steps_more said i line behind found all here so_far = rw (← here.rest) (steps_behind said i line behind found all here so_far)
+
+pub steps_last : (said : List Line) (i : ℕ) (line : Line) (found all : List ℕ) → AtLine said i line [] → found ++ step_lines_from (i + 1) (drop i said) ≡ all → found ++ step_line (i + 1) line ≡ all
+steps_last said i line found all here so_far = sym (append-nil (found ++ step_line (i + 1) line)) ∙ steps_behind said i line [] found all here so_far
+
+-- ---- the setup
+
+set_behind : (said : List Line) (i : ℕ) (line : Line) (behind : List Line) (found all : Option ℕ) → AtLine said i line behind → option_or found (set_line_from (i + 1) (drop i said)) ≡ all
+    → option_or (option_or found (set_line (i + 1) line)) (set_line_from (i + 1 + 1) behind) ≡ all
+set_behind said i line behind found all here so_far =
+    or_assoc found (set_line (i + 1) line) (set_line_from (i + 1 + 1) behind) ∙ ap (λ (ls : List Line). option_or found (set_line_from (i + 1) ls)) (sym (drop_at said i line behind here)) ∙ so_far
+
+pub set_more : (said : List Line) (i : ℕ) (line : Line) (behind : List Line) (found all : Option ℕ) → AtLine said i line behind → option_or found (set_line_from (i + 1) (drop i said)) ≡ all
+    → option_or (option_or found (set_line (i + 1) line)) (set_line_from (i + 1 + 1) (drop (i + 1) said)) ≡ all
+set_more said i line behind found all here so_far = rw (← here.rest) (set_behind said i line behind found all here so_far)
+
+pub set_last : (said : List Line) (i : ℕ) (line : Line) (found all : Option ℕ) → AtLine said i line [] → option_or found (set_line_from (i + 1) (drop i said)) ≡ all → option_or found (set_line (i + 1) line) ≡ all
+set_last said i line found all here so_far = sym (or_none (option_or found (set_line (i + 1) line))) ∙ set_behind said i line [] found all here so_far

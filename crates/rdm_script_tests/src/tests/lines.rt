@@ -1,0 +1,37 @@
+//! Which line says which step.
+
+use rdm_script::parse;
+use std::process::Abort;
+use std::test::Fail;
+
+/// Scripts, the line of the setup of each, and the lines of its steps.
+const ROWS: [(&str, Option<usize>, &[usize]); 9] = [
+    ("", None, &[]),
+    ("# draw\n\n \t\r\n", None, &[]),
+    ("draw", None, &[1]),
+    ("draw\ndraw\n", None, &[1, 2]),
+    ("draw\r\n\r\n# collect\r\n  collect\r\n", None, &[1, 4]),
+    ("\n\ndraw\n\n#\ndraw\n\n", None, &[3, 6]),
+    ("setup 0 8 advisory", Some(1), &[]),
+    (
+        "# setup 1 1 error\n\nsetup 0 8 error\ndraw\n\ndraw\n",
+        Some(3),
+        &[4, 6],
+    ),
+    (
+        "#\n\tsetup 0 8 error\n#setup\nsettle 1\n#\npanel 1\ncollect",
+        Some(2),
+        &[4, 6, 7],
+    ),
+];
+
+/// Lines are counted from 1, with those that say nothing.
+#[test]
+fn lines(rt: HostRuntime) -> Result<(), Fail> {
+    for (text, setup_line, lines) in ROWS {
+        let script = parse(rt.alloc(), text.as_bytes())?;
+        assert_eq!(rt; script.setup_line, setup_line, "{text:?}");
+        assert_eq!(rt; script.lines.as_slice(), lines, "{text:?}");
+    }
+    Ok(())
+}

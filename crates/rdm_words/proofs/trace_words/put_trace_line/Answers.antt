@@ -1,0 +1,18 @@
+use Rattle.std.proofs.Common.{ℕ, List, Option, ap, ◌∙◌}
+use Rattle.rdm_trace.specs.declared.line.Line.TheVariants.{Reply}
+use Rattle.rdm_words.proofs.Fixed.{adds_send, adds_reply}
+use Rattle.rdm_words.proofs.trace_words.put_trace_line.Goals as goal
+
+pub returns-in_ok-put_bytes_words-in-Send : goal.returns-in_ok-put_bytes_words-in-Send
+returns-in_ok-put_bytes_words-in-Send c =
+    record {
+      fixed = adds_send c.put_fault.result c.args.line.now c.as_slice.result.now _ c.in-Send.fault _ _ _ c.in-Send.is c.as_slice.ensures.value
+          c.in_ok-put_bytes_words-in-Send.ensures.fixed c.put_fault.ensures.words c.put_fault.ensures.plain;
+    }
+
+pub returns-in-Some : goal.returns-in-Some
+returns-in-Some c =
+    record {
+      fixed = adds_reply c.put_bytes_words-in-Some.result c.args.line.now c.as_slice-in-Some.result.now _ _ _
+          (c.in-Reply.is ∙ ap (λ (f : Option (List ℕ)). Reply f) c.in-Some.is) c.as_slice-in-Some.ensures.value c.put_bytes_words-in-Some.ensures.fixed;
+    }
