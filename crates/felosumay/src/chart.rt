@@ -1,8 +1,8 @@
 //! `felosumay chart`: a trace as a picture.
 
 use crate::fault::Fault;
+use crate::host::Host;
 use crate::source::{Source, refuse_clashes, save, without_mark};
-use crate::system::System;
 use crate::words::MOST_BYTES;
 use crate::{fixture, usage};
 use clap::ArgMatches;
@@ -11,7 +11,7 @@ use rdm_fixture::Fixture;
 use rdm_words::Known;
 
 /// Reads the trace that is named, and writes its chart.
-pub fn run<'a, S: System>(rt: S, asked: &ArgMatches<'a>) -> Result<(), Fault<'a>> {
+pub fn run<'a, H: Host>(rt: H, asked: &ArgMatches<'a>) -> Result<(), Fault<'a>> {
     refuse_clashes(asked)?;
     let fixture = fixture::asked_for(rt, asked)?;
     let source = Source::named(asked.get_str(usage::INPUT));
@@ -23,8 +23,8 @@ pub fn run<'a, S: System>(rt: S, asked: &ArgMatches<'a>) -> Result<(), Fault<'a>
 }
 
 /// The chart of a trace.
-pub fn draw<'a, S: System>(
-    rt: S,
+pub fn draw<'a, H: Host>(
+    rt: H,
     name: &'a str,
     trace: &[u8],
     fixture: &Fixture,

@@ -1,8 +1,8 @@
 //! Fixtures: `felosumay fixture`, and the fixture that other subcommands are asked for.
 
 use crate::fault::Fault;
+use crate::host::Host;
 use crate::source::{OUTPUT, Source};
-use crate::system::System;
 use crate::{telling, usage};
 use clap::ArgMatches;
 use rdm_device::Profile;
@@ -21,7 +21,7 @@ const DEVICE: Uid = Uid {
 };
 
 /// Reads the fixture file that is named, and prints what it describes.
-pub fn run<'a, S: System>(rt: S, asked: &ArgMatches<'a>) -> Result<(), Fault<'a>> {
+pub fn run<'a, H: Host>(rt: H, asked: &ArgMatches<'a>) -> Result<(), Fault<'a>> {
     let source = Source::named(asked.get_str(usage::INPUT));
     let fixture = FixtureFile::read(rt, source)?.fixture(rt)?;
     match telling::tell(&rt, &fixture) {
@@ -31,7 +31,7 @@ pub fn run<'a, S: System>(rt: S, asked: &ArgMatches<'a>) -> Result<(), Fault<'a>
 }
 
 /// The fixture of the file that is asked for, or the demonstration fixture without sub-devices.
-pub fn asked_for<'a, S: System>(rt: S, asked: &ArgMatches<'a>) -> Result<Fixture, Fault<'a>> {
+pub fn asked_for<'a, H: Host>(rt: H, asked: &ArgMatches<'a>) -> Result<Fixture, Fault<'a>> {
     match FixtureFile::asked_for(rt, asked)? {
         Some(file) => file.fixture(rt),
         None => Ok(demonstration()),
@@ -56,8 +56,8 @@ pub struct FixtureFile<'a> {
 
 impl<'a> FixtureFile<'a> {
     /// The file that is asked for, if one is.
-    pub fn asked_for<S: System>(
-        rt: S,
+    pub fn asked_for<H: Host>(
+        rt: H,
         asked: &ArgMatches<'a>,
     ) -> Result<Option<FixtureFile<'a>>, Fault<'a>> {
         match asked.get_str(usage::FIXTURE) {
@@ -67,7 +67,7 @@ impl<'a> FixtureFile<'a> {
     }
 
     /// Reads a file.
-    fn read<S: System>(rt: S, source: Source<'a>) -> Result<FixtureFile<'a>, Fault<'a>> {
+    fn read<H: Host>(rt: H, source: Source<'a>) -> Result<FixtureFile<'a>, Fault<'a>> {
         Ok(FixtureFile {
             name: source.name(),
             bytes: source.read(rt, MOST_BYTES)?,
@@ -75,7 +75,7 @@ impl<'a> FixtureFile<'a> {
     }
 
     /// The fixture that it describes.
-    pub fn fixture<S: System>(&self, rt: S) -> Result<Fixture, Fault<'a>> {
+    pub fn fixture<H: Host>(&self, rt: H) -> Result<Fixture, Fault<'a>> {
         let bytes = self.bytes.as_slice();
         let text = match str::from_utf8(bytes) {
             Ok(text) => text,

@@ -7,11 +7,11 @@
 mod chart;
 mod fault;
 mod fixture;
+mod host;
 mod outcomes;
 mod parameters;
 mod play;
 mod source;
-mod system;
 mod telling;
 mod usage;
 mod watched;
@@ -21,11 +21,11 @@ mod words;
 use clap::ArgMatches;
 use clap::error::ErrorKind;
 use fault::Fault;
+use host::Host;
 use source::OUTPUT;
 use std::env;
 use std::io::IsTerminal;
 use std::process::ExitCode;
-use system::System;
 
 fn main(rt: HostRuntime) -> ExitCode {
     let words = match command_line(rt) {
@@ -52,7 +52,7 @@ fn command_line<'a>(rt: HostRuntime) -> Result<Vec<String>, Fault<'a>> {
 }
 
 /// Does what the command line asks for.
-fn run<'a, S: System>(rt: S, matches: &ArgMatches<'a>) -> Result<(), Fault<'a>> {
+fn run<'a, H: Host>(rt: H, matches: &ArgMatches<'a>) -> Result<(), Fault<'a>> {
     match matches.subcommand() {
         Some(("play", asked)) => play::run(rt, asked),
         Some(("words", asked)) => words::run(rt, asked),

@@ -4,8 +4,8 @@
 mod data;
 
 use crate::fault::Fault;
+use crate::host::Host;
 use crate::source::print;
-use crate::system::System;
 use crate::{fixture, usage};
 use clap::ArgMatches;
 use data::{data_of, put_data};
@@ -21,7 +21,7 @@ use std::fmt::Write;
 const SUB_DEVICE: u16 = 1;
 
 /// Prints the parameter that is named, or all of them.
-pub fn run<'a, S: System>(rt: S, asked: &ArgMatches<'a>) -> Result<(), Fault<'a>> {
+pub fn run<'a, H: Host>(rt: H, asked: &ArgMatches<'a>) -> Result<(), Fault<'a>> {
     let mut profile = fixture::asked_for(rt, asked)?.profile;
     // Where there are none, this shows what one would have.
     profile.subs = profile.subs.max(SUB_DEVICE);

@@ -9,8 +9,8 @@ ghost use Rattle.rdm_script.specs.declared.dialect.Spelling.TheVariants.{Friendl
 use crate::chart::draw;
 use crate::fault::Fault;
 use crate::fixture::{FixtureFile, demonstration};
+use crate::host::Host;
 use crate::source::{OUTPUT, Source, print, refuse_clashes, save, without_mark};
-use crate::system::System;
 use crate::usage;
 use crate::watched::Watched;
 use crate::words::say;
@@ -37,7 +37,7 @@ const CONTROLLER: Uid = Uid {
 const MOST_SUBS: u16 = 512;
 
 /// Plays the script that is named, and prints what is asked for.
-pub fn run<'a, S: System>(rt: S, asked: &ArgMatches<'a>) -> Result<(), Fault<'a>> {
+pub fn run<'a, H: Host>(rt: H, asked: &ArgMatches<'a>) -> Result<(), Fault<'a>> {
     refuse_clashes(asked)?;
     let source = Source::named(asked.get_str(usage::INPUT));
     let text = source.read(rt, MOST_BYTES)?;
@@ -70,8 +70,8 @@ pub fn run<'a, S: System>(rt: S, asked: &ArgMatches<'a>) -> Result<(), Fault<'a>
 }
 
 /// Plays a script, and prints its trace.
-fn print_trace<'a, S: System>(
-    rt: S,
+fn print_trace<'a, H: Host>(
+    rt: H,
     stage: Option<Fixture>,
     script: &Script<'_, 'a>,
 ) -> Result<(), Fault<'a>> {
@@ -116,8 +116,8 @@ impl<'a> Script<'_, 'a> {
 }
 
 /// Draws a trace, and prints it or its words. A chart on standard output stands in the place of the trace.
-fn show<'a, S: System>(
-    rt: S,
+fn show<'a, H: Host>(
+    rt: H,
     asked: &ArgMatches<'a>,
     name: &'a str,
     trace: &[u8],
@@ -138,8 +138,8 @@ fn show<'a, S: System>(
 }
 
 /// Plays a script on a fixture from a file, or else on that of the demonstration, and writes its trace.
-fn play<S: System, W: Write>(
-    rt: S,
+fn play<H: Host, W: Write>(
+    rt: H,
     stage: Option<Fixture>,
     script: &[u8],
     writer: &mut W,
@@ -151,8 +151,8 @@ fn play<S: System, W: Write>(
 }
 
 /// Plays a script on the fixture of the demonstration, and writes its trace.
-fn play_demonstration<S: System, W: Write>(
-    rt: S,
+fn play_demonstration<H: Host, W: Write>(
+    rt: H,
     script: &[u8],
     writer: &mut W,
 ) -> Result<(), ProgramError>
@@ -164,8 +164,8 @@ fn play_demonstration<S: System, W: Write>(
 }
 
 /// Plays a script on a fixture, and writes its trace.
-fn play_on<S: System, W: Write>(
-    rt: S,
+fn play_on<H: Host, W: Write>(
+    rt: H,
     fixture: Fixture,
     script: &[u8],
     writer: &mut W,

@@ -1,7 +1,7 @@
 //! Where text comes from, and where it goes.
 
 use crate::fault::Fault;
-use crate::system::System;
+use crate::host::Host;
 use crate::usage;
 use clap::ArgMatches;
 use std::alloc::Global;
@@ -40,7 +40,7 @@ impl<'a> Source<'a> {
     }
 
     /// All of its bytes. More of them than `most` are refused.
-    pub fn read<S: System>(self, rt: S, most: u64) -> Result<Vec<u8>, Fault<'a>> {
+    pub fn read<H: Host>(self, rt: H, most: u64) -> Result<Vec<u8>, Fault<'a>> {
         let mut bytes = Vec::new(rt.alloc());
         // One byte more is read, which shows that there are too many.
         let limit = most.saturating_add(1);
@@ -88,7 +88,7 @@ pub fn refuse_clashes<'a>(asked: &ArgMatches<'a>) -> Result<(), Fault<'a>> {
 }
 
 /// Writes a text to a file, or to standard output where the path is `-`.
-pub fn save<'a, S: System>(rt: S, path: &'a str, text: &[u8]) -> Result<(), Fault<'a>> {
+pub fn save<'a, H: Host>(rt: H, path: &'a str, text: &[u8]) -> Result<(), Fault<'a>> {
     if path == "-" {
         return print(rt, text);
     }
@@ -99,7 +99,7 @@ pub fn save<'a, S: System>(rt: S, path: &'a str, text: &[u8]) -> Result<(), Faul
 }
 
 /// Writes a text to standard output.
-pub fn print<'a, S: System>(rt: S, text: &[u8]) -> Result<(), Fault<'a>> {
+pub fn print<'a, H: Host>(rt: H, text: &[u8]) -> Result<(), Fault<'a>> {
     match io::writer(&rt).write_all(text) {
         Ok(()) => Ok(()),
         Err(error) => Err(Fault::Io(OUTPUT, error)),

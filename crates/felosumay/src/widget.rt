@@ -1,8 +1,8 @@
 //! `felosumay widget`: a virtual fixture on standard input and output.
 
 use crate::fault::Fault;
+use crate::host::Host;
 use crate::source::{INPUT, OUTPUT, refuse_clashes};
-use crate::system::System;
 use crate::watched::Watched;
 use crate::{fixture, usage};
 use clap::ArgMatches;
@@ -14,7 +14,7 @@ use std::io;
 const QUEUE_SIZE: u16 = 8;
 
 /// Serves until standard input ends.
-pub fn run<'a, S: System>(rt: S, asked: &ArgMatches<'a>) -> Result<(), Fault<'a>> {
+pub fn run<'a, H: Host>(rt: H, asked: &ArgMatches<'a>) -> Result<(), Fault<'a>> {
     refuse_clashes(asked)?;
     let mut fixture = fixture::asked_for(rt, asked)?;
     if let Some(subs) = asked.get_one::<u16>(usage::SUBS) {

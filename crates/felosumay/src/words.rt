@@ -1,8 +1,8 @@
 //! `felosumay words`: what a trace or frames say, in words.
 
 use crate::fault::Fault;
+use crate::host::Host;
 use crate::source::{Source, print, refuse_clashes, without_mark};
-use crate::system::System;
 use crate::{fixture, usage};
 use clap::ArgMatches;
 use rdm_fixture::Fixture;
@@ -12,7 +12,7 @@ use rdm_words::{Known, words};
 pub const MOST_BYTES: u64 = 67108864;
 
 /// Reads the trace that is named, and prints its words.
-pub fn run<'a, S: System>(rt: S, asked: &ArgMatches<'a>) -> Result<(), Fault<'a>> {
+pub fn run<'a, H: Host>(rt: H, asked: &ArgMatches<'a>) -> Result<(), Fault<'a>> {
     refuse_clashes(asked)?;
     let known = fixture::asked_for(rt, asked)?;
     let source = Source::named(asked.get_str(usage::INPUT));
@@ -21,7 +21,7 @@ pub fn run<'a, S: System>(rt: S, asked: &ArgMatches<'a>) -> Result<(), Fault<'a>
 }
 
 /// Prints the words of a trace.
-pub fn say<'a, S: System>(rt: S, trace: &[u8], fixture: &Fixture) -> Result<(), Fault<'a>> {
+pub fn say<'a, H: Host>(rt: H, trace: &[u8], fixture: &Fixture) -> Result<(), Fault<'a>> {
     let known = Known::of(fixture.uid, &fixture.profile);
     let words = words(rt.alloc(), trace, &known)?;
     print(rt, words.as_slice())

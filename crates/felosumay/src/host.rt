@@ -1,4 +1,4 @@
-//! What the program needs of the system.
+//! What the program needs of the machine that it runs on.
 
 use std::rt::Files;
 use std::sync::Wait;
@@ -6,7 +6,7 @@ use std::thread::Threads;
 use std::time::Clock;
 
 /// Files, the standard streams, memory, and threads to wait for.
-pub trait System: Files
+pub trait Host: Files
     + Input
     + Print
     + Eprint
@@ -18,7 +18,7 @@ pub trait System: Files
     + Send
     + 'static {}
 
-impl<T> System for T
+impl<T> Host for T
 where
     T: Files
         + Input
