@@ -69,7 +69,7 @@ static int is_same(const felosumay_message *one, const felosumay_message *other)
 }
 
 /* The request of the second poll is lost, though the first was answered. The third asks for the last message again, by slot 24,
- * and gets the one that the console has: where a message is equal to the one before it, and was asked for again, it is most
+ * and gets the one that the console has: if a message is equal to the one before it, and was asked for again, it is most
  * likely the same. */
 static felosumay_result repeat(felosumay_collector *console, felosumay_responder *device) {
     uint8_t request[FELOSUMAY_FRAME_BYTES];

@@ -1,10 +1,10 @@
 /* Felosumay: a responder, a collector and discovery for Remote Device Management (ANSI E1.20-2010).
  *
  * A handle starts as {0}. It belongs to the library from then on: never copy it, and never look behind its pointer or write
- * it. Pointers are valid, also where a length is 0, and no two of one call overlap. Each handle is in one call at a time; which
- * thread makes the call is all the same, so a mutex may hand a handle from thread to thread. Those are the only duties: all
- * else is tested, and the result says so. Where a call isn't DONE, what stands behind its other pointers has no meaning, unless
- * the call says more.
+ * it. Pointers must be valid, even if a length is 0, and no two of one call may overlap. Each handle may be in one call at a
+ * time, on any thread, so a mutex may hand a handle from thread to thread. These are the only preconditions: all else is
+ * tested, and the result says so. If a call isn't DONE, what stands behind its other pointers has no meaning, unless the call
+ * says more.
  *
  * The library runs on x86-64 processors of the level x86-64-v2, which have SSE4.2. */
 #ifndef FELOSUMAY_H
@@ -24,19 +24,19 @@ typedef struct { void *at; } felosumay_search;
 typedef uint8_t felosumay_result;
 enum {
     FELOSUMAY_DONE = 0,          /* it was carried out */
-    FELOSUMAY_OUT_OF_MEMORY = 1, /* memory was refused */
-    FELOSUMAY_BAD_PROFILE = 2,   /* the profile breaks one of the rules that stand below it */
+    FELOSUMAY_OUT_OF_MEMORY = 1, /* out of memory */
+    FELOSUMAY_BAD_PROFILE = 2,   /* the profile breaks one of the rules listed below it */
     FELOSUMAY_BAD_SIZE = 3,      /* the size of the queue isn't 1 to 1,024 */
     FELOSUMAY_BAD_UID = 4,       /* the UID addresses more than one device */
     FELOSUMAY_ABSENT = 5,        /* the handle holds nothing that the call is for */
     FELOSUMAY_ASTRAY = 6,        /* the report isn't of the oldest job of its worker, or its outcome doesn't fit */
-    FELOSUMAY_UNKNOWN = 7,       /* a number that was handed in stands for nothing */
-    FELOSUMAY_REFUSED = 8,       /* the command is refused, and a reason is given */
+    FELOSUMAY_UNKNOWN = 7,       /* a number that was passed in stands for nothing */
+    FELOSUMAY_REFUSED = 8,       /* the command is rejected, and a reason is given */
     FELOSUMAY_NO_VALUE = 9,      /* the command doesn't answer with a value */
     FELOSUMAY_RESERVED = 10,     /* QUEUED_MESSAGE and STATUS_MESSAGES are the collector's own */
     FELOSUMAY_BUSY = 11,         /* a transaction is open */
     FELOSUMAY_TOO_LONG = 12,     /* there are more data than a frame can carry, or a label is longer than 32 bytes */
-    FELOSUMAY_NO_MORE = 13,      /* there is nothing more */
+    FELOSUMAY_NO_MORE = 13,      /* there are no more */
     FELOSUMAY_NO_ROOM = 14,      /* there is no room for one more message */
     FELOSUMAY_OUT_OF_RANGE = 15, /* a SET of the value would be out of range */
     FELOSUMAY_LIMIT = 16         /* the search took as many transactions as it may */
@@ -128,7 +128,7 @@ typedef struct {
 
 /* BAD_PROFILE says that one of these rules is broken, and not which:
  *   subs is at most 512, and presets below 65535;
- *   root and sub have at least one personality each, and a start address of 1 to 512, also where there are no sub-devices;
+ *   root and sub have at least one personality each, and a start address of 1 to 512, even if there are no sub-devices;
  *   the footprint of each personality of the root is at most slot_count, and so at most 46; of sub at most 512;
  *   there is a language;
  *   the number of each self test is 1 to 254, and no two have the same;
@@ -149,14 +149,14 @@ typedef struct {
 
 typedef struct {
     size_t count;    /* how many bytes the reply has */
-    uint8_t replied; /* 1 where there is a reply, else 0 */
-    uint8_t started; /* 1 where a job started, else 0 */
+    uint8_t replied; /* 1 if there is a reply, else 0 */
+    uint8_t started; /* 1 if a job started, else 0 */
     felosumay_job job;
 } felosumay_stepped;
 
 typedef struct {
     uint8_t kind;     /* FELOSUMAY_JOB_DONE and so on */
-    uint8_t severity; /* where it failed: 02 advisory, 03 warning, 04 error; 12, 13, 14 where that is over */
+    uint8_t severity; /* if it failed: 02 advisory, 03 warning, 04 error; 12, 13, 14 when that is over */
     int16_t reading;
     uint16_t id;
     uint16_t v1;
@@ -169,27 +169,27 @@ enum {
     FELOSUMAY_JOB_FAILED = 2   /* it failed: a status entry with severity, ID and two values */
 };
 
-/* Makes a responder of this profile, or the demonstration fixture with so many sub-devices, in the place of what the handle
- * held. Where it isn't DONE, the handle stays as it was. BAD_UID, BAD_SIZE, BAD_PROFILE, OUT_OF_MEMORY, in this order. The
+/* Makes a responder of this profile, or the demonstration fixture with N sub-devices (`subs`), and replaces what the handle
+ * held. If it isn't DONE, the handle stays as it was. BAD_UID, BAD_SIZE, BAD_PROFILE, OUT_OF_MEMORY, in this order. The
  * new responder counts its jobs from 0 again: end the jobs of the old one first, or drop their reports. */
 felosumay_result felosumay_responder_new(felosumay_responder *responder, uint16_t maker, uint32_t device,
                                          const felosumay_profile *profile, uint16_t queue_size);
 felosumay_result felosumay_responder_demo(felosumay_responder *responder, uint16_t maker, uint32_t device, uint16_t subs,
                                           uint16_t queue_size);
 
-/* Hears bytes. Where there is a reply, it stands at the front of `reply`; the answer to discovery is a reply as any other,
+/* Hears bytes. If there is a reply, it stands at the front of `reply`; the answer to discovery is a reply like any other,
  * and has no break before it. What stands behind the reply has no meaning. ABSENT: `replied` and `started` are 0 then. */
 felosumay_result felosumay_responder_step(felosumay_responder *responder, const uint8_t *bytes, size_t length,
                                           uint8_t reply[FELOSUMAY_FRAME_BYTES], felosumay_stepped *stepped);
 
-/* Takes the report of a job. `kept` is 1 where it left a status entry that is kept, else 0. UNKNOWN, ABSENT, ASTRAY, in this
+/* Takes the report of a job. `kept` is 1 if it left a status entry that is kept, else 0. UNKNOWN, ABSENT, ASTRAY, in this
  * order; nothing changes then. A job is known by its numbers alone: that of another responder, or of the one that the handle
  * held before, isn't told from one of this responder that has the same numbers. */
 felosumay_result felosumay_responder_arrive(felosumay_responder *responder, const felosumay_job *job,
                                             const felosumay_outcome *outcome, uint8_t *kept);
 
 /* A person changes something at the fixture's own menu, and the message that tells the controller waits; each DONE adds one,
- * also where the value is as it was. Only polls take messages away: where no controller polls the queue fills up, and each
+ * even if the value is as it was. Only polls take messages away: if no controller polls, the queue fills up, and each
  * change is NO_ROOM from then on. A SET that the firmware steps itself needs no room (c/fixture.c, `set_own`). TOO_LONG for a
  * label, then ABSENT, NO_ROOM, OUT_OF_RANGE, in this order; nothing changes then. */
 felosumay_result felosumay_responder_change_start(felosumay_responder *responder, uint16_t start);
@@ -199,7 +199,7 @@ felosumay_result felosumay_responder_change_label(felosumay_responder *responder
 /* Whether there is room for the message of a change: `there` is 1 then, else 0. ABSENT. */
 felosumay_result felosumay_responder_room(felosumay_responder *responder, uint8_t *there);
 
-/* Reads a parameter as a GET would. ABSENT; REFUSED, with the code of the NACK in `reason`; NO_VALUE where the command starts
+/* Reads a parameter as a GET would. ABSENT; REFUSED, with the code of the NACK in `reason`; NO_VALUE if the command starts
  * a job or fetches a message. Nothing changes. */
 felosumay_result felosumay_responder_get(felosumay_responder *responder, uint16_t sub, uint16_t pid, const uint8_t *argument,
                                          size_t length, uint8_t value[FELOSUMAY_VALUE_BYTES], size_t *count,
@@ -233,8 +233,8 @@ typedef struct {
 /* What a collector takes bytes for. */
 enum { FELOSUMAY_IGNORED = 0, FELOSUMAY_MESSAGE = 1, FELOSUMAY_REPLY = 2 };
 
-/* Makes a collector, in the place of what the handle held. `wants` is 02 for status entries of every severity, 03 for warnings
- * and errors, 04 for errors alone. UNKNOWN; BAD_UID where its own UID or its target's addresses more than one device;
+/* Makes a collector, and replaces what the handle held. `wants` is 02 for status entries of every severity, 03 for warnings
+ * and errors, 04 for errors alone. UNKNOWN; BAD_UID if its own UID or its target's addresses more than one device;
  * OUT_OF_MEMORY, in this order; the handle stays as it was then. */
 felosumay_result felosumay_collector_new(felosumay_collector *collector, uint16_t maker, uint32_t device,
                                          uint16_t target_maker, uint32_t target_device, uint8_t wants);
@@ -248,16 +248,16 @@ felosumay_result felosumay_collector_ask(felosumay_collector *collector, const f
 felosumay_result felosumay_collector_poll(felosumay_collector *collector, uint8_t request[FELOSUMAY_FRAME_BYTES],
                                           size_t *count);
 
-/* Hears bytes, and says what they are taken for. Discovery's answers are no frames, and are ignored; so is an answer to a poll
+/* Hears bytes, and says what they are taken for. Discovery's answers aren't frames, and are ignored; so is an answer to a poll
  * that isn't ACK. ABSENT. */
 felosumay_result felosumay_collector_hear(felosumay_collector *collector, const uint8_t *bytes, size_t length,
                                           uint8_t *heard);
 
-/* Ends the open transaction, if there is one, without an answer. The next poll asks for the last message again where a poll
- * ended so. ABSENT. */
+/* Ends the open transaction, if there is one, without an answer: call it on a timeout. If a poll ended so, the next poll asks
+ * for the last message again. ABSENT. */
 felosumay_result felosumay_collector_over(felosumay_collector *collector);
 
-/* Takes the first message that was recorded and not taken yet, and lets go of it. A message may come twice in a row: where the
+/* Takes the first message that was recorded and not taken yet, and lets go of it. A message may come twice in a row: if the
  * request of a poll was lost, the next poll asks for the last message, which may have been recorded already. ABSENT, NO_MORE,
  * in this order. */
 felosumay_result felosumay_collector_next(felosumay_collector *collector, felosumay_message *message);
@@ -270,25 +270,25 @@ void felosumay_collector_free(felosumay_collector *collector);
 /* A fixture that was found, and what its answer to DISC_MUTE says. */
 typedef struct {
     uint32_t device;
-    uint32_t binding_device; /* 0 where it told no binding UID, and so is binding_maker */
+    uint32_t binding_device; /* 0 if it told no binding UID, and so is binding_maker */
     uint16_t maker;
     uint16_t binding_maker;
     uint16_t control;    /* bit 0 a managed proxy, bit 1 sub-devices, bit 2 a boot loader, bit 3 a proxied device */
-    uint8_t has_binding; /* 1 where it told the UID by which the ports of one device say that they are one, else 0 */
+    uint8_t has_binding; /* 1 if it told the UID by which the ports of one device say that they are one, else 0 */
 } felosumay_found;
 
-/* Makes a search for all fixtures of the line, in the place of what the handle held. The first UID is the controller's own. It
+/* Makes a search for all fixtures of the line, and replaces what the handle held. The first UID is the controller's own. It
  * takes `limit` transactions at most: 74 for each fixture that the line may have, and 2 more, are enough on every line, however
  * collisions sound. BAD_UID, OUT_OF_MEMORY, in this order; the handle stays as it was then. */
 felosumay_result felosumay_search_new(felosumay_search *search, uint16_t maker, uint32_t device, uint32_t limit);
 
 /* Tells what to send: the request stands at the front of `request`. Nothing changes: until `hear` each call tells the same.
- * ABSENT; NO_MORE where the search has ended, and each fixture was found; LIMIT where it hasn't and no transaction is left, since
+ * ABSENT; NO_MORE if the search has ended, and each fixture was found; LIMIT if it hasn't and no transaction is left, since
  * the line sounds though nobody answers, or has more fixtures than the limit is for. */
 felosumay_result felosumay_search_next(felosumay_search *search, uint8_t request[FELOSUMAY_FRAME_BYTES], size_t *count);
 
-/* Hears what came after the request that `next` told: all bytes of it, also where they are no answer, as after a collision; of
- * length 0 where nothing came. ABSENT; OUT_OF_MEMORY: the search stands where it stood then, and the same bytes can be heard
+/* Hears what came after the request that `next` told: all bytes of it, even if they aren't an answer, as after a collision; of
+ * length 0 if nothing came. ABSENT; OUT_OF_MEMORY: the search stands where it stood then, and the same bytes can be heard
  * again. */
 felosumay_result felosumay_search_hear(felosumay_search *search, const uint8_t *bytes, size_t length);
 
@@ -299,7 +299,7 @@ felosumay_result felosumay_search_resume(felosumay_search *search, uint32_t limi
 /* How many fixtures were found so far. ABSENT. */
 felosumay_result felosumay_search_count(felosumay_search *search, size_t *count);
 
-/* The fixture with this index, from 0, in the order in which they were found. ABSENT; NO_MORE where no more were found. */
+/* The fixture with this index, from 0, in the order in which they were found. ABSENT; NO_MORE if no more were found. */
 felosumay_result felosumay_search_found(felosumay_search *search, size_t index, felosumay_found *found);
 
 /* Gives up what the handle holds, if anything. The handle is {0} again. */
@@ -310,14 +310,14 @@ void felosumay_search_free(felosumay_search *search);
  * 4, 8 or 16, and a size below 2^63. */
 
 typedef struct {
-    uint8_t there; /* 1 where there is memory, else 0 */
-    void *at;      /* where the block begins; never NULL, also where there is none */
+    uint8_t there; /* 1 if there is memory, else 0 */
+    void *at;      /* where the block begins; never NULL, even if there is none */
 } felosumay_block;
 
-/* Gets a block of so many bytes. */
+/* Gets a block of `size` bytes. */
 felosumay_block rattle_alloc(size_t size, size_t alignment);
 
-/* Makes a block one of so many bytes, here or elsewhere, whose first `kept` bytes are as they were. Where there is no memory for
+/* Makes a block one of `size` bytes, here or elsewhere, whose first `kept` bytes are as they were. If there is no memory for
  * it, the block stays as it was. */
 felosumay_block rattle_realloc(void *at, size_t kept, size_t size, size_t alignment);
 

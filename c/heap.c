@@ -11,7 +11,7 @@ static felosumay_block block(void *at) {
     return made;
 }
 
-/* malloc may answer NULL where it is asked for no bytes, and that isn't want of memory. */
+/* malloc may answer NULL if it is asked for no bytes, and that isn't out of memory. */
 felosumay_block rattle_alloc(size_t size, size_t alignment) {
     return block(malloc(size != 0 ? size : alignment));
 }

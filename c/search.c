@@ -21,7 +21,7 @@ typedef struct {
     unsigned collisions;
 } line;
 
-/* Sends a request, and waits for what comes: the bytes of whoever answers, none where nobody does. */
+/* Sends a request, and waits for what comes: the bytes of whoever answers, none if nobody does. */
 static size_t transact(line *line, const uint8_t *request, size_t count, uint8_t heard[FELOSUMAY_FRAME_BYTES]) {
     uint8_t reply[FELOSUMAY_FRAME_BYTES];
     felosumay_stepped stepped;

@@ -84,7 +84,7 @@ after_reply waiting fault reply = without_transaction (option_map_or (after_hear
 -- ---- a run
 
 -- What happens at a step. A command is sent that isn't refused; a poll is sent; a report arrives that may; or a value is
--- changed, where there is room for the message that tells of it.
+-- changed, if there is room for the message that tells of it.
 abbrev pub IsPlayed : Start → Step → Event → Type 0
 IsPlayed s (Ask c fault) event =
     (refusal_of (controller_at s) c ≡ None)
@@ -110,7 +110,7 @@ tn_after tn (Bus sent poll fault reply job heard) = (tn + 1) % 256
 tn_after tn (Arrived report message kept) = tn
 tn_after tn (Changed change message) = tn
 
--- a poll is answered where the controller hears a message
+-- a poll is answered if the controller hears a message
 abbrev pub is_message_heard : Option Heard → Bool
 is_message_heard None = false
 is_message_heard (Some heard.Message) = true

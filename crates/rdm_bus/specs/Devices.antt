@@ -11,7 +11,7 @@ pub record Device : Type 0 where
   pub reply : Queue → Bool → Message
   pub queue : Queue → Bool → Queue
 
--- The first message that waits; where none waits the empty status message, since nothing has failed.
+-- The first message that waits; if none waits, the empty status message, since nothing has failed.
 abbrev pub next_of : Queue → Message
 next_of q = unwrap_or (slice_get q.arrived q.given) (status_message [])
 

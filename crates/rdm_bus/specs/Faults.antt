@@ -30,6 +30,6 @@ reply_heard fault.LostReply reply = None
 reply_heard (fault.BadRequest k x) reply = Some reply
 reply_heard (fault.BadReply k x) reply = Some (altered reply k x)
 
--- A frame's text with one slot raised by 1 to 255 is no frame's text.
+-- A frame's text with one slot raised by 1 to 255 isn't a frame's text.
 abbrev pub AlteredIsNoFrame : Type 0
 AlteredIsNoFrame = (f : Frame) (k x : ℕ) → IsFrame f → 0 < x → x < 256 → frame_in (altered (frame_text f) k x) ≡ None

@@ -10,7 +10,7 @@
 --
 -- * The run was answered with Ok. A step that is refused changes nothing, so `play` has it after each step.
 -- * A reply is heard in its own transaction or never, and an altered frame has exactly one slot altered: a fault of a step
---   is nothing else, and where it raises a slot it raises it by 1 to 255. Who calls `play` or `run` sees to that.
+--   is nothing else, and if it raises a slot, it raises it by 1 to 255. Who calls `play` or `run` sees to that.
 -- * The outcomes that a part of a run gives fit the jobs of its worker. Who calls `run` sees to that too.
 -- * This controller alone fetches messages: `play` and `run` refuse a command for QUEUED_MESSAGE or STATUS_MESSAGES.
 -- * The device is switched on once, and whatever has happened to it before the start was lawful: `IsLawful`.
@@ -42,7 +42,7 @@ use Rattle.rdm_collector.specs.Recording.{join, same_message}
 -- ---- each reply
 
 -- The reply to a transaction is the one that the reply rules give, after this history, for what the device heard of the
--- request; where they give none there is none. E1.20 sections 6.2 and 6.3.
+-- request; if they give none, there is none. E1.20 sections 6.2 and 6.3.
 abbrev pub IsByTheRules : History → Event → Type 0
 IsByTheRules h (Bus sent poll fault reply job heard) = reply ≡ replied h fault sent
 IsByTheRules h (Arrived report message kept) = Unit {0}
@@ -159,7 +159,7 @@ AfterTheCloseIsRuledOut =
     (start : Start) (steps : List Step) (events : List Event) (collected : List Message) (r : Report)
     → ¬ Headline start steps (Close (worker_of r.job.work) ∷ Result r ∷ []) events collected
 
--- A collector that skips a message, as it does where it asks for the next one after a loss.
+-- A collector that skips a message, as it does when it asks for the next one after a loss.
 abbrev pub SkippingIsRuledOut : Type 0
 SkippingIsRuledOut =
     (start : Start) (steps : List Step) (handed : List Handed) (events : List Event) (lost next : Message)

@@ -21,7 +21,7 @@ number_after start before = (start.tn + length (requests_in before)) % 256
 
 -- ---- what is sent for a command
 
--- The k-th step is a command: its request is the text of the command's frame with the number that is next then. It is no poll.
+-- The k-th step is a command: its request is the text of the command's frame with the number that is next then. It isn't a poll.
 abbrev pub CommandsAreSent : Start → List Step → List Event → Type 0
 CommandsAreSent start steps events =
     (k : ℕ) (c : Command) (fault : Fault) → slice_get steps k ≡ Some (Ask c fault)
@@ -30,7 +30,7 @@ CommandsAreSent start steps events =
 
 -- ---- what an answer is taken for
 
--- Each transaction is heard as something exactly where it must be.
+-- Each transaction is heard as something exactly when it must be.
 abbrev pub AnswersAreHeard : Start → List Event → Type 0
 AnswersAreHeard start events =
     (before after : List Event) (sent : List ℕ) (poll : Bool) (fault : Fault) (reply : Option (List ℕ)) (job : Option Job) (heard : Option Heard)

@@ -44,7 +44,7 @@ answered_in (Bus sent false fault reply job heard) = []
 answered_in (Arrived report message kept) = []
 answered_in (Changed change message) = []
 
--- the last of these, or the first argument where there is none
+-- the last of these, or the first argument if there is none
 abbrev pub last_answer : Bool → List Bool → Bool
 last_answer before [] = before
 last_answer before (x ∷ xs) = last_answer x xs
@@ -53,7 +53,7 @@ last_answer before (x ∷ xs) = last_answer x xs
 abbrev pub was_answered : Start → List Event → Bool
 was_answered start before = last_answer (not start.unanswered) (flat_map answered_in before)
 
--- The status type that a poll asks for after these events: what is wanted, exactly where the last poll before it was heard
+-- The status type that a poll asks for after these events: what is wanted, exactly when the last poll before it was heard
 -- as a message; else the last message again (STATUS_GET_LAST_MESSAGE of table A-4).
 abbrev pub type_after : Start → List Event → ℕ
 type_after start before = if was_answered start before then type_of start.want else 0x01

@@ -12,7 +12,7 @@ ghost use Rattle.rdm_bus.specs.Numbering.{NumberingHolds, PollingInTurnHolds, Jo
 use crate::{Fault, PlayError};
 use rdm_params::two_commands_fetch;
 
-/// A frame with one slot raised by 1 to 255 is no frame: nobody on the bus takes it for one.
+/// A frame with one slot raised by 1 to 255 isn't a valid frame: nobody on the bus takes it for one.
 #[tactic(auto, using(crate::proofs::Alterations::altered_is_no_frame))]
 pub fn altered_frame_is_no_frame()
     ensures { AlteredIsNoFrame }
@@ -40,7 +40,7 @@ pub fn transactions_are_numbered()
     ensures { NumberingHolds }
 {}
 
-/// A poll asks for the wanted status type exactly where the last poll before it was heard as a message, and else for the last
+/// A poll asks for the wanted status type exactly when the last poll before it was heard as a message, and else for the last
 /// message again (E1.20 section 10.3.1).
 #[tactic(auto, using(crate::proofs::Numbering::polls))]
 pub fn polls_ask_in_turn()
@@ -54,10 +54,10 @@ pub fn commands_are_sent()
     ensures { CommandSendingHolds }
 {}
 
-/// An answer is heard as a message exactly where its transaction is a poll and the bytes that came are the text of a frame from
+/// An answer is heard as a message exactly when its transaction is a poll and the bytes that came are the text of a frame from
 /// the device to this controller, with the transaction's number, of class 21 or 31 and response type ACK; as a reply exactly
-/// where the transaction is no poll and the frame has the class of the request plus 1, its sub-device and its parameter; as
-/// nothing exactly where nothing came; and else it is ignored (E1.20 sections 6.2 and 6.3.1).
+/// when the transaction isn't a poll and the frame has the class of the request plus 1, its sub-device and its parameter; as
+/// nothing exactly when nothing came; and else it is ignored (E1.20 sections 6.2 and 6.3.1).
 #[tactic(auto, using(crate::proofs::Hearing::answers))]
 pub fn answers_are_heard()
     ensures { HearingHolds }
@@ -79,8 +79,8 @@ pub fn messages_are_kept()
 
 /// What the headline rules out: devices that let a result into the queue twice, a later one of a worker first, or one after
 /// the worker's close, that answer what they haven't heard, or whose message isn't that of the job's outcome; collectors that
-/// skip a message, record nothing, record a message twice, or drop the second of two equal ones; and a system that books a
-/// poll as no poll.
+/// skip a message, record nothing, record a message twice, or drop the second of two equal ones; and a system that records a
+/// poll as something else.
 pub fn headline_rules_out()
     ensures twice { TwiceIsRuledOut }
     ensures later_first { LaterFirstIsRuledOut }
@@ -102,12 +102,12 @@ pub fn wrong_devices_break_the_prefix_law()
     ensures right { RightDeviceIsPolled }
 {}
 
-/// Two faults are equal by `==` exactly where they are the same, slot and raise included.
+/// Two faults are equal by `==` exactly when they are the same, slot and raise included.
 pub fn faults_are_equal_by_value()
     ensures { (a b : Fault) → IsTrue (⟦<Fault as PartialEq>⟧.eq a b) ↔ (a ≡ b) }
 {}
 
-/// Two refusals of a step are equal by `==` exactly where they are the same.
+/// Two refusals of a step are equal by `==` exactly when they are the same.
 pub fn play_errors_are_equal_by_value()
     ensures { (a b : PlayError) → IsTrue (⟦<PlayError as PartialEq>⟧.eq a b) ↔ (a ≡ b) }
 {}

@@ -33,7 +33,7 @@ use thiserror::Error;
 /// `NoRoom` come last.
 #[derive(Clone, Copy, Debug, PartialEq, Eq, Error)]
 pub enum PlayError {
-    /// There is no memory for the event or for the answer to a poll.
+    /// Out of memory for the event or for the answer to a poll.
     #[error("out of memory")]
     OutOfMemory,
     /// A command asks for QUEUED_MESSAGE or STATUS_MESSAGES, which the controller keeps for itself.
@@ -88,9 +88,9 @@ impl System {
     /// Plays a step: the controller sends a command or a poll, and the device and then the controller hear what comes of it;
     /// or the report of a job arrives at the device; or a person changes a value at the device's own menu.
     ///
-    /// A command for QUEUED_MESSAGE or STATUS_MESSAGES is refused first, then one with more than 231 bytes of data. Then
-    /// memory is taken. Last, a report that may not arrive is `Astray`, and a change is `NoRoom` where outstanding jobs and
-    /// waiting messages leave no room for its message. Where a step is refused, nothing changes.
+    /// A command for QUEUED_MESSAGE or STATUS_MESSAGES is rejected first, then one with more than 231 bytes of data. Then
+    /// memory is taken. Last, a report that may not arrive is `Astray`, and a change is `NoRoom` if outstanding jobs and
+    /// waiting messages leave no room for its message. If a step is rejected, nothing changes.
     pub fn play(&mut self, step: &Step) -> Result<(), PlayError>
         requires { raise_of (fault_of step.now) ≢ Some 0 }
         ensures trace { OnOk result ((start : Start) (steps : List Step) →
@@ -205,8 +205,8 @@ impl Made {
     }
 }
 
-/// Plays a step on a responder and a collector, and gives what it made. It is refused where a poll finds no memory for its
-/// answer, where a report is astray, and where there is no room for the message of a change.
+/// Plays a step on a responder and a collector, and gives what it made. It is rejected if a poll finds no memory for its
+/// answer, if a report is astray, or if there is no room for the message of a change.
 fn happen(
     responder: &mut Responder,
     collector: &mut Collector,

@@ -52,7 +52,7 @@ command_request s c = request_of s.uid s.tn c
 abbrev pub after_ask : State → Command → State
 after_ask s c = after_request s (transaction.Command s.tn (class_of c.action) c.sub c.pid)
 
--- The status type of a poll: what is wanted, or the last message again (STATUS_GET_LAST_MESSAGE) where the last poll has no
+-- The status type of a poll: what is wanted, or the last message again (STATUS_GET_LAST_MESSAGE) if the last poll has no
 -- answer. Table A-4.
 abbrev pub poll_type : State → ℕ
 poll_type s = if s.unanswered then 0x01 else type_of s.want
@@ -64,11 +64,11 @@ poll_request s = request_of s.uid s.tn (queued_message s.target (poll_type s))
 abbrev pub after_poll : State → State
 after_poll s = record (after_request s (transaction.Poll s.tn)) { unanswered = true }
 
--- What a collector takes a frame for: nothing, where it isn't from the target to the collector.
+-- What a collector takes a frame for: nothing, if it isn't from the target to the collector.
 abbrev pub heard_as : State → Frame → Heard
 heard_as s f = if same_uid f.src s.target && same_uid f.dst s.uid then taken_for s.transaction f else heard.Ignored
 
--- What a collector takes bytes for: nothing, where they are no frame.
+-- What a collector takes bytes for: nothing, if they aren't a frame.
 abbrev pub heard_in : State → List ℕ → Heard
 heard_in s bytes = option_map_or (heard_as s) (frame_in bytes) heard.Ignored
 

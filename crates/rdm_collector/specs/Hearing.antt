@@ -34,8 +34,8 @@ abbrev pub IsReplyTo : Uid → Uid → ℕ → List ℕ → List ℕ → Type 0
 IsReplyTo device controller number sent bytes =
     (request : Frame) × (frame_in sent ≡ Some request) × ((f : Frame) × IsAnswer device controller number bytes f × IsResponseTo request f)
 
--- As what the answer to a transaction is heard: as nothing where nothing came; as a message where the transaction is a poll and
--- a message came; as a reply where it is a command and a reply to it came; in every other case it is ignored.
+-- As what the answer to a transaction is heard: as nothing if nothing came; as a message if the transaction is a poll and
+-- a message came; as a reply if it is a command and a reply to it came; in every other case it is ignored.
 abbrev pub IsHeardAs : Uid → Uid → ℕ → List ℕ → Bool → Option (List ℕ) → Option Heard → Type 0
 IsHeardAs device controller number sent poll came None = came ≡ None
 IsHeardAs device controller number sent poll came (Some Message) =
@@ -46,7 +46,7 @@ IsHeardAs device controller number sent poll came (Some Ignored) =
     (bytes : List ℕ) × (came ≡ Some bytes)
     × (poll ≡ true → ¬ IsMessage device controller number bytes) × (poll ≡ false → ¬ IsReplyTo device controller number sent bytes)
 
--- After a poll bytes are taken for something exactly where they must be.
+-- After a poll bytes are taken for something exactly when they must be.
 abbrev pub PollsAreAnswered : Type 0
 PollsAreAnswered =
     (s : State) (bytes : List ℕ) (h : Heard)

@@ -20,19 +20,19 @@ pub data Event : Type 0 where
   Arrived : Message → Event
   Polled : (again : Bool) → (reply : Option Message) → (heard : Bool) → Event
 
--- A reply is the last answer again where that was asked for, else the first message that waits, and where none waits any
--- status message. Where there is no reply, none is heard.
+-- A reply is the last answer again if that was asked for, else the first message that waits, and if none waits any
+-- status message. If there is no reply, none is heard.
 abbrev pub IsReply : Queue → Bool → Option Message → Bool → Type 0
 IsReply q again None heard = heard ≡ false
 IsReply q true (Some m) heard = m ≡ q.last
 IsReply q false (Some m) heard = IfSome (slice_get q.arrived q.given) (λ next. m ≡ next)
 
--- The event may be next: a poll asks for the last message again exactly where the poll before it is unanswered.
+-- The event may be next: a poll asks for the last message again exactly when the poll before it is unanswered.
 abbrev pub IsNext : Queue → Bool → Event → Type 0
 IsNext q unanswered (Arrived m) = Unit {0}
 IsNext q unanswered (Polled again reply heard) = (again ≡ unanswered) × IsReply q again reply heard
 
--- the queue after an event: a new answer becomes the last one, and where a message waits it is given
+-- the queue after an event: a new answer becomes the last one, and if a message waits, it is given
 abbrev pub after : Queue → Event → Queue
 after q (Arrived m) = record q { arrived = q.arrived ++ m ∷ [] }
 after q (Polled again None heard) = q

@@ -16,7 +16,7 @@ ends_with [] m = false
 ends_with (x ∷ []) m = same_message x m
 ends_with (x ∷ y ∷ ys) m = ends_with (y ∷ ys) m
 
--- a message at the end, save where the end already is it
+-- a message at the end, unless it is the end already
 unfoldable pub and_then : List Message → Message → List Message
 and_then js m = if ends_with js m then js else js ++ m ∷ []
 
@@ -41,14 +41,14 @@ pub data IsSubsequence : List Message → List Message → Type 0 where
   Skips : (xs : List Message) (y : Message) (ys : List Message) → IsSubsequence xs ys → IsSubsequence xs (y ∷ ys)
   Takes : (x : Message) (xs : List Message) (ys : List Message) → IsSubsequence xs ys → IsSubsequence (x ∷ xs) (x ∷ ys)
 
--- The prefix law. Joined, R is a prefix of D, at most one message shorter, and all of it where the last poll is answered.
+-- The prefix law. Joined, R is a prefix of D, at most one message shorter, and all of it if the last poll is answered.
 pub record PrefixLaw (unanswered : Bool) (dispensed recorded : List Message) : Type 0 where
   pub rest : List Message
   pub prefix : join recorded ++ rest ≡ join dispensed
   pub at_most_one : length rest ≤ 1
   pub equal : unanswered ≡ false → join recorded ≡ join dispensed
 
--- The no-loss law. Joined, all of G is in R, in its order, where the last poll is answered; else all but its last message.
+-- The no-loss law. Joined, all of G is in R, in its order, if the last poll is answered; else all but its last message.
 pub record NoLossLaw (unanswered : Bool) (given recorded : List Message) : Type 0 where
   pub all : unanswered ≡ false → IsSubsequence (join given) (join recorded)
   pub but_one : unanswered ≡ true → IsSubsequence (but_last (join given)) (join recorded)
@@ -65,7 +65,7 @@ abbrev pub RecordingNothingIsRefused : Type 0
 RecordingNothingIsRefused =
     (u : Bool) (first second : Message) → same_message first second ≡ false → ¬ PrefixLaw u (first ∷ second ∷ []) []
 
--- The device repeats an older message than its last answer, as where it doesn't keep an empty status message.
+-- The device repeats an older message than its last answer, as when it doesn't keep an empty status message.
 abbrev pub RepeatingAnOlderOneIsRefused : Type 0
 RepeatingAnOlderOneIsRefused =
     (u : Bool) (older lost : Message) → same_message older lost ≡ false → ¬ PrefixLaw u (older ∷ lost ∷ older ∷ []) (older ∷ older ∷ [])

@@ -35,7 +35,7 @@ pub enum AskError {
 /// Why no poll is sent, tested from the last to the first.
 #[derive(Clone, Copy, Debug, PartialEq, Eq, Error)]
 pub enum PollError {
-    /// There is no room for the answer, and memory was refused.
+    /// Out of memory for the answer.
     #[error("out of memory")]
     OutOfMemory,
     /// A transaction is open.
@@ -96,8 +96,8 @@ impl Collector {
 
     /// Sends a user's command: gives the bytes of its request, and opens its transaction.
     ///
-    /// A command that asks for QUEUED_MESSAGE or STATUS_MESSAGES is refused first, then any while a transaction is
-    /// open, and then one with more than 231 bytes of data. Where it is refused, nothing changes.
+    /// A command that asks for QUEUED_MESSAGE or STATUS_MESSAGES is rejected first, then any while a transaction is
+    /// open, and then one with more than 231 bytes of data. If it is rejected, nothing changes.
     pub fn ask(&mut self, command: &Command) -> Result<Wire, AskError>
         ensures refused { result_err result ≡ refusal_of self.old command.now }
         ensures sent { IfOk result (λ wire. wire ≡ frame_text (command_request self.old command.now)) }
@@ -125,11 +125,11 @@ impl Collector {
         Ok(sent)
     }
 
-    /// Sends a poll: gives the bytes of a request for the target's next message, and opens its transaction. Where the
+    /// Sends a poll: gives the bytes of a request for the target's next message, and opens its transaction. If the
     /// last poll wasn't answered, it asks for the last message again, which may be the one that was lost.
     ///
-    /// It is refused while a transaction is open, and then where there is no memory for the answer. Nothing changes
-    /// where it is refused.
+    /// It is rejected while a transaction is open, and then if there is no memory for the answer. If it is rejected,
+    /// nothing changes.
     pub fn poll(&mut self) -> Result<Wire, PollError>
         ensures sent { IfOk result (λ wire. wire ≡ frame_text (poll_request self.old)) }
         ensures is_frame { OnOk result (IsFrame (poll_request self.old)) }
@@ -156,7 +156,7 @@ impl Collector {
     }
 
     /// Hears bytes, and says what they are taken for. A frame from the target to this collector in the open
-    /// transaction ends it where it answers it; the answer to a poll is recorded. All else changes nothing.
+    /// transaction ends it if it answers it; the answer to a poll is recorded. All else changes nothing.
     pub fn hear(&mut self, bytes: &[u8]) -> Heard
         ensures heard { result ≡ heard_in self.old bytes.now }
         ensures new { self.new ≡ after_hearing self.old bytes.now }
@@ -194,7 +194,7 @@ impl Collector {
         self.recorded.as_slice()
     }
 
-    /// Forgets the first `count` messages that were recorded, or all where there are fewer. Later ones take their room.
+    /// Forgets the first `count` messages that were recorded, or all if there are fewer. Later ones take their room.
     pub fn forget(&mut self, count: usize)
         ensures { self.new ≡ record self.old { recorded = drop count self.old.recorded } }
     {

@@ -3,8 +3,8 @@
 //!
 //! A `Collector` sends one request at a time. By `poll` it fetches the messages that wait in one device, and records them; by
 //! `ask` it sends the commands of its user; and `hear` says what it takes bytes for. It neither opens a port nor reads a
-//! clock: whoever has the port sends the bytes that it gives, hands it those that come, and calls `over` where none come in
-//! time. `specs/Collecting.antt` says what each call does, `specs/Hearing.antt` what is taken for an answer, and
+//! clock: whoever has the port sends the bytes that it gives, hands it those that come, and calls `over` on a timeout.
+//! `specs/Collecting.antt` says what each call does, `specs/Hearing.antt` what is taken for an answer, and
 //! `specs/Recording.antt` what the record then holds.
 #![tactic(auto)]
 

@@ -3,7 +3,7 @@
 ghost use Rattle.std.specs.Prelude.{◌≡◌};
 ghost use Rattle.rdm_collector.specs.Requests.{type_of};
 
-/// The least severity of the status entries that a collector wants, where no message waits (E1.20 section 10.3.1).
+/// The least severity of the status entries that a collector wants, when no message waits (E1.20 section 10.3.1).
 #[derive(Clone, Copy, Debug, PartialEq, Eq)]
 pub enum Want {
     /// STATUS_ADVISORY: entries of every severity.

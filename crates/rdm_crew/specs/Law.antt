@@ -16,9 +16,9 @@ NoneAstray gives =
     → (slice_get put (length drawn) ≡ Some r.job) × gives r.job r.outcome
 
 -- What the two lanes and the worker bring about, however long each of them was at work. The jobs that were taken are the
--- first that were put, and all of them where the mark of the job lane was taken. The reports are on the jobs that were taken,
--- one by one, each with an outcome that may be given for its job, save perhaps on the last one, and that only where the
--- worker's memory was refused. The reports that were drawn are the first of them, and all where the worker's mark was drawn.
+-- first that were put, and all of them if the mark of the job lane was taken. The reports are on the jobs that were taken,
+-- one by one, each with an outcome that may be given for its job, save perhaps on the last one, and that only if the
+-- worker's memory was refused. The reports that were drawn are the first of them, and all if the worker's mark was drawn.
 pub record FourLists (gives : Job → Outcome → Type 0) (put taken : List Job) (reports drawn : List Report) (all_taken all_drawn refused : Bool) : Type 0 where
   pub took : IsPrefix taken put
   pub took_all : all_taken ≡ true → taken ≡ put
@@ -40,14 +40,14 @@ EachIsOnItsJob gives =
     OverFourLists gives (λ put drawn all_taken all_drawn refused.
     (n : ℕ) (r : Report) → slice_get drawn n ≡ Some r → (slice_get put n ≡ Some r.job) × gives r.job r.outcome)
 
--- No report is missing: where both marks were taken and no memory was refused, what was drawn is one report on each job that
+-- No report is missing: if both marks were taken and no memory was refused, what was drawn is one report on each job that
 -- was put, in order.
 abbrev pub NoneMissing : (Job → Outcome → Type 0) → Type 0
 NoneMissing gives =
     OverFourLists gives (λ put drawn all_taken all_drawn refused.
     all_taken ≡ true → all_drawn ≡ true → refused ≡ false → Answers gives put drawn × (length put ≡ length drawn))
 
--- Where memory was refused, the last job at most is without a report.
+-- If memory was refused, the last job at most is without a report.
 abbrev pub OneMissingAtMost : (Job → Outcome → Type 0) → Type 0
 OneMissingAtMost gives =
     OverFourLists gives (λ put drawn all_taken all_drawn refused.

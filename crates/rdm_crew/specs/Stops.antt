@@ -22,7 +22,7 @@ error_of (Reserved k) = run.Reserved
 error_of (TooLong k) = run.TooLong
 error_of (Unsettled k) = run.Unsettled
 
--- the step, where one is the cause
+-- the step, if one is the cause
 abbrev pub step_of : Stopped → Option ℕ
 step_of OutOfMemory = None
 step_of BadSetup = None

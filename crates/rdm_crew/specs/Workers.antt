@@ -24,7 +24,7 @@ pub record IsIdle (jobs : TakeState Job) (reports : PostState Report) : Type 0 w
   pub none_put : reports.items ≡ []
   pub limit : reports.limit ≡ most
 
--- What a worker leaves: a report on each job that it took, in order, save perhaps on the last. Where its memory wasn't
+-- What a worker leaves: a report on each job that it took, in order, save perhaps on the last. If its memory wasn't
 -- refused, it took all jobs that there were and reported on each.
 pub record IsWorked (gives : Job → Outcome → Type 0) (jobs : TakeState Job) (reports : PostState Report) (w : Worked) : Type 0 where
   pub take : IsSameTake jobs w.jobs

@@ -7,7 +7,7 @@ use std::fmt;
 /// Why a run ends before its last step. `BadSetup` is tested first; the others come at the step that meets them.
 #[derive(Clone, Copy, Debug, PartialEq, Eq)]
 pub enum RunError {
-    /// Memory was wanted and refused, or a thread couldn't be started.
+    /// Out of memory, or a thread couldn't be started.
     OutOfMemory = 1,
     /// A command asks for QUEUED_MESSAGE or STATUS_MESSAGES, which the controller keeps for itself.
     Reserved = 2,

@@ -13,8 +13,8 @@ pub fn no_report_goes_astray<P: Part>()
     ensures each { (part : P) → EachIsOnItsJob (P.gives part) }
 {}
 
-/// Where the marks of both lanes were taken, the reports of a worker that were drawn are one on each job that was put for it,
-/// save perhaps on the last one, and that only where its memory was refused.
+/// If the marks of both lanes were taken, the reports of a worker that were drawn are one on each job that was put for it,
+/// save perhaps on the last one, and that only if its memory was refused.
 pub fn no_report_is_missing<P: Part>()
     ensures none { (part : P) → NoneMissing (P.gives part) }
     ensures one { (part : P) → OneMissingAtMost (P.gives part) }
@@ -26,7 +26,7 @@ pub fn headline_of_run_rules_out()
     ensures after_the_mark { AfterTheMarkIsRuledOut }
 {}
 
-/// Two reasons why there is no trace are equal by `==` exactly where they are the same.
+/// Two reasons why there is no trace are equal by `==` exactly when they are the same.
 pub fn run_errors_are_equal_by_value()
     ensures { (a b : RunError) → IsTrue (⟦<RunError as PartialEq>⟧.eq a b) ↔ (a ≡ b) }
 {}

@@ -10,7 +10,7 @@ pub trait Panel: Drop {
     // The changes that it may offer for a number.
     ghost offers: { Self → ℕ → Change → Type 0 };
 
-    /// The change of this number, counted from 0, or none where nobody changes anything any more. It waits for no other
+    /// The change of this number, counted from 0, or none if nobody changes anything any more. It waits for no other
     /// thread.
     ///
     /// What may be offered for a number stays the same for the whole life of a panel.

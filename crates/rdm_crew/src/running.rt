@@ -39,9 +39,9 @@ use std::thread::Threads;
 /// `panel` offers what a person changes at the fixture's own menu: at most 1,024 changes, of which each `Panel` step plays
 /// one. Those that no step has played when the run ends are given up.
 ///
-/// A setup that no responder can have, or where the controller's UID is a broadcast or the device's, is `BadSetup`; it is
+/// A setup that no responder can have, or in which the controller's UID is a broadcast or the device's, is `BadSetup`; it is
 /// tested first. `Reserved` and `TooLong` come at the first command that has the cause, `Unsettled` at a `Settle`, and
-/// `OutOfMemory` where memory or a thread is refused. `Astray` and `Missing` never come. All threads have ended when it
+/// `OutOfMemory` if memory or a thread is refused. `Astray` and `Missing` never come. All threads have ended when it
 /// returns, whatever it answers.
 pub fn run<P, Q, N, R>(
     rt: R,
@@ -77,9 +77,9 @@ where
     }
 }
 
-/// Plays the steps as `run` does, and where they end early says at which of them. The step of a `Reserved` or `TooLong` is the
+/// Plays the steps as `run` does, and if they end early, says at which of them. The step of a `Reserved` or `TooLong` is the
 /// first whose command can't be sent, for this cause; that of an `Unsettled` is a `Settle`, and each command before it can be
-/// sent. Want of memory and a bad setup have no step.
+/// sent. Out of memory and a bad setup have no step.
 pub fn run_steps<P, Q, N, R>(
     rt: R,
     alloc: Global,
@@ -218,7 +218,7 @@ fn play<P: Part, Q: Part, N: Panel, R: Threads + Wait>(
     match closing.desk.draw_all(rt) {
         Ok(()) => Ok(closing.finish(rt)?),
         Err(why) => {
-            // Memory was refused, also where a report seemed astray. No step is the cause.
+            // Memory was refused, even if a report seemed astray. No step is the cause.
             closing.give_up(rt, why);
             Err(Stopped::OutOfMemory)
         }

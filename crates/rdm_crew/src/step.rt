@@ -12,9 +12,9 @@ pub enum CrewStep {
     Collect(Fault),
     /// The report of a job arrives at the device, if one is there.
     Draw,
-    /// Reports arrive until no job is outstanding. So many times there may be none; the next time the run ends.
+    /// Reports arrive until no job is outstanding. None may be there N times; the next time the run ends.
     Settle(u32),
-    /// What a person changed at the panel happens at the device, if its message has room there and a change is there. So many
-    /// times there may be none; the next time the step ends.
+    /// What a person changed at the panel happens at the device, if its message has room there and a change is there.
+    /// None may be there N times; the next time the step ends.
     Panel(u32),
 }

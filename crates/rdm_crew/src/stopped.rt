@@ -6,10 +6,10 @@ ghost use Rattle.rdm_crew.specs.Stops.{error_of, step_of};
 use crate::RunError;
 use std::alloc::AllocError;
 
-/// Why a run ends before its last step, and at which step where one is the cause. Steps count from 0.
+/// Why a run ends before its last step, and at which step if one is the cause. Steps count from 0.
 #[derive(Clone, Copy, Debug, PartialEq, Eq)]
 pub enum Stopped {
-    /// Memory was wanted and refused, or a thread couldn't be started.
+    /// Out of memory, or a thread couldn't be started.
     OutOfMemory,
     /// No responder can be set up so, or the controller's UID is a broadcast or the device's. No step was played.
     BadSetup,
@@ -36,7 +36,7 @@ impl Stopped {
         }
     }
 
-    /// The step at which the run stopped, where one is the cause.
+    /// The step at which the run stopped, if one is the cause.
     pub fn step(self) -> Option<usize>
         ensures { result ≡ step_of self }
     {

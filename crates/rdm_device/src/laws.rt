@@ -4,39 +4,39 @@ ghost use Rattle.std.specs.Prelude.{◌≡◌, ◌↔◌, IsTrue};
 
 use crate::{Personality, Profile, SelfTest, SensorDef, Slot, StatusText, Unit, Value};
 
-/// Two personalities are equal by `==` exactly where their footprints and their names are.
+/// Two personalities are equal by `==` exactly when their footprints and their names are.
 pub fn personalities_are_equal_by_value()
     ensures { (a b : Personality) → IsTrue (⟦<Personality as PartialEq>⟧.eq a b) ↔ (a ≡ b) }
 {}
 
-/// Two slots are equal by `==` exactly where each of their fields is.
+/// Two slots are equal by `==` exactly when each of their fields is.
 pub fn slots_are_equal_by_value()
     ensures { (a b : Slot) → IsTrue (⟦<Slot as PartialEq>⟧.eq a b) ↔ (a ≡ b) }
 {}
 
-/// Two definitions of sensors are equal by `==` exactly where each of their fields is.
+/// Two definitions of sensors are equal by `==` exactly when each of their fields is.
 pub fn sensor_defs_are_equal_by_value()
     ensures { (a b : SensorDef) → IsTrue (⟦<SensorDef as PartialEq>⟧.eq a b) ↔ (a ≡ b) }
 {}
 
-/// Two self tests are equal by `==` exactly where their numbers and their names are.
+/// Two self tests are equal by `==` exactly when their numbers and their names are.
 pub fn self_tests_are_equal_by_value()
     ensures { (a b : SelfTest) → IsTrue (⟦<SelfTest as PartialEq>⟧.eq a b) ↔ (a ≡ b) }
 {}
 
-/// Two meanings of status IDs are equal by `==` exactly where the IDs and the texts are.
+/// Two meanings of status IDs are equal by `==` exactly when the IDs and the texts are.
 pub fn status_texts_are_equal_by_value()
     ensures { (a b : StatusText) → IsTrue (⟦<StatusText as PartialEq>⟧.eq a b) ↔ (a ≡ b) }
 {}
 
-/// Two units are equal by `==` exactly where each of their fields is.
+/// Two units are equal by `==` exactly when each of their fields is.
 pub fn units_are_equal_by_value()
     ensures { (a b : Unit) → IsTrue (⟦<Unit as PartialEq>⟧.eq a b) ↔ (a ≡ b) }
 {
     personalities_are_equal_by_value();
 }
 
-/// Two profiles are equal by `==` exactly where each of their fields is.
+/// Two profiles are equal by `==` exactly when each of their fields is.
 pub fn profiles_are_equal_by_value()
     ensures { (p q : Profile) → IsTrue (⟦<Profile as PartialEq>⟧.eq p q) ↔ (p ≡ q) }
 {
@@ -47,7 +47,7 @@ pub fn profiles_are_equal_by_value()
     status_texts_are_equal_by_value();
 }
 
-/// Two values are equal by `==` exactly where they have the same form and all that they hold is equal.
+/// Two values are equal by `==` exactly when they have the same form and all that they hold is equal.
 pub fn values_are_equal_by_value()
     ensures { (a b : Value) → IsTrue (⟦<Value as PartialEq>⟧.eq a b) ↔ (a ≡ b) }
 {

@@ -14,7 +14,7 @@ digits bytes = flat_map (λ byte. digit (byte / 16) ∷ digit (byte % 16) ∷ []
 abbrev pub within : ℕ → ℕ → ℕ → Bool
 within low n high = nat_le low n && nat_le n high
 
--- a letter in upper case, and what is no letter as it is
+-- a letter in upper case, and what isn't a letter as it is
 abbrev pub upper : ℕ → ℕ
 upper b = if within 97 b 122 then b - 32 else b
 

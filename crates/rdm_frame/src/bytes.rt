@@ -26,8 +26,8 @@ pub type Body = Bytes<MOST_DATA>;
 /// The bytes of a frame on the bus: at most 24 slots of header, 231 of parameter data and 2 of checksum.
 pub type Wire = Bytes<MOST_SLOTS>;
 
-/// Parameter data that a command asks to send. It may be longer than a frame can carry, so that the refusal is
-/// the sender's.
+/// Parameter data that a command asks to send. It may be longer than a frame can carry: then the sender
+/// rejects it.
 pub type Load = Bytes<255>;
 
 /// A text of the device, such as its label: at most 32 bytes, of any value.
@@ -53,7 +53,7 @@ impl<const N: usize> Bytes<N> {
         list
     }
 
-    /// These bytes, or `None` where there are more than `N`.
+    /// These bytes, or `None` if there are more than `N`.
     pub fn from_slice(bytes: &[u8]) -> Option<Self>
         ensures fits { IsSome result ↔ (length bytes.now ≤ N) }
         ensures value { IfSome result (λ b. b ≡ bytes.now) }

@@ -13,7 +13,7 @@ use thiserror::Error;
 /// How many bytes a frame without parameter data has: the header and the checksum.
 const SHORTEST: usize = 26;
 
-/// Why bytes are no frame: the first of six tests, in this order, that they fail (E1.20 section 6.2).
+/// Why bytes aren't a valid frame: the first of six tests, in this order, that they fail (E1.20 section 6.2).
 #[derive(Clone, Copy, Debug, PartialEq, Eq, Error)]
 pub enum FrameError {
     /// There are fewer than 26 bytes: a header of 24 slots and a checksum of two.
@@ -46,7 +46,7 @@ pub fn decode(bytes: &[u8]) -> Result<Frame, FrameError>
     ensures only { (f : Frame) → IsFrame f → bytes.now ≡ frame_text f → result ≡ Ok f }
     // The one frame, as the layers above cite it.
     ensures value { result_ok result ≡ frame_in bytes.now }
-    // Each error comes exactly where the tests before its own pass, and its own fails.
+    // Each error comes exactly when the tests before its own pass, and its own fails.
     ensures fault { (e : FrameError) → (result ≡ Err e) ↔ IsFirstFault e bytes.now }
 {
     match decode_view(bytes) {
@@ -55,7 +55,7 @@ pub fn decode(bytes: &[u8]) -> Result<Frame, FrameError>
     }
 }
 
-/// The frame that the bytes are the text of, with its parameter data where they lie.
+/// The frame that the bytes are the text of, with its parameter data borrowed from them.
 ///
 /// It is `Ok` exactly on the text of a frame. Else the error names the first of the six tests that fails.
 pub fn decode_view(bytes: &[u8]) -> Result<FrameView<'_>, FrameError>
@@ -65,7 +65,7 @@ pub fn decode_view(bytes: &[u8]) -> Result<FrameView<'_>, FrameError>
     ensures only { (f : Frame) → IsFrame f → bytes.now ≡ frame_text f → result ≡ Ok f }
     // The one frame, as the layers above cite it.
     ensures value { result_ok result ≡ frame_in bytes.now }
-    // Each error comes exactly where the tests before its own pass, and its own fails.
+    // Each error comes exactly when the tests before its own pass, and its own fails.
     ensures fault { (e : FrameError) → (result ≡ Err e) ↔ IsFirstFault e bytes.now }
 {
     test(bytes)?;

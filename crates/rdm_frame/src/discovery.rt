@@ -1,4 +1,4 @@
-//! The answer to DISC_UNIQUE_BRANCH, which is no frame.
+//! The answer to DISC_UNIQUE_BRANCH, which isn't a frame.
 
 ghost use Rattle.std.specs.Prelude.{◌≡◌, ◌≤◌, length, Some};
 ghost use Rattle.rdm_frame.specs.FrameText.{IsUid};

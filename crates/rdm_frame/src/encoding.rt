@@ -33,7 +33,7 @@ pub fn encode_into(frame: &FrameView<'_>, wire: &mut Wire)
     wire.append(&checksum.to_be_bytes());
 }
 
-/// Writes the slots before the parameter data, where nothing is yet.
+/// Writes the slots before the parameter data into an empty list.
 // Inlined, as `encode_into` says.
 #[inline(always)]
 #[tactic(auto, unfolding(crate::specs::FrameText::head_slots))]

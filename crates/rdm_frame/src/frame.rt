@@ -29,7 +29,7 @@ pub struct Frame {
 impl Frame {
     ghost use Rattle.std.specs.Prelude.{◌≡◌};
 
-    /// The frame, with its parameter data where they lie.
+    /// The frame, with its parameter data borrowed.
     pub fn view(&self) -> FrameView<'_>
         ensures { result ≡ self.now }
     {

@@ -1,9 +1,9 @@
-//! A frame whose parameter data lie somewhere else.
+//! A frame whose parameter data are borrowed.
 
 use crate::{Body, Frame, Uid};
 use std::marker::Model;
 
-/// What a frame says, with its parameter data where they lie already. A contract sees the frame.
+/// What a frame says, with its parameter data borrowed. A contract sees the frame.
 #[derive(Debug, Drop)]
 pub struct FrameView<'a> {
     /// The destination UID (E1.20 section 6.2.4).

@@ -39,33 +39,33 @@ pub fn uids_are_ordered_by_number()
     ensures { (u v : Uid) → IsUid u → IsUid v → ⟦<Uid as Ord>⟧.cmp u v ≡ nat_cmp (uid_number u) (uid_number v) }
 {}
 
-/// Two lists of bytes are equal by `==` exactly where they hold the same bytes.
+/// Two lists of bytes are equal by `==` exactly when they hold the same bytes.
 pub fn bytes_are_equal_by_value<const N: usize>()
     ensures { (a b : List ℕ) → IsTrue (⟦<Bytes<N> as PartialEq>⟧.eq a b) ↔ (a ≡ b) }
 {}
 
-/// Two UIDs are equal by `==` exactly where their manufacturer IDs and their device IDs are.
+/// Two UIDs are equal by `==` exactly when their manufacturer IDs and their device IDs are.
 pub fn uids_are_equal_by_value()
     ensures { (u v : Uid) → IsTrue (⟦<Uid as PartialEq>⟧.eq u v) ↔ (u ≡ v) }
 {}
 
-/// Two frames are equal by `==` exactly where each of their fields is.
+/// Two frames are equal by `==` exactly when each of their fields is.
 #[tactic(auto, using(crate::proofs::Equality::frame_decides))]
 pub fn frames_are_equal_by_value()
     ensures { (f g : Frame) → IsTrue (⟦<Frame as PartialEq>⟧.eq f g) ↔ (f ≡ g) }
 {}
 
-/// Two refusals are equal by `==` exactly where they name the same test.
+/// Two refusals are equal by `==` exactly when they name the same test.
 pub fn frame_errors_are_equal_by_value()
     ensures { (d e : FrameError) → IsTrue (⟦<FrameError as PartialEq>⟧.eq d e) ↔ (d ≡ e) }
 {}
 
-/// Two refusals of a text as a UID are equal by `==`: there is one alone.
+/// Two refusals of a text as a UID are equal by `==`: there is only one.
 pub fn uid_errors_are_equal_by_value()
     ensures { (d e : UidError) → IsTrue (⟦<UidError as PartialEq>⟧.eq d e) ↔ (d ≡ e) }
 {}
 
-/// Digits are read exactly where they spell bytes, in either case.
+/// Digits are read exactly when they spell bytes, in either case.
 pub fn printed_bytes_are_read_back()
     ensures { (word bytes : List ℕ) → (bytes_in word ≡ Some bytes) ↔ SpellsBytes word bytes }
 {}

@@ -1,7 +1,7 @@
 //! Frames of Remote Device Management (ANSI E1.20-2010, section 6.2): their text as bytes, and back.
 //!
-//! `encode` writes the one text of a frame. `decode` reads exactly the texts of frames, and refuses every other
-//! byte list by the first of six tests that it fails.
+//! `encode` writes the one text of a frame. `decode` reads exactly the texts of frames, and rejects every other
+//! byte list, naming the first of six tests that it fails.
 #![tactic(auto)]
 
 mod bytes;

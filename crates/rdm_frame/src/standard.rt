@@ -31,7 +31,7 @@ pub const ACK: u8 = 0x00;
 /// second (table A-2, section 6.3.3).
 pub const ACK_TIMER: u8 = 0x01;
 
-/// The response type of a refused request; its data are a reason of 16 bits (table A-2, section 6.3.4).
+/// The response type of a rejected request; its data are a reason of 16 bits (table A-2, section 6.3.4).
 pub const NACK_REASON: u8 = 0x02;
 
 /// The parameter ID of the search for unmuted devices between two UIDs (section 7.5).

@@ -11,7 +11,7 @@ use std::fmt;
 use std::str::{self, FromStr};
 use thiserror::Error;
 
-/// A text isn't that of a UID.
+/// A text isn't a valid UID.
 #[derive(Clone, Copy, Debug, PartialEq, Eq, Error)]
 #[error("a UID is four hexadecimal digits, a colon and eight hexadecimal digits")]
 pub struct UidError;
@@ -41,7 +41,7 @@ impl Uid {
         ]
     }
 
-    /// The UID that a text spells, in digits of either case, or `None` where it is no UID's.
+    /// The UID that a text spells, in digits of either case, or `None` if it isn't a valid UID.
     #[tactic(auto, using(crate::proofs::NumberSpellings::uid_spelled))]
     pub fn from_text(text: &[u8]) -> Option<Uid>
         ensures value { result ≡ uid_in text.now }

@@ -14,7 +14,7 @@ module _ {T : Type 0} where
       (before after : List (Taken T)) (e : Taken T) → taken ≡ before ++ e ∷ after → is_from p e ≡ true
       → has_mark p before ≡ false
 
-  -- where the mark of p was taken, all of its list was
+  -- if the mark of p was taken, all of its list was
   abbrev pub IsWholeAtItsMark : ℕ → List (Taken T) → List T → Type 0
   IsWholeAtItsMark p taken xs = has_mark p taken ≡ true → items_from p taken ≡ xs
 

@@ -13,7 +13,7 @@ module _ {T : Type 0} where
   abbrev pub put : ℕ → List (Taken T) → Put T
   put p es = record { producer = p; entries = es }
 
-  -- the taker has made so many posts, has taken these, and has taken in the lists of these closed posts
+  -- the taker has made N posts, has taken these, and has taken in the lists of these closed posts
   abbrev pub taker : ℕ → List (Taken T) → List (Put T) → View T
   taker posts taken lists = Taker posts taken lists
 

@@ -13,7 +13,7 @@ module _ {T : Type 0} where
   abbrev pub settled : List (Taken T) → List (List T) → SettledState T
   settled taken posted = record { taken = taken; posted = posted }
 
--- the list of a post, empty where there is none
+-- the list of a post, empty if there is none
 abbrev pub list_or_none : {T Z : Type 0} → Option (Vec T Z) → List T
 list_or_none None = []
 list_or_none (Some v) = v.items
@@ -26,6 +26,6 @@ posted_in lists = map list_or_none lists
 abbrev pub HasLists : {T : Type 0} → List (List T) → List (PostState T) → Type 0
 HasLists posted posts = All (λ c. slice_index_or posted c.producer [] ≡ c.items) posts
 
--- of a producer that is no post nothing was taken, and there is no list
+-- of a producer that isn't a post nothing was taken, and there is no list
 abbrev pub HasNoOthers : {T : Type 0} → ℕ → List (Taken T) → List (List T) → Type 0
 HasNoOthers posts taken posted = (p : ℕ) → posts ≤ p → (of p taken ≡ []) × (slice_index_or posted p [] ≡ [])

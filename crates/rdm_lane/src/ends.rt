@@ -16,7 +16,7 @@ use thiserror::Error;
 /// Why a lane can't be made, or why nothing is taken from it.
 #[derive(Clone, Copy, Debug, PartialEq, Eq, Error)]
 pub enum LaneError {
-    /// Memory was wanted and refused.
+    /// Out of memory.
     #[error("out of memory")]
     OutOfMemory,
     /// The capacity isn't 1 to 2,048, the number of posts isn't 1 to 3, or the limit is 0.
@@ -39,11 +39,11 @@ const MOST_WAITING: usize = 2_048;
 /// How many posts a lane may have.
 pub(crate) const MOST_POSTS: usize = 3;
 
-/// A lane where `capacity` items and marks may wait, with so many posts, each of which may put `limit` items. All its ends
+/// A lane with room for `capacity` items and marks, and with N `posts`, each of which may put `limit` items. All its ends
 /// have one lane, and post p is producer p.
 ///
-/// It is `BadSize` where the capacity isn't 1 to 2,048, the number of posts isn't 1 to 3, or the limit is 0, else
-/// `OutOfMemory` where memory is refused.
+/// It is `BadSize` if the capacity isn't 1 to 2,048, the number of posts isn't 1 to 3, or the limit is 0, else
+/// `OutOfMemory` if memory is refused.
 pub fn lane<T: Copy + Send>(
     alloc: Global,
     capacity: usize,

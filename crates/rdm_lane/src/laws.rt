@@ -15,29 +15,29 @@ pub fn nothing_follows_the_mark<T>()
     ensures { OfEachPost {T = T} (λ p taken xs. EndsAtItsMark p taken) }
 {}
 
-/// Where the mark of a producer was taken, all of its items were.
+/// If the mark of a producer was taken, all of its items were.
 pub fn whole_list_is_taken_at_the_mark<T>()
     ensures { OfEachPost {T = T} IsWholeAtItsMark }
 {}
 
-/// Where items are equal by `==` exactly where they are the same, so are the answers of `Take::take`.
+/// If items are equal by `==` exactly when they are the same, so are the answers of `Take::take`.
 pub fn takens_are_equal_by_value<T: PartialEq>()
     ensures { ((x y : T) → IsTrue (⟦<T as PartialEq>⟧.eq x y) ↔ (x ≡ y)) →
         (a b : Taken T) → IsTrue (⟦<Taken<T> as PartialEq>⟧.eq a b) ↔ (a ≡ b) }
 {}
 
-/// Where items are equal by `==` exactly where they are the same, so are the refusals of `Post::put`.
+/// If items are equal by `==` exactly when they are the same, so are the refusals of `Post::put`.
 pub fn put_errors_are_equal_by_value<T: PartialEq>()
     ensures { ((x y : T) → IsTrue (⟦<T as PartialEq>⟧.eq x y) ↔ (x ≡ y)) →
         (a b : PutError T) → IsTrue (⟦<PutError<T> as PartialEq>⟧.eq a b) ↔ (a ≡ b) }
 {}
 
-/// Two values of `LaneError` are equal by `==` exactly where they are the same.
+/// Two values of `LaneError` are equal by `==` exactly when they are the same.
 pub fn lane_errors_are_equal_by_value()
     ensures { (a b : LaneError) → IsTrue (⟦<LaneError as PartialEq>⟧.eq a b) ↔ (a ≡ b) }
 {}
 
-/// Two values of `SettleError` are equal by `==`: there is one alone.
+/// Two values of `SettleError` are equal by `==`: there is only one.
 pub fn settle_errors_are_equal_by_value()
     ensures { (a b : SettleError) → IsTrue (⟦<SettleError as PartialEq>⟧.eq a b) ↔ (a ≡ b) }
 {}

@@ -21,7 +21,7 @@ use std::sync::{Arc, Wait};
 pub enum PutError<T> {
     /// As many items and marks wait in the lane as can.
     Full(T),
-    /// Memory was wanted and refused.
+    /// Out of memory.
     OutOfMemory(T),
     /// The post has put as many items as it may.
     Spent(T),
@@ -119,8 +119,8 @@ impl<T> Post<T> {
 impl<T: Copy + Send> Post<T> {
     /// Puts an item at the back of the lane, and answers its number among this post's items, from 0.
     ///
-    /// It is `Spent` where the post has put as many items as it may, else `OutOfMemory` where memory is refused, else
-    /// `Full` where as many items and marks wait as can.
+    /// It is `Spent` if the post has put as many items as it may, else `OutOfMemory` if memory is refused, else
+    /// `Full` if as many items and marks wait as can.
     pub fn put<R: Wait>(&mut self, rt: &R, item: T) -> Result<u32, PutError<T>>
         ensures put { MatchResult result
             (λ number. (number ≡ length self.old.items) × (self.new ≡ with_item self.old item))
@@ -149,7 +149,7 @@ impl<T: Copy + Send> Post<T> {
         }
     }
 
-    /// Closes the post by putting its mark at the back of the lane. Where the lane is full the post comes back. It takes
+    /// Closes the post by putting its mark at the back of the lane. If the lane is full, the post comes back. It takes
     /// no memory.
     pub fn close<R: Wait>(self, rt: &R) -> Result<ClosedPost<T>, Post<T>>
         ensures { MatchResult result (λ closed. closed ≡ self) (λ post. post ≡ self) }

@@ -48,7 +48,7 @@ impl<T> Settled<T> {
         &self.taken
     }
 
-    /// The items that a post put, in order: none where there is no such post.
+    /// The items that a post put, in order: none if there is no such post.
     pub fn posted(&self, producer: u32) -> &[T]
         ensures { result.now ≡ slice_index_or self.now.posted producer [] }
     {

@@ -70,7 +70,7 @@ impl<T> Take<T> {
 impl<T: Copy + Send> Take<T> {
     /// Takes what is at the front of the lane, an item or a mark.
     ///
-    /// It is `Closed` once the marks of all posts were taken, else `Empty` where nothing waits. Where memory is refused
+    /// It is `Closed` once the marks of all posts were taken, else `Empty` if nothing waits. If memory is refused,
     /// nothing is taken.
     pub fn take<R: Wait>(&mut self, rt: &R) -> Result<Taken<T>, LaneError>
         ensures answer { IfOk result (λ e. (self.new ≡ took self.old e) × IsNext self.old e) }
@@ -118,7 +118,7 @@ impl<T: Copy + Send> Take<T> {
     }
 }
 
-/// Whether the flags of so many posts are all set.
+/// Whether the flags of the first N posts are all set.
 fn all_marked(posts: u32, marks: &[bool; MOST_POSTS]) -> bool
     requires { posts ≤ 3 }
     ensures { IsTrue result ↔ ((p : ℕ) → p < posts → slice_index_or marks.now p false ≡ true) }

@@ -16,7 +16,7 @@ is_last Advisory = false
 is_last Warning = false
 is_last Error = false
 
--- the last of these messages, or the first argument where there is none
+-- the last of these messages, or the first argument if there is none
 abbrev pub last_or : Message → List Message → Message
 last_or m [] = m
 last_or m (x ∷ xs) = last_or x xs
@@ -25,7 +25,7 @@ last_or m (x ∷ xs) = last_or x xs
 abbrev pub last_of : Account → Message
 last_of a = last_or (status_message []) a.answers
 
--- The next message: the first that waits, which is the one after those that were given. Where none waits, it is the
+-- The next message: the first that waits, which is the one after those that were given. If none waits, it is the
 -- status message.
 abbrev pub next_of : Account → Ask → Message
 next_of a ask = unwrap_or (slice_get a.arrived a.given) (status_now a ask)

@@ -16,7 +16,7 @@ unshown noted = map (λ n. n.entry) (filter (λ n. not n.shown) noted)
 abbrev pub can_note : Account → Bool
 can_note a = nat_lt (length (unshown a.noted)) 1024
 
--- the account after an entry was handed in, which is dropped where it can't be noted
+-- the account after an entry was handed in, which is dropped if it can't be noted
 abbrev pub after_note : Account → Entry → Account
 after_note a entry =
     if can_note a then record a { noted = a.noted ++ record { entry = entry; shown = false } ∷ [] } else a

@@ -5,7 +5,7 @@ use thiserror::Error;
 /// Why an outbox can't be made, tested from the last to the first.
 #[derive(Clone, Copy, Debug, PartialEq, Eq, Error)]
 pub enum NewError {
-    /// Memory was refused.
+    /// Out of memory.
     #[error("out of memory")]
     OutOfMemory,
     /// The number of jobs and messages isn't 1 to 1,024, or no worker may be given a job.

@@ -15,23 +15,23 @@ pub fn status_messages_mark_what_they_send()
     ensures once { NoneIsSentTwice }
 {}
 
-/// Two jobs are equal by `==` exactly where their numbers and their works are.
+/// Two jobs are equal by `==` exactly when their numbers and their works are.
 pub fn jobs_are_equal_by_value()
     ensures { (j k : Job) → IsTrue (⟦<Job as PartialEq>⟧.eq j k) ↔ (j ≡ k) }
 {}
 
-/// Two answers to a controller that collects are equal by `==` exactly where their messages are, and both are fresh or
+/// Two answers to a controller that collects are equal by `==` exactly when their messages are, and both are fresh or
 /// neither is.
 pub fn dispensed_are_equal_by_value()
     ensures { (a b : Dispensed) → IsTrue (⟦<Dispensed as PartialEq>⟧.eq a b) ↔ (a ≡ b) }
 {}
 
-/// Two refusals of a job are equal by `==` exactly where they are the same.
+/// Two refusals of a job are equal by `==` exactly when they are the same.
 pub fn refusals_are_equal_by_value()
     ensures { (a b : Full) → IsTrue (⟦<Full as PartialEq>⟧.eq a b) ↔ (a ≡ b) }
 {}
 
-/// Two reasons why there is no outbox are equal by `==` exactly where they are the same.
+/// Two reasons why there is no outbox are equal by `==` exactly when they are the same.
 pub fn new_errors_are_equal_by_value()
     ensures { (a b : NewError) → IsTrue (⟦<NewError as PartialEq>⟧.eq a b) ↔ (a ≡ b) }
 {}

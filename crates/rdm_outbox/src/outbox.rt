@@ -54,7 +54,7 @@ impl Model for Outbox {
 impl Outbox {
     /// An empty outbox with room for `q` jobs and messages together, whose workers may each be given `jobs` jobs.
     ///
-    /// A `q` that isn't 1 to 1,024, or no jobs, is refused first, and then comes want of memory. No later call takes
+    /// A `q` that isn't 1 to 1,024, or a `jobs` of 0, is rejected first, then comes out of memory. No later call takes
     /// memory.
     pub fn new(alloc: Global, q: u16, jobs: u32) -> Result<Self, NewError>
         ensures shows { IfOk result (λ outbox. Shows outbox (account_before q jobs)) }
@@ -104,7 +104,7 @@ impl Outbox {
         self.first.len() + self.second.len()
     }
 
-    /// The message count of a response (E1.20 section 6.2.8): how many messages wait, and 255 where more do.
+    /// The message count of a response (E1.20 section 6.2.8): how many messages wait, and 255 if more do.
     pub fn count(&self) -> u8
         ensures { (a : Account) → Shows self.now a → result ≡ min 255 (length (waiting_of a)) }
     {
@@ -142,7 +142,7 @@ impl Outbox {
         }
     }
 
-    /// Accepts a job, and gives it its number, or refuses it where there is no room.
+    /// Accepts a job, and gives it its number, or rejects it if there is no room.
     pub fn reserve(&mut self, work: Work) -> Result<Job, Full>
         ensures answer { (a : Account) → Shows self.old a → result ≡ reserved a work }
         ensures shows { (a : Account) → Shows self.old a → Shows self.new (after_reserve a work) }

@@ -75,7 +75,7 @@ fn show_asked(entries: &mut [Entry], most: usize, ask: Ask, body: &mut Body) -> 
     kept
 }
 
-/// The place of the first entry that is asked for, or how many there are: so many stay where they are.
+/// The place of the first entry that is asked for, or how many there are: those before it stay where they are.
 fn first_place(entries: &[Entry], ask: Ask) -> usize
     ensures { result ≡ unwrap_or (position (asks_for ask) entries.now) (length entries.now) }
 {

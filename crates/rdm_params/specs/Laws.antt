@@ -69,7 +69,7 @@ pub record IsSameBut (sub : ℕ) (old new : Parameters) : Type 0 where
 abbrev pub LeavesTheRest : Type 0
 LeavesTheRest = (p : Parameters) (sub pid : ℕ) (bytes : List ℕ) → IsSameBut sub p (after_set p sub pid bytes)
 
--- The end of a job changes no value but at the key of its own parameter, at any device, where the outcome is one that such
+-- The end of a job changes no value but at the key of its own parameter, at any device, if the outcome is one that such
 -- a job can have.
 abbrev pub CommitChangesItsKey : Type 0
 CommitChangesItsKey =

@@ -39,7 +39,7 @@ use thiserror::Error;
 /// Why devices can't be made.
 #[derive(Clone, Copy, Debug, PartialEq, Eq, Error)]
 pub enum NewError {
-    /// There is no memory for them.
+    /// Out of memory.
     #[error("out of memory")]
     OutOfMemory,
     /// The profile has more sub-devices than there can be.
@@ -76,7 +76,7 @@ impl Model for Devices {
 impl Devices {
     /// The devices of a profile, with the values that they start with.
     ///
-    /// It is `TooManySubs` over 512 sub-devices, else `BadProfile` where the profile breaks a rule.
+    /// It is `TooManySubs` over 512 sub-devices, else `BadProfile` if the profile breaks a rule.
     // Inlined, since a call would have a copy of the profile on the stack.
     #[inline(always)]
     #[tactic(auto, unfolding(rdm_device::specs::Device::Parameters::parameters_of))]
@@ -114,7 +114,7 @@ impl Devices {
         self.subs.len()
     }
 
-    /// What a GET answers: the value, the job that it starts, or the first reason to refuse it.
+    /// What a GET answers: the value, the job that it starts, or the first reason to reject it.
     pub fn get(&self, sub: u16, pid: u16, data: &[u8]) -> Verdict
         ensures { result ≡ got self.now sub pid data.now }
     {
@@ -123,7 +123,7 @@ impl Devices {
         answer.with(body)
     }
 
-    /// What a GET answers, as `get`, with the data of the reply in `body`, and none where it isn't `Done`. What stood
+    /// What a GET answers, as `get`, with the data of the reply in `body`, and none if it isn't `Done`. What stood
     /// there before is gone.
     // Inlined into each caller, since a call would hand the argument on through memory.
     #[inline(always)]
@@ -139,9 +139,9 @@ impl Devices {
         }
     }
 
-    /// What a SET answers. One that is refused, or that starts a job, changes nothing.
+    /// What a SET answers. One that is rejected, or that starts a job, changes nothing.
     ///
-    /// With sub-device 65535 it is for every sub-device and not for the root, and is refused unless all of them can
+    /// With sub-device 65535 it is for every sub-device and not for the root, and is rejected unless all of them can
     /// take it.
     pub fn set(&mut self, sub: u16, pid: u16, data: &[u8]) -> Verdict
         ensures answer { result ≡ answer_to_set self.old sub pid data.now }
@@ -152,7 +152,7 @@ impl Devices {
         answer.with(body)
     }
 
-    /// What a SET answers, as `set`, with the data of the reply in `body`, and none where it isn't `Done`. What stood
+    /// What a SET answers, as `set`, with the data of the reply in `body`, and none if it isn't `Done`. What stood
     /// there before is gone.
     pub fn set_into(&mut self, sub: u16, pid: u16, data: &[u8], body: &mut Body) -> Answer
         ensures answer { verdict_with result body.new ≡ answer_to_set self.old sub pid data.now }
@@ -167,8 +167,8 @@ impl Devices {
         }
     }
 
-    /// Whether a value is in the range of a command at each device that it is for. It isn't where there is no such
-    /// device, parameter or command, or where the value has another form.
+    /// Whether a value is in the range of a command at each device that it is for. It isn't if there is no such
+    /// device, parameter or command, or if the value has another form.
     #[tactic(auto, unfolding(crate::specs::Commands::Commands::in_range), using(crate::proofs::OtherForms::never_in_range))]
     pub fn in_range(&self, sub: u16, kind: Kind, verb: Verb, value: &Value) -> bool
         ensures { result ≡ in_range self.now sub kind verb value.now }
@@ -183,7 +183,7 @@ impl Devices {
             && self.is_in_range_at(sub, kind, verb, &place, &argument)
     }
 
-    /// What a GET answers, or the first reason to refuse it.
+    /// What a GET answers, or the first reason to reject it.
     // This and its steps are inlined, since a call would hand the argument on through memory.
     #[inline(always)]
     #[tactic(auto, unfolding(crate::specs::Commands::Commands::got, crate::specs::Commands::Commands::accepted))]
@@ -202,7 +202,7 @@ impl Devices {
         Ok(answer(sub, Verb::Get, found, Some(place), &value, body))
     }
 
-    /// What a SET answers, or the first reason to refuse it.
+    /// What a SET answers, or the first reason to reject it.
     #[inline(always)]
     #[tactic(auto, unfolding(crate::specs::Commands::Commands::answer_to_set, crate::specs::Commands::Commands::after_set, crate::specs::Commands::Commands::accepted))]
     fn try_set(&mut self, sub: u16, pid: u16, data: &[u8], body: &mut Body) -> Result<Answer, Nack>

@@ -125,8 +125,8 @@ impl Kind {
         rows!(each_kind!(all))
     }
 
-    /// The parameter with this name in the standard, as `DMX_START_ADDRESS`, or `None` where the table has none: the text is
-    /// compared byte for byte.
+    /// The parameter with this name in the standard, such as `DMX_START_ADDRESS`, or `None` if the table has none: the
+    /// text is compared byte for byte.
     pub fn named(name: &[u8]) -> Option<Kind>
         ensures value { result ≡ kind_named name.now }
         ensures named { (kind : Kind) → (result ≡ Some kind) ↔ (name_of kind ≡ name.now) }
@@ -142,7 +142,7 @@ impl Kind {
         rows!(pid_rows!(kind))
     }
 
-    /// The name in the standard, as `DMX_START_ADDRESS` (table A-3).
+    /// The name in the standard, such as `DMX_START_ADDRESS` (table A-3).
     pub fn name(self) -> &'static str
         ensures { result.now ≡ name_of self }
     {
@@ -216,7 +216,7 @@ pub enum Verb {
     Set,
 }
 
-/// The parameter of a PID (table A-3), or `None` where the table has none.
+/// The parameter of a PID (table A-3), or `None` if the table has none.
 #[tactic(auto, unfolding(crate::specs::Table::Rows::row_of, crate::specs::Table::Rows::table))]
 pub fn kind_of(pid: u16) -> Option<Kind>
     ensures value { IfSome result (λ kind. pid_of kind ≡ pid) }

@@ -38,72 +38,72 @@ pub fn panel_changes_its_own_key()
     ensures rest { PanelLeavesTheRest }
 {}
 
-/// Two values of `Work` are equal by `==` exactly where they are the same.
+/// Two values of `Work` are equal by `==` exactly when they are the same.
 pub fn works_are_equal_by_value()
     ensures { (a b : Work) → IsTrue (⟦<Work as PartialEq>⟧.eq a b) ↔ (a ≡ b) }
 {}
 
-/// Two values of `Entry` are equal by `==` exactly where they are the same.
+/// Two values of `Entry` are equal by `==` exactly when they are the same.
 pub fn entries_are_equal_by_value()
     ensures { (a b : Entry) → IsTrue (⟦<Entry as PartialEq>⟧.eq a b) ↔ (a ≡ b) }
 {}
 
-/// Two values of `Message` are equal by `==` exactly where they are the same.
+/// Two values of `Message` are equal by `==` exactly when they are the same.
 pub fn messages_are_equal_by_value()
     ensures { (a b : Message) → IsTrue (⟦<Message as PartialEq>⟧.eq a b) ↔ (a ≡ b) }
 {}
 
-/// Two values of `Outcome` are equal by `==` exactly where they are the same.
+/// Two values of `Outcome` are equal by `==` exactly when they are the same.
 pub fn outcomes_are_equal_by_value()
     ensures { (a b : Outcome) → IsTrue (⟦<Outcome as PartialEq>⟧.eq a b) ↔ (a ≡ b) }
 {}
 
-/// Two values of `Nack` are equal by `==` exactly where they are the same.
+/// Two values of `Nack` are equal by `==` exactly when they are the same.
 pub fn nacks_are_equal_by_value()
     ensures { (a b : Nack) → IsTrue (⟦<Nack as PartialEq>⟧.eq a b) ↔ (a ≡ b) }
 {}
 
-/// Two values of `Verb` are equal by `==` exactly where they are the same.
+/// Two values of `Verb` are equal by `==` exactly when they are the same.
 pub fn verbs_are_equal_by_value()
     ensures { (a b : Verb) → IsTrue (⟦<Verb as PartialEq>⟧.eq a b) ↔ (a ≡ b) }
 {}
 
-/// Two values of `Kind` are equal by `==` exactly where they are the same.
+/// Two values of `Kind` are equal by `==` exactly when they are the same.
 pub fn kinds_are_equal_by_value()
     ensures { (a b : Kind) → IsTrue (⟦<Kind as PartialEq>⟧.eq a b) ↔ (a ≡ b) }
 {}
 
-/// Two values of `Severity` are equal by `==` exactly where they are the same.
+/// Two values of `Severity` are equal by `==` exactly when they are the same.
 pub fn severities_are_equal_by_value()
     ensures { (a b : Severity) → IsTrue (⟦<Severity as PartialEq>⟧.eq a b) ↔ (a ≡ b) }
 {}
 
-/// Two values of `Ask` are equal by `==` exactly where they are the same.
+/// Two values of `Ask` are equal by `==` exactly when they are the same.
 pub fn asks_are_equal_by_value()
     ensures { (a b : Ask) → IsTrue (⟦<Ask as PartialEq>⟧.eq a b) ↔ (a ≡ b) }
 {}
 
-/// Two values of `NewError` are equal by `==` exactly where they are the same.
+/// Two values of `NewError` are equal by `==` exactly when they are the same.
 pub fn new_errors_are_equal_by_value()
     ensures { (a b : NewError) → IsTrue (⟦<NewError as PartialEq>⟧.eq a b) ↔ (a ≡ b) }
 {}
 
-/// Two values of `Answer` are equal by `==` exactly where they are the same.
+/// Two values of `Answer` are equal by `==` exactly when they are the same.
 pub fn answers_are_equal_by_value()
     ensures { (a b : Answer) → IsTrue (⟦<Answer as PartialEq>⟧.eq a b) ↔ (a ≡ b) }
 {}
 
-/// Two values of `Verdict` are equal by `==` exactly where they are the same.
+/// Two values of `Verdict` are equal by `==` exactly when they are the same.
 pub fn verdicts_are_equal_by_value()
     ensures { (a b : Verdict) → IsTrue (⟦<Verdict as PartialEq>⟧.eq a b) ↔ (a ≡ b) }
 {}
 
-/// Two values of `Plate` are equal by `==` exactly where they are the same.
+/// Two values of `Plate` are equal by `==` exactly when they are the same.
 pub fn plates_are_equal_by_value()
     ensures { (a b : List ℕ) → IsTrue (⟦<Plate as PartialEq>⟧.eq a b) ↔ (a ≡ b) }
 {}
 
-/// Two values of `Change` are equal by `==` exactly where they are the same.
+/// Two values of `Change` are equal by `==` exactly when they are the same.
 pub fn changes_are_equal_by_value()
     ensures { (a b : Change) → IsTrue (⟦<Change as PartialEq>⟧.eq a b) ↔ (a ≡ b) }
 {}

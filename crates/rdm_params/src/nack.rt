@@ -1,4 +1,4 @@
-//! Why a command is refused.
+//! Why a command is rejected.
 
 ghost use Rattle.std.specs.Prelude.{◌≡◌};
 ghost use Rattle.rdm_params.specs.Commands.Nacks.{nack_code};
@@ -8,7 +8,7 @@ ghost use Rattle.rdm_params.specs.Commands.Nacks.{nack_code};
 pub enum Nack {
     /// The addressed device has no such parameter.
     UnknownPid,
-    /// The parameter data hasn't the length of the command.
+    /// The parameter data doesn't have the length of the command.
     FormatError,
     /// The parameter has no such command.
     UnsupportedCommandClass,

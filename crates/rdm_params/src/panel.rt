@@ -32,7 +32,7 @@ impl Model for Plate {
 }
 
 impl Plate {
-    /// A label with this text, or `None` where it has more than 32 bytes.
+    /// A label with this text, or `None` if it has more than 32 bytes.
     pub fn new(text: &[u8]) -> Option<Self>
         ensures fits { IsSome result ↔ (length text.now ≤ 32) }
         ensures value { IfSome result (λ plate. plate ≡ text.now) }

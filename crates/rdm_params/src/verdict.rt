@@ -19,7 +19,7 @@ pub enum Verdict {
     Status(Ask),
     /// It clears the list of status entries, and is answered without data (section 10.3.4).
     Clear,
-    /// It is refused, and nothing changes (section 6.3.4).
+    /// It is rejected, and nothing changes (section 6.3.4).
     Refuse(Nack),
 }
 
@@ -43,7 +43,7 @@ pub enum Answer {
     Statuses(Ask),
     /// It clears the list of status entries, and is answered without data (section 10.3.4).
     Clears,
-    /// It is refused, and nothing changes (section 6.3.4).
+    /// It is rejected, and nothing changes (section 6.3.4).
     Refused(Nack),
 }
 

@@ -12,7 +12,7 @@ pub record MayArrive (a : Account) (r : Report) : Type 0 where
   pub oldest : slice_get (outstanding_of a.outbox (worker_of r.job.work)) 0 ≡ Some r.job
   pub fits : fits r.job.work r.outcome ≡ true
 
--- A person may change something where there is a place for the message of it.
+-- A person may change something if there is a place for the message of it.
 abbrev pub MayChange : Account → Type 0
 MayChange a = has_place a.outbox ≡ true
 

@@ -25,7 +25,7 @@ LawfulHistoriesHaveOneState =
     (h : History) → IsLawful h
     → (state : State) × StandsFor state h × ((other : State) → StandsFor other h → other ≡ state)
 
--- And where the setup has room for 1 to 1,024 results that state has the room that an outbox keeps: jobs and messages are no
+-- And if the setup has room for 1 to 1,024 results, that state has the room that an outbox keeps: jobs and messages are no
 -- more than there are places for, no worker was given more jobs than it may be, and at most 1,024 entries are to be shown.
 abbrev pub LawfulHistoriesHaveRoom : Type 0
 LawfulHistoriesHaveRoom =

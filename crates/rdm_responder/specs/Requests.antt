@@ -29,7 +29,7 @@ discovery_of f =
 abbrev pub get_of : Frame → Request
 get_of f = if is_broadcast f.dst then Ignored else Get f
 
--- Rule 2: a frame for another device is ignored. Rule 3: so is a command class that is no request's. Table A-1.
+-- Rule 2: a frame for another device is ignored. Rule 3: so is a command class that isn't a request's. Table A-1.
 abbrev pub request_of : Uid → Frame → Request
 request_of own f =
     if is_addressed own f.dst then
@@ -38,7 +38,7 @@ request_of own f =
     else if f.class == 0x30 then Set f else Ignored
     else Ignored
 
--- Rule 1: what is no frame is ignored.
+-- Rule 1: what isn't a frame is ignored.
 abbrev pub request_in : Uid → Option Frame → Request
 request_in own None = Ignored
 request_in own (Some f) = request_of own f

@@ -43,7 +43,7 @@ pub record Account : Type 0 where
   pub mutings : List Bool
   pub outbox : outbox.Account
 
--- The device is muted where the last of them is a mute. It starts unmuted. Section 7.6.
+-- The device is muted if the last of them is a mute. It starts unmuted. Section 7.6.
 abbrev pub is_muted : List Bool → Bool
 is_muted mutings = slice_index_or mutings (length mutings - 1) false
 
@@ -78,7 +78,7 @@ abbrev pub ack_message : Message → Response
 ack_message m = record { port = 0; class = m.class; sub = m.sub; pid = m.pid; body = m.body }
 
 -- Rules 6 to 11 are those of the table, and refuse or give the way in which a command is answered. Rule 12: a slow
--- command for which there is no room is refused. Rule 13: else the command is carried out.
+-- command for which there is no room is rejected. Rule 13: else the command is carried out.
 abbrev pub response_of : outbox.Account → Frame → Verdict → Response
 response_of b f (Refuse nack) = nack_reason f nack
 response_of b f (Start work) = if has_room b work then ack_timer f (estimate_of work) else nack_reason f BufferFull
@@ -111,7 +111,7 @@ account_with a (Set f) = record a { parameters = after_set a.parameters f.sub f.
 
 -- ---- what is answered
 
--- The message count tells how many messages wait, and 255 where there are more. Section 6.2.8.
+-- The message count tells how many messages wait, and 255 if there are more. Section 6.2.8.
 abbrev pub message_count : outbox.Account → ℕ
 message_count b = min 255 (length (waiting_of b))
 
@@ -122,7 +122,7 @@ answer_with own f count r =
     if is_broadcast f.dst then None
     else Some (frame_text (record { dst = f.src; src = own; tn = f.tn; port = r.port; count = count; sub = r.sub; class = r.class; pid = r.pid; body = r.body }))
 
--- these bytes, where there is an answer
+-- these bytes, if there is an answer
 abbrev pub answered : Bool → List ℕ → Option (List ℕ)
 answered true bytes = Some bytes
 answered false bytes = None
@@ -163,7 +163,7 @@ job_to a found = job_with a (request_in a.setup.uid found)
 
 -- ---- what a history comes to
 
--- A status entry is noted where the threshold of its device lets it, with these values of the parameters. Section 10.3.5.
+-- A status entry is noted if the threshold of its device lets it, with these values of the parameters. Section 10.3.5.
 abbrev pub after_entry : Parameters → outbox.Account → StatusEntry → outbox.Account
 after_entry p b entry = if notes p entry then after_note b entry else b
 
@@ -185,7 +185,7 @@ abbrev pub after_message : outbox.Account → Option Message → outbox.Account
 after_message b None = b
 after_message b (Some message) = after_post b message
 
--- A change makes of the parameters what a SET of the same value would, and its message is queued. Where that SET would be
+-- A change makes of the parameters what a SET of the same value would, and its message is queued. If that SET would be
 -- out of range nothing changes.
 abbrev pub account_after_change : Account → Change → Account
 account_after_change a change = record a {
@@ -208,7 +208,7 @@ account_before setup = record { setup = setup; parameters = parameters_of setup.
 unfoldable pub account_of : History → Account
 account_of h = fold account_after (account_before h.setup) h.events
 
--- The reply rules: the answer to these bytes, where this history came before, and the job that they start.
+-- The reply rules: the answer to these bytes, after this history, and the job that they start.
 abbrev pub reply_of : History → List ℕ → Option (List ℕ)
 reply_of h bytes = reply_to (account_of h) (frame_in bytes)
 

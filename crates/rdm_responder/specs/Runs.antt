@@ -19,7 +19,7 @@ use Rattle.rdm_responder.specs.Rules.{account_of, reply_of, job_of}
 abbrev pub outbox_of : History → outbox.Account
 outbox_of h = (account_of h).outbox
 
--- A report arrives: it may, its message is the last that arrived, and an entry was kept where one more is noted.
+-- A report arrives: it may, its message is the last that arrived, and an entry was kept if one more is noted.
 pub record IsArrival (h : History) (r : Report) (arrival : Arrival) : Type 0 where
   pub may : MayArrive (account_of h) r
   pub message : (outbox_of (then_event h (Arrived r))).arrived ≡ (outbox_of h).arrived ++ arrival.message ∷ []

@@ -15,7 +15,7 @@ pub record State : Type 0 where
   pub muted : Bool
   pub outbox : outbox_state.State
 
--- The state has the UID, the values and the jobs and messages of the account, and is muted where its last muting is a
+-- The state has the UID, the values and the jobs and messages of the account, and is muted if its last muting is a
 -- mute.
 pub record Shows (state : State) (account : Account) : Type 0 where
   pub uid : state.uid ≡ account.setup.uid

@@ -17,39 +17,39 @@ pub fn lawful_histories_have_one_state()
     ensures room { LawfulHistoriesHaveRoom }
 {}
 
-/// Two reports are equal by `==` exactly where their jobs and their outcomes are.
+/// Two reports are equal by `==` exactly when their jobs and their outcomes are.
 pub fn reports_are_equal_by_value()
     ensures { (a b : Report) → IsTrue (⟦<Report as PartialEq>⟧.eq a b) ↔ (a ≡ b) }
 {}
 
-/// Two jobs that started are equal by `==` exactly where each of their fields is.
+/// Two jobs that started are equal by `==` exactly when each of their fields is.
 pub fn starts_are_equal_by_value()
     ensures { (a b : Started) → IsTrue (⟦<Started as PartialEq>⟧.eq a b) ↔ (a ≡ b) }
 {}
 
-/// Two answers to bytes are equal by `==` exactly where each of their fields is.
+/// Two answers to bytes are equal by `==` exactly when each of their fields is.
 pub fn answers_are_equal_by_value()
     ensures { (a b : Stepped) → IsTrue (⟦<Stepped as PartialEq>⟧.eq a b) ↔ (a ≡ b) }
 {}
 
-/// Two arrivals are equal by `==` exactly where their messages are, and each notes an entry or neither does.
+/// Two arrivals are equal by `==` exactly when their messages are, and each notes an entry or neither does.
 pub fn arrivals_are_equal_by_value()
     ensures { (a b : Arrival) → IsTrue (⟦<Arrival as PartialEq>⟧.eq a b) ↔ (a ≡ b) }
 {}
 
-/// Two reports that come back are equal by `==` exactly where the reports are.
+/// Two reports that come back are equal by `==` exactly when the reports are.
 pub fn astrays_are_equal_by_value()
     ensures { (a b : Astray) → IsTrue (⟦<Astray as PartialEq>⟧.eq a b) ↔ (a ≡ b) }
 {}
 
-/// Two changes that come back are equal by `==` exactly where the changes are.
+/// Two changes that come back are equal by `==` exactly when the changes are.
 pub fn no_rooms_are_equal_by_value()
     ensures { (a b : NoRoom) → IsTrue (⟦<NoRoom as PartialEq>⟧.eq a b) ↔ (a ≡ b) }
 {
     changes_are_equal_by_value();
 }
 
-/// Two outputs of a run are equal by `==` exactly where they are of one kind and all that they hold is equal, byte for byte.
+/// Two outputs of a run are equal by `==` exactly when they are of one kind and all that they hold is equal, byte for byte.
 pub fn outputs_are_equal_by_value()
     ensures { (a b : Output) → IsTrue (⟦<Output as PartialEq>⟧.eq a b) ↔ (a ≡ b) }
 {
@@ -61,7 +61,7 @@ pub fn outputs_are_equal_by_value()
     no_rooms_are_equal_by_value();
 }
 
-/// Two reasons why there is no responder are equal by `==` exactly where they are the same.
+/// Two reasons why there is no responder are equal by `==` exactly when they are the same.
 pub fn new_errors_are_equal_by_value()
     ensures { (a b : NewError) → IsTrue (⟦<NewError as PartialEq>⟧.eq a b) ↔ (a ≡ b) }
 {}

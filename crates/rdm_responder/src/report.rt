@@ -1,4 +1,4 @@
-//! The report of a job, and what becomes of it; a change at the fixture's own menu that is refused.
+//! The report of a job, and what becomes of it; a change at the fixture's own menu that is rejected.
 
 use rdm_outbox::Job;
 use rdm_params::{Change, Message, Outcome};
@@ -18,7 +18,7 @@ pub struct Report {
 pub struct Arrival {
     /// The message that waits for the controller now (E1.20 section 10.3.1).
     pub message: Message,
-    /// Whether a status entry was noted (section 10.3.2). It is where the job failed, the threshold of its
+    /// Whether a status entry was noted (section 10.3.2). It is if the job failed, the threshold of its
     /// device is not above the entry (section 10.3.5), and there was room for it.
     pub kept: bool,
 }

@@ -35,7 +35,7 @@ const MOST_JOBS: u32 = u32::MAX;
 /// Why a responder can't be made, tested from the last to the first.
 #[derive(Clone, Copy, Debug, PartialEq, Eq, Error)]
 pub enum NewError {
-    /// Memory was refused.
+    /// Out of memory.
     #[error("out of memory")]
     OutOfMemory,
     /// The profile breaks a rule, or has too many sub-devices.
@@ -72,8 +72,8 @@ impl Responder {
     /// A responder with this UID, whose parameters have the initial values of the profile, with room for
     /// `queue_size` results of slow commands.
     ///
-    /// A UID that addresses more than one device is refused first, then a size that isn't 1 to 1,024, then a profile
-    /// that breaks a rule or has too many sub-devices, and last comes want of memory.
+    /// A UID that addresses more than one device is rejected first, then a size that isn't 1 to 1,024, then a profile
+    /// that breaks a rule or has too many sub-devices, and last comes out of memory.
     pub fn new(alloc: Global, uid: Uid, profile: Profile, queue_size: u16) -> Result<Self, NewError>
         ensures stands { IfOk result (λ r.
             StandsFor r (empty_history (record { uid = uid; profile = profile; queue_size = queue_size }))) }
@@ -117,8 +117,8 @@ impl Responder {
     }
 
     /// Hears bytes as `step` does, and says whether there is a reply, and which job started, with its worker and its
-    /// estimate (E1.20 section 6.3.3). The bytes of the reply stand in `wire`, which stays as it was where there is none.
-    /// Where one `wire` takes all replies, none is blanked or copied on its way.
+    /// estimate (E1.20 section 6.3.3). The bytes of the reply stand in `wire`, which stays as it was if there is none.
+    /// If one `wire` takes all replies, none is blanked or copied on its way.
     pub fn step_into(&mut self, bytes: &[u8], wire: &mut Wire) -> Stepped
         ensures reply { (h : History) → StandsFor self.old h → answered result.replied wire.new ≡ reply_of h bytes.now }
         ensures silent { OnFalse result.replied (wire.new ≡ wire.old) }
@@ -208,7 +208,7 @@ fn is_same(job: &Job, other: &Job) -> bool
     *job == *other
 }
 
-/// Notes a status entry where a job of this work failed, unless the threshold of its device is above it, and says whether it
+/// Notes a status entry if a job of this work failed, unless the threshold of its device is above it, and says whether it
 /// was kept.
 fn note_failure(devices: &Devices, outbox: &mut Outbox, work: &Work, outcome: Outcome) -> bool
     ensures kept { (b : OutboxAccount) → OutboxShows outbox.old b →

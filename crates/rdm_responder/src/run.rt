@@ -41,7 +41,7 @@ pub enum Output {
 impl Responder {
     /// Takes these inputs one after another, and gives the output of each.
     ///
-    /// Memory for the outputs is taken first, so that where it is refused nothing was heard and nothing arrived.
+    /// Memory for the outputs is taken first, so that if it is refused, nothing was heard and nothing arrived.
     pub fn step_all(
         &mut self,
         alloc: Global,

@@ -31,7 +31,7 @@ calls low high f = not f.muted && (nat_le (uid_number low) (uid_number f.uid) &&
 abbrev pub callers : Uid → Uid → List Fixture → List Uid
 callers low high line = uids (filter (calls low high) line)
 
--- What is heard where these answer at once: nothing of none, the answer of a single one, and of more than one any bytes,
+-- What is heard when these answer at once: nothing of none, the answer of a single one, and of more than one any bytes,
 -- though not none: they may decode as the UID of nobody, of one of them, of a fixture elsewhere, or as a broadcast.
 abbrev pub IsCalled : List Uid → List ℕ → Type 0
 IsCalled [] heard = heard ≡ []

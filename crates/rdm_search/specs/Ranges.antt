@@ -8,7 +8,7 @@ use Rattle.rdm_search.specs.declared.range.Range.{Range}
 abbrev pub uid_of : ℕ → Uid
 uid_of n = record { maker = n / 2 ^ 32; device = n % 2 ^ 32 }
 
--- how many numbers a range has, after so many halvings
+-- how many numbers a range has, after N halvings
 abbrev pub width : ℕ → ℕ
 width depth = 2 ^ (48 - depth)
 

@@ -12,12 +12,12 @@ use Rattle.rdm_search.specs.declared.stage.Stage.TheVariants.{Start, Asking, Mut
 use Rattle.rdm_search.specs.Requests.{request_frame}
 use Rattle.rdm_search.specs.Answers.{newcomer}
 
--- the frame of a request where a transaction is left for it
+-- the frame of a request if a transaction is left for it
 abbrev pub next_of : Uid → ℕ → Option Request → ℕ → Result (Option Frame) SearchError
 next_of source tn None left = Ok None
 next_of source tn (Some request) left = if left == 0 then Err Limit else Ok (Some (request_frame source tn request))
 
--- The answer of a device to its mute is noted, where it is the first of that device.
+-- The answer of a device to its mute is noted, if it is the first of that device.
 abbrev pub found_after : Stage → List Found → List ℕ → List Found
 found_after Start found heard = found
 found_after (Asking r) found heard = found

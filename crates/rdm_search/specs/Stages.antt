@@ -32,7 +32,7 @@ IsStage-prop (Asking r) = ×_prop le_prop le_prop
 IsStage-prop (Muting r uid) = ×_prop le_prop le_prop
 IsStage-prop Ended = Unit-prop
 
--- The stage after all of a range was searched: the upper half beside it where it is a lower one, and else what comes after
+-- The stage after all of a range was searched: the upper half beside it if it is a lower one, and else what comes after
 -- the range that both are halves of.
 abbrev pub stage_after : ℕ → ℕ → Stage
 stage_after zero index = Ended
@@ -52,7 +52,7 @@ pub record IsCandidate (r : Range) (u : Uid) : Type 0 where
 abbrev pub Reads : Range → List ℕ → Option Uid → Type 0
 Reads r heard read = (u : Uid) → IsDevice u → place r.depth u ≡ r.index → IsBranchReply u heard ⊎ (r.depth ≡ 48) → read ≡ Some u
 
--- Where a device answered its mute for the first time, the same range is asked again, and else its lower half.
+-- If a device answered its mute for the first time, the same range is asked again, and else its lower half.
 abbrev pub stage_of_mute : Range → Option Found → Stage
 stage_of_mute r (Some one) = Asking r
 stage_of_mute r None = halved r

@@ -16,7 +16,7 @@ use std::alloc::Global;
 /// Finds all fixtures of a line, and mutes them: each comes once, with what its answer to DISC_MUTE says. Memory is taken from
 /// `alloc` for what is found.
 ///
-/// It takes at most 74 transactions for each fixture and 2 more. Where `limit` allows as many, `Err(Limit)` doesn't come.
+/// It takes at most 74 transactions for each fixture and 2 more. If `limit` allows that many, `Err(Limit)` doesn't come.
 #[tactic(auto, using(crate::proofs::Runs::begins, crate::proofs::Runs::price_of_all))]
 pub fn discover<P: Port>(
     alloc: Global,
@@ -36,7 +36,7 @@ pub fn discover<P: Port>(
     Ok(search.into_found())
 }
 
-/// Finds the fixtures that aren't muted, where all that are muted were found: those that were plugged in since, or lost power.
+/// Finds the fixtures that aren't muted, when all that are muted were found: those that were plugged in since, or lost power.
 ///
 /// It takes at most 74 transactions for each of them and 1 more.
 #[tactic(auto, using(crate::proofs::Runs::goes_on, crate::proofs::Runs::price_of_rest))]

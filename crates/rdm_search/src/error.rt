@@ -9,7 +9,7 @@ pub enum SearchError {
     /// It took as many transactions as it may: the line sounds though nobody answers, or has more fixtures than the limit is for.
     #[error("the limit of transactions is reached")]
     Limit,
-    /// Memory was wanted for what was found, and refused.
+    /// Out of memory for what was found.
     #[error("out of memory")]
     OutOfMemory,
 }

@@ -9,7 +9,7 @@ pub struct Found {
     /// Its UID.
     pub uid: Uid,
     /// The control field: bit 0 for a managed proxy, bit 1 for sub-devices, bit 2 for a boot loader, bit 3 for a proxied
-    /// device. 0 where the answer has none.
+    /// device. 0 if the answer has none.
     pub control: u16,
     /// The binding UID: the one by which the ports of one device with several of them say that they are one.
     pub binding: Option<Uid>,

@@ -17,7 +17,7 @@ use crate::stage::{Stage, halved, stage_after};
 use rdm_frame::{Uid, branch_uid};
 use std::alloc::AllocError;
 
-/// Where a search goes on from a stage, where these bytes were heard. What was found is noted.
+/// Where a search goes on from a stage after these bytes were heard. What was found is noted.
 pub(crate) fn after(found: &mut Vec<Found>, stage: Stage, bytes: &[u8]) -> Result<Stage, AllocError>
     requires { IsStage stage }
     ensures valid { IfOk result IsStage }
@@ -36,7 +36,7 @@ pub(crate) fn after(found: &mut Vec<Found>, stage: Stage, bytes: &[u8]) -> Resul
     }
 }
 
-/// Where a search goes on from a branch, where these bytes were heard.
+/// Where a search goes on from a branch after these bytes were heard.
 fn after_branch(range: Range, bytes: &[u8]) -> Stage
     requires { IsRange range }
     ensures valid { IsStage result }
@@ -52,7 +52,7 @@ fn after_branch(range: Range, bytes: &[u8]) -> Stage
     }
 }
 
-/// The device that is muted where these bytes were heard. In a range of one UID it is that one, whatever was heard. A broadcast
+/// The device that is muted after these bytes were heard. In a range of one UID it is that one, whatever was heard. A broadcast
 /// is never muted, since all would be: bytes of more than one device may decode as one.
 fn candidate(range: Range, bytes: &[u8]) -> Option<Uid>
     requires { IsRange range }
@@ -77,7 +77,7 @@ fn heard_uid(range: Range, bytes: &[u8]) -> Option<Uid>
     }
 }
 
-/// Where a search goes on from a mute, where these bytes were heard: a device that is new is noted, and the same range asked
+/// Where a search goes on from a mute after these bytes were heard: a device that is new is noted, and the same range asked
 /// again.
 fn after_mute(
     found: &mut Vec<Found>,

@@ -13,7 +13,7 @@ use crate::search::Search;
 use rdm_frame::Uid;
 use std::alloc::Global;
 
-/// Looks for the fixtures of a line on which anything may be lost, asking so many times again while nothing is heard.
+/// Looks for the fixtures of a line on which anything may be lost, asking up to `retries` times again while nothing is heard.
 ///
 /// What it finds is there, and comes once. A fixture is missed where all askings of a request in a row are lost to it, or their
 /// answers are. `discover` over `WithRetries` misses none, on a line of which it is known how many askings in a row are lost.
@@ -36,8 +36,8 @@ pub fn discover_lossy<L: LossyPort>(
     Ok(search.into_found())
 }
 
-/// Runs a search to its end over a port on which anything may be lost, from wherever it stands, asking so many times again while
-/// nothing is heard.
+/// Runs a search to its end over a port on which anything may be lost, from wherever it stands, asking up to `retries` times
+/// again while nothing is heard.
 pub fn run_lossy<L: LossyPort>(
     search: &mut Search,
     port: &mut L,

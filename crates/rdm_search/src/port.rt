@@ -2,9 +2,9 @@
 
 use rdm_frame::{Frame, Wire};
 
-/// A port on a line. `exchange` sends the frame of a request and gives the bytes that came after it, none where nothing did.
+/// A port on a line. `exchange` sends the frame of a request and gives the bytes that came after it, none if nothing did.
 ///
-/// Its clauses say what a line is: what may be heard after each request of a search, and which fixtures are muted then. Where
+/// Its clauses say what a line is: what may be heard after each request of a search, and which fixtures are muted then. If
 /// more than one fixture answers, any bytes may come, as long as some do.
 pub trait Port {
     ghost use Rattle.std.specs.Prelude.{◌≡◌, ℕ, ◌+◌, ◌≤◌, List};

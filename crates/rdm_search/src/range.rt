@@ -8,7 +8,7 @@ use rdm_frame::Uid;
 /// How many times the 48-bit numbers are halved until a range has one.
 pub(crate) const DEEPEST: u8 = 48;
 
-/// One of the ranges that the 48-bit numbers fall into when they are halved so many times: the lowest has the index 0.
+/// One of the ranges that the 48-bit numbers fall into when they are halved `depth` times: the lowest has the index 0.
 #[derive(Clone, Copy, Debug, PartialEq, Eq)]
 pub struct Range {
     pub(crate) index: u64,

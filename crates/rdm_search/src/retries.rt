@@ -9,7 +9,7 @@ ghost use Rattle.rdm_search.specs.Losses.{IsKept, IsLost};
 use crate::lossy::LossyPort;
 use rdm_frame::{Frame, Wire};
 
-/// Sends the frame, and again while nothing is heard, so many times more at most. Every request of a search may be repeated: a
+/// Sends the frame, and again while nothing is heard, `retries` times more at most. Every request of a search may be repeated: a
 /// fixture that is muted answers its mute again.
 pub(crate) fn ask<L: LossyPort>(port: &mut L, retries: u8, frame: &Frame) -> Wire
     // All is as if it had been asked once, or it was lost each time.

@@ -65,7 +65,7 @@ impl Search {
         }
     }
 
-    /// The frame to send, or `None` when the search has ended. `Err(Limit)` where it hasn't and no transaction is left.
+    /// The frame to send, or `None` when the search has ended. `Err(Limit)` if it hasn't and no transaction is left.
     pub fn next(&self) -> Result<Option<Frame>, SearchError>
         ensures { result ≡ next_of self.now.source self.now.tn (request_of self.now.stage) self.now.left }
     {
@@ -76,7 +76,7 @@ impl Search {
         }
     }
 
-    /// Takes the bytes that were heard after the frame of `next`; none where nothing was. Where memory is refused nothing
+    /// Takes the bytes that were heard after the frame of `next`; none if nothing was. If memory is refused, nothing
     /// changes, and the same bytes can be heard again.
     pub fn hear(&mut self, bytes: &[u8]) -> Result<(), SearchError>
         // On every line the search comes nearer to its end.

@@ -36,7 +36,7 @@ impl Stage {
     }
 }
 
-/// What comes after all of a range was searched: where it is a lower half, the upper one beside it.
+/// What comes after all of a range was searched: if it is a lower half, the upper one beside it.
 pub(crate) fn stage_after(range: Range) -> Stage
     requires { IsRange range }
     ensures value { result ≡ stage_after range.depth range.index }

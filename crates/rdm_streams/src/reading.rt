@@ -11,8 +11,8 @@ use thiserror::Error;
 #[error("read")]
 pub struct ReadFault;
 
-/// One read into the front of `room`: how many bytes came. There are none at the end of the stream, and where there is no
-/// room. A read that was interrupted is tried again; where one fails, nothing was read.
+/// One read into the front of `room`: how many bytes came. There are none at the end of the stream, or if there is no
+/// room. A read that was interrupted is tried again; if one fails, nothing was read.
 pub fn read_some<R: Read>(reader: &mut R, room: &mut [u8]) -> Result<usize, ReadFault>
     ensures bytes { ReadConsumes (R.remaining reader.old) (R.remaining reader.new) result room.new }
     ensures within { IfOk result (λ count. count ≤ length room.new) }

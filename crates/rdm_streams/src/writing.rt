@@ -15,7 +15,7 @@ pub struct WriteFault;
 /// that failed or took no byte, none is.
 pub fn write_all<W: Write>(writer: &mut W, bytes: &[u8]) -> Result<(), WriteFault>
     ensures ok { OnOk result (Appends (W.contents writer.old) (W.contents writer.new) bytes.now) }
-    // Where it failed, a front of the bytes is written that isn't all of them.
+    // If it failed, a front of the bytes is written that isn't all of them.
     ensures front { OnErr result ((count : ℕ) × (count < length bytes.now)
         × Appends (W.contents writer.old) (W.contents writer.new) (take count bytes.now)) }
 {

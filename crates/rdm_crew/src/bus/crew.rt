@@ -97,7 +97,7 @@ impl Crew {
         match self.desk.draw(rt) {
             Ok(Drawn::Arrived) => Ok(()),
             Ok(Drawn::Empty) => Ok(()),
-            // A worker closes its post before the steps end only where its memory was refused.
+            // A worker closes its post before the steps end only if its memory was refused.
             Ok(Drawn::Mark) => Err(Stop::OutOfMemory),
             Ok(Drawn::Closed) => Err(Stop::OutOfMemory),
             Err(stop) => Err(stop),
@@ -188,7 +188,7 @@ impl Crew {
     }
 }
 
-/// Takes the next change of the panel, if one comes. It may find none so many times; the next time there is none. It waits as
+/// Takes the next change of the panel, if one comes. It may find none `empties` times; the next time there is none. It waits as
 /// a settle does.
 fn next_change<R: Wait>(
     rt: &R,

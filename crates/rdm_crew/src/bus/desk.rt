@@ -62,7 +62,7 @@ impl Desk {
         }
     }
 
-    /// Draws reports until no job is outstanding. It may find none so many times; the next time it is `Unsettled`.
+    /// Draws reports until no job is outstanding. It may find none `empties` times; the next time it is `Unsettled`.
     ///
     /// After the first hundred in a row it sleeps before each further look, until a report comes or 10 ms have passed.
     pub(crate) fn settle<R: Wait>(&mut self, rt: &R, empties: u32) -> Result<(), Stop>
@@ -105,7 +105,7 @@ impl Desk {
                     }
                     looks = self.waiter.wait_a_while(rt, looks);
                 }
-                // A worker closes its post before the steps end only where its memory was refused.
+                // A worker closes its post before the steps end only if its memory was refused.
                 Ok(Drawn::Mark) => return Err(Stop::OutOfMemory),
                 Ok(Drawn::Closed) => return Err(Stop::OutOfMemory),
                 Err(stop) => return Err(stop),
@@ -114,7 +114,7 @@ impl Desk {
         unreachable!()
     }
 
-    /// Takes from the report lane as `draw` does, and counts where no report was there.
+    /// Takes from the report lane as `draw` does, and counts if no report was there.
     fn look<R: Wait>(&mut self, rt: &R, found_none: &mut u64) -> Result<Drawn, Stop>
         requires drawn { IsDrawn self.old }
         requires room { found_none.old < 4294967296 }

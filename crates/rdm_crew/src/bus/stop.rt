@@ -26,7 +26,7 @@ pub(crate) struct StopAt {
 }
 
 impl StopAt {
-    /// What is told of it when the run has ended. Where a report seemed astray memory was refused.
+    /// What is told of it when the run has ended. If a report seemed astray, memory was refused.
     pub(crate) fn told(self) -> Stopped
         ensures { result ≡ told_of self.why self.step }
     {

@@ -9,7 +9,7 @@ use std::alloc::AllocError;
 use std::sync::Wait;
 use std::thread;
 
-/// Puts an item, and tries again while the lane is full; then rings. It is refused only where memory is.
+/// Puts an item, and tries again while the lane is full; then rings. It is refused only if memory is.
 pub(crate) fn put<T: Copy + Send + Drop, R: Wait>(
     rt: &R,
     post: &mut Post<T>,

@@ -58,7 +58,7 @@ impl Waiter {
         })
     }
 
-    /// Waits after so many looks in vain, and says how many these are now. After the first it sleeps until a bell rings.
+    /// Waits after this many looks in vain, and says how many there are now. After the first it sleeps until a bell rings.
     pub(crate) fn wait<R: Wait>(&self, rt: &R, looks: u32) -> u32 {
         if looks < LOOKS {
             thread::yield_now();

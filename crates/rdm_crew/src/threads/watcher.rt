@@ -23,7 +23,7 @@ pub(crate) const MOST_CHANGES: u32 = 1024;
 pub(crate) struct Watched {
     /// Its post of the panel's lane.
     pub changes: ClosedPost<Change>,
-    /// Whether it ended since memory was refused.
+    /// Whether it ended because memory was refused.
     pub refused: bool,
 }
 

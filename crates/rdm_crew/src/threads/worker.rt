@@ -23,7 +23,7 @@ pub(crate) struct Worked {
     pub jobs: Take<Job>,
     /// Its post of the report lane.
     pub reports: ClosedPost<Report>,
-    /// Whether it ended since memory was refused.
+    /// Whether it ended because memory was refused.
     pub refused: bool,
 }
 

@@ -33,7 +33,7 @@ value_in long bytes = Long (from_be_bytes w32 bytes)
 value_in preset bytes = Preset (from_be_bytes w16 (take 2 bytes)) (slice_index bytes 2)
 value_in label bytes = Label bytes
 
--- the value that the data says, or none where it hasn't the length of the form
+-- the value that the data says, or none if it doesn't have the length of the form
 abbrev pub value_of : Form → List ℕ → Option Value
 value_of form bytes = if has_length form (length bytes) then Some (value_in form bytes) else None
 

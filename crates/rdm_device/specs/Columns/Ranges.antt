@@ -11,11 +11,11 @@ use Rattle.rdm_device.specs.Columns.Forms.{Form, has_form}
 abbrev pub Range : Type 0
 Range = Spot → Value → Bool
 
--- a test of the 8-bit number, where the value is one
+-- a test of the 8-bit number, if the value is one
 abbrev for_byte : (ℕ → Bool) → Value → Bool
 for_byte test v = option_map_or test (byte_in v) false
 
--- a test of the 16-bit number, where the value is one
+-- a test of the 16-bit number, if the value is one
 abbrev for_word : (ℕ → Bool) → Value → Bool
 for_word test v = option_map_or test (word_in v) false
 
@@ -59,7 +59,7 @@ a_slot form spot v = for_word (λ n. nat_lt n (footprint spot)) v
 abbrev pub a_sensor : Form → Range
 a_sensor form spot v = for_byte (λ n. nat_lt n (length spot.profile.sensors.items)) v
 
--- a sensor or, where there is one, FF for all
+-- a sensor or, if there is one, FF for all
 abbrev pub sensors : Form → Range
 sensors form spot v =
     for_byte (λ n. nat_lt n (length spot.profile.sensors.items) || ((n == 0xFF) && nat_lt 0 (length spot.profile.sensors.items))) v

@@ -15,7 +15,7 @@ use Rattle.rdm_device.specs.Device.Values.{word_slots, bytes_of, byte_or_0, word
 abbrev pub status_text : Spot → Value → List ℕ
 status_text spot v = option_map_or (λ t. t.text) (find (λ t. t.id == word_or_0 v) spot.profile.status_texts.items) []
 
--- the DMX512 start address, or FFFF where the device uses no slots. Section 10.6.3.
+-- the DMX512 start address, or FFFF if the device uses no slots. Section 10.6.3.
 abbrev pub start_address : Spot → List ℕ
 start_address spot = if footprint spot == 0 then 0xFF ∷ 0xFF ∷ [] else lookup spot.entries 0x00F0 0
 
@@ -34,7 +34,7 @@ device_info spot = bytes_of (info spot)
 abbrev pub factory_pids : List ℕ
 factory_pids = 0x0082 ∷ 0x00B0 ∷ 0x00E0 ∷ 0x00F0 ∷ 0x0404 ∷ 0x0500 ∷ 0x0501 ∷ 0x0600 ∷ 0x0601 ∷ 0x0602 ∷ []
 
--- 1 where each of these has the value that it starts with, else 0
+-- 1 if each of these has the value that it starts with, else 0
 abbrev pub at_factory_defaults : Spot → List ℕ
 at_factory_defaults spot =
     if list_all (λ pid. bytes_eq (lookup spot.entries pid 0) (lookup (root_at_start spot.profile) pid 0)) factory_pids
@@ -79,7 +79,7 @@ sensor_described spot v = option_map_or (λ d. bytes_of (Sensor (byte_or_0 v) d)
 abbrev pub sensor_measured : Spot → Value → List ℕ
 sensor_measured spot v = if byte_or_0 v == 0xFF then 0xFF ∷ replicate 8 0 else byte_or_0 v ∷ lookup spot.entries 0x0201 (byte_or_0 v)
 
--- 1 where the self test that was last switched on isn't off, else 0. Section 10.11.
+-- 1 if the self test that was last switched on isn't off, else 0. Section 10.11.
 abbrev pub self_test_runs : Spot → List ℕ
 self_test_runs spot = if slice_index (lookup spot.entries 0x1020 0) 0 == 0 then 0 ∷ [] else 1 ∷ []
 

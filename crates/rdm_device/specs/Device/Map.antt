@@ -14,7 +14,7 @@ entry pid index bytes = record { pid = pid; index = index; bytes = bytes }
 abbrev pub has_key : ℕ → ℕ → Entry → Bool
 has_key pid index e = (e.pid == pid) && (e.index == index)
 
--- the bytes at a key, and none where there is no such key
+-- the bytes at a key, and none if there is no such key
 abbrev pub lookup : List Entry → ℕ → ℕ → List ℕ
 lookup [] pid index = []
 lookup (e ∷ es) pid index = if has_key pid index e then e.bytes else lookup es pid index

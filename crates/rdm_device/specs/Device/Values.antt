@@ -63,10 +63,10 @@ abbrev pub label_in : Value → Option (List ℕ)
 label_in (Label text) = Some text
 label_in _ = None
 
--- the 8-bit number, or 0 where the value is none
+-- the 8-bit number, or 0 if the value isn't one
 abbrev pub byte_or_0 : Value → ℕ
 byte_or_0 v = unwrap_or (byte_in v) 0
 
--- the 16-bit number, or 0 where the value is none
+-- the 16-bit number, or 0 if the value isn't one
 abbrev pub word_or_0 : Value → ℕ
 word_or_0 v = unwrap_or (word_in v) 0

@@ -122,7 +122,7 @@ pub fn a_sensor(place: &Place<'_>, value: &Argument<'_>) -> bool
     }
 }
 
-/// A sensor or, where there is one, FF for all.
+/// A sensor or, if there is one, FF for all.
 #[inline]
 pub fn sensors(place: &Place<'_>, value: &Argument<'_>) -> bool
     ensures { result ≡ sensors byte place.now value.now }

@@ -79,7 +79,7 @@ fn sensor_count(place: &Place<'_>) -> u8
     }
 }
 
-/// 1 where each parameter that FACTORY_DEFAULTS sets back has the value that it starts with, else 0.
+/// 1 if each parameter that FACTORY_DEFAULTS sets back has the value that it starts with, else 0.
 #[tactic(auto, unfolding(crate::specs::Views::State::common_entries, crate::specs::Views::State::own_entries, crate::specs::Device::Parameters::common_at_start, crate::specs::Device::Parameters::own_at_start), using(crate::proofs::Words::never))]
 #[inline(never)]
 pub fn at_factory_defaults(place: &Place<'_>, body: &mut Body)
@@ -147,7 +147,7 @@ pub fn personality_described(place: &Place<'_>, value: &Argument<'_>, body: &mut
     }
 }
 
-/// The DMX512 start address, or FFFF where the device uses no slots.
+/// The DMX512 start address, or FFFF if the device uses no slots.
 #[inline(never)]
 pub fn start_address(place: &Place<'_>, body: &mut Body)
     requires { body.old ≡ [] }
@@ -252,7 +252,7 @@ fn reading(number: u8, measured: Measured) -> Value
     }
 }
 
-/// 1 where the self test that was last switched on isn't off, else 0.
+/// 1 if the self test that was last switched on isn't off, else 0.
 #[tactic(auto, unfolding(crate::specs::Views::State::common_entries, crate::specs::Views::State::own_entries))]
 #[inline(never)]
 pub fn self_test_runs(place: &Place<'_>, body: &mut Body)

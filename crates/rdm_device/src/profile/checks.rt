@@ -18,7 +18,7 @@ pub fn is_good(profile: &Profile) -> bool
         && profile.presets < 65535
 }
 
-/// Whether the unit keeps its rules, where there are as many slots.
+/// Whether the unit keeps its rules at a device with this many slots.
 fn is_good_unit(unit: &Unit, slots: usize) -> bool
     ensures { IsTrue result ↔ IsGoodUnit unit.now slots }
 {

@@ -9,7 +9,7 @@ use crate::Value;
 use rdm_frame::Text;
 use std::marker::Model;
 
-/// The value that a command hands in, whose text stays where it lies: so it is cheap to move. A contract sees the value.
+/// The value that a command hands in, whose text is borrowed, so that it is cheap to move. A contract sees the value.
 #[derive(Debug, Drop)]
 pub struct Argument<'a> {
     pub(crate) value: ValueRef<'a>,

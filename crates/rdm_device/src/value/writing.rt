@@ -73,7 +73,7 @@ pub fn write_value(value: &Value) -> Body
     body
 }
 
-/// Writes the bytes that stand for a value, where none are yet.
+/// Writes the bytes that stand for a value into an empty list.
 pub(crate) fn write_into(value: &Value, body: &mut Body)
     requires { body.old ≡ [] }
     ensures { body.new ≡ bytes_of value.now }

@@ -103,8 +103,8 @@ accepted p sub pid verb bytes = do
   found ← known p sub pid verb
   read_data p sub pid verb bytes
 
--- Whether a value is in the range of a command at each device that it addresses; it is not where there is none, or
--- where these have no such parameter or command.
+-- Whether a value is in the range of a command at each device that it addresses; it isn't if there is none, or
+-- if these have no such parameter or command.
 unfoldable pub in_range : Parameters → ℕ → Kind → Verb → Value → Bool
 in_range p sub kind verb value =
     is_some_device (addressed p sub verb) && is_ok (access (row_of (pid_of kind)) (sub == 0) verb)

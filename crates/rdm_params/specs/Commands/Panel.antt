@@ -27,7 +27,7 @@ changed_value (changes.Label plate) = Label plate
 abbrev pub can_change : Parameters → Change → Bool
 can_change p change = in_range_of (command_of (changed_pid change) Set) (root_spot p) (changed_value change)
 
--- The values after a change: those after the SET, where that is in range, else the same.
+-- The values after a change: those after the SET, if that is in range, else the same.
 unfoldable pub after_change : Parameters → Change → Parameters
 after_change p change =
     if can_change p change then carried_out p 0 (command_of (changed_pid change) Set) (changed_value change) else p
@@ -41,6 +41,6 @@ told p change = record {
   body = reply_at (command_of (changed_pid change) Get) (addressed p 0 Get) Nothing;
 }
 
--- The message that devices with these values queue at a change: of the values afterwards, and none where it isn't in range.
+-- The message that devices with these values queue at a change: of the values afterwards, and none if it isn't in range.
 unfoldable pub change_message : Parameters → Change → Option Message
 change_message p change = if can_change p change then Some (told (after_change p change) change) else None

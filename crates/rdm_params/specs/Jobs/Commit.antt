@@ -12,7 +12,7 @@ use Rattle.rdm_device.specs.Device.Measuring.{measured_by}
 use Rattle.rdm_device.specs.Device.Parameters.{Parameters}
 
 -- The values after the end of a job: what is done is carried out as the SET, a sensor shows what it has measured, and
--- where the job failed nothing changes.
+-- if the job failed, nothing changes.
 unfoldable pub after_commit : Parameters → Work → Outcome → Parameters
 after_commit p w Done = carried_out p w.sub (command_of w.pid Set) (Byte w.arg)
 after_commit p w (Reading v) = record p { root = update (measured_by w.arg v) p.root }

@@ -14,10 +14,10 @@ use Rattle.rdm_params.specs.Jobs.Severities.{rank_of}
 abbrev pub threshold : Spot → ℕ
 threshold spot = slice_index (lookup spot.entries 0x0033 0) 0
 
--- whether a device reports of an entry of this severity: never where its threshold is 00
+-- whether a device reports of an entry of this severity: never if its threshold is 00
 abbrev pub reports : Severity → Spot → Bool
 reports severity spot = not (threshold spot == 0x00) && nat_le (threshold spot) (rank_of severity)
 
--- Whether an entry is noted: the device that it is of reports of it. It is not where there is no such device.
+-- Whether an entry is noted: the device that it is of reports of it. It isn't if there is no such device.
 unfoldable pub notes : Parameters → StatusEntry → Bool
 notes p e = option_map_or (reports e.severity) (slice_get (addressed p e.sub Get) 0) false

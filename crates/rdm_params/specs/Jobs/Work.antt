@@ -16,11 +16,11 @@ abbrev pub estimate_in : Way → ℕ
 estimate_in (ByJob worker estimate) = estimate
 estimate_in _ = 0
 
--- the worker that has the job, and 1 where the work is no slow command
+-- the worker that has the job, and 1 if the work isn't a slow command
 abbrev pub worker_of : Work → ℕ
 worker_of w = worker_in (way_of (command_of w.pid w.verb))
 
--- how long the job takes, in tenths of a second, and 0 where the work is no slow command
+-- how long the job takes, in tenths of a second, and 0 if the work isn't a slow command
 abbrev pub estimate_of : Work → ℕ
 estimate_of w = estimate_in (way_of (command_of w.pid w.verb))
 

@@ -15,7 +15,7 @@ use Rattle.rdm_device.specs.Device.Spot.{Spot}
 use Rattle.rdm_device.specs.Device.Values.{word_slots, long_slots}
 
 -- A command of a row: the form of its data, the range of it, the way in which it is answered, what it makes of the
--- entries of a device, and the data of its reply, which is of the device afterwards. Where a job carries it out, the
+-- entries of a device, and the data of its reply, which is of the device afterwards. If a job carries it out, the
 -- change and the reply are those at the end of the job.
 pub record Command : Type 0 where
   pub form : Form

@@ -1,4 +1,4 @@
--- What a row says of a command, also where there is no such row or command.
+-- What a row says of a command, even if there is no such row or command.
 use Rattle.std.specs.Prelude.{ℕ, Bool, true, false, List, [], length, Option, Some, None, Result, Ok, Err, if◌then◌else◌, is_some}
 use Rattle.rdm_params.specs.declared.kind.Verb.{Verb}
 use Rattle.rdm_params.specs.declared.kind.Verb.TheVariants.{Set}

@@ -7,7 +7,7 @@ use Rattle.std.proofs.lemmas.List.{take-append-drop, length-take-le}
 abbrev pub padded : List ℕ → List ℕ
 padded text = text ++ replicate (32 - length text) 0
 
--- There are 32 bytes, of which so many are the text, and those after it are 00.
+-- There are 32 bytes, of which the first N are the text, and those after it are 00.
 pub record HoldsText (bytes : List ℕ) (len : ℕ) : Type 0 where
   pub fits : len ≤ 32
   pub whole : length bytes ≡ 32

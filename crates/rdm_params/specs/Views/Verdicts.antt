@@ -6,7 +6,7 @@ use Rattle.rdm_params.specs.declared.verdict.Verdict.{Verdict}
 use Rattle.rdm_params.specs.declared.verdict.Verdict.TheVariants.{Reply, Start, Queue, Status, Clear, Refuse}
 use Rattle.rdm_params.specs.Jobs.Work.{worker_of, estimate_of}
 
--- an answer with the data of its reply; one that is no reply has none
+-- an answer with the data of its reply; one that isn't a reply has none
 abbrev pub verdict_with : Answer → List ℕ → Verdict
 verdict_with Done body = Reply body
 verdict_with (Starts work worker estimate) body = Start work

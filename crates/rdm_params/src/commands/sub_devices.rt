@@ -15,7 +15,7 @@ use crate::{Kind, Profile, Unit, Verb};
 use rdm_device::{Argument, CommonValues, Place};
 use std::alloc::{AllocError, Global};
 
-/// As many sub-devices, with the values that they start with.
+/// This many sub-devices, with the values that they start with.
 pub(crate) fn start_each(
     alloc: Global,
     unit: &Unit,

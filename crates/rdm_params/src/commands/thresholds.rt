@@ -9,7 +9,7 @@ use rdm_device::Place;
 
 impl Devices {
     /// Whether a status entry is noted, by the threshold of its own device (E1.20 section 10.3.5): that isn't 00, and
-    /// the entry ranks at least as high. It isn't where there is no such device.
+    /// the entry ranks at least as high. It isn't if there is no such device.
     #[tactic(auto, unfolding(crate::specs::Jobs::Thresholds::notes))]
     pub fn notes(&self, entry: &Entry) -> bool
         ensures { result ≡ notes self.now entry.now }

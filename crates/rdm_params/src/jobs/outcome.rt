@@ -29,14 +29,14 @@ pub enum Outcome {
 }
 
 /// Whether a job of this work can end so: a slow SET with `Done`, a GET of a sensor with `Reading`, and each with
-/// `Failed`. It is false where the work is no slow command.
+/// `Failed`. It is false if the work isn't a slow command.
 pub fn fits(work: &Work, outcome: &Outcome) -> bool
     ensures { result ≡ fits work.now outcome.now }
 {
     is_slow(work) && ends(work.verb, outcome)
 }
 
-/// The worker that has the job of this work, or `None` where no such job can end so: what `worker_of` and `fits` tell,
+/// The worker that has the job of this work, or `None` if no such job can end so: what `worker_of` and `fits` tell,
 /// for one look at the table.
 pub fn fitting_worker(work: &Work, outcome: &Outcome) -> Option<u8>
     ensures worker { result ≡ if fits work.now outcome.now then Some (worker_of work.now) else None }

@@ -3,7 +3,7 @@
 ghost use Rattle.std.specs.Prelude.{◌≡◌};
 ghost use Rattle.rdm_params.specs.Jobs.Severities.{rank_of, severity_code, severity_in, severity_name};
 
-/// How bad it is what a status entry tells, and whether it is over (E1.20 table A-4).
+/// How bad the thing is that a status entry tells, and whether it is over (E1.20 table A-4).
 #[derive(Clone, Copy, Debug, PartialEq, Eq)]
 pub enum Severity {
     /// STATUS_ADVISORY.
@@ -46,7 +46,7 @@ impl Severity {
         }
     }
 
-    /// The severity of a code (table A-4), or `None` where it is that of none.
+    /// The severity of a code (table A-4), or `None` if none has this code.
     pub fn of(code: u8) -> Option<Severity>
         ensures { result ≡ severity_in code }
     {
@@ -61,7 +61,7 @@ impl Severity {
         }
     }
 
-    /// In words, as `advisory cleared`.
+    /// In words, such as `advisory cleared`.
     pub fn name(self) -> &'static str
         ensures { result.now ≡ severity_name self }
     {

@@ -22,7 +22,7 @@ pub struct Work {
     pub arg: u8,
 }
 
-/// The worker that has the job of this work: 0 or 1. It is 1 too where the work is no slow command.
+/// The worker that has the job of this work: 0 or 1. It is 1 too if the work isn't a slow command.
 pub fn worker_of(work: &Work) -> u8
     ensures worker { result ≡ worker_of work.now }
     ensures two { result < 2 }
@@ -33,8 +33,8 @@ pub fn worker_of(work: &Work) -> u8
     }
 }
 
-/// How long the job of this work takes, in tenths of a second, for ACK_TIMER (E1.20 section 6.3.3). It is 0 where the
-/// work is no slow command.
+/// How long the job of this work takes, in tenths of a second, for ACK_TIMER (E1.20 section 6.3.3). It is 0 if the
+/// work isn't a slow command.
 pub fn estimate_of(work: &Work) -> u16
     ensures { result ≡ estimate_of work.now }
 {

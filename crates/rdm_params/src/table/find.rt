@@ -68,7 +68,7 @@ macro_rules! is_bare {
     ($command:tt) => { false };
 }
 
-/// The command that the root, or else a sub-device, has for a PID, or the first reason to refuse it.
+/// The command that the root, or else a sub-device, has for a PID, or the first reason to reject it.
 // One look at the table for the parameter, the right to it, the way and the form.
 #[inline(always)]
 #[tactic(auto, unfolding(crate::specs::Table::Rows::row_of, crate::specs::Table::Rows::table))]

@@ -29,7 +29,7 @@ macro_rules! read_command {
 
 /// The value that the data of a command says.
 ///
-/// It is `FormatError` where the data hasn't the length of the command, and where the parameter has no such command.
+/// It is `FormatError` if the data doesn't have the length of the command, or if the parameter has no such command.
 pub fn read_value(kind: Kind, verb: Verb, data: &[u8]) -> Result<Value, Nack>
     ensures { result ≡ read (command_in (row_of (pid_of kind)) verb) data.now }
 {

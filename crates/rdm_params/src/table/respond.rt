@@ -58,7 +58,7 @@ macro_rules! typed {
     (text $body:ident ($field:expr)) => { put_text($body, &$field) };
 }
 
-/// Writes what a command answers at a device, which has carried it out, where nothing is yet.
+/// Writes what a command answers at a device, which has carried it out, into an empty list.
 #[tactic(auto, unfolding(crate::specs::Table::Rows::row_of, crate::specs::Table::Rows::table, rdm_device::specs::Views::State::common_entries, rdm_device::specs::Views::State::own_entries))]
 pub(crate) fn reply_into(
     kind: Kind,
@@ -75,7 +75,7 @@ pub(crate) fn reply_into(
 
 // What follows are calls: if their bytes lay among those of `reply_into`, each reply would clear them all first.
 
-/// Writes a 16-bit number, most significant byte first, where nothing is yet.
+/// Writes a 16-bit number, most significant byte first, into an empty list.
 #[inline(never)]
 fn put_word(body: &mut Body, number: u16)
     requires { body.old ≡ [] }
@@ -84,7 +84,7 @@ fn put_word(body: &mut Body, number: u16)
     body.append(&number.to_be_bytes());
 }
 
-/// Writes a 32-bit number, most significant byte first, where nothing is yet.
+/// Writes a 32-bit number, most significant byte first, into an empty list.
 #[inline(never)]
 fn put_long(body: &mut Body, number: u32)
     requires { body.old ≡ [] }
@@ -93,7 +93,7 @@ fn put_long(body: &mut Body, number: u32)
     body.append(&number.to_be_bytes());
 }
 
-/// Writes a preset and its level, where nothing is yet.
+/// Writes a preset and its level into an empty list.
 #[inline(never)]
 fn put_preset(body: &mut Body, preset: (u16, u8))
     requires { body.old ≡ [] }
@@ -103,7 +103,7 @@ fn put_preset(body: &mut Body, preset: (u16, u8))
     body.append(&[preset.1]);
 }
 
-/// Writes a text, where nothing is yet.
+/// Writes a text into an empty list.
 #[inline(never)]
 fn put_text(body: &mut Body, text: &Text)
     requires { body.old ≡ [] }

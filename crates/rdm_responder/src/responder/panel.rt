@@ -26,9 +26,9 @@ impl Responder {
 
     /// Changes a parameter of the root, as a person does at the fixture's own menu, and queues the message that tells
     /// the controller: the response to a GET of the parameter (E1.20 section 10.3.1). The message is the result. It is
-    /// `None`, and nothing changes, where a SET of the value would be out of range.
+    /// `None`, and nothing changes, if a SET of the value would be out of range.
     ///
-    /// Where there is no room for the message the change comes back, whatever its range, and nothing changes.
+    /// If there is no room for the message, the change comes back, whatever its range, and nothing changes.
     pub fn change(&mut self, change: Change) -> Result<Option<Message>, NoRoom>
         ensures lawful { (h : History) → IsLawful h → StandsFor self.old h →
             (IsOk result ↔ IsLawful (then_event h (Changed change))) }
