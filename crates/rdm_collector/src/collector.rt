@@ -5,10 +5,11 @@ ghost use Rattle.std.specs.Result.{result_err};
 ghost use Rattle.rdm_frame.specs.FrameText.{frame_text, IsFrame};
 ghost use Rattle.rdm_collector.specs.Collecting.{new_collector, refusal_of, poll_request, command_request, after_ask, after_poll, heard_in, after_hearing, without_transaction};
 
-use crate::command::{Command, MOST_DATA, class_of, is_reserved, queued_message, request_of};
+use crate::command::{Command, class_of, is_reserved, queued_message, request_of};
 use crate::message::message_of;
 use crate::transaction::{Heard, Transaction, taken_for};
 use crate::want::{Want, type_of};
+use rdm_frame::standard::MOST_DATA;
 use rdm_frame::{Uid, Wire, decode_view};
 use rdm_params::Message;
 use std::alloc::Global;

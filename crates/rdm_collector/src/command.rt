@@ -5,15 +5,9 @@ ghost use Rattle.rdm_frame.specs.FrameText.{frame_text, IsFrame};
 ghost use Rattle.rdm_collector.specs.Requests.{class_of, is_reserved, queued_message, request_of};
 
 use crate::ranges::frame_fits;
-use rdm_frame::standard::{DISCOVERY_COMMAND, GET_COMMAND, ROOT_DEVICE, SET_COMMAND};
+use rdm_frame::standard::{DISCOVERY_COMMAND, FIRST_PORT, GET_COMMAND, ROOT_DEVICE, SET_COMMAND};
 use rdm_frame::{FrameView, Load, Uid, Wire, encode_into};
 use rdm_params::Kind;
-
-/// The port ID of every request (E1.20 section 6.2.7).
-const PORT: u8 = 1;
-
-/// The most parameter data that a frame can carry (E1.20 section 6.2.10).
-pub const MOST_DATA: usize = 231;
 
 /// What a command does (E1.20 table A-1).
 #[derive(Clone, Copy, Debug, PartialEq, Eq)]
@@ -100,7 +94,7 @@ pub(crate) fn request_of(source: Uid, tn: u8, command: &Command) -> Wire
         dst: command.dst,
         src: source,
         tn,
-        port: PORT,
+        port: FIRST_PORT,
         count: 0,
         sub: command.sub,
         class: class_of(command.action),

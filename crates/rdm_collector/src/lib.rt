@@ -17,13 +17,14 @@ mod transaction;
 mod want;
 
 pub use collector::{AskError, Collector, PollError};
-pub use command::{Action, Command, MOST_DATA, is_reserved};
+pub use command::{Action, Command, is_reserved};
 pub use laws::{
     actions_are_equal_by_value, answers_are_taken, ask_errors_are_equal_by_value,
     commands_are_equal_by_value, heards_are_equal_by_value, joining_goes_from_the_front,
     poll_errors_are_equal_by_value, recording_laws_hold, recording_laws_rule_out,
     wants_are_equal_by_value,
 };
+pub use rdm_frame::standard::MOST_DATA;
 pub use rdm_frame::{Body, Load, Uid, Wire};
 pub use rdm_params::Message;
 pub use transaction::Heard;

@@ -8,7 +8,7 @@ use rdm_frame::standard::{ACK, GET_COMMAND_RESPONSE, SET_COMMAND_RESPONSE};
 
 /// A request that was sent and waits for its answer.
 #[derive(Clone, Copy, Debug, PartialEq, Eq)]
-pub enum Transaction {
+pub(crate) enum Transaction {
     /// A poll.
     Poll {
         /// The transaction number (E1.20 section 6.2.6).
