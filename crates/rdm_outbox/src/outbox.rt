@@ -1,6 +1,7 @@
 //! The outbox.
 
-ghost use Rattle.std.specs.Prelude.{◌≡◌, ◌↔◌, ◌<◌, ◌+◌, [], ◌∷◌, ◌++◌, not, length, min, IsTrue, IfOk, Err, slice_get, option_copied};
+ghost use Rattle.std.specs.Prelude.{◌≡◌, ◌↔◌, ◌<◌, ◌≤◌, ◌+◌, [], ◌∷◌, ◌++◌, not, length, min, IsTrue, IfOk, IfSome, MatchOption, Err, slice_get, option_copied};
+ghost use Rattle.circular_buffer.specs.Buffer.{buffer};
 ghost use Rattle.rdm_outbox.specs.Account.{Account, account_before};
 ghost use Rattle.rdm_outbox.specs.Jobs.{outstanding_of, outstanding_count, waiting_of, has_place, reserved, after_reserve, after_arrive};
 ghost use Rattle.rdm_outbox.specs.Messages.{is_last, last_of, next_of, after_next, after_post, dispensed, after_dispense, status_dispensed, after_status};
@@ -117,6 +118,28 @@ impl Outbox {
     {
         let places = usize::from(self.q);
         self.outstanding() + self.waiting() < places
+    }
+
+    /// The messages that wait, the first of them at the front.
+    pub fn waiting_ring(&self) -> &HeapCircularBuffer<Message>
+        ensures queue { result.now ≡ buffer self.now.queue self.now.q }
+        ensures account { (a : Account) → Shows self.now a → result.now ≡ buffer (waiting_of a) a.q }
+    {
+        &self.queue
+    }
+
+    /// The outstanding jobs of a worker, the oldest of them at the front. There are workers 0 and 1.
+    pub fn job_ring(&self, worker: u8) -> Option<&HeapCircularBuffer<Job>>
+        ensures jobs { MatchOption result (2 ≤ worker) (λ ring. (worker < 2) ×
+            (ring.now ≡ buffer (jobs_at self.now worker) self.now.q)) }
+        ensures account { (a : Account) → Shows self.now a →
+            IfSome result (λ ring. ring.now ≡ buffer (outstanding_of a worker) a.q) }
+    {
+        match worker {
+            0 => Some(&self.first),
+            1 => Some(&self.second),
+            _ => None,
+        }
     }
 
     /// Accepts a job, and gives it its number, or rejects it if there is no room.

@@ -163,9 +163,10 @@ fn a_ring_of_three_turns_ten_times(rt: HostRuntime) -> Result<(), Fail> {
     for turn in 0..30_u32 {
         assert_eq!(rt; number(&mut outbox, LAMP), Some(turn + 2));
         assert_eq!(rt; number(&mut outbox, LAMP), None);
-        assert_eq!(rt; oldest(&outbox, 0), Some(turn));
+        assert_eq!(rt; oldest_in_ring(&outbox, 0), Some(turn));
         finish(&rt, &mut outbox, 0, turn as u16);
-        assert_eq!(rt; outbox.waiting(), 1);
+        let waits = outbox.waiting_ring().front();
+        assert!(rt; matches!(waits, Some(message) if message.pid == turn as u16));
         assert!(rt;
             is(
                 &outbox.dispense(Ask::Advisory).message,
@@ -175,13 +176,13 @@ fn a_ring_of_three_turns_ten_times(rt: HostRuntime) -> Result<(), Fail> {
             )
         );
     }
-    assert!(rt; outbox.waiting() == 0 && outbox.oldest(2).is_none());
+    assert!(rt; outbox.waiting_ring().is_empty() && outbox.job_ring(2).is_none());
     Ok(())
 }
 
-/// The number of a worker's oldest job.
-fn oldest(outbox: &Outbox, worker: u8) -> Option<u32> {
-    Some(outbox.oldest(worker)?.number)
+/// The number of the job at the front of a worker's ring.
+fn oldest_in_ring(outbox: &Outbox, worker: u8) -> Option<u32> {
+    Some(outbox.job_ring(worker)?.front()?.number)
 }
 
 #[test]
