@@ -9,13 +9,13 @@ use rdm_script::{ScriptError, Spelling, refusal_at};
 use std::alloc::{AllocError, AllocFailed};
 use std::{fmt, io};
 
-/// The exit status of a command line that can't be done.
+/// The exit status of a usage error.
 pub const BAD_USAGE: u8 = 64;
 
-/// What is told on standard error, with the name of the file that it is about.
+/// What is printed on standard error, with the name of the file that it is about.
 #[derive(Drop)]
 pub enum Fault<'a> {
-    /// The words of the command line are no text.
+    /// An argument isn't valid UTF-8.
     Words,
     /// Standard input is named twice.
     ReadTwice,
@@ -27,7 +27,7 @@ pub enum Fault<'a> {
     TooManySubs(u16),
     /// The fixture has no such parameter.
     NoParameter(&'a str),
-    /// There is no memory, or no thread.
+    /// Out of memory or threads.
     Memory,
     /// The system's clock can't be read.
     Clock(io::Error),
@@ -35,25 +35,25 @@ pub enum Fault<'a> {
     Io(&'a str, io::Error),
     /// A file, or standard input, has more bytes than this.
     TooLong(&'a str, u64),
-    /// A file is no script.
+    /// A file isn't a valid script.
     Script(&'a str, rdm_script::Refusal),
-    /// A file is no script, and more isn't known.
+    /// A file isn't a valid script, and no more is known.
     NoScript(&'a str, ScriptError),
-    /// A file is no trace: this line, counted from 1, is none of one.
+    /// A file isn't a valid trace, by this line, counted from 1.
     NoTrace(&'a str, usize),
     /// The run of a script stops, at this line if it is known.
     Stopped(&'a str, Option<usize>, RunError),
-    /// The setup of a script, at this line if it is known, can't be had of a fixture with so many sub-devices.
+    /// The setup of a script, at this line if it is known, isn't possible for a fixture with N sub-devices.
     BadSetup(&'a str, Option<usize>, u16),
     /// The fixture of a script has the UID of the controller.
     ControllersUid(Uid),
-    /// A file is no text, from this place on.
+    /// A file isn't valid UTF-8, from this place on.
     NoText(&'a str, Place),
-    /// A file is no document of TOML, at this place.
+    /// A file isn't valid TOML, at this place.
     Syntax(&'a str, Place, toml::de::Error),
-    /// A file is no fixture, by this line of it if it is known.
+    /// A file isn't a valid fixture, by this line of it if it is known.
     Fixture(&'a str, Option<usize>, Refusal),
-    /// There can be no device of the fixture.
+    /// No device can be made of the fixture.
     NoDevice,
 }
 
@@ -69,7 +69,7 @@ impl<'a> Fault<'a> {
         }
     }
 
-    /// The run of a script stops, at this line if it is known. The fixture that it is played on has so many sub-devices.
+    /// The run of a script stops, at this line if it is known. The fixture that it is played on has N sub-devices.
     pub fn stopped(name: &'a str, line: Option<usize>, subs: u16, error: RunError) -> Fault<'a> {
         match error {
             RunError::OutOfMemory => Fault::Memory,
@@ -78,7 +78,7 @@ impl<'a> Fault<'a> {
         }
     }
 
-    /// A file is no text behind so many bytes of it.
+    /// A file isn't valid UTF-8 after its first N bytes.
     pub fn no_text(name: &'a str, bytes: &[u8], before: usize) -> Fault<'a> {
         Fault::NoText(name, Place::behind(bytes, before))
     }
@@ -129,7 +129,7 @@ impl<'a> Fault<'a> {
         }
     }
 
-    /// Whether nobody wants to be told: who reads standard output has gone, as `head` does.
+    /// Whether nobody wants to be told: the reader of standard output has gone, as `head` does.
     pub fn is_closed_pipe(&self) -> bool {
         match self {
             Fault::Io(name, error) => {
@@ -148,7 +148,7 @@ pub struct Place {
 }
 
 impl Place {
-    /// The place behind so many bytes.
+    /// The place after the first N bytes.
     fn behind(bytes: &[u8], count: usize) -> Place {
         let mut place = Place { line: 1, column: 1 };
         for byte in bytes.iter().take(count) {
@@ -195,7 +195,7 @@ impl fmt::Display for Fault<'_> {
     fn fmt<W: fmt::Write>(&self, f: &mut fmt::Formatter<W>) -> fmt::Result {
         match self {
             Fault::Memory => f.write_str("error: out of memory"),
-            Fault::Clock(error) => write!(f, "error: the clock: {error}"),
+            Fault::Clock(error) => write!(f, "error: clock: {error}"),
             Fault::Io(name, error) => write!(f, "error: {name}: {error}"),
             Fault::TooLong(name, most) => write!(f, "{name}: more than {most} bytes"),
             Fault::Script(name, refusal) => write!(f, "{name}:{refusal}"),
@@ -208,43 +208,49 @@ impl fmt::Display for Fault<'_> {
                 write_place(f, name, *line)?;
                 write!(
                     f,
-                    "there can be no such device: it has at most {most} sub-devices, "
+                    "this isn't a valid setup: expected at most {most} sub-devices, "
                 )?;
                 f.write_str("and room for 1 to 1024 results")
             }
-            Fault::NoTrace(name, line) => write!(f, "{name}:{line}: this is no line of a trace"),
-            Fault::NoText(name, place) => write!(f, "{name}:{place}: no text in UTF-8"),
+            Fault::NoTrace(name, line) => write!(
+                f,
+                "{name}:{line}: this isn't a valid line of a trace"
+            ),
+            Fault::NoText(name, place) => write!(f, "{name}:{place}: this isn't valid UTF-8"),
             Fault::Syntax(name, place, error) => write!(f, "{name}:{place}: {}", error.message()),
             Fault::Fixture(name, line, refusal) => {
                 write_place(f, name, *line)?;
                 write!(f, "{refusal}")
             }
-            Fault::NoDevice => f.write_str("error: there can be no such device"),
+            Fault::NoDevice => f.write_str("error: this isn't a valid fixture"),
             _ => write_refused(f, self),
         }
     }
 }
 
-/// Writes what the words of the command line ask for and can't be done.
+/// Writes what the command line asks for and can't be done.
 fn write_refused<W: fmt::Write>(f: &mut fmt::Formatter<W>, fault: &Fault<'_>) -> fmt::Result {
     match fault {
-        Fault::ReadTwice => f.write_str("error: standard input can be read but once"),
+        Fault::ReadTwice => f.write_str("error: standard input can only be read once"),
         Fault::WrittenTwice => f.write_str(
-            "error: standard output is for the words or for the chart, not for both",
+            "error: standard output can't take both the words and the chart",
         ),
         Fault::Overwritten(path) => {
-            write!(f, "error: {path}: it is read, and not to be written")
+            write!(f, "error: {path}: input and output are the same file")
         }
-        Fault::TooManySubs(most) => write!(f, "error: --subs: the fixture has {most} sub-devices"),
+        Fault::TooManySubs(most) => write!(
+            f,
+            "error: --subs: the fixture has only {most} sub-devices"
+        ),
         Fault::NoParameter(name) => write!(
             f,
-            "error: {name}: the fixture has no such parameter: felosumay parameters lists them"
+            "error: {name}: the fixture has no such parameter; felosumay parameters lists them"
         ),
         Fault::ControllersUid(uid) => write!(
             f,
-            "error: {uid} is the controller's, so the fixture can't have it in a script"
+            "error: {uid} is the controller's UID, so no script can be played on this fixture"
         ),
-        _ => f.write_str("error: a word of the command line is no text"),
+        _ => f.write_str("error: an argument isn't valid UTF-8"),
     }
 }
 
@@ -264,12 +270,10 @@ fn write_place<W: fmt::Write>(
 fn write_stop<W: fmt::Write>(f: &mut fmt::Formatter<W>, error: RunError) -> fmt::Result {
     match error {
         RunError::Reserved => f.write_str(
-            "the controller keeps QUEUED_MESSAGE and STATUS_MESSAGES for its polls: write collect",
+            "QUEUED_MESSAGE and STATUS_MESSAGES are reserved for the controller's polls: use collect",
         ),
-        RunError::TooLong => f.write_str("no frame can carry more than 231 bytes of data"),
-        RunError::Unsettled => {
-            f.write_str("settle found no report once more often than it allows")
-        }
+        RunError::TooLong => f.write_str("a frame can't carry more than 231 bytes of data"),
+        RunError::Unsettled => { f.write_str("settle found no report more times than it allows") }
         RunError::BadSetup | RunError::OutOfMemory | RunError::Astray | RunError::Missing => {
             write!(f, "run {error}")
         }

@@ -1,7 +1,7 @@
-//! The program for people: it plays a script, tells what frames say, draws them, checks a fixture file, and is a virtual
+//! The program for people: it plays a script, says what frames say, draws them, checks a fixture file, and is a virtual
 //! fixture on a line.
 //!
-//! What it prints where nothing else is asked for is exactly what rdm_play prints.
+//! What it prints, unless something else is asked for, is exactly what rdm_play prints.
 #![tactic(auto)]
 
 mod chart;
@@ -42,7 +42,7 @@ fn main(rt: HostRuntime) -> ExitCode {
     }
 }
 
-/// The words of the command line.
+/// The arguments of the command line.
 fn command_line<'a>(rt: HostRuntime) -> Result<Vec<String>, Fault<'a>> {
     let args = match env::args(&rt) {
         Ok(args) => args,
@@ -70,7 +70,7 @@ fn end(rt: HostRuntime, fault: &Fault<'_>) -> ExitCode {
     if fault.is_closed_pipe() {
         return status;
     }
-    // Nobody is left to be told where this can't be written.
+    // Nobody is left to be told if this can't be written.
     let _ = if is_coloured(rt) {
         eprintln!(rt; "\u{1b}[31m{fault}\u{1b}[0m")
     } else {

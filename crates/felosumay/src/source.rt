@@ -39,7 +39,7 @@ impl<'a> Source<'a> {
         }
     }
 
-    /// All of its bytes. More of them than `most` are refused.
+    /// All of its bytes. More of them than `most` are rejected.
     pub fn read<H: Host>(self, rt: H, most: u64) -> Result<Vec<u8>, Fault<'a>> {
         let mut bytes = Vec::new(rt.alloc());
         // One byte more is read, which shows that there are too many.
@@ -87,7 +87,7 @@ pub fn refuse_clashes<'a>(asked: &ArgMatches<'a>) -> Result<(), Fault<'a>> {
     Ok(())
 }
 
-/// Writes a text to a file, or to standard output where the path is `-`.
+/// Writes a text to a file, or to standard output if the path is `-`.
 pub fn save<'a, H: Host>(rt: H, path: &'a str, text: &[u8]) -> Result<(), Fault<'a>> {
     if path == "-" {
         return print(rt, text);

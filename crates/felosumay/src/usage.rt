@@ -3,24 +3,24 @@
 use clap::{Arg, ArgAction, ArgMatches, Command, Error, value_parser};
 use std::alloc::Global;
 
-/// Where a fixture file is asked for.
+/// The option that names a fixture file.
 pub const FIXTURE: &str = "fixture";
-/// Where words are asked for in place of the trace.
+/// The option for words in place of the trace.
 pub const WORDS: &str = "words";
-/// Where a file for a chart is named.
+/// The option that names a file for the chart of a run.
 pub const CHART: &str = "chart";
-/// Where the chart is written.
+/// The option that names the file of a chart.
 pub const OUTPUT: &str = "output";
-/// Where the text that is read is named.
+/// The argument that names the text that is read.
 pub const INPUT: &str = "input";
-/// Which parameter is asked for.
+/// The argument that names a parameter.
 pub const PARAMETER: &str = "parameter";
-/// How many sub-devices are asked for.
+/// The option for the number of sub-devices.
 pub const SUBS: &str = "subs";
-/// How fast time is asked to pass.
+/// The option for how fast time passes.
 pub const SPEED: &str = "speed";
 
-/// What the words of a command line ask for, the program's name first.
+/// What the arguments ask for, the program's name first.
 pub fn matches<'a>(alloc: Global, words: &'a [String]) -> Result<ArgMatches<'a>, Error> {
     command(alloc)?.try_get_matches_from(words)
 }
@@ -30,13 +30,13 @@ fn command<'a>(alloc: Global) -> Result<Command<'a>, Error> {
     Ok(
         Command::new(alloc, "felosumay")
             .bin_name("felosumay")?
-            .about("RDM (ANSI E1.20-2010) for makers of consoles and of fixtures")
+            .about("RDM (ANSI E1.20-2010) tools for makers of consoles and fixtures")
             .version("0.1.0")
             .subcommand_required(true)
             .arg_required_else_help(true)
             .propagate_version(true)
             .after_help(
-                "Exit status: 0 where all went well, 1 for a faulty file, 2 out of memory, 3 for a run that stops, 4 where reading or writing fails, 64 for bad usage.",
+                "Exit status: 0 on success, 1 for invalid input, 2 if out of memory, 3 if a run stops early, 4 if reading or writing fails, 64 for a usage error.",
             )
             .subcommand(play(alloc)?)?
             .subcommand(words(alloc)?)?
@@ -52,26 +52,26 @@ fn play<'a>(alloc: Global) -> Result<Command<'a>, Error> {
     let script = input(
         alloc,
         "SCRIPT",
-        "The script; standard input without it, or for -",
+        "The script; standard input if omitted or -",
     );
     let fixture = fixture_file(
         alloc,
-        "The fixture that it is played on, standard input for -; that of the demonstration without it",
+        "The fixture to play it on; standard input if -, the demonstration fixture if omitted",
     );
     let words = Arg::new(alloc, WORDS)
         .long("words")
         .action(ArgAction::SetTrue)
-        .help("Prints the words of the trace in its place");
+        .help("Print the trace in words");
     let chart = Arg::new(alloc, CHART)
         .long("chart")
         .value_name("FILE.svg")
         .action(ArgAction::Set)
         .help(
-            "Writes the chart of the trace to this file, too; for - to standard output, in place of the trace",
+            "Also write a chart of the trace to this file; if -, print the chart instead of the trace",
         );
     Ok(
         Command::new(alloc, "play")
-            .about("Plays a script on a fixture, and prints the trace")
+            .about("Play a script on a fixture and print the trace")
             .arg(script)?
             .arg(fixture)?
             .arg(words)?
@@ -83,15 +83,11 @@ fn play<'a>(alloc: Global) -> Result<Command<'a>, Error> {
 fn words<'a>(alloc: Global) -> Result<Command<'a>, Error> {
     Ok(
         Command::new(alloc, "words")
-            .about("Says in words what a trace says, or frames in hexadecimal digits, one a line")
-            .arg(input(
-                alloc,
-                "TRACE",
-                "The trace; standard input without it, or for -",
-            ))?
+            .about("Decode a trace into words, or frames in hexadecimal digits, one per line")
+            .arg(input(alloc, "TRACE", "The trace; standard input if omitted or -"))?
             .arg(fixture_file(
                 alloc,
-                "The fixture whose sensors and status IDs are known; standard input for -",
+                "The fixture for sensor units and status texts; standard input if -, the demonstration fixture if omitted",
             ))?,
     )
 }
@@ -103,19 +99,15 @@ fn chart<'a>(alloc: Global) -> Result<Command<'a>, Error> {
         .long("output")
         .value_name("FILE.svg")
         .action(ArgAction::Set)
-        .help("The file of the chart; standard output without it, or for -");
+        .help("The file to write the chart to; standard output if omitted or -");
     Ok(
         Command::new(alloc, "chart")
-            .about("Draws a trace as a sequence chart, in SVG")
-            .arg(input(
-                alloc,
-                "TRACE",
-                "The trace; standard input without it, or for -",
-            ))?
+            .about("Draw a trace as a sequence chart in SVG")
+            .arg(input(alloc, "TRACE", "The trace; standard input if omitted or -"))?
             .arg(output)?
             .arg(fixture_file(
                 alloc,
-                "The fixture whose sensors and status IDs are known; standard input for -",
+                "The fixture for sensor units and status texts; standard input if -, the demonstration fixture if omitted",
             ))?,
     )
 }
@@ -124,8 +116,8 @@ fn chart<'a>(alloc: Global) -> Result<Command<'a>, Error> {
 fn fixture<'a>(alloc: Global) -> Result<Command<'a>, Error> {
     Ok(
         Command::new(alloc, "fixture")
-            .about("Checks a fixture file, and prints what a controller will find")
-            .arg(input(alloc, "FILE", "The fixture file; standard input for -").required(true))?,
+            .about("Check a fixture file and print what a controller will find")
+            .arg(input(alloc, "FILE", "The fixture file; standard input if -").required(true))?,
     )
 }
 
@@ -134,14 +126,14 @@ fn parameters<'a>(alloc: Global) -> Result<Command<'a>, Error> {
     let parameter = Arg::new(alloc, PARAMETER)
         .value_name("NAME")
         .action(ArgAction::Set)
-        .help("The one that is asked for, by its name or its PID; all of them without it");
+        .help("A parameter, by name or PID; all of them if omitted");
     Ok(
         Command::new(alloc, "parameters")
-            .about("Lists the parameters of a fixture, with the data that their commands take")
+            .about("List the parameters of a fixture and the data that their commands take")
             .arg(parameter)?
             .arg(fixture_file(
                 alloc,
-                "The fixture, standard input for -; that of the demonstration without it",
+                "The fixture; standard input if -, the demonstration fixture if omitted",
             ))?,
     )
 }
@@ -152,16 +144,18 @@ fn widget<'a>(alloc: Global) -> Result<Command<'a>, Error> {
         .long("subs")
         .value_name("N")
         .value_parser(value_parser!(u16).range(0..=512))
-        .help("How many sub-devices it has; without it all of the file, else none");
+        .help("The number of sub-devices; if omitted, all of the file's, or none without a file");
     let speed = Arg::new(alloc, SPEED)
         .long("speed")
         .value_name("N")
         .value_parser(value_parser!(u32).range(1..=1000000))
-        .help("How many times as fast time passes for its slow commands; 1 without it");
+        .help("Run slow commands N times faster; 1 if omitted");
     Ok(
         Command::new(alloc, "widget")
-            .about("A virtual fixture behind an ENTTEC DMX USB Pro, on standard input and output")
-            .arg(fixture_file(alloc, "The fixture; that of the demonstration without it"))?
+            .about(
+                "Run a virtual fixture behind an ENTTEC DMX USB Pro, on standard input and output",
+            )
+            .arg(fixture_file(alloc, "The fixture; the demonstration fixture if omitted"))?
             .arg(subs)?
             .arg(speed)?,
     )

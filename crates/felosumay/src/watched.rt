@@ -1,4 +1,4 @@
-//! Streams whose errors aren't lost where those who read and write them don't hand them on.
+//! Streams whose errors aren't lost if those who read and write them don't hand them on.
 
 use std::io;
 use std::io::{Read, Write};
@@ -19,7 +19,7 @@ impl<T> Watched<T> {
         }
     }
 
-    /// The last error. There is none where a writer took no byte.
+    /// The last error. There is none if a writer took no byte.
     pub fn error(&self) -> io::Error {
         match &self.error {
             Some(error) => *error,

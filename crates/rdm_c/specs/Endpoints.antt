@@ -63,7 +63,7 @@ abbrev pub holds_collector : Option Endpoint → Bool
 holds_collector None = false
 holds_collector (Some endpoint) = is_collector endpoint
 
--- the search, where it is one
+-- the search, if it is one
 abbrev pub search_of : Endpoint → Option SearchState
 search_of (Responder running) = None
 search_of (Collector collector) = None
@@ -87,7 +87,7 @@ setup_of maker device profile queue_size = record { uid = record { maker = maker
 abbrev pub is_noted : History → Report → Bool
 is_noted h r = nat_lt (length (outbox_of h).noted) (length (outbox_of (then_event h (Arrived r))).noted)
 
--- the bytes at the front, where this is 1
+-- the bytes at the front, if this is 1
 abbrev pub told : ℕ → ℕ → List ℕ → Option (List ℕ)
 told there count bytes = answered (there == 1) (take count bytes)
 

@@ -27,7 +27,7 @@ numbers_of job = record {
   worker = worker_of job.work;
 }
 
--- The job that numbers stand for, where the command class is one of the two. The estimate and the worker follow from the
+-- The job that numbers stand for, if the command class is one of the two. The estimate and the worker follow from the
 -- rest.
 abbrev pub job_with : JobNumbers → Verb → Job
 job_with n verb = record { number = n.number; work = record { sub = n.sub; pid = n.pid; verb = verb; arg = n.argument } }

@@ -16,7 +16,7 @@ pub record SearchState : Type 0 where
   pub stage : Stage
   pub found : List Found
 
--- a search for all fixtures by this controller, in so many transactions
+-- a search for all fixtures by this controller, in N transactions
 abbrev pub IsNewSearch : Uid → ℕ → SearchState → Type 0
 IsNewSearch source limit s = (s.source ≡ source) × (s.left ≡ limit) × (s.stage ≡ Start) × (s.found ≡ [])
 
@@ -28,6 +28,6 @@ HasHeard s heard after =
     × (after.found ≡ found_after s.stage s.found heard)
     × (after.left ≡ s.left - 1) × (after.tn ≡ (s.tn + 1) % 256) × (after.source ≡ s.source)
 
--- It asks everywhere again, in so many transactions, and knows what it found.
+-- It asks everywhere again, in N transactions, and knows what it found.
 abbrev pub resumed : SearchState → ℕ → SearchState
 resumed s limit = record s { stage = Asking whole; left = limit }

@@ -11,7 +11,7 @@ use Rattle.rdm_c.specs.declared.status.Status.{Status}
 use Rattle.rdm_c.specs.declared.status.Status.TheVariants as status
 use Rattle.rdm_c.specs.Statuses.{code_of}
 
--- A fixture that was found, as the numbers that C has of it. Where it told no binding UID that one is 0000:00000000.
+-- A fixture that was found, as the numbers that C has of it. If it told no binding UID, that one is 0000:00000000.
 abbrev pub found_with : Found → ℕ → Uid → FoundNumbers
 found_with f there binding = record {
   device = f.uid.device;

@@ -12,15 +12,15 @@ use rdm_search::Found;
 pub struct FoundNumbers {
     /// Its device ID.
     pub device: u32,
-    /// The device ID of the binding UID, or 0 where it told none.
+    /// The device ID of the binding UID, or 0 if it told none.
     pub binding_device: u32,
     /// Its manufacturer ID.
     pub maker: u16,
-    /// The manufacturer ID of the binding UID, or 0 where it told none.
+    /// The manufacturer ID of the binding UID, or 0 if it told none.
     pub binding_maker: u16,
     /// The control field of its answer to DISC_MUTE (E1.20 section 7.6).
     pub control: u16,
-    /// 1 where its answer told a binding UID, else 0.
+    /// 1 if its answer told a binding UID, else 0.
     pub has_binding: u8,
 }
 

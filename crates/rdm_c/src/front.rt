@@ -2,7 +2,7 @@
 
 ghost use Rattle.std.specs.Prelude.{◌≡◌, ◌≤◌, length, take};
 
-/// Writes these bytes to the front of an array, where they fit, and says how many they are.
+/// Writes these bytes to the front of an array, if they fit, and says how many they are.
 pub(crate) fn write_front<const N: usize>(bytes: &[u8], array: &mut [u8; N]) -> usize
     requires { length bytes.now ≤ N }
     ensures front { take result array.new ≡ bytes.now }

@@ -11,7 +11,7 @@ use std::alloc::Global;
 use std::marker::Model;
 use std::ptr::null_mut;
 
-/// The pointer, or null where there is no endpoint. It isn't `Drop`, so that no endpoint is forgotten behind it.
+/// The pointer, or null if there is no endpoint. It isn't `Drop`, so that no endpoint is forgotten behind it.
 #[repr(C)]
 pub struct Handle {
     at: *mut u8,

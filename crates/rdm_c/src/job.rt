@@ -36,9 +36,9 @@ pub struct JobNumbers {
 pub struct SteppedNumbers {
     /// How many bytes the reply has.
     pub count: usize,
-    /// 1 where there is a reply, else 0.
+    /// 1 if there is a reply, else 0.
     pub replied: u8,
-    /// 1 where a job started, else 0.
+    /// 1 if a job started, else 0.
     pub started: u8,
     /// The job that started.
     pub job: JobNumbers,
@@ -63,7 +63,7 @@ impl JobNumbers {
         }
     }
 
-    /// The job that the numbers stand for, or `None` where the command class is neither GET's nor SET's. The estimate and
+    /// The job that the numbers stand for, or `None` if the command class is neither GET's nor SET's. The estimate and
     /// the worker follow from the rest, and aren't read.
     pub(crate) fn job(&self) -> Option<Job>
         ensures { result ≡ job_in self.now }

@@ -32,7 +32,7 @@ pub(crate) fn put(handle: &mut Handle, endpoint: Box<Endpoint>)
     mem::replace(handle, Handle::of(RawBox::of(endpoint))).discard();
 }
 
-/// Puts an endpoint in the place of what a handle held, or says that there is no memory for it. The handle stays as it was then.
+/// Replaces what a handle held by an endpoint, or says that there is no memory for it. The handle stays as it was then.
 pub(crate) fn replace(alloc: Global, handle: &mut Handle, endpoint: Endpoint) -> Status
     ensures done { result ≡ Status.Done → handle.new.held ≡ Some endpoint }
     ensures refused { result ≢ Status.Done → handle.new ≡ handle.old }

@@ -45,7 +45,7 @@ pub struct MessageNumbers {
 }
 
 impl CommandNumbers {
-    /// The command that the numbers and these data stand for, or `None` where the command class is none of the three.
+    /// The command that the numbers and these data stand for, or `None` if the command class isn't one of the three.
     pub(crate) fn command(&self, load: &[u8]) -> Option<Command>
         ensures { result ≡ command_in self.now load.now }
     {
@@ -76,7 +76,7 @@ impl MessageNumbers {
     }
 }
 
-/// The data, or the first `most` bytes of them where there are more.
+/// The data, or the first `most` bytes of them if there are more.
 fn front(load: &[u8], most: usize) -> Load
     requires { most ≤ 255 }
     ensures { result ≡ take most load.now }

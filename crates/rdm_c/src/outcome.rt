@@ -11,17 +11,17 @@ use rdm_responder::Report;
 #[repr(C)]
 #[derive(Clone, Copy)]
 pub struct OutcomeNumbers {
-    /// 0 where a SET is done, 1 where a sensor gave a reading, 2 where it failed.
+    /// 0 if a SET is done, 1 if a sensor gave a reading, 2 if it failed.
     pub kind: u8,
-    /// Where it failed: how bad it is (E1.20 table A-4).
+    /// If it failed: how bad it is (E1.20 table A-4).
     pub severity: u8,
     /// What the sensor measured.
     pub reading: i16,
-    /// Where it failed: the status ID (section 10.3.3).
+    /// If it failed: the status ID (section 10.3.3).
     pub id: u16,
-    /// Where it failed: the first value that the text of the status ID names.
+    /// If it failed: the first value that the text of the status ID names.
     pub v1: u16,
-    /// Where it failed: the second value.
+    /// If it failed: the second value.
     pub v2: u16,
 }
 

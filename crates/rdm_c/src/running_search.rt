@@ -32,7 +32,7 @@ impl RunningSearch {
     ghost use Rattle.rdm_search.specs.Stages.{Hears, request_of};
     ghost use Rattle.rdm_c.specs.SearchStates.{IsNewSearch, resumed};
 
-    /// A search for all fixtures, by the controller with this UID, in so many transactions at most.
+    /// A search for all fixtures, by the controller with this UID, in this many transactions at most.
     pub(crate) fn new(alloc: Global, source: Uid, limit: u32) -> RunningSearch
         ensures { IsNewSearch source limit result }
     {

@@ -8,7 +8,7 @@ ghost use Rattle.rdm_c.specs.Statuses.{code_of};
 pub enum Status {
     /// It was carried out.
     Done,
-    /// Memory was refused.
+    /// Out of memory.
     OutOfMemory,
     /// The profile breaks a rule, or has too many sub-devices.
     BadProfile,
@@ -22,7 +22,7 @@ pub enum Status {
     Astray,
     /// A number that was handed in stands for nothing.
     Unknown,
-    /// The command is refused, and a reason is given.
+    /// The command is rejected, and a reason is given.
     Refused,
     /// The command doesn't answer with a value.
     NoValue,

@@ -52,7 +52,7 @@ tag_front tag attributes = codes "<" ++ tag_name tag ++ attributes_text attribut
 abbrev pub end_tag : Tag → List ℕ
 end_tag tag = codes "</" ++ tag_name tag ++ codes ">"
 
--- the end of the opening tag, the text in the element, and the closing tag; one tag does both where there is no text
+-- the end of the opening tag, the text in the element, and the closing tag; one tag does both if there is no text
 abbrev pub tag_rest : Tag → List ℕ → List ℕ
 tag_rest tag words = if length words == 0 then codes "/>" else codes ">" ++ escaped words ++ end_tag tag
 

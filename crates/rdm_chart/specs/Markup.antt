@@ -2,11 +2,11 @@
 use Rattle.std.specs.Prelude.{ℕ, ◌≢◌, Bool, List, ◌==◌, ◌||◌, ◌&&◌, nat_lt, if◌then◌else◌, codes, encode_utf8}
 
 -- Whether a character of Unicode can't be read from XML: it has no place for the controls besides tab, LF and CR and for two
--- that are no characters (section 2.2), and a CR is read as LF (section 2.11).
+-- that aren't characters (section 2.2), and a CR is read as LF (section 2.11).
 abbrev pub is_unfit : ℕ → Bool
 is_unfit c = nat_lt c 0x09 || (nat_lt 0x0A c && nat_lt c 0x20) || (c == 0xFFFE) || (c == 0xFFFF)
 
--- The bytes of a character: a reference where it would mean something as markup (section 2.4), U+FFFD for one that can't be read,
+-- The bytes of a character: a reference if it would mean something as markup (section 2.4), U+FFFD for one that can't be read,
 -- and else itself in UTF-8.
 unfoldable pub in_markup : ℕ → List ℕ
 in_markup c =

@@ -45,7 +45,7 @@ pub record IsContentOf (picture : Picture) (old new : List ℕ) : Type 0 where
   pub each : length painting.arrows ≡ length picture.arrows.shapes.items
   pub text : new ≡ old ++ content_text painting
 
--- The text is that of a painting with so many arrows.
+-- The text is that of a painting with N arrows.
 pub record HasArrowCount (count : ℕ) (text : List ℕ) : Type 0 where
   pub painting : Painting
   pub drawn : text ≡ painting_text painting

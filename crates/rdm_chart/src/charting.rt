@@ -17,18 +17,18 @@ use thiserror::Error;
 /// Why no chart was drawn.
 #[derive(Clone, Copy, Debug, PartialEq, Eq, Error)]
 pub enum ChartError {
-    /// There is no memory for it.
+    /// Out of memory.
     #[error("out of memory")]
     OutOfMemory,
-    /// This line, counted from 1, is no line of a trace.
-    #[error("line {0}: this is no line of a trace")]
+    /// This line, counted from 1, isn't a valid line of a trace.
+    #[error("line {0}: this isn't a valid line of a trace")]
     Line(usize),
 }
 
 /// A trace as a sequence chart: a document of SVG 1.1, in UTF-8.
 ///
-/// A trace that stops before its `end` is drawn as far as it goes. A line that is none of a trace is refused, but for what
-/// stands behind the last end of a line: where that is no line, but may begin one, it was cut off, and is left out.
+/// A trace that stops before its `end` is drawn as far as it goes. A line that isn't part of a trace is rejected, but for what
+/// comes after the last end of a line: if that isn't a line, but may begin one, it was cut off, and is left out.
 pub fn chart(alloc: Global, trace: &[u8], known: &Known<'_>) -> Result<Vec<u8>, ChartError>
     ensures document { IfOk result (λ svg. IsDocument svg.items) }
     ensures arrows { IfOk result (λ svg. HasArrows (lines_said (pieces_of trace.now)) svg.items) }
@@ -42,7 +42,7 @@ pub fn chart(alloc: Global, trace: &[u8], known: &Known<'_>) -> Result<Vec<u8>, 
     Ok(page_of(alloc, drawing)?)
 }
 
-/// The lines of a trace as a sequence chart: a document of SVG 1.1, in UTF-8. Fails only where memory is refused.
+/// The lines of a trace as a sequence chart: a document of SVG 1.1, in UTF-8. Fails only if memory is refused.
 pub fn chart_of(alloc: Global, lines: &[Line], known: &Known<'_>) -> Result<Vec<u8>, AllocError>
     ensures document { IfOk result (λ svg. IsDocument svg.items) }
     ensures arrows { IfOk result (λ svg. HasArrows lines.now svg.items) }

@@ -145,7 +145,7 @@ pub(crate) fn put_tag_front(
     put_attributes(markup, attributes)
 }
 
-/// Puts the end of that tag, the text in the element, and the tag that closes it. One tag does both where there is no text.
+/// Puts the end of that tag, the text in the element, and the tag that closes it. One tag does both if there is no text.
 fn put_tag_rest(markup: &mut String, tag: Tag, words: &str) -> Result<(), AllocError>
     ensures { OnOk result (string_bytes markup.new ≡ string_bytes markup.old ++ tag_rest tag words.now) }
 {

@@ -25,7 +25,7 @@ pub(crate) const HEAD_WIDTH: Px = 120;
 pub(crate) const HEAD_HEIGHT: Px = 30;
 /// From the upper edge of a head to the base line of its name.
 pub(crate) const HEAD_BASE: Px = 20;
-/// After so many transactions the heads are repeated, so that some are in sight.
+/// After this many transactions the heads are repeated, so that some are in sight.
 pub(crate) const HEADS_EVERY: u64 = 20;
 
 /// The space above what belongs together.
@@ -36,7 +36,7 @@ pub(crate) const LINE_HEIGHT: Px = 16;
 pub(crate) const BASE: Px = 12;
 /// Between the last line of a label and its arrow.
 pub(crate) const ABOVE_ARROW: Px = 3;
-/// The same where a cross stands at its end.
+/// The same if a cross is at its end.
 pub(crate) const ABOVE_CROSS: Px = 8;
 /// Between an arrow and what comes below.
 pub(crate) const BELOW_ARROW: Px = 6;

@@ -44,7 +44,7 @@ impl Broken {
         self.end_line()
     }
 
-    /// Puts a word into the line, or into the next one where it doesn't fit.
+    /// Puts a word into the line, or into the next one if it doesn't fit.
     fn put_word(&mut self, word: &str) -> Result<(), AllocError> {
         if !self.line.is_empty() {
             let width = width_of(word).saturating_add(width_of_letter(' '));

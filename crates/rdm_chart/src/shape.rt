@@ -1,4 +1,4 @@
-//! What is drawn, kept small: a trace has some ten shapes for each transaction. Each becomes an element only where the page is
+//! What is drawn, kept small: a trace has some ten shapes for each transaction. Each becomes an element only when the page is
 //! written.
 
 ghost use Rattle.std.specs.Prelude.{OnOk, string_bytes};

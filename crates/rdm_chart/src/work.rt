@@ -46,7 +46,7 @@ pub(crate) fn draw_report(
     draw_words(drawing, alloc, arrow, words)
 }
 
-/// Draws a change at the panel: one that is refused ends in a cross before the responder.
+/// Draws a change at the panel: one that is rejected ends in a cross before the responder.
 pub(crate) fn draw_change(
     drawing: &mut Drawing,
     alloc: Global,

@@ -54,7 +54,7 @@ fn hear(rt: &impl Print, pack: &mut Responder, bytes: &Wire) -> io::Result<Optio
     Ok(job)
 }
 
-/// Carries out a job. A real pack would measure and switch here, and say `Outcome::Failed` where it can't.
+/// Carries out a job. A real pack would measure and switch here, and say `Outcome::Failed` if it can't.
 fn carry_out(job: &Job) -> Outcome {
     match job.work.verb {
         // The heat sink has 41 degrees.

@@ -4,7 +4,7 @@ ghost use Rattle.std.specs.Prelude.{◌≡◌, ◌≤◌, length};
 
 use rdm_responder::{Personality, Profile, SelfTest, SensorDef, Slot, StatusText, Text, Unit};
 
-/// The profile of the pack. `Responder::new` refuses one that breaks a rule of docs/PARAMETERS.md.
+/// The profile of the pack. `Responder::new` rejects one that breaks a rule of docs/PARAMETERS.md.
 pub(crate) fn dimmer_pack() -> Profile {
     let mut profile = Profile::of(pack(), dimmer(), 4);
     profile.boot = 1;

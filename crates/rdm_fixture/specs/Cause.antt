@@ -7,8 +7,8 @@ use Rattle.rdm_fixture.specs.Faults.{told}
 use Rattle.rdm_fixture.specs.FirstWrong.{fixture_parts}
 use Rattle.rdm_fixture.specs.Wrong.{FirstWrong}
 
--- Without memory nothing is said of the text. Else it is no document, or one in which the first part that isn't right is wrong
--- as the refusal tells.
+-- Without memory nothing is said of the text. Else it isn't a document, or the first part of it that isn't right is wrong as the
+-- refusal tells.
 abbrev pub IsCause : Option Members → FixtureError → Type 0
 IsCause document OutOfMemory = Unit {0}
 IsCause document (Syntax e) = document ≡ None

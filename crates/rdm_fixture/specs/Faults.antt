@@ -10,7 +10,7 @@ use Rattle.rdm_fixture.specs.declared.refusal.Wanted.{Wanted}
 abbrev pub shown_character : ℕ → ℕ
 shown_character c = if is_control c then 0x3F else c
 
--- as many of the characters as so many bytes have room for
+-- as many of the characters as fit in `room` bytes
 abbrev pub kept : ℕ → List ℕ → List ℕ
 kept room [] = []
 kept room (c ∷ cs) =

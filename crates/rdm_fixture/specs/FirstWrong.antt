@@ -45,7 +45,7 @@ failure_parts =
     needed_as wanted.Outcome (codes "severity") severity wanted.Severity ∷ needed_number (codes "status_id") 0 0xFFFF
     ∷ free_number (codes "data_value_1") 0 0xFFFF ∷ free_number (codes "data_value_2") 0 0xFFFF ∷ []
 
--- what is wrong where no outcome is told, by what the keys `done` and `reading` hold
+-- what is wrong if no outcome is told, by what the keys `done` and `reading` hold
 abbrev pub WrongOutcome : Option Data → Option Data → Members → Fault → Type 0
 WrongOutcome (Some d) reading t f = f ≡ fault (codes "done") wanted.True
 WrongOutcome None (Some d) t f = f ≡ fault (codes "reading") (wanted.Number (neg_ℤ (pos 32768)) (pos 32767))
@@ -92,7 +92,7 @@ rule_parts = only all_rule_keys ∷ (job_parts ++ (outcome ∷ one_outcome ∷ s
 
 -- ---- the root and the sub-devices
 
--- the keys of each device, whose personalities have so many slots at most
+-- the keys of each device, whose personalities have at most N slots
 abbrev pub unit_parts : ℕ → List Part
 unit_parts slots =
     needed_number (codes "device_model_id") 0 0xFFFF ∷ free_text (codes "device_model_description")

@@ -82,7 +82,7 @@ unit_keys =
     ∷ codes "product_category" ∷ codes "software_version_id" ∷ codes "software_version_label"
     ∷ codes "dmx_start_address" ∷ codes "personality" ∷ []
 
--- What the root and a sub-device each say, where there are as many slots. Section 9.
+-- What the root and a sub-device each say, with this many slots. Section 9.
 pub record IsUnit (slots : ℕ) (t : Members) (u : DeviceUnit) : Type 0 where
   pub model : Must t (codes "device_model_id") (number 0 0xFFFF) u.model
   pub model_text : May t (codes "device_model_description") [] text u.model_text

@@ -36,7 +36,7 @@ abbrev pub severity : Data → Option Severity
 severity (string s) = severity_named s
 severity _ = None
 
--- one of the numbers, where without the key it is each
+-- one of the numbers; without the key it is each
 abbrev pub only_number : ℕ → ℕ → Data → Option (Option ℕ)
 only_number least most d = option_map (λ n. Some n) (number least most d)
 

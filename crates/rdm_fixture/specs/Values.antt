@@ -11,12 +11,12 @@ use Rattle.toml.specs.Data.{Data, string, integer}
 abbrev pub within : ℕ → ℕ → ℕ → Bool
 within least most n = nat_le least n && nat_le n most
 
--- the number, where it is an integer from least to most
+-- the number, if it is an integer from least to most
 abbrev pub number : ℕ → ℕ → Data → Option ℕ
 number least most (integer (pos n)) = if within least most n then Some n else None
 number least most _ = None
 
--- the signed number of 16 bits, where it is one
+-- the signed number of 16 bits, if it is one
 abbrev pub signed : Data → Option ℤ
 signed (integer z) = if le_z (neg_ℤ (pos 32768)) z && le_z z (pos 32767) then Some z else None
 signed _ = None
@@ -29,7 +29,7 @@ is_printable = within 0x20 0x7E
 abbrev pub is_text : List ℕ → Bool
 is_text s = nat_le (length s) 32 && list_all is_printable s
 
--- the text, where it is one that can be sent
+-- the text, if it is one that can be sent
 abbrev pub text : Data → Option (List ℕ)
 text (string s) = if is_text s then Some s else None
 text _ = None
@@ -47,7 +47,7 @@ abbrev pub language : Data → Option ℕ
 language (string s) = language_in s
 language _ = None
 
--- the UID, as `7FF0:00000001`, where it belongs to one device. E1.20 sections 6.2.4 and 6.2.5.
+-- the UID, such as `7FF0:00000001`, if it belongs to one device. E1.20 sections 6.2.4 and 6.2.5.
 abbrev pub own_uid : Uid → Option Uid
 own_uid u = if is_broadcast u then None else Some u
 

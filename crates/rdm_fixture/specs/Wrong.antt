@@ -55,7 +55,7 @@ abbrev pub SaysSome : {A : Type 0} → (Data → Option A) → Option Data → T
 SaysSome says None = ⊤
 SaysSome says (Some d) = IsSome (says d)
 
--- a key that has to be there; `missing` is what is wanted where it isn't
+-- a key that has to be there; `missing` is what is wanted if it isn't
 abbrev pub needed_as : Wanted → {A : Type 0} → List ℕ → (Data → Option A) → Wanted → Part
 needed_as missing key says wanted = record {
   Right = λ t. IsSome (must says (get_member key t));

@@ -28,13 +28,13 @@ use toml::Table;
 /// Why no fixture was read from a text.
 #[derive(Debug, Drop, Error)]
 pub enum FixtureError {
-    /// There is no memory to read it.
+    /// Out of memory.
     #[error("out of memory")]
     OutOfMemory,
-    /// The text is no document of TOML.
+    /// The text isn't valid TOML.
     #[error("{0}")]
     Syntax(toml::de::Error),
-    /// The document is no fixture.
+    /// The document isn't a valid fixture.
     #[error("{0}")]
     Refused(Refusal),
 }
@@ -42,8 +42,8 @@ pub enum FixtureError {
 impl Fixture {
     /// The fixture that the text describes.
     ///
-    /// It is refused exactly where it describes none: with `Syntax` where it is no document of TOML, else with the first key that
-    /// doesn't say what it has to.
+    /// It is rejected exactly when it describes none: with `Syntax` if it isn't valid TOML, else with the first key that doesn't
+    /// say what it has to.
     pub fn from_toml(alloc: Global, text: &str) -> Result<Fixture, FixtureError>
         ensures ok { IfOk result (Describes text.now) }
         ensures made { IfOk result (λ f. CanBeMade f.profile) }
@@ -62,7 +62,7 @@ impl Fixture {
     }
 }
 
-/// Why the text wasn't read: for want of memory, or since it is no document.
+/// Why the text wasn't read: for want of memory, or because it isn't valid TOML.
 fn not_read(error: toml::de::Error) -> FixtureError
     ensures memory { (result ≡ FixtureError.OutOfMemory) ↔ IsMemory error }
     ensures syntax { ¬ IsMemory error → result ≡ FixtureError.Syntax error }

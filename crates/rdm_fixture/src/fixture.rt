@@ -8,7 +8,7 @@ use rdm_outcomes::{MOST_RULES, Rule};
 /// A device: its own UID, what it is made with, and how its jobs end.
 #[derive(Debug, Drop, PartialEq, Eq)]
 pub struct Fixture {
-    /// The UID of the device, which is no broadcast (E1.20 section 6.2.4).
+    /// The UID of the device, which isn't a broadcast (E1.20 section 6.2.4).
     pub uid: Uid,
     /// What the device and its sub-devices are made with.
     pub profile: Profile,

@@ -93,7 +93,7 @@ fn number_in(value: &Value, key: &str, least: u32, most: u32) -> Result<u32, Ref
     }
 }
 
-/// The integer of a value, where it is one of this range.
+/// The integer of a value, if it is one of this range.
 pub(crate) fn integer_in(value: &Value, least: u32, most: u32) -> Option<u32>
     ensures value { result ≡ says.number least most (view value.now) }
     ensures within { IfSome result (λ n. (least ≤ n) × (n ≤ most)) }
@@ -134,7 +134,7 @@ fn signed_in(value: &Value, key: &str) -> Result<i16, Refusal>
     }
 }
 
-/// The integer of a value, where it is one of 16 bits.
+/// The integer of a value, if it is one of 16 bits.
 pub(crate) fn integer16_in(value: &Value) -> Option<i16>
     ensures { result ≡ says.signed (view value.now) }
 {

@@ -14,7 +14,7 @@ pub fn text_describes_one_fixture()
     ensures { (text : List ℕ) (f g : Fixture) → Describes text f → Describes text g → f ≡ g }
 {}
 
-/// Two fixtures are equal by `==` exactly where their UIDs, their profiles and their outcomes are.
+/// Two fixtures are equal by `==` exactly when their UIDs, their profiles and their outcomes are.
 pub fn fixtures_are_equal_by_value()
     ensures { (f g : Fixture) → IsTrue (⟦<Fixture as PartialEq>⟧.eq f g) ↔ (f ≡ g) }
 {
@@ -23,17 +23,17 @@ pub fn fixtures_are_equal_by_value()
     rules_are_equal_by_value();
 }
 
-/// Two values of `Wanted` are equal by `==` exactly where they are the same, bounds included.
+/// Two values of `Wanted` are equal by `==` exactly when they are the same, bounds included.
 pub fn wanteds_are_equal_by_value()
     ensures { (a b : Wanted) → IsTrue (⟦<Wanted as PartialEq>⟧.eq a b) ↔ (a ≡ b) }
 {}
 
-/// Two entries of lists are equal by `==` exactly where the names of their lists and their numbers are.
+/// Two entries of lists are equal by `==` exactly when the names of their lists and their numbers are.
 pub fn entries_are_equal_by_value()
     ensures { (a b : Entry) → IsTrue (⟦<Entry as PartialEq>⟧.eq a b) ↔ IsSameEntry a b }
 {}
 
-/// Two refusals of a table are equal by `==` exactly where they are of the same key at the same place, and the same was
+/// Two refusals of a table are equal by `==` exactly when they are of the same key at the same place, and the same was
 /// wanted there.
 pub fn refusals_are_equal_by_value()
     ensures { (a b : Refusal) → IsTrue (⟦<Refusal as PartialEq>⟧.eq a b) ↔ IsSameRefusal a b }
@@ -42,7 +42,7 @@ pub fn refusals_are_equal_by_value()
     wanteds_are_equal_by_value();
 }
 
-/// Two reasons why a fixture wasn't written are equal by `==` exactly where they are the same.
+/// Two reasons why a fixture wasn't written are equal by `==` exactly when they are the same.
 pub fn write_errors_are_equal_by_value()
     ensures { (a b : WriteError) → IsTrue (⟦<WriteError as PartialEq>⟧.eq a b) ↔ (a ≡ b) }
 {}

@@ -1,7 +1,7 @@
 //! A fixture from a file: a document of TOML says what a device is made with, each parameter of ANSI E1.20-2010 under
 //! its name.
 //!
-//! `Fixture::from_toml` reads the text, and refuses what isn't a fixture with the key and what was wanted there;
+//! `Fixture::from_toml` parses the text, and rejects what isn't a fixture with the key and what was wanted there;
 //! `Fixture::to_toml` writes one. The format is `specs/Format.antt`.
 #![tactic(auto)]
 

@@ -1,4 +1,4 @@
-//! On which line of the text stands what a refusal is about, for the message. No clause speaks of the line.
+//! On which line of the text is what a refusal is about, for the message. No clause speaks of the line.
 
 ghost use Rattle.std.specs.Prelude.{◌≡◌};
 ghost use Rattle.rdm_fixture.specs.Faults.{told};
@@ -11,8 +11,8 @@ use std::alloc::Global;
 use walk::place_of;
 use way::way_to;
 
-/// The refusal, with its line: that of what is wrong, or of the nearest thing around it that the text has, as the header of
-/// the table where a key is missing. It is the last line of the text where that is the table at the top.
+/// The refusal, with its line: that of what is wrong, or of the nearest thing around it that the text has, such as the header of
+/// the table if a key is missing. It is the last line of the text if that is the table at the top.
 pub(crate) fn with_line(alloc: Global, text: &str, refusal: Refusal) -> Refusal
     ensures { told result ≡ told refusal }
 {
@@ -25,7 +25,7 @@ pub(crate) fn with_line(alloc: Global, text: &str, refusal: Refusal) -> Refusal
     refusal.in_line(line)
 }
 
-/// The line, from 1, on which so many bytes are left of the text.
+/// The line, from 1, on which N bytes are left of the text.
 fn line_before(text: &str, behind: usize) -> usize {
     let before = text.len().saturating_sub(behind);
     let ends = text

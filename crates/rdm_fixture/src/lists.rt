@@ -13,7 +13,7 @@ use arrayvec::ArrayVec;
 use toml::value::Array;
 use toml::{Table, Value};
 
-/// What an entry of a list of tables is read as, where the device has so many slots.
+/// What an entry of a list of tables is read as, for a device with N slots.
 pub(crate) trait FromEntry: Default + Drop {
     ghost says: { ℕ → Members → Self → Type 0 };
 

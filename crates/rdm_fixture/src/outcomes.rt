@@ -60,7 +60,7 @@ fn rule(table: &Table) -> Option<Rule>
     if rule.suits() { Some(rule) } else { None }
 }
 
-/// Refuses the first key that a rule of this outcome hasn't got.
+/// Rejects the first key that a rule of this outcome doesn't have.
 fn only_its_keys(table: &Table, outcome: &Outcome) -> Result<(), Refusal>
     ensures variant { IsOk result ↔ IsTrue (has_only (says.rule_keys outcome.now) (table_view table.now)) }
     ensures wrong { IfErr result (λ e. (only_part (says.rule_keys outcome.now)).Wrong (table_view table.now) (told e)) }
@@ -180,7 +180,7 @@ fn status_id(table: &Table) -> Option<u16>
     Some(integer_in(find(table, "status_id")?, 0, 0xFFFF)? as u16)
 }
 
-/// One of the two values that a status text names, which is 0 where it is left out.
+/// One of the two values that a status text names, which is 0 if it is left out.
 fn data_value(table: &Table, key: &str) -> Option<u16>
     ensures { result ≡ may 0 (number 0 0xFFFF) (get_member key.now (table_view table.now)) }
 {

@@ -1,4 +1,4 @@
-//! Why a table is no fixture, and where in it.
+//! Why a table isn't a valid fixture, and where in it.
 
 ghost use Rattle.std.specs.Prelude.{◌≡◌, ◌≤◌, length, map, chars};
 ghost use Rattle.rdm_fixture.specs.Faults as says;
@@ -16,17 +16,17 @@ pub type Name = ArrayString<40>;
 pub enum Wanted {
     /// It has to be there, and isn't.
     Key,
-    /// It isn't to be there: the format has no such key.
+    /// The format has no such key.
     NoSuchKey,
     /// An integer of this range.
     Number { least: i64, most: i64 },
-    /// A text of at most 32 printable ASCII characters.
+    /// A string of at most 32 printable ASCII characters.
     Text,
-    /// A UID that is no broadcast.
+    /// A UID that isn't a broadcast.
     Uid,
-    /// A language code of two small letters.
+    /// A language code of two lowercase letters.
     Language,
-    /// A list of so many entries.
+    /// A list with this many entries.
     List { least: usize, most: usize },
     /// A table.
     Table,
@@ -55,7 +55,7 @@ pub struct Entry {
     pub number: usize,
 }
 
-/// Why a table is no fixture.
+/// Why a table isn't a valid fixture.
 #[derive(Debug, Drop, PartialEq, Eq)]
 pub struct Refusal {
     /// Whether it is in the table of the sub-devices.
@@ -66,7 +66,7 @@ pub struct Refusal {
     pub key: Name,
     /// What was wanted of it.
     pub wanted: Wanted,
-    /// The line where the text has it, from 1: that of the key, or where it is missing that of its table, which is the last
+    /// The line where the text has it, from 1: that of the key, or if it is missing that of its table, which is the last
     /// line for the table at the top. There is none if there was no memory to look for it.
     pub line: Option<usize>,
 }
@@ -106,7 +106,7 @@ impl Refusal {
         }
     }
 
-    /// The same, where the key is one of another outcome than that of its entry.
+    /// The same, if the key is one of another outcome than that of its entry.
     pub(crate) fn beside_an_outcome(self) -> Refusal
         ensures { told result ≡ record (told self) { wanted = wanted_as.OneOutcome } }
     {
@@ -137,7 +137,7 @@ pub(crate) fn name_of(key: &str) -> Name
     name
 }
 
-/// As many of its characters as so many bytes have room for.
+/// As many of its characters as fit in `room` bytes.
 fn front_of(key: &str, room: usize) -> Name
     requires { room ≤ 40 }
     ensures value { result.bytes ≡ kept room (map says.shown_character (chars key.now)) }
@@ -175,31 +175,34 @@ impl fmt::Display for Refusal {
         }
         let key = self.key.as_str();
         match self.wanted {
-            Wanted::Key => write!(f, "the key `{key}` is missing"),
-            Wanted::NoSuchKey => write!(f, "there is no key `{key}`"),
+            Wanted::Key => write!(f, "missing key `{key}`"),
+            Wanted::NoSuchKey => write!(f, "unknown key `{key}`"),
             Wanted::Number { least, most } => {
                 write!(f, "`{key}` isn't an integer from {least} to {most}")
             }
             Wanted::Text => write!(
                 f,
-                "`{key}` isn't a text of at most 32 printable ASCII characters"
+                "`{key}` isn't a string of at most 32 printable ASCII characters"
             ),
-            Wanted::Uid => write!(f, "`{key}` isn't a UID of one device, as \"7FF0:00000001\""),
-            Wanted::Language => write!(f, "`{key}` isn't a language code of two small letters"),
+            Wanted::Uid => write!(
+                f,
+                "`{key}` isn't a UID of one device, such as \"7FF0:00000001\""
+            ),
+            Wanted::Language => write!(f, "`{key}` isn't a language code of two lowercase letters"),
             Wanted::List { least, most } => {
                 write!(f, "`{key}` isn't a list of {least} to {most} entries")
             }
             Wanted::Table => write!(f, "`{key}` isn't a table"),
-            Wanted::Other => write!(f, "`{key}` is that of an earlier entry"),
-            Wanted::True => write!(f, "`{key}` isn't true"),
+            Wanted::Other => write!(f, "`{key}` is the same as in an earlier entry"),
+            Wanted::True => write!(f, "`{key}` must be true"),
             Wanted::Task => write!(
                 f,
-                "`{key}` isn't LAMP_STATE, POWER_STATE, PERFORM_SELFTEST or SENSOR_VALUE"
+                "`{key}` must be LAMP_STATE, POWER_STATE, PERFORM_SELFTEST or SENSOR_VALUE"
             ),
-            Wanted::Severity => write!(f, "`{key}` isn't advisory, warning or error"),
-            Wanted::Outcome => write!(f, "there is none of `done`, `reading` and `severity`"),
-            Wanted::OneOutcome => write!(f, "`{key}` stands beside another outcome"),
-            Wanted::Suiting => write!(f, "`{key}` is no outcome of this parameter"),
+            Wanted::Severity => write!(f, "`{key}` must be advisory, warning or error"),
+            Wanted::Outcome => write!(f, "expected one of `done`, `reading` and `severity`"),
+            Wanted::OneOutcome => write!(f, "`{key}` can't be combined with another outcome"),
+            Wanted::Suiting => write!(f, "`{key}` isn't a valid outcome of this parameter"),
         }
     }
 }

@@ -35,7 +35,7 @@ macro_rules! and_unit_keys {
 
 pub(crate) use and_unit_keys;
 
-/// A device whose personalities have so many slots at most.
+/// A device whose personalities have at most N slots.
 pub(crate) fn unit(table: &Table, slots: u16) -> Result<Unit, Refusal>
     ensures read { Reads (IsUnit slots) (table_view table.now) result }
     ensures wrong { IfErr result (λ e. FirstWrong (unit_parts slots) (table_view table.now) (told e)) }

@@ -18,23 +18,23 @@ use thiserror::Error;
 /// Why a fixture wasn't written.
 #[derive(Clone, Copy, Debug, PartialEq, Eq, Error)]
 pub enum WriteError {
-    /// There is no memory for its text.
+    /// Out of memory for its text.
     #[error("out of memory")]
     OutOfMemory,
     /// No text describes it: its UID is a broadcast (E1.20 section 6.2.4), devices can't be made with its profile, a text of it
-    /// has a character that isn't printable ASCII, a language isn't two small letters (section 10.5.7), or a rule is none of a
-    /// file's: it is of job 0, its outcome isn't one that its parameter can have, or it fails with what is over (table A-4).
+    /// has a character that isn't printable ASCII, a language isn't two lowercase letters (section 10.5.7), or a rule can't be
+    /// in a file: it is of job 0, its outcome isn't one that its parameter can have, or it fails with what is over (table A-4).
     #[error("no file describes the fixture")]
     Indescribable,
-    /// The text that was written isn't read back as the fixture. No fixture is known for which it comes.
-    #[error("the text isn't read back as the fixture")]
+    /// The text that was written doesn't parse back to the fixture. No fixture is known for which it comes.
+    #[error("the text doesn't parse back to the fixture")]
     NotReadBack,
 }
 
 impl Fixture {
     /// A text that describes the fixture.
     ///
-    /// It is refused as `Indescribable` exactly where one of the conditions of `CanBeDescribed` fails, and then no text
+    /// It is rejected as `Indescribable` exactly when one of the conditions of `CanBeDescribed` fails, and then no text
     /// describes it. The text is read again before it is handed out, so it is never one of another fixture.
     pub fn to_toml(&self, alloc: Global) -> Result<String, WriteError>
         ensures ok { IfOk result (λ text. Describes (string_bytes text) self.now) }
@@ -55,7 +55,7 @@ impl Fixture {
     }
 }
 
-/// The text, where what was read of it is the fixture.
+/// The text, if what was read of it is the fixture.
 fn same_or_none(text: String, read: &Fixture, fixture: &Fixture) -> Result<String, WriteError>
     requires { Describes (string_bytes text) read.now }
     ensures ok { IfOk result (λ text. Describes (string_bytes text) fixture.now) }

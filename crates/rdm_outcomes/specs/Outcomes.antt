@@ -39,12 +39,12 @@ is_value (Some only) value = value == only
 abbrev pub is_for : Rule → Job → Bool
 is_for rule job = (job.work.pid == task_pid rule.task) && is_value rule.value job.work.arg
 
--- it is the turn of what comes after so many
+-- it is the turn of what comes after N others
 abbrev pub is_turn : Option ℕ → ℕ → Bool
 is_turn None seen = true
 is_turn (Some turn) seen = turn == suc seen
 
--- a rule says how a job ends that comes after so many that it speaks of
+-- a rule says how a job ends that comes after N that it speaks of
 abbrev pub holds : Rule → ℕ → Job → Bool
 holds rule seen job = is_for rule job && (suits rule.task rule.outcome && is_turn rule.turn seen)
 

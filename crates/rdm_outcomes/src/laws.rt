@@ -24,12 +24,12 @@ pub fn demo_rules_end_jobs()
     ensures { (job : TheJob) (outcome : TheOutcome) → CanEnd demo_rules job outcome ↔ (outcome ≡ demo_outcome job) }
 {}
 
-/// Two tasks are equal by `==` exactly where they are the same.
+/// Two tasks are equal by `==` exactly when they are the same.
 pub fn tasks_are_equal_by_value()
     ensures { (a b : Task) → IsTrue (⟦<Task as PartialEq>⟧.eq a b) ↔ (a ≡ b) }
 {}
 
-/// Two rules are equal by `==` exactly where all their fields are.
+/// Two rules are equal by `==` exactly when all their fields are.
 pub fn rules_are_equal_by_value()
     ensures { (a b : Rule) → IsTrue (⟦<Rule as PartialEq>⟧.eq a b) ↔ (a ≡ b) }
 {
@@ -37,7 +37,7 @@ pub fn rules_are_equal_by_value()
     outcomes_are_equal_by_value();
 }
 
-/// Two counted rules are equal by `==` exactly where the rules and the numbers of jobs are.
+/// Two counted rules are equal by `==` exactly when the rules and the numbers of jobs are.
 pub fn counted_are_equal_by_value()
     ensures { (a b : Counted) → IsTrue (⟦<Counted as PartialEq>⟧.eq a b) ↔ (a ≡ b) }
 {

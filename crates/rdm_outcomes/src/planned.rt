@@ -15,11 +15,11 @@ use rdm_params::{Kind, Outcome};
 pub struct Counted {
     /// The rule.
     pub rule: Rule,
-    /// How many jobs that it speaks of have ended, or 4,294,967,295 where there are more.
+    /// How many jobs that it speaks of have ended, or 4,294,967,295 if there are more.
     pub seen: u32,
 }
 
-/// How jobs end by rules. The first rule that speaks of a job, and of this one of them, says how it ends; where there is
+/// How jobs end by rules. The first rule that speaks of a job, and of this one of them, says how it ends; if there is
 /// none, a sensor measures 25 and its own number, and every other job is done.
 #[derive(Debug, Drop)]
 pub struct Planned {

@@ -72,7 +72,7 @@ impl Rule {
             && self.value.is_none_or(|value| job.work.arg == value)
     }
 
-    /// Whether the rule says how a job ends that comes after so many that it speaks of.
+    /// Whether the rule says how a job ends that comes after N that it speaks of.
     pub(crate) fn holds(&self, seen: u32, job: &Job) -> bool
         ensures { result ≡ holds self.now seen job.now }
     {
@@ -92,7 +92,7 @@ impl Rule {
         }
     }
 
-    /// Whether it is the turn of a job that comes after so many.
+    /// Whether it is the turn of a job that comes after N others.
     fn is_turn(&self, seen: u32) -> bool
         ensures { result ≡ is_turn self.now.turn seen }
     {

@@ -16,7 +16,7 @@ use std::process::ExitCode;
 use std::sync::Wait;
 use std::thread::Threads;
 
-/// Plays the script that is read and writes its trace, as `run_script` does. Where that fails, the line of the error
+/// Plays the script that is read and writes its trace, as `run_script` does. If that fails, the line of the error
 /// is written to `errors`. The exit status is 0, or that of the error.
 pub fn run_program<T, R: Read, W: Write, E: Write>(
     rt: T,
@@ -42,7 +42,7 @@ where
     report(errors, run_script(rt, alloc, reader, writer))
 }
 
-/// Tells how a program ended: where it failed, the line of the error is written to `errors`, or, where that can't be written,
+/// Tells how a program ended: if it failed, the line of the error is written to `errors`, or, if that can't be written,
 /// a front of it. Gives the exit status.
 pub fn report<W: Write>(errors: &mut W, outcome: Result<(), ProgramError>) -> ExitCode
     ensures status { exit_status result ≡ outcome_status outcome }
@@ -52,7 +52,7 @@ pub fn report<W: Write>(errors: &mut W, outcome: Result<(), ProgramError>) -> Ex
     match outcome {
         Ok(()) => ExitCode::SUCCESS,
         Err(error) => {
-            // Nobody is left to be told where the line can't be written.
+            // Nobody is left to be told if the line can't be written.
             let _ = write_error_line(errors, error);
             ExitCode::from(error.status())
         }

@@ -51,23 +51,23 @@ impl Wanted {
     /// What is told of a word that isn't what was wanted.
     fn complaint(self) -> &'static str {
         match self {
-            Wanted::Step => "is no step",
-            Wanted::SetupFirst => "stands too late",
-            Wanted::Destination => "is no destination",
-            Wanted::SubDevice => "is no sub-device",
-            Wanted::Parameter => "is no parameter",
-            Wanted::Load => "is no data",
-            Wanted::QuoteEnd => "has no end",
-            Wanted::Printable => "is no text",
+            Wanted::Step => "isn't a valid step",
+            Wanted::SetupFirst => "comes too late",
+            Wanted::Destination => "isn't a valid destination",
+            Wanted::SubDevice => "isn't a valid sub-device",
+            Wanted::Parameter => "isn't a valid parameter",
+            Wanted::Load => "isn't valid data",
+            Wanted::QuoteEnd => "isn't closed",
+            Wanted::Printable => "isn't valid text",
             Wanted::ShorterLoad => "is too long",
-            Wanted::Fault => "is no fault",
-            Wanted::Slot => "is no slot",
-            Wanted::Raise => "is no raise",
-            Wanted::Empties => "is no number of looks",
-            Wanted::SubDevices => "is no number of sub-devices",
-            Wanted::Room => "is no number of results",
-            Wanted::Messages => "is no status type",
-            Wanted::End => "is a word too many",
+            Wanted::Fault => "isn't a valid fault",
+            Wanted::Slot => "isn't a valid slot",
+            Wanted::Raise => "isn't a valid raise",
+            Wanted::Empties => "isn't a valid count",
+            Wanted::SubDevices => "isn't a valid number of sub-devices",
+            Wanted::Room => "isn't a valid number of results",
+            Wanted::Messages => "isn't a valid status type",
+            Wanted::End => "is one word too many",
         }
     }
 
@@ -75,10 +75,10 @@ impl Wanted {
     fn words(self) -> &'static str {
         match self {
             Wanted::Step => "setup, get, set, disc, collect, draw, settle or panel",
-            Wanted::SetupFirst => "a setup stands before all other steps",
-            Wanted::Destination => "dev, all, maker, or a UID as 7FF0:00000001",
+            Wanted::SetupFirst => "it before all other steps",
+            Wanted::Destination => "dev, all, maker, or a UID such as 7FF0:00000001",
             Wanted::SubDevice => "4 hexadecimal digits, root, or 0 to 512",
-            Wanted::Parameter => "4 hexadecimal digits, or a name of E1.20 as DEVICE_INFO",
+            Wanted::Parameter => "4 hexadecimal digits, or a name in E1.20 such as DEVICE_INFO",
             Wanted::Load => "-, two hexadecimal digits for each byte, or a text in double quotes",
             Wanted::QuoteEnd => "a double quote at the end of the text",
             Wanted::Printable => "printable ASCII characters in double quotes",
@@ -89,26 +89,26 @@ impl Wanted {
             Wanted::Empties => "0 to 4294967295",
             Wanted::SubDevices | Wanted::Room => "0 to 65535",
             Wanted::Messages => "advisory, warning or error",
-            Wanted::End => "the line ends before it",
+            Wanted::End => "the end of the line",
         }
     }
 }
 
-/// The first word of a script that isn't what it has to be. Its text is `LINE:COLUMN: WORD is no .., and what was wanted`.
+/// The first word of a script that isn't what it has to be. Its text is `LINE:COLUMN: WORD isn't a valid ..: expected ..`.
 #[derive(Debug, Drop, PartialEq, Eq)]
 pub struct Refusal {
     /// The line, from 1.
     pub line: usize,
-    /// The column at which the word begins, in bytes from 1. Where a word is missing, it is the end of the line.
+    /// The column at which the word begins, in bytes from 1. If a word is missing, it is the end of the line.
     pub column: usize,
-    /// The word, or nothing where it is missing.
+    /// The word, or nothing if it is missing.
     pub word: Excerpt,
     /// What was wanted there.
     pub wanted: Wanted,
 }
 
 impl Refusal {
-    /// At the word of a line that begins at this byte, or at the end of the line, where it is missing.
+    /// At the word of a line that begins at this byte, or at the end of the line, if it is missing.
     pub(crate) fn at(line: usize, at: usize, word: &[u8], wanted: Wanted) -> Refusal
         ensures { result.line ≡ line }
     {
@@ -138,18 +138,18 @@ impl fmt::Display for Refusal {
         let wanted = self.wanted.words();
         write!(f, "{line}:{column}: ")?;
         if self.word.is_empty() {
-            return write!(f, "a word is missing: {wanted}");
+            return write!(f, "a word is missing: expected {wanted}");
         }
         f.write_str("\"")?;
         for byte in self.word.as_slice() {
             write_shown(f, *byte)?;
         }
         let complaint = self.wanted.complaint();
-        write!(f, "\" {complaint}: {wanted}")
+        write!(f, "\" {complaint}: expected {wanted}")
     }
 }
 
-/// Writes a byte of a word: as it is where it is printable ASCII, else by its number.
+/// Writes a byte of a word: as it is if it is printable ASCII, else by its number.
 fn write_shown<W: fmt::Write>(f: &mut fmt::Formatter<W>, byte: u8) -> fmt::Result {
     if (0x20..0x7F).contains(&byte) {
         f.write_char(char::from(byte))

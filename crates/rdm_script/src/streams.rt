@@ -18,7 +18,7 @@ const PIECE: usize = 1024;
 
 /// All that a reader gives, or the first 65,537 bytes of it.
 ///
-/// Memory for so many bytes is taken first.
+/// Memory for that many bytes is taken first.
 pub(crate) fn read_input<R: Read>(alloc: Global, reader: &mut R) -> Result<Vec<u8>, ProgramError>
     ensures bytes { IfOk result (λ input. Consumes (R.remaining reader.old) (R.remaining reader.new) input.items) }
     ensures end { IfOk result (λ input. length input.items ≤ 65536 → IsAtEnd (R.remaining reader.new)) }

@@ -8,7 +8,7 @@ use rdm_params::Message;
 use rdm_trace::{text_of, trace_lines};
 use std::alloc::{AllocError, Global};
 
-/// The text of a trace: its events, the messages that were recorded, and the end. Fails only where memory is refused.
+/// The text of a trace: its events, the messages that were recorded, and the end. Fails only if memory is refused.
 pub fn trace_text(
     alloc: Global,
     events: &[Event],

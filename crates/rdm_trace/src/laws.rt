@@ -13,7 +13,7 @@ pub fn written_line_is_read_back()
     ensures { (line : TheLine) → IsLine line → line_in (line_text line) ≡ Some line }
 {}
 
-/// Two reasons why a text isn't read as a trace are equal by `==` exactly where they are the same, the line included.
+/// Two reasons why a text isn't read as a trace are equal by `==` exactly when they are the same, the line included.
 pub fn trace_errors_are_equal_by_value()
     ensures { (a b : TraceError) → IsTrue (⟦<TraceError as PartialEq>⟧.eq a b) ↔ (a ≡ b) }
 {}

@@ -5,7 +5,7 @@ ghost use Rattle.rdm_trace.specs.Numbers.{unsigned_in, number_up_to, signed_in};
 
 use std::str;
 
-/// The number that a word writes, where it is at most 255.
+/// The number that a word writes, if it is at most 255.
 #[tactic(auto, unfolding(crate::specs::Numbers::number_up_to))]
 pub(crate) fn byte_in(word: &[u8]) -> Option<u8>
     ensures { result ≡ number_up_to 255 word.now }
@@ -13,7 +13,7 @@ pub(crate) fn byte_in(word: &[u8]) -> Option<u8>
     u8::try_from(unsigned_in(word)?).ok()
 }
 
-/// The number that a word writes, where it is at most 65,535.
+/// The number that a word writes, if it is at most 65,535.
 #[tactic(auto, unfolding(crate::specs::Numbers::number_up_to))]
 pub(crate) fn word_in(word: &[u8]) -> Option<u16>
     ensures { result ≡ number_up_to 65535 word.now }
@@ -21,7 +21,7 @@ pub(crate) fn word_in(word: &[u8]) -> Option<u16>
     u16::try_from(unsigned_in(word)?).ok()
 }
 
-/// The number that a word writes, where it is at most 4,294,967,295.
+/// The number that a word writes, if it is at most 4,294,967,295.
 #[tactic(auto, unfolding(crate::specs::Numbers::number_up_to))]
 pub(crate) fn long_in(word: &[u8]) -> Option<u32>
     ensures { result ≡ number_up_to 4294967295 word.now }

@@ -8,7 +8,7 @@ use crate::words::first_word;
 use crate::{Line, numbers};
 use rdm_params::{Change, Plate};
 
-/// A change, and whether it is refused.
+/// A change, and whether it is rejected.
 #[tactic(auto, unfolding(crate::specs::Reading::panel_in))]
 pub(crate) fn panel_in(words: &[u8]) -> Option<Line>
     ensures { result ≡ panel_in words.now }
@@ -22,7 +22,7 @@ pub(crate) fn panel_in(words: &[u8]) -> Option<Line>
     })
 }
 
-/// Whether a change is refused.
+/// Whether a change is rejected.
 fn refused_in(words: &[u8]) -> Option<bool>
     ensures { result ≡ refused_in words.now }
 {

@@ -12,7 +12,7 @@ use rdm_outbox::Job;
 use rdm_params::{Message, worker_of};
 use std::alloc::{AllocError, Global};
 
-/// The lines of a trace: those of its events, one for each message that was recorded, and the end. Fails only where memory
+/// The lines of a trace: those of its events, one for each message that was recorded, and the end. Fails only if memory
 /// is refused.
 pub fn trace_lines(
     alloc: Global,
@@ -48,7 +48,7 @@ fn put_messages(lines: &mut Vec<Line>, recorded: &[Message]) -> Result<(), Alloc
     Ok(())
 }
 
-/// Puts the lines of an event behind others (E1.20 sections 6.2 and 10.3.1). Fails only where memory is refused.
+/// Puts the lines of an event behind others (E1.20 sections 6.2 and 10.3.1). Fails only if memory is refused.
 #[tactic(auto, unfolding(crate::specs::RunLines::event_lines))]
 fn put_event(lines: &mut Vec<Line>, event: &Event) -> Result<(), AllocError>
     ensures { OnOk result (lines.new.items ≡ lines.old.items ++ event_lines event.now) }

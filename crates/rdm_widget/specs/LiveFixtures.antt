@@ -41,7 +41,7 @@ ended_by now worker since None = None
 ended_by now worker since (Some job) =
     if nat_le (end_of since job) now then Some (record { job = job; worker = worker; at = end_of since job }) else None
 
--- the one that ended first, and that of the first worker where both ended at once
+-- the one that ended first, and that of the first worker if both ended at once
 abbrev pub earlier : Option Ended → Option Ended → Option Ended
 earlier (Some first) (Some second) = Some (if nat_lt second.at first.at then second else first)
 earlier (Some first) None = Some first
@@ -84,7 +84,7 @@ after_ended s (Some ended) = after_report s ended
 abbrev pub after_next : ℕ → Situation → Situation
 after_next now s = after_ended s (first_ended now s)
 
--- and so on, so many times
+-- and so on, N times
 abbrev pub after_several : ℕ → ℕ → Situation → Situation
 after_several zero now s = s
 after_several (suc n) now s = after_several n now (after_next now s)

@@ -41,7 +41,7 @@ pub(crate) fn answer_all<W: Write, C: Clock>(
 }
 
 /// Answers the message at the front of these bytes, or passes over a byte with which none begins, and says how many bytes are
-/// done with. It is 0 where a message begins of which more must be read.
+/// done with. It is 0 if a message begins of which more must be read.
 fn answer_front<W: Write, C: Clock>(
     writer: &mut W,
     clock: &mut C,

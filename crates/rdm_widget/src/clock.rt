@@ -15,7 +15,7 @@ pub trait Clock {
         ensures { tells self.old result self.new };
 }
 
-/// The system's clock since it was started, on which time passes so many times as fast. It never goes back.
+/// The system's clock since it was started, on which time passes N times as fast. It never goes back.
 #[derive(Drop)]
 pub struct RealClock<'a, T> {
     system: &'a T,
@@ -25,7 +25,7 @@ pub struct RealClock<'a, T> {
 }
 
 impl<'a, T: std::time::Clock> RealClock<'a, T> {
-    /// Starts at 0, and passes `speed` times as fast as the system's clock. Fails where that can't be read.
+    /// Starts at 0, and passes `speed` times as fast as the system's clock. Fails if that can't be read.
     pub fn start(system: &'a T, speed: u32) -> io::Result<RealClock<'a, T>> {
         Ok(RealClock {
             system,

@@ -23,7 +23,7 @@ pub fn no_job_is_overdue()
     ensures { ReportsAreHandedIn }
 {}
 
-/// Two reasons why serving ended are equal by `==` exactly where they are the same.
+/// Two reasons why serving ended are equal by `==` exactly when they are the same.
 pub fn serve_errors_are_equal_by_value()
     ensures { (a b : ServeError) → IsTrue (⟦<ServeError as PartialEq>⟧.eq a b) ↔ (a ≡ b) }
 {}

@@ -33,9 +33,9 @@ pub struct LiveFixture {
 }
 
 impl LiveFixture {
-    /// A fixture with this UID and profile, with room for so many results of slow commands, whose jobs end by these rules.
+    /// A fixture with this UID and profile, with room for `queue_size` results of slow commands, whose jobs end by these rules.
     ///
-    /// It is refused as `Responder::new` refuses it.
+    /// It is rejected as `Responder::new` rejects it.
     pub fn new(
         alloc: Global,
         uid: Uid,
@@ -62,7 +62,7 @@ impl LiveFixture {
     }
 
     /// Changes a parameter of the root, as a person does at the fixture's own menu. The message of it waits to be told as any
-    /// other, and is the result; where there is no room for it the change comes back, as `Responder::change` says.
+    /// other, and is the result; if there is no room for it, the change comes back, as `Responder::change` says.
     pub fn change(&mut self, change: Change) -> Result<Option<Message>, NoRoom>
         ensures lawful { (s : Situation) → IsLawful s.history → IsIn self.old s →
             (IsOk result ↔ IsLawful (then_event s.history (Changed change))) }

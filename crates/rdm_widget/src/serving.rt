@@ -27,9 +27,9 @@ pub enum ServeError {
 }
 
 /// One read, behind what is held, and the answers to all messages that are whole then; and says how many bytes were read,
-/// which is 0 at the end of the stream. What is no message is passed over, and held is then the beginning of a message.
+/// which is 0 at the end of the stream. What isn't a message is skipped, and held is then the beginning of a message.
 ///
-/// It takes no memory. A caller begins with nothing held, and ends where it fails to write: then an answer is cut off.
+/// It takes no memory. A caller begins with nothing held, and ends if it fails to write: then an answer is cut off.
 pub fn serve_some<R: Read, W: Write, C: Clock>(
     reader: &mut R,
     writer: &mut W,
@@ -63,7 +63,7 @@ pub fn serve_some<R: Read, W: Write, C: Clock>(
     Ok(count)
 }
 
-/// Answers each message of a stream, until the stream ends: `serve_some` again and again. What is no message is passed over.
+/// Answers each message of a stream, until the stream ends: `serve_some` again and again. What isn't a message is skipped.
 ///
 /// It takes no memory, and holds 604 bytes of the stream at most.
 pub fn serve<R: Read, W: Write, C: Clock>(

@@ -55,7 +55,7 @@ impl Number {
     }
 }
 
-/// The data of a command, or nothing where the parameter has no such command.
+/// The data of a command, or nothing if the parameter has no such command.
 pub fn data_of(kind: Kind, verb: Verb) -> Option<Data> {
     let zeros = [0; MOST_DATA];
     let mut found = None;

@@ -15,8 +15,8 @@ use rdm_params::{Change, Plate};
 use std::alloc::Global;
 
 /// Changes the DMX512 start address of the root (E1.20 section 10.6.3), as a person does at the fixture's own menu, and
-/// queues the message that tells the controller. It is out of range, and nothing changes, where a SET of the address would
-/// be. Where there is no room for the message, nothing changes either, whatever the address.
+/// queues the message that tells the controller. It is out of range, and nothing changes, if a SET of the address would
+/// be. If there is no room for the message, nothing changes either, whatever the address.
 #[unsafe(no_mangle)]
 pub extern "C" fn felosumay_responder_change_start(
     alloc: Global,
@@ -52,7 +52,7 @@ pub extern "C" fn felosumay_responder_change_personality(
 }
 
 /// Changes the label of the root (E1.20 section 10.5.5), as `felosumay_responder_change_start` does the start address. It
-/// is too long, whatever the handle holds, where it has more than 32 bytes, and nothing changes then.
+/// is too long, whatever the handle holds, if it has more than 32 bytes, and nothing changes then.
 #[unsafe(no_mangle)]
 pub extern "C" fn felosumay_responder_change_label(
     alloc: Global,

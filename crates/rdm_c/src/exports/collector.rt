@@ -20,8 +20,8 @@ use std::alloc::Global;
 /// Makes a collector with this UID for the messages of the target, in the place of what the handle held. `wants` is the
 /// least severity of the status entries that it wants: 02 for advisories, 03 for warnings, 04 for errors (E1.20 table A-4).
 ///
-/// Any other is unknown. A UID of its own or of its target that addresses more than one device is refused next, since
-/// nobody answers a poll of several devices; and last comes want of memory. Where it is refused, the handle stays as it was.
+/// Any other is unknown. A UID of its own or of its target that addresses more than one device is rejected next, since
+/// nobody answers a poll of several devices; and last comes out of memory. If it is rejected, the handle stays as it was.
 #[unsafe(no_mangle)]
 pub extern "C" fn felosumay_collector_new(
     alloc: Global,
@@ -58,9 +58,9 @@ pub extern "C" fn felosumay_collector_new(
 
 /// Sends a command: its request stands at the front of `request` then, and a transaction is open.
 ///
-/// The numbers are unknown where the command class is none of discovery, GET and SET, whatever the handle holds. The
+/// The numbers are unknown if the command class isn't discovery, GET or SET, whatever the handle holds. The
 /// parameters QUEUED_MESSAGE and STATUS_MESSAGES are reserved for the collector; else it is busy while a transaction is
-/// open; else more than 231 bytes of data are too long. Nothing changes where it is refused.
+/// open; else more than 231 bytes of data are too long. If it is rejected, nothing changes.
 #[unsafe(no_mangle)]
 pub extern "C" fn felosumay_collector_ask(
     alloc: Global,
@@ -96,7 +96,7 @@ pub extern "C" fn felosumay_collector_ask(
     status.code()
 }
 
-/// Sends a poll for the target's next message, or for the last one again where the last poll wasn't answered: its request
+/// Sends a poll for the target's next message, or for the last one again if the last poll wasn't answered: its request
 /// stands at the front of `request` then, and a transaction is open. It is busy while one is open; else memory for the
 /// answer may be refused. Nothing changes then.
 #[unsafe(no_mangle)]

@@ -16,7 +16,7 @@ use crate::status::Status;
 use std::alloc::Global;
 
 /// Reads a parameter, as a GET of this sub-device, PID and argument would: the value stands at the front of `value`, and
-/// `count` says how many bytes it has; or it is refused, and `reason` is the code of the NACK (E1.20 table A-17); or there
+/// `count` says how many bytes it has; or it is rejected, and `reason` is the code of the NACK (E1.20 table A-17); or there
 /// is no value, since the command starts a job or fetches a message.
 #[unsafe(no_mangle)]
 pub extern "C" fn felosumay_responder_get(

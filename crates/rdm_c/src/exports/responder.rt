@@ -29,8 +29,8 @@ use std::alloc::Global;
 
 /// Makes a responder of this profile, in the place of what the handle held.
 ///
-/// A UID that addresses more than one device is refused first, then a size that isn't 1 to 1,024, then a profile that
-/// breaks a rule or has more than 512 sub-devices, and last comes want of memory. Where it is refused, the handle stays
+/// A UID that addresses more than one device is rejected first, then a size that isn't 1 to 1,024, then a profile that
+/// breaks a rule or has more than 512 sub-devices, and last comes out of memory. If it is rejected, the handle stays
 /// as it was.
 #[unsafe(no_mangle)]
 pub extern "C" fn felosumay_responder_new(
@@ -53,9 +53,9 @@ pub extern "C" fn felosumay_responder_new(
     start(alloc, responder, uid, profile.profile(), queue_size).code()
 }
 
-/// Makes a responder that is the demonstration fixture with so many sub-devices, in the place of what the handle held.
+/// Makes a responder that is the demonstration fixture with N sub-devices, and replaces what the handle held.
 ///
-/// It is refused as `felosumay_responder_new` says, and a profile is bad only where there are more than 512 sub-devices.
+/// It is rejected as `felosumay_responder_new` says, and a profile is bad only if there are more than 512 sub-devices.
 #[unsafe(no_mangle)]
 pub extern "C" fn felosumay_responder_demo(
     alloc: Global,
@@ -106,8 +106,8 @@ pub extern "C" fn felosumay_responder_step(
 
 /// Takes the report of a job, and says whether it noted a status entry: `kept` is 1 then, else 0.
 ///
-/// The job is as `felosumay_responder_step` told of it. The numbers are unknown where they stand for no report, whatever
-/// the handle holds. It is astray where the report isn't of the oldest outstanding job of its worker, or its outcome
+/// The job is as `felosumay_responder_step` told of it. The numbers are unknown if they stand for no report, whatever
+/// the handle holds. It is astray if the report isn't of the oldest outstanding job of its worker, or its outcome
 /// doesn't fit the job. Nothing changes then.
 #[unsafe(no_mangle)]
 pub extern "C" fn felosumay_responder_arrive(

@@ -22,7 +22,7 @@ use std::alloc::Global;
 /// what the handle held. It takes `limit` transactions at most: 74 for each fixture that the line may have, and 2 more, are
 /// enough on every line.
 ///
-/// A UID that addresses more than one device is refused first, and last comes want of memory. Where it is refused, the handle
+/// A UID that addresses more than one device is rejected first, and last comes out of memory. If it is rejected, the handle
 /// stays as it was.
 #[unsafe(no_mangle)]
 pub extern "C" fn felosumay_search_new(
@@ -46,7 +46,7 @@ pub extern "C" fn felosumay_search_new(
     replace(alloc, search, Endpoint::Searcher(made)).code()
 }
 
-/// Tells what to send next: the request stands at the front of `request` then. There is no more where the search has ended:
+/// Tells what to send next: the request stands at the front of `request` then. There is no more if the search has ended:
 /// it asked everywhere. Else its limit may be reached. Nothing changes, so that a call tells the same until `hear`.
 #[unsafe(no_mangle)]
 pub extern "C" fn felosumay_search_next(
@@ -68,7 +68,7 @@ pub extern "C" fn felosumay_search_next(
     status.code()
 }
 
-/// Hears the bytes that came after the request that `felosumay_search_next` told; none where nothing came. Where memory for a
+/// Hears the bytes that came after the request that `felosumay_search_next` told; none if nothing came. If memory for a
 /// fixture that was found is refused, the search stands where it stood, and the same bytes can be heard again.
 #[unsafe(no_mangle)]
 pub extern "C" fn felosumay_search_hear(alloc: Global, search: &mut Handle, bytes: &[u8]) -> u8

@@ -8,11 +8,11 @@ use toml_parser::{
     ErrorKind, Key, ParseError, RECURSION_LIMIT, dotted_key, quoted, starts_string, unquoted,
 };
 
-/// An array or an inline table that has begun and not ended, and how many steps of the way lead to it, where it is on the
+/// An array or an inline table that has begun and not ended, and how many steps of the way lead to it, if it is on the
 /// way.
 #[derive(Clone, Copy)]
 enum Open {
-    /// An array, of which so many entries have begun.
+    /// An array, of which N entries have begun.
     Array(Option<usize>, usize),
     /// An inline table.
     Table(Option<usize>),
@@ -40,7 +40,7 @@ struct Place {
 struct Walk<'a> {
     way: &'a [Step<'a>],
     best: Option<Place>,
-    /// How many steps lead to the table whose keys stand here, where it is on the way.
+    /// How many steps lead to the table whose keys stand here, if it is on the way.
     table: Option<usize>,
     /// How many headers of the list on the way there were.
     entries: usize,
@@ -48,7 +48,7 @@ struct Walk<'a> {
 }
 
 /// How many bytes are left of the text, which is a document of TOML, at the first part of it that is furthest along the way:
-/// none where no part is on it.
+/// none if no part is on it.
 pub(super) fn place_of(
     alloc: Global,
     text: &str,
@@ -126,7 +126,7 @@ impl Walk<'_> {
             .ok_or(ParseError::at(ErrorKind::UnclosedTable, rest))
     }
 
-    /// What is left behind a key and the beginning of its value, in a table to which so many steps lead.
+    /// What is left behind a key and the beginning of its value, in a table to which N steps lead.
     fn after_key<'t>(
         &mut self,
         alloc: Global,
@@ -216,12 +216,12 @@ impl Walk<'_> {
         }
     }
 
-    /// Whether the step after so many is to an entry of a list.
+    /// Whether the step after the first N is to an entry of a list.
     fn is_entry_next(&self, steps: usize) -> bool {
         matches!(self.way.get(steps), Some(Step::Entry(_)))
     }
 
-    /// Whether the step after so many is to what the key holds.
+    /// Whether the step after the first N is to what the key holds.
     fn is_next(&self, steps: usize, key: &str) -> bool {
         match self.way.get(steps) {
             Some(step) => step.is_key(key),
@@ -229,7 +229,7 @@ impl Walk<'_> {
         }
     }
 
-    /// How many steps lead to this entry of the list to which so many lead, where it is on the way.
+    /// How many steps lead to this entry of the list to which N lead, if it is on the way.
     fn steps_to_entry(&self, list: Option<usize>, entry: usize) -> Option<usize> {
         let steps = list?;
         match self.way.get(steps) {
@@ -238,7 +238,7 @@ impl Walk<'_> {
         }
     }
 
-    /// Keeps a part of the text where it is further along the way than each before it. To be on the way is no more than to
+    /// Keeps a part of the text if it is further along the way than each before it. To be on the way is no more than to
     /// begin on it, but for parts that lead equally far.
     fn note(&mut self, steps: usize, is_there: bool, rest: &str) {
         let (most, was_there) = match &self.best {

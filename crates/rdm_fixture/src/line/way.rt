@@ -32,7 +32,7 @@ impl Step<'_> {
 /// The steps of a way: at most the sub-devices, a list, its entry, a key, and an entry of what that holds.
 pub(super) type Way<'a> = ArrayVec<Step<'a>, 5>;
 
-/// The way to what is wrong: where a list is too long, to the first entry that is too many.
+/// The way to what is wrong: if a list is too long, to the first entry that is too many.
 pub(super) fn way_to(refusal: &Refusal) -> Way<'_> {
     let mut way = Way::new();
     if refusal.in_sub_devices {

@@ -1,4 +1,4 @@
-//! What is wrong with a table that is no rule, for the message.
+//! What is wrong with a table that isn't a valid rule, for the message.
 
 ghost use Rattle.std.specs.Prelude.{◌≡◌, MatchOption, None};
 ghost use Rattle.rdm_fixture.specs.Faults.{fault, told};
@@ -66,7 +66,7 @@ fn wrong_jobs(table: &Table) -> Option<Refusal>
     None
 }
 
-/// What is wrong where a table tells no outcome.
+/// What is wrong if a table tells no outcome.
 fn wrong_outcome(table: &Table) -> Refusal
     requires { says.outcome_in (table_view table.now) ≡ None }
     ensures { parts.outcome.Wrong (table_view table.now) (told result) }
@@ -80,7 +80,7 @@ fn wrong_outcome(table: &Table) -> Refusal
     wrong_failure(table)
 }
 
-/// The same where it would be a failure.
+/// The same if it would be a failure.
 fn wrong_failure(table: &Table) -> Refusal
     requires { says.failed_in (table_view table.now) ≡ None }
     ensures { FirstWrong parts.failure_parts (table_view table.now) (told result) }

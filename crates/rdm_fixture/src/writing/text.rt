@@ -162,7 +162,7 @@ fn push_rule(text: &mut String, rule: &Rule) -> Result<(), AllocError> {
     }
 }
 
-/// A key with a text, which is left out where it is empty.
+/// A key with a text, which is left out if it is empty.
 fn push_text(text: &mut String, key: &str, value: &Text) -> Result<(), AllocError> {
     let bytes = value.as_slice();
     if bytes.is_empty() {

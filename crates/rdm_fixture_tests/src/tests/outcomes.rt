@@ -24,24 +24,24 @@ fn parameters_and_keys(rt: HostRuntime) -> Result<(), Fail> {
             (
                 "",
                 "[[outcome]]\ndone = true",
-                "line 6: in outcome 1, the key `parameter` is missing",
+                "line 6: in outcome 1, missing key `parameter`",
             ),
             (
                 "",
                 "[[outcome]]\nparameter = \"LAMP\"\ndone = true",
-                "line 7: in outcome 1, `parameter` isn't LAMP_STATE, POWER_STATE, PERFORM_SELFTEST or SENSOR_VALUE",
+                "line 7: in outcome 1, `parameter` must be LAMP_STATE, POWER_STATE, PERFORM_SELFTEST or SENSOR_VALUE",
             ),
             (
                 "",
                 "[[outcome]]\nparameter = 0x0403\ndone = true",
-                "line 7: in outcome 1, `parameter` isn't LAMP_STATE, POWER_STATE, PERFORM_SELFTEST or SENSOR_VALUE",
+                "line 7: in outcome 1, `parameter` must be LAMP_STATE, POWER_STATE, PERFORM_SELFTEST or SENSOR_VALUE",
             ),
             (
                 "",
                 "[[outcome]]\nparameter = \"LAMP_STATE\"\nturn = 1\ndone = true",
-                "line 8: in outcome 1, there is no key `turn`",
+                "line 8: in outcome 1, unknown key `turn`",
             ),
-            ("", "[[outcomes]]", "line 6: there is no key `outcomes`"),
+            ("", "[[outcomes]]", "line 6: unknown key `outcomes`"),
             (
                 "outcome = true",
                 "",
@@ -59,52 +59,52 @@ fn what_jobs_come_to(rt: HostRuntime) -> Result<(), Fail> {
             (
                 "",
                 "[[outcome]]\nparameter = \"LAMP_STATE\"",
-                "line 6: in outcome 1, there is none of `done`, `reading` and `severity`",
+                "line 6: in outcome 1, expected one of `done`, `reading` and `severity`",
             ),
             (
                 "",
                 "[[outcome]]\nparameter = \"LAMP_STATE\"\ndone = false",
-                "line 8: in outcome 1, `done` isn't true",
+                "line 8: in outcome 1, `done` must be true",
             ),
             (
                 "",
                 "[[outcome]]\nparameter = \"LAMP_STATE\"\ndone = 1",
-                "line 8: in outcome 1, `done` isn't true",
+                "line 8: in outcome 1, `done` must be true",
             ),
             (
                 "",
                 "[[outcome]]\nparameter = \"LAMP_STATE\"\ndone = true\nreading = 1",
-                "line 9: in outcome 1, `reading` stands beside another outcome",
+                "line 9: in outcome 1, `reading` can't be combined with another outcome",
             ),
             (
                 "",
                 "[[outcome]]\nparameter = \"SENSOR_VALUE\"\nreading = 1\nseverity = \"error\"",
-                "line 9: in outcome 1, `severity` stands beside another outcome",
+                "line 9: in outcome 1, `severity` can't be combined with another outcome",
             ),
             (
                 "",
                 "[[outcome]]\nparameter = \"LAMP_STATE\"\nreading = 1",
-                "line 8: in outcome 1, `reading` is no outcome of this parameter",
+                "line 8: in outcome 1, `reading` isn't a valid outcome of this parameter",
             ),
             (
                 "",
                 "[[outcome]]\nparameter = \"SENSOR_VALUE\"\ndone = true",
-                "line 8: in outcome 1, `done` is no outcome of this parameter",
+                "line 8: in outcome 1, `done` isn't a valid outcome of this parameter",
             ),
             (
                 "",
                 "[[outcome]]\nparameter = \"LAMP_STATE\"\nseverity = \"fatal\"\nstatus_id = 1",
-                "line 8: in outcome 1, `severity` isn't advisory, warning or error",
+                "line 8: in outcome 1, `severity` must be advisory, warning or error",
             ),
             (
                 "",
                 "[[outcome]]\nparameter = \"LAMP_STATE\"\nseverity = 4\nstatus_id = 1",
-                "line 8: in outcome 1, `severity` isn't advisory, warning or error",
+                "line 8: in outcome 1, `severity` must be advisory, warning or error",
             ),
             (
                 "",
                 "[[outcome]]\nparameter = \"LAMP_STATE\"\nseverity = \"warning\"",
-                "line 6: in outcome 1, the key `status_id` is missing",
+                "line 6: in outcome 1, missing key `status_id`",
             ),
         ],
     )

@@ -38,33 +38,33 @@ fn texts_and_keys(rt: HostRuntime) -> Result<(), Fail> {
             (
                 "device_label = \"an ASCII text of only 33 letters.\"",
                 "",
-                "line 1: `device_label` isn't a text of at most 32 printable ASCII characters",
+                "line 1: `device_label` isn't a string of at most 32 printable ASCII characters",
             ),
             (
                 "manufacturer_label = \"two\\nlines\"",
                 "",
-                "line 1: `manufacturer_label` isn't a text of at most 32 printable ASCII characters",
+                "line 1: `manufacturer_label` isn't a string of at most 32 printable ASCII characters",
             ),
             ("software_version_label = \" ~\"", "", ""),
             (
                 "software_version_label = \"\\u007F\"",
                 "",
-                "line 1: `software_version_label` isn't a text of at most 32 printable ASCII characters",
+                "line 1: `software_version_label` isn't a string of at most 32 printable ASCII characters",
             ),
             (
                 "boot_software_version_label = \"Zürich\"",
                 "",
-                "line 1: `boot_software_version_label` isn't a text of at most 32 printable ASCII characters",
+                "line 1: `boot_software_version_label` isn't a string of at most 32 printable ASCII characters",
             ),
             (
                 "device_model_description = 1",
                 "",
-                "line 1: `device_model_description` isn't a text of at most 32 printable ASCII characters",
+                "line 1: `device_model_description` isn't a string of at most 32 printable ASCII characters",
             ),
             (
                 "",
                 "description = 1",
-                "line 6: in personality 1, `description` isn't a text of at most 32 printable ASCII characters",
+                "line 6: in personality 1, `description` isn't a string of at most 32 printable ASCII characters",
             ),
             ("languages = [\"en\", \"de\"]", "", ""),
             (
@@ -90,74 +90,70 @@ fn texts_and_keys(rt: HostRuntime) -> Result<(), Fail> {
             (
                 "languages = [\"EN\"]",
                 "",
-                "line 1: `languages` isn't a language code of two small letters",
+                "line 1: `languages` isn't a language code of two lowercase letters",
             ),
             (
                 "languages = [\"eng\"]",
                 "",
-                "line 1: `languages` isn't a language code of two small letters",
+                "line 1: `languages` isn't a language code of two lowercase letters",
             ),
             (
                 "languages = [1]",
                 "",
-                "line 1: `languages` isn't a language code of two small letters",
+                "line 1: `languages` isn't a language code of two lowercase letters",
             ),
-            ("preset = 1", "", "line 1: there is no key `preset`"),
+            ("preset = 1", "", "line 1: unknown key `preset`"),
             (
                 "\"a key whose name is longer than forty letters\" = 1",
                 "",
-                "line 1: there is no key `a key whose name is longer than forty ..`",
+                "line 1: unknown key `a key whose name is longer than forty ..`",
             ),
             (
                 "\"\\u0080\\u0080\\u0080\\u0080\\u0080\\u0080\\u0080\\u0080\\u0080\\u0080\\u0080\\u0080\\u0080\\u0080\\u0080\\u0080\\u0080\\u0080\\u0080\\u0080\\u0080\" = 1",
                 "",
-                "line 1: there is no key `?????????????????????..`",
+                "line 1: unknown key `?????????????????????..`",
             ),
             (
                 "",
                 "footprint = 1",
-                "line 6: in personality 1, there is no key `footprint`",
+                "line 6: in personality 1, unknown key `footprint`",
             ),
             (
                 "",
                 "[[slot]]\nlabel = 1",
-                "line 7: in slot 1, there is no key `label`",
+                "line 7: in slot 1, unknown key `label`",
             ),
             (
                 "",
                 "[[sensor]]\ntype = 0\nlabel = 1",
-                "line 8: in sensor 1, there is no key `label`",
+                "line 8: in sensor 1, unknown key `label`",
             ),
             (
                 "",
                 "[[self_test]]\nnumber = 1\nid = 1",
-                "line 8: in self_test 1, there is no key `id`",
+                "line 8: in self_test 1, unknown key `id`",
             ),
             (
                 "",
                 "[[status]]\nid = 1\nnumber = 1",
-                "line 8: in status 1, there is no key `number`",
+                "line 8: in status 1, unknown key `number`",
             ),
             (
                 "",
                 "[[slot]]\ntype = 1",
-                "line 6: in slot 1, the key `label_id` is missing",
+                "line 6: in slot 1, missing key `label_id`",
             ),
             (
                 "",
                 "[[sensor]]\nunit = 1",
-                "line 6: in sensor 1, the key `type` is missing",
+                "line 6: in sensor 1, missing key `type`",
             ),
             (
                 "",
                 "[[self_test]]",
-                "line 6: in self_test 1, the key `number` is missing",
+                "line 6: in self_test 1, missing key `number`",
             ),
-            (
-                "",
-                "[[status]]",
-                "line 6: in status 1, the key `id` is missing",
-            ),
+            ("", "[[status]]", "line 6: in status 1, missing key `id`"),
         ],
     )
 }
@@ -170,7 +166,7 @@ fn lists_and_sub_devices(rt: HostRuntime) -> Result<(), Fail> {
             (
                 "",
                 "[[personality]]\n[[slot]]\nlabel_id = 1",
-                "line 6: in personality 2, the key `dmx_footprint` is missing",
+                "line 6: in personality 2, missing key `dmx_footprint`",
             ),
             (
                 "",
@@ -191,12 +187,12 @@ fn lists_and_sub_devices(rt: HostRuntime) -> Result<(), Fail> {
             (
                 "",
                 "[[self_test]]\nnumber = 7\n[[self_test]]\nnumber = 8\n[[self_test]]\nnumber = 7",
-                "line 11: in self_test 3, `number` is that of an earlier entry",
+                "line 11: in self_test 3, `number` is the same as in an earlier entry",
             ),
             (
                 "",
                 "[[self_test]]\nnumber = 1\n[[self_test]]\nnumber = 2\n[[self_test]]\nnumber = 2\n[[self_test]]\nnumber = 1",
-                "line 11: in self_test 3, `number` is that of an earlier entry",
+                "line 11: in self_test 3, `number` is the same as in an earlier entry",
             ),
             (
                 "presets = -1\nlanguages = 1",
@@ -206,18 +202,18 @@ fn lists_and_sub_devices(rt: HostRuntime) -> Result<(), Fail> {
             (
                 "product_category = -1\ndevice_label = 1",
                 "",
-                "line 2: `device_label` isn't a text of at most 32 printable ASCII characters",
+                "line 2: `device_label` isn't a string of at most 32 printable ASCII characters",
             ),
             (
                 "",
                 "[[status]]\nid = 7\n[[status]]\nid = 7",
-                "line 9: in status 2, `id` is that of an earlier entry",
+                "line 9: in status 2, `id` is the same as in an earlier entry",
             ),
             ("sub_devices = 1", "", "line 1: `sub_devices` isn't a table"),
             (
                 "",
                 "[sub_devices]\ndevice_model_id = 1",
-                "line 6: in [sub_devices], the key `count` is missing",
+                "line 6: in [sub_devices], missing key `count`",
             ),
             (
                 "",
@@ -227,17 +223,17 @@ fn lists_and_sub_devices(rt: HostRuntime) -> Result<(), Fail> {
             (
                 "",
                 "[sub_devices]\ncount = 1",
-                "line 6: in [sub_devices], the key `device_model_id` is missing",
+                "line 6: in [sub_devices], missing key `device_model_id`",
             ),
             (
                 "",
                 "[sub_devices]\ncount = 1\npresets = 1",
-                "line 8: in [sub_devices], there is no key `presets`",
+                "line 8: in [sub_devices], unknown key `presets`",
             ),
             (
                 "",
                 "[sub_devices]\ncount = 1\ndevice_model_id = 1",
-                "line 6: in [sub_devices], the key `personality` is missing",
+                "line 6: in [sub_devices], missing key `personality`",
             ),
             (
                 "",
@@ -263,22 +259,22 @@ fn lists_and_sub_devices(rt: HostRuntime) -> Result<(), Fail> {
 #[test]
 fn whole_texts(rt: HostRuntime) -> Result<(), Fail> {
     let rows = [
-        ("", "line 1: the key `uid` is missing"),
+        ("", "line 1: missing key `uid`"),
         (
             "uid = \"7FF0:FFFFFFFF\"",
-            "line 1: `uid` isn't a UID of one device, as \"7FF0:00000001\"",
+            "line 1: `uid` isn't a UID of one device, such as \"7FF0:00000001\"",
         ),
         (
             "uid = \"7FF000000001\"",
-            "line 1: `uid` isn't a UID of one device, as \"7FF0:00000001\"",
+            "line 1: `uid` isn't a UID of one device, such as \"7FF0:00000001\"",
         ),
         (
             "uid = 1",
-            "line 1: `uid` isn't a UID of one device, as \"7FF0:00000001\"",
+            "line 1: `uid` isn't a UID of one device, such as \"7FF0:00000001\"",
         ),
         (
             "uid = \"7ff0:0000000a\"",
-            "line 1: the key `device_model_id` is missing",
+            "line 1: missing key `device_model_id`",
         ),
         (
             "uid = \"7FF0:00000001\"\ndevice_model_id = 65536",
@@ -286,7 +282,7 @@ fn whole_texts(rt: HostRuntime) -> Result<(), Fail> {
         ),
         (
             "uid = \"7FF0:00000001\"\ndevice_model_id = 0",
-            "line 2: the key `personality` is missing",
+            "line 2: missing key `personality`",
         ),
         (
             "uid = \"7FF0:00000001\"\ndevice_model_id = 0\npersonality = []",
@@ -314,17 +310,17 @@ fn the_nearest_line(rt: HostRuntime) -> Result<(), Fail> {
             (
                 "",
                 "[sub_devices]\nuid = \"7FF0:00000002\"",
-                "line 7: in [sub_devices], there is no key `uid`",
+                "line 7: in [sub_devices], unknown key `uid`",
             ),
             (
                 "",
                 "[sub_devices]\n# uid\ncount = 1\ndevice_model_id = 2\n[[sub_devices.personalty]]",
-                "line 10: in [sub_devices], there is no key `personalty`",
+                "line 10: in [sub_devices], unknown key `personalty`",
             ),
             (
                 "",
                 "[[personalty]]\n[sub_devices]\ncount = 0",
-                "line 6: there is no key `personalty`",
+                "line 6: unknown key `personalty`",
             ),
             (
                 "",
@@ -339,7 +335,7 @@ fn the_nearest_line(rt: HostRuntime) -> Result<(), Fail> {
             (
                 "sensor = [{ type = 1 },\n { unit = 1 }]",
                 "",
-                "line 2: in sensor 2, the key `type` is missing",
+                "line 2: in sensor 2, missing key `type`",
             ),
             (
                 "sub_devices.device_model_id = 1\nsub_devices.\"count\" = 1000",
@@ -349,12 +345,12 @@ fn the_nearest_line(rt: HostRuntime) -> Result<(), Fail> {
             (
                 "sub_devices = { count = 1, device_model_id = 1, personality = [\n{ dmx_footprint = 1 }, {\n description = \"\" } ] }",
                 "",
-                "line 2: in [sub_devices], in personality 2, the key `dmx_footprint` is missing",
+                "line 2: in [sub_devices], in personality 2, missing key `dmx_footprint`",
             ),
             (
                 "presets = 1 # \"\"\"\ndevice_label = \"\"\"\n[[slot]]\npresets = -1\"\"\"",
                 "",
-                "line 2: `device_label` isn't a text of at most 32 printable ASCII characters",
+                "line 2: `device_label` isn't a string of at most 32 printable ASCII characters",
             ),
             (
                 "device_label = \"\"\"\n[[slot]]\npresets = -1\"\"\"\npresets = -1",
@@ -371,18 +367,14 @@ fn the_nearest_line(rt: HostRuntime) -> Result<(), Fail> {
                 "",
                 "line 2: `languages` isn't a list of 1 to 8 entries",
             ),
-            (
-                "\"two\\nlines\" = 1",
-                "",
-                "line 1: there is no key `two?lines`",
-            ),
+            ("\"two\\nlines\" = 1", "", "line 1: unknown key `two?lines`"),
         ],
     )?;
     let told = told(
         rt.alloc(),
         "device_model_id = 1\n[[personality]]\ndmx_footprint = 0\n[sub_devices]\ncount = 0\n\n",
     )?;
-    assert_eq!(rt; told.as_str(), "line 6: the key `uid` is missing");
+    assert_eq!(rt; told.as_str(), "line 6: missing key `uid`");
     Ok(())
 }
 

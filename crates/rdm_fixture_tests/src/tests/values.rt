@@ -135,7 +135,7 @@ fn try_others(
         try_value(rt, table, key, value, wanted)?;
     }
     let slip = format!(in rt.alloc(); "{key}s")?;
-    let expected = format!(in rt.alloc(); "there is no key `{slip}`")?;
+    let expected = format!(in rt.alloc(); "unknown key `{slip}`")?;
     try_value(rt, table, slip.as_str(), "1", expected.as_str())
 }
 
@@ -178,7 +178,7 @@ fn texts(rt: HostRuntime) -> Result<(), Fail> {
     for (table, key) in &TEXTS {
         try_value(&rt, table, key, "\"an ASCII text of just 32 letters\"", "")?;
         let wanted = format!(in rt.alloc();
-            "`{key}` isn't a text of at most 32 printable ASCII characters"
+            "`{key}` isn't a string of at most 32 printable ASCII characters"
         )?;
         let others = [
             "\"an ASCII text of only 33 letters.\"",

@@ -11,7 +11,7 @@ use rdm_bus::{Action, Command};
 use rdm_frame::digits::{bytes_in, word_in};
 use rdm_frame::{Load, Uid};
 
-/// How many digits a sub-device has at most, where it is a decimal number.
+/// How many digits a sub-device has at most, if it is a decimal number.
 const MOST_DIGITS: usize = 3;
 
 /// The command that five words say, to the device of the dialect among others.

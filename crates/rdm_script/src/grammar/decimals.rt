@@ -11,7 +11,7 @@ const MOST_DIGITS: usize = 10;
 /// The greatest number of a sub-device (E1.20 section 9).
 const MOST_SUBS: u64 = 512;
 
-/// The number that a word writes, where it is at most 255.
+/// The number that a word writes, if it is at most 255.
 #[tactic(auto, unfolding(crate::specs::Decimals::number_up_to))]
 pub(crate) fn byte_in(word: &[u8]) -> Option<u8>
     ensures { result ≡ number_up_to 255 word.now }
@@ -19,7 +19,7 @@ pub(crate) fn byte_in(word: &[u8]) -> Option<u8>
     u8::try_from(decimal_in(word)?).ok()
 }
 
-/// The number that a word writes, where it is at most 512.
+/// The number that a word writes, if it is at most 512.
 #[tactic(auto, unfolding(crate::specs::Decimals::number_up_to))]
 pub(crate) fn sub_in(word: &[u8]) -> Option<u16>
     ensures { result ≡ number_up_to 512 word.now }
@@ -32,7 +32,7 @@ pub(crate) fn sub_in(word: &[u8]) -> Option<u16>
     }
 }
 
-/// The number that a word writes, where it is at most 65,535.
+/// The number that a word writes, if it is at most 65,535.
 #[tactic(auto, unfolding(crate::specs::Decimals::number_up_to))]
 pub(crate) fn word_in(word: &[u8]) -> Option<u16>
     ensures { result ≡ number_up_to 65535 word.now }
@@ -40,7 +40,7 @@ pub(crate) fn word_in(word: &[u8]) -> Option<u16>
     u16::try_from(decimal_in(word)?).ok()
 }
 
-/// The number that a word writes, where it is at most 4,294,967,295.
+/// The number that a word writes, if it is at most 4,294,967,295.
 #[tactic(auto, unfolding(crate::specs::Decimals::number_up_to))]
 pub(crate) fn long_in(word: &[u8]) -> Option<u32>
     ensures { result ≡ number_up_to 4294967295 word.now }

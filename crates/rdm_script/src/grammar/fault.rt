@@ -6,7 +6,7 @@ ghost use Rattle.rdm_script.specs.Grammar.{fault_in, lost_in, altered_in, raise_
 use super::decimals;
 use rdm_bus::Fault;
 
-/// What goes wrong: nothing where there are no words.
+/// What goes wrong: nothing if there are no words.
 #[tactic(auto, unfolding(crate::specs::Grammar::fault_in))]
 pub(crate) fn fault_in(words: &[&[u8]]) -> Option<Fault>
     ensures { result ≡ fault_in (map (λ word. word.now) words.now) }

@@ -66,7 +66,7 @@ fn blank_in(line: &[u8]) -> Option<usize>
     line.iter().position(|b| *b == b' ' || *b == b'\t')
 }
 
-/// How many bytes at the front of a line are in double quotes, these included: all, where the second quote is missing.
+/// How many bytes at the front of a line are in double quotes, these included: all, if the second quote is missing.
 #[tactic(auto, unfolding(crate::specs::Grammar::quoted_front))]
 fn quoted_front(line: &[u8]) -> usize
     ensures front { result ≡ quoted_front line.now }

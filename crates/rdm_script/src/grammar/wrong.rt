@@ -20,7 +20,7 @@ pub(crate) struct WrongWord {
     pub(crate) wanted: Wanted,
 }
 
-/// The first wrong word of a faulty line, where a line before it has said something or none has.
+/// The first wrong word of a faulty line. `begun` tells whether a line before it has said something.
 pub(crate) fn wrong_word(dialect: Dialect, words: &[&[u8]], begun: bool) -> WrongWord {
     match test_line(dialect, words, begun) {
         Ok(()) => wrong(0, Wanted::Step),
@@ -87,7 +87,7 @@ fn test_command(dialect: Dialect, words: &[&[u8]]) -> Result<(), WrongWord> {
     test_fault(words, 5)
 }
 
-/// What is wanted where this word isn't the data of a command.
+/// What is wanted if this word isn't the data of a command.
 fn load_wanted(word: &[u8]) -> Wanted {
     match word {
         [b'"', text @ .., b'"'] if are_shown(text) => Wanted::ShorterLoad,
@@ -141,7 +141,7 @@ fn test(is_so: bool, index: usize, wanted: Wanted) -> Result<(), WrongWord> {
     }
 }
 
-/// The word at an index, or nothing where the line ends before it.
+/// The word at an index, or nothing if the line ends before it.
 fn text_at<'a>(words: &[&'a [u8]], index: usize) -> &'a [u8] {
     match words.get(index) {
         Some(word) => word,

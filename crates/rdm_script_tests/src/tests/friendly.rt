@@ -116,101 +116,104 @@ fn refusals(rt: HostRuntime) -> Result<(), Fail> {
         &[
             (
                 "draw\nget dev 000 1000 -",
-                "2:9: \"000\" is no sub-device: 4 hexadecimal digits, root, or 0 to 512",
+                "2:9: \"000\" isn't a valid sub-device: expected 4 hexadecimal digits, root, or 0 to 512",
             ),
             (
                 "get dev 513 1000 -",
-                "1:9: \"513\" is no sub-device: 4 hexadecimal digits, root, or 0 to 512",
+                "1:9: \"513\" isn't a valid sub-device: expected 4 hexadecimal digits, root, or 0 to 512",
             ),
             (
                 "get dev 01 1000 -",
-                "1:9: \"01\" is no sub-device: 4 hexadecimal digits, root, or 0 to 512",
+                "1:9: \"01\" isn't a valid sub-device: expected 4 hexadecimal digits, root, or 0 to 512",
             ),
             (
                 "\r\n  \nfoo\n",
-                "3:1: \"foo\" is no step: setup, get, set, disc, collect, draw, settle or panel",
+                "3:1: \"foo\" isn't a valid step: expected setup, get, set, disc, collect, draw, settle or panel",
             ),
             (
                 "draw\nsetup 0 8 advisory",
-                "2:1: \"setup\" stands too late: a setup stands before all other steps",
+                "2:1: \"setup\" comes too late: expected it before all other steps",
             ),
             (
                 "setup 65536 8 advisory",
-                "1:7: \"65536\" is no number of sub-devices: 0 to 65535",
+                "1:7: \"65536\" isn't a valid number of sub-devices: expected 0 to 65535",
             ),
             (
                 "setup 1 8x advisory",
-                "1:9: \"8x\" is no number of results: 0 to 65535",
+                "1:9: \"8x\" isn't a valid number of results: expected 0 to 65535",
             ),
             (
                 "setup 1 8 all",
-                "1:11: \"all\" is no status type: advisory, warning or error",
+                "1:11: \"all\" isn't a valid status type: expected advisory, warning or error",
             ),
             (
                 "get me 0000 1000 -",
-                "1:5: \"me\" is no destination: dev, all, maker, or a UID as 7FF0:00000001",
+                "1:5: \"me\" isn't a valid destination: expected dev, all, maker, or a UID such as 7FF0:00000001",
             ),
             (
                 "get dev 0000 IDENTIFY -",
-                "1:14: \"IDENTIFY\" is no parameter: 4 hexadecimal digits, or a name of E1.20 as DEVICE_INFO",
+                "1:14: \"IDENTIFY\" isn't a valid parameter: expected 4 hexadecimal digits, or a name in E1.20 such as DEVICE_INFO",
             ),
             (
                 "get dev 0000 1000",
-                "1:18: a word is missing: -, two hexadecimal digits for each byte, or a text in double quotes",
+                "1:18: a word is missing: expected -, two hexadecimal digits for each byte, or a text in double quotes",
             ),
             (
                 "set dev 0000 1000 1",
-                "1:19: \"1\" is no data: -, two hexadecimal digits for each byte, or a text in double quotes",
+                "1:19: \"1\" isn't valid data: expected -, two hexadecimal digits for each byte, or a text in double quotes",
             ),
             (
                 "set dev 0000 0082 \"ab",
-                "1:19: \"\"ab\" has no end: a double quote at the end of the text",
+                "1:19: \"\"ab\" isn't closed: expected a double quote at the end of the text",
             ),
             (
                 "set dev 0000 0082 \"a\tb\"",
-                "1:19: \"\"a\\x09b\"\" is no text: printable ASCII characters in double quotes",
+                "1:19: \"\"a\\x09b\"\" isn't valid text: expected printable ASCII characters in double quotes",
             ),
             (
                 "get dev 0000 1000 - lost",
-                "1:21: \"lost\" is no fault: lost-request, lost-reply, bad-request or bad-reply",
+                "1:21: \"lost\" isn't a valid fault: expected lost-request, lost-reply, bad-request or bad-reply",
             ),
             (
                 "collect bad-reply 256 1",
-                "1:19: \"256\" is no slot: 0 to 255",
+                "1:19: \"256\" isn't a valid slot: expected 0 to 255",
             ),
-            ("collect bad-reply 1 0", "1:21: \"0\" is no raise: 1 to 255"),
+            (
+                "collect bad-reply 1 0",
+                "1:21: \"0\" isn't a valid raise: expected 1 to 255",
+            ),
             (
                 "draw now",
-                "1:6: \"now\" is a word too many: the line ends before it",
+                "1:6: \"now\" is one word too many: expected the end of the line",
             ),
             (
                 "get dev root 1000 - lost-reply 1",
-                "1:32: \"1\" is a word too many: the line ends before it",
+                "1:32: \"1\" is one word too many: expected the end of the line",
             ),
             (
                 "get dev root 1000 - bad-reply 3 4 5",
-                "1:35: \"5\" is a word too many: the line ends before it",
+                "1:35: \"5\" is one word too many: expected the end of the line",
             ),
             (
                 "get dev 0000 1000 - bad-reply 3 4 lost-reply",
-                "1:35: \"lost-reply\" is a word too many: the line ends before it",
+                "1:35: \"lost-reply\" is one word too many: expected the end of the line",
             ),
             (
                 "get dev 0000 1000 - bad-reply 3 4 5 6",
-                "1:35: \"5\" is a word too many: the line ends before it",
+                "1:35: \"5\" is one word too many: expected the end of the line",
             ),
             (
                 "collect bad-reply 3 4 5",
-                "1:23: \"5\" is a word too many: the line ends before it",
+                "1:23: \"5\" is one word too many: expected the end of the line",
             ),
             (
                 "setup 0 8 advisory 1",
-                "1:20: \"1\" is a word too many: the line ends before it",
+                "1:20: \"1\" is one word too many: expected the end of the line",
             ),
-            ("settle", "1:7: a word is missing: 0 to 4294967295"),
+            ("settle", "1:7: a word is missing: expected 0 to 4294967295"),
             (
                 "panel -1",
-                "1:7: \"-1\" is no number of looks: 0 to 4294967295",
+                "1:7: \"-1\" isn't a valid count: expected 0 to 4294967295",
             ),
         ],
     )

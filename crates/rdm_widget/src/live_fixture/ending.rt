@@ -17,7 +17,7 @@ pub(crate) struct Ended {
     pub(crate) at: u64,
 }
 
-/// The job at which this worker is since then, where it has ended by now.
+/// The job at which this worker is since then, if it has ended by now.
 pub(crate) fn ended_by(now: u64, worker: u8, since: u64, job: Option<Job>) -> Option<Ended>
     ensures { result ≡ says.ended_by now worker since job }
 {
@@ -27,7 +27,7 @@ pub(crate) fn ended_by(now: u64, worker: u8, since: u64, job: Option<Job>) -> Op
     }
 }
 
-/// This job, where it has ended by now.
+/// This job, if it has ended by now.
 fn end_by(now: u64, worker: u8, since: u64, job: Job) -> Option<Ended>
     ensures { result ≡ says.ended_by now worker since (Some job) }
 {
@@ -42,7 +42,7 @@ fn end_by(now: u64, worker: u8, since: u64, job: Job) -> Option<Ended>
     })
 }
 
-/// The one that ended first, and that of the first worker where both ended at once.
+/// The one that ended first, and that of the first worker if both ended at once.
 pub(crate) fn earlier(first: Option<Ended>, second: Option<Ended>) -> Option<Ended>
     ensures { result ≡ says.earlier first second }
 {
