@@ -27,7 +27,7 @@ word_digits n = digits (to_be_bytes w16 n)
 abbrev pub pair_words : ℕ → ℕ → List ℕ
 pair_words n m = decimal n ++ 32 ∷ decimal m
 
--- bytes, or a hyphen where there are none
+-- bytes, or a hyphen if there are none
 abbrev pub data_words : List ℕ → List ℕ
 data_words [] = codes "-"
 data_words (byte ∷ bytes) = digits (byte ∷ bytes)
@@ -105,7 +105,7 @@ lines_text lines = flat_map whole_line lines
 
 -- ---- what a line can hold: numbers of the width of their types, and at least one byte in a frame
 
--- at most so many numbers, each below 256
+-- at most N numbers, each below 256
 pub record IsBytes (most : ℕ) (bytes : List ℕ) : Type 0 where
   pub room : length bytes ≤ most
   pub fits : AllByRecursion (λ byte. byte < 256) bytes

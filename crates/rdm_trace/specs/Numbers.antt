@@ -7,13 +7,13 @@ use Rattle.std.specs.Str.Parse.{digits_value, without_leading_plus, without_lead
 abbrev pub is_numeral : List ℕ → Bool
 is_numeral word = nat_lt 0 (length word) && all_ascii_digits word
 
--- the number that a word writes, behind a plus or none, where it has at most 64 bits
+-- the number that a word writes, behind a plus or none, if it has at most 64 bits
 unfoldable pub unsigned_in : List ℕ → Option ℕ
 unsigned_in word =
     if is_numeral (without_leading_plus word) && nat_lt (digits_value 10 (without_leading_plus word)) (2 ^ 64)
     then Some (digits_value 10 (without_leading_plus word)) else None
 
--- the same, where it is at most this
+-- the same, if it is at most this
 unfoldable pub number_up_to : ℕ → List ℕ → Option ℕ
 number_up_to most word = option_and_then (λ n. if nat_le n most then Some n else None) (unsigned_in word)
 
@@ -21,7 +21,7 @@ number_up_to most word = option_and_then (λ n. if nat_le n most then Some n els
 abbrev pub most_of : Bool → ℕ
 most_of minus = if minus then 32768 else 32767
 
--- the number that a word writes, behind a sign or none, where it has at most 16 bits
+-- the number that a word writes, behind a sign or none, if it has at most 16 bits
 unfoldable pub signed_in : List ℕ → Option ℤ
 signed_in word =
     if is_numeral (without_leading_sign word) && nat_le (digits_value 10 (without_leading_sign word)) (most_of (starts_with_minus word))

@@ -33,13 +33,13 @@ behind_word line = after_first (λ b. b == 32) line
 
 -- ---- bytes
 
--- where there are at most so many
+-- if there are at most N
 abbrev pub up_to : ℕ → Option (List ℕ) → Option (List ℕ)
 up_to most read = do
   bytes ← read
   if nat_le (length bytes) most then Some bytes else None
 
--- at most so many bytes, two digits for each, and blanks between them
+-- at most N bytes, two digits for each, and blanks between them
 abbrev pub spaced_bytes : ℕ → List ℕ → Option (List ℕ)
 spaced_bytes room [] = Some []
 spaced_bytes room (b ∷ []) = if (b == 32) || (b == 9) then Some [] else None
@@ -85,7 +85,7 @@ altered_in name words = do
   x ← number_up_to 255 (behind_word words)
   altered name k x
 
--- what goes wrong: nothing where there is no word
+-- what goes wrong: nothing if there is no word
 unfoldable pub fault_in : List ℕ → Option Fault
 fault_in words = if length (behind_word words) == 0 then lost_in (first_word words) else altered_in (first_word words) (behind_word words)
 
@@ -203,6 +203,6 @@ said_by word rest =
     else (if bytes_eq word (codes "heard") then (heard_in rest >>= λ heard. Some (Heard heard))
     else told_by word rest)))
 
--- What a line says, or nothing where it is no line of a trace.
+-- What a line says, or nothing if it isn't a line of a trace.
 unfoldable pub line_in : List ℕ → Option Line
 line_in text = said_by (first_word text) (behind_word text)

@@ -15,7 +15,7 @@ use Rattle.rdm_trace.specs.declared.line.Line.TheVariants.{Send, Reply, Job, Hea
 abbrev pub name_of : TheJob → JobName
 name_of job = record { worker = worker_of job.work; number = job.number }
 
--- a change is refused where there is no message of it
+-- a change is rejected if there is no message of it
 abbrev pub is_refused : Option TheMessage → Bool
 is_refused None = true
 is_refused (Some message) = false

@@ -17,7 +17,7 @@ line_of piece = line_in (strip_carriage_return piece)
 abbrev pub is_line : List ℕ → Bool
 is_line piece = is_some (line_of piece)
 
--- What the lines of a text say, in order. One that is no line of a trace says nothing.
+-- What the lines of a text say, in order. One that isn't a line of a trace says nothing.
 abbrev pub lines_said : List (List ℕ) → List Line
 lines_said pieces = flat_map (λ piece. option_to_list (line_of piece)) pieces
 
@@ -25,7 +25,7 @@ lines_said pieces = flat_map (λ piece. option_to_list (line_of piece)) pieces
 abbrev pub AreWhole : List (List ℕ) → Type 0
 AreWhole pieces = list_all is_line (take (length pieces - 1) pieces) ≡ true
 
--- The line with this number, counted from 1, is the first that is none of a trace.
+-- The line with this number, counted from 1, is the first that isn't part of a trace.
 pub record IsFirstUnread (pieces : List (List ℕ)) (number : ℕ) : Type 0 where
   pub index : ℕ
   pub counted : number ≡ index + 1

@@ -53,7 +53,7 @@ pub(crate) fn code_in(digits: &[u8]) -> Option<u8>
     }
 }
 
-/// The parameter data that a word spells: a hyphen where there are none.
+/// The parameter data that a word spells: a hyphen if there are none.
 #[tactic(auto, unfolding(crate::specs::Reading::body_in))]
 pub(crate) fn body_in(word: &[u8]) -> Option<Body>
     ensures { result ≡ body_in word.now }

@@ -15,11 +15,11 @@ pub enum Line {
         /// What goes wrong with the transaction.
         fault: Fault,
     },
-    /// `reply`: the bytes of the reply as the device sent them, or `None` where it sent none.
+    /// `reply`: the bytes of the reply as the device sent them, or `None` if it sent none.
     Reply(Option<Wire>),
     /// `job`: a slow command starts this job.
     Job(JobName),
-    /// `heard`: what the controller took the reply for, or `None` where no bytes reached it.
+    /// `heard`: what the controller took the reply for, or `None` if no bytes reached it.
     Heard(Option<Heard>),
     /// `arrive`: the report of a job arrives at the device.
     Arrive {
@@ -32,7 +32,7 @@ pub enum Line {
     Panel {
         /// The change.
         change: Change,
-        /// Whether it is refused.
+        /// Whether it is rejected.
         refused: bool,
     },
     /// `message`: a message that the controller recorded.

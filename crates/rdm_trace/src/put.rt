@@ -25,7 +25,7 @@ pub(crate) fn put_status(
     put_word(text, v2)
 }
 
-/// Bytes, or a hyphen where there are none.
+/// Bytes, or a hyphen if there are none.
 pub(crate) fn put_data(text: &mut Vec<u8>, data: &[u8]) -> Result<(), AllocError>
     ensures { OnOk result (text.new.items ≡ text.old.items ++ data_words data.now) }
 {

@@ -13,7 +13,7 @@ use rdm_collector::Heard;
 use rdm_frame::digits::word_in;
 use rdm_params::Message;
 
-/// What a line of a trace says, without its line end, or `None` where it is no line of a trace.
+/// What a line of a trace says, without its line end, or `None` if it isn't a line of a trace.
 ///
 /// More is read than `put_line` writes: digits of either case, spaces and tabs between the bytes of a reply, and decimal
 /// numbers with a plus or with zeros in front.
@@ -25,7 +25,7 @@ pub fn read(line: &[u8]) -> Option<Line>
     said_by(word, rest)
 }
 
-/// What a line says by its first word and the rest, where it tells of a transaction.
+/// What a line says by its first word and the rest, if it tells of a transaction.
 #[tactic(auto, unfolding(crate::specs::Reading::said_by))]
 fn said_by(word: &[u8], rest: &[u8]) -> Option<Line>
     ensures { result ≡ said_by word.now rest.now }

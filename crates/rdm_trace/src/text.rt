@@ -15,15 +15,15 @@ use thiserror::Error;
 /// Why a text isn't read as a trace.
 #[derive(Clone, Copy, Debug, PartialEq, Eq, Error)]
 pub enum TraceError {
-    /// There is no memory for it.
+    /// Out of memory.
     #[error("out of memory")]
     OutOfMemory,
-    /// This line, counted from 1, is no line of a trace.
-    #[error("line {0}: this is no line of a trace")]
+    /// This line, counted from 1, isn't a valid line of a trace.
+    #[error("line {0}: this isn't a valid line of a trace")]
     Line(usize),
 }
 
-/// The text of these lines, in order. Fails only where memory is refused.
+/// The text of these lines, in order. Fails only if memory is refused.
 pub fn text_of(alloc: Global, lines: &[Line]) -> Result<Vec<u8>, AllocError>
     ensures { IfOk result (λ text. text.items ≡ lines_text lines.now) }
 {
@@ -36,7 +36,7 @@ pub fn text_of(alloc: Global, lines: &[Line]) -> Result<Vec<u8>, AllocError>
 
 /// The lines of a trace. A line ends with LF, before which a CR is dropped.
 ///
-/// A line that is none of a trace is refused, but for what stands behind the last end of a line: where that is no line, but
+/// A line that isn't part of a trace is rejected, but for what comes after the last end of a line: if that isn't a line, but
 /// may begin one, it was cut off, and is left out.
 pub fn lines_of(alloc: Global, trace: &[u8]) -> Result<Vec<Line>, TraceError>
     ensures said { IfOk result (λ lines. lines.items ≡ lines_said (pieces_of trace.now)) }

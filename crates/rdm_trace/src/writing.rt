@@ -13,7 +13,7 @@ use rdm_frame::Wire;
 use rdm_params::{Change, Message, Outcome};
 use std::alloc::AllocError;
 
-/// Puts a line at the end of a text, with its line end. Fails only where memory is refused.
+/// Puts a line at the end of a text, with its line end. Fails only if memory is refused.
 pub fn put_line(text: &mut Vec<u8>, line: &Line) -> Result<(), AllocError>
     ensures { OnOk result (text.new.items ≡ text.old.items ++ whole_line line.now) }
 {
@@ -135,7 +135,7 @@ fn put_outcome(text: &mut Vec<u8>, outcome: Outcome) -> Result<(), AllocError>
     }
 }
 
-/// A change at the device's menu, and whether it is refused.
+/// A change at the device's menu, and whether it is rejected.
 fn put_panel(text: &mut Vec<u8>, change: &Change, refused: bool) -> Result<(), AllocError>
     ensures { OnOk result (text.new.items ≡ text.old.items ++ (codes "panel " ++ change_words change.now ++ refused_words refused)) }
 {
