@@ -6,28 +6,15 @@
 //! written that commands a terminal. `docs/WORDS.md` has the forms.
 #![tactic(auto)]
 
-mod class;
-mod device_info;
-mod discovery;
-mod form;
-mod frame_words;
-mod header;
-mod known;
+mod data;
+mod frame;
 mod laws;
-mod layout;
 mod line_words;
-mod lists;
-mod place;
-mod sensors;
-mod short;
-mod slots;
-mod statuses;
 pub mod tables;
 mod text;
 mod trace_words;
-mod values;
 
-pub use known::Known;
+pub use data::known::Known;
+pub use frame::short::{put_reply_words, put_request_words};
 pub use laws::{escaped_text_is_read_back, what_is_said_is_plain};
 pub use line_words::{put_line_words, words, words_of_lines};
-pub use short::{put_reply_words, put_request_words};

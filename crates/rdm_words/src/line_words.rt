@@ -6,7 +6,7 @@ ghost use Rattle.rdm_words.specs.Plain.{IsFixed, escaped, shown};
 ghost use Rattle.rdm_words.specs.Said.{Says, SayInTurn, Tells, TellsLine, TellsBytes, AreToldInTurn};
 
 use crate::Known;
-use crate::frame_words::put_bytes_words;
+use crate::frame::frame_words::put_bytes_words;
 use crate::text::{put_escaped, put_shown};
 use crate::trace_words::put_trace_line;
 use rdm_streams::{line_end, without_return};

@@ -5,12 +5,12 @@ ghost use Rattle.rdm_words.specs.Fixed.{AreWordsOfBytes, AreWordsOfLine, fault_l
 ghost use Rattle.rdm_words.specs.Plain.{IsFixed, IsPlain};
 
 use crate::Known;
-use crate::class::Class;
-use crate::frame_words::{put_bytes_words, put_data_lines};
-use crate::header::put_parameter;
-use crate::layout::layout_of;
-use crate::place::put_place;
-use crate::statuses::{Status, put_failure};
+use crate::data::layout::layout_of;
+use crate::data::statuses::{Status, put_failure};
+use crate::frame::class::Class;
+use crate::frame::frame_words::{put_bytes_words, put_data_lines};
+use crate::frame::header::put_parameter;
+use crate::frame::place::put_place;
 use crate::text::put_quoted;
 use rdm_bus::{Fault, Heard};
 use rdm_params::{Change, Message, Outcome};

@@ -1,10 +1,10 @@
 //! The words of a frame's header (E1.20 section 6.2).
 
-use crate::class::Class;
-use crate::place::put_place;
+use crate::data::values::put_coded;
+use crate::frame::class::Class;
+use crate::frame::place::put_place;
 use crate::tables::parameters::parameter;
 use crate::tables::replies::{nack_reason, response_type};
-use crate::values::put_coded;
 use rdm_frame::standard::{ACK_TIMER, NACK_REASON};
 use rdm_frame::{FrameView, Uid};
 use std::alloc::AllocError;

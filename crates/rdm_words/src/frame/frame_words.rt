@@ -5,13 +5,13 @@ ghost use Rattle.rdm_words.specs.Fixed.{AreWordsOfBytes, IsAnswerOf, answer_word
 ghost use Rattle.rdm_words.specs.Plain.{IsFixed};
 
 use crate::Known;
-use crate::class::Class;
-use crate::form::{Form, Layout};
-use crate::header::{put_request, put_response, put_stranger};
-use crate::layout::layout_of;
-use crate::lists::put_entries;
+use crate::data::form::{Form, Layout};
+use crate::data::layout::layout_of;
+use crate::data::lists::put_entries;
+use crate::data::values::{put_data, put_value};
+use crate::frame::class::Class;
+use crate::frame::header::{put_request, put_response, put_stranger};
 use crate::text::put_hex;
-use crate::values::{put_data, put_value};
 use rdm_frame::standard::{ACK_TIMER, NACK_REASON};
 use rdm_frame::{FrameError, FrameView, Uid, branch_uid, decode_view};
 use std::alloc::AllocError;

@@ -1,9 +1,9 @@
 //! The words of sensors (E1.20 section 10.7).
 
 use crate::Known;
+use crate::data::values::{put_coded, put_data};
 use crate::tables::sensors::{Range, sensor_type, sensor_unit, unit_prefix};
 use crate::text::put_quoted;
-use crate::values::{put_coded, put_data};
 use std::alloc::AllocError;
 use std::fmt::Write;
 

@@ -1,7 +1,7 @@
 //! The words of discovery (E1.20 section 7).
 
+use crate::data::values::put_data;
 use crate::text::put_hex;
-use crate::values::put_data;
 use rdm_frame::uid_at;
 use std::alloc::AllocError;
 use std::fmt::Write;

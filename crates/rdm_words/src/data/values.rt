@@ -1,13 +1,13 @@
 //! The words of parameter data that are one value.
 
 use crate::Known;
-use crate::device_info::put_device_info;
-use crate::discovery::{put_branch, put_muted};
-use crate::form::{Codes, Form, Layout};
-use crate::lists::put_count_of;
-use crate::sensors::{put_sensor, put_sensor_definition, put_sensor_value};
-use crate::slots::{put_slot, put_slot_text};
-use crate::statuses::put_status_id;
+use crate::data::device_info::put_device_info;
+use crate::data::discovery::{put_branch, put_muted};
+use crate::data::form::{Codes, Form, Layout};
+use crate::data::lists::put_count_of;
+use crate::data::sensors::{put_sensor, put_sensor_definition, put_sensor_value};
+use crate::data::slots::{put_slot, put_slot_text};
+use crate::data::statuses::put_status_id;
 use crate::tables::settings::{
     display_invert, lamp_on_mode, lamp_state, power_state, preset, self_test, switch, truth,
 };

@@ -1,6 +1,6 @@
 use Rattle.std.proofs.Common.{arith}
 use Rattle.rdm_words.proofs.Fixed.{adds_none, adds_bytes, clash, same_err}
-use Rattle.rdm_words.proofs.frame_words.put_bytes_words.Goals as goal
+use Rattle.rdm_words.proofs.frame.frame_words.put_bytes_words.Goals as goal
 
 pub returns-in-Ok : goal.returns-in-Ok
 returns-in-Ok c =

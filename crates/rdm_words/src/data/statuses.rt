@@ -1,11 +1,11 @@
 //! The words of status messages (E1.20 section 10.3 and table B-2).
 
 use crate::Known;
-use crate::place::put_place;
+use crate::data::values::{put_coded, put_data};
+use crate::frame::place::put_place;
 use crate::tables::slots::slot_label;
 use crate::tables::statuses::{status_id, status_type};
 use crate::text::put_foreign;
-use crate::values::{put_coded, put_data};
 use std::alloc::AllocError;
 use std::fmt::Write;
 

@@ -1,7 +1,7 @@
 //! Which data a parameter has in its requests and in its replies (E1.20 section 10).
 
-use crate::class::Class;
-use crate::form::{Codes, Form, Layout, List};
+use crate::data::form::{Codes, Form, Layout, List};
+use crate::frame::class::Class;
 use rdm_frame::standard::{DISC_MUTE, DISC_UN_MUTE, DISC_UNIQUE_BRANCH};
 use rdm_params::{Kind, kind_of};
 

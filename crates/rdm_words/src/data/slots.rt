@@ -1,8 +1,8 @@
 //! The words of DMX512 slots (E1.20 sections 10.6.4 to 10.6.6).
 
+use crate::data::values::{put_coded, put_data};
 use crate::tables::slots::{slot_label, slot_type};
 use crate::text::put_quoted;
-use crate::values::{put_coded, put_data};
 use std::alloc::AllocError;
 use std::fmt::Write;
 

@@ -1,8 +1,8 @@
 //! The words of DEVICE_INFO (E1.20 section 10.5.1).
 
+use crate::data::values::{put_coded, put_data};
 use crate::tables::products::product_category;
 use crate::text::put_hex;
-use crate::values::{put_coded, put_data};
 use std::alloc::AllocError;
 use std::fmt::Write;
 

@@ -2,7 +2,7 @@ use Rattle.std.proofs.Common.{◌≡◌, ◌++◌, OnOk, string_bytes, subst}
 use Rattle.rdm_frame.specs.declared.uid.Uid.{Uid}
 use Rattle.rdm_words.specs.Fixed.{answer_words}
 use Rattle.rdm_words.proofs.Fixed.{same_some}
-use Rattle.rdm_words.proofs.frame_words.put_other.Goals as goal
+use Rattle.rdm_words.proofs.frame.frame_words.put_other.Goals as goal
 
 pub returns-in-Some-clause-answer : goal.returns-in-Some-clause-answer
 returns-in-Some-clause-answer c uid answer =

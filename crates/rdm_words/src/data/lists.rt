@@ -3,11 +3,11 @@
 ghost use Rattle.std.specs.Prelude.{◌<◌};
 
 use crate::Known;
-use crate::form::List;
-use crate::slots::put_slot_info;
-use crate::statuses::{Status, put_status};
+use crate::data::form::List;
+use crate::data::slots::put_slot_info;
+use crate::data::statuses::{Status, put_status};
+use crate::data::values::{put_coded, put_data};
 use crate::tables::parameters::parameter;
-use crate::values::{put_coded, put_data};
 use std::alloc::AllocError;
 use std::fmt::Write;
 
