@@ -11,6 +11,8 @@ import shutil
 import signal
 import socket
 import subprocess
+import sys
+import tempfile
 import time
 
 UID = "7ff0:00000001"
@@ -32,10 +34,35 @@ TIMES_TO_START = 3
 SECONDS_TO_END = 5
 SECONDS_TO_ANSWER = 20
 LOG_LINES = 8
+SIGNALS = (signal.SIGINT, signal.SIGTERM, signal.SIGHUP, signal.SIGALRM)
 
 
 class Fault(Exception):
     """Why the session can't be played."""
+
+
+def end_within(seconds):
+    """Ends this program after so many seconds, or when a signal comes, and with it all that was started. Signals that come while it ends
+    change nothing."""
+    def stop(number, _frame):
+        for other in SIGNALS:
+            signal.signal(other, signal.SIG_IGN)
+        if number == signal.SIGALRM:
+            sys.exit(f"ola: no end within {seconds} s")
+        sys.exit(128 + number)
+
+    for number in SIGNALS:
+        signal.signal(number, stop)
+    signal.alarm(seconds)
+
+
+@contextlib.contextmanager
+def new_room():
+    """A new folder, in which olad reads and writes as another user, and which is removed afterwards."""
+    with tempfile.TemporaryDirectory(prefix="felosumay-ola-") as name:
+        room = pathlib.Path(name)
+        room.chmod(0o755)
+        yield room
 
 
 def run_client(name, *words):
@@ -61,6 +88,11 @@ def olad_listens():
 def finds_fixture():
     """Whether olad has found an interface that speaks RDM."""
     return "RDM supported" in run_client("ola_dev_info")
+
+
+def found_uid():
+    """The UID of the fixture that olad has found on its line, or nothing."""
+    return run_client("ola_rdm_discover", "--universe", UNIVERSE).strip()
 
 
 def wait_until(happened, otherwise, log):
@@ -123,6 +155,7 @@ def start(stack, room, program):
     wait_until(olad_listens, "olad didn't listen", log)
     wait_until(finds_fixture, "olad found no interface that speaks RDM", log)
     run_client("ola_patch", "--device", "1", "--port", "0", "--universe", UNIVERSE)
+    wait_until(found_uid, "olad found no fixture on the line", log)
 
 
 @contextlib.contextmanager

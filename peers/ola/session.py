@@ -1,18 +1,9 @@
-"""Plays the session of steps/ on the fixture through olad, and one slow command at real speed.
-
-    python3 session.py PROGRAM
-
-PROGRAM is the fixture's program. The status is 0 where each step printed what it must, and 1 where one didn't or the session
-couldn't be played.
-"""
-import pathlib
-import signal
+"""Plays the session of steps/ on the fixture through olad, and one slow command at real speed."""
 import sys
-import tempfile
 import time
 
 import steps
-from line import Fault, line
+from line import end_within, line, new_room
 
 # At this speed no job takes longer than a millisecond, so each has ended when the next client asks.
 FAST = ("widget", "--speed", "10000", "--subs", "2")
@@ -75,15 +66,6 @@ def real_step(asked, expected):
     return steps.Step("session.py", "6.3.3 ACK_TIMER at real speed", asked, expected)
 
 
-def stop(number, _frame):
-    """Ends the session when a signal comes, and with it all that was started. Signals that come meanwhile change nothing."""
-    for other in (signal.SIGINT, signal.SIGTERM, signal.SIGHUP, signal.SIGALRM):
-        signal.signal(other, signal.SIG_IGN)
-    if number == signal.SIGALRM:
-        sys.exit(f"ola: no end within {MOST_SECONDS} s")
-    sys.exit(128 + number)
-
-
 def play_all(program, room):
     """Plays everything in this folder."""
     table = steps.all_steps()
@@ -97,23 +79,11 @@ def play_all(program, room):
     return session
 
 
-def main():
-    """Plays the session and tells what came of it."""
+def play(program):
+    """Plays the session on the fixture of this program, tells what came of it, and returns whether each step printed what it must."""
     begun = time.monotonic()
-    for number in (signal.SIGINT, signal.SIGTERM, signal.SIGHUP, signal.SIGALRM):
-        signal.signal(number, stop)
-    signal.alarm(MOST_SECONDS)
-    with tempfile.TemporaryDirectory(prefix="felosumay-ola-") as name:
-        room = pathlib.Path(name)
-        # olad reads and writes in it as another user.
-        room.chmod(0o755)
-        try:
-            session = play_all(sys.argv[1], room)
-        except Fault as fault:
-            sys.exit(f"ola: {fault}")
-    print(f"ola: {session.played} steps in {time.monotonic() - begun:.0f} s, {session.wrong} of them wrong")
-    sys.exit(1 if session.wrong else 0)
-
-
-if __name__ == "__main__":
-    main()
+    end_within(MOST_SECONDS)
+    with new_room() as room:
+        session = play_all(program, room)
+    print(f"ola: {session.played} steps in {time.monotonic() - begun:.0f} s, {session.wrong} of them wrong", flush=True)
+    return session.wrong == 0
