@@ -9,6 +9,8 @@ it ends:
     failed    the reply was another one
     broken    the test couldn't go on
     not-run   the test needs something that the fixture doesn't have
+    warning   what the test holds against the fixture beside that, as a deviation from the standard
+    advisory  the same, of what the standard doesn't forbid
 """
 import collections
 import graphlib
@@ -82,6 +84,13 @@ def ending(test):
     return "absent" if state == "passed" and any(ABSENT in told for told in test.debug) else state
 
 
+def told_of(test):
+    """What a file says of a test: how it ended, and what it holds against the fixture."""
+    return {str(test): ending(test),
+            **{f"{test}: {text}": "warning" for text in test.warnings},
+            **{f"{test}: {text}": "advisory" for text in test.advisories}}
+
+
 def try_fixture(modules, program, options, room):
     """Runs the tests on the fixture with these options, and returns its UID and the tests."""
     words = [str(TOP / word) if (TOP / word).is_file() else word for word in options]
@@ -127,15 +136,15 @@ def check(modules, program, path, room, is_writing):
     expected, comments = read_expected(path)
     begun = time.monotonic()
     uid, tests = try_fixture(modules, program, expected["widget"].split(), room)
-    ends = {str(test): ending(test) for test in tests}
-    said = {"widget": expected["widget"], "uid": uid, **ends}
-    counts = sorted(collections.Counter(ends.values()).items())
+    said = {"widget": expected["widget"], "uid": uid}
+    categories = collections.defaultdict(list)
+    for test in tests:
+        said |= told_of(test)
+        categories[str(test.category)] += told_of(test)
+    counts = sorted(collections.Counter(said[name] for names in categories.values() for name in names).items())
     print(f"ola-tests: {len(tests)} on {path.stem}, {uid}, in {time.monotonic() - begun:.0f} s:",
           ", ".join(f"{count} {end}" for end, count in counts), flush=True)
     if is_writing:
-        categories = collections.defaultdict(list)
-        for test in tests:
-            categories[str(test.category)].append(str(test))
         path.write_text(written(said, comments, categories))
         return []
     return list(differences(path.stem, expected, said, {str(test): test.debug for test in tests}))
