@@ -14,7 +14,7 @@ use Rattle.rdm_params.specs.declared.jobs.outcome.Outcome.{Outcome}
 use Rattle.rdm_params.specs.declared.jobs.outcome.Outcome.TheVariants.{Done, Reading, Failed}
 use Rattle.rdm_params.specs.declared.jobs.status.Severity.{Severity}
 use Rattle.rdm_params.specs.declared.jobs.status.Severity.TheVariants as severity
-use Rattle.rdm_params.specs.Jobs.Severities.{severity_code}
+use Rattle.rdm_params.specs.Jobs.Severities.{severity_code, severity_in}
 use Rattle.rdm_bus.specs.declared.fault.Fault.{Fault}
 use Rattle.rdm_bus.specs.declared.fault.Fault.TheVariants as fault
 use Rattle.rdm_collector.specs.declared.transaction.Heard.{Heard as TheHeard}
@@ -24,7 +24,7 @@ use Rattle.rdm_trace.specs.declared.line.Line.{Line}
 use Rattle.rdm_trace.specs.declared.line.Line.TheVariants.{Send, Reply, Job, Heard, Arrive, Panel, Message, End}
 use Rattle.rdm_trace.specs.LineText.{line_text, word_digits, pair_words, data_words, fault_words, reply_words, job_words, heard_word, status_words, outcome_words, change_words, refused_words, IsBytes, IsWire, IsFault, IsJob, IsOutcome, IsChange, IsLine}
 use Rattle.rdm_trace.specs.Numbers.{number_up_to, signed_in}
-use Rattle.rdm_trace.specs.Reading.{first_word, behind_word, up_to, wire_in, code_in, body_in, lost_in, altered, altered_in, fault_in, request_in, reply_in, heard_in, job_of, job_in, severity_in, failed_in, outcome_in, report_in, label_in, change_in, refused_in, panel_in, message_in, told_by, said_by, line_in}
+use Rattle.rdm_trace.specs.Reading.{first_word, behind_word, up_to, wire_in, code_in, body_in, lost_in, altered, altered_in, fault_in, request_in, reply_in, heard_in, job_of, job_in, failed_in, outcome_in, report_in, label_in, change_in, refused_in, panel_in, message_in, told_by, said_by, line_in}
 use Rattle.rdm_trace.proofs.Cuts.{no_space, first_is, behind_is, first_alone, behind_alone}
 use Rattle.rdm_trace.proofs.Decimals.{decimal_no_space, number_back, signed_back}
 use Rattle.rdm_trace.proofs.HexBack.{digits_no_space, wire_back, code_back, word_back, data_no_space, body_back, digits_not_none}

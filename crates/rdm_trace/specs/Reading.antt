@@ -10,8 +10,7 @@ use Rattle.rdm_params.specs.declared.panel.Change.TheVariants.{Start, Personalit
 use Rattle.rdm_params.specs.declared.jobs.message.Message.{Message as TheMessage}
 use Rattle.rdm_params.specs.declared.jobs.outcome.Outcome.{Outcome}
 use Rattle.rdm_params.specs.declared.jobs.outcome.Outcome.TheVariants.{Done, Reading, Failed}
-use Rattle.rdm_params.specs.declared.jobs.status.Severity.{Severity}
-use Rattle.rdm_params.specs.declared.jobs.status.Severity.TheVariants as severity
+use Rattle.rdm_params.specs.Jobs.Severities.{severity_in}
 use Rattle.rdm_bus.specs.declared.fault.Fault.{Fault}
 use Rattle.rdm_bus.specs.declared.fault.Fault.TheVariants as fault
 use Rattle.rdm_collector.specs.declared.transaction.Heard.{Heard as TheHeard}
@@ -116,17 +115,6 @@ job_of worker number = do
 
 unfoldable pub job_in : List ℕ → Option JobName
 job_in words = job_of (first_word words) (behind_word words)
-
--- the severity with this code
-abbrev pub severity_in : ℕ → Option Severity
-severity_in code =
-    if code == 2 then Some severity.Advisory
-    else (if code == 3 then Some severity.Warning
-    else (if code == 4 then Some severity.Error
-    else (if code == 18 then Some severity.AdvisoryCleared
-    else (if code == 19 then Some severity.WarningCleared
-    else (if code == 20 then Some severity.ErrorCleared
-    else None)))))
 
 -- a status entry: its severity, its ID and its two values
 unfoldable pub failed_in : List ℕ → Option Outcome

@@ -8,7 +8,7 @@ const BEGINNINGS: [&[u8]; 8] = [
 ];
 
 /// Whether the text may be the front of a line of a trace that was cut off, by its first word.
-pub fn may_begin_line(text: &[u8]) -> bool {
+pub(crate) fn may_begin_line(text: &[u8]) -> bool {
     let (word, _) = first_word(text);
     let is_whole = word.len() < text.len();
     BEGINNINGS.iter().any(|beginning| beginning.starts_with(word)

@@ -4,13 +4,8 @@ ghost use Rattle.std.specs.Prelude.{◌≡◌};
 ghost use Rattle.rdm_trace.specs.Reading.{wire_in, code_in, body_in};
 
 use rdm_frame::digits::bytes_in;
+use rdm_frame::standard::{MOST_DATA, MOST_SLOTS};
 use rdm_frame::{Body, Wire};
-
-/// The most bytes of a frame with its checksum.
-const LONGEST: usize = 257;
-
-/// The most bytes of parameter data (E1.20 section 6.2.10).
-const MOST_DATA: usize = 231;
 
 /// The bytes of a frame, two digits each of either case, with spaces or tabs between the bytes or without.
 #[tactic(auto, unfolding(crate::specs::Reading::wire_in, crate::specs::Reading::code_in))]
@@ -27,7 +22,7 @@ pub fn wire_in(text: &[u8]) -> Option<Wire>
         let [high, low, after @ ..] = rest else {
             return None;
         };
-        if bytes.as_slice().len() == LONGEST {
+        if bytes.as_slice().len() == MOST_SLOTS {
             return None;
         }
         bytes.append(&[code_in(&[*high, *low])?]);

@@ -21,7 +21,6 @@ mod text;
 mod words;
 mod writing;
 
-pub use beginnings::may_begin_line;
 pub use digits::wire_in;
 pub use laws::{trace_errors_are_equal_by_value, written_line_is_read_back};
 pub use line::{JobName, Line};

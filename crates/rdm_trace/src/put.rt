@@ -1,11 +1,10 @@
 //! Numbers and bytes are put at the end of a text.
 
 ghost use Rattle.std.specs.Prelude.{◌≡◌, ◌++◌, ◌∷◌, OnOk};
-ghost use Rattle.rdm_frame.specs.Digits.{digits};
 ghost use Rattle.rdm_trace.specs.LineText.{word_digits, pair_words, data_words, status_words};
 
 use itoa::{Buffer, Integer};
-use rdm_frame::digits::digit;
+use rdm_frame::digits::put_digits;
 use rdm_params::Severity;
 use std::alloc::AllocError;
 
@@ -58,14 +57,4 @@ pub(crate) fn put_number<I: Integer>(text: &mut Vec<u8>, number: I) -> Result<()
     ensures { OnOk result (text.new.items ≡ text.old.items ++ I.text number) }
 {
     text.extend_from_slice(Buffer::new().format(number).as_bytes())
-}
-
-/// The digits of bytes, two for each.
-pub(crate) fn put_digits(text: &mut Vec<u8>, bytes: &[u8]) -> Result<(), AllocError>
-    ensures { OnOk result (text.new.items ≡ text.old.items ++ digits bytes.now) }
-{
-    for byte in bytes {
-        text.extend_from_slice(&[digit(byte / 16), digit(byte % 16)])?;
-    }
-    Ok(())
 }

@@ -1,7 +1,7 @@
 //! What a line says of a job.
 
 ghost use Rattle.std.specs.Prelude.{◌≡◌};
-ghost use Rattle.rdm_trace.specs.Reading.{job_in, job_of, outcome_in, failed_in, severity_in, report_in};
+ghost use Rattle.rdm_trace.specs.Reading.{job_in, job_of, outcome_in, failed_in, report_in};
 
 use crate::digits::code_in;
 use crate::words::first_word;
@@ -72,24 +72,9 @@ fn failed_in(words: &[u8]) -> Option<Outcome>
     let (id, rest) = first_word(rest);
     let (first, second) = first_word(rest);
     Some(Outcome::Failed {
-        severity: severity_in(code_in(severity)?)?,
+        severity: Severity::of(code_in(severity)?)?,
         id: word_in(id)?,
         v1: word_in(first)?,
         v2: word_in(second)?,
     })
-}
-
-/// The severity with this code (E1.20 table A-4).
-fn severity_in(code: u8) -> Option<Severity>
-    ensures { result ≡ severity_in code }
-{
-    match code {
-        0x02 => Some(Severity::Advisory),
-        0x03 => Some(Severity::Warning),
-        0x04 => Some(Severity::Error),
-        0x12 => Some(Severity::AdvisoryCleared),
-        0x13 => Some(Severity::WarningCleared),
-        0x14 => Some(Severity::ErrorCleared),
-        _ => None,
-    }
 }

@@ -7,7 +7,8 @@ ghost use Rattle.rdm_trace.specs.LineText.{whole_line, lines_text};
 ghost use Rattle.rdm_trace.specs.Traces.{line_of, is_line, pieces_of, lines_said, AreWhole, IsFirstUnread};
 ghost use Rattle.rdm_trace.specs.declared.text.TraceError.TheVariants.{OutOfMemory};
 
-use crate::{Line, may_begin_line, put_line, read};
+use crate::beginnings::may_begin_line;
+use crate::{Line, put_line, read};
 use rdm_streams::{line_end, without_return};
 use std::alloc::{AllocError, AllocFailed, Global};
 use thiserror::Error;

@@ -5,11 +5,12 @@ ghost use Rattle.rdm_frame.specs.Digits.{digits};
 ghost use Rattle.rdm_trace.specs.LineText.{whole_line, line_text, fault_words, reply_words, job_words, heard_word, outcome_words, change_words, refused_words, pair_words};
 ghost use Rattle.rdm_trace.specs.declared.line.Line.TheVariants.{Message as TheMessage};
 
-use crate::put::{put_data, put_digits, put_number, put_pair, put_status, put_word};
+use crate::put::{put_data, put_number, put_pair, put_status, put_word};
 use crate::{JobName, Line};
 use rdm_bus::Fault;
 use rdm_collector::Heard;
 use rdm_frame::Wire;
+use rdm_frame::digits::put_digits;
 use rdm_params::{Change, Message, Outcome};
 use std::alloc::AllocError;
 

@@ -24,6 +24,6 @@ loop-rest-preserved c =
     let byte = c.in_ok-code_in.field-0 in
     let read = sym c.code_in.ensures ∙ c.in_ok-code_in.was in
     rw c.append.ensures (record {
-      bytes = behind_byte front rest byte c.in-len2-up.len_at_least c.if-first-eq32.false c.if-first-eq9.false c.loop-rest.invariant.room (λ e. c.if-as_slice-eq-LONGEST.false (ap length c.as_slice.ensures.value ∙ e)) read ∙ c.loop-rest.invariant.bytes;
-      room = omega (arith, length-append front (byte ∷ []), c.loop-rest.invariant.room, c.if-as_slice-eq-LONGEST.false, ap length c.as_slice.ensures.value);
+      bytes = behind_byte front rest byte c.in-len2-up.len_at_least c.if-first-eq32.false c.if-first-eq9.false c.loop-rest.invariant.room (λ e. c.if-as_slice-eq-MOST_SLOTS.false (ap length c.as_slice.ensures.value ∙ e)) read ∙ c.loop-rest.invariant.bytes;
+      room = omega (arith, length-append front (byte ∷ []), c.loop-rest.invariant.room, c.if-as_slice-eq-MOST_SLOTS.false, ap length c.as_slice.ensures.value);
     })
