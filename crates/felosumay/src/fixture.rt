@@ -2,13 +2,14 @@
 
 use crate::fault::Fault;
 use crate::host::Host;
-use crate::source::{OUTPUT, Source};
-use crate::{telling, usage};
+use crate::source::{Source, print};
+use crate::usage;
 use clap::ArgMatches;
 use rdm_device::Profile;
 use rdm_fixture::Fixture;
 use rdm_frame::Uid;
 use rdm_outcomes::demo_rules;
+use rdm_words::put_fixture;
 use std::str;
 
 /// How many bytes a fixture file may have: 1 MiB.
@@ -24,10 +25,10 @@ const DEVICE: Uid = Uid {
 pub fn run<'a, H: Host>(rt: H, asked: &ArgMatches<'a>) -> Result<(), Fault<'a>> {
     let source = Source::named(asked.get_str(usage::INPUT));
     let fixture = FixtureFile::read(rt, source)?.fixture(rt)?;
-    match telling::tell(&rt, &fixture) {
-        Ok(()) => Ok(()),
-        Err(error) => Err(Fault::Io(OUTPUT, error)),
-    }
+    let mut words = Vec::new(rt.alloc());
+    let rules = fixture.outcomes.as_slice();
+    put_fixture(&mut words, fixture.uid, &fixture.profile, rules)?;
+    print(rt, words.as_slice())
 }
 
 /// The fixture of the file that is asked for, or the demonstration fixture without sub-devices.

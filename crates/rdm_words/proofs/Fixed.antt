@@ -1,25 +1,27 @@
 -- Words that are fixed are plain, and so they are written as they are.
-use Rattle.std.proofs.Common.{◌≡◌, ◌≢◌, ℕ, suc, ◌+◌, ◌/◌, ◌%◌, ◌<◌, ◌^◌, ◌==◌, Bool, true, false, ◌&&◌, List, [], ◌∷◌, ◌++◌, Option, Some, None, codes, decimal, slice_index, length, drop, Result, Ok, Err, OnOk, refl, sym, ap, subst, ◌∙◌, arith, append_assoc, inl, inr}
+use Rattle.std.proofs.Common.{◌≡◌, ◌≢◌, ℕ, zero, suc, ◌+◌, ◌/◌, ◌%◌, ◌<◌, ◌^◌, Bool, true, false, ◌&&◌, List, [], ◌∷◌, ◌++◌, Option, Some, None, codes, decimal, slice_index, length, Result, Ok, Err, OnOk, refl, sym, ap, subst, ◌∙◌, arith, append_assoc, inl, inr}
 use Rattle.std.specs.List.{AllByRecursion, list_all}
 use Rattle.std.specs.Int.{w16, w32, to_be_bytes}
+use Rattle.std.specs.Str.{IsAscii}
+use Rattle.std.proofs.lemmas.Str.Ascii.{IsAscii-nil}
 use Rattle.std.proofs.lemmas.Bool.Decides.{nat_tests}
 use Rattle.std.proofs.lemmas.Fmt.{decimal_by_steps}
 use Rattle.std.proofs.lemmas.List.{length-drop}
 use Rattle.rdm_frame.specs.declared.decoding.FrameError.{FrameError}
 use Rattle.rdm_frame.specs.declared.decoding.FrameError.TheVariants.{Short, Start, SubStart, Length, Pdl, Checksum}
 use Rattle.rdm_frame.specs.declared.uid.Uid.{Uid}
-use Rattle.rdm_frame.specs.Digits.{digit, digits}
+use Rattle.rdm_frame.specs.Digits.{digits}
 use Rattle.rdm_frame.specs.Discovery.{branch_reply, IsBranchReply}
 use Rattle.rdm_frame.specs.Reading.{IsFirstFault}
 use Rattle.rdm_bus.specs.declared.fault.Fault.{Fault}
 use Rattle.rdm_collector.specs.declared.transaction.Heard.{Heard as TheHeard}
 use Rattle.rdm_collector.specs.declared.transaction.Heard.TheVariants as heard
 use Rattle.rdm_trace.specs.declared.line.Line.{Line}
-use Rattle.rdm_trace.specs.declared.line.Line.TheVariants.{Send, Reply, Job, Heard, Arrive, Panel, Message, End}
+use Rattle.rdm_trace.specs.declared.line.Line.TheVariants.{Send, Reply}
 use Rattle.rdm_words.specs.Plain.{is_plain, IsPlain, IsFixed, shown_byte, shown}
 use Rattle.rdm_words.specs.Fixed.{cause_words, stray_words, answer_words, raised_words, fault_line, heard_words, job_words, IsAnswerOf, AreWordsOfBytes, AreWordsOfLine}
 use Rattle.rdm_words.specs.Said.{Tells}
-use Rattle.rdm_words.proofs.Plainness.{plain_append, digit_plain, told_line}
+use Rattle.rdm_words.proofs.Plainness.{plain_append, digit_plain, digit_small, told_line}
 
 -- ---- texts that are plain
 
@@ -45,6 +47,18 @@ plain_hex [] fits = tt
 plain_hex (b ∷ bytes) fits =
     let h : b < 256 = fits.0 in
     (digit_plain (b / 16) (omega arith), (digit_plain (b % 16) (omega arith), plain_hex bytes fits.1))
+
+pub ascii_digits : (bytes : List ℕ) → AreBytes bytes → IsAscii (digits bytes)
+ascii_digits [] fits = IsAscii-nil
+ascii_digits (b ∷ bytes) fits = by (ascii_digits bytes fits.1)
+  where
+    by : IsAscii (digits bytes) → (i : ℕ) → slice_index (digits (b ∷ bytes)) i < 128
+    by more zero = let h : b < 256 = fits.0 in digit_small (b / 16) (omega arith)
+    by more (suc zero) = let h : b < 256 = fits.0 in digit_small (b % 16) (omega arith)
+    by more (suc (suc i)) = more i
+
+pub ascii_hex : (bytes : List ℕ) → ((i : ℕ) → slice_index bytes i < 256) → IsAscii (digits bytes)
+ascii_hex bytes fits = ascii_digits bytes (each_fits bytes fits)
 
 ten_plain : (n : ℕ) → n < 10 → is_plain (48 + n) ≡ true
 ten_plain n h = grind (arith, nat_tests)

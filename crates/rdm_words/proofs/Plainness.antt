@@ -1,6 +1,7 @@
 -- What is written is plain, and an escaped text is read back.
-use Rattle.std.proofs.Common.{◌≡◌, ◌≢◌, ℕ, ◌+◌, ◌*◌, ◌/◌, ◌%◌, ◌<◌, ◌==◌, Bool, true, false, cond, ◌||◌, List, [], ◌∷◌, ◌++◌, length, Option, Some, None, codes, refl, sym, subst, ap, ◌∙◌, arith}
-use Rattle.std.specs.List.{AllByRecursion}
+use Rattle.std.proofs.Common.{◌≡◌, ◌≢◌, ℕ, ◌/◌, ◌%◌, ◌<◌, ◌==◌, Bool, true, false, cond, ◌||◌, List, [], ◌∷◌, ◌++◌, length, Option, Some, None, codes, refl, sym, subst, arith}
+use Rattle.std.specs.Str.{IsAscii, IsUtf8}
+use Rattle.std.proofs.lemmas.Str.{IsUtf8-from_ascii}
 use Rattle.std.proofs.lemmas.Bool.Decides.{nat_tests}
 use Rattle.rdm_frame.specs.Digits.{digit}
 use Rattle.rdm_words.specs.Plain.{is_printable, is_plain, IsPlain, by_digits, shown_byte, shown, escaped_byte, escaped}
@@ -22,6 +23,9 @@ digit_plain n h = grind (arith, nat_tests)
 
 pub digit_small : (n : ℕ) → n < 16 → digit n < 128
 digit_small n h = grind (arith, nat_tests)
+
+pub ascii_is_text : (bytes : List ℕ) → IsAscii bytes → IsUtf8 bytes
+ascii_is_text bytes h = IsUtf8-from_ascii bytes h
 
 plain_digits : (b : ℕ) → IsPlain (by_digits b)
 plain_digits b = (refl, (refl, (digit_plain (b % 256 / 16) (omega arith), (digit_plain (b % 256 % 16) (omega arith), tt))))

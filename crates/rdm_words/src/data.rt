@@ -1,12 +1,11 @@
-//! The words of parameter data: how they are laid out, and what each of their fields says.
+//! The words of parameter data: what their slots are, and how each is said.
 
-pub(crate) mod device_info;
-pub(crate) mod discovery;
 pub(crate) mod form;
 pub(crate) mod known;
 pub(crate) mod layout;
 pub(crate) mod lists;
+pub(crate) mod meanings;
+pub(crate) mod records;
 pub(crate) mod sensors;
-pub(crate) mod slots;
 pub(crate) mod statuses;
 pub(crate) mod values;

@@ -7,6 +7,7 @@
 #![tactic(auto)]
 
 mod data;
+mod fixture;
 mod frame;
 mod laws;
 mod line_words;
@@ -15,6 +16,7 @@ mod text;
 mod trace_words;
 
 pub use data::known::Known;
+pub use fixture::put_fixture;
 pub use frame::short::{put_reply_words, put_request_words};
 pub use laws::{escaped_text_is_read_back, what_is_said_is_plain};
 pub use line_words::{put_line_words, words, words_of_lines};

@@ -1,5 +1,5 @@
-//! The tables of the standard (ANSI E1.20-2010, appendices A to C), each a function from the number to its words: the
-//! standard's own name without its prefix. `None` is where a table has no name, as for a manufacturer's own numbers.
+//! The tables of the standard (ANSI E1.20-2010, appendices A to C), each a list of numbers with their words: the standard's
+//! own names without their prefixes. Some of a manufacturer's own numbers have no name there.
 
 pub mod parameters;
 pub mod products;
@@ -8,3 +8,19 @@ pub mod sensors;
 pub mod settings;
 pub mod slots;
 pub mod statuses;
+
+/// A table of the standard: numbers, each with its words.
+#[derive(Clone, Copy)]
+pub struct Table(pub(crate) &'static [(u32, &'static str)]);
+
+impl Table {
+    /// The words of a number, or `None` if the table has none for it.
+    pub fn name(self, number: u32) -> Option<&'static str> {
+        for row in self.0 {
+            if row.0 == number {
+                return Some(row.1);
+            }
+        }
+        None
+    }
+}

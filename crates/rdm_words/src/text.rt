@@ -1,20 +1,32 @@
 //! Bytes as text.
 
-ghost use Rattle.std.specs.Prelude.{◌≡◌, ◌/◌, ◌%◌, [], ◌∷◌, ◌++◌, OnOk, string_bytes};
-ghost use Rattle.rdm_frame.specs.Digits.{digit, digits};
+ghost use Rattle.std.specs.Prelude.{◌≡◌, ◌++◌, OnOk, string_bytes};
+ghost use Rattle.std.specs.Str.{IsAscii};
+ghost use Rattle.rdm_frame.specs.Digits.{digits};
 ghost use Rattle.rdm_words.specs.Plain.{is_printable, is_of_tables, is_plain, by_digits, shown_byte, shown, escaped_byte, escaped};
 
-use rdm_frame::digits::digit;
+use rdm_frame::digits::{digit, put_digits};
 use std::alloc::AllocError;
+use std::str;
 
 /// The bytes in hexadecimal digits.
 pub(crate) fn put_hex(text: &mut String, bytes: &[u8]) -> Result<(), AllocError>
     ensures { OnOk result (string_bytes text.new ≡ string_bytes text.old ++ digits bytes.now) }
 {
-    for byte in bytes {
-        put_byte(text, *byte)?;
+    let mut shown = Vec::new(*text.allocator());
+    put_digits(&mut shown, bytes)?;
+    put_ascii(text, shown.as_slice())
+}
+
+/// Characters of ASCII. Nothing else is handed in.
+#[tactic(auto, using(crate::proofs::Plainness::ascii_is_text))]
+fn put_ascii(text: &mut String, characters: &[u8]) -> Result<(), AllocError>
+    ensures { IsAscii characters.now → OnOk result (string_bytes text.new ≡ string_bytes text.old ++ characters.now) }
+{
+    match str::from_utf8(characters) {
+        Ok(characters) => text.push_str(characters),
+        Err(_) => Ok(()),
     }
-    Ok(())
 }
 
 /// The bytes as a text of the fixture, in quotes.
@@ -28,10 +40,7 @@ pub(crate) fn put_quoted(text: &mut String, bytes: &[u8]) -> Result<(), AllocErr
 pub(crate) fn put_foreign(text: &mut String, bytes: &[u8]) -> Result<(), AllocError> {
     let mut shown = Vec::new(*text.allocator());
     put_escaped(&mut shown, bytes)?;
-    for byte in &shown {
-        text.push(char::from(*byte))?;
-    }
-    Ok(())
+    put_ascii(text, shown.as_slice())
 }
 
 /// The bytes as text: a byte that is no printable ASCII character stands as `\x` and its digits, and a quote or a backslash
@@ -109,12 +118,4 @@ fn is_of_tables(byte: u8) -> bool
         || byte == 0xB5
         || byte == 0xCE
         || byte == 0xA9
-}
-
-#[tactic(auto, using(crate::proofs::Plainness::digit_small))]
-fn put_byte(text: &mut String, byte: u8) -> Result<(), AllocError>
-    ensures { OnOk result (string_bytes text.new ≡ string_bytes text.old ++ digit (byte / 16) ∷ digit (byte % 16) ∷ []) }
-{
-    text.push(char::from(digit(byte / 16)))?;
-    text.push(char::from(digit(byte % 16)))
 }

@@ -7,7 +7,7 @@ ghost use Rattle.rdm_words.specs.Plain.{IsFixed, IsPlain};
 use crate::Known;
 use crate::data::layout::layout_of;
 use crate::data::statuses::{Status, put_failure};
-use crate::frame::class::Class;
+use crate::frame::class::{Class, put_class};
 use crate::frame::frame_words::{put_bytes_words, put_data_lines};
 use crate::frame::header::put_parameter;
 use crate::frame::place::put_place;
@@ -109,7 +109,6 @@ fn put_outcome(text: &mut String, outcome: Outcome, known: &Known<'_>) -> Result
         } => {
             text.push_str(" has failed: ")?;
             let status = Status {
-                sub: 0,
                 severity: severity.code(),
                 id,
                 first: v1,
@@ -140,21 +139,14 @@ fn put_panel(text: &mut String, change: &Change, refused: bool) -> Result<(), Al
 /// A message that the controller recorded.
 fn put_message(text: &mut String, message: &Message, known: &Known<'_>) -> Result<(), AllocError> {
     text.push_str("recorded: ")?;
-    let class = Class::of(message.class);
-    match class {
-        Some(class) => text.push_str(class.name())?,
-        None => {
-            let code = message.class;
-            write!(text, "command class {code:02X}")?;
-        }
-    }
+    put_class(text, message.class)?;
     text.push(' ')?;
     put_parameter(text, message.pid)?;
     text.push_str(", ")?;
     put_place(text, message.sub)?;
     put_data_lines(
         text,
-        layout_of(class, message.pid),
+        layout_of(Class::of(message.class), message.pid),
         message.body.as_slice(),
         known,
     )

@@ -1,54 +1,26 @@
 //! How parameter data are laid out.
 
-/// The layout of parameter data, by the section of the standard that has the parameter.
+use crate::tables::Table;
+
+/// What stands before the words of the data, if their words don't say what they are, and how they are laid out.
+#[derive(Clone, Copy)]
+pub(crate) struct Layout(pub(crate) &'static str, pub(crate) Form);
+
+/// The layout of parameter data.
 #[derive(Clone, Copy)]
 pub(crate) enum Form {
     /// No data.
     Nothing,
-    /// A text of up to 32 characters.
-    Text,
-    /// An 8-bit number.
-    Number,
-    /// A 32-bit number that counts.
-    Count,
-    /// A 32-bit version.
-    Version,
-    /// An 8-bit number of a table.
-    Code(Codes),
-    /// A list.
-    List(List),
+    /// A number of this table, of one slot.
+    Code(Table),
+    /// These fields.
+    Fields(Record),
+    /// The fields of the first record, of which the second one is said in a picture.
+    InShort(Record, Record),
     /// Languages, of two letters each (sections 10.5.7 and 10.5.8).
     Languages,
-    /// What a device is (section 10.5.1).
-    DeviceInfo,
-    /// A status ID (section 10.3.3).
-    StatusId,
-    /// The current personality and how many there are (section 10.6.1).
-    Personality,
-    /// A personality with its footprint and its text (section 10.6.2).
-    PersonalityText,
-    /// A start address (section 10.6.3).
-    StartAddress,
-    /// The number of a slot.
-    Slot,
-    /// A slot with its text (section 10.6.5).
-    SlotText,
-    /// The number of a sensor, or all of them (sections 10.7.1 to 10.7.3).
-    Sensor,
-    /// What a sensor measures (section 10.7.1).
-    SensorDefinition,
-    /// What a sensor has measured (section 10.7.2).
-    SensorValue,
-    /// The number of a self test, none or all of them (section 10.11).
-    SelfTest,
-    /// A self test with its text (section 10.11).
-    SelfTestText,
-    /// A preset and its level (section 10.11).
-    Preset,
-    /// Between which UIDs devices are looked for (section 7.5).
-    Branch,
-    /// What a device says of itself that is muted, or no longer (section 7.6).
-    Muted,
+    /// A list.
+    List(List),
 }
 
 /// What a list has for entries.
@@ -64,30 +36,73 @@ pub(crate) enum List {
     SlotDefaults,
 }
 
-/// A table of 8-bit numbers.
+/// Fields, in the order in which they are said, and how many slots there are.
 #[derive(Clone, Copy)]
-pub(crate) enum Codes {
-    /// Whether something is on.
-    Switch,
-    /// Whether something is so.
-    Truth,
-    /// Whether a display is inverted (section 10.9).
-    DisplayInvert,
-    /// Status types (table A-4).
-    StatusType,
-    /// States of a lamp (table A-8).
-    LampState,
-    /// When a lamp is switched on (table A-9).
-    LampOnMode,
-    /// Power states (table A-11).
-    PowerState,
+pub(crate) enum Record {
+    /// Exactly so many.
+    Exactly(usize, &'static [Field]),
+    /// So many, and a text or whatever else fills the rest.
+    AtLeast(usize, &'static [Field]),
 }
 
-/// What stands before the words of the data, and the layout of these.
+/// A field: the words before it, its first slot, how many slots it has, and what they are.
 #[derive(Clone, Copy)]
-pub(crate) struct Layout {
-    /// What the data are, or nothing where their words say it.
-    pub(crate) noun: &'static str,
-    /// The layout.
-    pub(crate) form: Form,
+pub(crate) struct Field(
+    pub(crate) &'static str,
+    pub(crate) u8,
+    pub(crate) u8,
+    pub(crate) Value,
+);
+
+/// How many slots a field has that ends with the data.
+pub(crate) const REST: u8 = u8::MAX;
+
+/// What the slots of a field are.
+#[derive(Clone, Copy)]
+pub(crate) enum Value {
+    /// A number that counts.
+    Number,
+    /// Hexadecimal digits.
+    Digits,
+    /// A text.
+    Text,
+    /// A number of this table.
+    Code(Table),
+    /// A number that counts, behind these words; but those of this table have names.
+    Counted(&'static str, Table),
+    /// What only some parameters have.
+    Other(Meaning),
+}
+
+/// What slots are that only some parameters have.
+#[derive(Clone, Copy)]
+pub(crate) enum Meaning {
+    /// A number that measures, with a sign.
+    Signed,
+    /// A UID.
+    Uid,
+    /// The number of a parameter.
+    Parameter,
+    /// A sub-device.
+    Place,
+    /// A status ID that was said, and here is what it means (section 10.3.3).
+    StatusText,
+    /// What a status message tells, but for its sub-device (section 10.3.2).
+    Failure,
+    /// What a slot is for: its type and its label ID (section 10.6.4).
+    SlotUse,
+    /// Unit, prefix and range of what a sensor measures (section 10.7.1).
+    Measures,
+    /// A range of values (section 10.7.1).
+    Range,
+    /// Which values a sensor keeps: bit 0 is the recorded one, bit 1 the lowest and the highest (section 10.7.1).
+    Support,
+    /// The number of a sensor that was said, and what it measures now (section 10.7.2).
+    Measured,
+    /// A scene of PRESET_PLAYBACK (section 10.11).
+    Scene,
+    /// The flags of a control field (section 7.6).
+    Flags,
+    /// The binding UID, if there is one (section 7.6).
+    Binding,
 }

@@ -1,39 +1,37 @@
 //! Which data a parameter has in its requests and in its replies (E1.20 section 10).
 
-use crate::data::form::{Codes, Form, Layout, List};
+use crate::data::form::{Form, Layout, List};
+use crate::data::records::{
+    BRANCH, COUNT, DEVICE_INFO, MUTED, NUMBER, PERSONALITY, PERSONALITY_TEXT, PRESET, PRODUCT,
+    SELF_TEST, SELF_TEST_TEXT, SENSOR, SENSOR_DEFINITION, SENSOR_NAME, SENSOR_VALUE, SLOT,
+    SLOT_TEXT, START_ADDRESS, STATUS_ID, TEXT, VERSION,
+};
 use crate::frame::class::Class;
+use crate::tables::settings::{
+    DISPLAY_INVERSIONS, LAMP_ON_MODES, LAMP_STATES, POWER_STATES, SWITCHES, TRUTHS,
+};
+use crate::tables::statuses::STATUS_TYPES;
 use rdm_frame::standard::{DISC_MUTE, DISC_UN_MUTE, DISC_UNIQUE_BRANCH};
 use rdm_params::{Kind, kind_of};
 
 /// No data, or data that are shown as they are.
-const NOTHING: Layout = Layout {
-    noun: "",
-    form: Form::Nothing,
-};
+const NOTHING: Layout = Layout("", Form::Nothing);
 
-/// The data of a parameter in frames of a command class. Where the class or the parameter isn't known there is
+/// The data of a parameter in frames of a command class. If the class or the parameter isn't known there is
 /// no layout, and the data are shown as they are.
 pub(crate) fn layout_of(class: Option<Class>, pid: u16) -> Layout {
     let Some(class) = class else {
         return NOTHING;
     };
-    let Some(kind) = kind_of(pid) else {
-        return discovery_layout(class, pid);
-    };
-    match class {
-        Class::Get => get_layout(kind),
-        Class::GetResponse => get_reply_layout(kind),
-        Class::Set => set_layout(kind),
-        Class::SetResponse => set_reply_layout(kind),
-        Class::Discovery | Class::DiscoveryResponse => NOTHING,
-    }
-}
-
-/// The data of a discovery command (section 7).
-fn discovery_layout(class: Class, pid: u16) -> Layout {
-    match (class, pid) {
-        (Class::Discovery, DISC_UNIQUE_BRANCH) => plain(Form::Branch),
-        (Class::DiscoveryResponse, DISC_MUTE | DISC_UN_MUTE) => plain(Form::Muted),
+    match (class, kind_of(pid)) {
+        (Class::Get, Some(kind)) => get_layout(kind),
+        (Class::GetResponse, Some(kind)) => get_reply_layout(kind),
+        (Class::Set, Some(kind)) => set_layout(kind),
+        (Class::SetResponse, Some(Kind::SensorValue)) => Layout("", Form::Fields(SENSOR_VALUE)),
+        (Class::Discovery, None) if pid == DISC_UNIQUE_BRANCH => Layout("", Form::Fields(BRANCH)),
+        (Class::DiscoveryResponse, None) if pid == DISC_MUTE || pid == DISC_UN_MUTE => {
+            Layout("", Form::Fields(MUTED))
+        }
         _ => NOTHING,
     }
 }
@@ -41,12 +39,15 @@ fn discovery_layout(class: Class, pid: u16) -> Layout {
 /// The data of a GET.
 fn get_layout(kind: Kind) -> Layout {
     match kind {
-        Kind::QueuedMessage | Kind::StatusMessages => code("status type", Codes::StatusType),
-        Kind::StatusIdDescription => plain(Form::StatusId),
-        Kind::DmxPersonalityDescription => named("personality", Form::Number),
-        Kind::SlotDescription => plain(Form::Slot),
-        Kind::SensorDefinition | Kind::SensorValue => plain(Form::Sensor),
-        Kind::SelfTestDescription => plain(Form::SelfTest),
+        Kind::QueuedMessage | Kind::StatusMessages => Layout(
+            "status type",
+            Form::Code(STATUS_TYPES),
+        ),
+        Kind::StatusIdDescription => Layout("", Form::Fields(STATUS_ID)),
+        Kind::DmxPersonalityDescription => Layout("personality", Form::Fields(NUMBER)),
+        Kind::SlotDescription => Layout("", Form::Fields(SLOT)),
+        Kind::SensorDefinition | Kind::SensorValue => Layout("", Form::Fields(SENSOR)),
+        Kind::SelfTestDescription => Layout("", Form::Fields(SELF_TEST)),
         _ => NOTHING,
     }
 }
@@ -55,37 +56,29 @@ fn get_layout(kind: Kind) -> Layout {
 fn set_layout(kind: Kind) -> Layout {
     match kind {
         Kind::FactoryDefaults | Kind::ClearStatusId => NOTHING,
-        Kind::DmxPersonality => named("personality", Form::Number),
-        Kind::SensorValue | Kind::RecordSensors => plain(Form::Sensor),
-        Kind::PerformSelfTest => plain(Form::SelfTest),
+        Kind::DmxPersonality => Layout("personality", Form::Fields(NUMBER)),
+        Kind::SensorValue | Kind::RecordSensors => Layout("", Form::Fields(SENSOR)),
+        Kind::PerformSelfTest => Layout("", Form::Fields(SELF_TEST)),
         _ => value_layout(kind),
-    }
-}
-
-/// The data of a response to a SET: none but of SENSOR_VALUE.
-fn set_reply_layout(kind: Kind) -> Layout {
-    match kind {
-        Kind::SensorValue => plain(Form::SensorValue),
-        _ => NOTHING,
     }
 }
 
 /// The data of a response to a GET.
 fn get_reply_layout(kind: Kind) -> Layout {
     match kind {
-        Kind::FactoryDefaults => code("factory defaults in use", Codes::Truth),
-        Kind::DmxPersonality => plain(Form::Personality),
-        Kind::PerformSelfTest => code("self test active", Codes::Truth),
-        Kind::StatusMessages => plain(Form::List(List::Statuses)),
-        Kind::SupportedParameters => plain(Form::List(List::Parameters)),
-        Kind::DeviceInfo => plain(Form::DeviceInfo),
-        Kind::DmxPersonalityDescription => plain(Form::PersonalityText),
-        Kind::SlotInfo => plain(Form::List(List::Slots)),
-        Kind::SlotDescription => plain(Form::SlotText),
-        Kind::DefaultSlotValue => plain(Form::List(List::SlotDefaults)),
-        Kind::SensorDefinition => plain(Form::SensorDefinition),
-        Kind::SensorValue => plain(Form::SensorValue),
-        Kind::SelfTestDescription => plain(Form::SelfTestText),
+        Kind::FactoryDefaults => Layout("factory defaults in use", Form::Code(TRUTHS)),
+        Kind::DmxPersonality => Layout("", Form::Fields(PERSONALITY)),
+        Kind::PerformSelfTest => Layout("self test active", Form::Code(TRUTHS)),
+        Kind::StatusMessages => Layout("", Form::List(List::Statuses)),
+        Kind::SupportedParameters => Layout("", Form::List(List::Parameters)),
+        Kind::DeviceInfo => Layout("", Form::InShort(DEVICE_INFO, PRODUCT)),
+        Kind::DmxPersonalityDescription => Layout("", Form::Fields(PERSONALITY_TEXT)),
+        Kind::SlotInfo => Layout("", Form::List(List::Slots)),
+        Kind::SlotDescription => Layout("", Form::Fields(SLOT_TEXT)),
+        Kind::DefaultSlotValue => Layout("", Form::List(List::SlotDefaults)),
+        Kind::SensorDefinition => Layout("", Form::InShort(SENSOR_DEFINITION, SENSOR_NAME)),
+        Kind::SensorValue => Layout("", Form::Fields(SENSOR_VALUE)),
+        Kind::SelfTestDescription => Layout("", Form::Fields(SELF_TEST_TEXT)),
         _ => value_layout(kind),
     }
 }
@@ -93,22 +86,22 @@ fn get_reply_layout(kind: Kind) -> Layout {
 /// The value of a parameter, where a GET reads it as a SET writes it.
 fn value_layout(kind: Kind) -> Layout {
     match kind {
-        Kind::StatusIdDescription => named("status text", Form::Text),
-        Kind::DeviceModelDescription => named("device model description", Form::Text),
-        Kind::ManufacturerLabel => named("manufacturer label", Form::Text),
-        Kind::DeviceLabel => named("device label", Form::Text),
-        Kind::SoftwareVersionLabel => named("software version label", Form::Text),
-        Kind::BootSoftwareVersionLabel => named("boot software version label", Form::Text),
-        Kind::BootSoftwareVersionId => named("boot software version ID", Form::Version),
-        Kind::LanguageCapabilities => named("languages", Form::Languages),
-        Kind::Language => named("language", Form::Languages),
-        Kind::DmxStartAddress => named("DMX start address", Form::StartAddress),
-        Kind::DeviceHours => named("device hours", Form::Count),
-        Kind::LampHours => named("lamp hours", Form::Count),
-        Kind::LampStrikes => named("lamp strikes", Form::Count),
-        Kind::DevicePowerCycles => named("device power cycles", Form::Count),
-        Kind::DisplayLevel => named("display level", Form::Number),
-        Kind::PresetPlayback => plain(Form::Preset),
+        Kind::StatusIdDescription => Layout("status text", Form::Fields(TEXT)),
+        Kind::DeviceModelDescription => Layout("device model description", Form::Fields(TEXT)),
+        Kind::ManufacturerLabel => Layout("manufacturer label", Form::Fields(TEXT)),
+        Kind::DeviceLabel => Layout("device label", Form::Fields(TEXT)),
+        Kind::SoftwareVersionLabel => Layout("software version label", Form::Fields(TEXT)),
+        Kind::BootSoftwareVersionLabel => Layout("boot software version label", Form::Fields(TEXT)),
+        Kind::BootSoftwareVersionId => Layout("boot software version ID", Form::Fields(VERSION)),
+        Kind::LanguageCapabilities => Layout("languages", Form::Languages),
+        Kind::Language => Layout("language", Form::Languages),
+        Kind::DmxStartAddress => Layout("DMX start address", Form::Fields(START_ADDRESS)),
+        Kind::DeviceHours => Layout("device hours", Form::Fields(COUNT)),
+        Kind::LampHours => Layout("lamp hours", Form::Fields(COUNT)),
+        Kind::LampStrikes => Layout("lamp strikes", Form::Fields(COUNT)),
+        Kind::DevicePowerCycles => Layout("device power cycles", Form::Fields(COUNT)),
+        Kind::DisplayLevel => Layout("display level", Form::Fields(NUMBER)),
+        Kind::PresetPlayback => Layout("", Form::Fields(PRESET)),
         _ => code_layout(kind),
     }
 }
@@ -116,33 +109,18 @@ fn value_layout(kind: Kind) -> Layout {
 /// The same of a parameter whose value is a number of a table.
 fn code_layout(kind: Kind) -> Layout {
     match kind {
-        Kind::SubDeviceStatusReportThreshold => code("report threshold", Codes::StatusType),
-        Kind::LampState => code("lamp state", Codes::LampState),
-        Kind::LampOnMode => code("lamp on mode", Codes::LampOnMode),
-        Kind::DisplayInvert => code("display invert", Codes::DisplayInvert),
-        Kind::PanInvert => code("pan invert", Codes::Switch),
-        Kind::TiltInvert => code("tilt invert", Codes::Switch),
-        Kind::PanTiltSwap => code("pan/tilt swap", Codes::Switch),
-        Kind::IdentifyDevice => code("identify device", Codes::Switch),
-        Kind::PowerState => code("power state", Codes::PowerState),
+        Kind::SubDeviceStatusReportThreshold => Layout(
+            "report threshold",
+            Form::Code(STATUS_TYPES),
+        ),
+        Kind::LampState => Layout("lamp state", Form::Code(LAMP_STATES)),
+        Kind::LampOnMode => Layout("lamp on mode", Form::Code(LAMP_ON_MODES)),
+        Kind::DisplayInvert => Layout("display invert", Form::Code(DISPLAY_INVERSIONS)),
+        Kind::PanInvert => Layout("pan invert", Form::Code(SWITCHES)),
+        Kind::TiltInvert => Layout("tilt invert", Form::Code(SWITCHES)),
+        Kind::PanTiltSwap => Layout("pan/tilt swap", Form::Code(SWITCHES)),
+        Kind::IdentifyDevice => Layout("identify device", Form::Code(SWITCHES)),
+        Kind::PowerState => Layout("power state", Form::Code(POWER_STATES)),
         _ => NOTHING,
-    }
-}
-
-/// Data whose words say what they are.
-fn plain(form: Form) -> Layout {
-    Layout { noun: "", form }
-}
-
-/// Data of this name.
-fn named(noun: &'static str, form: Form) -> Layout {
-    Layout { noun, form }
-}
-
-/// A number of a table.
-fn code(noun: &'static str, codes: Codes) -> Layout {
-    Layout {
-        noun,
-        form: Form::Code(codes),
     }
 }

@@ -3,15 +3,13 @@
 ghost use Rattle.std.specs.Prelude.{◌<◌};
 
 use crate::Known;
-use crate::data::form::List;
-use crate::data::slots::put_slot_info;
-use crate::data::statuses::{Status, put_status};
-use crate::data::values::{put_coded, put_data};
-use crate::tables::parameters::parameter;
+use crate::data::form::{List, Record};
+use crate::data::records::{SLOT_DEFAULT, SLOT_INFO, STATUS, SUPPORTED};
+use crate::data::values::put_record;
 use std::alloc::AllocError;
 use std::fmt::Write;
 
-/// The entries of a list, each on a line of its own.
+/// The entries of a list, each on a line of its own. Of one that is cut off, the data are shown.
 pub(crate) fn put_entries(
     text: &mut String,
     list: List,
@@ -24,7 +22,7 @@ pub(crate) fn put_entries(
     }
     for entry in data.chunks(slots_of(list)) {
         text.push_str("\n  ")?;
-        put_entry(text, list, entry, known)?;
+        put_record(text, "", record_of(list), entry, known)?;
     }
     Ok(())
 }
@@ -62,55 +60,12 @@ fn names_of(list: List) -> (&'static str, &'static str) {
     }
 }
 
-/// One entry, or its data where they are cut off.
-fn put_entry(
-    text: &mut String,
-    list: List,
-    entry: &[u8],
-    known: &Known<'_>,
-) -> Result<(), AllocError> {
+/// What an entry has for fields.
+fn record_of(list: List) -> Record {
     match list {
-        List::Parameters => put_supported(text, entry),
-        List::Statuses => put_status_entry(text, entry, known),
-        List::Slots => put_slot_entry(text, entry),
-        List::SlotDefaults => put_default(text, entry),
+        List::Parameters => SUPPORTED,
+        List::Statuses => STATUS,
+        List::Slots => SLOT_INFO,
+        List::SlotDefaults => SLOT_DEFAULT,
     }
-}
-
-fn put_supported(text: &mut String, entry: &[u8]) -> Result<(), AllocError> {
-    let [a, b] = entry else {
-        return put_data(text, entry);
-    };
-    text.push_str("supports ")?;
-    put_coded(text, parameter(u16::from_be_bytes([*a, *b])), entry)
-}
-
-fn put_status_entry(text: &mut String, entry: &[u8], known: &Known<'_>) -> Result<(), AllocError> {
-    let [a, b, severity, c, d, e, f, g, h] = entry else {
-        return put_data(text, entry);
-    };
-    let status = Status {
-        sub: u16::from_be_bytes([*a, *b]),
-        severity: *severity,
-        id: u16::from_be_bytes([*c, *d]),
-        first: u16::from_be_bytes([*e, *f]),
-        second: u16::from_be_bytes([*g, *h]),
-    };
-    put_status(text, &status, known)
-}
-
-fn put_slot_entry(text: &mut String, entry: &[u8]) -> Result<(), AllocError> {
-    let [a, b, kind, c, d] = entry else {
-        return put_data(text, entry);
-    };
-    let offset = u16::from_be_bytes([*a, *b]);
-    put_slot_info(text, offset, *kind, u16::from_be_bytes([*c, *d]))
-}
-
-fn put_default(text: &mut String, entry: &[u8]) -> Result<(), AllocError> {
-    let [a, b, value] = entry else {
-        return put_data(text, entry);
-    };
-    let offset = u16::from_be_bytes([*a, *b]);
-    write!(text, "slot {offset}: default value {value}")
 }

@@ -1,52 +1,35 @@
 //! The words of parameter data that are one value.
 
 use crate::Known;
-use crate::data::device_info::put_device_info;
-use crate::data::discovery::{put_branch, put_muted};
-use crate::data::form::{Codes, Form, Layout};
+use crate::data::form::{Field, Form, Layout, Record, Value};
 use crate::data::lists::put_count_of;
-use crate::data::sensors::{put_sensor, put_sensor_definition, put_sensor_value};
-use crate::data::slots::{put_slot, put_slot_text};
-use crate::data::statuses::put_status_id;
-use crate::tables::settings::{
-    display_invert, lamp_on_mode, lamp_state, power_state, preset, self_test, switch, truth,
-};
-use crate::tables::statuses::status_type;
+use crate::data::meanings::put_meaning;
+use crate::tables::Table;
 use crate::text::{put_hex, put_quoted};
 use std::alloc::AllocError;
 use std::fmt::Write;
 
-/// The words of data of this layout, in one line, or the data themselves where they haven't its length.
+/// The words of data of this layout, in one line, or the data themselves if they haven't its length.
 pub(crate) fn put_value(
     text: &mut String,
     layout: Layout,
     data: &[u8],
     known: &Known<'_>,
 ) -> Result<(), AllocError> {
-    let noun = layout.noun;
-    match layout.form {
+    let Layout(noun, form) = layout;
+    match form {
         Form::Nothing => put_data(text, data),
-        Form::Text => put_text(text, noun, data),
-        Form::Number => put_number(text, noun, data),
-        Form::Count => put_count(text, noun, data),
-        Form::Version => put_version(text, noun, data),
-        Form::Code(codes) => put_code(text, noun, codes, data),
+        Form::Code(table) => match data {
+            [code] => {
+                put_noun(text, noun)?;
+                put_coded(text, table, &[*code])
+            }
+            _ => put_data(text, data),
+        },
+        Form::Fields(record) | Form::InShort(record, _) => {
+            put_record(text, noun, record, data, known)
+        }
         Form::Languages => put_languages(text, noun, data),
-        Form::StartAddress => put_start_address(text, noun, data),
-        Form::Personality => put_personality(text, data),
-        Form::PersonalityText => put_personality_text(text, data),
-        Form::SelfTest => put_self_test(text, data),
-        Form::SelfTestText => put_self_test_text(text, data),
-        Form::Preset => put_preset(text, data),
-        Form::DeviceInfo => put_device_info(text, data),
-        Form::StatusId => put_status_id(text, data, known),
-        Form::Slot => put_slot(text, data),
-        Form::SlotText => put_slot_text(text, data),
-        Form::Sensor => put_sensor(text, data),
-        Form::SensorDefinition => put_sensor_definition(text, data),
-        Form::SensorValue => put_sensor_value(text, data, known),
-        Form::Branch => put_branch(text, data),
-        Form::Muted => put_muted(text, data),
         Form::List(list) => put_count_of(text, list, data),
     }
 }
@@ -68,69 +51,81 @@ fn put_noun(text: &mut String, noun: &str) -> Result<(), AllocError> {
     write!(text, "{noun} ")
 }
 
-fn put_text(text: &mut String, noun: &str, data: &[u8]) -> Result<(), AllocError> {
-    put_noun(text, noun)?;
-    put_quoted(text, data)
-}
-
-fn put_number(text: &mut String, noun: &str, data: &[u8]) -> Result<(), AllocError> {
-    let [number] = data else {
-        return put_data(text, data);
+/// Fields, or the data themselves if there aren't as many slots.
+pub(crate) fn put_record(
+    text: &mut String,
+    noun: &str,
+    record: Record,
+    data: &[u8],
+    known: &Known<'_>,
+) -> Result<(), AllocError> {
+    let (fits, fields) = match record {
+        Record::Exactly(slots, fields) => (data.len() == slots, fields),
+        Record::AtLeast(slots, fields) => (data.len() >= slots, fields),
     };
-    put_noun(text, noun)?;
-    write!(text, "{number}")
-}
-
-fn put_count(text: &mut String, noun: &str, data: &[u8]) -> Result<(), AllocError> {
-    let [a, b, c, d] = data else {
-        return put_data(text, data);
-    };
-    let count = u32::from_be_bytes([*a, *b, *c, *d]);
-    put_noun(text, noun)?;
-    write!(text, "{count}")
-}
-
-fn put_version(text: &mut String, noun: &str, data: &[u8]) -> Result<(), AllocError> {
-    if data.len() != 4 {
+    if !fits {
         return put_data(text, data);
     }
     put_noun(text, noun)?;
-    put_hex(text, data)
+    for field in fields {
+        put_field(text, *field, data, known)?;
+    }
+    Ok(())
 }
 
-/// A number of a table: its name and the number, or the number alone where the table has no name.
-fn put_code(text: &mut String, noun: &str, codes: Codes, data: &[u8]) -> Result<(), AllocError> {
-    let [code] = data else {
-        return put_data(text, data);
-    };
-    put_noun(text, noun)?;
-    put_coded(text, name_of(codes, *code), &[*code])
+/// A field, behind the words that stand before it.
+fn put_field(
+    text: &mut String,
+    field: Field,
+    data: &[u8],
+    known: &Known<'_>,
+) -> Result<(), AllocError> {
+    let Field(words, first, count, value) = field;
+    text.push_str(words)?;
+    let first = usize::from(first);
+    let end = (first + usize::from(count)).min(data.len());
+    let slots = data.get(first..end).unwrap_or(&[]);
+    let number = number_of(slots);
+    match value {
+        Value::Number => write!(text, "{number}"),
+        Value::Digits => put_hex(text, slots),
+        Value::Text => put_quoted(text, slots),
+        Value::Code(table) => put_coded(text, table, slots),
+        Value::Counted(before, table) => match table.name(number) {
+            Some(_) => put_coded(text, table, slots),
+            None => write!(text, "{before}{number}"),
+        },
+        Value::Other(meaning) => put_meaning(text, meaning, slots, known),
+    }
 }
 
-/// A name and its number in hexadecimal digits, or the number alone where there is no name.
-pub(crate) fn put_coded(
+/// The number that slots are, of which there are one, two or four.
+pub(crate) fn number_of(slots: &[u8]) -> u32 {
+    match slots {
+        [a] => u32::from(*a),
+        [a, b] => u32::from(u16::from_be_bytes([*a, *b])),
+        [a, b, c, d] => u32::from_be_bytes([*a, *b, *c, *d]),
+        _ => 0,
+    }
+}
+
+/// A number of a table: its name and, in hexadecimal digits, the number, or the number alone if the table has no name.
+pub(crate) fn put_coded(text: &mut String, table: Table, slots: &[u8]) -> Result<(), AllocError> {
+    put_named(text, table.name(number_of(slots)), slots)
+}
+
+/// A name and its number in hexadecimal digits, or the number alone if there is no name.
+pub(crate) fn put_named(
     text: &mut String,
     name: Option<&'static str>,
-    code: &[u8],
+    slots: &[u8],
 ) -> Result<(), AllocError> {
     let Some(name) = name else {
-        return put_hex(text, code);
+        return put_hex(text, slots);
     };
     write!(text, "{name} (")?;
-    put_hex(text, code)?;
+    put_hex(text, slots)?;
     text.push(')')
-}
-
-fn name_of(codes: Codes, code: u8) -> Option<&'static str> {
-    match codes {
-        Codes::Switch => switch(code),
-        Codes::Truth => truth(code),
-        Codes::DisplayInvert => display_invert(code),
-        Codes::StatusType => status_type(code),
-        Codes::LampState => lamp_state(code),
-        Codes::LampOnMode => lamp_on_mode(code),
-        Codes::PowerState => power_state(code),
-    }
 }
 
 fn put_languages(text: &mut String, noun: &str, data: &[u8]) -> Result<(), AllocError> {
@@ -147,65 +142,4 @@ fn put_languages(text: &mut String, noun: &str, data: &[u8]) -> Result<(), Alloc
         is_first = false;
     }
     Ok(())
-}
-
-/// A start address. FFFF stands for a device that uses no slots.
-fn put_start_address(text: &mut String, noun: &str, data: &[u8]) -> Result<(), AllocError> {
-    let [a, b] = data else {
-        return put_data(text, data);
-    };
-    let start = u16::from_be_bytes([*a, *b]);
-    put_noun(text, noun)?;
-    if start == u16::MAX {
-        return text.push_str("none (FFFF)");
-    }
-    write!(text, "{start}")
-}
-
-fn put_personality(text: &mut String, data: &[u8]) -> Result<(), AllocError> {
-    let [current, count] = data else {
-        return put_data(text, data);
-    };
-    write!(text, "personality {current} of {count}")
-}
-
-fn put_personality_text(text: &mut String, data: &[u8]) -> Result<(), AllocError> {
-    let [number, a, b, name @ ..] = data else {
-        return put_data(text, data);
-    };
-    let footprint = u16::from_be_bytes([*a, *b]);
-    write!(text, "personality {number}: ")?;
-    put_quoted(text, name)?;
-    write!(text, ", footprint {footprint}")
-}
-
-/// The number of a self test, none or all of them.
-fn put_self_test(text: &mut String, data: &[u8]) -> Result<(), AllocError> {
-    let [number] = data else {
-        return put_data(text, data);
-    };
-    match self_test(*number) {
-        Some(name) => write!(text, "self test {name} ({number:02X})"),
-        None => write!(text, "self test {number}"),
-    }
-}
-
-fn put_self_test_text(text: &mut String, data: &[u8]) -> Result<(), AllocError> {
-    let [number, name @ ..] = data else {
-        return put_data(text, data);
-    };
-    write!(text, "self test {number}: ")?;
-    put_quoted(text, name)
-}
-
-/// A scene, and its level.
-fn put_preset(text: &mut String, data: &[u8]) -> Result<(), AllocError> {
-    let [a, b, level] = data else {
-        return put_data(text, data);
-    };
-    let mode = u16::from_be_bytes([*a, *b]);
-    match preset(mode) {
-        Some(name) => write!(text, "preset playback {name}, level {level}"),
-        None => write!(text, "preset playback scene {mode}, level {level}"),
-    }
 }

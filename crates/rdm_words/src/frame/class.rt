@@ -4,6 +4,8 @@ use rdm_frame::standard::{
     DISCOVERY_COMMAND, DISCOVERY_COMMAND_RESPONSE, GET_COMMAND, GET_COMMAND_RESPONSE, SET_COMMAND,
     SET_COMMAND_RESPONSE,
 };
+use std::alloc::AllocError;
+use std::fmt::Write;
 
 /// A command class.
 #[derive(Clone, Copy)]
@@ -31,7 +33,7 @@ impl Class {
     }
 
     /// Its name.
-    pub(crate) fn name(self) -> &'static str {
+    fn name(self) -> &'static str {
         match self {
             Class::Discovery => "DISCOVERY",
             Class::DiscoveryResponse => "DISCOVERY response",
@@ -48,5 +50,13 @@ impl Class {
             Class::DiscoveryResponse | Class::GetResponse | Class::SetResponse => true,
             Class::Discovery | Class::Get | Class::Set => false,
         }
+    }
+}
+
+/// The name of a command class, or its code if the standard doesn't have it.
+pub(crate) fn put_class(text: &mut String, code: u8) -> Result<(), AllocError> {
+    match Class::of(code) {
+        Some(class) => text.push_str(class.name()),
+        None => write!(text, "command class {code:02X}"),
     }
 }

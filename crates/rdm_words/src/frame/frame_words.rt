@@ -10,7 +10,7 @@ use crate::data::layout::layout_of;
 use crate::data::lists::put_entries;
 use crate::data::values::{put_data, put_value};
 use crate::frame::class::Class;
-use crate::frame::header::{put_request, put_response, put_stranger};
+use crate::frame::header::{put_request, put_response};
 use crate::text::put_hex;
 use rdm_frame::standard::{ACK_TIMER, NACK_REASON};
 use rdm_frame::{FrameError, FrameView, Uid, branch_uid, decode_view};
@@ -68,15 +68,15 @@ fn put_frame(
     known: &Known<'_>,
 ) -> Result<(), AllocError> {
     let Some(class) = Class::of(frame.class) else {
-        put_stranger(text, frame)?;
+        put_request(text, "to", frame)?;
         return put_plain_line(text, frame.body);
     };
     if !class.is_response() {
-        put_request(text, class, frame)?;
+        put_request(text, "asks", frame)?;
         let layout = layout_of(Some(class), frame.pid);
         return put_data_lines(text, layout, frame.body, &known.at(frame.dst));
     }
-    put_response(text, class, frame)?;
+    put_response(text, frame)?;
     match (frame.port, frame.body) {
         // These data stand in the header.
         (ACK_TIMER | NACK_REASON, [_, _]) => Ok(()),
@@ -95,7 +95,8 @@ pub(crate) fn put_data_lines(
     data: &[u8],
     known: &Known<'_>,
 ) -> Result<(), AllocError> {
-    match layout.form {
+    let Layout(_, form) = layout;
+    match form {
         Form::Nothing => put_plain_line(text, data),
         Form::List(list) => put_entries(text, list, data, known),
         _ => {

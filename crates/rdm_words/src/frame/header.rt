@@ -1,10 +1,10 @@
 //! The words of a frame's header (E1.20 section 6.2).
 
 use crate::data::values::put_coded;
-use crate::frame::class::Class;
+use crate::frame::class::put_class;
 use crate::frame::place::put_place;
 use crate::tables::parameters::parameter;
-use crate::tables::replies::{nack_reason, response_type};
+use crate::tables::replies::{NACK_REASONS, RESPONSE_TYPES};
 use rdm_frame::standard::{ACK_TIMER, NACK_REASON};
 use rdm_frame::{FrameView, Uid};
 use std::alloc::AllocError;
@@ -13,61 +13,45 @@ use std::fmt::Write;
 /// The port ID of a controller that has one port (section 6.2.7).
 const FIRST_PORT: u8 = 1;
 
-/// A request: who asks whom, for what, and where.
+/// A request: who asks whom, for what, and where. It is the same for a frame with a command class that the standard doesn't
+/// have, but for the verb.
 pub(crate) fn put_request(
     text: &mut String,
-    class: Class,
+    verb: &str,
     frame: &FrameView<'_>,
 ) -> Result<(), AllocError> {
-    put_parties(text, frame, "asks")?;
-    text.push_str(class.name())?;
+    put_parties(text, verb, frame)?;
+    put_class(text, frame.class)?;
     put_subject(text, frame)?;
-    put_port(text, frame.port)?;
+    let port = frame.port;
+    if port != FIRST_PORT {
+        write!(text, ", port {port}")?;
+    }
     put_waiting(text, frame.count)
 }
 
 /// A reply: who answers whom, how, to what, and where.
-pub(crate) fn put_response(
-    text: &mut String,
-    class: Class,
-    frame: &FrameView<'_>,
-) -> Result<(), AllocError> {
-    put_parties(text, frame, "answers")?;
+pub(crate) fn put_response(text: &mut String, frame: &FrameView<'_>) -> Result<(), AllocError> {
+    put_parties(text, "answers", frame)?;
     put_response_type(text, frame.port, frame.body)?;
     text.push_str(", ")?;
-    text.push_str(class.name())?;
+    put_class(text, frame.class)?;
     put_subject(text, frame)?;
     put_waiting(text, frame.count)
 }
 
-/// A frame with a command class that the standard doesn't have.
-pub(crate) fn put_stranger(text: &mut String, frame: &FrameView<'_>) -> Result<(), AllocError> {
-    put_parties(text, frame, "to")?;
-    let class = frame.class;
-    write!(text, "command class {class:02X}")?;
-    put_subject(text, frame)?;
-    put_port(text, frame.port)?;
-    put_waiting(text, frame.count)
-}
-
-/// From whom a frame is, and for whom.
-fn put_parties(text: &mut String, frame: &FrameView<'_>, verb: &str) -> Result<(), AllocError> {
-    let source = frame.src;
+/// From whom a frame is, and for whom: a device, or all of them (section 6.2.4).
+fn put_parties(text: &mut String, verb: &str, frame: &FrameView<'_>) -> Result<(), AllocError> {
+    let (source, uid) = (frame.src, frame.dst);
     write!(text, "{source} {verb} ")?;
-    put_destination(text, frame.dst)?;
-    text.push_str(": ")
-}
-
-/// A device, or all of them (section 6.2.4).
-fn put_destination(text: &mut String, uid: Uid) -> Result<(), AllocError> {
     if uid == Uid::ALL {
-        return write!(text, "all devices ({uid})");
+        return write!(text, "all devices ({uid}): ");
     }
     if uid.is_broadcast() {
         let maker = uid.maker;
-        return write!(text, "all devices of {maker:04X} ({uid})");
+        return write!(text, "all devices of {maker:04X} ({uid}): ");
     }
-    write!(text, "{uid}")
+    write!(text, "{uid}: ")
 }
 
 /// The parameter, where it is, and the transaction.
@@ -94,32 +78,22 @@ pub(crate) fn put_response_type(
     code: u8,
     data: &[u8],
 ) -> Result<(), AllocError> {
-    match response_type(code) {
+    match RESPONSE_TYPES.name(u32::from(code)) {
         Some(name) => text.push_str(name)?,
         None => write!(text, "response type {code:02X}")?,
     }
     match (code, data) {
-        (ACK_TIMER, [a, b]) => put_time(text, u16::from_be_bytes([*a, *b])),
-        (NACK_REASON, [a, b]) => {
+        (ACK_TIMER, [a, b]) => {
+            let tenths = u16::from_be_bytes([*a, *b]);
+            let (seconds, rest) = (tenths / 10, tenths % 10);
+            write!(text, " {seconds}.{rest} s")
+        }
+        (NACK_REASON, [_, _]) => {
             text.push(' ')?;
-            put_coded(text, nack_reason(u16::from_be_bytes([*a, *b])), data)
+            put_coded(text, NACK_REASONS, data)
         }
         _ => Ok(()),
     }
-}
-
-/// A time, in tenths of a second.
-pub(crate) fn put_time(text: &mut String, tenths: u16) -> Result<(), AllocError> {
-    let (seconds, rest) = (tenths / 10, tenths % 10);
-    write!(text, " {seconds}.{rest} s")
-}
-
-/// The port ID, where it isn't the first one.
-fn put_port(text: &mut String, port: u8) -> Result<(), AllocError> {
-    if port == FIRST_PORT {
-        return Ok(());
-    }
-    write!(text, ", port {port}")
 }
 
 /// How many messages wait in the responder, where any does (section 6.2.8).

@@ -4,19 +4,17 @@ ghost use Rattle.std.specs.Prelude.{◌≡◌, ℕ, List, ◌++◌, OnOk};
 ghost use Rattle.rdm_words.specs.Plain.{IsPlain};
 
 use crate::Known;
-use crate::data::device_info::put_product_in_short;
 use crate::data::form::{Form, Layout};
 use crate::data::layout::layout_of;
-use crate::data::sensors::put_sensor_in_short;
 use crate::data::values::put_value;
-use crate::frame::class::Class;
+use crate::frame::class::{Class, put_class};
 use crate::frame::frame_words::cause_of;
 use crate::frame::header::put_response_type;
 use crate::frame::place::put_place;
 use crate::tables::parameters::parameter;
-use crate::tables::replies::nack_reason;
+use crate::tables::replies::NACK_REASONS;
 use crate::text::put_shown;
-use rdm_frame::standard::{ACK, ACK_TIMER, NACK_REASON, ROOT_DEVICE};
+use rdm_frame::standard::{ACK, NACK_REASON, ROOT_DEVICE};
 use rdm_frame::{FrameError, FrameView, branch_uid, decode_view};
 use std::alloc::AllocError;
 use std::fmt::Write;
@@ -69,23 +67,22 @@ fn put_request(
     frame: &FrameView<'_>,
     known: &Known<'_>,
 ) -> Result<(), AllocError> {
+    put_class(text, frame.class)?;
+    put_subject(text, frame)?;
     match Class::of(frame.class) {
-        Some(class) => {
-            text.push_str(class.name())?;
-            put_subject(text, frame)?;
-            put_short_value(text, class, frame, known)
-        }
-        None => put_unknown(text, frame),
+        Some(class) => put_short_value(text, class, frame, known),
+        None => Ok(()),
     }
 }
 
+/// A frame with a command class that the standard doesn't have is said as a request is.
 fn put_reply(
     text: &mut String,
     frame: &FrameView<'_>,
     known: &Known<'_>,
 ) -> Result<(), AllocError> {
     let Some(class) = Class::of(frame.class) else {
-        return put_unknown(text, frame);
+        return put_request(text, frame, known);
     };
     match (frame.port, frame.body) {
         (ACK, _) => {
@@ -93,24 +90,15 @@ fn put_reply(
             put_subject(text, frame)?;
             put_short_value(text, class, frame, known)
         }
-        (NACK_REASON, [a, b]) => put_reason(text, u16::from_be_bytes([*a, *b])),
+        (NACK_REASON, [a, b]) => {
+            let code = u16::from_be_bytes([*a, *b]);
+            match NACK_REASONS.name(u32::from(code)) {
+                Some(reason) => write!(text, "NACK: {reason}"),
+                None => write!(text, "NACK: reason {code:04X}"),
+            }
+        }
         _ => put_response_type(text, frame.port, frame.body),
     }
-}
-
-/// Why a request is refused.
-fn put_reason(text: &mut String, code: u16) -> Result<(), AllocError> {
-    match nack_reason(code) {
-        Some(reason) => write!(text, "NACK: {reason}"),
-        None => write!(text, "NACK: reason {code:04X}"),
-    }
-}
-
-/// A frame with a command class that the standard doesn't have.
-fn put_unknown(text: &mut String, frame: &FrameView<'_>) -> Result<(), AllocError> {
-    let class = frame.class;
-    write!(text, "command class {class:02X}")?;
-    put_subject(text, frame)
 }
 
 /// The parameter, and the sub-device where it isn't the root.
@@ -135,16 +123,16 @@ fn put_short_value(
     known: &Known<'_>,
 ) -> Result<(), AllocError> {
     let data = frame.body;
-    let form = layout_of(Some(class), frame.pid).form;
+    let Layout(_, form) = layout_of(Some(class), frame.pid);
     if data.is_empty() && !matches!(form, Form::List(_)) {
         return Ok(());
     }
+    let form = match form {
+        Form::InShort(_, record) => Form::Fields(record),
+        form => form,
+    };
     let mut value = String::new(*text.allocator());
-    match form {
-        Form::DeviceInfo => put_product_in_short(&mut value, data)?,
-        Form::SensorDefinition => put_sensor_in_short(&mut value, data)?,
-        _ => put_value(&mut value, Layout { noun: "", form }, data, known)?,
-    }
+    put_value(&mut value, Layout("", form), data, known)?;
     if value.len() > LONGEST_VALUE {
         let slots = data.len();
         return write!(text, ": {slots} slots of data");

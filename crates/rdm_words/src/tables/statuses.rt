@@ -1,48 +1,44 @@
 //! What the status of a device tells.
 
-/// A status type, as `warning` (table A-4).
-pub fn status_type(code: u8) -> Option<&'static str> {
-    Some(match code {
-        0x00 => "none",
-        0x01 => "get last message",
-        0x02 => "advisory",
-        0x03 => "warning",
-        0x04 => "error",
-        0x12 => "advisory cleared",
-        0x13 => "warning cleared",
-        0x14 => "error cleared",
-        _ => return None,
-    })
-}
+use super::Table;
+
+/// Status types, as `warning` (table A-4).
+pub const STATUS_TYPES: Table = Table(&[
+    (0x00, "none"),
+    (0x01, "get last message"),
+    (0x02, "advisory"),
+    (0x03, "warning"),
+    (0x04, "error"),
+    (0x12, "advisory cleared"),
+    (0x13, "warning cleared"),
+    (0x14, "error cleared"),
+]);
 
 /// What a status ID means (table B-2). In its place stands the next of two values: for `%d` as a number, and for `%L` as the
 /// name of a slot.
-pub fn status_id(id: u16) -> Option<&'static str> {
-    Some(match id {
-        0x0001 => "%L failed calibration",
-        0x0002 => "%L sensor not found",
-        0x0003 => "%L sensor always on",
-        0x0011 => "lamp doused",
-        0x0012 => "lamp failed to strike",
-        0x0021 => "sensor %d over temp at %d degrees C",
-        0x0022 => "sensor %d under temp at %d degrees C",
-        0x0023 => "sensor %d out of range",
-        0x0031 => "phase %d over voltage at %d V",
-        0x0032 => "phase %d under voltage at %d V",
-        0x0033 => "phase %d over current at %d A",
-        0x0034 => "phase %d under current at %d A",
-        0x0035 => "phase %d is at %d degrees",
-        0x0036 => "phase %d error",
-        0x0037 => "%d amps",
-        0x0038 => "%d volts",
-        0x0041 => "no dimmer",
-        0x0042 => "tripped breaker",
-        0x0043 => "%d watts",
-        0x0044 => "dimmer failure",
-        0x0045 => "panic mode",
-        0x0050 => "%L ready",
-        0x0051 => "%L not ready",
-        0x0052 => "%L low fluid",
-        _ => return None,
-    })
-}
+pub const STATUS_IDS: Table = Table(&[
+    (0x0001, "%L failed calibration"),
+    (0x0002, "%L sensor not found"),
+    (0x0003, "%L sensor always on"),
+    (0x0011, "lamp doused"),
+    (0x0012, "lamp failed to strike"),
+    (0x0021, "sensor %d over temp at %d degrees C"),
+    (0x0022, "sensor %d under temp at %d degrees C"),
+    (0x0023, "sensor %d out of range"),
+    (0x0031, "phase %d over voltage at %d V"),
+    (0x0032, "phase %d under voltage at %d V"),
+    (0x0033, "phase %d over current at %d A"),
+    (0x0034, "phase %d under current at %d A"),
+    (0x0035, "phase %d is at %d degrees"),
+    (0x0036, "phase %d error"),
+    (0x0037, "%d amps"),
+    (0x0038, "%d volts"),
+    (0x0041, "no dimmer"),
+    (0x0042, "tripped breaker"),
+    (0x0043, "%d watts"),
+    (0x0044, "dimmer failure"),
+    (0x0045, "panic mode"),
+    (0x0050, "%L ready"),
+    (0x0051, "%L not ready"),
+    (0x0052, "%L low fluid"),
+]);

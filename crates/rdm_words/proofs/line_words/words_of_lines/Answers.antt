@@ -1,4 +1,4 @@
-use Rattle.std.proofs.Common.{◌-◌, length, drop, subst, arith}
+use Rattle.std.proofs.Common.{drop, subst, arith}
 use Rattle.std.proofs.lemmas.List.{length-drop}
 use Rattle.rdm_trace.specs.declared.line.Line.{Line}
 use Rattle.rdm_words.specs.Said.{TellsLine}

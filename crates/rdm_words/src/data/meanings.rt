@@ -1,0 +1,131 @@
+//! The words of fields that only some parameters have.
+
+use crate::Known;
+use crate::data::form::Meaning;
+use crate::data::sensors::{put_measured, put_measures, put_range};
+use crate::data::statuses::{Status, put_failure, put_status_text};
+use crate::data::values::{number_of, put_coded, put_data, put_named};
+use crate::frame::place::put_place;
+use crate::tables::Table;
+use crate::tables::parameters::parameter;
+use crate::tables::settings::PRESETS;
+use crate::tables::slots::{SLOT_LABELS, SLOT_TYPES};
+use rdm_frame::uid_at;
+use std::alloc::AllocError;
+use std::fmt::Write;
+
+/// The type of a slot that is controlled by itself, and not together with another one (table C-1).
+const PRIMARY: u8 = 0x00;
+
+/// Which values a sensor keeps.
+const SUPPORT: Table = Table(&[
+    (0x00, "keeps no value"),
+    (0x01, "keeps the recorded value"),
+    (0x02, "keeps the lowest and highest values"),
+    (0x03, "keeps the recorded, lowest and highest values"),
+]);
+
+/// What a device that is muted says of itself by a bit of its control field (section 7.6).
+const FLAGS: &[(u8, &str)] = &[
+    (0x01, ", managed proxy"),
+    (0x02, ", sub-device"),
+    (0x04, ", boot loader"),
+    (0x08, ", proxied device"),
+];
+
+/// The words of slots with this meaning, or the slots themselves if there aren't as many as it has.
+pub(crate) fn put_meaning(
+    text: &mut String,
+    meaning: Meaning,
+    slots: &[u8],
+    known: &Known<'_>,
+) -> Result<(), AllocError> {
+    match (meaning, slots) {
+        (Meaning::Signed, [a, b]) => {
+            let number = i16::from_be_bytes([*a, *b]);
+            write!(text, "{number}")
+        }
+        (Meaning::Parameter, [a, b]) => {
+            put_named(text, parameter(u16::from_be_bytes([*a, *b])), slots)
+        }
+        (Meaning::Place, [a, b]) => put_place(text, u16::from_be_bytes([*a, *b])),
+        (Meaning::StatusText, [a, b]) => {
+            put_status_text(text, u16::from_be_bytes([*a, *b]), known)
+        }
+        (Meaning::Failure, [severity, a, b, c, d, e, f]) => {
+            let status = Status {
+                severity: *severity,
+                id: u16::from_be_bytes([*a, *b]),
+                first: u16::from_be_bytes([*c, *d]),
+                second: u16::from_be_bytes([*e, *f]),
+            };
+            put_failure(text, &status, known)
+        }
+        (Meaning::Measures, [unit, prefix, a, b, c, d]) => {
+            let low = i16::from_be_bytes([*a, *b]);
+            put_measures(text, *unit, *prefix, low, i16::from_be_bytes([*c, *d]))
+        }
+        (Meaning::Range, [a, b, c, d]) => {
+            let low = i16::from_be_bytes([*a, *b]);
+            put_range(text, low, i16::from_be_bytes([*c, *d]))
+        }
+        (Meaning::Measured, [number, a, b]) => {
+            put_measured(text, *number, i16::from_be_bytes([*a, *b]), known)
+        }
+        _ => put_rare(text, meaning, slots),
+    }
+}
+
+/// The same for fields that one parameter has.
+fn put_rare(text: &mut String, meaning: Meaning, slots: &[u8]) -> Result<(), AllocError> {
+    match (meaning, slots) {
+        (Meaning::Uid, [_, _, _, _, _, _]) => {
+            let uid = uid_at(slots, 0);
+            write!(text, "{uid}")
+        }
+        (Meaning::SlotUse, [kind, a, b]) => put_slot_use(text, *kind, &[*a, *b]),
+        (Meaning::Support, [support]) => match SUPPORT.name(u32::from(*support)) {
+            Some(words) => text.push_str(words),
+            None => write!(text, "support {support:02X}"),
+        },
+        (Meaning::Scene, [a, b]) => {
+            let mode = u16::from_be_bytes([*a, *b]);
+            match PRESETS.name(u32::from(mode)) {
+                Some(name) => text.push_str(name),
+                None => write!(text, "scene {mode}"),
+            }
+        }
+        (Meaning::Flags, [flags]) => put_flags(text, *flags),
+        (Meaning::Binding, []) => Ok(()),
+        (Meaning::Binding, [_, _, _, _, _, _]) => {
+            let uid = uid_at(slots, 0);
+            write!(text, ", binding UID {uid}")
+        }
+        (Meaning::Binding, _) => {
+            text.push_str(", ")?;
+            put_data(text, slots)
+        }
+        _ => put_data(text, slots),
+    }
+}
+
+/// What a slot is for: its label if it is a primary one, else the primary slot that it belongs to.
+fn put_slot_use(text: &mut String, kind: u8, label: &[u8]) -> Result<(), AllocError> {
+    put_coded(text, SLOT_TYPES, &[kind])?;
+    if kind == PRIMARY {
+        text.push_str(", ")?;
+        return put_coded(text, SLOT_LABELS, label);
+    }
+    let primary = number_of(label);
+    write!(text, " of slot {primary}")
+}
+
+/// The flags of a control field.
+fn put_flags(text: &mut String, flags: u8) -> Result<(), AllocError> {
+    for flag in FLAGS {
+        if flags & flag.0 != 0 {
+            text.push_str(flag.1)?;
+        }
+    }
+    Ok(())
+}

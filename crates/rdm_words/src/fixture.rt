@@ -1,0 +1,197 @@
+//! The words of a fixture: what a controller will find of it.
+
+ghost use Rattle.std.specs.Prelude.{◌≡◌, ℕ, List, ◌++◌, OnOk};
+ghost use Rattle.rdm_words.specs.Plain.{IsPlain};
+
+use crate::data::sensors::put_range;
+use crate::tables::products::PRODUCT_CATEGORIES;
+use crate::tables::sensors::{SENSOR_TYPES, SENSOR_UNITS, UNIT_PREFIXES};
+use crate::tables::slots::{SLOT_LABELS, SLOT_TYPES};
+use crate::text::put_shown;
+use rdm_device::{Profile, SensorDef, Slot, Unit};
+use rdm_frame::{Text, Uid};
+use rdm_outcomes::Rule;
+use rdm_params::{Outcome, Severity};
+use std::alloc::AllocError;
+use std::fmt::Write;
+use std::str;
+
+/// Puts what a fixture is at the end: its UID, its root device with slots, sensors and texts, how the jobs of its slow
+/// commands end by these rules, and its sub-devices. Fails only if memory is refused.
+#[tactic(auto, using(crate::proofs::Plainness::plain_shown))]
+pub fn put_fixture(
+    out: &mut Vec<u8>,
+    uid: Uid,
+    profile: &Profile,
+    rules: &[Rule],
+) -> Result<(), AllocError>
+    ensures plain { OnOk result ((own : List ℕ) × IsPlain own × (out.new.items ≡ out.old.items ++ own)) }
+{
+    let mut text = String::new(*out.allocator());
+    writeln!(text, "UID {uid}")?;
+    put_devices(&mut text, profile, rules)?;
+    put_shown(out, text.as_bytes())
+}
+
+fn put_devices(text: &mut String, profile: &Profile, rules: &[Rule]) -> Result<(), AllocError> {
+    put_unit(text, "root device", &profile.root)?;
+    for (number, slot) in profile.slots.iter().enumerate() {
+        put_slot(text, number, slot)?;
+    }
+    for (number, sensor) in profile.sensors.iter().enumerate() {
+        put_sensor(text, number, sensor)?;
+    }
+    put_rest(text, profile)?;
+    for rule in rules {
+        put_rule(text, rule)?;
+    }
+    let subs = profile.subs;
+    if subs == 0 {
+        return writeln!(text, "no sub-devices");
+    }
+    writeln!(text, "{subs} sub-devices")?;
+    put_unit(text, "each sub-device", &profile.sub)
+}
+
+/// What one device is.
+fn put_unit(text: &mut String, kind: &str, unit: &Unit) -> Result<(), AllocError> {
+    let Unit {
+        model,
+        category,
+        software,
+        start,
+        ..
+    } = unit;
+    let name = words(&unit.model_text);
+    let maker = words(&unit.maker_text);
+    writeln!(text, "{kind}: model {model:04X}, \"{name}\" of \"{maker}\"")?;
+    let known = PRODUCT_CATEGORIES
+        .name(u32::from(*category))
+        .unwrap_or("product category");
+    writeln!(text, "  {known} ({category:04X})")?;
+    let version = words(&unit.software_text);
+    writeln!(text, "  software version {software:08X}, \"{version}\"")?;
+    let label = words(&unit.label);
+    writeln!(
+        text,
+        "  device label \"{label}\", DMX start address {start}"
+    )?;
+    for (index, personality) in unit.personalities.iter().enumerate() {
+        let number = index + 1;
+        let name = words(&personality.name);
+        let footprint = personality.footprint;
+        writeln!(
+            text,
+            "  personality {number}: \"{name}\", footprint {footprint}"
+        )?;
+    }
+    Ok(())
+}
+
+/// What a DMX512 slot is for.
+fn put_slot(text: &mut String, number: usize, slot: &Slot) -> Result<(), AllocError> {
+    let Slot {
+        kind,
+        label,
+        value,
+        ..
+    } = slot;
+    let name = words(&slot.name);
+    let known = SLOT_TYPES.name(u32::from(*kind)).unwrap_or("slot type");
+    write!(text, "  slot {number}: \"{name}\", {known} ({kind:02X})")?;
+    // The label of a secondary slot is the number of the slot that it belongs to.
+    if *kind != 0 {
+        return writeln!(text, " of slot {label}, default {value}");
+    }
+    let of = SLOT_LABELS
+        .name(u32::from(*label))
+        .unwrap_or("slot label ID");
+    writeln!(text, ", {of} ({label:04X}), default {value}")
+}
+
+/// What a sensor measures.
+fn put_sensor(text: &mut String, number: usize, sensor: &SensorDef) -> Result<(), AllocError> {
+    let SensorDef {
+        kind,
+        unit,
+        prefix,
+        ..
+    } = sensor;
+    let name = words(&sensor.name);
+    let known = SENSOR_TYPES.name(u32::from(*kind)).unwrap_or("sensor type");
+    write!(text, "  sensor {number}: \"{name}\", {known} ({kind:02X})")?;
+    let multiple = UNIT_PREFIXES.name(u32::from(*prefix));
+    match (multiple, SENSOR_UNITS.name(u32::from(*unit))) {
+        (Some(""), Some("")) => {}
+        (Some(multiple), Some(symbol)) => write!(text, " in {multiple}{symbol}")?,
+        _ => write!(text, " in unit {unit:02X} with prefix {prefix:02X}")?,
+    }
+    text.push_str(", range ")?;
+    put_range(text, sensor.low, sensor.high)?;
+    text.push_str(", normally ")?;
+    put_range(text, sensor.normal_low, sensor.normal_high)?;
+    text.push('\n')
+}
+
+/// The self tests, the status IDs, and what is counted.
+fn put_rest(text: &mut String, profile: &Profile) -> Result<(), AllocError> {
+    for test in profile.tests.iter() {
+        let (number, name) = (test.number, words(&test.name));
+        writeln!(text, "  self test {number}: \"{name}\"")?;
+    }
+    for status in profile.status_texts.iter() {
+        let (id, words) = (status.id, words(&status.text));
+        writeln!(text, "  status ID {id:04X}: \"{words}\"")?;
+    }
+    for language in profile.languages.iter() {
+        let [first, second] = language.to_be_bytes();
+        writeln!(
+            text,
+            "  language {}{}",
+            char::from(first),
+            char::from(second)
+        )?;
+    }
+    let presets = profile.presets;
+    writeln!(text, "  {presets} presets")?;
+    let boot = profile.boot;
+    let version = words(&profile.boot_text);
+    writeln!(text, "  boot software version {boot:08X}, \"{version}\"")
+}
+
+/// Of which jobs a rule speaks, and what they come to.
+fn put_rule(text: &mut String, rule: &Rule) -> Result<(), AllocError> {
+    let name = rule.task.kind().name();
+    write!(text, "  outcome of {name}")?;
+    if let Some(value) = rule.value {
+        write!(text, " {value}")?;
+    }
+    if let Some(turn) = rule.turn {
+        write!(text, ", job {turn}")?;
+    }
+    match rule.outcome {
+        Outcome::Done => writeln!(text, ": done"),
+        Outcome::Reading(reading) => writeln!(text, ": reads {reading}"),
+        Outcome::Failed {
+            severity,
+            id,
+            v1,
+            v2,
+        } => {
+            let severity = match severity {
+                Severity::Advisory | Severity::AdvisoryCleared => "advisory",
+                Severity::Warning | Severity::WarningCleared => "warning",
+                Severity::Error | Severity::ErrorCleared => "error",
+            };
+            writeln!(
+                text,
+                ": fails with {severity}, status ID {id:04X}, values {v1} and {v2}"
+            )
+        }
+    }
+}
+
+/// A text of the fixture, which has printable ASCII characters alone.
+fn words(text: &Text) -> &str {
+    str::from_utf8(text.as_slice()).unwrap_or("")
+}
