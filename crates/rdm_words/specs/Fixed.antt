@@ -1,4 +1,4 @@
--- The words that are fixed: those of bytes that are no frame, which nothing interprets, and of lines of a trace that hold none.
+-- The words that are fixed: those of bytes that aren't a frame, which nothing interprets, and of lines of a trace that hold none.
 use Rattle.std.specs.Prelude.{◌≡◌, ◌⊎◌, ℕ, List, [], ◌∷◌, ◌++◌, Option, Some, None, codes, decimal}
 use Rattle.rdm_frame.specs.declared.decoding.FrameError.{FrameError}
 use Rattle.rdm_frame.specs.declared.decoding.FrameError.TheVariants.{Short, Start, SubStart, Length, Pdl, Checksum}
@@ -17,7 +17,7 @@ use Rattle.rdm_trace.specs.declared.line.Line.TheVariants.{Send, Reply, Job, Hea
 
 -- ---- bytes
 
--- why bytes are no frame
+-- why bytes aren't a frame
 abbrev pub cause_words : FrameError → List ℕ
 cause_words Short = codes "fewer bytes than the shortest frame"
 cause_words Start = codes "wrong START code"
@@ -26,7 +26,7 @@ cause_words Length = codes "the message length doesn't match the number of bytes
 cause_words Pdl = codes "the parameter data length doesn't match the message length"
 cause_words Checksum = codes "wrong checksum"
 
--- bytes that are no frame: why, and all of their digits
+-- bytes that aren't a frame: why, and all of their digits
 abbrev pub stray_words : FrameError → List ℕ → List ℕ
 stray_words cause bytes = codes "no frame (" ++ cause_words cause ++ codes "): " ++ digits bytes
 
@@ -38,11 +38,11 @@ answer_words uid = uid_text uid ++ codes " answers: DISC_UNIQUE_BRANCH"
 abbrev pub IsAnswerOf : Uid → List ℕ → Type 0
 IsAnswerOf uid bytes = IsUid uid × IsBranchReply uid bytes
 
--- the bytes are no frame, for this reason, and nobody's answer
+-- the bytes aren't a frame, for this reason, and nobody's answer
 abbrev pub IsStray : FrameError → List ℕ → Type 0
 IsStray cause bytes = IsFirstFault cause bytes × ((uid : Uid) → IsAnswerOf uid bytes → ⊥)
 
--- The words of bytes that are no frame. Those of a frame aren't fixed here.
+-- The words of bytes that aren't a frame. Those of a frame aren't fixed here.
 abbrev pub AreWordsOfBytes : List ℕ → List ℕ → Type 0
 AreWordsOfBytes bytes words =
     ((cause : FrameError) × IsStray cause bytes × (words ≡ stray_words cause bytes))

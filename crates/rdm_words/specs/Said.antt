@@ -12,7 +12,7 @@ pub record IsTold (own : List ℕ) : Type 0 where
   pub some : words ≢ []
   pub plain : IsPlain own
 
--- Where it is fixed which words are said, they stand there, and nothing else does.
+-- If it is fixed which words are said, they stand there, and nothing else does.
 pub record Tells (AreWords : List ℕ → Type 0) (own : List ℕ) : Type 0 where
   pub told : IsTold own
   pub fixed : (words : List ℕ) → AreWords words → own ≡ words ++ 10 ∷ []

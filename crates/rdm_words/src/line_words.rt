@@ -14,7 +14,7 @@ use rdm_trace::{Line, read, wire_in};
 use std::alloc::{AllocError, Global};
 
 /// The words of each line of a text, in order. A line ends with LF, before which a CR is dropped; the last LF may be
-/// missing. Fails only where memory is refused.
+/// missing. Fails only if memory is refused.
 pub fn words(alloc: Global, text: &[u8], known: &Known<'_>) -> Result<Vec<u8>, AllocError>
     ensures said { IfOk result (λ out. SayInTurn (lines text.now) out.items) }
 {
@@ -31,7 +31,7 @@ pub fn words(alloc: Global, text: &[u8], known: &Known<'_>) -> Result<Vec<u8>, A
     Ok(out)
 }
 
-/// The words of each of these lines of a trace, in order. Fails only where memory is refused.
+/// The words of each of these lines of a trace, in order. Fails only if memory is refused.
 pub fn words_of_lines(
     alloc: Global,
     lines: &[Line],
@@ -46,7 +46,7 @@ pub fn words_of_lines(
     Ok(out)
 }
 
-/// Puts the words of a line of a trace at the end: one or more lines of text, each of which ends with LF. Fails only where
+/// Puts the words of a line of a trace at the end: one or more lines of text, each of which ends with LF. Fails only if
 /// memory is refused.
 pub fn put_line_words(out: &mut Vec<u8>, line: &Line, known: &Known<'_>) -> Result<(), AllocError>
     ensures told { OnOk result ((own : List ℕ) × TellsLine line.now own × (out.new.items ≡ out.old.items ++ own)) }
@@ -111,7 +111,7 @@ fn put_whole(out: &mut Vec<u8>, words: &[u8]) -> Result<(), AllocError>
     out.extend_from_slice(b"\n")
 }
 
-/// The words, where there are any.
+/// The words, if there are any.
 fn some_words(words: &[u8]) -> &[u8]
     ensures some { result.now ≢ [] }
     ensures same { words.now ≢ [] → result.now ≡ words.now }

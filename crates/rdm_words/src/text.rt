@@ -43,7 +43,7 @@ pub(crate) fn put_foreign(text: &mut String, bytes: &[u8]) -> Result<(), AllocEr
     put_ascii(text, shown.as_slice())
 }
 
-/// The bytes as text: a byte that is no printable ASCII character stands as `\x` and its digits, and a quote or a backslash
+/// The bytes as text: a byte that isn't a printable ASCII character stands as `\x` and its digits, and a quote or a backslash
 /// has a backslash before it. So no byte is lost, and none reaches a terminal as a command.
 pub(crate) fn put_escaped(out: &mut Vec<u8>, bytes: &[u8]) -> Result<(), AllocError>
     ensures { OnOk result (out.new.items ≡ out.old.items ++ escaped bytes.now) }

@@ -7,7 +7,7 @@ use std::fmt::Write;
 /// How many bytes of data a frame can carry (E1.20 section 6.2.3).
 const MOST_DATA: usize = 231;
 
-/// The data of a command: from so many to so many bytes, and what the fewest of them say.
+/// The data of a command: how many bytes at least and at most, and what the fewest of them say.
 #[derive(Drop)]
 pub struct Data {
     least: usize,

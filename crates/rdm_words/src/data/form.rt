@@ -39,7 +39,7 @@ pub(crate) enum List {
 /// Fields, in the order in which they are said, and how many slots there are.
 #[derive(Clone, Copy)]
 pub(crate) enum Record {
-    /// Exactly so many.
+    /// Exactly this many.
     Exactly(usize, &'static [Field]),
     /// So many, and a text or whatever else fills the rest.
     AtLeast(usize, &'static [Field]),

@@ -14,7 +14,7 @@ pub struct Known<'a> {
 }
 
 impl<'a> Known<'a> {
-    /// Nothing: numbers stand where the standard has no name.
+    /// Nothing: numbers stand if the standard has no name.
     pub fn nothing() -> Known<'a> {
         Known {
             uid: None,

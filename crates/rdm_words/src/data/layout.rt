@@ -83,7 +83,7 @@ fn get_reply_layout(kind: Kind) -> Layout {
     }
 }
 
-/// The value of a parameter, where a GET reads it as a SET writes it.
+/// The value of a parameter, if a GET reads it as a SET writes it.
 fn value_layout(kind: Kind) -> Layout {
     match kind {
         Kind::StatusIdDescription => Layout("status text", Form::Fields(TEXT)),

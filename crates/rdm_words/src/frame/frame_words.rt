@@ -35,7 +35,7 @@ pub(crate) fn put_bytes_words(
     }
 }
 
-/// Bytes that are no frame: the answer to DISC_UNIQUE_BRANCH, or bytes that are shown as they are.
+/// Bytes that aren't a valid frame: the answer to DISC_UNIQUE_BRANCH, or bytes that are shown as they are.
 fn put_other(text: &mut String, bytes: &[u8], error: FrameError) -> Result<(), AllocError>
     ensures answer { (uid : Uid) → IsAnswerOf uid bytes.now → OnOk result (string_bytes text.new ≡ string_bytes text.old ++ answer_words uid) }
     ensures stray { ((uid : Uid) → IsAnswerOf uid bytes.now → ⊥) → OnOk result (string_bytes text.new ≡ string_bytes text.old ++ stray_words error bytes.now) }
@@ -48,7 +48,7 @@ fn put_other(text: &mut String, bytes: &[u8], error: FrameError) -> Result<(), A
     put_hex(text, bytes)
 }
 
-/// Why bytes are no frame.
+/// Why bytes aren't a valid frame.
 pub(crate) fn cause_of(error: FrameError) -> &'static str
     ensures { result.now ≡ cause_words error }
 {

@@ -64,7 +64,7 @@ fn put_subject(text: &mut String, frame: &FrameView<'_>) -> Result<(), AllocErro
     write!(text, ", transaction {tn}")
 }
 
-/// A parameter: its name and its number, or the number where it has no name.
+/// A parameter: its name and its number, or the number if it has no name.
 pub(crate) fn put_parameter(text: &mut String, pid: u16) -> Result<(), AllocError> {
     match parameter(pid) {
         Some(name) => write!(text, "{name} ({pid:04X})"),
@@ -96,7 +96,7 @@ pub(crate) fn put_response_type(
     }
 }
 
-/// How many messages wait in the responder, where any does (section 6.2.8).
+/// How many messages wait in the responder, if any does (section 6.2.8).
 fn put_waiting(text: &mut String, count: u8) -> Result<(), AllocError> {
     match count {
         0 => Ok(()),

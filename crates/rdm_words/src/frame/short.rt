@@ -23,7 +23,7 @@ use std::fmt::Write;
 const LONGEST_VALUE: usize = 64;
 
 /// Puts what a request says at the end, in one line of at most some 80 characters without its line end, as `GET DEVICE_INFO`
-/// or `SET DMX_START_ADDRESS: 101`. Bytes that are no frame are named as such.
+/// or `SET DMX_START_ADDRESS: 101`. Bytes that aren't a valid frame are named as such.
 #[tactic(auto, using(crate::proofs::Plainness::plain_shown))]
 pub fn put_request_words(
     out: &mut Vec<u8>,
@@ -41,7 +41,8 @@ pub fn put_request_words(
 }
 
 /// Puts what a reply says at the end, in one line of at most some 80 characters without its line end, as `ACK`,
-/// `ACK_TIMER 5.0 s` or `NACK: data out of range`. Bytes that are no frame and no answer to discovery are named as such.
+/// `ACK_TIMER 5.0 s` or `NACK: data out of range`. Bytes that are neither a valid frame nor an answer to discovery are named as
+/// such.
 #[tactic(auto, using(crate::proofs::Plainness::plain_shown))]
 pub fn put_reply_words(out: &mut Vec<u8>, bytes: &[u8], known: &Known<'_>) -> Result<(), AllocError>
     ensures plain { OnOk result ((own : List ℕ) × IsPlain own × (out.new.items ≡ out.old.items ++ own)) }
@@ -101,7 +102,7 @@ fn put_reply(
     }
 }
 
-/// The parameter, and the sub-device where it isn't the root.
+/// The parameter, and the sub-device if it isn't the root.
 fn put_subject(text: &mut String, frame: &FrameView<'_>) -> Result<(), AllocError> {
     let pid = frame.pid;
     match parameter(pid) {

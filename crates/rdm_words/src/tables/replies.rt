@@ -10,7 +10,7 @@ pub const RESPONSE_TYPES: Table = Table(&[
     (0x03, "ACK_OVERFLOW"),
 ]);
 
-/// Why a request is refused, as `data out of range` (table A-17).
+/// Why a request is rejected, such as `data out of range` (table A-17).
 pub const NACK_REASONS: Table = Table(&[
     (0x0000, "unknown PID"),
     (0x0001, "format error"),

@@ -2,7 +2,7 @@
 
 use super::Table;
 
-/// What PRESET_PLAYBACK plays, if it is no scene (table A-7).
+/// What PRESET_PLAYBACK plays, if it isn't a scene (table A-7).
 pub const PRESETS: Table = Table(&[(0x0000, "off"), (0xFFFF, "all")]);
 
 /// The states of a lamp (table A-8).
