@@ -1,6 +1,6 @@
 -- The words of a command that a friendly script may spell in another way are read exactly as what they spell.
 use Rattle.std.proofs.Common.{◌≡◌, ◌≢◌, ℕ, suc, ◌+◌, ◌-◌, ◌<◌, ◌≤◌, Bool, true, false, not, cond, eqb, leb, ltb, ◌&&◌, List, [], ◌∷◌, ◌++◌, length, get_or, take, drop, Option, Some, None, ◌⊎◌, inl, inr, refl, sym, ap, subst, ◌∙◌, arith}
-use Rattle.std.specs.Prelude.{codes, slice_index}
+use Rattle.std.specs.Prelude.{codes, find, slice_index}
 use Rattle.std.specs.Int.{w16, to_be_bytes}
 use Rattle.std.specs.List.{list_all}
 use Rattle.std.specs.Option.{option_or}
@@ -14,7 +14,9 @@ use Rattle.rdm_frame.proofs.NumberSpellings.{long, word_read, word_again}
 use Rattle.rdm_script.specs.declared.dialect.Spelling.{Spelling}
 use Rattle.rdm_script.specs.declared.dialect.Spelling.TheVariants.{Strict, Friendly}
 use Rattle.rdm_script.specs.Decimals.{number_up_to}
-use Rattle.rdm_script.specs.Names.{named_in, network_names, product_names, setup_names, power_names, control_names, pid_named}
+use Rattle.rdm_params.specs.declared.kind.Kind.{Kind}
+use Rattle.rdm_params.specs.Table.Kinds.{pid_of, name_of, kinds, kind_named}
+use Rattle.rdm_script.specs.Names.{named_in, other_names, pid_named}
 use Rattle.rdm_script.specs.Grammar.{is_plain, sub_named, sub_in, pid_in, bytes_load_in, is_shown, is_quoted, between, quoted_in, load_in}
 use Rattle.rdm_script.specs.Spelling.{SpellsCount, SpellsSub, SpellsPid, SpellsQuoted, SpellsLoad}
 use Rattle.rdm_script.proofs.DecimalSpellings.{number_read, number_again}
@@ -115,17 +117,25 @@ not_in (row ∷ rows) h text four =
     let other : bytes_eq text row.1 ≡ false = differs text row.1 (λ e. let is_four : not (eqb (length row.1) 4) ≡ false = rw (sym e ∙ four) refl in let never : true ≡ false = sym p.0 ∙ is_four in cc) in
     rw other (not_in rows p.1 text four)
 
-neither : (o p : Option ℕ) → o ≡ None → p ≡ None → option_or o p ≡ None
-neither None p h k = k
-neither (Some n) p h k = h
+-- no parameter of the table has a name of four letters
+abbrev are_long_kinds : List Kind → Bool
+are_long_kinds [] = true
+are_long_kinds (k ∷ ks) = not (eqb (length (name_of k)) 4) && are_long_kinds ks
+
+not_found : (ks : List Kind) → are_long_kinds ks ≡ true → (text : List ℕ) → length text ≡ 4 → find (λ k. bytes_eq (name_of k) text) ks ≡ None
+not_found [] h text four = refl
+not_found (k ∷ ks) h text four =
+    let p = both (not (eqb (length (name_of k)) 4)) (are_long_kinds ks) h in
+    let other : bytes_eq (name_of k) text ≡ false = differs (name_of k) text (λ e. let is_four : not (eqb (length (name_of k)) 4) ≡ false = rw (e ∙ four) refl in let never : true ≡ false = sym p.0 ∙ is_four in cc) in
+    rw other (not_found ks p.1 text four)
+
+no_kind : (text : List ℕ) → length text ≡ 4 → kind_named text ≡ None
+unfolding kind_named
+no_kind text four = not_found kinds refl text four
 
 no_name : (text : List ℕ) → length text ≡ 4 → pid_named text ≡ None
 unfolding pid_named
-no_name text four =
-    neither _ _ (not_in network_names refl text four)
-    (neither _ _ (not_in product_names refl text four)
-    (neither _ _ (not_in setup_names refl text four)
-    (neither _ _ (not_in power_names refl text four) (not_in control_names refl text four))))
+no_name text four = rw (no_kind text four) (not_in other_names refl text four)
 
 pub pid_read : (spelling : Spelling) (text : List ℕ) (n : ℕ) → pid_in spelling text ≡ Some n → SpellsPid spelling text n
 unfolding pid_in

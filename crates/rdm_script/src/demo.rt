@@ -7,15 +7,13 @@ ghost use Rattle.rdm_script.specs.Parties.{demo_device};
 ghost use Rattle.rdm_script.specs.Rules.{rules_of};
 
 use crate::dialect::Spelling;
-use crate::parties::DEVICE;
+use crate::parties::DEMO_DEVICE;
 use crate::rules::RuledPart;
 use crate::stage::Stage;
 use rdm_crew::Panel;
+use rdm_frame::standard::MOST_SUB_DEVICES;
 use rdm_outcomes::demo_rules;
 use rdm_params::{Change, Plate, Profile};
-
-/// How many sub-devices there can be at most (E1.20 section 9).
-const MOST_SUBS: u16 = 512;
 
 /// The moving head of the demonstration, for scripts whose words are spelled so.
 pub(crate) fn demo_stage(spelling: Spelling) -> Stage<RuledPart, RuledPart, DemoPanel>
@@ -27,8 +25,8 @@ pub(crate) fn demo_stage(spelling: Spelling) -> Stage<RuledPart, RuledPart, Demo
 {
     let rules = demo_rules();
     Stage {
-        device: DEVICE,
-        profile: Profile::demo(MOST_SUBS),
+        device: DEMO_DEVICE,
+        profile: Profile::demo(MOST_SUB_DEVICES),
         spelling,
         first: RuledPart::new(&rules),
         second: RuledPart::new(&rules),

@@ -10,6 +10,5 @@ mod telling;
 mod words;
 mod wrong;
 
-pub(crate) use parsing::MOST_BYTES;
-pub use parsing::{ScriptError, parse, parse_as, parse_for};
+pub use parsing::{MOST_BYTES, ScriptError, parse, parse_as, parse_for};
 pub use telling::{refusal_at, stopped_line};

@@ -26,12 +26,13 @@ mod trace;
 pub use demo::DemoPanel;
 pub use dialect::{Dialect, Spelling};
 pub use exit::{report, run_program};
-pub use grammar::{ScriptError, parse, parse_as, parse_for, refusal_at, stopped_line};
+pub use grammar::{MOST_BYTES, ScriptError, parse, parse_as, parse_for, refusal_at, stopped_line};
 pub use laws::{
     line_says_what_its_words_spell, program_errors_are_equal_by_value, refusals_are_equal_by_value,
     script_errors_are_equal_by_value, script_is_never_refused, setups_are_equal_by_value,
     strict_steps_are_friendly, text_is_one_script, wanteds_are_equal_by_value,
 };
+pub use parties::{CONTROLLER, DEMO_DEVICE};
 pub use program::{ProgramError, run_script, run_script_as, run_script_on};
 pub use refusal::{Excerpt, Refusal, Wanted};
 pub use rules::{RuledPart, ruled_parts_fit};

@@ -22,7 +22,7 @@ const START: u8 = 0x7E;
 const END: u8 = 0xE7;
 
 /// The bytes of a message, or a part of them.
-pub type Packet = Bytes<605>;
+pub type Packet = Bytes<MOST_BYTES>;
 
 /// A message that stands in a buffer.
 #[derive(Clone, Copy, Debug)]

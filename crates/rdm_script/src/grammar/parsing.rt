@@ -16,7 +16,7 @@ ghost use Rattle.rdm_script.specs.declared.grammar.line.Line.TheVariants.{Faulty
 use super::line::{Line, first_line_in, line_in};
 use super::words::words_of;
 use crate::dialect::{Dialect, Spelling};
-use crate::parties::DEVICE;
+use crate::parties::DEMO_DEVICE;
 use crate::script::{Script, Setup};
 use rdm_frame::Uid;
 use rdm_streams::{line_end, without_return};
@@ -93,7 +93,7 @@ pub fn parse(alloc: Global, text: &[u8]) -> Result<Script, ScriptError>
     ensures lines { IfOk result (λ script. script.lines.items ≡ step_lines (strict demo_device) text.now) }
     ensures setup_line { IfOk result (λ script. script.setup_line ≡ setup_line (strict demo_device) text.now) }
 {
-    parse_for(alloc, DEVICE, text)
+    parse_for(alloc, DEMO_DEVICE, text)
 }
 
 /// The script that the bytes are, played on a device of this UID: `dev` is this device, and `maker` every device of its

@@ -31,6 +31,7 @@ pub(crate) fn ended_by(now: u64, worker: u8, since: u64, job: Option<Job>) -> Op
 fn end_by(now: u64, worker: u8, since: u64, job: Job) -> Option<Ended>
     ensures { result ≡ says.ended_by now worker since (Some job) }
 {
+    // It may have started long before it began, behind others of its worker, and no list of what `Started` told is kept here.
     let span = 100 * u64::from(estimate_of(&job.work));
     if since > now || now - since < span {
         return None;
