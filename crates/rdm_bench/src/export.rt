@@ -10,6 +10,7 @@ use crate::packed::unpack;
 use crate::replay::Replay;
 use crate::{Fault, Reports, Tally};
 use rdm_frame::Uid;
+use rdm_frame::standard::MOST_SUB_DEVICES;
 use rdm_params::Profile;
 use rdm_responder::{NewError, Responder};
 use std::alloc::{AllocError, Global};
@@ -22,9 +23,6 @@ const DEVICE: Uid = Uid {
 
 /// How many results of slow commands it has room for.
 const QUEUE_SIZE: u16 = 1024;
-
-/// How many sub-devices there can be.
-const MOST_SUBS: u16 = 512;
 
 /// Makes a responder with that many sub-devices, lets it hear the frames of `preface` once and those of `bytes` `rounds`
 /// times over, and sets `tally` to what the bytes of all replies come to. Each job that starts is reported, before the next
@@ -77,7 +75,7 @@ fn run(
     ensures too_many { (result ≡ Err Fault.TooManySubs) ↔ (512 < subs) }
     ensures unknown { (result ≡ Err Fault.UnknownReports) ↔ ((subs ≤ 512) × (3 < reports)) }
 {
-    if subs > MOST_SUBS {
+    if subs > MOST_SUB_DEVICES {
         return Err(Fault::TooManySubs);
     }
     let Some(reports) = Reports::with_code(reports) else {

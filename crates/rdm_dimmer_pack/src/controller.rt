@@ -3,7 +3,7 @@
 ghost use Rattle.std.specs.Prelude.{◌≤◌, length};
 
 use crate::PACK;
-use rdm_frame::standard::{GET_COMMAND, ROOT_DEVICE, SET_COMMAND};
+use rdm_frame::standard::{FIRST_PORT, GET_COMMAND, ROOT_DEVICE, SET_COMMAND};
 use rdm_frame::{Body, Frame, Uid, Wire, encode};
 use rdm_responder::Kind;
 
@@ -33,7 +33,7 @@ fn request(tn: u8, class: u8, kind: Kind, load: &[u8]) -> Wire
         dst: PACK,
         src: CONTROLLER,
         tn,
-        port: 1,
+        port: FIRST_PORT,
         count: 0,
         sub: ROOT_DEVICE,
         class,
