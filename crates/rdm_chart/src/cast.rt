@@ -60,7 +60,12 @@ fn named_by(line: &Line) -> Option<Party> {
     match line {
         Line::Job(job) | Line::Arrive { job, .. } => Some(Party::Worker(job.worker)),
         Line::Panel { .. } => Some(Party::Panel),
-        Line::Send { .. } | Line::Reply(_) | Line::Heard(_) | Line::Message(_) | Line::End => None,
+        Line::Send { .. }
+        | Line::Reply(_)
+        | Line::Heard(_)
+        | Line::Found(_)
+        | Line::Message(_)
+        | Line::End => None,
     }
 }
 

@@ -15,7 +15,7 @@ use crate::lettering::broken_lines;
 use crate::recorded::draw_message;
 use crate::style::Class;
 use crate::svg::Svg;
-use crate::transaction::{draw_heard, draw_reply, draw_request};
+use crate::transaction::{draw_found, draw_heard, draw_reply, draw_request};
 use crate::wording::line_words;
 use crate::work::{draw_change, draw_job, draw_report};
 use rdm_bus::Fault;
@@ -97,6 +97,7 @@ impl Drawing {
             Line::Reply(reply) => draw_reply(self, alloc, reply, known),
             Line::Job(job) => draw_job(self, alloc, *job),
             Line::Heard(heard) => draw_heard(self, alloc, *heard),
+            Line::Found(uid) => draw_found(self, alloc, *uid),
             Line::Arrive { job, .. } => {
                 let words = line_words(alloc, line, known)?;
                 draw_report(self, alloc, *job, words.as_str())

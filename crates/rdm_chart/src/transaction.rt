@@ -17,7 +17,7 @@ use crate::shape::Area;
 use crate::style::Class;
 use crate::wording::{reply_words, request_words};
 use rdm_bus::{Fault, Heard};
-use rdm_frame::Wire;
+use rdm_frame::{Uid, Wire};
 use rdm_words::Known;
 use std::alloc::{AllocError, Global};
 
@@ -146,7 +146,7 @@ pub(crate) fn draw_heard(
     ensures { OnOk result (drawing.new.arrows ≡ drawing.old.arrows) }
 {
     match heard {
-        Some(Heard::Message) => draw_tag(drawing, alloc),
+        Some(Heard::Message) => draw_recorded(drawing, alloc),
         Some(Heard::Ignored) => {
             let base = drawing.y.saturating_sub(2);
             drawing
@@ -158,11 +158,29 @@ pub(crate) fn draw_heard(
 }
 
 /// Draws a tag that says which message is recorded.
-fn draw_tag(drawing: &mut Drawing, alloc: Global) -> Result<(), AllocError>
+fn draw_recorded(drawing: &mut Drawing, alloc: Global) -> Result<(), AllocError>
     ensures { OnOk result (drawing.new.arrows ≡ drawing.old.arrows) }
 {
     drawing.recorded = drawing.recorded.saturating_add(1);
     let number = drawing.recorded;
+    let name = format!(in alloc; "recorded {number}")?;
+    draw_tag(drawing, name.as_str())
+}
+
+/// Draws which fixture the controller finds, at its side.
+pub(crate) fn draw_found(drawing: &mut Drawing, alloc: Global, uid: Uid) -> Result<(), AllocError>
+    ensures { OnOk result (drawing.new.arrows ≡ drawing.old.arrows) }
+{
+    draw_tag(drawing, "found")?;
+    drawing.skip(GAP / 2);
+    let text = format!(in alloc; "{uid}")?;
+    drawing.draw_text(Class::NoteBefore, CONTROLLER_X - PADDING, text.as_str())
+}
+
+/// Draws a tag with this name, beside what the controller hears.
+fn draw_tag(drawing: &mut Drawing, name: &str) -> Result<(), AllocError>
+    ensures { OnOk result (drawing.new.arrows ≡ drawing.old.arrows) }
+{
     let area = Area {
         x: CONTROLLER_X - GAP - TAG_WIDTH,
         y: drawing.y.saturating_sub(BELOW_ARROW + TAG_HEIGHT / 2),
@@ -170,10 +188,7 @@ fn draw_tag(drawing: &mut Drawing, alloc: Global) -> Result<(), AllocError>
         height: TAG_HEIGHT,
     };
     drawing.front.area(Class::Tag, area, 4)?;
-    let name = format!(in alloc; "recorded {number}")?;
     let centre = CONTROLLER_X - GAP - TAG_WIDTH / 2;
     let base = area.y.saturating_add(LINE_HEIGHT - 2);
-    drawing
-        .front
-        .text(Class::TagName, centre, base, name.as_str())
+    drawing.front.text(Class::TagName, centre, base, name)
 }

@@ -69,6 +69,14 @@ heard nothing
 end
 ";
 
+/// A mute that is answered, and the fixture that is found so.
+const MUTED: &[u8] = b"send CC01187FF0000000017FF00000000202010000001000020003DB
+reply CC011A7FF0000000027FF000000001020000000011000202000003DF
+heard reply
+found 7FF0:00000001
+end
+";
+
 /// A label that has no room beside the words before it.
 const BROKEN: &[u8] =
     b"send CC01387FF0000000017FF00000000200010000003000822057575757575757575757575757575757575757575757575757575757575757570F99
@@ -87,6 +95,9 @@ fn rows_of_charts(rt: HostRuntime) -> Result<(), Fail> {
         (WORKERS, "\"M 1070 ", 3),
         (UNHEARD, "class=\"arrow lost\"", 1),
         (UNHEARD, "no reply", 0),
+        (MUTED, "class=\"arrow\"", 2),
+        (MUTED, ">found</text>", 1),
+        (MUTED, ">7FF0:00000001</text>", 1),
         (BROKEN, ">SET DEVICE_LABEL:</text>", 1),
         (
             BROKEN,

@@ -1,12 +1,16 @@
 -- What is written of a line is read back.
-use Rattle.std.proofs.Common.{◌≡◌, ℕ, suc, ◌+◌, ◌<◌, ◌≤◌, ◌^◌, ◌==◌, Bool, true, false, cond, eqb, leb, List, [], ◌∷◌, ◌++◌, length, Option, Some, None, refl, sym, ap, ◌∙◌, arith, append_assoc}
+use Rattle.std.proofs.Common.{◌≡◌, ℕ, ◌<◌, ◌^◌, Bool, true, false, eqb, List, [], ◌∷◌, ◌++◌, length, Option, Some, None, refl, ap, ◌∙◌, arith, append_assoc}
 use Rattle.std.specs.Prelude.{codes, decimal}
 use Rattle.std.specs.Fmt.{signed_decimal}
 use Rattle.std.specs.Int.{w16, to_be_bytes}
-use Rattle.std.specs.Int.RustNames.{FitsSigned}
 use Rattle.std.proofs.lemmas.List.{append-nil}
 use Rattle.std.proofs.lemmas.Bool.{le-leb, ne_eqb}
+use Rattle.rdm_frame.specs.declared.uid.Uid.{Uid}
+use Rattle.rdm_frame.specs.FrameText.{IsUid}
 use Rattle.rdm_frame.specs.Digits.{digits}
+use Rattle.rdm_frame.specs.DigitReading.{uid_in}
+use Rattle.rdm_frame.specs.UidText.{uid_text}
+use Rattle.rdm_frame.proofs.NumberSpellings.{uid_spelled, uid_written}
 use Rattle.rdm_params.specs.declared.panel.Change.{Change}
 use Rattle.rdm_params.specs.declared.panel.Change.TheVariants.{Start, Personality, Label}
 use Rattle.rdm_params.specs.declared.jobs.message.Message.{Message as TheMessage}
@@ -21,7 +25,7 @@ use Rattle.rdm_collector.specs.declared.transaction.Heard.{Heard as TheHeard}
 use Rattle.rdm_collector.specs.declared.transaction.Heard.TheVariants as heard
 use Rattle.rdm_trace.specs.declared.line.JobName.{JobName}
 use Rattle.rdm_trace.specs.declared.line.Line.{Line}
-use Rattle.rdm_trace.specs.declared.line.Line.TheVariants.{Send, Reply, Job, Heard, Arrive, Panel, Message, End}
+use Rattle.rdm_trace.specs.declared.line.Line.TheVariants.{Send, Reply, Job, Heard, Found, Arrive, Panel, Message, End}
 use Rattle.rdm_trace.specs.LineText.{line_text, word_digits, pair_words, data_words, fault_words, reply_words, job_words, heard_word, status_words, outcome_words, change_words, refused_words, IsBytes, IsWire, IsFault, IsJob, IsOutcome, IsChange, IsLine}
 use Rattle.rdm_trace.specs.Numbers.{number_up_to, signed_in}
 use Rattle.rdm_trace.specs.Reading.{first_word, behind_word, up_to, wire_in, code_in, body_in, lost_in, altered, altered_in, fault_in, request_in, reply_in, heard_in, job_of, job_in, failed_in, outcome_in, report_in, label_in, change_in, refused_in, panel_in, message_in, told_by, said_by, line_in}
@@ -258,6 +262,13 @@ said_heard : (rest : List ℕ) (taken : Option TheHeard) → heard_in rest ≡ S
 unfolding said_by
 said_heard rest taken e = rw e refl
 
+uid_back : (uid : Uid) → IsUid uid → uid_in (uid_text uid) ≡ Some uid
+uid_back uid h = (uid_spelled (uid_text uid) uid).1 (uid_written uid h)
+
+said_found : (rest : List ℕ) (uid : Uid) → uid_in rest ≡ Some uid → said_by (codes "found") rest ≡ Some (Found uid)
+unfolding said_by
+said_found rest uid e = rw e refl
+
 said_arrive : (rest : List ℕ) → said_by (codes "arrive") rest ≡ report_in rest
 unfolding said_by told_by
 said_arrive rest = refl
@@ -281,6 +292,7 @@ line_back (Reply None) h = by_word (codes "reply") (codes "none") _ refl (said_r
 line_back (Reply (Some bytes)) h = by_word (codes "reply") (digits bytes) _ refl (said_reply _ ∙ reply_back bytes h)
 line_back (Job job) h = by_word (codes "job") (job_words job) _ refl (said_job _ job (job_back job h))
 line_back (Heard taken) h = by_word (codes "heard") (heard_word taken) _ refl (said_heard _ taken (heard_back taken))
+line_back (Found uid) h = by_word (codes "found") (uid_text uid) _ refl (said_found _ uid (uid_back uid h))
 line_back (Arrive job outcome) h = by_word (codes "arrive") (job_words job ++ outcome_words outcome) _ refl (said_arrive _ ∙ report_back job outcome h.0 h.1)
 line_back (Panel change refused) h = by_word (codes "panel") (change_words change ++ refused_words refused) _ refl (said_panel _ ∙ panel_back change refused h)
 line_back (Message m) h = by_word (codes "message") _ _ refl (said_message _ m (message_back m h.0 h.1 h.2 h.3))

@@ -4,7 +4,9 @@ use Rattle.std.specs.Fmt.{signed_decimal}
 use Rattle.std.specs.Int.{w16, to_be_bytes}
 use Rattle.std.specs.Int.RustNames.{FitsSigned}
 use Rattle.std.specs.List.{AllByRecursion, flat_map}
+use Rattle.rdm_frame.specs.FrameText.{IsUid}
 use Rattle.rdm_frame.specs.Digits.{digits}
+use Rattle.rdm_frame.specs.UidText.{uid_text}
 use Rattle.rdm_params.specs.declared.panel.Change.{Change}
 use Rattle.rdm_params.specs.declared.panel.Change.TheVariants.{Start, Personality, Label}
 use Rattle.rdm_params.specs.declared.jobs.outcome.Outcome.{Outcome}
@@ -17,7 +19,7 @@ use Rattle.rdm_collector.specs.declared.transaction.Heard.{Heard as TheHeard}
 use Rattle.rdm_collector.specs.declared.transaction.Heard.TheVariants as heard
 use Rattle.rdm_trace.specs.declared.line.JobName.{JobName}
 use Rattle.rdm_trace.specs.declared.line.Line.{Line}
-use Rattle.rdm_trace.specs.declared.line.Line.TheVariants.{Send, Reply, Job, Heard, Arrive, Panel, Message, End}
+use Rattle.rdm_trace.specs.declared.line.Line.TheVariants.{Send, Reply, Job, Heard, Found, Arrive, Panel, Message, End}
 
 -- four digits for a number of 16 bits, most significant byte first
 abbrev pub word_digits : ℕ → List ℕ
@@ -90,6 +92,7 @@ line_text (Send bytes fault) = codes "send " ++ digits bytes ++ fault_words faul
 line_text (Reply reply) = codes "reply " ++ reply_words reply
 line_text (Job job) = codes "job " ++ job_words job
 line_text (Heard heard) = codes "heard " ++ heard_word heard
+line_text (Found uid) = codes "found " ++ uid_text uid
 line_text (Arrive job outcome) = codes "arrive " ++ job_words job ++ outcome_words outcome
 line_text (Panel change refused) = codes "panel " ++ change_words change ++ refused_words refused
 line_text (Message m) = codes "message " ++ digits (m.class ∷ []) ++ 32 ∷ word_digits m.pid ++ 32 ∷ word_digits m.sub ++ 32 ∷ data_words m.body
@@ -141,6 +144,7 @@ IsLine (Reply None) = Unit {0}
 IsLine (Reply (Some bytes)) = IsWire bytes
 IsLine (Job job) = IsJob job
 IsLine (Heard heard) = Unit {0}
+IsLine (Found uid) = IsUid uid
 IsLine (Arrive job outcome) = IsJob job × IsOutcome outcome
 IsLine (Panel change refused) = IsChange change
 IsLine (Message m) = (m.class < 2 ^ 8) × (m.pid < 2 ^ 16) × (m.sub < 2 ^ 16) × IsBytes 231 m.body

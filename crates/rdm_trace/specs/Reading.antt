@@ -1,10 +1,10 @@
 -- How a line of a trace is read, as the code does it. More is read than is written: digits of either case, blanks between
 -- the bytes of a reply, and the numbers of Numbers.antt. LineText.antt has what is written.
-use Rattle.std.specs.Prelude.{ℕ, ◌-◌, Bool, true, false, ◌==◌, ◌&&◌, ◌||◌, if◌then◌else◌, List, [], ◌∷◌, length, Option, Some, None, nat_le, nat_lt, codes}
+use Rattle.std.specs.Prelude.{ℕ, ◌-◌, Bool, true, false, ◌==◌, ◌&&◌, ◌||◌, if◌then◌else◌, List, [], ◌∷◌, length, Option, Some, None, nat_le, codes}
 use Rattle.std.specs.Int.{w16}
 use Rattle.std.specs.Str.{bytes_eq}
 use Rattle.std.specs.List.{before_first, after_first}
-use Rattle.rdm_frame.specs.DigitReading.{◌>>=◌, byte_in, bytes_in, number_in}
+use Rattle.rdm_frame.specs.DigitReading.{◌>>=◌, byte_in, bytes_in, number_in, uid_in}
 use Rattle.rdm_params.specs.declared.panel.Change.{Change}
 use Rattle.rdm_params.specs.declared.panel.Change.TheVariants.{Start, Personality, Label}
 use Rattle.rdm_params.specs.declared.jobs.message.Message.{Message as TheMessage}
@@ -17,7 +17,7 @@ use Rattle.rdm_collector.specs.declared.transaction.Heard.{Heard as TheHeard}
 use Rattle.rdm_collector.specs.declared.transaction.Heard.TheVariants as heard
 use Rattle.rdm_trace.specs.declared.line.JobName.{JobName}
 use Rattle.rdm_trace.specs.declared.line.Line.{Line}
-use Rattle.rdm_trace.specs.declared.line.Line.TheVariants.{Send, Reply, Job, Heard, Arrive, Panel, Message, End}
+use Rattle.rdm_trace.specs.declared.line.Line.TheVariants.{Send, Reply, Job, Heard, Found, Arrive, Panel, Message, End}
 use Rattle.rdm_trace.specs.Numbers.{number_up_to, signed_in}
 
 -- ---- words
@@ -189,7 +189,8 @@ said_by word rest =
     else (if bytes_eq word (codes "reply") then reply_in rest
     else (if bytes_eq word (codes "job") then (job_in rest >>= λ job. Some (Job job))
     else (if bytes_eq word (codes "heard") then (heard_in rest >>= λ heard. Some (Heard heard))
-    else told_by word rest)))
+    else (if bytes_eq word (codes "found") then (uid_in rest >>= λ uid. Some (Found uid))
+    else told_by word rest))))
 
 -- What a line says, or nothing if it isn't a line of a trace.
 unfoldable pub line_in : List ℕ → Option Line

@@ -3,8 +3,8 @@
 use crate::words::first_word;
 
 /// The words with which the lines of a trace begin.
-const BEGINNINGS: [&[u8]; 8] = [
-    b"send", b"reply", b"job", b"heard", b"arrive", b"panel", b"message", b"end",
+const BEGINNINGS: [&[u8]; 9] = [
+    b"send", b"reply", b"job", b"heard", b"found", b"arrive", b"panel", b"message", b"end",
 ];
 
 /// Whether the text may be the front of a line of a trace that was cut off, by its first word.

@@ -2,7 +2,7 @@
 
 use rdm_bus::Fault;
 use rdm_collector::Heard;
-use rdm_frame::Wire;
+use rdm_frame::{Uid, Wire};
 use rdm_params::{Change, Message, Outcome};
 
 /// A line of a trace.
@@ -21,6 +21,8 @@ pub enum Line {
     Job(JobName),
     /// `heard`: what the controller took the reply for, or `None` if no bytes reached it.
     Heard(Option<Heard>),
+    /// `found`: the controller finds the fixture with this UID, which has answered its mute.
+    Found(Uid),
     /// `arrive`: the report of a job arrives at the device.
     Arrive {
         /// The job.

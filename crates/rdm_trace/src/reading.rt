@@ -10,6 +10,7 @@ use crate::panel::panel_in;
 use crate::report::{job_in, report_in};
 use crate::words::first_word;
 use rdm_collector::Heard;
+use rdm_frame::Uid;
 use rdm_frame::digits::word_in;
 use rdm_params::Message;
 
@@ -38,6 +39,8 @@ fn said_by(word: &[u8], rest: &[u8]) -> Option<Line>
         Some(Line::Job(job_in(rest)?))
     } else if word == b"heard".as_slice() {
         Some(Line::Heard(heard_in(rest)?))
+    } else if word == b"found".as_slice() {
+        Some(Line::Found(Uid::from_text(rest)?))
     } else {
         told_by(word, rest)
     }

@@ -2,6 +2,7 @@
 
 ghost use Rattle.std.specs.Prelude.{◌≡◌, ◌++◌, ◌∷◌, OnOk, codes, decimal};
 ghost use Rattle.rdm_frame.specs.Digits.{digits};
+ghost use Rattle.rdm_frame.specs.UidText.{uid_text};
 ghost use Rattle.rdm_trace.specs.LineText.{whole_line, line_text, fault_words, reply_words, job_words, heard_word, outcome_words, change_words, refused_words, pair_words};
 ghost use Rattle.rdm_trace.specs.declared.line.Line.TheVariants.{Message as TheMessage};
 
@@ -9,8 +10,8 @@ use crate::put::{put_data, put_number, put_pair, put_status, put_word};
 use crate::{JobName, Line};
 use rdm_bus::Fault;
 use rdm_collector::Heard;
-use rdm_frame::Wire;
 use rdm_frame::digits::put_digits;
+use rdm_frame::{Uid, Wire};
 use rdm_params::{Change, Message, Outcome};
 use std::alloc::AllocError;
 
@@ -38,6 +39,7 @@ fn put_words(text: &mut Vec<u8>, line: &Line) -> Result<(), AllocError>
             text.extend_from_slice(b"heard ")?;
             text.extend_from_slice(heard_word(*heard))
         }
+        Line::Found(uid) => put_found(text, *uid),
         Line::Arrive { job, outcome } => put_report(text, *job, *outcome),
         Line::Panel { change, refused } => put_panel(text, change, *refused),
         Line::Message(message) => put_message(text, message),
@@ -103,6 +105,14 @@ fn heard_word(heard: Option<Heard>) -> &'static [u8]
         Some(Heard::Ignored) => b"ignored",
         None => b"nothing",
     }
+}
+
+/// A fixture that was found: its UID.
+fn put_found(text: &mut Vec<u8>, uid: Uid) -> Result<(), AllocError>
+    ensures { OnOk result (text.new.items ≡ text.old.items ++ (codes "found " ++ uid_text uid)) }
+{
+    text.extend_from_slice(b"found ")?;
+    text.extend_from_slice(&uid.text())
 }
 
 /// The report of a job.

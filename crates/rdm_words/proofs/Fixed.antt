@@ -13,13 +13,14 @@ use Rattle.rdm_frame.specs.declared.uid.Uid.{Uid}
 use Rattle.rdm_frame.specs.Digits.{digits}
 use Rattle.rdm_frame.specs.Discovery.{branch_reply, IsBranchReply}
 use Rattle.rdm_frame.specs.Reading.{IsFirstFault}
+use Rattle.rdm_frame.specs.UidText.{uid_text}
 use Rattle.rdm_bus.specs.declared.fault.Fault.{Fault}
 use Rattle.rdm_collector.specs.declared.transaction.Heard.{Heard as TheHeard}
 use Rattle.rdm_collector.specs.declared.transaction.Heard.TheVariants as heard
 use Rattle.rdm_trace.specs.declared.line.Line.{Line}
-use Rattle.rdm_trace.specs.declared.line.Line.TheVariants.{Send, Reply}
+use Rattle.rdm_trace.specs.declared.line.Line.TheVariants.{Send, Reply, Found}
 use Rattle.rdm_words.specs.Plain.{is_plain, IsPlain, IsFixed, shown_byte, shown}
-use Rattle.rdm_words.specs.Fixed.{cause_words, stray_words, answer_words, raised_words, fault_line, heard_words, job_words, IsAnswerOf, AreWordsOfBytes, AreWordsOfLine}
+use Rattle.rdm_words.specs.Fixed.{cause_words, stray_words, answer_words, raised_words, fault_line, heard_words, found_words, job_words, IsAnswerOf, AreWordsOfBytes, AreWordsOfLine}
 use Rattle.rdm_words.specs.Said.{Tells}
 use Rattle.rdm_words.proofs.Plainness.{plain_append, digit_plain, digit_small, told_line}
 
@@ -97,23 +98,19 @@ word_fits n = (omega arith, (omega arith, tt))
 long_fits : (n : ℕ) → AreBytes (to_be_bytes w32 n)
 long_fits n = (omega arith, (omega arith, (omega arith, (omega arith, tt))))
 
+plain_uid : (uid : Uid) → IsPlain (uid_text uid)
+plain_uid uid =
+    plain_append (digits (to_be_bytes w16 uid.maker)) (58 ∷ digits (to_be_bytes w32 uid.device)) (plain_hex (to_be_bytes w16 uid.maker) (word_fits uid.maker))
+    (refl, plain_hex (to_be_bytes w32 uid.device) (long_fits uid.device))
+
 fixed_answer : (uid : Uid) → IsFixed (answer_words uid)
 fixed_answer uid = record { some = some; plain = plain }
   where
     some : answer_words uid ≢ []
     some e = absurd cc
 
-    maker : IsPlain (digits (to_be_bytes w16 uid.maker))
-    maker = plain_hex (to_be_bytes w16 uid.maker) (word_fits uid.maker)
-
-    device : IsPlain (58 ∷ digits (to_be_bytes w32 uid.device))
-    device = (refl, plain_hex (to_be_bytes w32 uid.device) (long_fits uid.device))
-
     plain : IsPlain (answer_words uid)
-    plain =
-        plain_append (digits (to_be_bytes w16 uid.maker) ++ 58 ∷ digits (to_be_bytes w32 uid.device)) (codes " answers: DISC_UNIQUE_BRANCH")
-        (plain_append (digits (to_be_bytes w16 uid.maker)) (58 ∷ digits (to_be_bytes w32 uid.device)) maker device)
-        (tried (codes " answers: DISC_UNIQUE_BRANCH") refl)
+    plain = plain_append (uid_text uid) (codes " answers: DISC_UNIQUE_BRANCH") (plain_uid uid) (tried (codes " answers: DISC_UNIQUE_BRANCH") refl)
 
 fixed_bytes : (bytes : List ℕ) → AreBytes bytes → (words : List ℕ) → AreWordsOfBytes bytes words → IsFixed words
 fixed_bytes bytes fits words (inl stray) = subst (λ (w : List ℕ). IsFixed w) (sym stray.2) (fixed_stray stray.0 bytes fits)
@@ -205,6 +202,12 @@ fixed_heard (Some heard.Message) = record { some = λ e. absurd cc; plain = trie
 fixed_heard (Some heard.Reply) = record { some = λ e. absurd cc; plain = tried (heard_words (Some heard.Reply)) refl }
 fixed_heard (Some heard.Ignored) = record { some = λ e. absurd cc; plain = tried (heard_words (Some heard.Ignored)) refl }
 
+fixed_found : (uid : Uid) → IsFixed (found_words uid)
+fixed_found uid = record {
+  some = λ e. absurd cc;
+  plain = plain_append (codes "the controller finds ") (uid_text uid) (tried (codes "the controller finds ") refl) (plain_uid uid);
+}
+
 pub fixed_none : IsFixed (codes "no reply")
 fixed_none = record { some = λ e. absurd cc; plain = tried (codes "no reply") refl }
 
@@ -239,6 +242,13 @@ pub adds_reply : {T E : Type 0} (r : Result T E) (line : Line) (given bytes old 
 adds_reply (Err e) line given bytes old new is same adds = tt
 adds_reply (Ok t) line given bytes old new is same adds = λ words are.
     adds words (subst (λ (l : Line). AreWordsOfLine l words) (is ∙ ap (λ (b : List ℕ). Reply (Some b)) (sym same)) are)
+
+pub adds_found : {T E : Type 0} (r : Result T E) (line : Line) (uid : Uid) (old new : List ℕ)
+    → line ≡ Found uid → OnOk r (new ≡ old ++ found_words uid) → Adds r (λ words. AreWordsOfLine line words) old new
+adds_found (Err e) line uid old new is added = tt
+adds_found (Ok t) line uid old new is added = λ words are.
+    let same : words ≡ found_words uid = subst (λ (l : Line). AreWordsOfLine l words) is are in
+    (subst (λ (w : List ℕ). IsFixed w) (sym same) (fixed_found uid), added ∙ ap (λ (w : List ℕ). old ++ w) (sym same))
 
 -- ---- written as they are
 

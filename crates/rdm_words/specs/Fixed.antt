@@ -13,7 +13,7 @@ use Rattle.rdm_bus.specs.declared.fault.Fault.TheVariants as fault
 use Rattle.rdm_collector.specs.declared.transaction.Heard.{Heard as TheHeard}
 use Rattle.rdm_collector.specs.declared.transaction.Heard.TheVariants as heard
 use Rattle.rdm_trace.specs.declared.line.Line.{Line}
-use Rattle.rdm_trace.specs.declared.line.Line.TheVariants.{Send, Reply, Job, Heard, Arrive, Panel, Message, End}
+use Rattle.rdm_trace.specs.declared.line.Line.TheVariants.{Send, Reply, Job, Heard, Found, Arrive, Panel, Message, End}
 
 -- ---- bytes
 
@@ -69,6 +69,10 @@ heard_words (Some heard.Reply) = codes "the controller has its reply"
 heard_words (Some heard.Ignored) = codes "the controller ignores what it hears"
 heard_words None = codes "the controller hears nothing"
 
+-- which fixture the controller finds
+abbrev pub found_words : Uid → List ℕ
+found_words uid = codes "the controller finds " ++ uid_text uid
+
 -- which job, by its worker and its number
 abbrev pub job_words : ℕ → ℕ → List ℕ
 job_words worker number = codes "job " ++ (decimal number ++ (codes " of worker " ++ decimal worker))
@@ -80,6 +84,7 @@ AreWordsOfLine (Reply None) words = words ≡ codes "no reply"
 AreWordsOfLine (Reply (Some bytes)) words = AreWordsOfBytes bytes words
 AreWordsOfLine (Job job) words = words ≡ job_words job.worker job.number ++ codes " starts"
 AreWordsOfLine (Heard heard) words = words ≡ heard_words heard
+AreWordsOfLine (Found uid) words = words ≡ found_words uid
 AreWordsOfLine (Arrive job outcome) words = ⊥
 AreWordsOfLine (Panel change refused) words = ⊥
 AreWordsOfLine (Message message) words = ⊥

@@ -1,7 +1,7 @@
 //! The words of the lines of a trace.
 
 ghost use Rattle.std.specs.Prelude.{◌≡◌, ℕ, List, ◌++◌, OnOk, string_bytes};
-ghost use Rattle.rdm_words.specs.Fixed.{AreWordsOfBytes, AreWordsOfLine, fault_line, heard_words, job_words, raised_words};
+ghost use Rattle.rdm_words.specs.Fixed.{AreWordsOfBytes, AreWordsOfLine, fault_line, found_words, heard_words, job_words, raised_words};
 ghost use Rattle.rdm_words.specs.Plain.{IsFixed, IsPlain};
 
 use crate::Known;
@@ -13,6 +13,7 @@ use crate::frame::header::put_parameter;
 use crate::frame::place::put_place;
 use crate::text::put_quoted;
 use rdm_bus::{Fault, Heard};
+use rdm_frame::Uid;
 use rdm_params::{Change, Message, Outcome};
 use rdm_trace::Line;
 use std::alloc::AllocError;
@@ -41,6 +42,7 @@ pub(crate) fn put_trace_line(
             text.push_str(" starts")
         }
         Line::Heard(heard) => text.push_str(heard_words(*heard)),
+        Line::Found(uid) => put_found(text, *uid),
         Line::Arrive { job, outcome } => {
             put_job(text, job.worker, job.number)?;
             put_outcome(text, *outcome, known)
@@ -94,6 +96,13 @@ fn heard_words(heard: Option<Heard>) -> &'static str
         Some(Heard::Ignored) => "the controller ignores what it hears",
         None => "the controller hears nothing",
     }
+}
+
+/// Which fixture the controller finds.
+fn put_found(text: &mut String, uid: Uid) -> Result<(), AllocError>
+    ensures { OnOk result (string_bytes text.new ≡ string_bytes text.old ++ found_words uid) }
+{
+    write!(text, "the controller finds {uid}")
 }
 
 /// How a job ended.

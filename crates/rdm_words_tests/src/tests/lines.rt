@@ -102,6 +102,18 @@ the controller ignores what it hears
 heard nothing
 the controller hears nothing
 
+found 7FF0:00000001
+the controller finds 7FF0:00000001
+
+found 7ff0:ABCDEF01
+the controller finds 7FF0:ABCDEF01
+
+found 7FF0:0000001
+not read: found 7FF0:0000001
+
+found 7FF0:00000001 twice
+not read: found 7FF0:00000001 twice
+
 arrive 0 3 done
 job 3 of worker 0 is done
 

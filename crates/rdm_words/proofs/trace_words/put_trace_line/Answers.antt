@@ -1,6 +1,6 @@
 use Rattle.std.proofs.Common.{ℕ, List, Option, ap, ◌∙◌}
 use Rattle.rdm_trace.specs.declared.line.Line.TheVariants.{Reply}
-use Rattle.rdm_words.proofs.Fixed.{adds_send, adds_reply}
+use Rattle.rdm_words.proofs.Fixed.{adds_send, adds_reply, adds_found}
 use Rattle.rdm_words.proofs.trace_words.put_trace_line.Goals as goal
 
 pub returns-in_ok-put_bytes_words-in-Send : goal.returns-in_ok-put_bytes_words-in-Send
@@ -15,4 +15,10 @@ returns-in-Some c =
     record {
       fixed = adds_reply c.put_bytes_words-in-Some.result c.args.line.now c.as_slice-in-Some.result.now _ _ _
           (c.in-Reply.is ∙ ap (λ (f : Option (List ℕ)). Reply f) c.in-Some.is) c.as_slice-in-Some.ensures.value c.put_bytes_words-in-Some.ensures.fixed;
+    }
+
+pub returns-in-Found : goal.returns-in-Found
+returns-in-Found c =
+    record {
+      fixed = adds_found c.put_found.result c.args.line.now c.in-Found.uid _ _ c.in-Found.is c.put_found.ensures;
     }
