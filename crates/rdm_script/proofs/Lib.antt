@@ -7,6 +7,7 @@ pub mod LineSpellings
 pub mod Lines
 pub mod LinesRead
 pub mod Pieces
+pub mod PlayedLines
 pub mod QuotedPieces
 pub mod Reading
 pub mod RefusalEquality

@@ -18,7 +18,7 @@ use Rattle.rdm_collector.specs.declared.want.Want.TheVariants.{Advisory, Warning
 use Rattle.rdm_crew.specs.declared.step.CrewStep.{CrewStep}
 use Rattle.rdm_crew.specs.declared.step.CrewStep.TheVariants.{Ask, Collect, Draw, Settle, Panel}
 use Rattle.rdm_script.specs.declared.dialect.Dialect.{Dialect}
-use Rattle.rdm_script.specs.declared.script.Setup.{Setup}
+use Rattle.rdm_script.specs.declared.script.ScriptSetup.{ScriptSetup}
 use Rattle.rdm_script.specs.declared.grammar.line.Line.{Line}
 use Rattle.rdm_script.specs.declared.grammar.line.Line.TheVariants.{Skipped, Sets, Says, Faulty}
 use Rattle.rdm_script.specs.Decimals.{SpellsDecimal, number_up_to}
@@ -224,7 +224,7 @@ want_again text Advisory s = rw s refl
 want_again text Warning s = rw s refl
 want_again text Error s = rw s refl
 
-pub setup_read : (words : List (List ℕ)) (s : Setup) → setup_in words ≡ Some s → SpellsSetup words s
+pub setup_read : (words : List (List ℕ)) (s : ScriptSetup) → setup_in words ≡ Some s → SpellsSetup words s
 unfolding setup_in setup_of
 setup_read words s e =
     let g = guarded ((eqb (length words) 4) && bytes_eq (word words 0) (codes "setup")) (setup_of (word words 1) (word words 2) (word words 3)) s e in
@@ -232,30 +232,30 @@ setup_read words s e =
     option_and_then_some (λ n. number_up_to 65535 (word words 2) >>= λ q. want_in (word words 3) >>= λ w. Some (record { subs = n; queue_size = q; want = w })) (number_up_to 65535 (word words 1)) s g.1 (λ n is_n e1.
     option_and_then_some (λ q. want_in (word words 3) >>= λ w. Some (record { subs = n; queue_size = q; want = w })) (number_up_to 65535 (word words 2)) s e1 (λ q is_q e2.
     option_and_then_some (λ w. Some (record { subs = n; queue_size = q; want = w })) (want_in (word words 3)) s e2 (λ w is_w made.
-    let one : Setup = record { subs = n; queue_size = q; want = w } in
+    let one : ScriptSetup = record { subs = n; queue_size = q; want = w } in
     let subs = number_read 65535 (word words 1) n is_n in
     let room = number_read 65535 (word words 2) q is_q in
-    subst (λ (x : Setup). SpellsSetup words x) (same_Some one s made)
+    subst (λ (x : ScriptSetup). SpellsSetup words x) (same_Some one s made)
     (record { four = eqb-true _ _ tests.0; named = named (word words 0) (codes "setup") tests.1; subs = subs.0; subs_fit = subs.1; queue_size = room.0; queue_size_fits = room.1; want = want_read (word words 3) w is_w }))))
 
-pub setup_again : (words : List (List ℕ)) (s : Setup) → SpellsSetup words s → setup_in words ≡ Some s
+pub setup_again : (words : List (List ℕ)) (s : ScriptSetup) → SpellsSetup words s → setup_in words ≡ Some s
 unfolding setup_in setup_of
 setup_again words s h =
     rw (h.four, h.named, number_again 65535 (word words 1) s.subs h.subs h.subs_fit, number_again 65535 (word words 2) s.queue_size h.queue_size h.queue_size_fits, want_again (word words 3) s.want h.want) refl
 
 -- words that spell no setup are read as none
-no_setup_at : (o : Option Setup) → ((s : Setup) → o ≡ Some s → ⊥) → o ≡ None
+no_setup_at : (o : Option ScriptSetup) → ((s : ScriptSetup) → o ≡ Some s → ⊥) → o ≡ None
 no_setup_at None h = refl
 no_setup_at (Some s) h = absurd (h s refl)
 
-pub no_setup : (words : List (List ℕ)) → ((s : Setup) → SpellsSetup words s → ⊥) → setup_in words ≡ None
+pub no_setup : (words : List (List ℕ)) → ((s : ScriptSetup) → SpellsSetup words s → ⊥) → setup_in words ≡ None
 no_setup words h = no_setup_at (setup_in words) (λ s e. h s (setup_read words s e))
 
 -- a setup is neither skipped nor a step
-pub setup_isnt_skipped : (words : List (List ℕ)) (s : Setup) → SpellsSetup words s → is_skipped words ≡ false
+pub setup_isnt_skipped : (words : List (List ℕ)) (s : ScriptSetup) → SpellsSetup words s → is_skipped words ≡ false
 setup_isnt_skipped words s h = rw (h.four, h.named) refl
 
-pub setup_is_no_step : (dev : Dialect) (words : List (List ℕ)) (s : Setup) (step : CrewStep) → SpellsSetup words s → SpellsStep dev words step → ⊥
+pub setup_is_no_step : (dev : Dialect) (words : List (List ℕ)) (s : ScriptSetup) (step : CrewStep) → SpellsSetup words s → SpellsStep dev words step → ⊥
 setup_is_no_step dev words s (Ask c f) h k = omega (arith, h.four, k.0.five)
 setup_is_no_step dev words s (Collect f) h k = let same : codes "collect" ≡ codes "setup" = sym k.0 ∙ h.named in let lens : length (codes "collect") ≡ length (codes "setup") = ap length same in omega (arith, lens)
 setup_is_no_step dev words s Draw h k = let lens : length words ≡ 1 = ap length k in omega (arith, h.four, lens)
@@ -298,7 +298,7 @@ pub first_is : (dev : Dialect) (words : List (List ℕ)) → setup_in words ≡ 
 unfolding first_line_in
 first_is dev words none = rw none refl
 
-pub first_sets : (dev : Dialect) (words : List (List ℕ)) (s : Setup) → SpellsSetup words s → first_line_in dev words ≡ Sets s
+pub first_sets : (dev : Dialect) (words : List (List ℕ)) (s : ScriptSetup) → SpellsSetup words s → first_line_in dev words ≡ Sets s
 unfolding first_line_in
 first_sets dev words s h = rw (setup_again words s h) refl
 
@@ -311,11 +311,11 @@ pub first_says : (dev : Dialect) (words : List (List ℕ)) (step : CrewStep) →
 first_says dev words step out s = first_is dev words (no_setup words (λ t k. setup_is_no_step dev words t step k s)) ∙ line_again dev words step out s
 
 -- what the first line is read as
-unsaid_at : (o : Option CrewStep) (s : Setup) → option_map_or (λ (x : CrewStep). Says x) o Faulty ≡ Sets s → ⊥
+unsaid_at : (o : Option CrewStep) (s : ScriptSetup) → option_map_or (λ (x : CrewStep). Says x) o Faulty ≡ Sets s → ⊥
 unsaid_at None s e = cc
 unsaid_at (Some step) s e = cc
 
-unsaid : (dev : Dialect) (words : List (List ℕ)) (s : Setup) → line_in dev words ≡ Sets s → ⊥
+unsaid : (dev : Dialect) (words : List (List ℕ)) (s : ScriptSetup) → line_in dev words ≡ Sets s → ⊥
 unfolding line_in
 unsaid dev words s e =
     elim (chosen (is_skipped words) Skipped _ (Sets s) e) [
@@ -323,7 +323,7 @@ unsaid dev words s e =
       | inr h ↦ unsaid_at (step_in dev words) s h.1
     ]
 
-read_first : (dev : Dialect) (words : List (List ℕ)) (o : Option Setup) (step : CrewStep) → setup_in words ≡ o → option_map_or (λ (s : Setup). Sets s) o (line_in dev words) ≡ Says step → line_in dev words ≡ Says step
+read_first : (dev : Dialect) (words : List (List ℕ)) (o : Option ScriptSetup) (step : CrewStep) → setup_in words ≡ o → option_map_or (λ (s : ScriptSetup). Sets s) o (line_in dev words) ≡ Says step → line_in dev words ≡ Says step
 read_first dev words None step e h = h
 read_first dev words (Some s) step e h = absurd (let never : Sets s ≡ Says step = h in cc)
 
@@ -331,11 +331,11 @@ pub first_read : (dev : Dialect) (words : List (List ℕ)) (step : CrewStep) →
 unfolding first_line_in
 first_read dev words step e = line_read dev words step (read_first dev words (setup_in words) step refl e)
 
-read_set : (dev : Dialect) (words : List (List ℕ)) (o : Option Setup) (s : Setup) → option_map_or (λ (t : Setup). Sets t) o (line_in dev words) ≡ Sets s → o ≡ Some s
+read_set : (dev : Dialect) (words : List (List ℕ)) (o : Option ScriptSetup) (s : ScriptSetup) → option_map_or (λ (t : ScriptSetup). Sets t) o (line_in dev words) ≡ Sets s → o ≡ Some s
 read_set dev words None s h = absurd (unsaid dev words s h)
-read_set dev words (Some t) s h = let same : t ≡ s = cc in ap (λ (x : Setup). Some x) same
+read_set dev words (Some t) s h = let same : t ≡ s = cc in ap (λ (x : ScriptSetup). Some x) same
 
-pub sets_read : (dev : Dialect) (words : List (List ℕ)) (s : Setup) → first_line_in dev words ≡ Sets s → SpellsSetup words s
+pub sets_read : (dev : Dialect) (words : List (List ℕ)) (s : ScriptSetup) → first_line_in dev words ≡ Sets s → SpellsSetup words s
 unfolding first_line_in
 sets_read dev words s e = setup_read words s (read_set dev words (setup_in words) s e)
 
@@ -348,7 +348,7 @@ first_begins_at : (dev : Dialect) (words : List (List ℕ)) (b : Bool) → is_sk
 first_begins_at dev words true e = ap (begun_after false) (said_skipped dev words e)
 first_begins_at dev words false e = begun_spoken dev words (line_in dev words) (spoken dev words e)
 
-first_set_at : (dev : Dialect) (words : List (List ℕ)) (o : Option Setup) → setup_in words ≡ o → begun_after false (option_map_or (λ (s : Setup). Sets s) o (line_in dev words)) ≡ not (is_skipped words)
+first_set_at : (dev : Dialect) (words : List (List ℕ)) (o : Option ScriptSetup) → setup_in words ≡ o → begun_after false (option_map_or (λ (s : ScriptSetup). Sets s) o (line_in dev words)) ≡ not (is_skipped words)
 first_set_at dev words None e = first_begins_at dev words (is_skipped words) refl
 first_set_at dev words (Some s) e = ap not (sym (setup_isnt_skipped words s (setup_read words s e)))
 
@@ -357,14 +357,14 @@ unfolding first_line_in
 first_begins dev words = first_set_at dev words (setup_in words) refl
 
 -- no later line sets anything
-keeps_at : (o : Option CrewStep) (s : Setup) → setup_after s (option_map_or (λ (x : CrewStep). Says x) o Faulty) ≡ s
+keeps_at : (o : Option CrewStep) (s : ScriptSetup) → setup_after s (option_map_or (λ (x : CrewStep). Says x) o Faulty) ≡ s
 keeps_at None s = refl
 keeps_at (Some step) s = refl
 
-keeps_either : (b : Bool) (o : Option CrewStep) (s : Setup) → setup_after s (cond b Skipped (option_map_or (λ (x : CrewStep). Says x) o Faulty)) ≡ s
+keeps_either : (b : Bool) (o : Option CrewStep) (s : ScriptSetup) → setup_after s (cond b Skipped (option_map_or (λ (x : CrewStep). Says x) o Faulty)) ≡ s
 keeps_either true o s = refl
 keeps_either false o s = keeps_at o s
 
-pub keeps_setup : (dev : Dialect) (words : List (List ℕ)) (s : Setup) → setup_after s (line_in dev words) ≡ s
+pub keeps_setup : (dev : Dialect) (words : List (List ℕ)) (s : ScriptSetup) → setup_after s (line_in dev words) ≡ s
 unfolding line_in
 keeps_setup dev words s = keeps_either (is_skipped words) (step_in dev words) s

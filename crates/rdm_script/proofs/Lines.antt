@@ -10,7 +10,7 @@ use Rattle.std.proofs.lemmas.List.Elements.{All-more}
 use Rattle.std.proofs.lemmas.List.Sums.{fold-append}
 use Rattle.rdm_crew.specs.declared.step.CrewStep.{CrewStep}
 use Rattle.rdm_script.specs.declared.dialect.Dialect.{Dialect}
-use Rattle.rdm_script.specs.declared.script.Setup.{Setup}
+use Rattle.rdm_script.specs.declared.script.ScriptSetup.{ScriptSetup}
 use Rattle.rdm_script.specs.declared.grammar.line.Line.{Line}
 use Rattle.rdm_script.specs.declared.grammar.line.Line.TheVariants.{Skipped, Sets, Says, Faulty}
 use Rattle.rdm_script.proofs.Pieces.{pieces_more, pieces_last}
@@ -117,17 +117,17 @@ at_last dev said begun rest i h so_far =
     at_front said i _ [] (ap (λ (xs : List Line). line_at dev begun (words_of dev.spelling rest) ∷ xs) (sym (said_none dev (begun_after begun (line_at dev begun (words_of dev.spelling rest))))) ∙ one)
 
 -- it isn't faulty, and what it says goes with what the lines before it say
-pub passes : (said : List Line) (i : ℕ) (line : Line) (behind : List Line) (setup : Setup) (steps : List CrewStep) → AtLine said i line behind → line ≢ Faulty → AreSaid (take i said) setup steps → AreSaid (take (i + 1) said) (setup_after setup line) (steps ++ steps_of_line line)
+pub passes : (said : List Line) (i : ℕ) (line : Line) (behind : List Line) (setup : ScriptSetup) (steps : List CrewStep) → AtLine said i line behind → line ≢ Faulty → AreSaid (take i said) setup steps → AreSaid (take (i + 1) said) (setup_after setup line) (steps ++ steps_of_line line)
 passes said i line behind setup steps here sound before =
     let more : take (i + 1) said ≡ take i said ++ line ∷ [] = take_more said i line here.lt ∙ ap (λ (x : Line). take i said ++ x ∷ []) here.is in
     record {
       faultless = All-more (λ x. x ≢ Faulty) said i line here.lt before.faultless (rw here.is sound);
-      setup_is = rw (more, fold-append setup_after plain_setup (take i said) (line ∷ [])) (ap (λ (s : Setup). setup_after s line) before.setup_is);
+      setup_is = rw (more, fold-append setup_after plain_setup (take i said) (line ∷ [])) (ap (λ (s : ScriptSetup). setup_after s line) before.setup_is);
       in_order = rw (more, before.in_order) (flat_map_more steps_of_line [] (take i said) line);
     }
 
 -- the first line that is faulty
-pub fails : (said : List Line) (i : ℕ) (line : Line) (behind : List Line) (setup : Setup) (steps : List CrewStep) → AtLine said i line behind → line ≡ Faulty → AreSaid (take i said) setup steps → IsFirstFaulty said (i + 1)
+pub fails : (said : List Line) (i : ℕ) (line : Line) (behind : List Line) (setup : ScriptSetup) (steps : List CrewStep) → AtLine said i line behind → line ≡ Faulty → AreSaid (take i said) setup steps → IsFirstFaulty said (i + 1)
 fails said i line behind setup steps here faulty before =
     let back : i ≡ i + 1 - 1 = omega arith in
     let at : get_or said i Faulty ≡ Faulty = rw (← faulty) here.is in
@@ -138,7 +138,7 @@ fails said i line behind setup steps here faulty before =
     }
 
 -- the last line says something else than a fault
-pub last_passes : (said : List Line) (i : ℕ) (line : Line) (setup : Setup) (steps : List CrewStep) → AtLine said i line [] → line ≢ Faulty → AreSaid (take i said) setup steps → AreSaid said (setup_after setup line) (steps ++ steps_of_line line)
+pub last_passes : (said : List Line) (i : ℕ) (line : Line) (setup : ScriptSetup) (steps : List CrewStep) → AtLine said i line [] → line ≢ Faulty → AreSaid (take i said) setup steps → AreSaid said (setup_after setup line) (steps ++ steps_of_line line)
 last_passes said i line setup steps here sound before =
     let past : length said ≤ i + 1 = omega (arith, length-drop (i + 1) said, ap length here.rest) in
     subst (λ (ls : List Line). AreSaid ls (setup_after setup line) (steps ++ steps_of_line line)) (take_all (i + 1) said past) (passes said i line [] setup steps here sound before)

@@ -8,7 +8,7 @@ use Rattle.rdm_crew.specs.declared.step.CrewStep.{CrewStep}
 use Rattle.rdm_script.specs.declared.grammar.parsing.ScriptError.TheVariants as script
 use Rattle.rdm_script.specs.declared.program.ProgramError.{ProgramError}
 use Rattle.rdm_script.specs.declared.program.ProgramError.TheVariants.{Read, Script, Memory, Run, Write}
-use Rattle.rdm_script.specs.declared.script.Setup.{Setup}
+use Rattle.rdm_script.specs.declared.script.ScriptSetup.{ScriptSetup}
 use Rattle.rdm_script.specs.Program.{IsTraceOf, IsStopped, IsFailure, fault_of_run}
 use Rattle.rdm_script.specs.Running.{Stops}
 use Rattle.rdm_script.specs.Scene.{Scene, spoken_at}
@@ -74,7 +74,7 @@ stopped_as scene input run.Astray h = ((h, λ e. cc), λ e. cc, λ e. cc)
 stopped_as scene input run.Missing h = ((h, λ e. cc), λ e. cc, λ e. cc)
 stopped_as scene input run.BadSetup h = ((h, λ e. cc), λ e. cc, λ e. cc)
 
-pub run_fails : (scene : Scene) (input : List ℕ) (setup : Setup) (steps : List CrewStep) (fault : RunError) (e : ProgramError) → IsScript (spoken_at scene) input setup steps → Stops scene fault setup steps
+pub run_fails : (scene : Scene) (input : List ℕ) (setup : ScriptSetup) (steps : List CrewStep) (fault : RunError) (e : ProgramError) → IsScript (spoken_at scene) input setup steps → Stops scene fault setup steps
     → e ≡ fault_of_run fault → IsFailure scene e input × (e ≢ Read) × (e ≢ Write)
 run_fails scene input setup steps fault e spelled because is =
     subst (λ (x : ProgramError). IsFailure scene x input × (x ≢ Read) × (x ≢ Write)) (sym is) (stopped_as scene input fault (record { setup = setup; steps = steps; spelled = spelled; because = because }))

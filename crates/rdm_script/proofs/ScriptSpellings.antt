@@ -10,7 +10,7 @@ use Rattle.rdm_crew.specs.RunTrace.{fault_at, HaveFaults}
 use Rattle.rdm_crew.specs.declared.step.CrewStep.{CrewStep}
 use Rattle.rdm_crew.specs.declared.step.CrewStep.TheVariants.{Ask, Collect, Draw, Settle, Panel}
 use Rattle.rdm_script.specs.declared.dialect.Dialect.{Dialect}
-use Rattle.rdm_script.specs.declared.script.Setup.{Setup}
+use Rattle.rdm_script.specs.declared.script.ScriptSetup.{ScriptSetup}
 use Rattle.rdm_script.specs.declared.grammar.line.Line.{Line}
 use Rattle.rdm_script.specs.declared.grammar.line.Line.TheVariants.{Skipped, Sets, Says, Faulty}
 use Rattle.rdm_script.specs.Parties.{plain_setup}
@@ -28,7 +28,7 @@ steps_first line more = flat_map-cons steps_of_line line more
 steps_skipped : (line : Line) (more : List Line) → line ≡ Skipped → flat_map steps_of_line (line ∷ more) ≡ flat_map steps_of_line more
 steps_skipped line more e = steps_first line more ∙ ap (λ (l : Line). steps_of_line l ++ flat_map steps_of_line more) e
 
-steps_set : (line : Line) (s : Setup) (more : List Line) → line ≡ Sets s → flat_map steps_of_line (line ∷ more) ≡ flat_map steps_of_line more
+steps_set : (line : Line) (s : ScriptSetup) (more : List Line) → line ≡ Sets s → flat_map steps_of_line (line ∷ more) ≡ flat_map steps_of_line more
 steps_set line s more e = steps_first line more ∙ ap (λ (l : Line). steps_of_line l ++ flat_map steps_of_line more) e
 
 steps_said : (line : Line) (step : CrewStep) (more : List Line) → line ≡ Says step → flat_map steps_of_line (line ∷ more) ≡ step ∷ flat_map steps_of_line more
@@ -43,7 +43,7 @@ tail_sound line more sound = All-tail (λ (l : Line). l ≢ Faulty) line more so
 sound_skipped : (line : Line) (more : List Line) → line ≡ Skipped → Sound more → Sound (line ∷ more)
 sound_skipped line more e behind = All-cons (λ (l : Line). l ≢ Faulty) line more (λ f. let never : Skipped ≡ Faulty = sym e ∙ f in absurd cc) behind
 
-sound_set : (line : Line) (s : Setup) (more : List Line) → line ≡ Sets s → Sound more → Sound (line ∷ more)
+sound_set : (line : Line) (s : ScriptSetup) (more : List Line) → line ≡ Sets s → Sound more → Sound (line ∷ more)
 sound_set line s more e behind = All-cons (λ (l : Line). l ≢ Faulty) line more (λ f. let never : Sets s ≡ Faulty = sym e ∙ f in absurd cc) behind
 
 sound_said : (line : Line) (step : CrewStep) (more : List Line) → line ≡ Says step → Sound more → Sound (line ∷ more)
@@ -93,48 +93,48 @@ later_read dev (line ∷ more) steps (inr (out, step, rest, is, spelled, others)
     (sound_said (line_in dev (words_of dev.spelling line)) step (said_later dev more) said behind.0, is ∙ ap (λ (ss : List CrewStep). step ∷ ss) behind.1 ∙ sym (steps_said (line_in dev (words_of dev.spelling line)) step (said_later dev more) said))
 
 -- they leave the setup as it is
-later_keeps : (dev : Dialect) (lines : List (List ℕ)) (s : Setup) → fold setup_after s (said_later dev lines) ≡ s
+later_keeps : (dev : Dialect) (lines : List (List ℕ)) (s : ScriptSetup) → fold setup_after s (said_later dev lines) ≡ s
 later_keeps dev [] s = refl
-later_keeps dev (line ∷ more) s = ap (λ (t : Setup). fold setup_after t (said_later dev more)) (keeps_setup dev (words_of dev.spelling line) s) ∙ later_keeps dev more s
+later_keeps dev (line ∷ more) s = ap (λ (t : ScriptSetup). fold setup_after t (said_later dev more)) (keeps_setup dev (words_of dev.spelling line) s) ∙ later_keeps dev more s
 
 -- ---- all lines
 
-abbrev SpellScript : Dialect → List (List (List ℕ)) → Setup → List CrewStep → Type 0
+abbrev SpellScript : Dialect → List (List (List ℕ)) → ScriptSetup → List CrewStep → Type 0
 SpellScript dev lines setup steps = SpellSetupAndSteps dev lines setup steps ⊎ ((setup ≡ plain_setup) × SpellSteps dev lines steps)
 
-skip_script : (dev : Dialect) (words : List (List ℕ)) (more : List (List (List ℕ))) (setup : Setup) (steps : List CrewStep) → is_skipped words ≡ true → SpellScript dev more setup steps → SpellScript dev (words ∷ more) setup steps
+skip_script : (dev : Dialect) (words : List (List ℕ)) (more : List (List (List ℕ))) (setup : ScriptSetup) (steps : List CrewStep) → is_skipped words ≡ true → SpellScript dev more setup steps → SpellScript dev (words ∷ more) setup steps
 skip_script dev words more setup steps h (inl s) = inl (inl (h, s))
 skip_script dev words more setup steps h (inr s) = inr (s.0, inl (h, s.1))
 
 -- the lines are read so, and what they are read as is a script
-abbrev Reads : List Line → Setup → List CrewStep → Type 0
+abbrev Reads : List Line → ScriptSetup → List CrewStep → Type 0
 Reads said setup steps = Sound said × (setup ≡ fold setup_after plain_setup said) × (steps ≡ flat_map steps_of_line said)
 
 said_behind : (dev : Dialect) (line : List ℕ) (more : List (List ℕ)) (b : Bool) → is_skipped (words_of dev.spelling line) ≡ b → said_by dev (line ∷ more) ≡ first_line_in dev (words_of dev.spelling line) ∷ cond b (said_by dev more) (said_later dev more)
 said_behind dev line more b e = rw e refl
 
 -- where a line is skipped
-read_skipped : (line : Line) (said : List Line) (setup : Setup) (steps : List CrewStep) → line ≡ Skipped → Reads (line ∷ said) setup steps → Reads said setup steps
+read_skipped : (line : Line) (said : List Line) (setup : ScriptSetup) (steps : List CrewStep) → line ≡ Skipped → Reads (line ∷ said) setup steps → Reads said setup steps
 read_skipped line said setup steps e r = (tail_sound line said r.0, r.1 ∙ ap (λ (l : Line). fold setup_after (setup_after plain_setup l) said) e, r.2 ∙ steps_skipped line said e)
 
-skipped_read : (line : Line) (said : List Line) (setup : Setup) (steps : List CrewStep) → line ≡ Skipped → Reads said setup steps → Reads (line ∷ said) setup steps
+skipped_read : (line : Line) (said : List Line) (setup : ScriptSetup) (steps : List CrewStep) → line ≡ Skipped → Reads said setup steps → Reads (line ∷ said) setup steps
 skipped_read line said setup steps e r = (sound_skipped line said e r.0, r.1 ∙ sym (ap (λ (l : Line). fold setup_after (setup_after plain_setup l) said) e), r.2 ∙ sym (steps_skipped line said e))
 
 -- where it isn't
-opening_at : (dev : Dialect) (line : List ℕ) (more : List (List ℕ)) (o : Option Setup) (setup : Setup) (steps : List CrewStep) → setup_in (words_of dev.spelling line) ≡ o → Reads (first_line_in dev (words_of dev.spelling line) ∷ said_later dev more) setup steps → SpellScript dev (map (words_of dev.spelling) (line ∷ more)) setup steps
+opening_at : (dev : Dialect) (line : List ℕ) (more : List (List ℕ)) (o : Option ScriptSetup) (setup : ScriptSetup) (steps : List CrewStep) → setup_in (words_of dev.spelling line) ≡ o → Reads (first_line_in dev (words_of dev.spelling line) ∷ said_later dev more) setup steps → SpellScript dev (map (words_of dev.spelling) (line ∷ more)) setup steps
 opening_at dev line more (Some s) setup steps e r =
     let words = words_of dev.spelling line in
     let spelled = setup_read words s e in
     let said : first_line_in dev words ≡ Sets s = first_sets dev words s spelled in
     let same : setup ≡ s = r.1 ∙ ap (λ (l : Line). fold setup_after (setup_after plain_setup l) (said_later dev more)) said ∙ later_keeps dev more s in
     let behind = later_spelled dev more (tail_sound (first_line_in dev words) (said_later dev more) r.0) in
-    inl (inr (subst (λ (t : Setup). SpellsSetup words t) (sym same) spelled, subst (λ (ss : List CrewStep). SpellSteps dev (map (words_of dev.spelling) more) ss) (sym (r.2 ∙ steps_set (first_line_in dev words) s (said_later dev more) said)) behind))
+    inl (inr (subst (λ (t : ScriptSetup). SpellsSetup words t) (sym same) spelled, subst (λ (ss : List CrewStep). SpellSteps dev (map (words_of dev.spelling) more) ss) (sym (r.2 ∙ steps_set (first_line_in dev words) s (said_later dev more) said)) behind))
 opening_at dev line more None setup steps e r =
     let said : first_line_in dev (words_of dev.spelling line) ∷ said_later dev more ≡ said_later dev (line ∷ more) = ap (λ (l : Line). l ∷ said_later dev more) (first_is dev (words_of dev.spelling line) e) in
     let all : Reads (said_later dev (line ∷ more)) setup steps = subst (λ (ls : List Line). Reads ls setup steps) said r in
     inr (all.1 ∙ later_keeps dev (line ∷ more) plain_setup, subst (λ (ss : List CrewStep). SpellSteps dev (map (words_of dev.spelling) (line ∷ more)) ss) (sym all.2) (later_spelled dev (line ∷ more) all.0))
 
-lines_spelled : (dev : Dialect) (lines : List (List ℕ)) (setup : Setup) (steps : List CrewStep) → Reads (said_by dev lines) setup steps → SpellScript dev (map (words_of dev.spelling) lines) setup steps
+lines_spelled : (dev : Dialect) (lines : List (List ℕ)) (setup : ScriptSetup) (steps : List CrewStep) → Reads (said_by dev lines) setup steps → SpellScript dev (map (words_of dev.spelling) lines) setup steps
 lines_spelled dev [] setup steps r = inr (r.1, r.2)
 lines_spelled dev (line ∷ more) setup steps r =
     elim (skips (words_of dev.spelling line)) [
@@ -146,11 +146,11 @@ lines_spelled dev (line ∷ more) setup steps r =
           opening_at dev line more (setup_in (words_of dev.spelling line)) setup steps refl here
     ]
 
-skipped_lines : (dev : Dialect) (line : List ℕ) (more : List (List ℕ)) (setup : Setup) (steps : List CrewStep) → is_skipped (words_of dev.spelling line) ≡ true → Reads (said_by dev more) setup steps → Reads (said_by dev (line ∷ more)) setup steps
+skipped_lines : (dev : Dialect) (line : List ℕ) (more : List (List ℕ)) (setup : ScriptSetup) (steps : List CrewStep) → is_skipped (words_of dev.spelling line) ≡ true → Reads (said_by dev more) setup steps → Reads (said_by dev (line ∷ more)) setup steps
 skipped_lines dev line more setup steps h r =
     subst (λ (ls : List Line). Reads ls setup steps) (sym (said_behind dev line more true h)) (skipped_read (first_line_in dev (words_of dev.spelling line)) (said_by dev more) setup steps (first_skipped dev (words_of dev.spelling line) h) r)
 
-opened_lines : (dev : Dialect) (line : List ℕ) (more : List (List ℕ)) (setup : Setup) (steps : List CrewStep) → SpellsSetup (words_of dev.spelling line) setup → SpellSteps dev (map (words_of dev.spelling) more) steps → Reads (said_by dev (line ∷ more)) setup steps
+opened_lines : (dev : Dialect) (line : List ℕ) (more : List (List ℕ)) (setup : ScriptSetup) (steps : List CrewStep) → SpellsSetup (words_of dev.spelling line) setup → SpellSteps dev (map (words_of dev.spelling) more) steps → Reads (said_by dev (line ∷ more)) setup steps
 opened_lines dev line more setup steps opening others =
     let words = words_of dev.spelling line in
     let said : first_line_in dev words ≡ Sets setup = first_sets dev words setup opening in
@@ -159,7 +159,7 @@ opened_lines dev line more setup steps opening others =
     subst (λ (ls : List Line). Reads ls setup steps) (sym (said_behind dev line more false (setup_isnt_skipped words setup opening)))
     (sound_set (first_line_in dev words) setup (said_later dev more) said behind.0, is_setup, behind.1 ∙ sym (steps_set (first_line_in dev words) setup (said_later dev more) said))
 
-step_lines : (dev : Dialect) (line : List ℕ) (more : List (List ℕ)) (setup : Setup) (steps : List CrewStep) (step : CrewStep) (rest : List CrewStep) → setup ≡ plain_setup → is_skipped (words_of dev.spelling line) ≡ false → steps ≡ step ∷ rest → SpellsStep dev (words_of dev.spelling line) step → SpellSteps dev (map (words_of dev.spelling) more) rest → Reads (said_by dev (line ∷ more)) setup steps
+step_lines : (dev : Dialect) (line : List ℕ) (more : List (List ℕ)) (setup : ScriptSetup) (steps : List CrewStep) (step : CrewStep) (rest : List CrewStep) → setup ≡ plain_setup → is_skipped (words_of dev.spelling line) ≡ false → steps ≡ step ∷ rest → SpellsStep dev (words_of dev.spelling line) step → SpellSteps dev (map (words_of dev.spelling) more) rest → Reads (said_by dev (line ∷ more)) setup steps
 step_lines dev line more setup steps step rest plain out is spelled others =
     let words = words_of dev.spelling line in
     let said : first_line_in dev words ≡ Says step = first_says dev words step out spelled in
@@ -168,7 +168,7 @@ step_lines dev line more setup steps step rest plain out is spelled others =
     subst (λ (ls : List Line). Reads ls setup steps) (sym (said_behind dev line more false out))
     (sound_said (first_line_in dev words) step (said_later dev more) said behind.0, is_setup, is ∙ ap (λ (ss : List CrewStep). step ∷ ss) behind.1 ∙ sym (steps_said (first_line_in dev words) step (said_later dev more) said))
 
-lines_read : (dev : Dialect) (lines : List (List ℕ)) (setup : Setup) (steps : List CrewStep) → SpellScript dev (map (words_of dev.spelling) lines) setup steps → Reads (said_by dev lines) setup steps
+lines_read : (dev : Dialect) (lines : List (List ℕ)) (setup : ScriptSetup) (steps : List CrewStep) → SpellScript dev (map (words_of dev.spelling) lines) setup steps → Reads (said_by dev lines) setup steps
 lines_read dev [] setup steps (inl s) = absurd s
 lines_read dev [] setup steps (inr s) = (All-nil (λ (l : Line). l ≢ Faulty), s.0, s.1)
 lines_read dev (line ∷ more) setup steps (inl (inl h)) = skipped_lines dev line more setup steps h.0 (lines_read dev more setup steps (inl h.1))
@@ -178,11 +178,11 @@ lines_read dev (line ∷ more) setup steps (inr (plain, inr (out, step, rest, is
 
 -- ---- a script
 
-pub script_spelled : (dev : Dialect) (text : List ℕ) (setup : Setup) (steps : List CrewStep) → IsRead dev text setup steps → IsScript dev text setup steps
+pub script_spelled : (dev : Dialect) (text : List ℕ) (setup : ScriptSetup) (steps : List CrewStep) → IsRead dev text setup steps → IsScript dev text setup steps
 script_spelled dev text setup steps r =
     record { within = r.within; says = lines_spelled dev (lines_of text) setup steps (r.says.faultless, r.says.setup_is, r.says.in_order) }
 
-pub script_read : (dev : Dialect) (text : List ℕ) (setup : Setup) (steps : List CrewStep) → IsScript dev text setup steps → IsRead dev text setup steps
+pub script_read : (dev : Dialect) (text : List ℕ) (setup : ScriptSetup) (steps : List CrewStep) → IsScript dev text setup steps → IsRead dev text setup steps
 script_read dev text setup steps s =
     let all = lines_read dev (lines_of text) setup steps s.says in
     record { within = s.within; says = record { faultless = all.0; setup_is = all.1; in_order = all.2 } }
@@ -213,14 +213,14 @@ steps_alter dev (words ∷ more) steps (inl h) = steps_alter dev more steps h.1
 steps_alter dev (words ∷ more) steps (inr (out, step, rest, is, spelled, others)) =
     subst (λ (ss : List CrewStep). All Alters ss) (sym is) (All-cons Alters step rest (step_alters dev words step spelled) (steps_alter dev more rest others))
 
-opened_alter : (dev : Dialect) (lines : List (List (List ℕ))) (setup : Setup) (steps : List CrewStep) → SpellSetupAndSteps dev lines setup steps → All Alters steps
+opened_alter : (dev : Dialect) (lines : List (List (List ℕ))) (setup : ScriptSetup) (steps : List CrewStep) → SpellSetupAndSteps dev lines setup steps → All Alters steps
 opened_alter dev [] setup steps s = absurd s
 opened_alter dev (words ∷ more) setup steps (inl h) = opened_alter dev more setup steps h.1
 opened_alter dev (words ∷ more) setup steps (inr h) = steps_alter dev more steps h.1
 
-lines_alter : (dev : Dialect) (lines : List (List (List ℕ))) (setup : Setup) (steps : List CrewStep) → SpellScript dev lines setup steps → All Alters steps
+lines_alter : (dev : Dialect) (lines : List (List (List ℕ))) (setup : ScriptSetup) (steps : List CrewStep) → SpellScript dev lines setup steps → All Alters steps
 lines_alter dev lines setup steps (inl s) = opened_alter dev lines setup steps s
 lines_alter dev lines setup steps (inr s) = steps_alter dev lines steps s.1
 
-pub script_alters : (dev : Dialect) (text : List ℕ) (setup : Setup) (steps : List CrewStep) → IsScript dev text setup steps → HaveFaults steps
+pub script_alters : (dev : Dialect) (text : List ℕ) (setup : ScriptSetup) (steps : List CrewStep) → IsScript dev text setup steps → HaveFaults steps
 script_alters dev text setup steps s = lines_alter dev (map (words_of dev.spelling) (lines_of text)) setup steps s.says

@@ -1,5 +1,5 @@
 -- What happens on a scene happens on each scene of the same device that gives at least as much.
-use Rattle.std.proofs.Common.{◌≡◌, ◌<◌, ◌⊎◌, ℕ, suc, List, [], ◌∷◌, take, Option, Some, None, Result, Ok, Err, OnOk, IfErr, IfSome, subst}
+use Rattle.std.proofs.Common.{◌≡◌, ◌<◌, ◌⊎◌, ℕ, suc, List, [], ◌∷◌, take, Option, Some, None, Result, Ok, Err, OnOk, IfOk, IfErr, IfSome, subst}
 use Rattle.std.specs.Bool.{⊤}
 use Rattle.std.specs.Io.KnownBytes.{Appends}
 use Rattle.rdm_frame.specs.declared.uid.Uid.{Uid}
@@ -16,15 +16,20 @@ use Rattle.rdm_crew.specs.RunTrace.{IsCut, IsAnswered}
 use Rattle.rdm_crew.specs.Setups.{IsBadSetup, switched_on}
 use Rattle.rdm_crew.specs.Watchers.{AreOffered}
 use Rattle.rdm_crew.specs.Workers.{Answers}
+use Rattle.rdm_trace.specs.declared.line.Line.{Line}
+use Rattle.rdm_trace.specs.LineText.{lines_text}
 use Rattle.rdm_script.specs.declared.dialect.Dialect.{Dialect}
 use Rattle.rdm_script.specs.declared.dialect.Spelling.{Spelling}
 use Rattle.rdm_script.specs.Dialects.{dialect_of}
+use Rattle.rdm_script.specs.declared.playing.Unplayed.{Unplayed}
+use Rattle.rdm_script.specs.declared.playing.Unplayed.TheVariants as unplayed
 use Rattle.rdm_script.specs.declared.program.ProgramError.{ProgramError}
 use Rattle.rdm_script.specs.declared.program.ProgramError.TheVariants.{Read, Script, Memory, Run, Write}
-use Rattle.rdm_script.specs.declared.script.Setup.{Setup}
+use Rattle.rdm_script.specs.declared.script.ScriptSetup.{ScriptSetup}
 use Rattle.rdm_script.specs.Grammar.{Refuses}
 use Rattle.rdm_script.specs.Program.{IsTraceOf, IsStopped, IsFailure}
-use Rattle.rdm_script.specs.Running.{crew_setup, IsBad, IsGood, Stops}
+use Rattle.rdm_script.specs.Playing.{IsPlayOf, IsUnplayed}
+use Rattle.rdm_script.specs.Running.{crew_setup, IsBad, IsGood, IsScriptRun, Stops}
 use Rattle.rdm_script.specs.Scene.{Scene, spoken_at}
 use Rattle.rdm_script.specs.Spelling.{IsScript}
 
@@ -56,11 +61,19 @@ offered_wider : (f g : ℕ → Change → Type 0) → ((n : ℕ) (c : Change) �
 offered_wider f g wider n [] h = tt
 offered_wider f g wider n (c ∷ cs) h = (wider n c h.0, offered_wider f g wider (suc n) cs h.1)
 
-good_wider : (s t : Scene) (setup : Setup) → IsWider s t → IsGood s setup → IsGood t setup
+good_wider : (s t : Scene) (setup : ScriptSetup) → IsWider s t → IsGood s setup → IsGood t setup
 good_wider s t setup w h = moved (λ (d : Uid) (p : Profile). ¬ ((p.subs < setup.subs) ⊎ IsBadSetup (crew_setup d p setup))) s t w h
 
-bad_wider : (s t : Scene) (setup : Setup) → IsWider s t → IsBad s setup → IsBad t setup
+bad_wider : (s t : Scene) (setup : ScriptSetup) → IsWider s t → IsBad s setup → IsBad t setup
 bad_wider s t setup w h = moved (λ (d : Uid) (p : Profile). (p.subs < setup.subs) ⊎ IsBadSetup (crew_setup d p setup)) s t w h
+
+run_wider : (s t : Scene) (setup : ScriptSetup) (steps : List CrewStep) (events : List Event) → IsWider s t → IsScriptRun s setup steps events → IsScriptRun t setup steps events
+run_wider s t setup steps events w run = record {
+  cut = moved (λ (d : Uid) (p : Profile). IsCut (switched_on (crew_setup d p setup)) steps events) s t w run.cut;
+  first = answered_wider 0 s.first t.first w.first events run.first;
+  second = answered_wider 1 s.second t.second w.second events run.second;
+  changes = offered_wider s.offers t.offers w.offers 0 _ run.changes;
+}
 
 trace_wider : (s t : Scene) → IsWider s t → (input text : List ℕ) → IsTraceOf s input text → IsTraceOf t input text
 trace_wider s t w input text h = record {
@@ -69,16 +82,22 @@ trace_wider s t w input text h = record {
   events = h.events;
   spelled = retold (λ (d : Dialect). IsScript d input h.setup h.steps) s t w h.spelled;
   good = good_wider s t h.setup w h.good;
-  run = record {
-    cut = moved (λ (d : Uid) (p : Profile). IsCut (switched_on (crew_setup d p h.setup)) h.steps h.events) s t w h.run.cut;
-    first = answered_wider 0 s.first t.first w.first h.events h.run.first;
-    second = answered_wider 1 s.second t.second w.second h.events h.run.second;
-    changes = offered_wider s.offers t.offers w.offers 0 _ h.run.changes;
-  };
+  run = run_wider s t h.setup h.steps h.events w h.run;
   written = h.written;
 }
 
-stops_wider : (s t : Scene) (e : RunError) (setup : Setup) (steps : List CrewStep) → IsWider s t → Stops s e setup steps → Stops t e setup steps
+play_wider : (s t : Scene) → IsWider s t → (text : List ℕ) (lines : List Line) → IsPlayOf s text lines → IsPlayOf t text lines
+play_wider s t w text lines h = record {
+  setup = h.setup;
+  steps = h.steps;
+  events = h.events;
+  spelled = retold (λ (d : Dialect). IsScript d text h.setup h.steps) s t w h.spelled;
+  good = good_wider s t h.setup w h.good;
+  run = run_wider s t h.setup h.steps h.events w h.run;
+  told = h.told;
+}
+
+stops_wider : (s t : Scene) (e : RunError) (setup : ScriptSetup) (steps : List CrewStep) → IsWider s t → Stops s e setup steps → Stops t e setup steps
 stops_wider s t run.OutOfMemory setup steps w h = tt
 stops_wider s t run.Reserved setup steps w h = (good_wider s t setup w h.0, h.1)
 stops_wider s t run.TooLong setup steps w h = (good_wider s t setup w h.0, h.1)
@@ -125,3 +144,24 @@ pub failed_wider : (s t : Scene) → IsWider s t → (r : Result ⊤ ProgramErro
     → IfErr r (λ e. IfSome known (IsFailure s e)) → IfErr r (λ e. IfSome known (IsFailure t e))
 failed_wider s t w (Ok done) known h = tt
 failed_wider s t w (Err e) known h = failed_with s t w e known h
+
+-- ---- of a script that was played
+
+pub played_wider : {A : Type 0} (s t : Scene) → IsWider s t → (r : Result A Unplayed) (text : List ℕ) (items : A → List Line)
+    → IfOk r (λ a. IsPlayOf s text (items a)) → IfOk r (λ a. IsPlayOf t text (items a))
+played_wider s t w (Ok a) text items h = play_wider s t w text (items a) h
+played_wider s t w (Err e) text items h = tt
+
+pub played_text_wider : {A : Type 0} (s t : Scene) → IsWider s t → (r : Result A Unplayed) (text : List ℕ) (items : A → List Line)
+    → IfOk r (λ a. IsTraceOf s text (lines_text (items a))) → IfOk r (λ a. IsTraceOf t text (lines_text (items a)))
+played_text_wider s t w (Ok a) text items h = trace_wider s t w text (lines_text (items a)) h
+played_text_wider s t w (Err e) text items h = tt
+
+cause_wider : (s t : Scene) → IsWider s t → (text : List ℕ) (e : Unplayed) → IsUnplayed s text e → IsUnplayed t text e
+cause_wider s t w text unplayed.OutOfMemory h = tt
+cause_wider s t w text (unplayed.Faulty e) h = (retold (λ (d : Dialect). Refuses d e text) s t w h.0, h.1)
+cause_wider s t w text (unplayed.Stopped e line) h = (stopped_wider s t text e w h.0, h.1)
+
+pub unplayed_wider : {A : Type 0} (s t : Scene) → IsWider s t → (r : Result A Unplayed) (text : List ℕ) → IfErr r (IsUnplayed s text) → IfErr r (IsUnplayed t text)
+unplayed_wider s t w (Ok a) text h = tt
+unplayed_wider s t w (Err e) text h = cause_wider s t w text e h

@@ -1,9 +1,12 @@
 -- The line by which the program tells an error on standard error.
-use Rattle.std.specs.Prelude.{ℕ, List, Option, [], ◌∷◌, ◌++◌, codes, decimal, take}
+use Rattle.std.specs.Prelude.{ℕ, List, Option, Some, None, [], ◌∷◌, ◌++◌, codes, decimal, take}
 use Rattle.std.specs.Io.KnownBytes.{Appends}
+use Rattle.rdm_crew.specs.declared.error.RunError.{RunError}
 use Rattle.rdm_crew.specs.Errors.{error_words as run_words}
 use Rattle.rdm_script.specs.declared.grammar.parsing.ScriptError.{ScriptError}
 use Rattle.rdm_script.specs.declared.grammar.parsing.ScriptError.TheVariants as script
+use Rattle.rdm_script.specs.declared.playing.Unplayed.{Unplayed}
+use Rattle.rdm_script.specs.declared.playing.Unplayed.TheVariants as unplayed
 use Rattle.rdm_script.specs.declared.program.ProgramError.{ProgramError}
 use Rattle.rdm_script.specs.declared.program.ProgramError.TheVariants.{Read, Script, Memory, Run, Write}
 
@@ -20,6 +23,17 @@ error_words (Script e) = script_words e
 error_words Memory = codes "out of memory"
 error_words (Run e) = codes "run " ++ run_words e
 error_words Write = codes "write"
+
+-- the words of a stop, at this line if it is known
+abbrev pub stop_words : Option ℕ → RunError → List ℕ
+stop_words None e = codes "run " ++ run_words e
+stop_words (Some line) e = codes "line " ++ decimal line ++ codes ": run " ++ run_words e
+
+-- the words of why a script isn't played to its end
+abbrev pub unplayed_words : Unplayed → List ℕ
+unplayed_words unplayed.OutOfMemory = codes "out of memory"
+unplayed_words (unplayed.Faulty e) = script_words e
+unplayed_words (unplayed.Stopped e line) = stop_words line e
 
 -- The line that tells an error: `error: `, its words, and LF.
 abbrev pub error_line : ProgramError → List ℕ

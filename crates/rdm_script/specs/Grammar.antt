@@ -22,7 +22,7 @@ use Rattle.rdm_crew.specs.declared.step.CrewStep.TheVariants.{Ask, Collect, Draw
 use Rattle.rdm_script.specs.declared.dialect.Dialect.{Dialect}
 use Rattle.rdm_script.specs.declared.dialect.Spelling.{Spelling}
 use Rattle.rdm_script.specs.declared.dialect.Spelling.TheVariants.{Strict, Friendly}
-use Rattle.rdm_script.specs.declared.script.Setup.{Setup}
+use Rattle.rdm_script.specs.declared.script.ScriptSetup.{ScriptSetup}
 use Rattle.rdm_script.specs.declared.grammar.line.Line.{Line}
 use Rattle.rdm_script.specs.declared.grammar.line.Line.TheVariants.{Skipped, Sets, Says, Faulty}
 use Rattle.rdm_script.specs.declared.grammar.parsing.ScriptError.{ScriptError}
@@ -191,14 +191,14 @@ want_in word =
     else None))
 
 -- how many sub-devices, for how many results there is room, and what is wanted
-unfoldable pub setup_of : List ℕ → List ℕ → List ℕ → Option Setup
+unfoldable pub setup_of : List ℕ → List ℕ → List ℕ → Option ScriptSetup
 setup_of subs queue_size want = do
   s ← number_up_to 65535 subs
   q ← number_up_to 65535 queue_size
   w ← want_in want
   Some (record { subs = s; queue_size = q; want = w })
 
-unfoldable pub setup_in : List (List ℕ) → Option Setup
+unfoldable pub setup_in : List (List ℕ) → Option ScriptSetup
 setup_in words =
     if (length words == 4) && bytes_eq (word words 0) (codes "setup") then setup_of (word words 1) (word words 2) (word words 3)
     else None
@@ -266,7 +266,7 @@ steps_of_line (Says step) = step ∷ []
 steps_of_line Faulty = []
 
 -- the setup once a line is read
-abbrev pub setup_after : Setup → Line → Setup
+abbrev pub setup_after : ScriptSetup → Line → ScriptSetup
 setup_after setup Skipped = setup
 setup_after setup (Sets other) = other
 setup_after setup (Says step) = setup
@@ -280,7 +280,7 @@ begun_after begun (Says step) = true
 begun_after begun Faulty = true
 
 -- No line is faulty, and the lines say this setup and these steps in order.
-pub record AreSaid (said : List Line) (setup : Setup) (steps : List CrewStep) : Type 0 where
+pub record AreSaid (said : List Line) (setup : ScriptSetup) (steps : List CrewStep) : Type 0 where
   pub faultless : All (λ line. line ≢ Faulty) said
   pub setup_is : setup ≡ fold setup_after plain_setup said
   pub in_order : steps ≡ flat_map steps_of_line said
@@ -292,7 +292,7 @@ pub record IsFirstFaulty (said : List Line) (number : ℕ) : Type 0 where
   pub front : All (λ line. line ≢ Faulty) (take (number - 1) said)
 
 -- The reader's view of a script: no line is read as faulty, and this setup and these steps are what is read.
-pub record IsRead (d : Dialect) (text : List ℕ) (setup : Setup) (steps : List CrewStep) : Type 0 where
+pub record IsRead (d : Dialect) (text : List ℕ) (setup : ScriptSetup) (steps : List CrewStep) : Type 0 where
   pub within : length text ≤ 65536
   pub says : AreSaid (said_by d (lines_of text)) setup steps
 

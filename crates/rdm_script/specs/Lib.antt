@@ -5,6 +5,7 @@ pub mod ErrorLine
 pub mod Grammar
 pub mod Names
 pub mod Parties
+pub mod Playing
 pub mod Program
 pub mod Rules
 pub mod Running

@@ -6,7 +6,7 @@ use Rattle.rdm_bus.specs.BusLaws.{recorded}
 use Rattle.rdm_crew.specs.declared.error.RunError.{RunError}
 use Rattle.rdm_crew.specs.declared.error.RunError.TheVariants as run
 use Rattle.rdm_crew.specs.declared.step.CrewStep.{CrewStep}
-use Rattle.rdm_script.specs.declared.script.Setup.{Setup}
+use Rattle.rdm_script.specs.declared.script.ScriptSetup.{ScriptSetup}
 use Rattle.rdm_script.specs.declared.grammar.parsing.ScriptError.{ScriptError}
 use Rattle.rdm_script.specs.declared.grammar.parsing.ScriptError.TheVariants as script
 use Rattle.rdm_script.specs.declared.program.ProgramError.{ProgramError}
@@ -20,7 +20,7 @@ use Rattle.rdm_script.specs.TraceText.{trace_text}
 -- The output is the text of what happens when the script that the input is gets played on the device of the scene, which
 -- has just been switched on, with its parts and its panel, and of what the controller recorded then.
 pub record IsTraceOf (scene : Scene) (input output : List ℕ) : Type 0 where
-  pub setup : Setup
+  pub setup : ScriptSetup
   pub steps : List CrewStep
   pub events : List Event
   pub spelled : IsScript (spoken_at scene) input setup steps
@@ -30,7 +30,7 @@ pub record IsTraceOf (scene : Scene) (input output : List ℕ) : Type 0 where
 
 -- The input is a script that isn't played to its end, and this is the reason.
 pub record IsStopped (scene : Scene) (input : List ℕ) (e : RunError) : Type 0 where
-  pub setup : Setup
+  pub setup : ScriptSetup
   pub steps : List CrewStep
   pub spelled : IsScript (spoken_at scene) input setup steps
   pub because : Stops scene e setup steps

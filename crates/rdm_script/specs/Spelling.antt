@@ -20,7 +20,7 @@ use Rattle.rdm_crew.specs.declared.step.CrewStep.TheVariants.{Ask, Collect, Draw
 use Rattle.rdm_script.specs.declared.dialect.Dialect.{Dialect}
 use Rattle.rdm_script.specs.declared.dialect.Spelling.{Spelling}
 use Rattle.rdm_script.specs.declared.dialect.Spelling.TheVariants.{Strict, Friendly}
-use Rattle.rdm_script.specs.declared.script.Setup.{Setup}
+use Rattle.rdm_script.specs.declared.script.ScriptSetup.{ScriptSetup}
 use Rattle.rdm_script.specs.Decimals.{SpellsDecimal}
 use Rattle.rdm_script.specs.Names.{pid_named}
 use Rattle.rdm_script.specs.Parties.{plain_setup}
@@ -122,7 +122,7 @@ SpellsWant text Error = text ≡ codes "error"
 
 -- The words of a line say this setup: how many sub-devices there are, for how many results of slow commands there is
 -- room, and what the controller wants.
-pub record SpellsSetup (words : List (List ℕ)) (s : Setup) : Type 0 where
+pub record SpellsSetup (words : List (List ℕ)) (s : ScriptSetup) : Type 0 where
   pub four : length words ≡ 4
   pub named : word words 0 ≡ codes "setup"
   pub subs : SpellsDecimal (word words 1) s.subs
@@ -140,13 +140,13 @@ SpellSteps d (words ∷ more) steps =
     ((is_skipped words ≡ false) × (step : CrewStep) × (rest : List CrewStep) × (steps ≡ step ∷ rest) × SpellsStep d words step × SpellSteps d more rest)
 
 -- The lines say this setup, and then these steps. Before the setup stand only lines that say nothing.
-abbrev pub SpellSetupAndSteps : Dialect → List (List (List ℕ)) → Setup → List CrewStep → Type 0
+abbrev pub SpellSetupAndSteps : Dialect → List (List (List ℕ)) → ScriptSetup → List CrewStep → Type 0
 SpellSetupAndSteps d [] setup steps = ⊥
 SpellSetupAndSteps d (words ∷ more) setup steps =
     ((is_skipped words ≡ true) × SpellSetupAndSteps d more setup steps) ⊎ (SpellsSetup words setup × SpellSteps d more steps)
 
 -- The text is a script of this setup and these steps: it has at most 65,536 bytes, and its lines say them in order. A
 -- script that says no setup has the plain one.
-pub record IsScript (d : Dialect) (text : List ℕ) (setup : Setup) (steps : List CrewStep) : Type 0 where
+pub record IsScript (d : Dialect) (text : List ℕ) (setup : ScriptSetup) (steps : List CrewStep) : Type 0 where
   pub within : length text ≤ 65536
   pub says : SpellSetupAndSteps d (map (words_of d.spelling) (lines_of text)) setup steps ⊎ ((setup ≡ plain_setup) × SpellSteps d (map (words_of d.spelling) (lines_of text)) steps)

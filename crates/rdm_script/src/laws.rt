@@ -7,12 +7,12 @@ ghost use Rattle.rdm_script.specs.Dialects.{strict, friendly};
 ghost use Rattle.rdm_script.specs.Spelling.{SpellsStep, SpellsSetup, IsScript};
 ghost use Rattle.rdm_script.specs.Grammar.{is_skipped, line_in, first_line_in, Refuses};
 ghost use Rattle.rdm_script.specs.declared.dialect.Dialect.{Dialect as TheDialect};
-ghost use Rattle.rdm_script.specs.declared.script.Setup.{Setup as TheSetup};
+ghost use Rattle.rdm_script.specs.declared.script.ScriptSetup.{ScriptSetup as TheSetup};
 ghost use Rattle.rdm_script.specs.declared.grammar.line.Line.TheVariants.{Sets, Says};
 ghost use Rattle.rdm_script.specs.declared.grammar.parsing.ScriptError.{ScriptError as TheError};
 ghost use Rattle.rdm_script.specs.declared.grammar.parsing.ScriptError.TheVariants.{OutOfMemory};
 
-use crate::{ProgramError, Refusal, ScriptError, Setup, Wanted};
+use crate::{ProgramError, Refusal, ScriptError, ScriptSetup, Unplayed, Wanted};
 
 /// No byte list is two scripts.
 pub fn text_is_one_script()
@@ -44,7 +44,7 @@ pub fn strict_steps_are_friendly()
 
 /// Two setups are equal by `==` exactly where each of their fields is.
 pub fn setups_are_equal_by_value()
-    ensures { (a b : Setup) → IsTrue (⟦<Setup as PartialEq>⟧.eq a b) ↔ (a ≡ b) }
+    ensures { (a b : ScriptSetup) → IsTrue (⟦<ScriptSetup as PartialEq>⟧.eq a b) ↔ (a ≡ b) }
 {}
 
 /// Two reasons why bytes are no script are equal by `==` exactly where they are the same, the line included.
@@ -55,6 +55,11 @@ pub fn script_errors_are_equal_by_value()
 /// Two failures of the program are equal by `==` exactly where they are the same, with the same cause.
 pub fn program_errors_are_equal_by_value()
     ensures { (a b : ProgramError) → IsTrue (⟦<ProgramError as PartialEq>⟧.eq a b) ↔ (a ≡ b) }
+{}
+
+/// Two reasons why a script isn't played are equal by `==` exactly where they are the same, with the same cause and line.
+pub fn unplayeds_are_equal_by_value()
+    ensures { (a b : Unplayed) → IsTrue (⟦<Unplayed as PartialEq>⟧.eq a b) ↔ (a ≡ b) }
 {}
 
 /// Two values of `Wanted` are equal by `==` exactly where they are the same.

@@ -2,8 +2,8 @@
 //! of the bytes that went over the bus.
 //!
 //! `run_script` does all of it, for any reader and writer, on the fixture of the demonstration, `run_script_on` on any
-//! other, and `run_program` ends a program with what came of it. `parse_as` reads strict scripts and friendly ones. The
-//! language stands in `specs/Spelling.antt`, how a run is set up and why it stops in `specs/Running.antt`, the
+//! other, and `run_program` ends a program with what came of it. `play_script` plays a text, and gives the lines of its trace, or the
+//! line at which it stops. `parse_as` reads strict scripts and friendly ones. The language stands in `specs/Spelling.antt`, how a run is set up and why it stops in `specs/Running.antt`, the
 //! demonstration in `specs/DemoParts.antt`, and the text in `specs/TraceText.antt`. What a run is, rdm_crew says.
 #![tactic(auto)]
 
@@ -14,6 +14,7 @@ mod exit;
 mod grammar;
 mod laws;
 mod parties;
+mod playing;
 mod program;
 mod refusal;
 mod rules;
@@ -30,12 +31,14 @@ pub use grammar::{MOST_BYTES, ScriptError, parse, parse_as, parse_for, refusal_a
 pub use laws::{
     line_says_what_its_words_spell, program_errors_are_equal_by_value, refusals_are_equal_by_value,
     script_errors_are_equal_by_value, script_is_never_refused, setups_are_equal_by_value,
-    strict_steps_are_friendly, text_is_one_script, wanteds_are_equal_by_value,
+    strict_steps_are_friendly, text_is_one_script, unplayeds_are_equal_by_value,
+    wanteds_are_equal_by_value,
 };
 pub use parties::{CONTROLLER, DEMO_DEVICE};
+pub use playing::{Unplayed, play_demonstration, play_script};
 pub use program::{ProgramError, run_script, run_script_as, run_script_on};
 pub use refusal::{Excerpt, Refusal, Wanted};
 pub use rules::{RuledPart, ruled_parts_fit};
-pub use script::{Script, Setup};
+pub use script::{Script, ScriptSetup};
 pub use stage::Stage;
 pub use trace::trace_text;

@@ -5,19 +5,20 @@ ghost use Rattle.std.specs.Io.KnownBytes.{Keeps, Appends, IsAtEnd};
 ghost use Rattle.rdm_crew.specs.RunTrace.{FitsFor};
 ghost use Rattle.rdm_script.specs.DemoParts.{demo_scene, demo_scene_in};
 ghost use Rattle.rdm_script.specs.Scene.{scene_of};
+ghost use Rattle.rdm_script.specs.Playing.{fault_of_play};
 ghost use Rattle.rdm_script.specs.Program.{IsTraceOf, IsFailure, status_of, fault_of_script, fault_of_run};
 ghost use Rattle.rdm_script.specs.declared.program.ProgramError.TheVariants.{Memory, Read as ReadFault, Write as WriteFault};
 
 use crate::demo::demo_stage;
 use crate::dialect::Spelling;
-use crate::grammar::{ScriptError, parse_as};
+use crate::grammar::ScriptError;
+use crate::playing::{Unplayed, play_script};
 use crate::rules::ruled_parts_fit;
-use crate::running::play_steps;
 use crate::stage::Stage;
 use crate::streams::read_input;
-use crate::trace::trace_text;
 use rdm_crew::{Panel, Part, RunError};
 use rdm_outcomes::demo_rules_end_jobs;
+use rdm_trace::text_of;
 use std::alloc::{AllocError, Global};
 use std::error::Error;
 use std::fmt;
@@ -104,6 +105,18 @@ impl From<RunError> for ProgramError {
             | RunError::Astray
             | RunError::Missing
             | RunError::BadSetup => ProgramError::Run(fault),
+        }
+    }
+}
+
+impl From<Unplayed> for ProgramError {
+    ghost from_gives = { λ why e. e ≡ fault_of_play why };
+
+    fn from(why: Unplayed) -> ProgramError {
+        match why {
+            Unplayed::OutOfMemory => ProgramError::Memory,
+            Unplayed::Faulty(fault) => ProgramError::from(fault),
+            Unplayed::Stopped(fault, _) => ProgramError::from(fault),
         }
     }
 }
@@ -222,7 +235,6 @@ where
     ensures err { IfErr result (λ e. IsFailure (scene_of P.gives Q.gives N.offers stage) e input.now ×
         (e ≢ ReadFault) × (e ≢ WriteFault)) }
 {
-    let script = parse_as(alloc, stage.spelling, stage.device, input)?;
-    let trace = play_steps(rt, alloc, script.setup, &script.steps, stage)?;
-    Ok(trace_text(alloc, trace.events(), trace.recorded())?)
+    let lines = play_script(rt, alloc, input, stage)?;
+    Ok(text_of(alloc, lines.as_slice())?)
 }

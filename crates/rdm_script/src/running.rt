@@ -4,29 +4,30 @@ ghost use Rattle.std.specs.Prelude.{◌≡◌, ◌↔◌, IfOk, IfErr, OnOk, IsE
 ghost use Rattle.rdm_bus.specs.BusLaws.{BusLaws, recorded};
 ghost use Rattle.rdm_crew.specs.RunTrace.{HaveFaults, FitsFor};
 ghost use Rattle.rdm_crew.specs.Setups.{switched_on};
+ghost use Rattle.rdm_crew.specs.Stops.{IsStopAt, error_of};
 ghost use Rattle.rdm_script.specs.Running.{crew_setup, IsBad, IsGood, IsScriptRun, Stops};
 ghost use Rattle.rdm_script.specs.Scene.{scene_of};
 
 use crate::parties::CONTROLLER;
-use crate::script::Setup;
+use crate::script::ScriptSetup;
 use crate::stage::Stage;
-use rdm_crew::{CrewStep, Panel, Part, RunError, Trace};
+use rdm_crew::{CrewStep, Panel, Part, Stopped, Trace};
 use rdm_frame::Uid;
 use rdm_params::Profile;
 use std::alloc::Global;
 use std::sync::Wait;
 use std::thread::Threads;
 
-/// Plays the steps on a device that has just been switched on, and gives what has happened.
+/// Plays the steps on a device that has just been switched on, and gives what has happened, or at which step they stop.
 ///
 /// A setup of which there can be no device is refused first.
 pub(crate) fn play_steps<T, P, Q, N>(
     rt: T,
     alloc: Global,
-    setup: Setup,
+    setup: ScriptSetup,
     steps: &[CrewStep],
     stage: Stage<P, Q, N>,
-) -> Result<Trace, RunError>
+) -> Result<Trace, Stopped>
 where
     T: Threads + Wait + Copy + Send + 'static,
     P: Part + Send + 'static,
@@ -39,14 +40,15 @@ where
     ensures recorded { IfOk result (λ trace. trace.recorded ≡ recorded trace.events) }
     ensures laws { IfOk result (λ trace. BusLaws (switched_on (crew_setup stage.device stage.profile setup)) trace.events) }
     ensures good { OnOk result (IsGood (scene_of P.gives Q.gives N.offers stage) setup) }
-    ensures bad_setup { IsErrOf result RunError.BadSetup ↔ IsBad (scene_of P.gives Q.gives N.offers stage) setup }
-    ensures err { IfErr result (λ e. Stops (scene_of P.gives Q.gives N.offers stage) e setup steps.now) }
+    ensures bad_setup { IsErrOf result Stopped.BadSetup ↔ IsBad (scene_of P.gives Q.gives N.offers stage) setup }
+    ensures err { IfErr result (λ stopped. Stops (scene_of P.gives Q.gives N.offers stage) (error_of stopped) setup steps.now) }
+    ensures stop { IfErr result (λ stopped. IsStopAt steps.now stopped) }
 {
     if stage.profile.subs < setup.subs {
-        return Err(RunError::BadSetup);
+        return Err(Stopped::BadSetup);
     }
     let crew_setup = crew_setup(stage.device, stage.profile, setup);
-    rdm_crew::run(
+    rdm_crew::run_steps(
         rt,
         alloc,
         crew_setup,
@@ -58,7 +60,7 @@ where
 }
 
 /// The device and the controller of a script.
-fn crew_setup(device: Uid, profile: Profile, setup: Setup) -> rdm_crew::Setup
+fn crew_setup(device: Uid, profile: Profile, setup: ScriptSetup) -> rdm_crew::Setup
     ensures { result ≡ crew_setup device profile setup }
 {
     rdm_crew::Setup {

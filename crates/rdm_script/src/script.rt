@@ -5,7 +5,7 @@ use rdm_crew::CrewStep;
 
 /// How the device and the controller of a script are set up.
 #[derive(Clone, Copy, Debug, PartialEq, Eq)]
-pub struct Setup {
+pub struct ScriptSetup {
     /// How many sub-devices the device has.
     pub subs: u16,
     /// For how many results of slow commands the device has room.
@@ -14,9 +14,9 @@ pub struct Setup {
     pub want: Want,
 }
 
-impl Setup {
+impl ScriptSetup {
     /// The setup of a script that says none.
-    pub const PLAIN: Setup = Setup {
+    pub const PLAIN: ScriptSetup = ScriptSetup {
         subs: 0,
         queue_size: 8,
         want: Want::Advisory,
@@ -27,7 +27,7 @@ impl Setup {
 #[derive(Debug, Drop)]
 pub struct Script {
     /// How the device and the controller are set up.
-    pub setup: Setup,
+    pub setup: ScriptSetup,
     /// The steps.
     pub steps: Vec<CrewStep>,
     /// The line of each step, counted from 1.

@@ -11,6 +11,7 @@ mod plain;
 mod readme;
 mod scripts;
 mod staged;
+mod stops;
 mod streams;
 mod traces;
 mod working;

@@ -7,7 +7,7 @@ use super::command::command_in;
 use super::decimals;
 use super::fault::fault_in;
 use crate::dialect::Dialect;
-use crate::script::Setup;
+use crate::script::ScriptSetup;
 use rdm_bus::Want;
 use rdm_crew::CrewStep;
 
@@ -17,7 +17,7 @@ pub enum Line {
     /// Nothing: it is empty or a comment.
     Skipped,
     /// How the device and the controller are set up.
-    Sets(Setup),
+    Sets(ScriptSetup),
     /// One step.
     Says(CrewStep),
     /// It is no line of a script.
@@ -51,7 +51,7 @@ pub(crate) fn line_in(dialect: Dialect, words: &[&[u8]]) -> Line
 
 /// The setup that words say.
 #[tactic(auto, unfolding(crate::specs::Grammar::setup_in, crate::specs::Grammar::setup_of))]
-fn setup_in(words: &[&[u8]]) -> Option<Setup>
+fn setup_in(words: &[&[u8]]) -> Option<ScriptSetup>
     ensures { result ≡ setup_in (map (λ word. word.now) words.now) }
 {
     let [name, subs, queue_size, want] = words else {
@@ -60,7 +60,7 @@ fn setup_in(words: &[&[u8]]) -> Option<Setup>
     if *name != b"setup".as_slice() {
         return None;
     }
-    Some(Setup {
+    Some(ScriptSetup {
         subs: decimals::word_in(subs)?,
         queue_size: decimals::word_in(queue_size)?,
         want: want_in(want)?,

@@ -4,7 +4,7 @@ ghost use Rattle.std.specs.Prelude.{◌≡◌, ◌≢◌, ℕ, ◌+◌, ◌^◌,
 ghost use Rattle.std.specs.Option.{option_or};
 ghost use Rattle.rdm_crew.specs.declared.step.CrewStep.{CrewStep as TheStep};
 ghost use Rattle.rdm_crew.specs.RunTrace.{HaveFaults};
-ghost use Rattle.rdm_script.specs.declared.script.Setup.{Setup as TheSetup};
+ghost use Rattle.rdm_script.specs.declared.script.ScriptSetup.{ScriptSetup as TheSetup};
 ghost use Rattle.rdm_script.specs.Dialects.{dialect_of, strict};
 ghost use Rattle.rdm_script.specs.Parties.{demo_device, plain_setup};
 ghost use Rattle.rdm_script.specs.Grammar.{words_of, line_at, begun_after, said_by, lines_of, setup_after, steps_of_line, AreSaid, IsFirstFaulty, IsRead, Refuses};
@@ -17,7 +17,7 @@ use super::line::{Line, first_line_in, line_in};
 use super::words::words_of;
 use crate::dialect::{Dialect, Spelling};
 use crate::parties::DEMO_DEVICE;
-use crate::script::{Script, Setup};
+use crate::script::{Script, ScriptSetup};
 use rdm_frame::Uid;
 use rdm_streams::{line_end, without_return};
 use std::alloc::{AllocError, Global};
@@ -159,7 +159,7 @@ fn read_script(alloc: Global, dialect: Dialect, text: &[u8]) -> Result<Script, S
     }
     let count = line_count(text);
     let mut script = Script {
-        setup: Setup::PLAIN,
+        setup: ScriptSetup::PLAIN,
         steps: Vec::with_capacity(alloc, count)?,
         lines: Vec::with_capacity(alloc, count)?,
         setup_line: None,

@@ -3,13 +3,13 @@
 use rdm_bus::{Action, Command, Fault, Want};
 use rdm_crew::CrewStep;
 use rdm_frame::{Load, Uid};
-use rdm_script::{Script, ScriptError, Setup, parse};
+use rdm_script::{Script, ScriptError, ScriptSetup, parse};
 use std::alloc::Global;
 use std::process::Abort;
 use std::test::Fail;
 
 /// The setup of a script.
-fn setup_in(alloc: Global, script: &str) -> Result<Setup, ScriptError> {
+fn setup_in(alloc: Global, script: &str) -> Result<ScriptSetup, ScriptError> {
     match parse(alloc, script.as_bytes()) {
         Ok(script) => Ok(script.setup),
         Err(error) => Err(error),
@@ -29,7 +29,7 @@ fn step_in(rt: &impl Abort, alloc: Global, line: &str) -> Result<CrewStep, Fail>
         mut steps,
         ..
     } = parse(alloc, line.as_bytes())?;
-    assert_eq!(rt; (setup, steps.len()), (Setup::PLAIN, 1), "{line:?}");
+    assert_eq!(rt; (setup, steps.len()), (ScriptSetup::PLAIN, 1), "{line:?}");
     Ok(steps.pop().ok_or("a step")?)
 }
 
@@ -70,7 +70,7 @@ const SETUPS: [(&str, u16, u16, Want); 12] = [
 #[test]
 fn reads_setups(rt: HostRuntime) {
     for (script, subs, queue_size, want) in SETUPS {
-        let setup = Setup {
+        let setup = ScriptSetup {
             subs,
             queue_size,
             want,

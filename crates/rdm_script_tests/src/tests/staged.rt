@@ -124,7 +124,7 @@ end
 ];
 
 /// UIDs that no fixture of a script may have: the controller's, and a broadcast.
-const OTHERS: [Uid; 2] = [
+pub(super) const OTHERS: [Uid; 2] = [
     Uid {
         maker: 0x7FF0,
         device: 0x0000_0002,
@@ -133,7 +133,7 @@ const OTHERS: [Uid; 2] = [
 ];
 
 /// The fixture with this UID.
-fn stage(device: Uid) -> Stage<RuledPart, RuledPart, DemoPanel> {
+pub(super) fn stage(device: Uid) -> Stage<RuledPart, RuledPart, DemoPanel> {
     let mut rules = ArrayVec::new();
     rules.push(SECOND_STRIKE);
     Stage {

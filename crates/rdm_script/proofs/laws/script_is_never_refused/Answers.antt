@@ -3,14 +3,14 @@ use Rattle.std.proofs.lemmas.Option.{slice_get_within, get_or_from_slice_get}
 use Rattle.rdm_script.specs.declared.dialect.Dialect.{Dialect}
 use Rattle.rdm_crew.specs.declared.step.CrewStep.{CrewStep}
 use Rattle.rdm_script.specs.declared.grammar.line.Line.TheVariants.{Faulty}
-use Rattle.rdm_script.specs.declared.script.Setup.{Setup}
+use Rattle.rdm_script.specs.declared.script.ScriptSetup.{ScriptSetup}
 use Rattle.rdm_script.specs.declared.grammar.parsing.ScriptError.{ScriptError}
 use Rattle.rdm_script.specs.declared.grammar.parsing.ScriptError.TheVariants.{OutOfMemory, TooLong, Line}
 use Rattle.rdm_script.specs.Grammar.{said_by, lines_of, IsRead, Refuses}
 use Rattle.rdm_script.proofs.ScriptSpellings.{script_read}
 use Rattle.rdm_script.proofs.laws.script_is_never_refused.Goals as goal
 
-never : (dev : Dialect) (text : List ℕ) (setup : Setup) (steps : List CrewStep) (e : ScriptError) → IsRead dev text setup steps → Refuses dev e text → e ≡ OutOfMemory
+never : (dev : Dialect) (text : List ℕ) (setup : ScriptSetup) (steps : List CrewStep) (e : ScriptError) → IsRead dev text setup steps → Refuses dev e text → e ≡ OutOfMemory
 never dev text setup steps OutOfMemory read refused = refl
 never dev text setup steps TooLong read refused = absurd (omega (arith, read.within, refused))
 never dev text setup steps (Line number) read refused =
