@@ -8,13 +8,10 @@ use super::setup::DEVICE;
 use rdm_bus::{Action, Command, Fault};
 use rdm_crew::CrewStep;
 use rdm_frame::Load;
+use rdm_frame::standard::ROOT_DEVICE;
+use rdm_params::Kind;
 use std::alloc::{AllocError, Global};
 use std::marker::Model;
-
-/// The parameter IDs of two slow commands: the first worker has the jobs of the first, and the second those of the second.
-const LAMP_STATE: u16 = 0x0403;
-
-const PERFORM_SELFTEST: u16 = 0x1020;
 
 /// A way to play slow commands.
 #[derive(Clone, Copy)]
@@ -24,7 +21,7 @@ pub(crate) struct Way {
     /// How many commands are sent before their reports are waited for.
     batch: u32,
     /// The parameter of every other command, and that of those between.
-    pids: [u16; 2],
+    kinds: [Kind; 2],
 }
 
 /// Three ways.
@@ -32,17 +29,18 @@ pub(crate) const WAYS: [Way; 3] = [
     Way {
         name: "by one, first worker",
         batch: 1,
-        pids: [LAMP_STATE; 2],
+        kinds: [Kind::LampState; 2],
     },
     Way {
         name: "by eight, first worker",
         batch: 8,
-        pids: [LAMP_STATE; 2],
+        kinds: [Kind::LampState; 2],
     },
     Way {
         name: "by eight, both workers",
         batch: 8,
-        pids: [LAMP_STATE, PERFORM_SELFTEST],
+        // The first worker has the jobs of the one, and the second those of the other.
+        kinds: [Kind::LampState, Kind::PerformSelfTest],
     },
 ];
 
@@ -72,16 +70,16 @@ impl Plan {
             steps: Vec::new(alloc),
         };
         for _ in 0..jobs.checked_div(way.batch).unwrap_or(0) {
-            plan.add_batch(way.batch, way.pids)?;
+            plan.add_batch(way.batch, way.kinds)?;
         }
         Ok(plan)
     }
 
     /// Adds the steps of one batch.
-    fn add_batch(&mut self, batch: u32, pids: [u16; 2]) -> Result<(), AllocError> {
+    fn add_batch(&mut self, batch: u32, kinds: [Kind; 2]) -> Result<(), AllocError> {
         for place in 0..batch {
-            let pid = if place % 2 == 0 { pids[0] } else { pids[1] };
-            self.add(CrewStep::Ask(set_of(pid), Fault::None))?;
+            let kind = if place % 2 == 0 { kinds[0] } else { kinds[1] };
+            self.add(CrewStep::Ask(set_of(kind), Fault::None))?;
         }
         self.add(CrewStep::Settle(u32::MAX))?;
         for _ in 0..batch {
@@ -107,14 +105,14 @@ impl Plan {
 }
 
 /// SET of a parameter to 1, at the root of the device.
-fn set_of(pid: u16) -> Command {
+fn set_of(kind: Kind) -> Command {
     let mut load = Load::new();
     load.append(&[1]);
     Command {
         dst: DEVICE,
         action: Action::Set,
-        sub: 0,
-        pid,
+        sub: ROOT_DEVICE,
+        pid: kind.pid(),
         load,
     }
 }
