@@ -7,19 +7,13 @@ use crate::usage;
 use clap::ArgMatches;
 use rdm_device::Profile;
 use rdm_fixture::Fixture;
-use rdm_frame::Uid;
 use rdm_outcomes::demo_rules;
+use rdm_script::DEMO_DEVICE;
 use rdm_words::put_fixture;
 use std::str;
 
 /// How many bytes a fixture file may have: 1 MiB.
 const MOST_BYTES: u64 = 1048576;
-
-/// The UID of the demonstration fixture.
-const DEVICE: Uid = Uid {
-    maker: 0x7FF0,
-    device: 0x0000_0001,
-};
 
 /// Reads the fixture file that is named, and prints what it describes.
 pub fn run<'a, H: Host>(rt: H, asked: &ArgMatches<'a>) -> Result<(), Fault<'a>> {
@@ -42,7 +36,7 @@ pub fn asked_for<'a, H: Host>(rt: H, asked: &ArgMatches<'a>) -> Result<Fixture, 
 /// The fixture on which scripts are played.
 pub fn demonstration() -> Fixture {
     Fixture {
-        uid: DEVICE,
+        uid: DEMO_DEVICE,
         profile: Profile::demo(0),
         outcomes: demo_rules(),
     }

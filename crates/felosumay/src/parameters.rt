@@ -10,10 +10,10 @@ use crate::{fixture, usage};
 use clap::ArgMatches;
 use data::{data_of, put_data};
 use rdm_frame::digits::word_in;
+use rdm_frame::standard::ROOT_DEVICE;
 use rdm_params::{
     Devices, Kind, Nack, NewError, Verb, Verdict, Work, estimate_of, kind_of, worker_of,
 };
-use rdm_words::tables::parameters::pid_named;
 use std::alloc::{AllocError, Global};
 use std::fmt::Write;
 
@@ -37,10 +37,8 @@ pub fn run<'a, H: Host>(rt: H, asked: &ArgMatches<'a>) -> Result<(), Fault<'a>> 
             None => return Err(Fault::NoParameter(name)),
         },
         None => {
-            for pid in 0..=u16::MAX {
-                if let Some(kind) = kind_of(pid) {
-                    put_parameter(&mut text, rt.alloc(), &devices, kind)?;
-                }
+            for kind in Kind::all() {
+                put_parameter(&mut text, rt.alloc(), &devices, kind)?;
             }
         }
     }
@@ -51,7 +49,7 @@ pub fn run<'a, H: Host>(rt: H, asked: &ArgMatches<'a>) -> Result<(), Fault<'a>> 
 fn kind_named(name: &str) -> Option<Kind> {
     match word_in(name.as_bytes()) {
         Some(pid) => kind_of(pid),
-        None => kind_of(pid_named(name.as_bytes())?),
+        None => Kind::named(name.as_bytes()),
     }
 }
 
@@ -79,7 +77,7 @@ fn put_parameter(
             continue;
         };
         let mut at_root = String::new(alloc);
-        put_data(&mut at_root, devices, 0, kind, verb, &data)?;
+        put_data(&mut at_root, devices, ROOT_DEVICE, kind, verb, &data)?;
         write!(text, "  {word}: {at_root}")?;
         let mut at_each = String::new(alloc);
         put_data(&mut at_each, devices, SUB_DEVICE, kind, verb, &data)?;

@@ -17,30 +17,19 @@ use crate::words::say;
 use clap::ArgMatches;
 use rdm_fixture::Fixture;
 use rdm_frame::Uid;
+use rdm_frame::standard::MOST_SUB_DEVICES;
 use rdm_script::{
-    DemoPanel, ProgramError, RuledPart, Spelling, Stage, ruled_parts_fit, run_script_as,
-    run_script_on, stopped_line,
+    CONTROLLER, DemoPanel, MOST_BYTES, ProgramError, RuledPart, Spelling, Stage, ruled_parts_fit,
+    run_script_as, run_script_on, stopped_line,
 };
 use std::io;
 use std::io::Write;
-
-/// How many bytes a script may have: 64 KiB.
-const MOST_BYTES: u64 = 65536;
-
-/// The UID of the controller that plays a script.
-const CONTROLLER: Uid = Uid {
-    maker: 0x7FF0,
-    device: 0x0000_0002,
-};
-
-/// How many sub-devices a script can give the fixture of the demonstration.
-const MOST_SUBS: u16 = 512;
 
 /// Plays the script that is named, and prints what is asked for.
 pub fn run<'a, H: Host>(rt: H, asked: &ArgMatches<'a>) -> Result<(), Fault<'a>> {
     refuse_clashes(asked)?;
     let source = Source::named(asked.get_str(usage::INPUT));
-    let text = source.read(rt, MOST_BYTES)?;
+    let text = source.read(rt, MOST_BYTES as u64)?;
     let file = FixtureFile::asked_for(rt, asked)?;
     let (fixture, stage) = match &file {
         Some(file) => (file.fixture(rt)?, Some(file.fixture(rt)?)),
@@ -56,7 +45,8 @@ pub fn run<'a, H: Host>(rt: H, asked: &ArgMatches<'a>) -> Result<(), Fault<'a>> 
         subs: if stage.is_some() {
             fixture.profile.subs
         } else {
-            MOST_SUBS
+            // A script can give the fixture of the demonstration as many.
+            MOST_SUB_DEVICES
         },
     };
     if asked.contains_id(usage::CHART) || asked.get_flag(usage::WORDS) {

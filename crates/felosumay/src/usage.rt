@@ -1,6 +1,7 @@
 //! The command line: its subcommands and what each takes.
 
 use clap::{Arg, ArgAction, ArgMatches, Command, Error, value_parser};
+use rdm_frame::standard::MOST_SUB_DEVICES;
 use std::alloc::Global;
 
 /// The option that names a fixture file.
@@ -143,7 +144,7 @@ fn widget<'a>(alloc: Global) -> Result<Command<'a>, Error> {
     let subs = Arg::new(alloc, SUBS)
         .long("subs")
         .value_name("N")
-        .value_parser(value_parser!(u16).range(0..=512))
+        .value_parser(value_parser!(u16).range(0..=i64::from(MOST_SUB_DEVICES)))
         .help("The number of sub-devices; if omitted, all of the file's, or none without a file");
     let speed = Arg::new(alloc, SPEED)
         .long("speed")

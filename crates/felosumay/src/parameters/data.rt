@@ -1,11 +1,9 @@
 //! The data of a command: their length and their range, found by handing in data of each length and each value.
 
+use rdm_frame::standard::MOST_DATA;
 use rdm_params::{Devices, Kind, Value, Verb, read_value};
 use std::alloc::AllocError;
 use std::fmt::Write;
-
-/// How many bytes of data a frame can carry (E1.20 section 6.2.3).
-const MOST_DATA: usize = 231;
 
 /// The data of a command: how many bytes at least and at most, and what the fewest of them say.
 #[derive(Drop)]
