@@ -6,9 +6,11 @@ use crate::source::{Source, refuse_clashes, save, without_mark};
 use crate::words::MOST_BYTES;
 use crate::{fixture, usage};
 use clap::ArgMatches;
-use rdm_chart::{ChartError, chart};
+use rdm_chart::{ChartError, chart, chart_of};
 use rdm_fixture::Fixture;
+use rdm_trace::Line;
 use rdm_words::Known;
+use std::alloc::AllocError;
 
 /// Reads the trace that is named, and writes its chart.
 pub fn run<'a, H: Host>(rt: H, asked: &ArgMatches<'a>) -> Result<(), Fault<'a>> {
@@ -17,22 +19,18 @@ pub fn run<'a, H: Host>(rt: H, asked: &ArgMatches<'a>) -> Result<(), Fault<'a>> 
     let source = Source::named(asked.get_str(usage::INPUT));
     let trace = source.read(rt, MOST_BYTES)?;
     let text = without_mark(trace.as_slice());
-    let picture = draw(rt, source.name(), text, &fixture)?;
+    let known = Known::of(fixture.uid, &fixture.profile);
+    let picture = match chart(rt.alloc(), text, &known) {
+        Ok(picture) => picture,
+        Err(ChartError::OutOfMemory) => return Err(Fault::Memory),
+        Err(ChartError::Line(line)) => return Err(Fault::NoTrace(source.name(), line)),
+    };
     let path = asked.get_str(usage::OUTPUT).unwrap_or("-");
     save(rt, path, picture.as_slice())
 }
 
-/// The chart of a trace.
-pub fn draw<'a, H: Host>(
-    rt: H,
-    name: &'a str,
-    trace: &[u8],
-    fixture: &Fixture,
-) -> Result<Vec<u8>, Fault<'a>> {
+/// The chart of the lines of a trace.
+pub fn draw<H: Host>(rt: H, lines: &[Line], fixture: &Fixture) -> Result<Vec<u8>, AllocError> {
     let known = Known::of(fixture.uid, &fixture.profile);
-    match chart(rt.alloc(), trace, &known) {
-        Ok(picture) => Ok(picture),
-        Err(ChartError::OutOfMemory) => Err(Fault::Memory),
-        Err(ChartError::Line(line)) => Err(Fault::NoTrace(name, line)),
-    }
+    chart_of(rt.alloc(), lines, &known)
 }

@@ -1,5 +1,9 @@
 //! Fixtures: `felosumay fixture`, and the fixture that other subcommands are asked for.
 
+ghost use Rattle.std.specs.Prelude.{◌≡◌, IfOk, is_some};
+ghost use Rattle.rdm_fixture.specs.Describes.{Describes};
+ghost use Rattle.felosumay.specs.Scenes.{asks_for_fixture};
+
 use crate::fault::Fault;
 use crate::host::Host;
 use crate::source::{Source, print};
@@ -54,7 +58,9 @@ impl<'a> FixtureFile<'a> {
     pub fn asked_for<H: Host>(
         rt: H,
         asked: &ArgMatches<'a>,
-    ) -> Result<Option<FixtureFile<'a>>, Fault<'a>> {
+    ) -> Result<Option<FixtureFile<'a>>, Fault<'a>>
+        ensures asked { IfOk result (λ file. is_some file ≡ asks_for_fixture asked.now) }
+    {
         match asked.get_str(usage::FIXTURE) {
             Some(path) => Ok(Some(FixtureFile::read(rt, Source::named(Some(path)))?)),
             None => Ok(None),
@@ -70,7 +76,9 @@ impl<'a> FixtureFile<'a> {
     }
 
     /// The fixture that it describes.
-    pub fn fixture<H: Host>(&self, rt: H) -> Result<Fixture, Fault<'a>> {
+    pub fn fixture<H: Host>(&self, rt: H) -> Result<Fixture, Fault<'a>>
+        ensures described { IfOk result (Describes self.now.bytes.items) }
+    {
         let bytes = self.bytes.as_slice();
         let text = match str::from_utf8(bytes) {
             Ok(text) => text,

@@ -1,10 +1,11 @@
 //! `felosumay play`: a script is played, and its trace printed, or its words, and drawn.
 
-ghost use Rattle.std.specs.Prelude.{ℕ, List, OnOk};
+ghost use Rattle.std.specs.Prelude.{◌≡◌, ℕ, List, IfOk, IfErr, OnOk, is_some};
 ghost use Rattle.std.specs.Io.KnownBytes.{Appends};
-ghost use Rattle.rdm_script.specs.Program.{IsTraceOf};
-ghost use Rattle.rdm_script.specs.DemoParts.{demo_scene_in};
+ghost use Rattle.rdm_script.specs.Playing.{IsPlayOf, NamesStopLine};
+ghost use Rattle.rdm_script.specs.Rules.{rules_of};
 ghost use Rattle.rdm_script.specs.declared.dialect.Spelling.TheVariants.{Friendly};
+ghost use Rattle.felosumay.specs.Scenes.{scene_on, asks_for_fixture, ArePlayed, IsPlayed};
 
 use crate::chart::draw;
 use crate::fault::Fault;
@@ -12,16 +13,15 @@ use crate::fixture::{FixtureFile, demonstration};
 use crate::host::Host;
 use crate::source::{OUTPUT, Source, print, refuse_clashes, save, without_mark};
 use crate::usage;
-use crate::watched::Watched;
-use crate::words::say;
+use crate::words::words_of;
 use clap::ArgMatches;
 use rdm_fixture::Fixture;
-use rdm_frame::Uid;
 use rdm_frame::standard::MOST_SUB_DEVICES;
 use rdm_script::{
-    CONTROLLER, DemoPanel, MOST_BYTES, ProgramError, RuledPart, Spelling, Stage, ruled_parts_fit,
-    run_script_as, run_script_on, stopped_line,
+    CONTROLLER, DemoPanel, MOST_BYTES, RuledPart, Spelling, Stage, Unplayed, play_demonstration,
+    play_script, ruled_parts_fit,
 };
+use rdm_trace::{Line, text_of};
 use std::io;
 use std::io::Write;
 
@@ -29,45 +29,41 @@ use std::io::Write;
 pub fn run<'a, H: Host>(rt: H, asked: &ArgMatches<'a>) -> Result<(), Fault<'a>> {
     refuse_clashes(asked)?;
     let source = Source::named(asked.get_str(usage::INPUT));
-    let text = source.read(rt, MOST_BYTES as u64)?;
-    let file = FixtureFile::asked_for(rt, asked)?;
-    let (fixture, stage) = match &file {
-        Some(file) => (file.fixture(rt)?, Some(file.fixture(rt)?)),
-        None => (demonstration(), None),
-    };
-    if fixture.uid == CONTROLLER {
-        return Err(Fault::ControllersUid(CONTROLLER));
-    }
+    let bytes = source.read(rt, MOST_BYTES as u64)?;
+    let setting = Setting::asked_for(rt, asked)?;
     let script = Script {
         name: source.name(),
-        text: without_mark(text.as_slice()),
-        device: fixture.uid,
-        subs: if stage.is_some() {
-            fixture.profile.subs
-        } else {
-            // A script can give the fixture of the demonstration as many.
-            MOST_SUB_DEVICES
-        },
+        text: without_mark(bytes.as_slice()),
     };
     if asked.contains_id(usage::CHART) || asked.get_flag(usage::WORDS) {
-        let mut trace = Vec::new(rt.alloc());
-        let played = play(rt, stage, script.text, &mut trace);
-        script.ended(played, Fault::Memory)?;
-        show(rt, asked, script.name, trace.as_slice(), &fixture)
+        let lines = setting.lines(rt, script)?;
+        show(rt, asked, lines.as_slice(), &setting.fixture)
     } else {
-        print_trace(rt, stage, &script)
+        let mut writer = io::writer(&rt);
+        setting.write_trace(rt, script, &mut writer)
     }
 }
 
-/// Plays a script, and prints its trace.
-fn print_trace<'a, H: Host>(
+/// Draws a trace, and prints it or its words. A chart on standard output stands in the place of the trace.
+fn show<'a, H: Host>(
     rt: H,
-    stage: Option<Fixture>,
-    script: &Script<'_, 'a>,
+    asked: &ArgMatches<'a>,
+    lines: &[Line],
+    fixture: &Fixture,
 ) -> Result<(), Fault<'a>> {
-    let mut writer = Watched::new(io::writer(&rt));
-    let played = play(rt, stage, script.text, &mut writer);
-    script.ended(played, Fault::Io(OUTPUT, writer.error()))
+    if let Some(path) = asked.get_str(usage::CHART) {
+        let picture = draw(rt, lines, fixture)?;
+        save(rt, path, picture.as_slice())?;
+        if path == "-" {
+            return Ok(());
+        }
+    }
+    let text = if asked.get_flag(usage::WORDS) {
+        words_of(rt, lines, fixture)?
+    } else {
+        text_of(rt.alloc(), lines)?
+    };
+    print(rt, text.as_slice())
 }
 
 /// A script in words as people spell them.
@@ -76,97 +72,102 @@ struct Script<'s, 'a> {
     /// By what name messages tell of it.
     name: &'a str,
     text: &'s [u8],
-    /// The UID of the fixture that it is played on.
-    device: Uid,
-    /// How many sub-devices it can ask for.
-    subs: u16,
 }
 
-impl<'a> Script<'_, 'a> {
-    /// What comes of its run, where this is told if its trace isn't written.
-    fn ended(
-        &self,
-        played: Result<(), ProgramError>,
-        unwritten: Fault<'a>,
-    ) -> Result<(), Fault<'a>> {
-        match played {
-            Ok(()) => Ok(()),
-            // It lies in memory, so it can always be read.
-            Err(ProgramError::Memory | ProgramError::Read) => Err(Fault::Memory),
-            Err(ProgramError::Write) => Err(unwritten),
-            Err(ProgramError::Script(error)) => {
-                Err(Fault::script(self.name, self.device, self.text, error))
-            }
-            Err(ProgramError::Run(error)) => {
-                let line = stopped_line(Spelling::Friendly, self.device, self.text, error);
-                Err(Fault::stopped(self.name, line, self.subs, error))
-            }
-        }
-    }
-}
-
-/// Draws a trace, and prints it or its words. A chart on standard output stands in the place of the trace.
-fn show<'a, H: Host>(
-    rt: H,
-    asked: &ArgMatches<'a>,
-    name: &'a str,
-    trace: &[u8],
-    fixture: &Fixture,
-) -> Result<(), Fault<'a>> {
-    if let Some(path) = asked.get_str(usage::CHART) {
-        let picture = draw(rt, name, trace, fixture)?;
-        save(rt, path, picture.as_slice())?;
-        if path == "-" {
-            return Ok(());
-        }
-    }
-    if asked.get_flag(usage::WORDS) {
-        say(rt, trace, fixture)
-    } else {
-        print(rt, trace)
-    }
-}
-
-/// Plays a script on a fixture from a file, or else on that of the demonstration, and writes its trace.
-fn play<H: Host, W: Write>(
-    rt: H,
-    stage: Option<Fixture>,
-    script: &[u8],
-    writer: &mut W,
-) -> Result<(), ProgramError> {
-    match stage {
-        Some(fixture) => play_on(rt, fixture, script, writer),
-        None => play_demonstration(rt, script, writer),
-    }
-}
-
-/// Plays a script on the fixture of the demonstration, and writes its trace.
-fn play_demonstration<H: Host, W: Write>(
-    rt: H,
-    script: &[u8],
-    writer: &mut W,
-) -> Result<(), ProgramError>
-    ensures ok { OnOk result ((text : List ℕ) × IsTraceOf (demo_scene_in Friendly) script.now text ×
-        Appends (W.contents writer.old) (W.contents writer.new) text) }
-{
-    let mut reader = script;
-    run_script_as(rt, rt.alloc(), Spelling::Friendly, &mut reader, writer)
-}
-
-/// Plays a script on a fixture, and writes its trace.
-fn play_on<H: Host, W: Write>(
-    rt: H,
+/// What a script is played on.
+#[derive(Drop)]
+struct Setting<'a> {
+    /// The file of the fixture, if one is asked for. Otherwise it is the fixture of the demonstration.
+    file: Option<FixtureFile<'a>>,
+    /// The fixture of which words and charts tell.
     fixture: Fixture,
-    script: &[u8],
-    writer: &mut W,
-) -> Result<(), ProgramError> {
+}
+
+impl<'a> Setting<'a> {
+    /// What the words of the command line ask for.
+    fn asked_for<H: Host>(rt: H, asked: &ArgMatches<'a>) -> Result<Setting<'a>, Fault<'a>>
+        ensures file { IfOk result (λ setting. is_some setting.file ≡ asks_for_fixture asked.now) }
+    {
+        let file = FixtureFile::asked_for(rt, asked)?;
+        let fixture = match &file {
+            Some(file) => file.fixture(rt)?,
+            None => demonstration(),
+        };
+        if fixture.uid == CONTROLLER {
+            return Err(Fault::ControllersUid(CONTROLLER));
+        }
+        Ok(Setting { file, fixture })
+    }
+
+    /// How many sub-devices a script can ask for.
+    fn subs(&self) -> u16 {
+        match &self.file {
+            Some(_) => self.fixture.profile.subs,
+            // A script can give the fixture of the demonstration as many.
+            None => MOST_SUB_DEVICES,
+        }
+    }
+
+    /// Plays a script, and writes its trace.
+    fn write_trace<H: Host, W: Write>(
+        &self,
+        rt: H,
+        script: Script<'_, 'a>,
+        writer: &mut W,
+    ) -> Result<(), Fault<'a>>
+        ensures ok { OnOk result ((text : List ℕ) × IsPlayed self.now.file script.entry.text.now text ×
+            Appends (W.contents writer.old) (W.contents writer.new) text) }
+    {
+        let lines = self.lines(rt, script)?;
+        let text = text_of(rt.alloc(), lines.as_slice())?;
+        match writer.write_all(text.as_slice()) {
+            Ok(()) => Ok(()),
+            Err(error) => Err(Fault::Io(OUTPUT, error)),
+        }
+    }
+
+    /// Plays a script, and gives the lines of its trace.
+    fn lines<H: Host>(&self, rt: H, script: Script<'_, 'a>) -> Result<Vec<Line>, Fault<'a>>
+        ensures ok { IfOk result (λ lines. ArePlayed self.now.file script.entry.text.now lines.items) }
+    {
+        let played = match &self.file {
+            Some(file) => play_on(rt, file.fixture(rt)?, script.text),
+            None => play_demonstration(rt, rt.alloc(), Spelling::Friendly, script.text),
+        };
+        match played {
+            Ok(lines) => Ok(lines),
+            Err(why) => Err(self.told(script, why)),
+        }
+    }
+
+    /// What is told of a script that isn't played to its end.
+    fn told(&self, script: Script<'_, 'a>, why: Unplayed) -> Fault<'a> {
+        let Script { name, text } = script;
+        match why {
+            Unplayed::OutOfMemory => Fault::Memory,
+            Unplayed::Faulty(error) => Fault::script(name, self.fixture.uid, text, error),
+            Unplayed::Stopped(error, line) => Fault::stopped(name, line, self.subs(), error),
+        }
+    }
+}
+
+/// Plays a script on a fixture from a file, and gives the lines of its trace, or the line at which it stops.
+fn play_on<H: Host>(rt: H, fixture: Fixture, script: &[u8]) -> Result<Vec<Line>, Unplayed>
+    ensures ok { IfOk result (λ lines. IsPlayOf (scene_on fixture) script.now lines.items) }
+    ensures line { IfErr result (NamesStopLine (scene_on fixture) script.now) }
+{
     ruled_parts_fit();
-    let mut reader = script;
-    run_script_on(rt, rt.alloc(), &mut reader, writer, stage_of(fixture))
+    play_script(rt, rt.alloc(), script, stage_of(fixture))
 }
 
 /// What a script is played on: the fixture, with its jobs as its file says, and the changes at the menu of the demonstration.
-fn stage_of(fixture: Fixture) -> Stage<RuledPart, RuledPart, DemoPanel> {
+fn stage_of(fixture: Fixture) -> Stage<RuledPart, RuledPart, DemoPanel>
+    ensures device { result.device ≡ fixture.uid }
+    ensures profile { result.profile ≡ fixture.profile }
+    ensures spelling { result.spelling ≡ Friendly }
+    ensures first { rules_of result.first ≡ fixture.outcomes.items }
+    ensures second { rules_of result.second ≡ fixture.outcomes.items }
+{
     let first = RuledPart::new(&fixture.outcomes);
     let second = RuledPart::new(&fixture.outcomes);
     Stage {

@@ -6,7 +6,9 @@ use crate::source::{Source, print, refuse_clashes, without_mark};
 use crate::{fixture, usage};
 use clap::ArgMatches;
 use rdm_fixture::Fixture;
-use rdm_words::{Known, words};
+use rdm_trace::Line;
+use rdm_words::{Known, words, words_of_lines};
+use std::alloc::AllocError;
 
 /// How many bytes a trace may have: 64 MiB.
 pub const MOST_BYTES: u64 = 67108864;
@@ -14,15 +16,16 @@ pub const MOST_BYTES: u64 = 67108864;
 /// Reads the trace that is named, and prints its words.
 pub fn run<'a, H: Host>(rt: H, asked: &ArgMatches<'a>) -> Result<(), Fault<'a>> {
     refuse_clashes(asked)?;
-    let known = fixture::asked_for(rt, asked)?;
+    let fixture = fixture::asked_for(rt, asked)?;
     let source = Source::named(asked.get_str(usage::INPUT));
     let trace = source.read(rt, MOST_BYTES)?;
-    say(rt, without_mark(trace.as_slice()), &known)
+    let known = Known::of(fixture.uid, &fixture.profile);
+    let words = words(rt.alloc(), without_mark(trace.as_slice()), &known)?;
+    print(rt, words.as_slice())
 }
 
-/// Prints the words of a trace.
-pub fn say<'a, H: Host>(rt: H, trace: &[u8], fixture: &Fixture) -> Result<(), Fault<'a>> {
+/// The words of the lines of a trace.
+pub fn words_of<H: Host>(rt: H, lines: &[Line], fixture: &Fixture) -> Result<Vec<u8>, AllocError> {
     let known = Known::of(fixture.uid, &fixture.profile);
-    let words = words(rt.alloc(), trace, &known)?;
-    print(rt, words.as_slice())
+    words_of_lines(rt.alloc(), lines, &known)
 }

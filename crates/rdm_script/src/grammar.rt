@@ -11,4 +11,4 @@ mod words;
 mod wrong;
 
 pub use parsing::{MOST_BYTES, ScriptError, parse, parse_as, parse_for};
-pub use telling::{refusal_at, stopped_line};
+pub use telling::refusal_at;

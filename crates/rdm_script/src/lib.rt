@@ -27,7 +27,7 @@ mod trace;
 pub use demo::DemoPanel;
 pub use dialect::{Dialect, Spelling};
 pub use exit::{report, run_program};
-pub use grammar::{MOST_BYTES, ScriptError, parse, parse_as, parse_for, refusal_at, stopped_line};
+pub use grammar::{MOST_BYTES, ScriptError, parse, parse_as, parse_for, refusal_at};
 pub use laws::{
     line_says_what_its_words_spell, program_errors_are_equal_by_value, refusals_are_equal_by_value,
     script_errors_are_equal_by_value, script_is_never_refused, setups_are_equal_by_value,

@@ -1,14 +1,11 @@
-//! What a person is told of a line of a script: why it is faulty, and where a run stopped.
+//! What a person is told of a faulty line of a script.
 
 ghost use Rattle.std.specs.Prelude.{◌≡◌};
 
-use super::line::{Line, first_line_in};
 use super::words::{piece_end, words_of};
 use super::wrong::wrong_word;
 use crate::dialect::{Dialect, Spelling};
 use crate::refusal::Refusal;
-use rdm_collector::{MOST_DATA, is_reserved};
-use rdm_crew::{CrewStep, RunError};
 use rdm_frame::Uid;
 use rdm_streams::{line_end, without_return};
 
@@ -70,41 +67,4 @@ fn word_at(spelling: Spelling, line: &[u8], index: usize) -> Option<(usize, &[u8
         return None;
     }
     Some((line.len().saturating_sub(rest.len()), rest))
-}
-
-/// The line, counted from 1, of the step at which the run of a script stops with this error, where that is known: the setup,
-/// the first command that can't be sent, or the one `settle` that there is.
-pub fn stopped_line(
-    spelling: Spelling,
-    device: Uid,
-    text: &[u8],
-    error: RunError,
-) -> Option<usize> {
-    let dialect = Dialect { device, spelling };
-    let mut found = None;
-    for (index, line) in text.split(|b| *b == b'\n').enumerate() {
-        if stops_at(dialect, without_return(line), error) {
-            match found {
-                None if error == RunError::Unsettled => found = index.checked_add(1),
-                None => return index.checked_add(1),
-                Some(_) => return None,
-            }
-        }
-    }
-    found
-}
-
-/// Whether a run may stop at this line with this error.
-fn stops_at(dialect: Dialect, line: &[u8], error: RunError) -> bool {
-    match (
-        first_line_in(dialect, words_of(dialect.spelling, line).as_slice()),
-        error,
-    ) {
-        (Line::Sets(_), RunError::BadSetup) => true,
-        (Line::Says(CrewStep::Settle(_)), RunError::Unsettled) => true,
-        (Line::Says(CrewStep::Ask(command, _)), RunError::Reserved | RunError::TooLong) => {
-            is_reserved(command.pid) || command.load.as_slice().len() > MOST_DATA
-        }
-        _ => false,
-    }
 }

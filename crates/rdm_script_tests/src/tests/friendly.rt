@@ -1,8 +1,8 @@
-//! What friendly lines say, what is told of faulty ones, and where runs stop.
+//! What friendly lines say, and what is told of faulty ones.
 
-use rdm_crew::{CrewStep, RunError};
+use rdm_crew::CrewStep;
 use rdm_frame::Uid;
-use rdm_script::{Script, ScriptError, Spelling, parse, parse_as, refusal_at, stopped_line};
+use rdm_script::{Script, ScriptError, Spelling, parse, parse_as, refusal_at};
 use std::process::Abort;
 use std::test::Fail;
 
@@ -217,32 +217,4 @@ fn refusals(rt: HostRuntime) -> Result<(), Fail> {
             ),
         ],
     )
-}
-
-/// The line at which a run stops.
-#[test]
-fn stops(rt: HostRuntime) -> Result<(), Fail> {
-    let script =
-        b"# so\nsetup 600 8 error\nget dev root DEVICE_INFO -\nsettle 3\nget dev root 0030 00\nget dev 0000 0020 01";
-    for (error, line) in [
-        (RunError::BadSetup, Some(2)),
-        (RunError::Unsettled, Some(4)),
-        (RunError::Reserved, Some(5)),
-        (RunError::OutOfMemory, None),
-    ] {
-        assert_eq!(rt;
-            stopped_line(Spelling::Friendly, DEVICE, script, error),
-            line
-        );
-    }
-    assert_eq!(rt;
-        stopped_line(
-            Spelling::Friendly,
-            DEVICE,
-            b"settle 1\nsettle 2\n",
-            RunError::Unsettled
-        ),
-        None
-    );
-    Ok(())
 }
