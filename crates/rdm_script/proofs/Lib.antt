@@ -5,6 +5,7 @@ pub mod Failing
 pub mod FriendlySpellings
 pub mod LineSpellings
 pub mod Lines
+pub mod Rooms
 pub mod LinesRead
 pub mod Pieces
 pub mod QuotedPieces

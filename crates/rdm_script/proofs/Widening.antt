@@ -9,6 +9,7 @@ use Rattle.rdm_params.specs.declared.jobs.outcome.Outcome.{Outcome}
 use Rattle.rdm_outbox.specs.declared.job.Job.{Job}
 use Rattle.rdm_responder.specs.declared.report.Report.{Report}
 use Rattle.rdm_bus.specs.declared.event.Event.{Event}
+use Rattle.rdm_bus.specs.BusLaws.{recorded}
 use Rattle.rdm_crew.specs.declared.error.RunError.{RunError}
 use Rattle.rdm_crew.specs.declared.error.RunError.TheVariants as run
 use Rattle.rdm_crew.specs.declared.step.CrewStep.{CrewStep}
@@ -27,6 +28,8 @@ use Rattle.rdm_script.specs.Program.{IsTraceOf, IsStopped, IsFailure}
 use Rattle.rdm_script.specs.Running.{crew_setup, IsBad, IsGood, Stops}
 use Rattle.rdm_script.specs.Scene.{Scene, spoken_at}
 use Rattle.rdm_script.specs.Spelling.{IsScript}
+use Rattle.rdm_script.specs.Told.{finds_of}
+use Rattle.rdm_script.specs.TraceText.{told_text}
 
 pub record IsWider (s t : Scene) : Type 0 where
   pub device : s.device ≡ t.device
@@ -75,7 +78,7 @@ trace_wider s t w input text h = record {
     second = answered_wider 1 s.second t.second w.second h.events h.run.second;
     changes = offered_wider s.offers t.offers w.offers 0 _ h.run.changes;
   };
-  written = h.written;
+  written = subst (λ (k : Spelling). text ≡ told_text (finds_of k input) h.events (recorded h.events)) w.spelling h.written;
 }
 
 stops_wider : (s t : Scene) (e : RunError) (setup : Setup) (steps : List CrewStep) → IsWider s t → Stops s e setup steps → Stops t e setup steps

@@ -6,9 +6,12 @@ pub mod Grammar
 pub mod Names
 pub mod Parties
 pub mod Program
+pub mod Rooms
 pub mod Rules
 pub mod Running
 pub mod Scene
+pub mod Search
 pub mod Spelling
 pub mod StepLines
+pub mod Told
 pub mod TraceText

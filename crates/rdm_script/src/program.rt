@@ -10,12 +10,12 @@ ghost use Rattle.rdm_script.specs.declared.program.ProgramError.TheVariants.{Mem
 
 use crate::demo::demo_stage;
 use crate::dialect::Spelling;
-use crate::grammar::{ScriptError, parse_as};
+use crate::grammar::{ScriptError, finds_of, parse_as};
 use crate::rules::ruled_parts_fit;
 use crate::running::play_steps;
 use crate::stage::Stage;
 use crate::streams::read_input;
-use crate::trace::trace_text;
+use crate::trace::told_text;
 use rdm_crew::{Panel, Part, RunError};
 use rdm_outcomes::demo_rules_end_jobs;
 use std::alloc::{AllocError, Global};
@@ -222,7 +222,8 @@ where
     ensures err { IfErr result (λ e. IsFailure (scene_of P.gives Q.gives N.offers stage) e input.now ×
         (e ≢ ReadFault) × (e ≢ WriteFault)) }
 {
+    let finds = finds_of(stage.spelling, input);
     let script = parse_as(alloc, stage.spelling, stage.device, input)?;
     let trace = play_steps(rt, alloc, script.setup, &script.steps, stage)?;
-    Ok(trace_text(alloc, trace.events(), trace.recorded())?)
+    Ok(told_text(alloc, finds, trace.events(), trace.recorded())?)
 }

@@ -1,11 +1,11 @@
 //! The text of a trace.
 
 ghost use Rattle.std.specs.Prelude.{◌≡◌, IfOk};
-ghost use Rattle.rdm_script.specs.TraceText.{trace_text};
+ghost use Rattle.rdm_script.specs.TraceText.{told_text, trace_text};
 
 use rdm_bus::Event;
 use rdm_params::Message;
-use rdm_trace::{text_of, trace_lines};
+use rdm_trace::{Finds, text_of, trace_lines};
 use std::alloc::{AllocError, Global};
 
 /// The text of a trace: its events, the messages that were recorded, and the end. Fails only if memory is refused.
@@ -16,6 +16,18 @@ pub fn trace_text(
 ) -> Result<Vec<u8>, AllocError>
     ensures { IfOk result (λ text. text.items ≡ trace_text events.now recorded.now) }
 {
-    let lines = trace_lines(alloc, events, recorded)?;
+    told_text(alloc, Finds::Untold, events, recorded)
+}
+
+/// The same, with the fixtures that are found if these are told.
+pub(crate) fn told_text(
+    alloc: Global,
+    finds: Finds,
+    events: &[Event],
+    recorded: &[Message],
+) -> Result<Vec<u8>, AllocError>
+    ensures { IfOk result (λ text. text.items ≡ told_text finds events.now recorded.now) }
+{
+    let lines = trace_lines(alloc, finds, events, recorded)?;
     text_of(alloc, lines.as_slice())
 }

@@ -9,6 +9,7 @@
 mod beginnings;
 mod digits;
 mod fault;
+mod found;
 mod laws;
 mod line;
 mod numbers;
@@ -22,6 +23,7 @@ mod words;
 mod writing;
 
 pub use digits::wire_in;
+pub use found::Finds;
 pub use laws::{trace_errors_are_equal_by_value, written_line_is_read_back};
 pub use line::{JobName, Line};
 pub use reading::read;

@@ -128,7 +128,7 @@ fn refusals(rt: HostRuntime) -> Result<(), Fail> {
             ),
             (
                 "\r\n  \nfoo\n",
-                "3:1: \"foo\" isn't a valid step: expected setup, get, set, disc, collect, draw, settle or panel",
+                "3:1: \"foo\" isn't a valid step: expected setup, get, set, disc, find, collect, draw, settle or panel",
             ),
             (
                 "draw\nsetup 0 8 advisory",
