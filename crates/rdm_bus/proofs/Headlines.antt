@@ -16,7 +16,7 @@ use Rattle.rdm_bus.specs.declared.event.Step.{Step}
 use Rattle.rdm_bus.specs.declared.event.Step.TheVariants as step
 use Rattle.rdm_bus.specs.BusRun.{Start, IsPlayed, after, after_all, IsBusRun}
 use Rattle.rdm_bus.specs.BusLaws.{BusLawsHold, dispensed, recorded}
-use Rattle.rdm_bus.specs.Happened.{arrived_in, jobs_in, reports_in, reported_by, handed_in}
+use Rattle.rdm_bus.specs.Happened.{arrived_in, jobs_in, reports_in, reported_by, reported_in}
 use Rattle.rdm_bus.specs.Headline.{IsByTheRules, RepliesAreByTheRules, Handed, results_in, unclosed, AreOnce, entered, NothingAfterClose, Headline, HeadlineHolds}
 use Rattle.rdm_bus.specs.Messages.{KeepingHolds}
 use Rattle.rdm_collector.specs.Recording.{join}
@@ -85,7 +85,7 @@ one_reported s (step.Change change) (Arrived reported m kept) is = absurd is
 one_reported s (step.Change change) (Changed changed m) is = refl
 
 -- what arrives in a run are the reports of its steps
-pub all_reported : (s : Start) (steps : List Step) (es : List Event) → IsBusRun s steps es → reports_in es ≡ handed_in steps
+pub all_reported : (s : Start) (steps : List Step) (es : List Event) → IsBusRun s steps es → reports_in es ≡ reported_in steps
 unfolding reports_in
 all_reported s [] [] run = refl
 all_reported s [] (e ∷ es) run = absurd run
@@ -126,4 +126,4 @@ headline_of laws keeping s steps es handed lawful run same closed =
 
 pub headline_holds : BusLawsHold → KeepingHolds → HeadlineHolds
 headline_holds laws keeping s steps es lawful run =
-    headline_of laws keeping s steps es (unclosed (handed_in steps)) lawful run (all_reported s steps es run ∙ as_results (handed_in steps)) (none_closes (handed_in steps))
+    headline_of laws keeping s steps es (unclosed (reported_in steps)) lawful run (all_reported s steps es run ∙ as_results (reported_in steps)) (none_closes (reported_in steps))

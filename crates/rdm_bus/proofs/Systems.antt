@@ -30,7 +30,7 @@ use Rattle.rdm_collector.specs.Collecting.{State, after_poll, heard_as, heard_in
 use Rattle.rdm_bus.specs.Faults.{altered, request_heard}
 use Rattle.rdm_bus.specs.BusRun.{Start, controller_at, replied, came, transaction, IsFault, IsPlayed, reply_in, after_reply, is_message_heard, after, after_all, IsBusRun, IsAlteredInVain}
 use Rattle.rdm_bus.specs.BusLaws.{dispensed_by, recorded, recorded_by, recorded_if}
-use Rattle.rdm_bus.specs.Happened.{handed_in}
+use Rattle.rdm_bus.specs.Happened.{reported_in}
 use Rattle.rdm_bus.specs.Headline.{Headline, HeadlineHolds, unclosed}
 use Rattle.rdm_bus.specs.Systems.{Played, Stands, IsTrace}
 use Rattle.rdm_bus.proofs.Alterations.{none_in, text_length, raised_is_no_frame, altered_is_no_frame}
@@ -211,7 +211,7 @@ trace_more start steps old new step e trace pushed is stands vain = record {
 }
 
 -- the headline, of what was played
-pub headline_of_trace : HeadlineHolds → (start : Start) (steps : List Step) (s : Played) → IsLawful start.history → IsTrace start steps s → Headline start steps (unclosed (handed_in steps)) s.trace s.collector.recorded
+pub headline_of_trace : HeadlineHolds → (start : Start) (steps : List Step) (s : Played) → IsLawful start.history → IsTrace start steps s → Headline start steps (unclosed (reported_in steps)) s.trace s.collector.recorded
 headline_of_trace holds start steps s lawful trace =
-    subst (Headline start steps (unclosed (handed_in steps)) s.trace) (sym (ap (λ (c : State). c.recorded) trace.stands.collector_is))
+    subst (Headline start steps (unclosed (reported_in steps)) s.trace) (sym (ap (λ (c : State). c.recorded) trace.stands.collector_is))
     (holds start steps s.trace lawful trace.run)

@@ -50,5 +50,5 @@ reported_by (step.Collect fault) = []
 reported_by (step.Arrive report) = report ∷ []
 reported_by (step.Change change) = []
 
-abbrev pub handed_in : List Step → List Report
-handed_in steps = flat_map reported_by steps
+abbrev pub reported_in : List Step → List Report
+reported_in steps = flat_map reported_by steps

@@ -35,7 +35,7 @@ use Rattle.rdm_bus.specs.declared.fault.Fault.TheVariants as fault
 use Rattle.rdm_collector.specs.declared.transaction.Heard.{Heard}
 use Rattle.rdm_bus.specs.BusRun.{Start, replied, after, after_all, IsBusRun}
 use Rattle.rdm_bus.specs.BusLaws.{dispensed, recorded}
-use Rattle.rdm_bus.specs.Happened.{jobs_in, reports_in, reports_of, handed_in}
+use Rattle.rdm_bus.specs.Happened.{jobs_in, reports_in, reports_of, reported_in}
 use Rattle.rdm_bus.specs.Messages.{KeepsMessages}
 use Rattle.rdm_collector.specs.Recording.{join, same_message}
 
@@ -129,7 +129,7 @@ pub record Headline (start : Start) (steps : List Step) (handed : List Handed) (
 abbrev pub HeadlineHolds : Type 0
 HeadlineHolds =
     (start : Start) (steps : List Step) (events : List Event) → IsLawful start.history → IsBusRun start steps events
-    → Headline start steps (unclosed (handed_in steps)) events (recorded events)
+    → Headline start steps (unclosed (reported_in steps)) events (recorded events)
 
 -- ---- what the headline rules out
 

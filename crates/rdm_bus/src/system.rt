@@ -12,7 +12,7 @@ ghost use Rattle.rdm_collector.specs.Collecting.{heard_in, after_hearing};
 ghost use Rattle.rdm_bus.specs.Faults.{reply_heard};
 ghost use Rattle.rdm_bus.specs.BusLaws.{BusLaws, recorded_by};
 ghost use Rattle.rdm_bus.specs.BusRun.{Start, after, after_all, after_reply, history_after, reply_in, transaction, raise_of, fault_of, IsFault, IsPlayed, IsAlteredInVain};
-ghost use Rattle.rdm_bus.specs.Happened.{handed_in, started_in};
+ghost use Rattle.rdm_bus.specs.Happened.{reported_in, started_in};
 ghost use Rattle.rdm_bus.specs.Headline.{Headline, unclosed};
 ghost use Rattle.rdm_bus.specs.Systems.{Stands, IsTrace, IsAstray, HasNoRoom, refusal_in, start_of};
 
@@ -103,7 +103,7 @@ impl System {
             IsTrace start steps self.old → BusLaws start self.new.trace) }
         ensures headline { OnOk result ((start : Start) (steps : List Step) →
             IsLawful start.history → IsTrace start steps self.old →
-            Headline start (steps ++ step.now ∷ []) (unclosed (handed_in (steps ++ step.now ∷ [])))
+            Headline start (steps ++ step.now ∷ []) (unclosed (reported_in (steps ++ step.now ∷ [])))
             self.new.trace self.new.collector.recorded) }
         ensures reserved { IsErrOf result PlayError.Reserved ↔ (refusal_in step.now ≡ Some PlayError.Reserved) }
         ensures too_long { IsErrOf result PlayError.TooLong ↔ (refusal_in step.now ≡ Some PlayError.TooLong) }
@@ -130,7 +130,7 @@ impl System {
             IsTrace start steps self.old → BusLaws start self.new.trace) }
         ensures headline { OnOk result ((start : Start) (steps : List Step) →
             IsLawful start.history → IsTrace start steps self.old →
-            Headline start (steps ++ step.now ∷ []) (unclosed (handed_in (steps ++ step.now ∷ [])))
+            Headline start (steps ++ step.now ∷ []) (unclosed (reported_in (steps ++ step.now ∷ [])))
             self.new.trace self.new.collector.recorded) }
         ensures reserved { IsErrOf result PlayError.Reserved ↔ (refusal_in step.now ≡ Some PlayError.Reserved) }
         ensures too_long { IsErrOf result PlayError.TooLong ↔ (refusal_in step.now ≡ Some PlayError.TooLong) }

@@ -5,7 +5,9 @@ ghost use Rattle.rdm_c.specs.Messages.{want_in, action_in, command_in, heard_cod
 
 use crate::front::write_front;
 use rdm_collector::{Action, Command, Heard, Want};
-use rdm_frame::standard::{DISCOVERY_COMMAND, GET_COMMAND, SET_COMMAND};
+use rdm_frame::standard::{
+    ADVISORY, DISCOVERY_COMMAND, ERROR, GET_COMMAND, MOST_DATA, SET_COMMAND, WARNING,
+};
 use rdm_frame::{Load, Uid};
 use rdm_params::Message;
 
@@ -41,7 +43,7 @@ pub struct MessageNumbers {
     /// The command class of the response (table A-1).
     pub command_class: u8,
     /// The parameter data at the front.
-    pub bytes: [u8; 231],
+    pub bytes: [u8; MOST_DATA],
 }
 
 impl CommandNumbers {
@@ -89,9 +91,9 @@ pub(crate) fn want_in(status_type: u8) -> Option<Want>
     ensures { result ≡ want_in status_type }
 {
     match status_type {
-        0x02 => Some(Want::Advisory),
-        0x03 => Some(Want::Warning),
-        0x04 => Some(Want::Error),
+        ADVISORY => Some(Want::Advisory),
+        WARNING => Some(Want::Warning),
+        ERROR => Some(Want::Error),
         _ => None,
     }
 }

@@ -9,15 +9,12 @@ use crate::command::{Command, class_of, is_reserved, queued_message, request_of}
 use crate::message::message_of;
 use crate::transaction::{Heard, Transaction, taken_for};
 use crate::want::{Want, type_of};
-use rdm_frame::standard::MOST_DATA;
+use rdm_frame::standard::{GET_LAST_MESSAGE, MOST_DATA};
 use rdm_frame::{Uid, Wire, decode_view};
 use rdm_params::Message;
 use std::alloc::Global;
 use std::marker::Model;
 use thiserror::Error;
-
-/// The status type that asks for the last message again, STATUS_GET_LAST_MESSAGE (table A-4).
-const GET_LAST_MESSAGE: u8 = 0x01;
 
 /// Why a command isn't sent, tested in this order.
 #[derive(Clone, Copy, Debug, PartialEq, Eq, Error)]

@@ -3,6 +3,8 @@
 ghost use Rattle.std.specs.Prelude.{◌≡◌};
 ghost use Rattle.rdm_collector.specs.Requests.{type_of};
 
+use rdm_frame::standard::{ADVISORY, ERROR, WARNING};
+
 /// The least severity of the status entries that a collector wants, when no message waits (E1.20 section 10.3.1).
 #[derive(Clone, Copy, Debug, PartialEq, Eq)]
 pub enum Want {
@@ -19,8 +21,8 @@ pub(crate) fn type_of(want: Want) -> u8
     ensures { result ≡ type_of want }
 {
     match want {
-        Want::Advisory => 0x02,
-        Want::Warning => 0x03,
-        Want::Error => 0x04,
+        Want::Advisory => ADVISORY,
+        Want::Warning => WARNING,
+        Want::Error => ERROR,
     }
 }

@@ -34,6 +34,18 @@ pub const ACK_TIMER: u8 = 0x01;
 /// The response type of a rejected request; its data are a reason of 16 bits (table A-2, section 6.3.4).
 pub const NACK_REASON: u8 = 0x02;
 
+/// The status type that asks for the last message again, STATUS_GET_LAST_MESSAGE (table A-4).
+pub const GET_LAST_MESSAGE: u8 = 0x01;
+
+/// The status type of an advisory, STATUS_ADVISORY (table A-4).
+pub const ADVISORY: u8 = 0x02;
+
+/// The status type of a warning, STATUS_WARNING (table A-4).
+pub const WARNING: u8 = 0x03;
+
+/// The status type of an error, STATUS_ERROR (table A-4).
+pub const ERROR: u8 = 0x04;
+
 /// The parameter ID of the search for unmuted devices between two UIDs (section 7.5).
 pub const DISC_UNIQUE_BRANCH: u16 = 0x0001;
 
@@ -51,6 +63,9 @@ pub const SUB_DEVICE_ALL_CALL: u16 = 0xFFFF;
 
 /// The greatest number of sub-devices (section 9).
 pub const MOST_SUB_DEVICES: u16 = 512;
+
+/// The slots that follow the START code on a DMX512 line, and the greatest start address (section 10.6.3).
+pub const MOST_DMX_SLOTS: u16 = 512;
 
 /// The port ID of a controller that has one port (section 6.2.7).
 pub const FIRST_PORT: u8 = 1;

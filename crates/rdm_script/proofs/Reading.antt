@@ -62,19 +62,3 @@ pub front_input : (scene : Scene) (before after old new : Option (List ℕ)) (it
     → IfSome before (λ input. (t : List ℕ) × (count : ℕ) × IsTraceOf scene input t × Appends old new (take count t))
 front_input scene before after old new items text input trace wrote =
     known (λ i. (t : List ℕ) × (count : ℕ) × IsTraceOf scene i t × Appends old new (take count t)) before after items input.0 (input.1 trace.spelled.within) (text, wrote.0, trace, wrote.1)
-
--- ---- a run that stopped
-
-stopped_as : (scene : Scene) (input : List ℕ) (fault : RunError) → IsStopped scene input fault → IsFailure scene (fault_of_run fault) input × (fault_of_run fault ≢ Read) × (fault_of_run fault ≢ Write)
-stopped_as scene input run.OutOfMemory h = (tt, λ e. cc, λ e. cc)
-stopped_as scene input run.Reserved h = ((h, λ e. cc), λ e. cc, λ e. cc)
-stopped_as scene input run.TooLong h = ((h, λ e. cc), λ e. cc, λ e. cc)
-stopped_as scene input run.Unsettled h = ((h, λ e. cc), λ e. cc, λ e. cc)
-stopped_as scene input run.Astray h = ((h, λ e. cc), λ e. cc, λ e. cc)
-stopped_as scene input run.Missing h = ((h, λ e. cc), λ e. cc, λ e. cc)
-stopped_as scene input run.BadSetup h = ((h, λ e. cc), λ e. cc, λ e. cc)
-
-pub run_fails : (scene : Scene) (input : List ℕ) (setup : ScriptSetup) (steps : List CrewStep) (fault : RunError) (e : ProgramError) → IsScript (spoken_at scene) input setup steps → Stops scene fault setup steps
-    → e ≡ fault_of_run fault → IsFailure scene e input × (e ≢ Read) × (e ≢ Write)
-run_fails scene input setup steps fault e spelled because is =
-    subst (λ (x : ProgramError). IsFailure scene x input × (x ≢ Read) × (x ≢ Write)) (sym is) (stopped_as scene input fault (record { setup = setup; steps = steps; spelled = spelled; because = because }))

@@ -4,12 +4,9 @@ ghost use Rattle.std.specs.Prelude.{◌≡◌, ◌++◌};
 ghost use Rattle.rdm_frame.specs.FrameText.{uid_slots};
 
 use rdm_frame::standard::{
-    DISC_MUTE, DISC_UN_MUTE, DISC_UNIQUE_BRANCH, DISCOVERY_COMMAND, ROOT_DEVICE,
+    DISC_MUTE, DISC_UN_MUTE, DISC_UNIQUE_BRANCH, DISCOVERY_COMMAND, FIRST_PORT, ROOT_DEVICE,
 };
 use rdm_frame::{Body, Frame, Uid};
-
-/// The port ID of every request (E1.20 section 6.2.7).
-const PORT: u8 = 1;
 
 /// What a search asks.
 #[derive(Clone, Copy, Debug, PartialEq, Eq)]
@@ -38,7 +35,7 @@ impl Request {
             dst,
             src: source,
             tn,
-            port: PORT,
+            port: FIRST_PORT,
             count: 0,
             sub: ROOT_DEVICE,
             class: DISCOVERY_COMMAND,

@@ -12,12 +12,13 @@ use crate::front::write_front;
 use crate::message::{MessageNumbers, heard_code};
 use crate::status::Status;
 use rdm_collector::{AskError, Collector, Command, PollError};
+use rdm_frame::standard::MOST_SLOTS;
 
 /// Sends a command: writes its request to the front.
 pub(crate) fn ask(
     endpoint: &mut Endpoint,
     command: &Command,
-    request: &mut [u8; 257],
+    request: &mut [u8; MOST_SLOTS],
     count: &mut usize,
 ) -> Status
     ensures refused { (s : State) → IsIn endpoint.old s → result ≡ of_refusal (refusal_of s command.now) }
@@ -41,7 +42,7 @@ pub(crate) fn ask(
 fn send(
     collector: &mut Collector,
     command: &Command,
-    request: &mut [u8; 257],
+    request: &mut [u8; MOST_SLOTS],
     count: &mut usize,
 ) -> Status
     ensures refused { result ≡ of_refusal (refusal_of collector.old command.now) }
@@ -64,7 +65,11 @@ fn send(
 }
 
 /// Sends a poll: writes its request to the front.
-pub(crate) fn poll(endpoint: &mut Endpoint, request: &mut [u8; 257], count: &mut usize) -> Status
+pub(crate) fn poll(
+    endpoint: &mut Endpoint,
+    request: &mut [u8; MOST_SLOTS],
+    count: &mut usize,
+) -> Status
     ensures busy { (s : State) → IsIn endpoint.old s → ((result ≡ Status.Busy) ↔ IsSome s.transaction) }
     ensures sent { (s : State) → IsIn endpoint.old s → result ≡ Status.Done → take count.new request.new ≡ frame_text (poll_request s) }
     ensures count { (s : State) → IsIn endpoint.old s → result ≡ Status.Done → count.new ≡ length (frame_text (poll_request s)) }
@@ -81,7 +86,7 @@ pub(crate) fn poll(endpoint: &mut Endpoint, request: &mut [u8; 257], count: &mut
 }
 
 /// Sends a poll, as `poll`.
-fn send_poll(collector: &mut Collector, request: &mut [u8; 257], count: &mut usize) -> Status
+fn send_poll(collector: &mut Collector, request: &mut [u8; MOST_SLOTS], count: &mut usize) -> Status
     ensures busy { (result ≡ Status.Busy) ↔ IsSome collector.old.transaction }
     ensures sent { result ≡ Status.Done → take count.new request.new ≡ frame_text (poll_request collector.old) }
     ensures count { result ≡ Status.Done → count.new ≡ length (frame_text (poll_request collector.old)) }

@@ -17,6 +17,7 @@ use crate::endpoint::{Endpoint, RunningResponder};
 use crate::front::write_front;
 use crate::job::SteppedNumbers;
 use crate::status::Status;
+use rdm_frame::standard::{MOST_DATA, MOST_SLOTS};
 use rdm_params::{Change, Verdict};
 use rdm_responder::Report;
 
@@ -24,7 +25,7 @@ use rdm_responder::Report;
 pub(crate) fn step(
     endpoint: &mut Endpoint,
     bytes: &[u8],
-    reply: &mut [u8; 257],
+    reply: &mut [u8; MOST_SLOTS],
     stepped: &mut SteppedNumbers,
 ) -> Status
     ensures status { result ≡ found (is_responder endpoint.old) }
@@ -50,7 +51,7 @@ pub(crate) fn step(
 fn hear(
     running: &mut RunningResponder,
     bytes: &[u8],
-    reply: &mut [u8; 257],
+    reply: &mut [u8; MOST_SLOTS],
     stepped: &mut SteppedNumbers,
 )
     ensures reply { (h : History) → StandsFor running.old.responder h →
@@ -143,7 +144,7 @@ pub(crate) fn get(
     sub: u16,
     pid: u16,
     argument: &[u8],
-    value: &mut [u8; 231],
+    value: &mut [u8; MOST_DATA],
     count: &mut usize,
     reason: &mut u16,
 ) -> Status

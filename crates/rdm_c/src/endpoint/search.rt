@@ -13,10 +13,11 @@ use crate::found::FoundNumbers;
 use crate::front::write_front;
 use crate::status::Status;
 use rdm_frame::encode;
+use rdm_frame::standard::MOST_SLOTS;
 use rdm_search::SearchError;
 
 /// Writes the next request to the front, if the search hasn't ended.
-pub(crate) fn next(endpoint: &Endpoint, request: &mut [u8; 257], count: &mut usize) -> Status
+pub(crate) fn next(endpoint: &Endpoint, request: &mut [u8; MOST_SLOTS], count: &mut usize) -> Status
     ensures told { IfSome (search_of endpoint.now) (λ s.
         NextTold (code_of result) count.new request.new (next_of s.source s.tn (request_of s.stage) s.left)) }
     ensures absent { (result ≡ Status.Absent) ↔ (search_of endpoint.now ≡ None) }

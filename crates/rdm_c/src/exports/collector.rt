@@ -15,6 +15,7 @@ use crate::message::{CommandNumbers, MessageNumbers, want_in};
 use crate::status::Status;
 use rdm_collector::Collector;
 use rdm_frame::Uid;
+use rdm_frame::standard::MOST_SLOTS;
 use std::alloc::Global;
 
 /// Makes a collector with this UID for the messages of the target, in the place of what the handle held. `wants` is the
@@ -67,7 +68,7 @@ pub extern "C" fn felosumay_collector_ask(
     collector: &mut Handle,
     command: &CommandNumbers,
     load: &[u8],
-    request: &mut [u8; 257],
+    request: &mut [u8; MOST_SLOTS],
     count: &mut usize,
 ) -> u8
     ensures unknown { (result ≡ code_of Status.Unknown) ↔ (action_in command.now.command_class ≡ None) }
@@ -103,7 +104,7 @@ pub extern "C" fn felosumay_collector_ask(
 pub extern "C" fn felosumay_collector_poll(
     alloc: Global,
     collector: &mut Handle,
-    request: &mut [u8; 257],
+    request: &mut [u8; MOST_SLOTS],
     count: &mut usize,
 ) -> u8
     ensures absent { (result ≡ code_of Status.Absent) ↔ (holds_collector collector.old.held ≡ false) }

@@ -13,6 +13,7 @@ use crate::endpoint::responder::{get, outstanding, room, waiting};
 use crate::handle::Handle;
 use crate::keeping::{put, take};
 use crate::status::Status;
+use rdm_frame::standard::MOST_DATA;
 use std::alloc::Global;
 
 /// Reads a parameter, as a GET of this sub-device, PID and argument would: the value stands at the front of `value`, and
@@ -25,7 +26,7 @@ pub extern "C" fn felosumay_responder_get(
     sub: u16,
     pid: u16,
     argument: &[u8],
-    value: &mut [u8; 231],
+    value: &mut [u8; MOST_DATA],
     count: &mut usize,
     reason: &mut u16,
 ) -> u8

@@ -22,6 +22,7 @@ use crate::keeping::{free, put, replace, take};
 use crate::outcome::{OutcomeNumbers, report_in};
 use crate::profile::ProfileNumbers;
 use crate::status::Status;
+use rdm_frame::standard::MOST_SLOTS;
 use rdm_frame::{Uid, Wire};
 use rdm_params::Profile;
 use rdm_responder::{NewError, Responder};
@@ -84,7 +85,7 @@ pub extern "C" fn felosumay_responder_step(
     alloc: Global,
     responder: &mut Handle,
     bytes: &[u8],
-    reply: &mut [u8; 257],
+    reply: &mut [u8; MOST_SLOTS],
     stepped: &mut SteppedNumbers,
 ) -> u8
     ensures status { result ≡ code_of (found (holds_responder responder.old.held)) }

@@ -16,6 +16,7 @@ use crate::keeping::{free, put, replace, take};
 use crate::running_search::RunningSearch;
 use crate::status::Status;
 use rdm_frame::Uid;
+use rdm_frame::standard::MOST_SLOTS;
 use std::alloc::Global;
 
 /// Makes a search for all fixtures of the line (E1.20 sections 7.5 and 7.6), by the controller with this UID, in the place of
@@ -52,7 +53,7 @@ pub extern "C" fn felosumay_search_new(
 pub extern "C" fn felosumay_search_next(
     alloc: Global,
     search: &mut Handle,
-    request: &mut [u8; 257],
+    request: &mut [u8; MOST_SLOTS],
     count: &mut usize,
 ) -> u8
     ensures told { IfSome (held_search search.old.held) (λ s.

@@ -13,7 +13,7 @@ use crate::device::Place;
 use crate::device::footprint::footprint;
 use crate::value::argument::Argument;
 use crate::{SelfTest, StatusText};
-use rdm_frame::standard::ALL_SENSORS;
+use rdm_frame::standard::{ALL_SENSORS, MOST_DMX_SLOTS};
 
 /// An 8-bit number below a limit.
 #[inline]
@@ -95,7 +95,7 @@ pub fn a_start(place: &Place<'_>, value: &Argument<'_>) -> bool
     ensures { result ≡ a_start word place.now value.now }
 {
     match value.word() {
-        Some(start) => 1 <= start && start <= 512 && footprint(place) != 0,
+        Some(start) => 1 <= start && start <= MOST_DMX_SLOTS && footprint(place) != 0,
         None => false,
     }
 }

@@ -4,13 +4,14 @@ ghost use Rattle.std.specs.Prelude.{◌≡◌, ◌≢◌, ◌↔◌, ◌<◌, �
 ghost use Rattle.rdm_device.specs.Device.Profiles.{IsGoodUnit, IsGoodProfile};
 
 use crate::{Personality, Profile, SelfTest, StatusText, Unit};
+use rdm_frame::standard::MOST_DMX_SLOTS;
 
 /// Whether a device can be made with the profile.
 pub fn is_good(profile: &Profile) -> bool
     ensures { IsTrue result ↔ IsGoodProfile profile.now }
 {
     is_good_unit(&profile.root, profile.slots.len())
-        && is_good_unit(&profile.sub, 512)
+        && is_good_unit(&profile.sub, MOST_DMX_SLOTS as usize)
         && !profile.languages.is_empty()
         && are_numbered(profile.tests.as_slice())
         && tests_differ(profile.tests.as_slice())
@@ -24,7 +25,7 @@ fn is_good_unit(unit: &Unit, slots: usize) -> bool
 {
     !unit.personalities.is_empty()
         && 1 <= unit.start
-        && unit.start <= 512
+        && unit.start <= MOST_DMX_SLOTS
         && fit(unit.personalities.as_slice(), slots)
 }
 

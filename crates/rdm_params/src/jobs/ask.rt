@@ -3,6 +3,8 @@
 ghost use Rattle.std.specs.Prelude.{◌≡◌};
 ghost use Rattle.rdm_params.specs.Jobs.Asks.{ask_of};
 
+use rdm_frame::standard::{ADVISORY, GET_LAST_MESSAGE, WARNING};
+
 /// The status type that QUEUED_MESSAGE and STATUS_MESSAGES name (E1.20 sections 10.3.1 and 10.3.2, table A-4).
 #[derive(Clone, Copy, Debug, PartialEq, Eq)]
 pub enum Ask {
@@ -25,9 +27,9 @@ impl Ask {
     {
         match status_type {
             0x00 => Ask::None,
-            0x01 => Ask::Last,
-            0x02 => Ask::Advisory,
-            0x03 => Ask::Warning,
+            GET_LAST_MESSAGE => Ask::Last,
+            ADVISORY => Ask::Advisory,
+            WARNING => Ask::Warning,
             _ => Ask::Error,
         }
     }

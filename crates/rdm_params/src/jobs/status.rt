@@ -3,6 +3,8 @@
 ghost use Rattle.std.specs.Prelude.{◌≡◌};
 ghost use Rattle.rdm_params.specs.Jobs.Severities.{rank_of, severity_code, severity_in, severity_name};
 
+use rdm_frame::standard::{ADVISORY, ERROR, WARNING};
+
 /// How bad the thing is that a status entry tells, and whether it is over (E1.20 table A-4).
 #[derive(Clone, Copy, Debug, PartialEq, Eq)]
 pub enum Severity {
@@ -37,9 +39,9 @@ impl Severity {
         ensures { result ≡ severity_code self }
     {
         match self {
-            Severity::Advisory => 0x02,
-            Severity::Warning => 0x03,
-            Severity::Error => 0x04,
+            Severity::Advisory => ADVISORY,
+            Severity::Warning => WARNING,
+            Severity::Error => ERROR,
             Severity::AdvisoryCleared => 0x12,
             Severity::WarningCleared => 0x13,
             Severity::ErrorCleared => 0x14,
@@ -51,9 +53,9 @@ impl Severity {
         ensures { result ≡ severity_in code }
     {
         match code {
-            0x02 => Some(Severity::Advisory),
-            0x03 => Some(Severity::Warning),
-            0x04 => Some(Severity::Error),
+            ADVISORY => Some(Severity::Advisory),
+            WARNING => Some(Severity::Warning),
+            ERROR => Some(Severity::Error),
             0x12 => Some(Severity::AdvisoryCleared),
             0x13 => Some(Severity::WarningCleared),
             0x14 => Some(Severity::ErrorCleared),

@@ -3,13 +3,11 @@
 ghost use Rattle.std.specs.Prelude.{◌≡◌};
 ghost use Rattle.rdm_script.specs.Decimals.{decimal_in, number_up_to};
 
+use rdm_frame::standard::MOST_SUB_DEVICES;
 use std::str;
 
 /// How many digits a number may have, zeros in front included.
 const MOST_DIGITS: usize = 10;
-
-/// The greatest number of a sub-device (E1.20 section 9).
-const MOST_SUBS: u64 = 512;
 
 /// The number that a word writes, if it is at most 255.
 #[tactic(auto, unfolding(crate::specs::Decimals::number_up_to))]
@@ -25,7 +23,7 @@ pub(crate) fn sub_in(word: &[u8]) -> Option<u16>
     ensures { result ≡ number_up_to 512 word.now }
 {
     let number = decimal_in(word)?;
-    if number <= MOST_SUBS {
+    if number <= u64::from(MOST_SUB_DEVICES) {
         u16::try_from(number).ok()
     } else {
         None
