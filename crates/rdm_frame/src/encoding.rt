@@ -88,8 +88,33 @@ fn sum_of_rest(slots: &[u8]) -> u32
     ensures { result ≡ sum slots.now }
 {
     match slots.split_first_chunk::<8>() {
-        Some((eight, others)) => sum_of_part(eight) + sum_of_part(others),
-        None => sum_of_part(slots),
+        Some((eight, others)) => sum_of_part(eight) + sum_of_last(others),
+        None => sum_of_last(slots),
+    }
+}
+
+/// The sum of the last slots, of which there are fewer than eight.
+// Told apart by their number: one jump takes the place of a test before each slot. In an arm of its own `sum_of_part` is of so many
+// slots, and has no loop.
+#[inline(always)]
+fn sum_of_last(slots: &[u8]) -> u32
+    requires { length slots.now ≤ 257 }
+    ensures { result ≡ sum slots.now }
+{
+    match slots {
+        [] => 0,
+        [a] => u32::from(*a),
+        [a, b] => u32::from(*a) + u32::from(*b),
+        [a, b, c] => u32::from(*a) + u32::from(*b) + u32::from(*c),
+        [a, b, c, d] => u32::from(*a) + u32::from(*b) + u32::from(*c) + u32::from(*d),
+        [a, b, c, d, e] => u32::from(*a)
+            + u32::from(*b)
+            + u32::from(*c)
+            + u32::from(*d)
+            + u32::from(*e),
+        [_, _, _, _, _, _] => sum_of_part(slots),
+        [_, _, _, _, _, _, _] => sum_of_part(slots),
+        _ => sum_of_part(slots),
     }
 }
 
