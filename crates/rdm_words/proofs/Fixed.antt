@@ -7,6 +7,7 @@ use Rattle.std.proofs.lemmas.Str.Ascii.{IsAscii-nil}
 use Rattle.std.proofs.lemmas.Bool.Decides.{nat_tests}
 use Rattle.std.proofs.lemmas.Fmt.{decimal_by_steps}
 use Rattle.std.proofs.lemmas.List.{length-drop}
+use Rattle.std.proofs.lemmas.Grind.{flat_map-append}
 use Rattle.rdm_frame.specs.declared.decoding.FrameError.{FrameError}
 use Rattle.rdm_frame.specs.declared.decoding.FrameError.TheVariants.{Short, Start, SubStart, Length, Pdl, Checksum}
 use Rattle.rdm_frame.specs.declared.uid.Uid.{Uid}
@@ -27,7 +28,7 @@ use Rattle.rdm_words.proofs.Plainness.{plain_append, digit_plain, digit_small, t
 -- ---- texts that are plain
 
 -- by trying each byte
-tried : (bytes : List ℕ) → list_all is_plain bytes ≡ true → IsPlain bytes
+pub tried : (bytes : List ℕ) → list_all is_plain bytes ≡ true → IsPlain bytes
 tried [] h = tt
 tried (b ∷ bytes) h = by (is_plain b) refl h (λ rest. tried bytes rest)
   where
@@ -92,13 +93,13 @@ fixed_stray cause bytes fits = record { some = some; plain = plain }
         (plain_append (codes "no frame (") (cause_words cause) (tried (codes "no frame (") refl) (plain_cause cause)) (tried (codes "): ") refl))
         (plain_hex bytes fits)
 
-word_fits : (n : ℕ) → AreBytes (to_be_bytes w16 n)
+pub word_fits : (n : ℕ) → AreBytes (to_be_bytes w16 n)
 word_fits n = (omega arith, (omega arith, tt))
 
 long_fits : (n : ℕ) → AreBytes (to_be_bytes w32 n)
 long_fits n = (omega arith, (omega arith, (omega arith, (omega arith, tt))))
 
-plain_uid : (uid : Uid) → IsPlain (uid_text uid)
+pub plain_uid : (uid : Uid) → IsPlain (uid_text uid)
 plain_uid uid =
     plain_append (digits (to_be_bytes w16 uid.maker)) (58 ∷ digits (to_be_bytes w32 uid.device)) (plain_hex (to_be_bytes w16 uid.maker) (word_fits uid.maker))
     (refl, plain_hex (to_be_bytes w32 uid.device) (long_fits uid.device))
@@ -260,26 +261,44 @@ pub as_they_are : (words : List ℕ) → IsPlain words → shown words ≡ words
 as_they_are [] p = refl
 as_they_are (b ∷ words) p = ap (λ (w : List ℕ). w ++ shown words) (shown_one b p.0) ∙ ap (λ (w : List ℕ). b ∷ w) (as_they_are words p.1)
 
+none_behind : (xs ys : List ℕ) → xs ++ ys ≡ [] → ys ≡ []
+none_behind [] ys e = e
+none_behind (x ∷ xs) ys e = absurd cc
+
 -- what is written of a text, or of a remark in place of one that is empty
-pub tells_text : (text own : List ℕ) → own ≢ [] → (text ≢ [] → own ≡ text) → Tells (λ (said : List ℕ). IsFixed said × (said ≡ text)) (shown own ++ 10 ∷ [])
-tells_text text own some same = record { told = told_line own some; fixed = fixed }
+pub tells_text : (text own : List ℕ) → own ≢ [] → (text ≢ [] → own ≡ text)
+    → Tells (λ (said : List ℕ). IsFixed said × (said ≡ text)) (λ (said : List ℕ). IsFixed said × (front : List ℕ) × (text ≡ front ++ said)) (shown own ++ 10 ∷ [])
+tells_text text own some same = record { told = told_line own some; fixed = fixed; last = last }
   where
     fixed : (said : List ℕ) → IsFixed said × (said ≡ text) → shown own ++ 10 ∷ [] ≡ said ++ 10 ∷ []
     fixed said h =
         let is : own ≡ said = same (λ e. h.0.some (h.1 ∙ e)) ∙ sym h.1 in
         ap (λ (w : List ℕ). w ++ 10 ∷ []) (ap (λ (w : List ℕ). shown w) is ∙ as_they_are said h.0.plain)
 
-pub tells_these : (Are Other : List ℕ → Type 0) (own : List ℕ) → Tells Other own → ((words : List ℕ) → Are words → Other words) → Tells Are own
-tells_these Are Other own tells same = record { told = tells.told; fixed = λ words are. tells.fixed words (same words are) }
+    last : (said : List ℕ) → IsFixed said × (front : List ℕ) × (text ≡ front ++ said) → (front : List ℕ) × (shown own ++ 10 ∷ [] ≡ front ++ (said ++ 10 ∷ []))
+    last said h =
+        let is : own ≡ h.1 ++ said = same (λ e. h.0.some (none_behind h.1 said (sym h.2 ∙ e))) ∙ h.2 in
+        let parts : shown own ≡ shown h.1 ++ said =
+        ap (λ (w : List ℕ). shown w) is ∙ flat_map-append shown_byte h.1 said ∙ ap (λ (w : List ℕ). shown h.1 ++ w) (as_they_are said h.0.plain) in
+        (shown h.1, ap (λ (w : List ℕ). w ++ 10 ∷ []) parts ∙ append_assoc (shown h.1) said (10 ∷ []))
 
-pub told_these : {T E : Type 0} (r : Result T E) (Are : List ℕ → Type 0) (start text bytes before after : List ℕ) → bytes ≡ text → start ≡ []
+pub tells_these : (Are Last Other Others : List ℕ → Type 0) (own : List ℕ) → Tells Other Others own
+    → ((words : List ℕ) → Are words → Other words) → ((words : List ℕ) → Last words → Others words) → Tells Are Last own
+tells_these Are Last Other Others own tells same also =
+    record { told = tells.told; fixed = λ words are. tells.fixed words (same words are); last = λ words are. tells.last words (also words are) }
+
+pub told_these : {T E : Type 0} (r : Result T E) (Are Last : List ℕ → Type 0) (start text bytes before after : List ℕ) → bytes ≡ text → start ≡ []
     → ((words : List ℕ) → Are words → IsFixed words × (text ≡ start ++ words))
-    → OnOk r ((own : List ℕ) × Tells (λ (said : List ℕ). IsFixed said × (said ≡ bytes)) own × (after ≡ before ++ own))
-    → OnOk r ((own : List ℕ) × Tells Are own × (after ≡ before ++ own))
-told_these (Err e) Are start text bytes before after same none fixed told = tt
-told_these (Ok t) Are start text bytes before after same none fixed told = (
+    → ((words : List ℕ) → Last words → IsFixed words × (front : List ℕ) × (text ≡ start ++ (front ++ words)))
+    → OnOk r ((own : List ℕ)
+    × Tells (λ (said : List ℕ). IsFixed said × (said ≡ bytes)) (λ (said : List ℕ). IsFixed said × (front : List ℕ) × (bytes ≡ front ++ said)) own
+    × (after ≡ before ++ own))
+    → OnOk r ((own : List ℕ) × Tells Are Last own × (after ≡ before ++ own))
+told_these (Err e) Are Last start text bytes before after same none fixed last told = tt
+told_these (Ok t) Are Last start text bytes before after same none fixed last told = (
   told.0,
-  tells_these Are (λ said. IsFixed said × (said ≡ bytes)) told.0 told.1
-      (λ words are. let f = fixed words are in (f.0, sym (same ∙ f.1 ∙ ap (λ (s : List ℕ). s ++ words) none))),
+  tells_these Are Last (λ said. IsFixed said × (said ≡ bytes)) (λ said. IsFixed said × (front : List ℕ) × (bytes ≡ front ++ said)) told.0 told.1
+      (λ words are. let f = fixed words are in (f.0, sym (same ∙ f.1 ∙ ap (λ (s : List ℕ). s ++ words) none)))
+      (λ words are. let f = last words are in (f.0, f.1, same ∙ f.2 ∙ ap (λ (s : List ℕ). s ++ (f.1 ++ words)) none)),
   told.2,
 )

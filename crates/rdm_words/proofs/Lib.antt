@@ -1,4 +1,6 @@
 pub mod Fixed
+pub mod FixtureWords
+pub mod Last
 pub mod Lines
 pub mod Plainness
 pub mod Says

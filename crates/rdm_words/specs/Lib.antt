@@ -1,4 +1,6 @@
 pub mod Fixed
+pub mod FixtureWords
 pub mod Plain
 pub mod Said
 pub mod Unescaping
+pub mod Unread

@@ -4,6 +4,7 @@ use Rattle.rdm_trace.specs.declared.line.Line.{Line}
 use Rattle.rdm_trace.specs.Reading.{line_in, wire_in}
 use Rattle.rdm_words.specs.Plain.{IsPlain, escaped}
 use Rattle.rdm_words.specs.Fixed.{AreWordsOfBytes, AreWordsOfLine}
+use Rattle.rdm_words.specs.Unread.{AreLastOfBytes, AreLastOfLine}
 
 -- These bytes are one or more whole lines of text, in which something stands that is plain.
 pub record IsTold (own : List ℕ) : Type 0 where
@@ -12,16 +13,17 @@ pub record IsTold (own : List ℕ) : Type 0 where
   pub some : words ≢ []
   pub plain : IsPlain own
 
--- If it is fixed which words are said, they stand there, and nothing else does.
-pub record Tells (AreWords : List ℕ → Type 0) (own : List ℕ) : Type 0 where
+-- If it is fixed which words are said, they stand there, and nothing else does; and if it is fixed which are the last, these stand at the end.
+pub record Tells (AreWords : List ℕ → Type 0) (AreLast : List ℕ → Type 0) (own : List ℕ) : Type 0 where
   pub told : IsTold own
   pub fixed : (words : List ℕ) → AreWords words → own ≡ words ++ 10 ∷ []
+  pub last : (words : List ℕ) → AreLast words → (front : List ℕ) × (own ≡ front ++ (words ++ 10 ∷ []))
 
 abbrev pub TellsBytes : List ℕ → List ℕ → Type 0
-TellsBytes bytes own = Tells (λ words. AreWordsOfBytes bytes words) own
+TellsBytes bytes own = Tells (λ words. AreWordsOfBytes bytes words) (λ words. AreLastOfBytes bytes words) own
 
 abbrev pub TellsLine : Line → List ℕ → Type 0
-TellsLine line own = Tells (λ words. AreWordsOfLine line words) own
+TellsLine line own = Tells (λ words. AreWordsOfLine line words) (λ words. AreLastOfLine line words) own
 
 -- by whether the line is empty, which line of a trace it is, and of which frame it has the digits
 abbrev pub SaysBy : Bool → Option Line → Option (List ℕ) → List ℕ → List ℕ → Type 0

@@ -1,6 +1,7 @@
 //! The words of a fixture: what a controller will find of it.
 
-ghost use Rattle.std.specs.Prelude.{◌≡◌, ℕ, List, ◌++◌, OnOk};
+ghost use Rattle.std.specs.Prelude.{◌≡◌, ℕ, List, ◌++◌, OnOk, string_bytes};
+ghost use Rattle.rdm_words.specs.FixtureWords.{SaysFixture, uid_line, model_words, subs_line};
 ghost use Rattle.rdm_words.specs.Plain.{IsPlain};
 
 use crate::data::sensors::put_range;
@@ -9,32 +10,59 @@ use crate::tables::sensors::{SENSOR_TYPES, SENSOR_UNITS, UNIT_PREFIXES};
 use crate::tables::slots::{SLOT_LABELS, SLOT_TYPES};
 use crate::text::put_shown;
 use rdm_device::{Profile, SensorDef, Slot, Unit};
+use rdm_frame::digits::put_digits;
 use rdm_frame::{Text, Uid};
 use rdm_outcomes::Rule;
-use rdm_params::{Outcome, Severity};
+use rdm_params::Outcome;
 use std::alloc::AllocError;
 use std::fmt::Write;
 use std::str;
 
 /// Puts what a fixture is at the end: its UID, its root device with slots, sensors and texts, how the jobs of its slow
 /// commands end by these rules, and its sub-devices. Fails only if memory is refused.
-#[tactic(auto, using(crate::proofs::Plainness::plain_shown))]
 pub fn put_fixture(
     out: &mut Vec<u8>,
     uid: Uid,
     profile: &Profile,
     rules: &[Rule],
 ) -> Result<(), AllocError>
-    ensures plain { OnOk result ((own : List ℕ) × IsPlain own × (out.new.items ≡ out.old.items ++ own)) }
+    ensures said { OnOk result ((own : List ℕ) × SaysFixture uid profile.now own × (out.new.items ≡ out.old.items ++ own)) }
+{
+    put_uid_line(out, uid)?;
+    put_model(out, profile.root.model)?;
+    put_root(out, profile, rules)?;
+    put_subs_line(out, profile.subs)?;
+    put_sub(out, profile)
+}
+
+fn put_uid_line(out: &mut Vec<u8>, uid: Uid) -> Result<(), AllocError>
+    ensures { OnOk result (out.new.items ≡ out.old.items ++ uid_line uid) }
+{
+    let mut line = String::new(*out.allocator());
+    writeln!(line, "UID {uid}")?;
+    out.extend_from_slice(line.as_bytes())
+}
+
+/// The model of the root device.
+fn put_model(out: &mut Vec<u8>, model: u16) -> Result<(), AllocError>
+    ensures { OnOk result (out.new.items ≡ out.old.items ++ model_words model) }
+{
+    out.extend_from_slice(b"root device: model ")?;
+    put_digits(out, &model.to_be_bytes())
+}
+
+/// The root device: what else it is, its slots, its sensors, and how its jobs end.
+#[tactic(auto, using(crate::proofs::Plainness::plain_shown))]
+fn put_root(out: &mut Vec<u8>, profile: &Profile, rules: &[Rule]) -> Result<(), AllocError>
+    ensures { OnOk result ((own : List ℕ) × IsPlain own × (out.new.items ≡ out.old.items ++ own)) }
 {
     let mut text = String::new(*out.allocator());
-    writeln!(text, "UID {uid}")?;
-    put_devices(&mut text, profile, rules)?;
+    put_parts(&mut text, profile, rules)?;
     put_shown(out, text.as_bytes())
 }
 
-fn put_devices(text: &mut String, profile: &Profile, rules: &[Rule]) -> Result<(), AllocError> {
-    put_unit(text, "root device", &profile.root)?;
+fn put_parts(text: &mut String, profile: &Profile, rules: &[Rule]) -> Result<(), AllocError> {
+    put_unit(text, &profile.root)?;
     for (number, slot) in profile.slots.iter().enumerate() {
         put_slot(text, number, slot)?;
     }
@@ -45,18 +73,45 @@ fn put_devices(text: &mut String, profile: &Profile, rules: &[Rule]) -> Result<(
     for rule in rules {
         put_rule(text, rule)?;
     }
-    let subs = profile.subs;
+    Ok(())
+}
+
+fn put_subs_line(out: &mut Vec<u8>, subs: u16) -> Result<(), AllocError>
+    ensures line { OnOk result (out.new.items ≡ out.old.items ++ subs_line subs) }
+    ensures plain { IsPlain (subs_line subs) }
+{
+    let mut line = String::new(*out.allocator());
+    put_subs(&mut line, subs)?;
+    out.extend_from_slice(line.as_bytes())
+}
+
+fn put_subs(text: &mut String, subs: u16) -> Result<(), AllocError>
+    ensures line { OnOk result (string_bytes text.new ≡ string_bytes text.old ++ subs_line subs) }
+    ensures plain { IsPlain (subs_line subs) }
+{
     if subs == 0 {
         return writeln!(text, "no sub-devices");
     }
-    writeln!(text, "{subs} sub-devices")?;
-    put_unit(text, "each sub-device", &profile.sub)
+    writeln!(text, "{subs} sub-devices")
 }
 
-/// What one device is.
-fn put_unit(text: &mut String, kind: &str, unit: &Unit) -> Result<(), AllocError> {
+/// What each sub-device is, if there are any.
+#[tactic(auto, using(crate::proofs::Plainness::plain_shown))]
+fn put_sub(out: &mut Vec<u8>, profile: &Profile) -> Result<(), AllocError>
+    ensures { OnOk result ((own : List ℕ) × IsPlain own × (out.new.items ≡ out.old.items ++ own)) }
+{
+    let mut text = String::new(*out.allocator());
+    if profile.subs > 0 {
+        let model = profile.sub.model;
+        write!(text, "each sub-device: model {model:04X}")?;
+        put_unit(&mut text, &profile.sub)?;
+    }
+    put_shown(out, text.as_bytes())
+}
+
+/// What one device is, behind its model.
+fn put_unit(text: &mut String, unit: &Unit) -> Result<(), AllocError> {
     let Unit {
-        model,
         category,
         software,
         start,
@@ -64,7 +119,7 @@ fn put_unit(text: &mut String, kind: &str, unit: &Unit) -> Result<(), AllocError
     } = unit;
     let name = words(&unit.model_text);
     let maker = words(&unit.maker_text);
-    writeln!(text, "{kind}: model {model:04X}, \"{name}\" of \"{maker}\"")?;
+    writeln!(text, ", \"{name}\" of \"{maker}\"")?;
     let known = PRODUCT_CATEGORIES
         .name(u32::from(*category))
         .unwrap_or("product category");
@@ -178,11 +233,7 @@ fn put_rule(text: &mut String, rule: &Rule) -> Result<(), AllocError> {
             v1,
             v2,
         } => {
-            let severity = match severity {
-                Severity::Advisory | Severity::AdvisoryCleared => "advisory",
-                Severity::Warning | Severity::WarningCleared => "warning",
-                Severity::Error | Severity::ErrorCleared => "error",
-            };
+            let severity = severity.name();
             writeln!(
                 text,
                 ": fails with {severity}, status ID {id:04X}, values {v1} and {v2}"

@@ -97,7 +97,9 @@ fn put_unread(out: &mut Vec<u8>, line: &[u8]) -> Result<(), AllocError>
 
 /// A line of its own, with these words, or with a remark that there are none.
 fn put_told(out: &mut Vec<u8>, words: &[u8]) -> Result<(), AllocError>
-    ensures told { OnOk result ((own : List ℕ) × Tells (λ said. IsFixed said × (said ≡ words.now)) own × (out.new.items ≡ out.old.items ++ own)) }
+    ensures told { OnOk result ((own : List ℕ)
+        × Tells (λ said. IsFixed said × (said ≡ words.now)) (λ said. IsFixed said × (front : List ℕ) × (words.now ≡ front ++ said)) own
+        × (out.new.items ≡ out.old.items ++ own)) }
 {
     put_whole(out, some_words(words))?;
     Ok(())

@@ -5,7 +5,7 @@ ghost use Rattle.std.specs.Str.{IsAscii};
 ghost use Rattle.rdm_frame.specs.Digits.{digits};
 ghost use Rattle.rdm_words.specs.Plain.{is_printable, is_of_tables, is_plain, by_digits, shown_byte, shown, escaped_byte, escaped};
 
-use rdm_frame::digits::{digit, put_digits};
+use rdm_frame::digits::put_digits;
 use std::alloc::AllocError;
 use std::str;
 
@@ -92,7 +92,8 @@ fn put_shown_byte(out: &mut Vec<u8>, byte: u8) -> Result<(), AllocError>
 fn put_by_digits(out: &mut Vec<u8>, byte: u8) -> Result<(), AllocError>
     ensures { OnOk result (out.new.items ≡ out.old.items ++ by_digits byte) }
 {
-    out.extend_from_slice(&[b'\\', b'x', digit(byte / 16), digit(byte % 16)])
+    out.extend_from_slice(b"\\x")?;
+    put_digits(out, &[byte])
 }
 
 /// Whether a byte may be written as it is: printable ASCII, LF, or a byte of the characters of the tables.

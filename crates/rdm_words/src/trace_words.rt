@@ -3,11 +3,12 @@
 ghost use Rattle.std.specs.Prelude.{◌≡◌, ℕ, List, ◌++◌, OnOk, string_bytes};
 ghost use Rattle.rdm_words.specs.Fixed.{AreWordsOfBytes, AreWordsOfLine, fault_line, found_words, heard_words, job_words, raised_words};
 ghost use Rattle.rdm_words.specs.Plain.{IsFixed, IsPlain};
+ghost use Rattle.rdm_words.specs.Unread.{AreUnread, AreLastOfLine, data_line};
 
 use crate::Known;
 use crate::data::layout::layout_of;
 use crate::data::statuses::{Status, put_failure};
-use crate::frame::class::{Class, put_class};
+use crate::frame::class::put_class;
 use crate::frame::frame_words::{put_bytes_words, put_data_lines};
 use crate::frame::header::put_parameter;
 use crate::frame::place::put_place;
@@ -27,6 +28,8 @@ pub(crate) fn put_trace_line(
 ) -> Result<(), AllocError>
     ensures fixed { OnOk result
         ((words : List ℕ) → AreWordsOfLine line.now words → IsFixed words × (string_bytes text.new ≡ string_bytes text.old ++ words)) }
+    ensures last { OnOk result ((words : List ℕ) → AreLastOfLine line.now words
+        → IsFixed words × (front : List ℕ) × (string_bytes text.new ≡ string_bytes text.old ++ (front ++ words))) }
 {
     match line {
         Line::Send { bytes, fault } => {
@@ -146,17 +149,23 @@ fn put_panel(text: &mut String, change: &Change, refused: bool) -> Result<(), Al
 }
 
 /// A message that the controller recorded.
-fn put_message(text: &mut String, message: &Message, known: &Known<'_>) -> Result<(), AllocError> {
+fn put_message(text: &mut String, message: &Message, known: &Known<'_>) -> Result<(), AllocError>
+    ensures last { AreUnread message.now.class message.now.pid message.now.body → OnOk result (IsPlain (data_line message.now.body)
+        × (front : List ℕ) × (string_bytes text.new ≡ string_bytes text.old ++ (front ++ data_line message.now.body))) }
+{
+    let mut head = String::new(*text.allocator());
+    put_heading(&mut head, message)?;
+    text.push_str(head.as_str())?;
+    let layout = layout_of(message.class, message.pid);
+    put_data_lines(text, layout, message.body.as_slice(), known)
+}
+
+/// What a message is, and of what.
+fn put_heading(text: &mut String, message: &Message) -> Result<(), AllocError> {
     text.push_str("recorded: ")?;
     put_class(text, message.class)?;
     text.push(' ')?;
     put_parameter(text, message.pid)?;
     text.push_str(", ")?;
-    put_place(text, message.sub)?;
-    put_data_lines(
-        text,
-        layout_of(Class::of(message.class), message.pid),
-        message.body.as_slice(),
-        known,
-    )
+    put_place(text, message.sub)
 }

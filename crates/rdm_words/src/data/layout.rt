@@ -1,5 +1,9 @@
 //! Which data a parameter has in its requests and in its replies (E1.20 section 10).
 
+ghost use Rattle.std.specs.Prelude.{◌≡◌, ◌≢◌, true, None};
+ghost use Rattle.rdm_params.specs.Table.Rows.{row_of};
+ghost use Rattle.rdm_words.specs.Unread.{is_discovery};
+
 use crate::data::form::{Form, Layout, List};
 use crate::data::records::{
     BRANCH, COUNT, DEVICE_INFO, MUTED, NUMBER, PERSONALITY, PERSONALITY_TEXT, PRESET, PRODUCT,
@@ -11,29 +15,51 @@ use crate::tables::settings::{
     DISPLAY_INVERSIONS, LAMP_ON_MODES, LAMP_STATES, POWER_STATES, SWITCHES, TRUTHS,
 };
 use crate::tables::statuses::STATUS_TYPES;
-use rdm_frame::standard::{DISC_MUTE, DISC_UN_MUTE, DISC_UNIQUE_BRANCH};
+use rdm_frame::standard::{
+    DISC_MUTE, DISC_UN_MUTE, DISC_UNIQUE_BRANCH, DISCOVERY_COMMAND, DISCOVERY_COMMAND_RESPONSE,
+};
 use rdm_params::{Kind, kind_of};
 
 /// No data, or data that are shown as they are.
 const NOTHING: Layout = Layout("", Form::Nothing);
 
-/// The data of a parameter in frames of a command class. If the class or the parameter isn't known there is
+/// The data of a parameter in frames of the command class with this code. If the class or the parameter isn't known there is
 /// no layout, and the data are shown as they are.
-pub(crate) fn layout_of(class: Option<Class>, pid: u16) -> Layout {
-    let Some(class) = class else {
-        return NOTHING;
-    };
-    match (class, kind_of(pid)) {
-        (Class::Get, Some(kind)) => get_layout(kind),
-        (Class::GetResponse, Some(kind)) => get_reply_layout(kind),
-        (Class::Set, Some(kind)) => set_layout(kind),
-        (Class::SetResponse, Some(Kind::SensorValue)) => Layout("", Form::Fields(SENSOR_VALUE)),
-        (Class::Discovery, None) if pid == DISC_UNIQUE_BRANCH => Layout("", Form::Fields(BRANCH)),
-        (Class::DiscoveryResponse, None) if pid == DISC_MUTE || pid == DISC_UN_MUTE => {
-            Layout("", Form::Fields(MUTED))
-        }
-        _ => NOTHING,
+pub(crate) fn layout_of(code: u8, pid: u16) -> Option<Layout>
+    ensures unknown { is_discovery code ≢ true → row_of pid ≡ None → result ≡ None }
+{
+    let class = Class::of(code)?;
+    match kind_of(pid) {
+        Some(kind) => Some(known_layout(class, kind)),
+        None => discovery_layout(code, pid),
     }
+}
+
+/// The data of a parameter of the table.
+fn known_layout(class: Class, kind: Kind) -> Layout {
+    match class {
+        Class::Get => get_layout(kind),
+        Class::GetResponse => get_reply_layout(kind),
+        Class::Set => set_layout(kind),
+        Class::SetResponse => match kind {
+            Kind::SensorValue => Layout("", Form::Fields(SENSOR_VALUE)),
+            _ => NOTHING,
+        },
+        Class::Discovery | Class::DiscoveryResponse => NOTHING,
+    }
+}
+
+/// The data of a parameter of discovery.
+fn discovery_layout(code: u8, pid: u16) -> Option<Layout>
+    ensures { is_discovery code ≢ true → result ≡ None }
+{
+    if code == DISCOVERY_COMMAND && pid == DISC_UNIQUE_BRANCH {
+        return Some(Layout("", Form::Fields(BRANCH)));
+    }
+    if code == DISCOVERY_COMMAND_RESPONSE && (pid == DISC_MUTE || pid == DISC_UN_MUTE) {
+        return Some(Layout("", Form::Fields(MUTED)));
+    }
+    None
 }
 
 /// The data of a GET.

@@ -5,6 +5,7 @@ use crate::tables::Table;
 use crate::tables::products::PRODUCT_CATEGORIES;
 use crate::tables::sensors::SENSOR_TYPES;
 use crate::tables::settings::SELF_TESTS;
+use rdm_frame::standard::ALL_SENSORS;
 
 /// A text of up to 32 characters.
 pub(crate) const TEXT: Record = Record::AtLeast(0, &[Field("", 0, REST, Value::Text)]);
@@ -109,11 +110,11 @@ pub(crate) const SLOT_DEFAULT: Record = Record::Exactly(
 /// The number of a sensor, or all of them (sections 10.7.1 to 10.7.3).
 pub(crate) const SENSOR: Record = Record::Exactly(
     1,
-    &[Field("", 0, 1, Value::Counted("sensor ", ALL_SENSORS))],
+    &[Field("", 0, 1, Value::Counted("sensor ", EVERY_SENSOR))],
 );
 
 /// The number that stands for all sensors.
-const ALL_SENSORS: Table = Table(&[(0xFF, "all sensors")]);
+const EVERY_SENSOR: Table = Table(&[(ALL_SENSORS as u32, "all sensors")]);
 
 /// What a sensor measures (section 10.7.1).
 pub(crate) const SENSOR_DEFINITION: Record = Record::AtLeast(
@@ -141,7 +142,7 @@ pub(crate) const SENSOR_NAME: Record = Record::AtLeast(
 pub(crate) const SENSOR_VALUE: Record = Record::Exactly(
     9,
     &[
-        Field("", 0, 1, Value::Counted("sensor ", ALL_SENSORS)),
+        Field("", 0, 1, Value::Counted("sensor ", EVERY_SENSOR)),
         Field(": ", 0, 3, Value::Other(Meaning::Measured)),
         Field(", lowest ", 3, 2, Value::Other(Meaning::Signed)),
         Field(", highest ", 5, 2, Value::Other(Meaning::Signed)),

@@ -1,5 +1,8 @@
 //! The words of parameter data that are one value.
 
+ghost use Rattle.std.specs.Prelude.{◌≡◌, ◌≢◌, [], ◌++◌, OnOk, codes, string_bytes};
+ghost use Rattle.rdm_frame.specs.Digits.{digits};
+
 use crate::Known;
 use crate::data::form::{Field, Form, Layout, Record, Value};
 use crate::data::lists::put_count_of;
@@ -35,12 +38,14 @@ pub(crate) fn put_value(
 }
 
 /// Data that have no words, in hexadecimal digits.
-pub(crate) fn put_data(text: &mut String, data: &[u8]) -> Result<(), AllocError> {
-    if data.is_empty() {
+pub(crate) fn put_data(text: &mut String, slots: &[u8]) -> Result<(), AllocError>
+    ensures { slots.now ≢ [] → OnOk result (string_bytes text.new ≡ string_bytes text.old ++ (codes "data " ++ digits slots.now)) }
+{
+    if slots.is_empty() {
         return text.push_str("no data");
     }
     text.push_str("data ")?;
-    put_hex(text, data)
+    put_hex(text, slots)
 }
 
 /// What the value is, if that is said, and a space.

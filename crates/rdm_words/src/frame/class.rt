@@ -1,5 +1,8 @@
 //! What a frame does (E1.20 table A-1).
 
+ghost use Rattle.std.specs.Prelude.{◌≡◌};
+ghost use Rattle.rdm_words.specs.Unread.{is_response};
+
 use rdm_frame::standard::{
     DISCOVERY_COMMAND, DISCOVERY_COMMAND_RESPONSE, GET_COMMAND, GET_COMMAND_RESPONSE, SET_COMMAND,
     SET_COMMAND_RESPONSE,
@@ -43,14 +46,15 @@ impl Class {
             Class::SetResponse => "SET response",
         }
     }
+}
 
-    /// Whether it is that of a reply.
-    pub(crate) fn is_response(self) -> bool {
-        match self {
-            Class::DiscoveryResponse | Class::GetResponse | Class::SetResponse => true,
-            Class::Discovery | Class::Get | Class::Set => false,
-        }
-    }
+/// Whether the command class with this code is that of a reply.
+pub(crate) fn is_response(code: u8) -> bool
+    ensures { result ≡ is_response code }
+{
+    code == DISCOVERY_COMMAND_RESPONSE
+        || code == GET_COMMAND_RESPONSE
+        || code == SET_COMMAND_RESPONSE
 }
 
 /// The name of a command class, or its code if the standard doesn't have it.

@@ -1,15 +1,16 @@
 //! The words of a frame: a line of its header, and lines of its data below.
 
-ghost use Rattle.std.specs.Prelude.{◌≡◌, ℕ, List, ◌++◌, OnOk, string_bytes};
+ghost use Rattle.std.specs.Prelude.{◌≡◌, ◌≢◌, ℕ, List, [], ◌++◌, None, OnOk, string_bytes};
 ghost use Rattle.rdm_words.specs.Fixed.{AreWordsOfBytes, IsAnswerOf, answer_words, cause_words, stray_words};
-ghost use Rattle.rdm_words.specs.Plain.{IsFixed};
+ghost use Rattle.rdm_words.specs.Plain.{IsFixed, IsPlain};
+ghost use Rattle.rdm_words.specs.Unread.{HasUnread, AreLastOfBytes, data_line, is_put_off};
 
 use crate::Known;
 use crate::data::form::{Form, Layout};
 use crate::data::layout::layout_of;
 use crate::data::lists::put_entries;
 use crate::data::values::{put_data, put_value};
-use crate::frame::class::Class;
+use crate::frame::class::{Class, is_response};
 use crate::frame::header::{put_request, put_response};
 use crate::text::put_hex;
 use rdm_frame::standard::{ACK_TIMER, NACK_REASON};
@@ -28,6 +29,8 @@ pub(crate) fn put_bytes_words(
 ) -> Result<(), AllocError>
     ensures fixed { OnOk result
         ((words : List ℕ) → AreWordsOfBytes bytes.now words → IsFixed words × (string_bytes text.new ≡ string_bytes text.old ++ words)) }
+    ensures last { OnOk result ((words : List ℕ) → AreLastOfBytes bytes.now words
+        → IsFixed words × (front : List ℕ) × (string_bytes text.new ≡ string_bytes text.old ++ (front ++ words))) }
 {
     match decode_view(bytes) {
         Ok(frame) => put_frame(text, &frame, known),
@@ -62,34 +65,69 @@ pub(crate) fn cause_of(error: FrameError) -> &'static str
     }
 }
 
-fn put_frame(
-    text: &mut String,
-    frame: &FrameView<'_>,
-    known: &Known<'_>,
-) -> Result<(), AllocError> {
-    let Some(class) = Class::of(frame.class) else {
-        put_request(text, "to", frame)?;
-        return put_plain_line(text, frame.body);
-    };
-    if !class.is_response() {
-        put_request(text, "asks", frame)?;
-        let layout = layout_of(Some(class), frame.pid);
+fn put_frame(text: &mut String, frame: &FrameView<'_>, known: &Known<'_>) -> Result<(), AllocError>
+    ensures last { HasUnread frame.now → OnOk result
+        ((front : List ℕ) × (string_bytes text.new ≡ string_bytes text.old ++ (front ++ data_line frame.now.body))) }
+{
+    let mut head = String::new(*text.allocator());
+    put_head(&mut head, frame)?;
+    text.push_str(head.as_str())?;
+    put_body(text, frame, known)
+}
+
+/// The line of the header.
+fn put_head(text: &mut String, frame: &FrameView<'_>) -> Result<(), AllocError> {
+    if is_response(frame.class) {
+        return put_response(text, frame);
+    }
+    match Class::of(frame.class) {
+        Some(_) => put_request(text, "asks", frame),
+        None => put_request(text, "to", frame),
+    }
+}
+
+/// The lines of the data, but for those of an ACK_TIMER or a NACK, which stand in the header.
+fn put_body(text: &mut String, frame: &FrameView<'_>, known: &Known<'_>) -> Result<(), AllocError>
+    ensures last { HasUnread frame.now → OnOk result (string_bytes text.new ≡ string_bytes text.old ++ data_line frame.now.body) }
+{
+    let layout = layout_of(frame.class, frame.pid);
+    if !is_response(frame.class) {
         return put_data_lines(text, layout, frame.body, &known.at(frame.dst));
     }
-    put_response(text, frame)?;
-    match (frame.port, frame.body) {
-        // These data stand in the header.
-        (ACK_TIMER | NACK_REASON, [_, _]) => Ok(()),
-        (ACK_TIMER | NACK_REASON, data) => put_plain_line(text, data),
-        (_, data) => {
-            let layout = layout_of(Some(class), frame.pid);
-            put_data_lines(text, layout, data, &known.at(frame.src))
-        }
+    if is_put_off(frame.port) {
+        return match frame.body {
+            [_, _] => Ok(()),
+            slots => put_plain_line(text, slots),
+        };
     }
+    put_data_lines(text, layout, frame.body, &known.at(frame.src))
+}
+
+/// Whether the response type is ACK_TIMER or NACK_REASON.
+fn is_put_off(port: u8) -> bool
+    ensures { result ≡ is_put_off port }
+{
+    port == ACK_TIMER || port == NACK_REASON
 }
 
 /// The lines of data, if there is something to say.
 pub(crate) fn put_data_lines(
+    text: &mut String,
+    layout: Option<Layout>,
+    slots: &[u8],
+    known: &Known<'_>,
+) -> Result<(), AllocError>
+    ensures last { layout ≡ None → slots.now ≢ [] → OnOk result (string_bytes text.new ≡ string_bytes text.old ++ data_line slots.now) }
+    ensures plain { IsPlain (data_line slots.now) }
+{
+    match layout {
+        Some(layout) => put_laid_out(text, layout, slots, known),
+        None => put_plain_line(text, slots),
+    }
+}
+
+/// The lines of data of this layout.
+fn put_laid_out(
     text: &mut String,
     layout: Layout,
     data: &[u8],
@@ -107,10 +145,12 @@ pub(crate) fn put_data_lines(
 }
 
 /// A line of data that have no words, if there are any.
-fn put_plain_line(text: &mut String, data: &[u8]) -> Result<(), AllocError> {
-    if data.is_empty() {
+fn put_plain_line(text: &mut String, slots: &[u8]) -> Result<(), AllocError>
+    ensures { slots.now ≢ [] → OnOk result (string_bytes text.new ≡ string_bytes text.old ++ data_line slots.now) }
+{
+    if slots.is_empty() {
         return Ok(());
     }
     text.push_str(DATA_LINE)?;
-    put_data(text, data)
+    put_data(text, slots)
 }

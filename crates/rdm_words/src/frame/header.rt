@@ -5,13 +5,10 @@ use crate::frame::class::put_class;
 use crate::frame::place::put_place;
 use crate::tables::parameters::parameter;
 use crate::tables::replies::{NACK_REASONS, RESPONSE_TYPES};
-use rdm_frame::standard::{ACK_TIMER, NACK_REASON};
+use rdm_frame::standard::{ACK_TIMER, FIRST_PORT, NACK_REASON};
 use rdm_frame::{FrameView, Uid};
 use std::alloc::AllocError;
 use std::fmt::Write;
-
-/// The port ID of a controller that has one port (section 6.2.7).
-const FIRST_PORT: u8 = 1;
 
 /// A request: who asks whom, for what, and where. It is the same for a frame with a command class that the standard doesn't
 /// have, but for the verb.

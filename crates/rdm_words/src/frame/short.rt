@@ -71,7 +71,7 @@ fn put_request(
     put_class(text, frame.class)?;
     put_subject(text, frame)?;
     match Class::of(frame.class) {
-        Some(class) => put_short_value(text, class, frame, known),
+        Some(_) => put_short_value(text, frame, known),
         None => Ok(()),
     }
 }
@@ -82,14 +82,14 @@ fn put_reply(
     frame: &FrameView<'_>,
     known: &Known<'_>,
 ) -> Result<(), AllocError> {
-    let Some(class) = Class::of(frame.class) else {
+    if Class::of(frame.class).is_none() {
         return put_request(text, frame, known);
-    };
+    }
     match (frame.port, frame.body) {
         (ACK, _) => {
             text.push_str("ACK")?;
             put_subject(text, frame)?;
-            put_short_value(text, class, frame, known)
+            put_short_value(text, frame, known)
         }
         (NACK_REASON, [a, b]) => {
             let code = u16::from_be_bytes([*a, *b]);
@@ -119,12 +119,14 @@ fn put_subject(text: &mut String, frame: &FrameView<'_>) -> Result<(), AllocErro
 /// A colon and the data, if there are any.
 fn put_short_value(
     text: &mut String,
-    class: Class,
     frame: &FrameView<'_>,
     known: &Known<'_>,
 ) -> Result<(), AllocError> {
     let data = frame.body;
-    let Layout(_, form) = layout_of(Some(class), frame.pid);
+    let form = match layout_of(frame.class, frame.pid) {
+        Some(Layout(_, form)) => form,
+        None => Form::Nothing,
+    };
     if data.is_empty() && !matches!(form, Form::List(_)) {
         return Ok(());
     }

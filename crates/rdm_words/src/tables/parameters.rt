@@ -3,9 +3,6 @@
 use super::Table;
 use rdm_params::kind_of;
 
-/// No parameter of the table has a greater PID.
-const GREATEST: u16 = 0x1041;
-
 /// The parameters of the table that no responder of ours has.
 const OTHERS: Table = Table(&[
     (0x0001, "DISC_UNIQUE_BRANCH"),
@@ -27,16 +24,4 @@ pub fn parameter(pid: u16) -> Option<&'static str> {
         Some(kind) => Some(kind.name()),
         None => OTHERS.name(u32::from(pid)),
     }
-}
-
-/// The PID of the parameter with this name, as `DMX_START_ADDRESS`.
-pub fn pid_named(name: &[u8]) -> Option<u16> {
-    for pid in 0..=GREATEST {
-        if let Some(known) = parameter(pid)
-            && known.as_bytes() == name
-        {
-            return Some(pid);
-        }
-    }
-    None
 }

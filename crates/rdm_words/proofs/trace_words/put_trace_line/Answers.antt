@@ -1,6 +1,7 @@
 use Rattle.std.proofs.Common.{ℕ, List, Option, ap, ◌∙◌}
 use Rattle.rdm_trace.specs.declared.line.Line.TheVariants.{Reply}
 use Rattle.rdm_words.proofs.Fixed.{adds_send, adds_reply, adds_found}
+use Rattle.rdm_words.proofs.Last.{last_of_send, last_of_reply, last_of_found, last_of_message}
 use Rattle.rdm_words.proofs.trace_words.put_trace_line.Goals as goal
 
 pub returns-in_ok-put_bytes_words-in-Send : goal.returns-in_ok-put_bytes_words-in-Send
@@ -8,6 +9,8 @@ returns-in_ok-put_bytes_words-in-Send c =
     record {
       fixed = adds_send c.put_fault.result c.args.line.now c.as_slice.result.now _ c.in-Send.fault _ _ _ c.in-Send.is c.as_slice.ensures.value
           c.in_ok-put_bytes_words-in-Send.ensures.fixed c.put_fault.ensures.words c.put_fault.ensures.plain;
+      last = last_of_send c.put_fault.result c.args.line.now c.as_slice.result.now _ c.in-Send.fault _ _ _ c.in-Send.is c.as_slice.ensures.value
+          c.in_ok-put_bytes_words-in-Send.ensures.last c.put_fault.ensures.words c.put_fault.ensures.plain;
     }
 
 pub returns-in-Some : goal.returns-in-Some
@@ -15,10 +18,16 @@ returns-in-Some c =
     record {
       fixed = adds_reply c.put_bytes_words-in-Some.result c.args.line.now c.as_slice-in-Some.result.now _ _ _
           (c.in-Reply.is ∙ ap (λ (f : Option (List ℕ)). Reply f) c.in-Some.is) c.as_slice-in-Some.ensures.value c.put_bytes_words-in-Some.ensures.fixed;
+      last = last_of_reply c.put_bytes_words-in-Some.result c.args.line.now c.as_slice-in-Some.result.now _ _ _
+          (c.in-Reply.is ∙ ap (λ (f : Option (List ℕ)). Reply f) c.in-Some.is) c.as_slice-in-Some.ensures.value c.put_bytes_words-in-Some.ensures.last;
     }
 
 pub returns-in-Found : goal.returns-in-Found
 returns-in-Found c =
     record {
       fixed = adds_found c.put_found.result c.args.line.now c.in-Found.uid _ _ c.in-Found.is c.put_found.ensures;
+      last = last_of_found c.put_found.result c.args.line.now c.in-Found.uid _ _ c.in-Found.is;
     }
+
+pub returns-in-Message-clause-last : goal.returns-in-Message-clause-last
+returns-in-Message-clause-last c = last_of_message c.put_message.result c.args.line.now c.in-Message.message _ _ c.in-Message.is c.put_message.ensures.last

@@ -1,0 +1,54 @@
+-- The last words of a line: data that nothing interprets, since no table has their parameter. They stand there as all of their digits.
+use Rattle.std.specs.Prelude.{◌≡◌, ◌≢◌, ℕ, Bool, true, ◌==◌, ◌||◌, List, [], ◌∷◌, ◌++◌, Option, Some, None, codes}
+use Rattle.rdm_frame.specs.declared.frame.Frame.{Frame}
+use Rattle.rdm_frame.specs.Digits.{digits}
+use Rattle.rdm_frame.specs.Reading.{frame_in}
+use Rattle.rdm_params.specs.declared.jobs.message.Message.{Message}
+use Rattle.rdm_params.specs.Table.Rows.{row_of}
+use Rattle.rdm_trace.specs.declared.line.Line.{Line}
+use Rattle.rdm_trace.specs.declared.line.Line.TheVariants.{Send, Reply, Job, Heard, Found, Arrive, Panel, Message as TheMessage, End}
+use Rattle.rdm_words.specs.Fixed.{fault_line}
+
+-- a line of its own with the data
+abbrev pub data_line : List ℕ → List ℕ
+data_line bytes = 10 ∷ codes "  data " ++ digits bytes
+
+-- the command class of a discovery request, or of the response to one. E1.20 table A-1.
+abbrev pub is_discovery : ℕ → Bool
+is_discovery class = (class == 0x10) || (class == 0x11)
+
+-- the command class of a response
+abbrev pub is_response : ℕ → Bool
+is_response class = (class == 0x11) || (class == 0x21) || (class == 0x31)
+
+-- the response type ACK_TIMER or NACK_REASON, whose data are the fixture's answer and not the parameter's. Table A-2.
+abbrev pub is_put_off : ℕ → Bool
+is_put_off port = (port == 0x01) || (port == 0x02)
+
+-- There are data, of a parameter that the table hasn't. Those of discovery are of another table.
+pub record AreUnread (class : ℕ) (pid : ℕ) (bytes : List ℕ) : Type 0 where
+  pub other : is_discovery class ≢ true
+  pub unknown : row_of pid ≡ None
+  pub some : bytes ≢ []
+
+-- A frame has such data, and it isn't an ACK_TIMER or a NACK.
+pub record HasUnread (f : Frame) : Type 0 where
+  pub unread : AreUnread f.class f.pid f.body
+  pub answer : is_response f.class ≡ true → is_put_off f.port ≢ true
+
+-- the last words of bytes from the bus that are such a frame
+abbrev pub AreLastOfBytes : List ℕ → List ℕ → Type 0
+AreLastOfBytes bytes words = (f : Frame) × (frame_in bytes ≡ Some f) × HasUnread f × (words ≡ data_line f.body)
+
+-- the last words of a line of a trace with such a frame or such a message
+abbrev pub AreLastOfLine : Line → List ℕ → Type 0
+AreLastOfLine (Send bytes fault) words = (front : List ℕ) × AreLastOfBytes bytes front × (words ≡ front ++ fault_line fault)
+AreLastOfLine (Reply None) words = ⊥
+AreLastOfLine (Reply (Some bytes)) words = AreLastOfBytes bytes words
+AreLastOfLine (Job job) words = ⊥
+AreLastOfLine (Heard heard) words = ⊥
+AreLastOfLine (Found uid) words = ⊥
+AreLastOfLine (Arrive job outcome) words = ⊥
+AreLastOfLine (Panel change refused) words = ⊥
+AreLastOfLine (TheMessage message) words = AreUnread message.class message.pid message.body × (words ≡ data_line message.body)
+AreLastOfLine End words = ⊥
