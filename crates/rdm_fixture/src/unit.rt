@@ -13,7 +13,11 @@ use crate::keys::{find, number, number_or, only, text_or_none};
 use crate::lists::list;
 use crate::refusal::{Refusal, Wanted};
 use rdm_device::Unit;
+use rdm_frame::standard::MOST_SUB_DEVICES;
 use toml::{Table, Value};
+
+/// How many slots DMX512 has.
+const DMX_SLOTS: u32 = 512;
 
 /// These keys, and those that the root and the sub-devices each have.
 macro_rules! and_unit_keys {
@@ -48,7 +52,7 @@ pub(crate) fn unit(table: &Table, slots: u16) -> Result<Unit, Refusal>
         category: number_or(table, "product_category", 0, 0, 0xFFFF)? as u16,
         software: number_or(table, "software_version_id", 0, 0, 0xFFFF_FFFF)?,
         software_text: text_or_none(table, "software_version_label")?,
-        start: number_or(table, "dmx_start_address", 1, 1, 512)? as u16,
+        start: number_or(table, "dmx_start_address", 1, 1, DMX_SLOTS)? as u16,
         personalities: list(table, "personality", 1, slots)?,
     })
 }
@@ -77,6 +81,6 @@ fn counted_unit(table: &Table) -> Result<(u16, Unit), Refusal>
     ensures wrong { IfErr result (λ e. FirstWrong sub_parts (table_view table.now) (told e)) }
 {
     only(table, and_unit_keys!("count"))?;
-    let count = number(table, "count", 0, 512)? as u16;
-    Ok((count, unit(table, 512)?))
+    let count = number(table, "count", 0, MOST_SUB_DEVICES as u32)? as u16;
+    Ok((count, unit(table, DMX_SLOTS as u16)?))
 }

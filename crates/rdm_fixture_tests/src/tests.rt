@@ -1,8 +1,10 @@
 //! What no clause says: that the keys are those of docs/FIXTURE.md, and the words of the refusals.
 
+mod lines;
 mod outcomes;
 mod refusals;
 mod values;
+mod writing;
 
 use rdm_fixture::Fixture;
 use std::alloc::Global;

@@ -8,6 +8,7 @@ use crate::fixture::Fixture;
 use crate::keys::are_printable;
 use rdm_device::{Personality, Profile, SelfTest, SensorDef, Slot, StatusText, Unit, is_good};
 use rdm_frame::Text;
+use rdm_frame::standard::MOST_SUB_DEVICES;
 use rdm_outcomes::Rule;
 use rdm_params::{Outcome, Severity};
 
@@ -16,7 +17,7 @@ pub(super) fn can_be_described(fixture: &Fixture) -> bool
     ensures { IsTrue result ↔ spec.CanBeDescribed fixture.now }
 {
     !fixture.uid.is_broadcast()
-        && fixture.profile.subs <= 512
+        && fixture.profile.subs <= MOST_SUB_DEVICES
         && is_good(&fixture.profile)
         && has_printable_texts(&fixture.profile)
         && are_coded(fixture.profile.languages.as_slice())

@@ -1,5 +1,7 @@
 //! Whole texts: a trace that is cut anywhere, and bytes that are no text.
 
+use super::{bytes_of, says};
+use rdm_frame::decode;
 use rdm_trace::read;
 use rdm_words::{Known, words};
 use std::test::Fail;
@@ -63,5 +65,30 @@ fn bytes_that_are_no_text(rt: HostRuntime) -> Result<(), Fail> {
         said.as_slice(),
         "not read: \\xFF\\x00\\x1B[2J\n\nnot read: \\x0D\n",
     );
+    Ok(())
+}
+
+/// Bytes that fail each of the six tests of a frame, in their order.
+const STRAYS: [&str; 6] = [
+    "CC01187FF0",
+    "0001187FF0000000017FF000000009000100000020006000044E",
+    "CC02187FF0000000017FF000000009000100000020006000044E",
+    "CC01197FF0000000017FF000000009000100000020006000044E",
+    "CC01187FF0000000017FF000000009000100000020006001044E",
+    "CC01187FF0000000017FF000000009000100000020006000044F",
+];
+
+/// Why bytes are no frame is said in the words of rdm_frame's error.
+#[test]
+fn causes_are_those_of_the_error(rt: HostRuntime) -> Result<(), Fail> {
+    for digits in STRAYS {
+        let read = decode(bytes_of(digits).as_slice());
+        assert!(rt; read.is_err(), "{digits} is a frame");
+        if let Err(error) = read {
+            let said = words(rt.alloc(), digits.as_bytes(), &Known::nothing())?;
+            let expected = format!(in rt.alloc(); "no frame ({error}): {digits}\n")?;
+            says(&rt, said.as_slice(), expected.as_str());
+        }
+    }
     Ok(())
 }
