@@ -30,7 +30,7 @@ enum {
     FELOSUMAY_BAD_UID = 4,       /* the UID addresses more than one device */
     FELOSUMAY_ABSENT = 5,        /* the handle holds nothing that the call is for */
     FELOSUMAY_ASTRAY = 6,        /* the report isn't of the oldest job of its worker, or its outcome doesn't fit */
-    FELOSUMAY_UNKNOWN = 7,       /* a number that was passed in stands for nothing */
+    FELOSUMAY_UNKNOWN = 7,       /* a number that was passed in isn't a defined one */
     FELOSUMAY_REFUSED = 8,       /* the command is rejected, and a reason is given */
     FELOSUMAY_NO_VALUE = 9,      /* the command doesn't answer with a value */
     FELOSUMAY_RESERVED = 10,     /* QUEUED_MESSAGE and STATUS_MESSAGES are the collector's own */
@@ -239,8 +239,8 @@ enum { FELOSUMAY_IGNORED = 0, FELOSUMAY_MESSAGE = 1, FELOSUMAY_REPLY = 2 };
 felosumay_result felosumay_collector_new(felosumay_collector *collector, uint16_t maker, uint32_t device,
                                          uint16_t target_maker, uint32_t target_device, uint8_t wants);
 
-/* Sends a command, or a poll for the target's next message: the request stands at the front of `request`, and a transaction
- * is open. Of `ask` UNKNOWN, ABSENT, RESERVED, BUSY, TOO_LONG, and of `poll` ABSENT, BUSY, OUT_OF_MEMORY, in this order;
+/* Makes the request of a command, or of a poll for the target's next message, at the front of `request`, and opens a
+ * transaction. Of `ask` UNKNOWN, ABSENT, RESERVED, BUSY, TOO_LONG, and of `poll` ABSENT, BUSY, OUT_OF_MEMORY, in this order;
  * nothing changes then. */
 felosumay_result felosumay_collector_ask(felosumay_collector *collector, const felosumay_command *command,
                                          const uint8_t *load, size_t length, uint8_t request[FELOSUMAY_FRAME_BYTES],

@@ -1,5 +1,5 @@
 /* The C library's malloc and realloc for c/check: the request whose number REFUSE says is refused, and all others are met.
- * Where there was one of that number, the last line on standard error says so. */
+ * If there was one of that number, the last line on standard error says so. */
 #include <stdio.h>
 #include <stdlib.h>
 

@@ -1,5 +1,5 @@
 /* The ten rules of a profile, as docs/C.md counts them: what each allows at its limit, and what it refuses beyond. It prints
- * what is otherwise, and ends with status 1 then. */
+ * what differs, and then ends with status 1. */
 #include "felosumay.h"
 #include <stdio.h>
 #include <string.h>
