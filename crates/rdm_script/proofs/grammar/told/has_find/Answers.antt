@@ -15,4 +15,4 @@ loop-end-preserved c =
     (sym (find_behind rest c.in-Some.end c.without_return.result.now (sym c.in-Some.ensures.end) c.without_return.ensures.front (sym c.is_find_line.ensures ∙ c.if-is_find_line.false)) ∙ c.loop-end.invariant)
 
 pub returns : goal.returns
-returns c = c.is_find_line-in_default.ensures ∙ sym (find_last c.loop-end.rest.now (sym c.in_default.ensures.end)) ∙ c.loop-end.invariant
+returns c = c.is_find_line-2.ensures ∙ sym (find_last c.loop-end.rest.now (sym c.in_default.ensures.end)) ∙ c.loop-end.invariant
