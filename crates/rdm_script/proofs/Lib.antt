@@ -11,8 +11,10 @@ pub mod PlayedLines
 pub mod QuotedPieces
 pub mod Reading
 pub mod RefusalEquality
+pub mod Rooms
 pub mod ScriptSpellings
 pub mod Stopping
+pub mod Told
 pub mod Widening
 pub mod WordSpellings
 pub mod Words

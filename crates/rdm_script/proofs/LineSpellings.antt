@@ -1,5 +1,5 @@
 -- A line says exactly what its words spell.
-use Rattle.std.proofs.Common.{◌≡◌, ℕ, ◌<◌, ◌≤◌, Bool, true, false, not, cond, eqb, leb, ◌&&◌, List, [], ◌∷◌, length, drop, Option, Some, None, ◌⊎◌, inl, inr, refl, sym, ap, subst, ◌∙◌, arith}
+use Rattle.std.proofs.Common.{◌≡◌, ◌≢◌, ℕ, ◌<◌, ◌≤◌, Bool, true, false, not, cond, eqb, leb, ◌&&◌, List, [], ◌∷◌, length, drop, Option, Some, None, ◌⊎◌, inl, inr, refl, sym, ap, subst, ◌∙◌, arith}
 use Rattle.std.specs.Prelude.{codes}
 use Rattle.std.specs.Option.{option_map, option_map_or}
 use Rattle.std.specs.Str.{bytes_eq}
@@ -7,6 +7,7 @@ use Rattle.std.proofs.lemmas.Bool.{eqb-true, leb-true, le-leb}
 use Rattle.std.proofs.lemmas.Bool.Decides.{nat_tests}
 use Rattle.std.proofs.lemmas.Option.{option_and_then_some, same_Some, cond_some}
 use Rattle.std.proofs.lemmas.Slice.Eq.{bytes_eq-Decides}
+use Rattle.rdm_frame.specs.declared.uid.Uid.{Uid}
 use Rattle.rdm_frame.specs.DigitReading.{◌>>=◌}
 use Rattle.rdm_collector.specs.declared.command.Action.{Action}
 use Rattle.rdm_collector.specs.declared.command.Action.TheVariants.{Disc, Get, Set}
@@ -18,12 +19,15 @@ use Rattle.rdm_collector.specs.declared.want.Want.TheVariants.{Advisory, Warning
 use Rattle.rdm_crew.specs.declared.step.CrewStep.{CrewStep}
 use Rattle.rdm_crew.specs.declared.step.CrewStep.TheVariants.{Ask, Collect, Draw, Settle, Panel}
 use Rattle.rdm_script.specs.declared.dialect.Dialect.{Dialect}
+use Rattle.rdm_script.specs.declared.dialect.Spelling.{Spelling}
+use Rattle.rdm_script.specs.declared.dialect.Spelling.TheVariants.{Strict, Friendly}
 use Rattle.rdm_script.specs.declared.script.ScriptSetup.{ScriptSetup}
 use Rattle.rdm_script.specs.declared.grammar.line.Line.{Line}
-use Rattle.rdm_script.specs.declared.grammar.line.Line.TheVariants.{Skipped, Sets, Says, Faulty}
+use Rattle.rdm_script.specs.declared.grammar.line.Line.TheVariants.{Skipped, Sets, Says, Finds, Faulty}
 use Rattle.rdm_script.specs.Decimals.{SpellsDecimal, number_up_to}
-use Rattle.rdm_script.specs.Grammar.{word, command_in, lost_in, raise_in, altered, altered_in, fault_in, is_skipped, want_in, setup_of, setup_in, asked, command_step_in, step_in, line_in, first_line_in, setup_after, begun_after}
-use Rattle.rdm_script.specs.Spelling.{SpellsAction, SpellsCommand, SpellsRaise, SpellsFault, SpellsEmpties, SpellsStep, SpellsWant, SpellsSetup}
+use Rattle.rdm_script.specs.Search.{search_of}
+use Rattle.rdm_script.specs.Grammar.{word, command_in, lost_in, raise_in, altered, altered_in, fault_in, is_skipped, want_in, setup_of, setup_in, asked, command_step_in, step_in, is_find, line_in, first_line_in, line_at, steps_of_line, setup_after, begun_after}
+use Rattle.rdm_script.specs.Spelling.{SpellsAction, SpellsCommand, SpellsRaise, SpellsFault, SpellsEmpties, SpellsStep, SpellsFind, SpellsLine, SpellsWant, SpellsSetup}
 use Rattle.rdm_script.proofs.CommandSpellings.{command_read, command_again}
 use Rattle.rdm_script.proofs.WordSpellings.{chosen, guarded}
 use Rattle.rdm_script.proofs.Words.{fault_long}
@@ -151,10 +155,10 @@ is_alone [] name one same = absurd (omega (arith, one))
 is_alone (a ∷ []) name one same = ap (λ (w : List ℕ). w ∷ []) same
 is_alone (a ∷ b ∷ more) name one same = absurd (omega (arith, one))
 
-draw_read : (words : List (List ℕ)) → (eqb (length words) 1 && bytes_eq (word words 0) (codes "draw")) ≡ true → words ≡ codes "draw" ∷ []
-draw_read words e =
-    let tests = both (eqb (length words) 1) (bytes_eq (word words 0) (codes "draw")) e in
-    is_alone words (codes "draw") (eqb-true _ _ tests.0) (named (word words 0) (codes "draw") tests.1)
+alone_read : (name : List ℕ) (words : List (List ℕ)) → (eqb (length words) 1 && bytes_eq (word words 0) name) ≡ true → words ≡ name ∷ []
+alone_read name words e =
+    let tests = both (eqb (length words) 1) (bytes_eq (word words 0) name) e in
+    is_alone words name (eqb-true _ _ tests.0) (named (word words 0) name tests.1)
 
 empties_read : (name : List ℕ) (words : List (List ℕ)) (n : ℕ) → (eqb (length words) 2 && bytes_eq (word words 0) name) ≡ true → number_up_to 4294967295 (word words 1) ≡ Some n → SpellsEmpties name words n
 empties_read name words n e is_n =
@@ -171,7 +175,7 @@ step_read dev words step e =
           subst (λ (x : CrewStep). SpellsStep dev words x) p.2 (named (word words 0) (codes "collect") h.0, fault_read (drop 1 words) p.0 p.1)
       | inr h ↦
           elim (chosen (eqb (length words) 1 && bytes_eq (word words 0) (codes "draw")) (Some Draw) _ (Some step) h.1) [
-            | inl k ↦ subst (λ (x : CrewStep). SpellsStep dev words x) (same_Some Draw step k.1) (draw_read words k.0)
+            | inl k ↦ subst (λ (x : CrewStep). SpellsStep dev words x) (same_Some Draw step k.1) (alone_read (codes "draw") words k.0)
             | inr k ↦
                 elim (chosen (eqb (length words) 2 && bytes_eq (word words 0) (codes "settle")) (option_map (λ n. Settle n) (number_up_to 4294967295 (word words 1))) _ (Some step) k.1) [
                   | inl l ↦
@@ -203,6 +207,39 @@ step_again dev words (Collect f) s = rw (s.0, fault_again (drop 1 words) f s.1) 
 step_again dev words Draw s = rw s refl
 step_again dev words (Settle n) s = rw (s.named, s.two, number_again 4294967295 (word words 1) n s.empties s.empties_fit) refl
 step_again dev words (Panel n) s = rw (s.named, s.two, number_again 4294967295 (word words 1) n s.empties s.empties_fit) refl
+
+-- ---- a search
+
+find_in : (dev : Dialect) (words : List (List ℕ)) (k : Spelling) → dev.spelling ≡ k → is_find k words ≡ true → SpellsFind dev words
+find_in dev words Strict same e = absurd cc
+find_in dev words Friendly same e = (same, alone_read (codes "find") words e)
+
+find_read : (dev : Dialect) (words : List (List ℕ)) → is_find dev.spelling words ≡ true → SpellsFind dev words
+find_read dev words e = find_in dev words dev.spelling refl e
+
+find_again : (dev : Dialect) (words : List (List ℕ)) → SpellsFind dev words → is_find dev.spelling words ≡ true
+find_again dev words s = rw (s.0, s.1) refl
+
+find_isnt_skipped : (dev : Dialect) (words : List (List ℕ)) → SpellsFind dev words → is_skipped words ≡ false
+find_isnt_skipped dev words s = rw s.1 refl
+
+-- a step is no search
+no_find : (spelling : Spelling) (words : List (List ℕ)) → is_find Friendly words ≡ false → is_find spelling words ≡ false
+no_find Strict words e = refl
+no_find Friendly words e = e
+
+and_false : (b : Bool) → (b && false) ≡ false
+and_false true = refl
+and_false false = refl
+
+step_is_no_find : (dev : Dialect) (words : List (List ℕ)) (step : CrewStep) → SpellsStep dev words step → is_find Friendly words ≡ false
+step_is_no_find dev words (Ask c f) s =
+    let not_one : eqb (length words) 1 ≡ false = let long = s.0.five in grind (arith, nat_tests) in
+    rw not_one refl
+step_is_no_find dev words (Collect f) s = rw s.0 (and_false (eqb (length words) 1))
+step_is_no_find dev words Draw s = rw s refl
+step_is_no_find dev words (Settle n) s = rw s.two refl
+step_is_no_find dev words (Panel n) s = rw s.two refl
 
 -- ---- a setup
 
@@ -262,6 +299,13 @@ setup_is_no_step dev words s Draw h k = let lens : length words ≡ 1 = ap lengt
 setup_is_no_step dev words s (Settle n) h k = omega (arith, h.four, k.two)
 setup_is_no_step dev words s (Panel n) h k = omega (arith, h.four, k.two)
 
+setup_is_no_find : (dev : Dialect) (words : List (List ℕ)) (s : ScriptSetup) → SpellsSetup words s → SpellsFind dev words → ⊥
+setup_is_no_find dev words s h k = let lens : length words ≡ 1 = ap length k.1 in omega (arith, h.four, lens)
+
+setup_is_no_line : (dev : Dialect) (words : List (List ℕ)) (s : ScriptSetup) (steps : List CrewStep) → SpellsSetup words s → SpellsLine dev words steps → ⊥
+setup_is_no_line dev words s steps h (inl k) = setup_is_no_step dev words s k.0 h k.2
+setup_is_no_line dev words s steps h (inr k) = setup_is_no_find dev words s h k.0
+
 -- ---- a line
 
 said : (o : Option CrewStep) (step : CrewStep) → option_map_or (λ (x : CrewStep). Says x) o Faulty ≡ Says step → o ≡ Some step
@@ -273,25 +317,86 @@ unfolding line_in
 line_read dev words step e =
     elim (chosen (is_skipped words) Skipped _ (Says step) e) [
       | inl h ↦ let never : Skipped ≡ Says step = h.1 in absurd cc
-      | inr h ↦ (h.0, step_read dev words step (said (step_in dev words) step h.1))
+      | inr h ↦
+          elim (chosen (is_find dev.spelling words) (Finds dev.device) _ (Says step) h.1) [
+            | inl k ↦ let never : Finds dev.device ≡ Says step = k.1 in absurd cc
+            | inr k ↦ (h.0, step_read dev words step (said (step_in dev words) step k.1))
+          ]
     ]
 
 pub line_again : (dev : Dialect) (words : List (List ℕ)) (step : CrewStep) → is_skipped words ≡ false → SpellsStep dev words step → line_in dev words ≡ Says step
 unfolding line_in
-line_again dev words step out s = rw (out, step_again dev words step s) refl
+line_again dev words step out s = rw (out, no_find dev.spelling words (step_is_no_find dev words step s), step_again dev words step s) refl
+
+unfound : (o : Option CrewStep) (u : Uid) → option_map_or (λ (x : CrewStep). Says x) o Faulty ≡ Finds u → ⊥
+unfound None u e = cc
+unfound (Some step) u e = cc
+
+pub finds_read : (dev : Dialect) (words : List (List ℕ)) (u : Uid) → line_in dev words ≡ Finds u → SpellsFind dev words × (u ≡ dev.device)
+unfolding line_in
+finds_read dev words u e =
+    elim (chosen (is_skipped words) Skipped _ (Finds u) e) [
+      | inl h ↦ let never : Skipped ≡ Finds u = h.1 in absurd cc
+      | inr h ↦
+          elim (chosen (is_find dev.spelling words) (Finds dev.device) _ (Finds u) h.1) [
+            | inl k ↦ (find_read dev words k.0, let same : dev.device ≡ u = cc in sym same)
+            | inr k ↦ absurd (unfound (step_in dev words) u k.1)
+          ]
+    ]
+
+pub finds_again : (dev : Dialect) (words : List (List ℕ)) → SpellsFind dev words → line_in dev words ≡ Finds dev.device
+unfolding line_in
+finds_again dev words s = rw (find_isnt_skipped dev words s, find_again dev words s) refl
 
 pub said_skipped : (dev : Dialect) (words : List (List ℕ)) → is_skipped words ≡ true → line_in dev words ≡ Skipped
 unfolding line_in
 said_skipped dev words h = rw h refl
 
--- what a line says that isn't skipped
-spoken_at : (dev : Dialect) (words : List (List ℕ)) (o : Option CrewStep) → step_in dev words ≡ o → (option_map_or (λ (x : CrewStep). Says x) o Faulty ≡ Faulty) ⊎ ((step : CrewStep) × (option_map_or (λ (x : CrewStep). Says x) o Faulty ≡ Says step) × SpellsStep dev words step)
-spoken_at dev words None e = inl refl
-spoken_at dev words (Some step) e = inr (step, refl, step_read dev words step e)
+-- ---- what a line says that isn't skipped
 
-pub spoken : (dev : Dialect) (words : List (List ℕ)) → is_skipped words ≡ false → (line_in dev words ≡ Faulty) ⊎ ((step : CrewStep) × (line_in dev words ≡ Says step) × SpellsStep dev words step)
+-- it says these steps, and nothing else
+pub record Speaks (line : Line) (steps : List CrewStep) : Type 0 where
+  pub says : steps_of_line line ≡ steps
+  pub sound : line ≢ Faulty
+  pub keeps : (s : ScriptSetup) → setup_after s line ≡ s
+  pub begins : (b : Bool) → begun_after b line ≡ true
+
+speaks_step : (line : Line) (step : CrewStep) → line ≡ Says step → Speaks line (step ∷ [])
+speaks_step line step e = record {
+  says = ap steps_of_line e;
+  sound = λ f. let never : Says step ≡ Faulty = sym e ∙ f in absurd cc;
+  keeps = λ s. ap (setup_after s) e;
+  begins = λ b. ap (begun_after b) e;
+}
+
+speaks_search : (line : Line) (u : Uid) → line ≡ Finds u → Speaks line (search_of u)
+speaks_search line u e = record {
+  says = ap steps_of_line e;
+  sound = λ f. let never : Finds u ≡ Faulty = sym e ∙ f in absurd cc;
+  keeps = λ s. ap (setup_after s) e;
+  begins = λ b. ap (begun_after b) e;
+}
+
+abbrev IsSpoken : Dialect → List (List ℕ) → Line → Type 0
+IsSpoken dev words line = (line ≡ Faulty) ⊎ ((steps : List CrewStep) × Speaks line steps × SpellsLine dev words steps)
+
+spoken_at : (dev : Dialect) (words : List (List ℕ)) (o : Option CrewStep) → step_in dev words ≡ o → IsSpoken dev words (option_map_or (λ (x : CrewStep). Says x) o Faulty)
+spoken_at dev words None e = inl refl
+spoken_at dev words (Some step) e = inr (step ∷ [], speaks_step (Says step) step refl, inl (step, refl, step_read dev words step e))
+
+spoken_if : (dev : Dialect) (words : List (List ℕ)) (b : Bool) → is_find dev.spelling words ≡ b → IsSpoken dev words (cond b (Finds dev.device) (option_map_or (λ (x : CrewStep). Says x) (step_in dev words) Faulty))
+spoken_if dev words true e = inr (search_of dev.device, speaks_search (Finds dev.device) dev.device refl, inr (find_read dev words e, refl))
+spoken_if dev words false e = spoken_at dev words (step_in dev words) refl
+
+pub spoken : (dev : Dialect) (words : List (List ℕ)) → is_skipped words ≡ false → IsSpoken dev words (line_in dev words)
 unfolding line_in
-spoken dev words out = rw out (spoken_at dev words (step_in dev words) refl)
+spoken dev words out = rw out (spoken_if dev words (is_find dev.spelling words) refl)
+
+pub line_speaks : (dev : Dialect) (words : List (List ℕ)) (steps : List CrewStep) → is_skipped words ≡ false → SpellsLine dev words steps → Speaks (line_in dev words) steps
+line_speaks dev words steps out (inl s) =
+    subst (λ (ss : List CrewStep). Speaks (line_in dev words) ss) (sym s.1) (speaks_step (line_in dev words) s.0 (line_again dev words s.0 out s.2))
+line_speaks dev words steps out (inr s) =
+    subst (λ (ss : List CrewStep). Speaks (line_in dev words) ss) (sym s.1) (speaks_search (line_in dev words) dev.device (finds_again dev words s.0))
 
 -- the first line that isn't skipped
 pub first_is : (dev : Dialect) (words : List (List ℕ)) → setup_in words ≡ None → first_line_in dev words ≡ line_in dev words
@@ -310,6 +415,14 @@ first_skipped dev words h =
 pub first_says : (dev : Dialect) (words : List (List ℕ)) (step : CrewStep) → is_skipped words ≡ false → SpellsStep dev words step → first_line_in dev words ≡ Says step
 first_says dev words step out s = first_is dev words (no_setup words (λ t k. setup_is_no_step dev words t step k s)) ∙ line_again dev words step out s
 
+pub first_finds : (dev : Dialect) (words : List (List ℕ)) → SpellsFind dev words → first_line_in dev words ≡ Finds dev.device
+first_finds dev words s = first_is dev words (no_setup words (λ t k. setup_is_no_find dev words t k s)) ∙ finds_again dev words s
+
+pub first_speaks : (dev : Dialect) (words : List (List ℕ)) (steps : List CrewStep) → is_skipped words ≡ false → SpellsLine dev words steps → Speaks (first_line_in dev words) steps
+first_speaks dev words steps out s =
+    let same = first_is dev words (no_setup words (λ t k. setup_is_no_line dev words t steps k s)) in
+    subst (λ (l : Line). Speaks l steps) (sym same) (line_speaks dev words steps out s)
+
 -- what the first line is read as
 unsaid_at : (o : Option CrewStep) (s : ScriptSetup) → option_map_or (λ (x : CrewStep). Says x) o Faulty ≡ Sets s → ⊥
 unsaid_at None s e = cc
@@ -320,7 +433,11 @@ unfolding line_in
 unsaid dev words s e =
     elim (chosen (is_skipped words) Skipped _ (Sets s) e) [
       | inl h ↦ let never : Skipped ≡ Sets s = h.1 in absurd cc
-      | inr h ↦ unsaid_at (step_in dev words) s h.1
+      | inr h ↦
+          elim (chosen (is_find dev.spelling words) (Finds dev.device) _ (Sets s) h.1) [
+            | inl k ↦ let never : Finds dev.device ≡ Sets s = k.1 in absurd cc
+            | inr k ↦ unsaid_at (step_in dev words) s k.1
+          ]
     ]
 
 read_first : (dev : Dialect) (words : List (List ℕ)) (o : Option ScriptSetup) (step : CrewStep) → setup_in words ≡ o → option_map_or (λ (s : ScriptSetup). Sets s) o (line_in dev words) ≡ Says step → line_in dev words ≡ Says step
@@ -331,6 +448,19 @@ pub first_read : (dev : Dialect) (words : List (List ℕ)) (step : CrewStep) →
 unfolding first_line_in
 first_read dev words step e = line_read dev words step (read_first dev words (setup_in words) step refl e)
 
+found_first : (dev : Dialect) (words : List (List ℕ)) (o : Option ScriptSetup) (u : Uid) → option_map_or (λ (s : ScriptSetup). Sets s) o (line_in dev words) ≡ Finds u → line_in dev words ≡ Finds u
+found_first dev words None u h = h
+found_first dev words (Some s) u h = absurd (let never : Sets s ≡ Finds u = h in cc)
+
+pub first_found : (dev : Dialect) (words : List (List ℕ)) (u : Uid) → first_line_in dev words ≡ Finds u → SpellsFind dev words × (u ≡ dev.device)
+unfolding first_line_in
+first_found dev words u e = finds_read dev words u (found_first dev words (setup_in words) u e)
+
+-- a line that is read as a search is one
+pub search_is_find : (dev : Dialect) (begun : Bool) (words : List (List ℕ)) (u : Uid) → line_at dev begun words ≡ Finds u → is_find dev.spelling words ≡ true
+search_is_find dev true words u e = find_again dev words (finds_read dev words u e).0
+search_is_find dev false words u e = find_again dev words (first_found dev words u e).0
+
 read_set : (dev : Dialect) (words : List (List ℕ)) (o : Option ScriptSetup) (s : ScriptSetup) → option_map_or (λ (t : ScriptSetup). Sets t) o (line_in dev words) ≡ Sets s → o ≡ Some s
 read_set dev words None s h = absurd (unsaid dev words s h)
 read_set dev words (Some t) s h = let same : t ≡ s = cc in ap (λ (x : ScriptSetup). Some x) same
@@ -340,9 +470,9 @@ unfolding first_line_in
 sets_read dev words s e = setup_read words s (read_set dev words (setup_in words) s e)
 
 -- whether a line says anything tells whether it is skipped
-begun_spoken : (dev : Dialect) (words : List (List ℕ)) (line : Line) → (line ≡ Faulty) ⊎ ((step : CrewStep) × (line ≡ Says step) × SpellsStep dev words step) → begun_after false line ≡ true
+begun_spoken : (dev : Dialect) (words : List (List ℕ)) (line : Line) → IsSpoken dev words line → begun_after false line ≡ true
 begun_spoken dev words line (inl h) = rw h refl
-begun_spoken dev words line (inr h) = rw h.1 refl
+begun_spoken dev words line (inr h) = h.1.begins false
 
 first_begins_at : (dev : Dialect) (words : List (List ℕ)) (b : Bool) → is_skipped words ≡ b → begun_after false (line_in dev words) ≡ not b
 first_begins_at dev words true e = ap (begun_after false) (said_skipped dev words e)
@@ -361,10 +491,11 @@ keeps_at : (o : Option CrewStep) (s : ScriptSetup) → setup_after s (option_map
 keeps_at None s = refl
 keeps_at (Some step) s = refl
 
-keeps_either : (b : Bool) (o : Option CrewStep) (s : ScriptSetup) → setup_after s (cond b Skipped (option_map_or (λ (x : CrewStep). Says x) o Faulty)) ≡ s
-keeps_either true o s = refl
-keeps_either false o s = keeps_at o s
+keeps_either : (b c : Bool) (u : Uid) (o : Option CrewStep) (s : ScriptSetup) → setup_after s (cond b Skipped (cond c (Finds u) (option_map_or (λ (x : CrewStep). Says x) o Faulty))) ≡ s
+keeps_either true c u o s = refl
+keeps_either false true u o s = refl
+keeps_either false false u o s = keeps_at o s
 
 pub keeps_setup : (dev : Dialect) (words : List (List ℕ)) (s : ScriptSetup) → setup_after s (line_in dev words) ≡ s
 unfolding line_in
-keeps_setup dev words s = keeps_either (is_skipped words) (step_in dev words) s
+keeps_setup dev words s = keeps_either (is_skipped words) (is_find dev.spelling words) dev.device (step_in dev words) s

@@ -12,7 +12,7 @@ use Rattle.rdm_crew.specs.declared.step.CrewStep.{CrewStep}
 use Rattle.rdm_script.specs.declared.dialect.Dialect.{Dialect}
 use Rattle.rdm_script.specs.declared.script.ScriptSetup.{ScriptSetup}
 use Rattle.rdm_script.specs.declared.grammar.line.Line.{Line}
-use Rattle.rdm_script.specs.declared.grammar.line.Line.TheVariants.{Skipped, Sets, Says, Faulty}
+use Rattle.rdm_script.specs.declared.grammar.line.Line.TheVariants.{Skipped, Sets, Says, Finds, Faulty}
 use Rattle.rdm_script.proofs.Pieces.{pieces_more, pieces_last}
 use Rattle.rdm_script.specs.Parties.{plain_setup}
 use Rattle.rdm_script.specs.Grammar.{line_in, first_line_in, line_at, is_skipped, words_of, said_later, said_by, lines_of, without_returns, begun_after, setup_after, steps_of_line, AreSaid, IsFirstFaulty}
@@ -31,13 +31,13 @@ length-without_returns (last ∷ []) = refl
 length-without_returns (line ∷ next ∷ more) = ap suc (length-without_returns (next ∷ more))
 
 -- the first line of a text with an LF, and the lines behind it
-lines_of_more : (text : List ℕ) (end : ℕ) → position (λ b. b == 10) text ≡ Some end → lines_of text ≡ without_return (take end text) ∷ lines_of (drop (end + 1) text)
+pub lines_of_more : (text : List ℕ) (end : ℕ) → position (λ b. b == 10) text ≡ Some end → lines_of text ≡ without_return (take end text) ∷ lines_of (drop (end + 1) text)
 unfolding lines_of
 lines_of_more text end h =
     ap without_returns (pieces_more is_lf text end h) ∙ returns_first (take end text) (slice_split is_lf (drop (end + 1) text)) (omega (arith, length-slice_split is_lf (drop (end + 1) text)))
 
 -- a text without an LF is one line
-lines_of_last : (text : List ℕ) → position (λ b. b == 10) text ≡ None → lines_of text ≡ text ∷ []
+pub lines_of_last : (text : List ℕ) → position (λ b. b == 10) text ≡ None → lines_of text ≡ text ∷ []
 unfolding lines_of
 lines_of_last text h = ap without_returns (pieces_last is_lf text h)
 
@@ -60,6 +60,7 @@ begun_stays : (line : Line) → begun_after true line ≡ true
 begun_stays Skipped = refl
 begun_stays (Sets s) = refl
 begun_stays (Says step) = refl
+begun_stays (Finds device) = refl
 begun_stays Faulty = refl
 
 goes_on : (dev : Dialect) (b : Bool) (more : List (List ℕ)) → cond b (said_by dev more) (said_later dev more) ≡ said_from dev (not b) more

@@ -13,7 +13,7 @@ use Rattle.rdm_trace.specs.declared.line.Line.{Line as TraceLine}
 use Rattle.rdm_trace.specs.LineText.{lines_text}
 use Rattle.rdm_script.specs.declared.dialect.Dialect.{Dialect}
 use Rattle.rdm_script.specs.declared.grammar.line.Line.{Line}
-use Rattle.rdm_script.specs.declared.grammar.line.Line.TheVariants.{Skipped, Sets, Says, Faulty as FaultyLine}
+use Rattle.rdm_script.specs.declared.grammar.line.Line.TheVariants.{Skipped, Sets, Says, Finds, Faulty as FaultyLine}
 use Rattle.rdm_script.specs.declared.grammar.parsing.ScriptError.{ScriptError}
 use Rattle.rdm_script.specs.declared.grammar.parsing.ScriptError.TheVariants as script
 use Rattle.rdm_script.specs.declared.playing.Unplayed.{Unplayed}
@@ -48,6 +48,7 @@ one_line : (number : ℕ) (line : Line) → length (step_line number line) ≡ l
 one_line number Skipped = refl
 one_line number (Sets setup) = refl
 one_line number (Says step) = refl
+one_line number (Finds device) = refl
 one_line number FaultyLine = refl
 
 as_many : (number : ℕ) (said : List Line) → length (step_lines_from number said) ≡ length (flat_map steps_of_line said)

@@ -3,6 +3,8 @@ use Rattle.std.proofs.Common.{◌≡◌, ◌≢◌, All, ℕ, Bool, true, false,
 use Rattle.std.specs.List.{fold, flat_map}
 use Rattle.std.proofs.lemmas.List.Elements.{All-nil, All-cons, All-head, All-tail}
 use Rattle.std.proofs.lemmas.List.Concat.{flat_map-cons}
+use Rattle.rdm_frame.specs.declared.uid.Uid.{Uid}
+use Rattle.rdm_frame.specs.Addressing.{all_devices}
 use Rattle.rdm_bus.specs.declared.fault.Fault.{Fault}
 use Rattle.rdm_bus.specs.declared.fault.Fault.TheVariants as fault
 use Rattle.rdm_bus.specs.BusRun.{raise_of}
@@ -14,9 +16,10 @@ use Rattle.rdm_script.specs.declared.script.ScriptSetup.{ScriptSetup}
 use Rattle.rdm_script.specs.declared.grammar.line.Line.{Line}
 use Rattle.rdm_script.specs.declared.grammar.line.Line.TheVariants.{Skipped, Sets, Says, Faulty}
 use Rattle.rdm_script.specs.Parties.{plain_setup}
+use Rattle.rdm_script.specs.Search.{discovery, whole_branch, search_of}
 use Rattle.rdm_script.specs.Grammar.{setup_in, is_skipped, words_of, lines_of, line_in, first_line_in, said_later, said_by, setup_after, steps_of_line, IsRead}
-use Rattle.rdm_script.specs.Spelling.{SpellsFault, SpellsStep, SpellsSetup, SpellSteps, SpellSetupAndSteps, IsScript}
-use Rattle.rdm_script.proofs.LineSpellings.{setup_read, setup_isnt_skipped, said_skipped, line_again, spoken, first_is, first_sets, first_skipped, first_says, keeps_setup}
+use Rattle.rdm_script.specs.Spelling.{SpellsFault, SpellsStep, SpellsLine, SpellsSetup, SpellSteps, SpellSetupAndSteps, IsScript}
+use Rattle.rdm_script.proofs.LineSpellings.{Speaks, setup_read, setup_isnt_skipped, said_skipped, line_speaks, spoken, first_is, first_sets, first_skipped, first_speaks, keeps_setup}
 
 abbrev Sound : List Line → Type 0
 Sound said = All (λ line. line ≢ Faulty) said
@@ -31,8 +34,8 @@ steps_skipped line more e = steps_first line more ∙ ap (λ (l : Line). steps_o
 steps_set : (line : Line) (s : ScriptSetup) (more : List Line) → line ≡ Sets s → flat_map steps_of_line (line ∷ more) ≡ flat_map steps_of_line more
 steps_set line s more e = steps_first line more ∙ ap (λ (l : Line). steps_of_line l ++ flat_map steps_of_line more) e
 
-steps_said : (line : Line) (step : CrewStep) (more : List Line) → line ≡ Says step → flat_map steps_of_line (line ∷ more) ≡ step ∷ flat_map steps_of_line more
-steps_said line step more e = steps_first line more ∙ ap (λ (l : Line). steps_of_line l ++ flat_map steps_of_line more) e
+steps_said : (line : Line) (steps : List CrewStep) (more : List Line) → Speaks line steps → flat_map steps_of_line (line ∷ more) ≡ steps ++ flat_map steps_of_line more
+steps_said line steps more s = steps_first line more ∙ ap (λ (ss : List CrewStep). ss ++ flat_map steps_of_line more) s.says
 
 head_sound : (line : Line) (more : List Line) → Sound (line ∷ more) → line ≢ Faulty
 head_sound line more sound = All-head (λ (l : Line). l ≢ Faulty) line more sound
@@ -46,8 +49,8 @@ sound_skipped line more e behind = All-cons (λ (l : Line). l ≢ Faulty) line m
 sound_set : (line : Line) (s : ScriptSetup) (more : List Line) → line ≡ Sets s → Sound more → Sound (line ∷ more)
 sound_set line s more e behind = All-cons (λ (l : Line). l ≢ Faulty) line more (λ f. let never : Sets s ≡ Faulty = sym e ∙ f in absurd cc) behind
 
-sound_said : (line : Line) (step : CrewStep) (more : List Line) → line ≡ Says step → Sound more → Sound (line ∷ more)
-sound_said line step more e behind = All-cons (λ (l : Line). l ≢ Faulty) line more (λ f. let never : Says step ≡ Faulty = sym e ∙ f in absurd cc) behind
+sound_said : (line : Line) (steps : List CrewStep) (more : List Line) → Speaks line steps → Sound more → Sound (line ∷ more)
+sound_said line steps more s behind = All-cons (λ (l : Line). l ≢ Faulty) line more s.sound behind
 
 -- ---- lines of steps
 
@@ -59,9 +62,9 @@ either false = inr refl
 skips : (words : List (List ℕ)) → (is_skipped words ≡ true) ⊎ (is_skipped words ≡ false)
 skips words = either (is_skipped words)
 
--- a line that isn't skipped says a step, unless it is faulty
-says_step : (dev : Dialect) (words : List (List ℕ)) → is_skipped words ≡ false → line_in dev words ≢ Faulty → (step : CrewStep) × (line_in dev words ≡ Says step) × SpellsStep dev words step
-says_step dev words out sound =
+-- a line that isn't skipped says steps, unless it is faulty
+says_steps : (dev : Dialect) (words : List (List ℕ)) → is_skipped words ≡ false → line_in dev words ≢ Faulty → (steps : List CrewStep) × Speaks (line_in dev words) steps × SpellsLine dev words steps
+says_steps dev words out sound =
     elim (spoken dev words out) [
       | inl h ↦ absurd (sound h)
       | inr h ↦ h
@@ -76,7 +79,7 @@ later_spelled dev (line ∷ more) sound =
     elim (skips words) [
       | inl h ↦ inl (h, subst (λ (ss : List CrewStep). SpellSteps dev (map (words_of dev.spelling) more) ss) (sym (steps_skipped (line_in dev words) (said_later dev more) (said_skipped dev words h))) behind)
       | inr h ↦
-          let s = says_step dev words h (head_sound (line_in dev words) (said_later dev more) sound) in
+          let s = says_steps dev words h (head_sound (line_in dev words) (said_later dev more) sound) in
           inr (h, s.0, flat_map steps_of_line (said_later dev more), steps_said (line_in dev words) s.0 (said_later dev more) s.1, s.2, behind)
     ]
 
@@ -87,10 +90,10 @@ later_read dev (line ∷ more) steps (inl h) =
     let said = said_skipped dev (words_of dev.spelling line) h.0 in
     let behind = later_read dev more steps h.1 in
     (sound_skipped (line_in dev (words_of dev.spelling line)) (said_later dev more) said behind.0, behind.1 ∙ sym (steps_skipped (line_in dev (words_of dev.spelling line)) (said_later dev more) said))
-later_read dev (line ∷ more) steps (inr (out, step, rest, is, spelled, others)) =
-    let said = line_again dev (words_of dev.spelling line) step out spelled in
+later_read dev (line ∷ more) steps (inr (out, here, rest, is, spelled, others)) =
+    let said = line_speaks dev (words_of dev.spelling line) here out spelled in
     let behind = later_read dev more rest others in
-    (sound_said (line_in dev (words_of dev.spelling line)) step (said_later dev more) said behind.0, is ∙ ap (λ (ss : List CrewStep). step ∷ ss) behind.1 ∙ sym (steps_said (line_in dev (words_of dev.spelling line)) step (said_later dev more) said))
+    (sound_said (line_in dev (words_of dev.spelling line)) here (said_later dev more) said behind.0, is ∙ ap (λ (ss : List CrewStep). here ++ ss) behind.1 ∙ sym (steps_said (line_in dev (words_of dev.spelling line)) here (said_later dev more) said))
 
 -- they leave the setup as it is
 later_keeps : (dev : Dialect) (lines : List (List ℕ)) (s : ScriptSetup) → fold setup_after s (said_later dev lines) ≡ s
@@ -159,14 +162,14 @@ opened_lines dev line more setup steps opening others =
     subst (λ (ls : List Line). Reads ls setup steps) (sym (said_behind dev line more false (setup_isnt_skipped words setup opening)))
     (sound_set (first_line_in dev words) setup (said_later dev more) said behind.0, is_setup, behind.1 ∙ sym (steps_set (first_line_in dev words) setup (said_later dev more) said))
 
-step_lines : (dev : Dialect) (line : List ℕ) (more : List (List ℕ)) (setup : ScriptSetup) (steps : List CrewStep) (step : CrewStep) (rest : List CrewStep) → setup ≡ plain_setup → is_skipped (words_of dev.spelling line) ≡ false → steps ≡ step ∷ rest → SpellsStep dev (words_of dev.spelling line) step → SpellSteps dev (map (words_of dev.spelling) more) rest → Reads (said_by dev (line ∷ more)) setup steps
-step_lines dev line more setup steps step rest plain out is spelled others =
+step_lines : (dev : Dialect) (line : List ℕ) (more : List (List ℕ)) (setup : ScriptSetup) (steps here rest : List CrewStep) → setup ≡ plain_setup → is_skipped (words_of dev.spelling line) ≡ false → steps ≡ here ++ rest → SpellsLine dev (words_of dev.spelling line) here → SpellSteps dev (map (words_of dev.spelling) more) rest → Reads (said_by dev (line ∷ more)) setup steps
+step_lines dev line more setup steps here rest plain out is spelled others =
     let words = words_of dev.spelling line in
-    let said : first_line_in dev words ≡ Says step = first_says dev words step out spelled in
+    let said = first_speaks dev words here out spelled in
     let behind = later_read dev more rest others in
-    let is_setup : setup ≡ fold setup_after plain_setup (first_line_in dev words ∷ said_later dev more) = plain ∙ sym (ap (λ (l : Line). fold setup_after (setup_after plain_setup l) (said_later dev more)) said ∙ later_keeps dev more plain_setup) in
+    let is_setup : setup ≡ fold setup_after plain_setup (first_line_in dev words ∷ said_later dev more) = plain ∙ sym (ap (λ (s : ScriptSetup). fold setup_after s (said_later dev more)) (said.keeps plain_setup) ∙ later_keeps dev more plain_setup) in
     subst (λ (ls : List Line). Reads ls setup steps) (sym (said_behind dev line more false out))
-    (sound_said (first_line_in dev words) step (said_later dev more) said behind.0, is_setup, is ∙ ap (λ (ss : List CrewStep). step ∷ ss) behind.1 ∙ sym (steps_said (first_line_in dev words) step (said_later dev more) said))
+    (sound_said (first_line_in dev words) here (said_later dev more) said behind.0, is_setup, is ∙ ap (λ (ss : List CrewStep). here ++ ss) behind.1 ∙ sym (steps_said (first_line_in dev words) here (said_later dev more) said))
 
 lines_read : (dev : Dialect) (lines : List (List ℕ)) (setup : ScriptSetup) (steps : List CrewStep) → SpellScript dev (map (words_of dev.spelling) lines) setup steps → Reads (said_by dev lines) setup steps
 lines_read dev [] setup steps (inl s) = absurd s
@@ -174,7 +177,7 @@ lines_read dev [] setup steps (inr s) = (All-nil (λ (l : Line). l ≢ Faulty), 
 lines_read dev (line ∷ more) setup steps (inl (inl h)) = skipped_lines dev line more setup steps h.0 (lines_read dev more setup steps (inl h.1))
 lines_read dev (line ∷ more) setup steps (inl (inr h)) = opened_lines dev line more setup steps h.0 h.1
 lines_read dev (line ∷ more) setup steps (inr (plain, inl h)) = skipped_lines dev line more setup steps h.0 (lines_read dev more setup steps (inr (plain, h.1)))
-lines_read dev (line ∷ more) setup steps (inr (plain, inr (out, step, rest, is, spelled, others))) = step_lines dev line more setup steps step rest plain out is spelled others
+lines_read dev (line ∷ more) setup steps (inr (plain, inr (out, here, rest, is, spelled, others))) = step_lines dev line more setup steps here rest plain out is spelled others
 
 -- ---- a script
 
@@ -207,11 +210,24 @@ step_alters dev words Draw s = λ e. cc
 step_alters dev words (Settle empties) s = λ e. cc
 step_alters dev words (Panel empties) s = λ e. cc
 
+-- nothing goes wrong in a search
+search_alters : (u : Uid) (rest : List CrewStep) → All Alters rest → All Alters (search_of u ++ rest)
+search_alters u rest behind =
+    let mute : CrewStep = discovery u 0x0002 [] in
+    All-cons Alters (discovery all_devices 0x0003 []) (whole_branch ∷ mute ∷ whole_branch ∷ rest) (λ e. cc)
+    (All-cons Alters whole_branch (mute ∷ whole_branch ∷ rest) (λ e. cc)
+    (All-cons Alters mute (whole_branch ∷ rest) (λ e. cc) (All-cons Alters whole_branch rest (λ e. cc) behind)))
+
+line_alters : (dev : Dialect) (words : List (List ℕ)) (steps rest : List CrewStep) → SpellsLine dev words steps → All Alters rest → All Alters (steps ++ rest)
+line_alters dev words steps rest (inl s) behind =
+    subst (λ (ss : List CrewStep). All Alters (ss ++ rest)) (sym s.1) (All-cons Alters s.0 rest (step_alters dev words s.0 s.2) behind)
+line_alters dev words steps rest (inr s) behind = subst (λ (ss : List CrewStep). All Alters (ss ++ rest)) (sym s.1) (search_alters dev.device rest behind)
+
 steps_alter : (dev : Dialect) (lines : List (List (List ℕ))) (steps : List CrewStep) → SpellSteps dev lines steps → All Alters steps
 steps_alter dev [] steps e = subst (λ (ss : List CrewStep). All Alters ss) (sym e) (All-nil Alters)
 steps_alter dev (words ∷ more) steps (inl h) = steps_alter dev more steps h.1
-steps_alter dev (words ∷ more) steps (inr (out, step, rest, is, spelled, others)) =
-    subst (λ (ss : List CrewStep). All Alters ss) (sym is) (All-cons Alters step rest (step_alters dev words step spelled) (steps_alter dev more rest others))
+steps_alter dev (words ∷ more) steps (inr (out, here, rest, is, spelled, others)) =
+    subst (λ (ss : List CrewStep). All Alters ss) (sym is) (line_alters dev words here rest spelled (steps_alter dev more rest others))
 
 opened_alter : (dev : Dialect) (lines : List (List (List ℕ))) (setup : ScriptSetup) (steps : List CrewStep) → SpellSetupAndSteps dev lines setup steps → All Alters steps
 opened_alter dev [] setup steps s = absurd s

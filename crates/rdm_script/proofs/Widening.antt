@@ -9,6 +9,7 @@ use Rattle.rdm_params.specs.declared.jobs.outcome.Outcome.{Outcome}
 use Rattle.rdm_outbox.specs.declared.job.Job.{Job}
 use Rattle.rdm_responder.specs.declared.report.Report.{Report}
 use Rattle.rdm_bus.specs.declared.event.Event.{Event}
+use Rattle.rdm_bus.specs.BusLaws.{recorded}
 use Rattle.rdm_crew.specs.declared.error.RunError.{RunError}
 use Rattle.rdm_crew.specs.declared.error.RunError.TheVariants as run
 use Rattle.rdm_crew.specs.declared.step.CrewStep.{CrewStep}
@@ -18,6 +19,7 @@ use Rattle.rdm_crew.specs.Watchers.{AreOffered}
 use Rattle.rdm_crew.specs.Workers.{Answers}
 use Rattle.rdm_trace.specs.declared.line.Line.{Line}
 use Rattle.rdm_trace.specs.LineText.{lines_text}
+use Rattle.rdm_trace.specs.RunLines.{trace_lines}
 use Rattle.rdm_script.specs.declared.dialect.Dialect.{Dialect}
 use Rattle.rdm_script.specs.declared.dialect.Spelling.{Spelling}
 use Rattle.rdm_script.specs.Dialects.{dialect_of}
@@ -32,6 +34,7 @@ use Rattle.rdm_script.specs.Playing.{IsPlayOf, IsUnplayed}
 use Rattle.rdm_script.specs.Running.{crew_setup, IsBad, IsGood, IsScriptRun, Stops}
 use Rattle.rdm_script.specs.Scene.{Scene, spoken_at}
 use Rattle.rdm_script.specs.Spelling.{IsScript}
+use Rattle.rdm_script.specs.Told.{finds_of}
 
 pub record IsWider (s t : Scene) : Type 0 where
   pub device : s.device ≡ t.device
@@ -83,7 +86,7 @@ trace_wider s t w input text h = record {
   spelled = retold (λ (d : Dialect). IsScript d input h.setup h.steps) s t w h.spelled;
   good = good_wider s t h.setup w h.good;
   run = run_wider s t h.setup h.steps h.events w h.run;
-  written = h.written;
+  written = subst (λ (k : Spelling). text ≡ lines_text (trace_lines (finds_of k input) h.events (recorded h.events))) w.spelling h.written;
 }
 
 play_wider : (s t : Scene) → IsWider s t → (text : List ℕ) (lines : List Line) → IsPlayOf s text lines → IsPlayOf t text lines
@@ -94,7 +97,7 @@ play_wider s t w text lines h = record {
   spelled = retold (λ (d : Dialect). IsScript d text h.setup h.steps) s t w h.spelled;
   good = good_wider s t h.setup w h.good;
   run = run_wider s t h.setup h.steps h.events w h.run;
-  told = h.told;
+  told = subst (λ (k : Spelling). lines ≡ trace_lines (finds_of k text) h.events (recorded h.events)) w.spelling h.told;
 }
 
 stops_wider : (s t : Scene) (e : RunError) (setup : ScriptSetup) (steps : List CrewStep) → IsWider s t → Stops s e setup steps → Stops t e setup steps

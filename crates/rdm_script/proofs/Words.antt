@@ -9,7 +9,7 @@ use Rattle.rdm_script.specs.declared.dialect.Dialect.{Dialect}
 use Rattle.rdm_script.specs.declared.dialect.Spelling.{Spelling}
 use Rattle.rdm_script.specs.declared.dialect.Spelling.TheVariants.{Strict, Friendly}
 use Rattle.rdm_script.proofs.QuotedPieces.{piece_first, piece_last}
-use Rattle.rdm_script.specs.Grammar.{is_blank, is_word, piece_end, pieces_of, words_of, fault_in, setup_in, command_step_in, step_in, line_in, first_line_in, line_at}
+use Rattle.rdm_script.specs.Grammar.{is_blank, is_word, piece_end, pieces_of, words_of, fault_in, setup_in, command_step_in, step_in, is_find, line_in, first_line_in, line_at}
 
 -- the bytes of borrowed words
 abbrev pub bytes_of : List (Bor (List ℕ)) → List (List ℕ)
@@ -91,12 +91,18 @@ setup_long : (words : List (List ℕ)) → 5 ≤ length words → setup_in words
 unfolding setup_in
 setup_long words long = let many : eqb (length words) 4 ≡ false = grind (arith, nat_tests) in rw many refl
 
+find_long : (spelling : Spelling) (words : List (List ℕ)) → 5 ≤ length words → is_find spelling words ≡ false
+find_long Strict words long = refl
+find_long Friendly words long = let many : eqb (length words) 1 ≡ false = grind (arith, nat_tests) in rw many refl
+
 line_long : (dev : Dialect) (a b c d e : List ℕ) (xs ys : List (List ℕ)) → 4 ≤ length xs → 4 ≤ length ys → line_in dev (a ∷ b ∷ c ∷ d ∷ e ∷ xs) ≡ line_in dev (a ∷ b ∷ c ∷ d ∷ e ∷ ys)
 unfolding line_in
 line_long dev a b c d e xs ys long long' =
     let some : eqb (length (a ∷ b ∷ c ∷ d ∷ e ∷ xs)) 0 ≡ false = grind (arith, nat_tests) in
     let some' : eqb (length (a ∷ b ∷ c ∷ d ∷ e ∷ ys)) 0 ≡ false = grind (arith, nat_tests) in
-    rw (some, some', step_front dev a b c d e xs ys long long') refl
+    let step = find_long dev.spelling (a ∷ b ∷ c ∷ d ∷ e ∷ xs) (omega arith) in
+    let step' = find_long dev.spelling (a ∷ b ∷ c ∷ d ∷ e ∷ ys) (omega arith) in
+    rw (some, some', step, step', step_front dev a b c d e xs ys long long') refl
 
 first_long : (dev : Dialect) (a b c d e : List ℕ) (xs ys : List (List ℕ)) → 4 ≤ length xs → 4 ≤ length ys → first_line_in dev (a ∷ b ∷ c ∷ d ∷ e ∷ xs) ≡ first_line_in dev (a ∷ b ∷ c ∷ d ∷ e ∷ ys)
 unfolding first_line_in
@@ -118,3 +124,12 @@ line_in_front dev begun (a ∷ b ∷ c ∷ d ∷ e ∷ f ∷ []) = refl
 line_in_front dev begun (a ∷ b ∷ c ∷ d ∷ e ∷ f ∷ g ∷ []) = refl
 line_in_front dev begun (a ∷ b ∷ c ∷ d ∷ e ∷ f ∷ g ∷ h ∷ []) = refl
 line_in_front dev begun (a ∷ b ∷ c ∷ d ∷ e ∷ f ∷ g ∷ h ∷ i ∷ more) = at_long dev begun a b c d e (f ∷ g ∷ h ∷ i ∷ []) (f ∷ g ∷ h ∷ i ∷ more) (omega arith) (omega arith)
+
+find_two : (spelling : Spelling) (a b : List ℕ) (more : List (List ℕ)) → is_find spelling (a ∷ b ∷ more) ≡ false
+find_two Strict a b more = refl
+find_two Friendly a b more = let many : eqb (length (a ∷ b ∷ more)) 1 ≡ false = grind (arith, nat_tests) in rw many refl
+
+pub find_front : (spelling : Spelling) (words : List (List ℕ)) → is_find spelling (take 9 words) ≡ is_find spelling words
+find_front spelling [] = refl
+find_front spelling (a ∷ []) = refl
+find_front spelling (a ∷ b ∷ more) = find_two spelling a b (take 7 more) ∙ sym (find_two spelling a b more)

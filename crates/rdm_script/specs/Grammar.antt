@@ -1,6 +1,6 @@
 -- How a script is read, by lines and words: the reader's view of what Spelling.antt defines. `d` is the dialect of the
 -- script, and `dev` the UID of the device that it is played on.
-use Rattle.std.specs.Prelude.{◌≡◌, ◌≢◌, ℕ, zero, suc, ◌+◌, ◌-◌, ◌<◌, ◌≤◌, Bool, true, not, ◌||◌, ◌==◌, ◌&&◌, if◌then◌else◌, List, [], ◌∷◌, length, position, fold, drop, take, filter, map, slice_index, slice_index_or, slice_get, Option, Some, None, nat_le, nat_lt, All, codes}
+use Rattle.std.specs.Prelude.{◌≡◌, ◌≢◌, ℕ, zero, suc, ◌+◌, ◌-◌, ◌<◌, ◌≤◌, Bool, true, false, not, ◌||◌, ◌==◌, ◌&&◌, if◌then◌else◌, List, [], ◌∷◌, length, position, fold, drop, take, filter, map, slice_index, slice_index_or, slice_get, Option, Some, None, nat_le, nat_lt, All, codes}
 use Rattle.std.specs.Option.{option_map, option_map_or, option_or}
 use Rattle.std.specs.Int.{w16}
 use Rattle.std.specs.Str.{bytes_eq}
@@ -24,12 +24,13 @@ use Rattle.rdm_script.specs.declared.dialect.Spelling.{Spelling}
 use Rattle.rdm_script.specs.declared.dialect.Spelling.TheVariants.{Strict, Friendly}
 use Rattle.rdm_script.specs.declared.script.ScriptSetup.{ScriptSetup}
 use Rattle.rdm_script.specs.declared.grammar.line.Line.{Line}
-use Rattle.rdm_script.specs.declared.grammar.line.Line.TheVariants.{Skipped, Sets, Says, Faulty}
+use Rattle.rdm_script.specs.declared.grammar.line.Line.TheVariants.{Skipped, Sets, Says, Finds, Faulty}
 use Rattle.rdm_script.specs.declared.grammar.parsing.ScriptError.{ScriptError}
 use Rattle.rdm_script.specs.declared.grammar.parsing.ScriptError.TheVariants as errors
 use Rattle.rdm_script.specs.Parties.{plain_setup}
 use Rattle.rdm_script.specs.Decimals.{number_up_to}
 use Rattle.rdm_script.specs.Names.{pid_named}
+use Rattle.rdm_script.specs.Search.{search_of}
 
 abbrev pub word : List (List ℕ) → ℕ → List ℕ
 word words i = slice_index_or words i []
@@ -224,11 +225,17 @@ step_in d words =
     else (if (length words == 2) && bytes_eq (word words 0) (codes "panel") then option_map (λ n. Panel n) (number_up_to 4294967295 (word words 1))
     else command_step_in d words)))
 
+-- a search: the one word of a line of a friendly script
+abbrev pub is_find : Spelling → List (List ℕ) → Bool
+is_find Strict words = false
+is_find Friendly words = (length words == 1) && bytes_eq (word words 0) (codes "find")
+
 -- What the words of a line say.
 unfoldable pub line_in : Dialect → List (List ℕ) → Line
 line_in d words =
     if is_skipped words then Skipped
-    else option_map_or (λ step. Says step) (step_in d words) Faulty
+    else (if is_find d.spelling words then Finds d.device
+    else option_map_or (λ step. Says step) (step_in d words) Faulty)
 
 -- What they say where no line before says anything: a setup may stand there.
 unfoldable pub first_line_in : Dialect → List (List ℕ) → Line
@@ -263,6 +270,7 @@ abbrev pub steps_of_line : Line → List CrewStep
 steps_of_line Skipped = []
 steps_of_line (Sets setup) = []
 steps_of_line (Says step) = step ∷ []
+steps_of_line (Finds device) = search_of device
 steps_of_line Faulty = []
 
 -- the setup once a line is read
@@ -270,6 +278,7 @@ abbrev pub setup_after : ScriptSetup → Line → ScriptSetup
 setup_after setup Skipped = setup
 setup_after setup (Sets other) = other
 setup_after setup (Says step) = setup
+setup_after setup (Finds device) = setup
 setup_after setup Faulty = setup
 
 -- whether a line says anything by now
@@ -277,6 +286,7 @@ abbrev pub begun_after : Bool → Line → Bool
 begun_after begun Skipped = begun
 begun_after begun (Sets setup) = true
 begun_after begun (Says step) = true
+begun_after begun (Finds device) = true
 begun_after begun Faulty = true
 
 -- No line is faulty, and the lines say this setup and these steps in order.

@@ -10,6 +10,8 @@ pub mod Program
 pub mod Rules
 pub mod Running
 pub mod Scene
+pub mod Search
 pub mod Spelling
 pub mod StepLines
+pub mod Told
 pub mod TraceText

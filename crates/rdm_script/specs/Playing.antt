@@ -23,10 +23,12 @@ use Rattle.rdm_script.specs.Program.{IsStopped, fault_of_script, fault_of_run}
 use Rattle.rdm_script.specs.Running.{IsGood, IsScriptRun}
 use Rattle.rdm_script.specs.Scene.{Scene, spoken_at}
 use Rattle.rdm_script.specs.Spelling.{IsScript}
+use Rattle.rdm_script.specs.Told.{finds_of}
 use Rattle.rdm_script.specs.StepLines.{step_lines, setup_line}
 
 -- The lines tell of what happens when the script that the text is gets played on the device of the scene, which has just been
--- switched on, with its parts and its panel, and of what the controller recorded then.
+-- switched on, with its parts and its panel, and of what the controller recorded then; and if the script says a search, of the fixtures
+-- that are found.
 pub record IsPlayOf (scene : Scene) (text : List ℕ) (lines : List Line) : Type 0 where
   pub setup : ScriptSetup
   pub steps : List CrewStep
@@ -34,7 +36,7 @@ pub record IsPlayOf (scene : Scene) (text : List ℕ) (lines : List Line) : Type
   pub spelled : IsScript (spoken_at scene) text setup steps
   pub good : IsGood scene setup
   pub run : IsScriptRun scene setup steps events
-  pub told : lines ≡ trace_lines events (recorded events)
+  pub told : lines ≡ trace_lines (finds_of scene.spelling text) events (recorded events)
 
 -- Why there are no such lines. Want of memory is told as such, and never as a fault of the script or of the run.
 abbrev pub IsUnplayed : Scene → List ℕ → Unplayed → Type 0

@@ -6,6 +6,8 @@ use Rattle.rdm_bus.specs.BusLaws.{recorded}
 use Rattle.rdm_crew.specs.declared.error.RunError.{RunError}
 use Rattle.rdm_crew.specs.declared.error.RunError.TheVariants as run
 use Rattle.rdm_crew.specs.declared.step.CrewStep.{CrewStep}
+use Rattle.rdm_trace.specs.LineText.{lines_text}
+use Rattle.rdm_trace.specs.RunLines.{trace_lines}
 use Rattle.rdm_script.specs.declared.script.ScriptSetup.{ScriptSetup}
 use Rattle.rdm_script.specs.declared.grammar.parsing.ScriptError.{ScriptError}
 use Rattle.rdm_script.specs.declared.grammar.parsing.ScriptError.TheVariants as script
@@ -15,10 +17,11 @@ use Rattle.rdm_script.specs.Grammar.{Refuses}
 use Rattle.rdm_script.specs.Spelling.{IsScript}
 use Rattle.rdm_script.specs.Running.{IsGood, IsScriptRun, Stops}
 use Rattle.rdm_script.specs.Scene.{Scene, spoken_at}
-use Rattle.rdm_script.specs.TraceText.{trace_text}
+use Rattle.rdm_script.specs.Told.{finds_of}
 
 -- The output is the text of what happens when the script that the input is gets played on the device of the scene, which
--- has just been switched on, with its parts and its panel, and of what the controller recorded then.
+-- has just been switched on, with its parts and its panel, and of what the controller recorded then; and if the script says a search,
+-- of the fixtures that are found.
 pub record IsTraceOf (scene : Scene) (input output : List ℕ) : Type 0 where
   pub setup : ScriptSetup
   pub steps : List CrewStep
@@ -26,7 +29,7 @@ pub record IsTraceOf (scene : Scene) (input output : List ℕ) : Type 0 where
   pub spelled : IsScript (spoken_at scene) input setup steps
   pub good : IsGood scene setup
   pub run : IsScriptRun scene setup steps events
-  pub written : output ≡ trace_text events (recorded events)
+  pub written : output ≡ lines_text (trace_lines (finds_of scene.spelling input) events (recorded events))
 
 -- The input is a script that isn't played to its end, and this is the reason.
 pub record IsStopped (scene : Scene) (input : List ℕ) (e : RunError) : Type 0 where

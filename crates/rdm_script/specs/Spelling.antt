@@ -1,6 +1,7 @@
 -- What a script is: how its lines spell a setup and steps, word by word. Bytes are spelled as a trace prints them, with
 -- digits of either case. `d` is the dialect: the UID of the device that the script is played on, and whether the words are
--- spelled strictly. In a friendly script a sub-device, a parameter and data have a second spelling each; all else is the same.
+-- spelled strictly. In a friendly script a sub-device, a parameter and data have a second spelling each, and a line may say a search; all else is
+-- the same.
 use Rattle.std.specs.Prelude.{◌≡◌, ◌≢◌, true, false, ℕ, ◌<◌, ◌≤◌, ◌⊎◌, List, [], ◌∷◌, ◌++◌, length, drop, map, slice_index, Some, codes}
 use Rattle.std.specs.List.{list_all}
 use Rattle.std.specs.Int.{w16}
@@ -24,6 +25,7 @@ use Rattle.rdm_script.specs.declared.script.ScriptSetup.{ScriptSetup}
 use Rattle.rdm_script.specs.Decimals.{SpellsDecimal}
 use Rattle.rdm_script.specs.Names.{pid_named}
 use Rattle.rdm_script.specs.Parties.{plain_setup}
+use Rattle.rdm_script.specs.Search.{search_of}
 use Rattle.rdm_script.specs.Grammar.{word, is_shown, is_skipped, words_of, lines_of}
 
 -- The word says whom a command is for: by a name, or by a UID. The names are those of the device that the script is
@@ -114,6 +116,14 @@ SpellsStep d words Draw = words ≡ codes "draw" ∷ []
 SpellsStep d words (Settle empties) = SpellsEmpties (codes "settle") words empties
 SpellsStep d words (Panel empties) = SpellsEmpties (codes "panel") words empties
 
+-- The words of a line say a search of the device that the script is played on. Those of a strict script never do.
+abbrev pub SpellsFind : Dialect → List (List ℕ) → Type 0
+SpellsFind d words = (d.spelling ≡ Friendly) × (words ≡ codes "find" ∷ [])
+
+-- The words of a line say these steps: a single one, or those of a search.
+abbrev pub SpellsLine : Dialect → List (List ℕ) → List CrewStep → Type 0
+SpellsLine d words said = ((step : CrewStep) × (said ≡ step ∷ []) × SpellsStep d words step) ⊎ (SpellsFind d words × (said ≡ search_of d.device))
+
 -- The word says which messages the controller wants.
 abbrev pub SpellsWant : List ℕ → Want → Type 0
 SpellsWant text Advisory = text ≡ codes "advisory"
@@ -132,12 +142,12 @@ pub record SpellsSetup (words : List (List ℕ)) (s : ScriptSetup) : Type 0 wher
   pub want : SpellsWant (word words 3) s.want
 
 -- What lines say, each taken by its words: a line without words or a comment says nothing, and every other one says the
--- step that its words spell.
+-- steps that its words spell.
 abbrev pub SpellSteps : Dialect → List (List (List ℕ)) → List CrewStep → Type 0
 SpellSteps d [] steps = steps ≡ []
 SpellSteps d (words ∷ more) steps =
     ((is_skipped words ≡ true) × SpellSteps d more steps) ⊎
-    ((is_skipped words ≡ false) × (step : CrewStep) × (rest : List CrewStep) × (steps ≡ step ∷ rest) × SpellsStep d words step × SpellSteps d more rest)
+    ((is_skipped words ≡ false) × (said : List CrewStep) × (rest : List CrewStep) × (steps ≡ said ++ rest) × SpellsLine d words said × SpellSteps d more rest)
 
 -- The lines say this setup, and then these steps. Before the setup stand only lines that say nothing.
 abbrev pub SpellSetupAndSteps : Dialect → List (List (List ℕ)) → ScriptSetup → List CrewStep → Type 0

@@ -8,7 +8,7 @@ pub enum Spelling {
     /// As in the program `rdm_play`: sub-devices, parameters and data are hexadecimal digits.
     Strict,
     /// So, or as people say them: a sub-device is `root` or a decimal number, a parameter has its name (E1.20 table A-3), and
-    /// data are a text in double quotes.
+    /// data are a text in double quotes. A line `find` is a search.
     Friendly,
 }
 

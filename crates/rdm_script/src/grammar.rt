@@ -6,9 +6,12 @@ mod fault;
 pub(crate) mod line;
 mod names;
 pub(crate) mod parsing;
+mod search;
 mod telling;
+mod told;
 mod words;
 mod wrong;
 
 pub use parsing::{MOST_BYTES, ScriptError, parse, parse_as, parse_for};
 pub use telling::refusal_at;
+pub(crate) use told::finds_of;

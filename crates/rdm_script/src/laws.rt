@@ -4,11 +4,11 @@ ghost use Rattle.std.specs.Prelude.{◌≡◌, ◌↔◌, ℕ, List, IsTrue, fal
 ghost use Rattle.rdm_frame.specs.declared.uid.Uid.{Uid as TheUid};
 ghost use Rattle.rdm_crew.specs.declared.step.CrewStep.{CrewStep as TheStep};
 ghost use Rattle.rdm_script.specs.Dialects.{strict, friendly};
-ghost use Rattle.rdm_script.specs.Spelling.{SpellsStep, SpellsSetup, IsScript};
+ghost use Rattle.rdm_script.specs.Spelling.{SpellsStep, SpellsFind, SpellsSetup, IsScript};
 ghost use Rattle.rdm_script.specs.Grammar.{is_skipped, line_in, first_line_in, Refuses};
 ghost use Rattle.rdm_script.specs.declared.dialect.Dialect.{Dialect as TheDialect};
 ghost use Rattle.rdm_script.specs.declared.script.ScriptSetup.{ScriptSetup as TheSetup};
-ghost use Rattle.rdm_script.specs.declared.grammar.line.Line.TheVariants.{Sets, Says};
+ghost use Rattle.rdm_script.specs.declared.grammar.line.Line.TheVariants.{Sets, Says, Finds};
 ghost use Rattle.rdm_script.specs.declared.grammar.parsing.ScriptError.{ScriptError as TheError};
 ghost use Rattle.rdm_script.specs.declared.grammar.parsing.ScriptError.TheVariants.{OutOfMemory};
 
@@ -26,12 +26,16 @@ pub fn script_is_never_refused()
         IsScript d text setup steps → Refuses d e text → e ≡ OutOfMemory }
 {}
 
-/// A line says exactly what its words spell: a step, unless it is skipped, and in the first line a setup.
+/// A line says exactly what its words spell: a step, unless it is skipped, a search, and in the first line a setup.
 pub fn line_says_what_its_words_spell()
     ensures step { (d : TheDialect) (words : List (List ℕ)) (step : TheStep) →
         (line_in d words ≡ Says step) ↔ ((is_skipped words ≡ false) × SpellsStep d words step) }
     ensures first_step { (d : TheDialect) (words : List (List ℕ)) (step : TheStep) →
         (first_line_in d words ≡ Says step) ↔ ((is_skipped words ≡ false) × SpellsStep d words step) }
+    ensures search { (d : TheDialect) (words : List (List ℕ)) (device : TheUid) →
+        (line_in d words ≡ Finds device) ↔ (SpellsFind d words × (device ≡ d.device)) }
+    ensures first_search { (d : TheDialect) (words : List (List ℕ)) (device : TheUid) →
+        (first_line_in d words ≡ Finds device) ↔ (SpellsFind d words × (device ≡ d.device)) }
     ensures setup { (d : TheDialect) (words : List (List ℕ)) (setup : TheSetup) →
         (first_line_in d words ≡ Sets setup) ↔ SpellsSetup words setup }
 {}

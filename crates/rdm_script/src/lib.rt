@@ -3,8 +3,9 @@
 //!
 //! `run_script` does all of it, for any reader and writer, on the fixture of the demonstration, `run_script_on` on any
 //! other, and `run_program` ends a program with what came of it. `play_script` plays a text, and gives the lines of its trace, or the
-//! line at which it stops. `parse_as` reads strict scripts and friendly ones. The language stands in `specs/Spelling.antt`, how a run is set up and why it stops in `specs/Running.antt`, the
-//! demonstration in `specs/DemoParts.antt`, and the text in `specs/TraceText.antt`. What a run is, rdm_crew says.
+//! line at which it stops. `parse_as` reads strict scripts and friendly ones. The language stands in `specs/Spelling.antt`, what
+//! `find` spells in `specs/Search.antt`, how a run is set up and why it stops in `specs/Running.antt`, the demonstration in
+//! `specs/DemoParts.antt`, and the text in `specs/TraceText.antt`. What a run is, rdm_crew says.
 #![tactic(auto)]
 
 mod demo;

@@ -11,7 +11,7 @@ ghost use Rattle.rdm_script.specs.declared.playing.Unplayed.TheVariants.{OutOfMe
 
 use crate::demo::demo_stage;
 use crate::dialect::Spelling;
-use crate::grammar::{ScriptError, parse_as};
+use crate::grammar::{ScriptError, finds_of, parse_as};
 use crate::rules::ruled_parts_fit;
 use crate::running::play_steps;
 use crate::script::Script;
@@ -99,8 +99,9 @@ where
     ensures line { IfErr result (NamesStopLine (scene_of P.gives Q.gives N.offers stage) text.now) }
 {
     let script = parse_as(alloc, stage.spelling, stage.device, text)?;
+    let finds = finds_of(stage.spelling, text);
     match play_steps(rt, alloc, script.setup, &script.steps, stage) {
-        Ok(trace) => Ok(trace_lines(alloc, trace.events(), trace.recorded())?),
+        Ok(trace) => Ok(trace_lines(alloc, finds, trace.events(), trace.recorded())?),
         Err(stopped) => Err(stop_in(&script, stopped)),
     }
 }

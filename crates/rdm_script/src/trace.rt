@@ -5,10 +5,11 @@ ghost use Rattle.rdm_script.specs.TraceText.{trace_text};
 
 use rdm_bus::Event;
 use rdm_params::Message;
-use rdm_trace::{text_of, trace_lines};
+use rdm_trace::{Finds, text_of, trace_lines};
 use std::alloc::{AllocError, Global};
 
-/// The text of a trace: its events, the messages that were recorded, and the end. Fails only if memory is refused.
+/// The text of a trace: its events, the messages that were recorded, and the end, with no line of the fixtures that are found.
+/// Fails only if memory is refused.
 pub fn trace_text(
     alloc: Global,
     events: &[Event],
@@ -16,6 +17,6 @@ pub fn trace_text(
 ) -> Result<Vec<u8>, AllocError>
     ensures { IfOk result (λ text. text.items ≡ trace_text events.now recorded.now) }
 {
-    let lines = trace_lines(alloc, events, recorded)?;
+    let lines = trace_lines(alloc, Finds::Untold, events, recorded)?;
     text_of(alloc, lines.as_slice())
 }

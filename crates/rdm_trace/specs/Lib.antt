@@ -1,3 +1,4 @@
+pub mod Finds
 pub mod LineText
 pub mod Numbers
 pub mod Reading

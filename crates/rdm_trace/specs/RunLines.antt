@@ -7,9 +7,12 @@ use Rattle.rdm_params.specs.Jobs.Work.{worker_of}
 use Rattle.rdm_outbox.specs.declared.job.Job.{Job as TheJob}
 use Rattle.rdm_bus.specs.declared.event.Event.{Event}
 use Rattle.rdm_bus.specs.declared.event.Event.TheVariants.{Bus, Arrived, Changed}
+use Rattle.rdm_trace.specs.declared.found.Finds.{Finds}
+use Rattle.rdm_trace.specs.declared.found.Finds.TheVariants.{Told, Untold}
 use Rattle.rdm_trace.specs.declared.line.JobName.{JobName}
 use Rattle.rdm_trace.specs.declared.line.Line.{Line}
-use Rattle.rdm_trace.specs.declared.line.Line.TheVariants.{Send, Reply, Job, Heard, Arrive, Panel, Message, End}
+use Rattle.rdm_trace.specs.declared.line.Line.TheVariants.{Send, Reply, Job, Heard, Found, Arrive, Panel, Message, End}
+use Rattle.rdm_trace.specs.Finds.{found_in}
 
 -- a job is named by its worker and its number
 abbrev pub name_of : TheJob → JobName
@@ -28,6 +31,11 @@ event_lines (Bus sent poll fault reply job heard) =
 event_lines (Arrived report message kept) = Arrive (name_of report.job) report.outcome ∷ []
 event_lines (Changed change message) = Panel change (is_refused message) ∷ []
 
+-- the same, and where finds are told a line of the fixture that the event finds, if it finds one
+abbrev pub told_lines : Finds → Event → List Line
+told_lines Untold event = event_lines event
+told_lines Told event = event_lines event ++ map (λ uid. Found uid) (option_to_list (found_in event))
+
 -- The lines of a whole trace: those of each event in order, one for each recorded message in order, and the last line.
-abbrev pub trace_lines : List Event → List TheMessage → List Line
-trace_lines events messages = flat_map event_lines events ++ map (λ m. Message m) messages ++ End ∷ []
+abbrev pub trace_lines : Finds → List Event → List TheMessage → List Line
+trace_lines finds events messages = flat_map (told_lines finds) events ++ map (λ m. Message m) messages ++ End ∷ []

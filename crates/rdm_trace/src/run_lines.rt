@@ -1,41 +1,65 @@
 //! The lines that tell of a run.
 
 ghost use Rattle.std.specs.Prelude.{◌≡◌, ◌++◌, ◌∷◌, [], map, IfOk, OnOk};
+ghost use Rattle.std.specs.Option.{option_to_list};
 ghost use Rattle.std.specs.List.{flat_map};
-ghost use Rattle.rdm_trace.specs.RunLines.{name_of, event_lines, trace_lines};
-ghost use Rattle.rdm_trace.specs.declared.line.Line.TheVariants.{Message as MessageLine};
+ghost use Rattle.rdm_trace.specs.RunLines.{name_of, event_lines, told_lines, trace_lines};
+ghost use Rattle.rdm_trace.specs.declared.line.Line.TheVariants.{Found as FoundLine, Message as MessageLine};
 
-use crate::{JobName, Line};
+use crate::found::found_in;
+use crate::{Finds, JobName, Line};
 use rdm_bus::Event;
-use rdm_frame::Wire;
+use rdm_frame::{Uid, Wire};
 use rdm_outbox::Job;
 use rdm_params::{Message, worker_of};
 use std::alloc::{AllocError, Global};
 
-/// The lines of a trace: those of its events, one for each message that was recorded, and the end. Fails only if memory
-/// is refused.
+/// The lines of a trace: those of its events, one for each message that was recorded, and the end; and if finds are told, one
+/// behind each transaction that finds a fixture. Fails only if memory is refused.
 pub fn trace_lines(
     alloc: Global,
+    finds: Finds,
     events: &[Event],
     recorded: &[Message],
 ) -> Result<Vec<Line>, AllocError>
-    ensures { IfOk result (λ lines. lines.items ≡ trace_lines events.now recorded.now) }
+    ensures { IfOk result (λ lines. lines.items ≡ trace_lines finds events.now recorded.now) }
 {
     let mut lines = Vec::new(alloc);
-    put_events(&mut lines, events)?;
+    put_events(&mut lines, finds, events)?;
     put_messages(&mut lines, recorded)?;
     put(&mut lines, Line::End)?;
     Ok(lines)
 }
 
 /// The lines of the events.
-fn put_events(lines: &mut Vec<Line>, events: &[Event]) -> Result<(), AllocError>
-    ensures { OnOk result (lines.new.items ≡ lines.old.items ++ flat_map event_lines events.now) }
+fn put_events(lines: &mut Vec<Line>, finds: Finds, events: &[Event]) -> Result<(), AllocError>
+    ensures { OnOk result (lines.new.items ≡ lines.old.items ++ flat_map (told_lines finds) events.now) }
 {
     for event in events {
-        put_event(lines, event)?;
+        put_told(lines, finds, event)?;
     }
     Ok(())
+}
+
+/// Puts the lines of an event behind others, and if finds are told, that of the fixture that it finds.
+fn put_told(lines: &mut Vec<Line>, finds: Finds, event: &Event) -> Result<(), AllocError>
+    ensures { OnOk result (lines.new.items ≡ lines.old.items ++ told_lines finds event.now) }
+{
+    put_event(lines, event)?;
+    match finds {
+        Finds::Untold => Ok(()),
+        Finds::Told => put_found(lines, found_in(event)),
+    }
+}
+
+/// Puts the line of a fixture that is found behind others, if one is.
+fn put_found(lines: &mut Vec<Line>, found: Option<Uid>) -> Result<(), AllocError>
+    ensures { OnOk result (lines.new.items ≡ lines.old.items ++ map (λ uid. FoundLine uid) (option_to_list found)) }
+{
+    match found {
+        Some(uid) => put(lines, Line::Found(uid)),
+        None => Ok(()),
+    }
 }
 
 /// The lines of the messages that were recorded.

@@ -6,10 +6,12 @@ ghost use Rattle.rdm_script.specs.Grammar.{want_in, setup_in, command_step_in, s
 use super::command::command_in;
 use super::decimals;
 use super::fault::fault_in;
+use super::search::is_find;
 use crate::dialect::Dialect;
 use crate::script::ScriptSetup;
 use rdm_bus::Want;
 use rdm_crew::CrewStep;
+use rdm_frame::Uid;
 
 /// What one line of a script says.
 #[derive(Debug, Drop)]
@@ -20,6 +22,8 @@ pub enum Line {
     Sets(ScriptSetup),
     /// One step.
     Says(CrewStep),
+    /// A search that finds this device.
+    Finds(Uid),
     /// It is no line of a script.
     Faulty,
 }
@@ -42,6 +46,9 @@ pub(crate) fn line_in(dialect: Dialect, words: &[&[u8]]) -> Line
 {
     if words.is_empty() || words[0].first() == Some(&b'#') {
         return Line::Skipped;
+    }
+    if is_find(dialect.spelling, words) {
+        return Line::Finds(dialect.device);
     }
     match step_in(dialect, words) {
         Some(step) => Line::Says(step),

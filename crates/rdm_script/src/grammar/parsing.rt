@@ -1,6 +1,6 @@
 //! From the bytes of a script to its setup and its steps.
 
-ghost use Rattle.std.specs.Prelude.{◌≡◌, ◌≢◌, ℕ, ◌+◌, ◌^◌, ◌<◌, ◌≤◌, ◌==◌, List, [], ◌++◌, length, count_by, position, vec_len, vec_capacity, None, IfSome, OnOk, IfOk, IfErr, MatchResult};
+ghost use Rattle.std.specs.Prelude.{◌≡◌, ◌≢◌, ℕ, ◌+◌, ◌*◌, ◌^◌, ◌<◌, ◌≤◌, ◌==◌, List, [], ◌∷◌, ◌++◌, length, count_by, position, vec_len, vec_capacity, None, IfSome, OnOk, IfOk, IfErr, MatchResult};
 ghost use Rattle.std.specs.Option.{option_or};
 ghost use Rattle.rdm_crew.specs.declared.step.CrewStep.{CrewStep as TheStep};
 ghost use Rattle.rdm_crew.specs.RunTrace.{HaveFaults};
@@ -8,16 +8,19 @@ ghost use Rattle.rdm_script.specs.declared.script.ScriptSetup.{ScriptSetup as Th
 ghost use Rattle.rdm_script.specs.Dialects.{dialect_of, strict};
 ghost use Rattle.rdm_script.specs.Parties.{demo_device, plain_setup};
 ghost use Rattle.rdm_script.specs.Grammar.{words_of, line_at, begun_after, said_by, lines_of, setup_after, steps_of_line, AreSaid, IsFirstFaulty, IsRead, Refuses};
+ghost use Rattle.rdm_script.specs.Search.{most_steps, search_of};
 ghost use Rattle.rdm_script.specs.Spelling.{IsScript};
 ghost use Rattle.rdm_script.specs.StepLines.{step_line, set_line, step_lines, setup_line};
 ghost use Rattle.rdm_script.specs.declared.grammar.parsing.ScriptError.TheVariants.{OutOfMemory, Line as LineError};
 ghost use Rattle.rdm_script.specs.declared.grammar.line.Line.TheVariants.{Faulty};
 
 use super::line::{Line, first_line_in, line_in};
+use super::search::search_of;
 use super::words::words_of;
 use crate::dialect::{Dialect, Spelling};
 use crate::parties::DEMO_DEVICE;
 use crate::script::{Script, ScriptSetup};
+use rdm_crew::CrewStep;
 use rdm_frame::Uid;
 use rdm_streams::{line_end, without_return};
 use std::alloc::{AllocError, Global};
@@ -157,21 +160,34 @@ fn read_script(alloc: Global, dialect: Dialect, text: &[u8]) -> Result<Script, S
     if text.len() > MOST_BYTES {
         return Err(ScriptError::TooLong);
     }
-    let count = line_count(text);
+    let room = room_of(dialect.spelling, text);
     let mut script = Script {
         setup: ScriptSetup::PLAIN,
-        steps: Vec::with_capacity(alloc, count)?,
-        lines: Vec::with_capacity(alloc, count)?,
+        steps: Vec::with_capacity(alloc, room)?,
+        lines: Vec::with_capacity(alloc, room)?,
         setup_line: None,
     };
     read_lines(dialect, text, &mut script)?;
     Ok(script)
 }
 
+/// For how many steps of a text there has to be room.
+fn room_of(spelling: Spelling, text: &[u8]) -> usize
+    requires { length text.now ≤ 65536 }
+    ensures { result ≡ length (lines_of text.now) * most_steps spelling }
+{
+    let count = line_count(text);
+    match spelling {
+        Spelling::Strict => count,
+        Spelling::Friendly => count * 4,
+    }
+}
+
 /// How many lines a text has.
 #[tactic(auto, using(crate::proofs::Lines::line_count_is))]
 fn line_count(text: &[u8]) -> usize
-    ensures { result ≡ length (lines_of text.now) }
+    ensures count { result ≡ length (lines_of text.now) }
+    ensures within { result ≤ length text.now + 1 }
 {
     line_end_count(text) + 1
 }
@@ -190,8 +206,8 @@ fn read_lines(dialect: Dialect, text: &[u8], script: &mut Script) -> Result<(), 
     requires none { script.old.steps.items ≡ [] }
     requires no_lines { script.old.lines.items ≡ [] }
     requires no_setup { script.old.setup_line ≡ None }
-    requires room { length (lines_of text.now) ≤ vec_capacity script.old.steps }
-    requires lines_room { length (lines_of text.now) ≤ vec_capacity script.old.lines }
+    requires room { length (lines_of text.now) * most_steps dialect.spelling ≤ vec_capacity script.old.steps }
+    requires lines_room { length (lines_of text.now) * most_steps dialect.spelling ≤ vec_capacity script.old.lines }
     ensures ok { OnOk result (AreSaid (said_by dialect (lines_of text.now)) script.new.setup script.new.steps.items) }
     ensures lines { OnOk result (script.new.lines.items ≡ step_lines dialect text.now) }
     ensures setup_line { OnOk result (script.new.setup_line ≡ setup_line dialect text.now) }
@@ -210,6 +226,7 @@ fn read_lines(dialect: Dialect, text: &[u8], script: &mut Script) -> Result<(), 
 }
 
 /// Puts what the line at an index says into a script, and tells whether a line has now said anything.
+#[tactic(auto, using(crate::proofs::Rooms::one_fits))]
 fn read_line(
     dialect: Dialect,
     line: &[u8],
@@ -218,16 +235,16 @@ fn read_line(
     script: &mut Script,
 ) -> Result<bool, FaultyLine>
     requires within { index < 2 ^ 63 }
-    requires room { vec_len script.old.steps < vec_capacity script.old.steps }
-    requires lines_room { vec_len script.old.lines < vec_capacity script.old.lines }
+    requires room { vec_len script.old.steps + most_steps dialect.spelling ≤ vec_capacity script.old.steps }
+    requires lines_room { vec_len script.old.lines + most_steps dialect.spelling ≤ vec_capacity script.old.lines }
     ensures sound { OnOk result (line_at dialect begun (words_of dialect.spelling line.now) ≢ Faulty) }
     ensures begun { IfOk result (λ now. now ≡ begun_after begun (line_at dialect begun (words_of dialect.spelling line.now))) }
     ensures setup { OnOk result (script.new.setup ≡ setup_after script.old.setup (line_at dialect begun (words_of dialect.spelling line.now))) }
     ensures steps { OnOk result (script.new.steps.items ≡ script.old.steps.items ++ steps_of_line (line_at dialect begun (words_of dialect.spelling line.now))) }
-    ensures len { vec_len script.new.steps ≤ vec_len script.old.steps + 1 }
+    ensures len { vec_len script.new.steps ≤ vec_len script.old.steps + most_steps dialect.spelling }
     ensures capacity { vec_capacity script.new.steps ≡ vec_capacity script.old.steps }
     ensures lines { OnOk result (script.new.lines.items ≡ script.old.lines.items ++ step_line (index + 1) (line_at dialect begun (words_of dialect.spelling line.now))) }
-    ensures lines_len { vec_len script.new.lines ≤ vec_len script.old.lines + 1 }
+    ensures lines_len { vec_len script.new.lines ≤ vec_len script.old.lines + most_steps dialect.spelling }
     ensures lines_capacity { vec_capacity script.new.lines ≡ vec_capacity script.old.lines }
     ensures setup_line { OnOk result (script.new.setup_line ≡ option_or script.old.setup_line (set_line (index + 1) (line_at dialect begun (words_of dialect.spelling line.now)))) }
     ensures err { IfErr result (λ fault. (fault.0 ≡ index + 1) × (line_at dialect begun (words_of dialect.spelling line.now) ≡ Faulty)) }
@@ -240,12 +257,52 @@ fn read_line(
             Ok(true)
         }
         Line::Says(step) => {
-            script.steps.push_reserved(step);
-            script.lines.push_reserved(index + 1);
+            put_step(script, step, index + 1);
+            Ok(true)
+        }
+        Line::Finds(device) => {
+            put_search(script, device, index + 1);
             Ok(true)
         }
         Line::Faulty => Err(FaultyLine(index + 1)),
     }
+}
+
+/// Puts the steps of a search, which the line with this number says.
+fn put_search(script: &mut Script, device: Uid, number: usize)
+    requires room { vec_len script.old.steps + 4 ≤ vec_capacity script.old.steps }
+    requires lines_room { vec_len script.old.lines + 4 ≤ vec_capacity script.old.lines }
+    ensures setup { script.new.setup ≡ script.old.setup }
+    ensures steps { script.new.steps.items ≡ script.old.steps.items ++ search_of device }
+    ensures len { vec_len script.new.steps ≡ vec_len script.old.steps + 4 }
+    ensures capacity { vec_capacity script.new.steps ≡ vec_capacity script.old.steps }
+    ensures lines { script.new.lines.items ≡ script.old.lines.items ++ number ∷ number ∷ number ∷ number ∷ [] }
+    ensures lines_len { vec_len script.new.lines ≡ vec_len script.old.lines + 4 }
+    ensures lines_capacity { vec_capacity script.new.lines ≡ vec_capacity script.old.lines }
+    ensures setup_line { script.new.setup_line ≡ script.old.setup_line }
+{
+    let [un_mute, branch, mute, again] = search_of(device);
+    put_step(script, un_mute, number);
+    put_step(script, branch, number);
+    put_step(script, mute, number);
+    put_step(script, again, number);
+}
+
+/// Puts a step, which the line with this number says.
+fn put_step(script: &mut Script, step: CrewStep, number: usize)
+    requires room { vec_len script.old.steps < vec_capacity script.old.steps }
+    requires lines_room { vec_len script.old.lines < vec_capacity script.old.lines }
+    ensures setup { script.new.setup ≡ script.old.setup }
+    ensures steps { script.new.steps.items ≡ script.old.steps.items ++ step ∷ [] }
+    ensures len { vec_len script.new.steps ≡ vec_len script.old.steps + 1 }
+    ensures capacity { vec_capacity script.new.steps ≡ vec_capacity script.old.steps }
+    ensures lines { script.new.lines.items ≡ script.old.lines.items ++ number ∷ [] }
+    ensures lines_len { vec_len script.new.lines ≡ vec_len script.old.lines + 1 }
+    ensures lines_capacity { vec_capacity script.new.lines ≡ vec_capacity script.old.lines }
+    ensures setup_line { script.new.setup_line ≡ script.old.setup_line }
+{
+    script.steps.push_reserved(step);
+    script.lines.push_reserved(number);
 }
 
 /// What a line says, behind lines that say something or nothing.

@@ -6,7 +6,7 @@ use super::command::{are_shown, destination_in, load_in, pid_in, sub_in};
 use super::decimals;
 use super::fault::{lost_in, raise_in};
 use super::line::want_in;
-use crate::dialect::Dialect;
+use crate::dialect::{Dialect, Spelling};
 use crate::refusal::Wanted;
 
 /// How many digits the data of a command have at most.
@@ -34,6 +34,7 @@ fn test_line(dialect: Dialect, words: &[&[u8]], begun: bool) -> Result<(), Wrong
         b"get" | b"set" | b"disc" => test_command(dialect, words),
         b"collect" => test_fault(words, 1),
         b"draw" => test_end(words, 1),
+        b"find" if matches!(dialect.spelling, Spelling::Friendly) => test_end(words, 1),
         b"settle" | b"panel" => {
             test(
                 decimals::long_in(text_at(words, 1)).is_some(),

@@ -104,6 +104,10 @@ fn friendly_words(rt: HostRuntime) -> Result<(), Fail> {
                 "set 7ff0:00000001 root 0082 ab",
                 "set 7ff0:00000001 0000 0082 AB",
             ),
+            (
+                " find\t",
+                "disc all 0000 0003 -\ndisc all 0000 0001 000000000000FFFFFFFFFFFF\ndisc dev 0000 0002 -\ndisc all 0000 0001 000000000000FFFFFFFFFFFF",
+            ),
         ],
     )
 }
@@ -128,7 +132,7 @@ fn refusals(rt: HostRuntime) -> Result<(), Fail> {
             ),
             (
                 "\r\n  \nfoo\n",
-                "3:1: \"foo\" isn't a valid step: expected setup, get, set, disc, collect, draw, settle or panel",
+                "3:1: \"foo\" isn't a valid step: expected setup, get, set, disc, find, collect, draw, settle or panel",
             ),
             (
                 "draw\nsetup 0 8 advisory",
@@ -185,6 +189,14 @@ fn refusals(rt: HostRuntime) -> Result<(), Fail> {
             (
                 "draw now",
                 "1:6: \"now\" is one word too many: expected the end of the line",
+            ),
+            (
+                "find\nfind now",
+                "2:6: \"now\" is one word too many: expected the end of the line",
+            ),
+            (
+                "draw\n  finds",
+                "2:3: \"finds\" isn't a valid step: expected setup, get, set, disc, find, collect, draw, settle or panel",
             ),
             (
                 "get dev root 1000 - lost-reply 1",

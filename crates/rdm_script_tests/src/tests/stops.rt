@@ -14,7 +14,7 @@ use std::test::Fail;
 use std::thread::Threads;
 
 /// Friendly scripts, and how each stops, if it does.
-const ROWS: [(&str, Option<Unplayed>); 8] = [
+const ROWS: [(&str, Option<Unplayed>); 10] = [
     // The setup comes first, whatever stands behind it.
     (
         "# so\nsetup 600 8 error\nget dev root DEVICE_INFO -\nsettle 3\nget dev root 0030 00\nget dev 0000 0020 01",
@@ -32,6 +32,15 @@ const ROWS: [(&str, Option<Unplayed>); 8] = [
     (
         "collect\n  \nsetup 0 8 error",
         Some(Unplayed::Faulty(ScriptError::Line(3))),
+    ),
+    // The four steps of a search are on one line.
+    (
+        "# so\nfind\n\nfind\nget dev root STATUS_MESSAGES 00\nfind",
+        Some(Unplayed::Stopped(RunError::Reserved, Some(5))),
+    ),
+    (
+        "find\n find 1\nget dev root STATUS_MESSAGES 00",
+        Some(Unplayed::Faulty(ScriptError::Line(2))),
     ),
     // Setups of which there can be no device.
     (

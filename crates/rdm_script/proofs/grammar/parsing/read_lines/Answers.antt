@@ -3,6 +3,7 @@ use Rattle.std.proofs.lemmas.List.{take_all, length-drop}
 use Rattle.std.proofs.lemmas.Result.{err_from_is_err_and}
 use Rattle.rdm_script.specs.Grammar.{said_by, lines_of}
 use Rattle.rdm_script.proofs.Lines.{said_count, at_line, at_last, passes, fails, last_passes}
+use Rattle.rdm_script.proofs.Rooms.{room_here, room_taken}
 use Rattle.rdm_script.proofs.LinesRead.{steps_more, steps_last, set_more, set_last}
 use Rattle.rdm_script.proofs.grammar.parsing.read_lines.Goals as goal
 
@@ -10,13 +11,13 @@ pub read_line-requires-clause-room : goal.read_line-requires-clause-room
 read_line-requires-clause-room c =
     let text = c.args.text.now in
     let here = at_line c.args.dialect (said_by c.args.dialect (lines_of text)) c.loop-end.begun c.loop-end.rest.now c.loop-end.index c.in-Some.end c.without_return.result.now _ (sym c.in-Some.ensures.end) c.without_return.ensures.front refl c.loop-end.invariant.rest in
-    omega (arith, here.lt, said_count c.args.dialect text, c.loop-end.invariant.len, c.loop-end.invariant.room)
+    room_here c.args.dialect.spelling _ _ _ _ (omega (arith, here.lt, said_count c.args.dialect text)) c.loop-end.invariant.len c.loop-end.invariant.room
 
 pub read_line-requires-clause-lines_room : goal.read_line-requires-clause-lines_room
 read_line-requires-clause-lines_room c =
     let text = c.args.text.now in
     let here = at_line c.args.dialect (said_by c.args.dialect (lines_of text)) c.loop-end.begun c.loop-end.rest.now c.loop-end.index c.in-Some.end c.without_return.result.now _ (sym c.in-Some.ensures.end) c.without_return.ensures.front refl c.loop-end.invariant.rest in
-    omega (arith, here.lt, said_count c.args.dialect text, c.loop-end.invariant.lines_len, c.loop-end.invariant.lines_room)
+    room_here c.args.dialect.spelling _ _ _ _ (omega (arith, here.lt, said_count c.args.dialect text)) c.loop-end.invariant.lines_len c.loop-end.invariant.lines_room
 
 pub returns-in_err-begun-clause-err : goal.returns-in_err-begun-clause-err
 returns-in_err-begun-clause-err c =
@@ -35,10 +36,10 @@ loop-end-preserved c =
       rest = rw (c.in_ok-begun.ensures.begun, take_all (length rest - behind) (drop behind rest) (omega (arith, length-drop behind rest))) here.rest;
       said = rw (c.in_ok-begun.ensures.setup, c.in_ok-begun.ensures.steps) (passes _ _ _ _ _ _ here c.in_ok-begun.ensures.sound c.loop-end.invariant.said);
       within = omega (arith, length-drop behind rest, c.in-Some.ensures.within, c.loop-end.invariant.within);
-      len = omega (arith, c.in_ok-begun.ensures.len, c.loop-end.invariant.len);
+      len = room_taken c.args.dialect.spelling _ _ _ c.in_ok-begun.ensures.len c.loop-end.invariant.len;
       room = omega (arith, c.in_ok-begun.ensures.capacity, c.loop-end.invariant.room);
       lines = rw c.in_ok-begun.ensures.lines (steps_more _ _ _ _ _ _ here c.loop-end.invariant.lines);
-      lines_len = omega (arith, c.in_ok-begun.ensures.lines_len, c.loop-end.invariant.lines_len);
+      lines_len = room_taken c.args.dialect.spelling _ _ _ c.in_ok-begun.ensures.lines_len c.loop-end.invariant.lines_len;
       lines_room = omega (arith, c.in_ok-begun.ensures.lines_capacity, c.loop-end.invariant.lines_room);
       setup_line = rw c.in_ok-begun.ensures.setup_line (set_more _ _ _ _ _ _ here c.loop-end.invariant.setup_line);
     }
@@ -47,13 +48,13 @@ pub read_line-requires-2-clause-room : goal.read_line-requires-2-clause-room
 read_line-requires-2-clause-room c =
     let text = c.args.text.now in
     let here = at_last c.args.dialect (said_by c.args.dialect (lines_of text)) c.loop-end.begun c.loop-end.rest.now c.loop-end.index (sym c.in_default.ensures.end) c.loop-end.invariant.rest in
-    omega (arith, here.lt, said_count c.args.dialect text, c.loop-end.invariant.len, c.loop-end.invariant.room)
+    room_here c.args.dialect.spelling _ _ _ _ (omega (arith, here.lt, said_count c.args.dialect text)) c.loop-end.invariant.len c.loop-end.invariant.room
 
 pub read_line-requires-2-clause-lines_room : goal.read_line-requires-2-clause-lines_room
 read_line-requires-2-clause-lines_room c =
     let text = c.args.text.now in
     let here = at_last c.args.dialect (said_by c.args.dialect (lines_of text)) c.loop-end.begun c.loop-end.rest.now c.loop-end.index (sym c.in_default.ensures.end) c.loop-end.invariant.rest in
-    omega (arith, here.lt, said_count c.args.dialect text, c.loop-end.invariant.lines_len, c.loop-end.invariant.lines_room)
+    room_here c.args.dialect.spelling _ _ _ _ (omega (arith, here.lt, said_count c.args.dialect text)) c.loop-end.invariant.lines_len c.loop-end.invariant.lines_room
 
 pub returns-in_err-read_line-clause-err : goal.returns-in_err-read_line-clause-err
 returns-in_err-read_line-clause-err c =
