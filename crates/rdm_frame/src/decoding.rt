@@ -87,7 +87,8 @@ fn test(bytes: &[u8]) -> Result<(), FrameError>
     if bytes[1] != SUB_START_CODE {
         return Err(FrameError::SubStart);
     }
-    if (bytes[2] as usize) < HEAD_SLOTS || bytes[2] as usize + 2 != len {
+    // There are 26 bytes, so a length that matches their number isn't under 24.
+    if bytes[2] as usize + 2 != len {
         return Err(FrameError::Length);
     }
     if HEAD_SLOTS + bytes[23] as usize != bytes[2] as usize {

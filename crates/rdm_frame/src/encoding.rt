@@ -1,6 +1,6 @@
 //! From a frame to its text.
 
-ghost use Rattle.std.specs.Prelude.{[], ◌≡◌, ◌+◌, ◌%◌, ◌≤◌, length, sum};
+ghost use Rattle.std.specs.Prelude.{[], ◌≡◌, ◌+◌, ◌++◌, ◌%◌, ◌≤◌, length, sum};
 ghost use Rattle.rdm_frame.specs.FrameText.{frame_text, head_slots};
 
 use crate::standard::{START_CODE, SUB_START_CODE};
@@ -28,7 +28,7 @@ pub fn encode_into(frame: &FrameView<'_>, wire: &mut Wire)
 {
     wire.clear();
     write_head(frame, wire);
-    wire.append(frame.body);
+    write_data(frame.body, wire);
     let checksum = checksum_of(wire.as_slice());
     wire.append(&checksum.to_be_bytes());
 }
@@ -53,6 +53,20 @@ fn write_head(frame: &FrameView<'_>, wire: &mut Wire)
     wire.append(&[frame.class]);
     wire.append(&frame.pid.to_be_bytes());
     wire.append(&[data]);
+}
+
+/// Writes the parameter data behind them.
+// Most replies have a byte or none, and those are written without a call.
+#[inline(always)]
+fn write_data(data: &[u8], wire: &mut Wire)
+    requires { length wire.old + length data.now ≤ 257 }
+    ensures { wire.new ≡ wire.old ++ data.now }
+{
+    match data {
+        [] => {}
+        [slot] => wire.append(&[*slot]),
+        _ => wire.append(data),
+    }
 }
 
 /// The sum of the slots, modulo 65536 (E1.20 section 6.2.11).

@@ -247,6 +247,8 @@ impl Devices {
     }
 
     /// Carries out a SET at the devices that it is for.
+    // Inlined, since a call would save and restore the registers of a SET.
+    #[inline(always)]
     #[tactic(auto, using(rdm_device::proofs::Maps::update_append))]
     fn carry_out(&mut self, sub: u16, kind: Kind, value: &Argument<'_>)
         ensures { self.new ≡ carried_out self.old sub (command_of (pid_of kind) Set) value.now }
