@@ -3,9 +3,11 @@ pub mod DecimalSpellings
 pub mod DemoScene
 pub mod Failing
 pub mod FriendlySpellings
+pub mod LineParts
 pub mod LineSpellings
 pub mod Lines
 pub mod LinesRead
+pub mod OtherLines
 pub mod Pieces
 pub mod PlayedLines
 pub mod QuotedPieces
@@ -13,6 +15,10 @@ pub mod Reading
 pub mod RefusalEquality
 pub mod ScriptSpellings
 pub mod Stopping
+pub mod Tests
+pub mod Told
 pub mod Widening
 pub mod WordSpellings
 pub mod Words
+pub mod WrongSteps
+pub mod WrongWords

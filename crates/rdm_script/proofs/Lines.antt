@@ -31,13 +31,13 @@ length-without_returns (last ∷ []) = refl
 length-without_returns (line ∷ next ∷ more) = ap suc (length-without_returns (next ∷ more))
 
 -- the first line of a text with an LF, and the lines behind it
-lines_of_more : (text : List ℕ) (end : ℕ) → position (λ b. b == 10) text ≡ Some end → lines_of text ≡ without_return (take end text) ∷ lines_of (drop (end + 1) text)
+pub lines_of_more : (text : List ℕ) (end : ℕ) → position (λ b. b == 10) text ≡ Some end → lines_of text ≡ without_return (take end text) ∷ lines_of (drop (end + 1) text)
 unfolding lines_of
 lines_of_more text end h =
     ap without_returns (pieces_more is_lf text end h) ∙ returns_first (take end text) (slice_split is_lf (drop (end + 1) text)) (omega (arith, length-slice_split is_lf (drop (end + 1) text)))
 
 -- a text without an LF is one line
-lines_of_last : (text : List ℕ) → position (λ b. b == 10) text ≡ None → lines_of text ≡ text ∷ []
+pub lines_of_last : (text : List ℕ) → position (λ b. b == 10) text ≡ None → lines_of text ≡ text ∷ []
 unfolding lines_of
 lines_of_last text h = ap without_returns (pieces_last is_lf text h)
 

@@ -13,3 +13,4 @@ pub mod Scene
 pub mod Spelling
 pub mod StepLines
 pub mod TraceText
+pub mod WrongWords
