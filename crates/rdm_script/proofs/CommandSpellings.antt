@@ -1,5 +1,5 @@
 -- A command is said exactly by the words that spell it.
-use Rattle.std.proofs.Common.{◌≡◌, List, ℕ, Option, Some, None, refl, subst}
+use Rattle.std.proofs.Common.{◌≡◌, List, ℕ, Some, refl, subst}
 use Rattle.std.proofs.lemmas.Option.{option_and_then_some, same_Some}
 use Rattle.rdm_frame.specs.DigitReading.{◌>>=◌}
 use Rattle.rdm_collector.specs.declared.command.Command.{Command}

@@ -1,5 +1,5 @@
 -- The words of a command that a friendly script may spell in another way are read exactly as what they spell.
-use Rattle.std.proofs.Common.{◌≡◌, ◌≢◌, ℕ, suc, ◌+◌, ◌-◌, ◌<◌, ◌≤◌, Bool, true, false, not, cond, eqb, leb, ltb, ◌&&◌, List, [], ◌∷◌, ◌++◌, length, get_or, take, drop, Option, Some, None, ◌⊎◌, inl, inr, refl, sym, ap, subst, ◌∙◌, arith}
+use Rattle.std.proofs.Common.{◌≡◌, ◌≢◌, ℕ, suc, ◌+◌, ◌-◌, ◌<◌, ◌≤◌, Bool, true, false, not, cond, eqb, leb, ltb, ◌&&◌, List, [], ◌∷◌, ◌++◌, length, get_or, take, Option, Some, None, ◌⊎◌, inl, inr, refl, sym, ap, subst, ◌∙◌, arith}
 use Rattle.std.specs.Prelude.{codes, find, slice_index}
 use Rattle.std.specs.Int.{w16, to_be_bytes}
 use Rattle.std.specs.List.{list_all}
@@ -15,7 +15,7 @@ use Rattle.rdm_script.specs.declared.dialect.Spelling.{Spelling}
 use Rattle.rdm_script.specs.declared.dialect.Spelling.TheVariants.{Strict, Friendly}
 use Rattle.rdm_script.specs.Decimals.{number_up_to}
 use Rattle.rdm_params.specs.declared.kind.Kind.{Kind}
-use Rattle.rdm_params.specs.Table.Kinds.{pid_of, name_of, kinds, kind_named}
+use Rattle.rdm_params.specs.Table.Kinds.{name_of, kinds, kind_named}
 use Rattle.rdm_script.specs.Names.{named_in, other_names, pid_named}
 use Rattle.rdm_script.specs.Grammar.{is_plain, sub_named, sub_in, pid_in, bytes_load_in, is_shown, is_quoted, between, quoted_in, load_in}
 use Rattle.rdm_script.specs.Spelling.{SpellsCount, SpellsSub, SpellsPid, SpellsQuoted, SpellsLoad}

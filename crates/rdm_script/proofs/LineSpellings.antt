@@ -214,7 +214,7 @@ find_in : (dev : Dialect) (words : List (List ℕ)) (k : Spelling) → dev.spell
 find_in dev words Strict same e = absurd cc
 find_in dev words Friendly same e = (same, alone_read (codes "find") words e)
 
-find_read : (dev : Dialect) (words : List (List ℕ)) → is_find dev.spelling words ≡ true → SpellsFind dev words
+pub find_read : (dev : Dialect) (words : List (List ℕ)) → is_find dev.spelling words ≡ true → SpellsFind dev words
 find_read dev words e = find_in dev words dev.spelling refl e
 
 find_again : (dev : Dialect) (words : List (List ℕ)) → SpellsFind dev words → is_find dev.spelling words ≡ true
@@ -224,11 +224,11 @@ find_isnt_skipped : (dev : Dialect) (words : List (List ℕ)) → SpellsFind dev
 find_isnt_skipped dev words s = rw s.1 refl
 
 -- a step is no search
-no_find : (spelling : Spelling) (words : List (List ℕ)) → is_find Friendly words ≡ false → is_find spelling words ≡ false
+pub no_find : (spelling : Spelling) (words : List (List ℕ)) → is_find Friendly words ≡ false → is_find spelling words ≡ false
 no_find Strict words e = refl
 no_find Friendly words e = e
 
-and_false : (b : Bool) → (b && false) ≡ false
+pub and_false : (b : Bool) → (b && false) ≡ false
 and_false true = refl
 and_false false = refl
 

@@ -1,5 +1,5 @@
 -- Of a script that is played: its lines, the reason why it isn't played to its end, and the line of a stop.
-use Rattle.std.proofs.Common.{◌≡◌, ◌≢◌, ℕ, ◌+◌, ◌<◌, List, [], ◌∷◌, ◌++◌, length, slice_get, get_or, Option, Some, None, Result, Ok, Err, IfOk, IfErr, refl, sym, ap, subst, ◌∙◌, arith}
+use Rattle.std.proofs.Common.{◌≡◌, ℕ, ◌+◌, ◌<◌, List, [], ◌∷◌, length, slice_get, get_or, Option, Some, refl, sym, ap, subst, ◌∙◌, arith}
 use Rattle.std.specs.List.{flat_map}
 use Rattle.std.proofs.lemmas.List.{length-append}
 use Rattle.std.proofs.lemmas.List.Concat.{flat_map-cons}
@@ -17,10 +17,9 @@ use Rattle.rdm_script.specs.declared.grammar.line.Line.TheVariants.{Skipped, Set
 use Rattle.rdm_script.specs.declared.grammar.parsing.ScriptError.{ScriptError}
 use Rattle.rdm_script.specs.declared.grammar.parsing.ScriptError.TheVariants as script
 use Rattle.rdm_script.specs.declared.playing.Unplayed.{Unplayed}
-use Rattle.rdm_script.specs.declared.playing.Unplayed.TheVariants.{OutOfMemory, Faulty, Stopped}
 use Rattle.rdm_script.specs.declared.script.ScriptSetup.{ScriptSetup}
 use Rattle.rdm_script.specs.Grammar.{said_by, lines_of, steps_of_line, Refuses}
-use Rattle.rdm_script.specs.Playing.{IsPlayOf, IsUnplayed, IsStopLine, NamesStopLine, unplayed_script, unplayed_run}
+use Rattle.rdm_script.specs.Playing.{IsPlayOf, IsUnplayed, NamesStopLine, unplayed_script, unplayed_run}
 use Rattle.rdm_script.specs.Program.{IsTraceOf}
 use Rattle.rdm_script.specs.Running.{Stops}
 use Rattle.rdm_script.specs.Scene.{Scene, spoken_at}

@@ -1,18 +1,12 @@
 -- What is so of the bytes that were read is so of the whole input.
-use Rattle.std.proofs.Common.{◌≡◌, ◌≢◌, ℕ, ◌+◌, ◌<◌, ◌≤◌, List, ◌++◌, length, take, Option, Some, None, IfSome, refl, sym, ap, subst, ◌∙◌, arith}
+use Rattle.std.proofs.Common.{◌≡◌, ℕ, ◌+◌, ◌<◌, ◌≤◌, List, ◌++◌, length, take, Option, Some, None, IfSome, refl, sym, ap, subst, ◌∙◌, arith}
 use Rattle.std.proofs.lemmas.List.{append-nil, length-append}
 use Rattle.std.specs.Io.KnownBytes.{Appends, Consumes, IsAtEnd}
-use Rattle.rdm_crew.specs.declared.error.RunError.{RunError}
-use Rattle.rdm_crew.specs.declared.error.RunError.TheVariants as run
-use Rattle.rdm_crew.specs.declared.step.CrewStep.{CrewStep}
 use Rattle.rdm_script.specs.declared.grammar.parsing.ScriptError.TheVariants as script
 use Rattle.rdm_script.specs.declared.program.ProgramError.{ProgramError}
 use Rattle.rdm_script.specs.declared.program.ProgramError.TheVariants.{Read, Script, Memory, Run, Write}
-use Rattle.rdm_script.specs.declared.script.ScriptSetup.{ScriptSetup}
-use Rattle.rdm_script.specs.Program.{IsTraceOf, IsStopped, IsFailure, fault_of_run}
-use Rattle.rdm_script.specs.Running.{Stops}
-use Rattle.rdm_script.specs.Scene.{Scene, spoken_at}
-use Rattle.rdm_script.specs.Spelling.{IsScript}
+use Rattle.rdm_script.specs.Program.{IsTraceOf, IsFailure}
+use Rattle.rdm_script.specs.Scene.{Scene}
 
 -- where the reader was read to its end
 known : (P : List ℕ → Type 0) (before after : Option (List ℕ)) (items : List ℕ) → Consumes before after items → IsAtEnd after → P items → IfSome before P

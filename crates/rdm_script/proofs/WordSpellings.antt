@@ -2,24 +2,21 @@
 use Rattle.std.proofs.Common.{◌≡◌, ℕ, Bool, true, false, cond, leb, List, [], length, map, Option, Some, None, ◌⊎◌, inl, inr, refl, sym, ap, subst, ◌∙◌, arith}
 use Rattle.std.specs.Prelude.{codes}
 use Rattle.std.specs.Str.{bytes_eq}
-use Rattle.std.specs.Int.{w16}
 use Rattle.std.proofs.lemmas.Bool.{leb-true, le-leb}
-use Rattle.std.proofs.lemmas.Option.{option_and_then_some, same_Some}
+use Rattle.std.proofs.lemmas.Option.{same_Some}
 use Rattle.std.proofs.lemmas.List.{length-map}
 use Rattle.std.proofs.lemmas.Slice.Eq.{bytes_eq-Decides}
 use Rattle.rdm_frame.specs.declared.uid.Uid.{Uid}
 use Rattle.rdm_frame.specs.Addressing.{all_devices, all_of}
-use Rattle.rdm_frame.specs.Digits.{upper, SpellsNumber}
-use Rattle.rdm_frame.specs.DigitReading.{◌>>=◌, bytes_in, number_in}
+use Rattle.rdm_frame.specs.Digits.{upper}
+use Rattle.rdm_frame.specs.DigitReading.{bytes_in}
 use Rattle.rdm_frame.specs.UidText.{SpellsUid}
 use Rattle.rdm_frame.proofs.Spellings.{bytes_read, bytes_again}
-use Rattle.rdm_frame.proofs.NumberSpellings.{long, word_read, word_again, uid_spelled}
+use Rattle.rdm_frame.proofs.NumberSpellings.{long, uid_spelled}
 use Rattle.rdm_collector.specs.declared.command.Action.{Action}
 use Rattle.rdm_collector.specs.declared.command.Action.TheVariants.{Disc, Get, Set}
-use Rattle.rdm_collector.specs.declared.command.Command.{Command}
-use Rattle.rdm_script.specs.declared.dialect.Dialect.{Dialect}
-use Rattle.rdm_script.specs.Grammar.{action_in, destination_in, sub_in, pid_in, bytes_load_in, load_in, command_in}
-use Rattle.rdm_script.specs.Spelling.{SpellsDestination, SpellsSub, SpellsPid, SpellsData, SpellsLoad, SpellsAction}
+use Rattle.rdm_script.specs.Grammar.{action_in, destination_in, bytes_load_in}
+use Rattle.rdm_script.specs.Spelling.{SpellsDestination, SpellsData, SpellsAction}
 
 -- ---- which way a choice went
 

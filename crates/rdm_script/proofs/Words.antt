@@ -1,6 +1,5 @@
 -- Words of a line, one after the other.
-use Rattle.std.proofs.Common.{false, Bool, eqb, leb, ◌≡◌, ℕ, ◌+◌, ◌≤◌, ◌==◌, true, false, List, [], ◌∷◌, ◌++◌, length, take, drop, map, filter, position, Some, None, refl, sym, ap, ◌∙◌, arith, append_assoc, Bor}
-use Rattle.std.specs.List.{slice_split}
+use Rattle.std.proofs.Common.{false, Bool, eqb, leb, ◌≡◌, ℕ, ◌+◌, ◌≤◌, ◌==◌, true, false, List, [], ◌∷◌, ◌++◌, length, take, drop, map, filter, Some, None, refl, sym, ap, ◌∙◌, arith, append_assoc, Bor}
 use Rattle.std.proofs.lemmas.List.{map_push, length-map, take-append-le, take_all, append-nil}
 use Rattle.std.proofs.lemmas.Bool.{le-leb}
 use Rattle.std.proofs.lemmas.Bool.Decides.{nat_tests}
@@ -9,23 +8,23 @@ use Rattle.rdm_script.specs.declared.dialect.Dialect.{Dialect}
 use Rattle.rdm_script.specs.declared.dialect.Spelling.{Spelling}
 use Rattle.rdm_script.specs.declared.dialect.Spelling.TheVariants.{Strict, Friendly}
 use Rattle.rdm_script.proofs.QuotedPieces.{piece_first, piece_last}
-use Rattle.rdm_script.specs.Grammar.{is_blank, is_word, piece_end, pieces_of, words_of, fault_in, setup_in, command_step_in, step_in, is_find, line_in, first_line_in, line_at}
+use Rattle.rdm_script.specs.Grammar.{is_word, piece_end, pieces_of, words_of, fault_in, setup_in, command_step_in, step_in, is_find, line_in, first_line_in, line_at}
 
 -- the bytes of borrowed words
 abbrev pub bytes_of : List (Bor (List ℕ)) → List (List ℕ)
 bytes_of words = map (λ word. word.now) words
 
 -- the first piece of a line, where it is a word, and the words behind it
-words_more : (spelling : Spelling) (line : List ℕ) (end : ℕ) → piece_end spelling line ≡ Some end → words_of spelling line ≡ filter is_word (take end line ∷ []) ++ words_of spelling (drop (end + 1) line)
+pub words_more : (spelling : Spelling) (line : List ℕ) (end : ℕ) → piece_end spelling line ≡ Some end → words_of spelling line ≡ filter is_word (take end line ∷ []) ++ words_of spelling (drop (end + 1) line)
 words_more spelling line end h = ap (filter is_word) (piece_first spelling line end h) ∙ filter-append is_word (take end line ∷ []) (pieces_of spelling (drop (end + 1) line))
 
-words_last : (spelling : Spelling) (line : List ℕ) → piece_end spelling line ≡ None → words_of spelling line ≡ filter is_word (line ∷ [])
+pub words_last : (spelling : Spelling) (line : List ℕ) → piece_end spelling line ≡ None → words_of spelling line ≡ filter is_word (line ∷ [])
 words_last spelling line h = ap (filter is_word) (piece_last spelling line h)
 
-word_is : (piece : List ℕ) → (length piece == 0) ≡ false → filter is_word (piece ∷ []) ≡ piece ∷ []
+pub word_is : (piece : List ℕ) → (length piece == 0) ≡ false → filter is_word (piece ∷ []) ≡ piece ∷ []
 word_is piece h = rw h refl
 
-no_word : (piece : List ℕ) → (length piece == 0) ≡ true → filter is_word (piece ∷ []) ≡ []
+pub no_word : (piece : List ℕ) → (length piece == 0) ≡ true → filter is_word (piece ∷ []) ≡ []
 no_word piece h = rw h refl
 
 full : (front xs ys : List (List ℕ)) → 9 ≤ length front → take 9 (front ++ xs) ≡ take 9 (front ++ ys)
@@ -125,7 +124,7 @@ line_in_front dev begun (a ∷ b ∷ c ∷ d ∷ e ∷ f ∷ g ∷ []) = refl
 line_in_front dev begun (a ∷ b ∷ c ∷ d ∷ e ∷ f ∷ g ∷ h ∷ []) = refl
 line_in_front dev begun (a ∷ b ∷ c ∷ d ∷ e ∷ f ∷ g ∷ h ∷ i ∷ more) = at_long dev begun a b c d e (f ∷ g ∷ h ∷ i ∷ []) (f ∷ g ∷ h ∷ i ∷ more) (omega arith) (omega arith)
 
-find_two : (spelling : Spelling) (a b : List ℕ) (more : List (List ℕ)) → is_find spelling (a ∷ b ∷ more) ≡ false
+pub find_two : (spelling : Spelling) (a b : List ℕ) (more : List (List ℕ)) → is_find spelling (a ∷ b ∷ more) ≡ false
 find_two Strict a b more = refl
 find_two Friendly a b more = let many : eqb (length (a ∷ b ∷ more)) 1 ≡ false = grind (arith, nat_tests) in rw many refl
 

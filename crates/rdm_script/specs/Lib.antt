@@ -15,3 +15,4 @@ pub mod Spelling
 pub mod StepLines
 pub mod Told
 pub mod TraceText
+pub mod WrongWords

@@ -1,12 +1,15 @@
 //! What is told of a faulty line of a friendly script: its first word that isn't what it has to be.
 
-ghost use Rattle.std.specs.Prelude.{◌≡◌};
+ghost use Rattle.std.specs.Prelude.{◌≡◌, ◌+◌, ◌^◌, ◌<◌, ◌≤◌, length, take};
 
 use arrayvec::ArrayVec;
 use std::fmt;
 
+/// How many bytes of a word a message shows at most.
+const MOST_SHOWN: usize = 40;
+
 /// A word as a message shows it: its first 40 bytes.
-pub type Excerpt = ArrayVec<u8, 40>;
+pub type Excerpt = ArrayVec<u8, MOST_SHOWN>;
 
 /// What a word should have been.
 #[derive(Clone, Copy, Debug, PartialEq, Eq)]
@@ -110,7 +113,9 @@ pub struct Refusal {
 impl Refusal {
     /// At the word of a line that begins at this byte, or at the end of the line, if it is missing.
     pub(crate) fn at(line: usize, at: usize, word: &[u8], wanted: Wanted) -> Refusal
-        ensures { result.line ≡ line }
+        ensures line { result.line ≡ line }
+        ensures column { at < 2 ^ 63 → result.column ≡ at + 1 }
+        ensures word { result.word.items ≡ take 40 word.now }
     {
         Refusal {
             line,
@@ -122,14 +127,20 @@ impl Refusal {
 }
 
 /// As much of a word as is shown.
-fn excerpt_of(word: &[u8]) -> Excerpt {
+fn excerpt_of(word: &[u8]) -> Excerpt
+    ensures { result.items ≡ take 40 word.now }
+{
     let mut excerpt = Excerpt::new();
-    for byte in word {
-        if excerpt.try_push(*byte).is_err() {
-            break;
-        }
-    }
+    let _ = excerpt.try_extend_from_slice(front_of(word));
     excerpt
+}
+
+/// The first bytes of a word, as many as are shown at most.
+fn front_of(word: &[u8]) -> &[u8]
+    ensures value { result.now ≡ take 40 word.now }
+    ensures fits { length result.now ≤ 40 }
+{
+    &word[..word.len().min(MOST_SHOWN)]
 }
 
 impl fmt::Display for Refusal {

@@ -36,7 +36,7 @@ pub(crate) fn command_in(
 }
 
 /// What a command does.
-fn action_in(word: &[u8]) -> Option<Action>
+pub(crate) fn action_in(word: &[u8]) -> Option<Action>
     ensures { result ≡ action_in word.now }
 {
     if word == b"get".as_slice() {

@@ -1,7 +1,7 @@
 //! What a line says, word by word.
 
 ghost use Rattle.std.specs.Prelude.{◌≡◌, map};
-ghost use Rattle.rdm_script.specs.Grammar.{want_in, setup_in, command_step_in, step_in, line_in, first_line_in};
+ghost use Rattle.rdm_script.specs.Grammar.{is_skipped, want_in, setup_in, command_step_in, step_in, line_in, first_line_in};
 
 use super::command::command_in;
 use super::decimals;
@@ -44,7 +44,7 @@ pub(crate) fn first_line_in(dialect: Dialect, words: &[&[u8]]) -> Line
 pub(crate) fn line_in(dialect: Dialect, words: &[&[u8]]) -> Line
     ensures { result ≡ line_in dialect (map (λ word. word.now) words.now) }
 {
-    if words.is_empty() || words[0].first() == Some(&b'#') {
+    if is_skipped(words) {
         return Line::Skipped;
     }
     if is_find(dialect.spelling, words) {
@@ -54,6 +54,13 @@ pub(crate) fn line_in(dialect: Dialect, words: &[&[u8]]) -> Line
         Some(step) => Line::Says(step),
         None => Line::Faulty,
     }
+}
+
+/// Whether a line says nothing: it is empty, or a comment.
+pub(crate) fn is_skipped(words: &[&[u8]]) -> bool
+    ensures { result ≡ is_skipped (map (λ word. word.now) words.now) }
+{
+    words.is_empty() || words[0].first() == Some(&b'#')
 }
 
 /// The setup that words say.

@@ -1,6 +1,6 @@
 //! A search of a line that has one fixture alone, as a friendly script says it.
 
-ghost use Rattle.std.specs.Prelude.{◌≡◌, ◌++◌, ◌+◌, ◌≤◌, length, map};
+ghost use Rattle.std.specs.Prelude.{◌≡◌, ◌++◌, ◌+◌, ◌≤◌, [], ◌∷◌, length, map};
 ghost use Rattle.rdm_frame.specs.FrameText.{uid_slots};
 ghost use Rattle.rdm_script.specs.Grammar.{is_find, words_of};
 ghost use Rattle.rdm_script.specs.Search.{discovery, whole_branch, search_of};
@@ -29,6 +29,13 @@ pub(crate) fn is_find(spelling: Spelling, words: &[&[u8]]) -> bool
             _ => false,
         },
     }
+}
+
+/// Whether a word is the name of a search. A strict script has none.
+pub(crate) fn is_find_name(spelling: Spelling, word: &[u8]) -> bool
+    ensures { result ≡ is_find spelling (word.now ∷ []) }
+{
+    is_find(spelling, &[word])
 }
 
 /// Whether a line says a search.

@@ -1,7 +1,12 @@
 //! What a person is told of a faulty line of a script.
 
-ghost use Rattle.std.specs.Prelude.{◌≡◌};
+ghost use Rattle.std.specs.Prelude.{◌≡◌, ◌≤◌, ◌||◌, length, not, MatchOption};
+ghost use Rattle.rdm_script.specs.declared.grammar.line.Line.TheVariants.{Faulty};
+ghost use Rattle.rdm_script.specs.Dialects.{dialect_of};
+ghost use Rattle.rdm_script.specs.Grammar.{is_skipped, line_at, lines_of, said_by, words_of, IsFirstFaulty};
+ghost use Rattle.rdm_script.specs.WrongWords.{BeginsAt, IsRefused, IsRefusedAt};
 
+use super::line::is_skipped;
 use super::words::{piece_end, words_of};
 use super::wrong::wrong_word;
 use crate::dialect::{Dialect, Spelling};
@@ -13,6 +18,9 @@ use rdm_streams::{line_end, without_return};
 /// which line is the first faulty one.
 pub fn refusal_at(spelling: Spelling, device: Uid, text: &[u8], number: usize) -> Refusal
     ensures line { result.line ≡ number }
+    // The first faulty line is refused at the first word with which no line of a script can go on.
+    ensures told { IsFirstFaulty (said_by (dialect_of device spelling) (lines_of text.now)) number →
+        IsRefused (dialect_of device spelling) text.now number result.column result.word.items }
 {
     let dialect = Dialect { device, spelling };
     let mut rest = text;
@@ -23,7 +31,7 @@ pub fn refusal_at(spelling: Spelling, device: Uid, text: &[u8], number: usize) -
         if left <= 1 {
             return refusal_of(dialect, line, number, begun);
         }
-        begun = begun || says(dialect.spelling, line);
+        begun = begun_by(spelling, line, begun);
         rest = &rest[end + 1..];
         left -= 1;
     }
@@ -33,6 +41,8 @@ pub fn refusal_at(spelling: Spelling, device: Uid, text: &[u8], number: usize) -
 /// What is told of this faulty line.
 fn refusal_of(dialect: Dialect, line: &[u8], number: usize, begun: bool) -> Refusal
     ensures line { result.line ≡ number }
+    ensures told { line_at dialect begun (words_of dialect.spelling line.now) ≡ Faulty →
+        IsRefusedAt dialect begun line.now result.column result.word.items }
 {
     let words = words_of(dialect.spelling, line);
     let wrong = wrong_word(dialect, words.as_slice(), begun);
@@ -42,16 +52,18 @@ fn refusal_of(dialect: Dialect, line: &[u8], number: usize, begun: bool) -> Refu
     }
 }
 
-/// Whether a line says anything.
-fn says(spelling: Spelling, line: &[u8]) -> bool {
-    match words_of(spelling, line).as_slice() {
-        [] => false,
-        [word, ..] => word.first() != Some(&b'#'),
-    }
+/// Whether a line or one before it says anything.
+fn begun_by(spelling: Spelling, line: &[u8], begun: bool) -> bool
+    ensures { result ≡ (begun || not (is_skipped (words_of spelling line.now))) }
+{
+    begun || !is_skipped(words_of(spelling, line).as_slice())
 }
 
 /// The word of a line at an index, and at which byte of the line it begins.
-fn word_at(spelling: Spelling, line: &[u8], index: usize) -> Option<(usize, &[u8])> {
+fn word_at(spelling: Spelling, line: &[u8], index: usize) -> Option<(usize, &[u8])>
+    ensures { MatchOption result (length (words_of spelling line.now) ≤ index)
+        (λ found. BeginsAt spelling line.now index found.0 found.1.now × (found.0 ≤ length line.now)) }
+{
     let mut rest = line;
     let mut left = index;
     while let Some(end) = piece_end(spelling, rest) {

@@ -1,12 +1,18 @@
 //! The first word of a faulty line that isn't what it has to be. What each word has to be, the readers of the words say.
 
-ghost use Rattle.std.specs.Prelude.{◌<◌};
+ghost use Rattle.std.specs.Prelude.{◌≡◌, ◌≢◌, ◌<◌, ◌≤◌, ◌⊎◌, ◌||◌, Bool, drop, length, map, codes, None, IfSome, MatchOption};
+ghost use Rattle.std.specs.Str.{bytes_eq};
+ghost use Rattle.rdm_script.specs.declared.dialect.Dialect.{Dialect as TheDialect};
+ghost use Rattle.rdm_script.specs.declared.grammar.line.Line.TheVariants.{Faulty};
+ghost use Rattle.rdm_script.specs.Grammar.{word, action_in, line_at};
+ghost use Rattle.rdm_script.specs.WrongWords.{AreFault, AreLine, IsFirstWrong};
 
-use super::command::{are_shown, destination_in, load_in, pid_in, sub_in};
+use super::command::{action_in, are_shown, destination_in, load_in, pid_in, sub_in};
 use super::decimals;
 use super::fault::{lost_in, raise_in};
 use super::line::want_in;
-use crate::dialect::{Dialect, Spelling};
+use super::search::is_find_name;
+use crate::dialect::Dialect;
 use crate::refusal::Wanted;
 
 /// How many digits the data of a command have at most.
@@ -21,71 +27,127 @@ pub(crate) struct WrongWord {
 }
 
 /// The first wrong word of a faulty line. `begun` tells whether a line before it has said something.
-pub(crate) fn wrong_word(dialect: Dialect, words: &[&[u8]], begun: bool) -> WrongWord {
-    match test_line(dialect, words, begun) {
-        Ok(()) => wrong(0, Wanted::Step),
-        Err(word) => word,
+pub(crate) fn wrong_word(dialect: Dialect, words: &[&[u8]], begun: bool) -> WrongWord
+    ensures index { line_at dialect begun (map (λ word. word.now) words.now) ≡ Faulty →
+        IsFirstWrong (AreLine dialect begun) (map (λ word. word.now) words.now) result.index }
+    ensures within { result.index < 9 }
+{
+    match wrong_in_line(dialect, words, begun) {
+        Some(word) => word,
+        None => wrong(0, Wanted::Step),
     }
 }
 
-fn test_line(dialect: Dialect, words: &[&[u8]], begun: bool) -> Result<(), WrongWord> {
-    match text_at(words, 0) {
-        b"setup" => test_setup(words, begun),
-        b"get" | b"set" | b"disc" => test_command(dialect, words),
-        b"collect" => test_fault(words, 1),
-        b"draw" => test_end(words, 1),
-        b"find" if matches!(dialect.spelling, Spelling::Friendly) => test_end(words, 1),
-        b"settle" | b"panel" => {
-            test(
-                decimals::long_in(text_at(words, 1)).is_some(),
-                1,
-                Wanted::Empties,
-            )?;
-            test_end(words, 2)
-        }
-        _ => Err(wrong(0, Wanted::Step)),
+/// The first wrong word of a line, if there is one. A comment isn't seen here: it is taken for a step.
+fn wrong_in_line(dialect: Dialect, words: &[&[u8]], begun: bool) -> Option<WrongWord>
+    ensures told { line_at dialect begun (map (λ word. word.now) words.now) ≡ Faulty →
+        MatchOption result (AreLine dialect begun (map (λ word. word.now) words.now))
+        (λ w. IsFirstWrong (AreLine dialect begun) (map (λ word. word.now) words.now) w.index) }
+    ensures within { IfSome result (λ w. w.index < 9) }
+{
+    let name = text_at(words, 0);
+    if name == b"setup".as_slice() {
+        return wrong_in_setup(words, begun);
+    }
+    if action_in(name).is_some() {
+        return wrong_in_command(dialect, words);
+    }
+    if name == b"collect".as_slice() {
+        return wrong_in_poll(words);
+    }
+    if name == b"draw".as_slice() {
+        return end_at(words, 1);
+    }
+    if is_find_name(dialect.spelling, name) {
+        return end_at(words, 1);
+    }
+    if name == b"settle".as_slice() || name == b"panel".as_slice() {
+        return wrong_in_count(words);
+    }
+    Some(wrong(0, Wanted::Step))
+}
+
+/// The first wrong word of a setup, which has three words more and stands before all other steps.
+fn wrong_in_setup(words: &[&[u8]], begun: bool) -> Option<WrongWord>
+    requires { word (map (λ word. word.now) words.now) 0 ≡ codes "setup" }
+    ensures told { (d : TheDialect) →
+        MatchOption result (AreLine d begun (map (λ word. word.now) words.now))
+        (λ w. IsFirstWrong (AreLine d begun) (map (λ word. word.now) words.now) w.index) }
+    ensures within { IfSome result (λ w. w.index < 9) }
+{
+    if begun {
+        return Some(wrong(0, Wanted::SetupFirst));
+    }
+    if decimals::word_in(text_at(words, 1)).is_none() {
+        return Some(wrong(1, Wanted::SubDevices));
+    }
+    if decimals::word_in(text_at(words, 2)).is_none() {
+        return Some(wrong(2, Wanted::Room));
+    }
+    if want_in(text_at(words, 3)).is_none() {
+        return Some(wrong(3, Wanted::Messages));
+    }
+    end_at(words, 4)
+}
+
+/// The first wrong word of a poll, which says no more than what goes wrong.
+fn wrong_in_poll(words: &[&[u8]]) -> Option<WrongWord>
+    requires { word (map (λ word. word.now) words.now) 0 ≡ codes "collect" }
+    ensures told { (d : TheDialect) (begun : Bool) →
+        MatchOption result (AreLine d begun (map (λ word. word.now) words.now))
+        (λ w. IsFirstWrong (AreLine d begun) (map (λ word. word.now) words.now) w.index) }
+    ensures within { IfSome result (λ w. w.index < 9) }
+{
+    match wrong_in_fault(words_from(words, 1)) {
+        Some(word) => Some(wrong(word.index + 1, word.wanted)),
+        None => None,
     }
 }
 
-/// A setup, of three words more.
-fn test_setup(words: &[&[u8]], begun: bool) -> Result<(), WrongWord> {
-    test(!begun, 0, Wanted::SetupFirst)?;
-    test(
-        decimals::word_in(text_at(words, 1)).is_some(),
-        1,
-        Wanted::SubDevices,
-    )?;
-    test(
-        decimals::word_in(text_at(words, 2)).is_some(),
-        2,
-        Wanted::Room,
-    )?;
-    test(want_in(text_at(words, 3)).is_some(), 3, Wanted::Messages)?;
-    test_end(words, 4)
+/// The first wrong word of a step that has a count, and no word more.
+fn wrong_in_count(words: &[&[u8]]) -> Option<WrongWord>
+    requires { (word (map (λ word. word.now) words.now) 0 ≡ codes "settle") ⊎
+        (word (map (λ word. word.now) words.now) 0 ≡ codes "panel") }
+    ensures told { (d : TheDialect) (begun : Bool) →
+        MatchOption result (AreLine d begun (map (λ word. word.now) words.now))
+        (λ w. IsFirstWrong (AreLine d begun) (map (λ word. word.now) words.now) w.index) }
+    ensures within { IfSome result (λ w. w.index < 9) }
+{
+    if decimals::long_in(text_at(words, 1)).is_none() {
+        return Some(wrong(1, Wanted::Empties));
+    }
+    end_at(words, 2)
 }
 
-/// A command, of four words more and what goes wrong.
-fn test_command(dialect: Dialect, words: &[&[u8]]) -> Result<(), WrongWord> {
+/// The first wrong word of a command, which has four words more and what goes wrong.
+fn wrong_in_command(dialect: Dialect, words: &[&[u8]]) -> Option<WrongWord>
+    requires { action_in (word (map (λ word. word.now) words.now) 0) ≢ None }
+    ensures told { (begun : Bool) →
+        MatchOption result (AreLine dialect begun (map (λ word. word.now) words.now))
+        (λ w. IsFirstWrong (AreLine dialect begun) (map (λ word. word.now) words.now) w.index) }
+    ensures within { IfSome result (λ w. w.index < 9) }
+{
     let Dialect { device, spelling } = dialect;
+    if destination_in(device, text_at(words, 1)).is_none() {
+        return Some(wrong(1, Wanted::Destination));
+    }
+    if sub_in(spelling, text_at(words, 2)).is_none() {
+        return Some(wrong(2, Wanted::SubDevice));
+    }
+    if pid_in(spelling, text_at(words, 3)).is_none() {
+        return Some(wrong(3, Wanted::Parameter));
+    }
+    if words.len() <= 4 {
+        return Some(wrong(4, Wanted::Load));
+    }
     let load = text_at(words, 4);
-    test(
-        destination_in(device, text_at(words, 1)).is_some(),
-        1,
-        Wanted::Destination,
-    )?;
-    test(
-        sub_in(spelling, text_at(words, 2)).is_some(),
-        2,
-        Wanted::SubDevice,
-    )?;
-    test(
-        pid_in(spelling, text_at(words, 3)).is_some(),
-        3,
-        Wanted::Parameter,
-    )?;
-    test(!load.is_empty(), 4, Wanted::Load)?;
-    test(load_in(spelling, load).is_some(), 4, load_wanted(load))?;
-    test_fault(words, 5)
+    if load_in(spelling, load).is_none() {
+        return Some(wrong(4, load_wanted(load)));
+    }
+    match wrong_in_fault(words_from(words, 5)) {
+        Some(word) => Some(wrong(word.index + 5, word.wanted)),
+        None => None,
+    }
 }
 
 /// What is wanted if this word isn't the data of a command.
@@ -99,58 +161,74 @@ fn load_wanted(word: &[u8]) -> Wanted {
     }
 }
 
-/// From this index on, the words have to say what goes wrong with a transaction, if there are any.
-fn test_fault(words: &[&[u8]], index: usize) -> Result<(), WrongWord>
-    requires { index < 9 }
+/// The first wrong word of what goes wrong with a transaction: nothing does if there are no words.
+fn wrong_in_fault(words: &[&[u8]]) -> Option<WrongWord>
+    ensures told { MatchOption result (AreFault (map (λ word. word.now) words.now))
+        (λ w. IsFirstWrong AreFault (map (λ word. word.now) words.now) w.index) }
+    ensures within { IfSome result (λ w. w.index ≤ 3) }
 {
-    let name = text_at(words, index);
-    if name.is_empty() {
-        return Ok(());
+    if words.is_empty() {
+        return None;
     }
+    let name = text_at(words, 0);
     if lost_in(name).is_some() {
-        return test_end(words, index + 1);
+        return end_at(words, 1);
     }
-    test(
-        matches!(name, b"bad-request" | b"bad-reply"),
-        index,
-        Wanted::Fault,
-    )?;
-    test(
-        decimals::byte_in(text_at(words, index + 1)).is_some(),
-        index + 1,
-        Wanted::Slot,
-    )?;
-    test(
-        raise_in(text_at(words, index + 2)).is_some(),
-        index + 2,
-        Wanted::Raise,
-    )?;
-    test_end(words, index + 3)
+    if !is_altered(name) {
+        return Some(wrong(0, Wanted::Fault));
+    }
+    if decimals::byte_in(text_at(words, 1)).is_none() {
+        return Some(wrong(1, Wanted::Slot));
+    }
+    if raise_in(text_at(words, 2)).is_none() {
+        return Some(wrong(2, Wanted::Raise));
+    }
+    end_at(words, 3)
+}
+
+/// Whether a word names one of the two frames of a transaction, of which a slot is raised.
+fn is_altered(name: &[u8]) -> bool
+    ensures { result ≡ (bytes_eq name.now (codes "bad-request") || bytes_eq name.now (codes "bad-reply")) }
+{
+    name == b"bad-request".as_slice() || name == b"bad-reply".as_slice()
 }
 
 /// The line has to end before this index.
-fn test_end(words: &[&[u8]], index: usize) -> Result<(), WrongWord> {
-    test(words.len() <= index, index, Wanted::End)
-}
-
-/// The word at an index is what it has to be, or it isn't.
-fn test(is_so: bool, index: usize, wanted: Wanted) -> Result<(), WrongWord> {
-    if is_so {
-        Ok(())
+fn end_at(words: &[&[u8]], index: usize) -> Option<WrongWord>
+    ensures { MatchOption result (length words.now ≤ index) (λ w. (w.index ≡ index) × (index < length words.now)) }
+{
+    if words.len() <= index {
+        None
     } else {
-        Err(wrong(index, wanted))
+        Some(wrong(index, Wanted::End))
     }
 }
 
 /// The word at an index, or nothing if the line ends before it.
-fn text_at<'a>(words: &[&'a [u8]], index: usize) -> &'a [u8] {
+fn text_at<'a>(words: &[&'a [u8]], index: usize) -> &'a [u8]
+    ensures { result.now ≡ word (map (λ word. word.now) words.now) index }
+{
     match words.get(index) {
         Some(word) => word,
         None => &[],
     }
 }
 
+/// The words from an index on, or none if the line ends before it.
+#[tactic(auto, using(crate::proofs::Tests::words_behind, crate::proofs::Tests::words_past))]
+fn words_from<'a, 'b>(words: &'a [&'b [u8]], index: usize) -> &'a [&'b [u8]]
+    ensures { map (λ word. word.now) result.now ≡ drop index (map (λ word. word.now) words.now) }
+{
+    if index <= words.len() {
+        &words[index..]
+    } else {
+        &[]
+    }
+}
+
 /// A word that isn't what it has to be.
-fn wrong(index: usize, wanted: Wanted) -> WrongWord {
+fn wrong(index: usize, wanted: Wanted) -> WrongWord
+    ensures { result.index ≡ index }
+{
     WrongWord { index, wanted }
 }

@@ -1,4 +1,4 @@
-use Rattle.std.proofs.Common.{ℕ, ◌≡◌, ◌<◌, List, length, take, sym, subst, Option, Result, Ok, Err, IfErr, OnOk, OnErr, arith}
+use Rattle.std.proofs.Common.{ℕ, ◌<◌, List, length, take, sym, subst, Option, Result, Ok, Err, IfErr, OnOk, OnErr, arith}
 use Rattle.std.specs.Bool.{⊤}
 use Rattle.std.specs.Io.KnownBytes.{Appends}
 use Rattle.std.proofs.lemmas.List.{take_all}
