@@ -20,7 +20,7 @@ returns-then-is_find_name-clause-told c faulty =
     let ws = bytes_of c.args.words.now in
     let d = c.args.dialect in
     let is : IsSearch d.spelling (word ws 0) = search rules in
-    ended c.args.words.now c.end_at.result 1 (AreLine d c.args.begun ws) (λ i. IsFirstWrong (AreLine d c.args.begun) ws i) c.end_at.ensures (λ few. search_ends d c.args.begun ws few is) (λ many. search_wrong d c.args.begun ws many is)
+    ended c.args.words.now c.end_at-then-is_find_name.result 1 (AreLine d c.args.begun ws) (λ i. IsFirstWrong (AreLine d c.args.begun) ws i) c.end_at-then-is_find_name.ensures (λ few. search_ends d c.args.begun ws few is) (λ many. search_wrong d c.args.begun ws many is)
 
 pub returns-clause-told : goal.returns-clause-told
 returns-clause-told c faulty =
