@@ -55,6 +55,30 @@ pub const DISC_MUTE: u16 = 0x0002;
 /// The parameter ID that un-mutes a device (section 7.6).
 pub const DISC_UN_MUTE: u16 = 0x0003;
 
+/// The parameter ID of which devices a proxy stands for (table A-3). No responder here has it.
+pub const PROXIED_DEVICES: u16 = 0x0010;
+
+/// The parameter ID of how many devices a proxy stands for (table A-3). No responder here has it.
+pub const PROXIED_DEVICE_COUNT: u16 = 0x0011;
+
+/// The parameter ID of counts of faulty frames (table A-3). No responder here has it.
+pub const COMMS_STATUS: u16 = 0x0015;
+
+/// The parameter ID of what a parameter of the manufacturer is (table A-3). No responder here has it.
+pub const PARAMETER_DESCRIPTION: u16 = 0x0051;
+
+/// The parameter ID of what a product is, in detail (table A-3). No responder here has it.
+pub const PRODUCT_DETAIL_ID_LIST: u16 = 0x0070;
+
+/// The parameter ID of a clock (table A-3). No responder here has it.
+pub const REAL_TIME_CLOCK: u16 = 0x0603;
+
+/// The parameter ID that resets a device (table A-3). No responder here has it.
+pub const RESET_DEVICE: u16 = 0x1001;
+
+/// The parameter ID that stores a preset (table A-3). No responder here has it.
+pub const CAPTURE_PRESET: u16 = 0x1030;
+
 /// The sub-device number of the root device (section 9).
 pub const ROOT_DEVICE: u16 = 0x0000;
 

@@ -3,7 +3,11 @@
 ghost use Rattle.std.specs.Prelude.{◌≡◌};
 ghost use Rattle.rdm_script.specs.Names.{named_in, other_names, pid_named};
 
-use rdm_frame::standard::{DISC_MUTE, DISC_UN_MUTE, DISC_UNIQUE_BRANCH};
+use rdm_frame::standard::{
+    CAPTURE_PRESET, COMMS_STATUS, DISC_MUTE, DISC_UN_MUTE, DISC_UNIQUE_BRANCH,
+    PARAMETER_DESCRIPTION, PRODUCT_DETAIL_ID_LIST, PROXIED_DEVICE_COUNT, PROXIED_DEVICES,
+    REAL_TIME_CLOCK, RESET_DEVICE,
+};
 use rdm_params::Kind;
 
 /// The PID of the parameter with this name, such as `DMX_START_ADDRESS` (E1.20 table A-3), whether or not a device here has it.
@@ -28,21 +32,21 @@ fn other_named(name: &[u8]) -> Option<u16>
     } else if name == b"DISC_UN_MUTE".as_slice() {
         Some(DISC_UN_MUTE)
     } else if name == b"PROXIED_DEVICES".as_slice() {
-        Some(0x0010)
+        Some(PROXIED_DEVICES)
     } else if name == b"PROXIED_DEVICE_COUNT".as_slice() {
-        Some(0x0011)
+        Some(PROXIED_DEVICE_COUNT)
     } else if name == b"COMMS_STATUS".as_slice() {
-        Some(0x0015)
+        Some(COMMS_STATUS)
     } else if name == b"PARAMETER_DESCRIPTION".as_slice() {
-        Some(0x0051)
+        Some(PARAMETER_DESCRIPTION)
     } else if name == b"PRODUCT_DETAIL_ID_LIST".as_slice() {
-        Some(0x0070)
+        Some(PRODUCT_DETAIL_ID_LIST)
     } else if name == b"REAL_TIME_CLOCK".as_slice() {
-        Some(0x0603)
+        Some(REAL_TIME_CLOCK)
     } else if name == b"RESET_DEVICE".as_slice() {
-        Some(0x1001)
+        Some(RESET_DEVICE)
     } else if name == b"CAPTURE_PRESET".as_slice() {
-        Some(0x1030)
+        Some(CAPTURE_PRESET)
     } else {
         None
     }
