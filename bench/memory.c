@@ -38,6 +38,8 @@ static void *keep(void *at, void *old, size_t size)
 __attribute__((noinline)) static void paint_below(uint8_t *here)
 {
     last_allocation = here;
+    if (stack == NULL) /* no stack is measured */
+        return;
     for (volatile uint8_t *place = stack; place < here - 512; place++)
         *place = PAINT;
 }
@@ -80,6 +82,8 @@ struct tally {
 
 uint8_t rdm_bench_run(uint16_t subs, const uint8_t *preface, size_t preface_length, const uint8_t *packed,
                       size_t length, uint32_t rounds, uint8_t reports, struct tally *tally);
+
+uint8_t rdm_bench_make(uint16_t queue_size, uint16_t entries);
 
 static struct {
     uint16_t subs;
@@ -180,9 +184,23 @@ static long deepest(void)
     return most;
 }
 
+/* What making a responder with no sub-devices takes on the heap. */
+static size_t heap_of(uint16_t queue_size, uint16_t entries)
+{
+    stack = NULL;
+    held = most_held = 0;
+    is_counted = 1;
+    uint8_t fault = rdm_bench_make(queue_size, entries);
+    is_counted = 0;
+    if (fault != 0 || held != 0)
+        exit(1);
+    return most_held;
+}
+
 int main(void)
 {
     static const uint16_t subs[] = {0, 1, 512};
+    static const uint16_t sizes[][2] = {{8, 1024}, {8, 64}, {8, 1}, {1, 1}, {1024, 1024}};
     stack = mmap(NULL, STACK, PROT_READ | PROT_WRITE, MAP_PRIVATE | MAP_ANONYMOUS, -1, 0);
     if (stack == MAP_FAILED)
         return 1;
@@ -195,5 +213,8 @@ int main(void)
         long made = (long)(caller - last_allocation);
         printf("%11u %6zu %18ld %23ld\n", subs[i], heap, made, deepest());
     }
+    printf("\nqueue   entries   heap\n");
+    for (size_t i = 0; i < sizeof sizes / sizeof *sizes; i++)
+        printf("%5u %9u %6zu\n", sizes[i][0], sizes[i][1], heap_of(sizes[i][0], sizes[i][1]));
     return 0;
 }

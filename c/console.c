@@ -10,7 +10,7 @@ enum { MAKER = 0x7FF0, FIXTURE = 1, CONSOLE = 2, QUEUE_SIZE = 8 };
 static uint8_t exchange(felosumay_collector *console, felosumay_responder *device, const uint8_t *request, size_t count,
                         int lost, felosumay_job *job) {
     uint8_t reply[FELOSUMAY_FRAME_BYTES], heard = FELOSUMAY_IGNORED;
-    felosumay_stepped stepped = {0, 0, 0, {0, 0, 0, 0, 0, 0, 0}};
+    felosumay_stepped stepped = {0, 0, 0, 0, {0, 0, 0, 0, 0, 0, 0}, 0, 0};
     felosumay_responder_step(device, request, count, reply, &stepped);
     if (stepped.started)
         *job = stepped.job;

@@ -26,7 +26,7 @@ enum {
     FELOSUMAY_DONE = 0,          /* it was carried out */
     FELOSUMAY_OUT_OF_MEMORY = 1, /* out of memory */
     FELOSUMAY_BAD_PROFILE = 2,   /* the profile breaks one of the rules listed below it */
-    FELOSUMAY_BAD_SIZE = 3,      /* the size of the queue isn't 1 to 1,024 */
+    FELOSUMAY_BAD_SIZE = 3,      /* the size of the queue, or the number of status entries, isn't 1 to 1,024 */
     FELOSUMAY_BAD_UID = 4,       /* the UID addresses more than one device */
     FELOSUMAY_ABSENT = 5,        /* the handle holds nothing that the call is for */
     FELOSUMAY_ASTRAY = 6,        /* the report isn't of the oldest job of its worker, or its outcome doesn't fit */
@@ -38,8 +38,15 @@ enum {
     FELOSUMAY_TOO_LONG = 12,     /* there are more data than a frame can carry, or a label is longer than 32 bytes */
     FELOSUMAY_NO_MORE = 13,      /* there are no more */
     FELOSUMAY_NO_ROOM = 14,      /* there is no room for one more message */
-    FELOSUMAY_OUT_OF_RANGE = 15, /* a SET of the value would be out of range */
-    FELOSUMAY_LIMIT = 16         /* the search took as many transactions as it may */
+    FELOSUMAY_OUT_OF_RANGE = 15, /* a SET of the value would be out of range, or there is no such sensor */
+    FELOSUMAY_LIMIT = 16,        /* the search took as many transactions as it may */
+    FELOSUMAY_NO_DEVICE = 17,    /* there is no such sub-device */
+    FELOSUMAY_NOT_STORED = 18,   /* the device stores no value of the parameter */
+    FELOSUMAY_BAD_LENGTH = 19,   /* the data have another length than the value */
+    FELOSUMAY_SHORT_IMAGE = 20,  /* there is no room for the image */
+    FELOSUMAY_IMAGE_LENGTH = 21, /* the image has another length than one of these values: it is cut, or of other devices */
+    FELOSUMAY_ALTERED_IMAGE = 22, /* the image is altered, or it is none */
+    FELOSUMAY_FOREIGN_IMAGE = 23  /* the image is of another profile */
 };
 
 enum {
@@ -151,12 +158,23 @@ typedef struct {
     size_t count;    /* how many bytes the reply has */
     uint8_t replied; /* 1 if there is a reply, else 0 */
     uint8_t started; /* 1 if a job started, else 0 */
+    uint8_t changed; /* FELOSUMAY_NOTHING_CHANGED and so on */
     felosumay_job job;
+    uint16_t changed_sub_device; /* if one value changed, the sub-device, or 0 for the root; else 0 */
+    uint16_t changed_parameter;  /* if one value changed, its PID; else 0 */
 } felosumay_stepped;
+
+/* What a request changed of the values that `get` reads. A job that has ended, a change at the menu and what is placed aren't
+ * told of here: the firmware made those calls itself. */
+enum {
+    FELOSUMAY_NOTHING_CHANGED = 0, /* every value is what it was, even if there was a SET */
+    FELOSUMAY_ONE_CHANGED = 1,     /* one parameter of one device; after RECORD_SENSORS it is SENSOR_VALUE, of one sensor or all */
+    FELOSUMAY_SEVERAL_CHANGED = 2  /* several: by a SET of all sub-devices, or by FACTORY_DEFAULTS */
+};
 
 typedef struct {
     uint8_t kind;     /* FELOSUMAY_JOB_DONE and so on */
-    uint8_t severity; /* if it failed: 02 advisory, 03 warning, 04 error; 12, 13, 14 when that is over */
+    uint8_t severity; /* if it failed, its status type: 0x02 advisory, 0x03 warning, 0x04 error; 0x12, 0x13, 0x14 when over */
     int16_t reading;
     uint16_t id;
     uint16_t v1;
@@ -170,15 +188,21 @@ enum {
 };
 
 /* Makes a responder of this profile, or the demonstration fixture with N sub-devices (`subs`), and replaces what the handle
- * held. If it isn't DONE, the handle stays as it was. BAD_UID, BAD_SIZE, BAD_PROFILE, OUT_OF_MEMORY, in this order. The
- * new responder counts its jobs from 0 again: end the jobs of the old one first, or drop their reports. */
+ * held. `queue_size` is how many messages and jobs it has room for, 1 to 1,024, at 272 bytes each; `entries` how many status
+ * entries wait at most to be shown, 1 to 1,024, at 10 bytes each: 1,024 if no number is passed. If it isn't DONE, the handle
+ * stays as it was. BAD_UID, BAD_SIZE, BAD_PROFILE, OUT_OF_MEMORY, in this order. The new responder counts its jobs from 0
+ * again: end the jobs of the old one first, or drop their reports. */
 felosumay_result felosumay_responder_new(felosumay_responder *responder, uint16_t maker, uint32_t device,
                                          const felosumay_profile *profile, uint16_t queue_size);
+felosumay_result felosumay_responder_new_with_entries(felosumay_responder *responder, uint16_t maker, uint32_t device,
+                                                      const felosumay_profile *profile, uint16_t queue_size,
+                                                      uint16_t entries);
 felosumay_result felosumay_responder_demo(felosumay_responder *responder, uint16_t maker, uint32_t device, uint16_t subs,
                                           uint16_t queue_size);
 
 /* Hears bytes. If there is a reply, it stands at the front of `reply`; the answer to discovery is a reply like any other,
- * and has no break before it. What stands behind the reply has no meaning. ABSENT: `replied` and `started` are 0 then. */
+ * and has no break before it. What stands behind the reply has no meaning. ABSENT: `replied`, `started` and
+ * `changed` are 0 then. */
 felosumay_result felosumay_responder_step(felosumay_responder *responder, const uint8_t *bytes, size_t length,
                                           uint8_t reply[FELOSUMAY_FRAME_BYTES], felosumay_stepped *stepped);
 
@@ -190,14 +214,45 @@ felosumay_result felosumay_responder_arrive(felosumay_responder *responder, cons
 
 /* A person changes something at the fixture's own menu, and the message that tells the controller waits; each DONE adds one,
  * even if the value is as it was. Only polls take messages away: if no controller polls, the queue fills up, and each
- * change is NO_ROOM from then on. A SET that the firmware steps itself needs no room (c/fixture.c, `set_own`). TOO_LONG for a
- * label, then ABSENT, NO_ROOM, OUT_OF_RANGE, in this order; nothing changes then. */
+ * change is NO_ROOM from then on. `place` needs no room. TOO_LONG for a label, then ABSENT, NO_ROOM, OUT_OF_RANGE, in this
+ * order; nothing changes then. */
 felosumay_result felosumay_responder_change_start(felosumay_responder *responder, uint16_t start);
 felosumay_result felosumay_responder_change_personality(felosumay_responder *responder, uint8_t number);
 felosumay_result felosumay_responder_change_label(felosumay_responder *responder, const uint8_t *label, size_t length);
 
 /* Whether there is room for the message of a change: `there` is 1 then, else 0. ABSENT. */
 felosumay_result felosumay_responder_room(felosumay_responder *responder, uint8_t *there);
+
+/* The firmware sets a value of its own: of the root (`sub` 0) or of a sub-device, 1 to 512. It counts hours or strikes, or has
+ * no room for the message of a change. The value becomes what a SET of it makes it,
+ * at once, with no message, and needs no room, even if a SET on the line is slow; the factory's defaults stay the profile's.
+ * `data` are those of the SET, in its range and units, the most significant byte first (DEVICE_HOURS: 4 bytes, in hours, E1.20
+ * section 10.8.1); what a sensor shows is placed as SENSOR_VALUE, 0x0201, at the root, by the 9 bytes with which that replies:
+ * the sensor's number, then its present, lowest, highest and recorded value (section 10.7.2). docs/PARAMETERS.md has the list.
+ * ABSENT; NO_DEVICE if there is no such sub-device; NOT_STORED if the device stores no value of `pid`; BAD_LENGTH;
+ * OUT_OF_RANGE, in this order; nothing changes then. */
+felosumay_result felosumay_responder_place(felosumay_responder *responder, uint16_t sub, uint16_t pid, const uint8_t *data,
+                                           size_t length);
+
+/* Values outlive power-off: `save` writes an image of all of them at the front of `image`, and `restore` takes it when the
+ * fixture is on again, before anything is heard. What lamp, identification, power state, self test and preset are at isn't in it,
+ * nor what the sensors measured, but for what they recorded. Of one profile all images have the same number of bytes, which
+ * `saved_size` tells; the program keeps them where it likes, and an image that is cut or altered is refused. DEVICE_POWER_CYCLES
+ * counts one more than was saved (E1.20 section 10.8.6). No message waits, and jobs, messages and status entries stay.
+ * `saved_size`: ABSENT. `save`: ABSENT, SHORT_IMAGE; nothing is written then. `restore`: ABSENT, IMAGE_LENGTH, ALTERED_IMAGE,
+ * FOREIGN_IMAGE, in this order; nothing changes then. */
+felosumay_result felosumay_responder_saved_size(felosumay_responder *responder, size_t *count);
+felosumay_result felosumay_responder_save(felosumay_responder *responder, uint8_t *image, size_t size, size_t *count);
+felosumay_result felosumay_responder_restore(felosumay_responder *responder, const uint8_t *image, size_t length);
+
+/* The firmware warns: it has a status entry of its own, such as a fan that stands still, of the root (`sub` 0) or of a
+ * sub-device, 1 to 512. A controller is shown it once, by STATUS_MESSAGES (E1.20 section 10.3.2). `severity` is the status type
+ * (table A-4): 0x02 advisory, 0x03 warning, 0x04 error; 0x12, 0x13, 0x14 when that is over. `id` is the status ID, which the
+ * profile's status texts explain (section 10.3.3), and `v1` and `v2` are the values that its text names, in its units, or 0.
+ * `noted` is 1 if the entry is kept, else 0: it is if the device is there, its threshold isn't 0x00 nor above the entry (section
+ * 10.3.5), and a place for entries is free. UNKNOWN if `severity` is another, then ABSENT; nothing changes then. */
+felosumay_result felosumay_responder_note(felosumay_responder *responder, uint16_t sub, uint8_t severity, uint16_t id,
+                                          uint16_t v1, uint16_t v2, uint8_t *noted);
 
 /* Reads a parameter as a GET would. ABSENT; REFUSED, with the code of the NACK in `reason`; NO_VALUE if the command starts
  * a job or fetches a message. Nothing changes. */

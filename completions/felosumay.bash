@@ -16,6 +16,7 @@ _felosumay() {
         widget:--fixture) mapfile -t COMPREPLY < <(compgen -f -- "$word"); return ;;
         widget:--subs) :; return ;;
         widget:--speed) :; return ;;
+        widget:--saved) mapfile -t COMPREPLY < <(compgen -f -- "$word"); return ;;
     esac
     case ${COMP_WORDS[1]} in
         help) mapfile -t COMPREPLY < <(compgen -W 'play words chart fixture parameters widget' -- "$word") ;;
@@ -46,7 +47,7 @@ _felosumay() {
             esac ;;
         widget)
             case $word in
-                -*) mapfile -t COMPREPLY < <(compgen -W '--fixture --subs --speed -h --help -V --version' -- "$word") ;;
+                -*) mapfile -t COMPREPLY < <(compgen -W '--fixture --subs --speed --saved -h --help -V --version' -- "$word") ;;
                 *) : ;;
             esac ;;
     esac

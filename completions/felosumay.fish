@@ -34,6 +34,7 @@ complete -c felosumay -n '__fish_seen_subcommand_from parameters' -a '(felosumay
 complete -c felosumay -n '__fish_seen_subcommand_from widget' -l fixture -r -F -d 'The fixture; the demonstration fixture if omitted'
 complete -c felosumay -n '__fish_seen_subcommand_from widget' -l subs -x -d 'The number of sub-devices; if omitted, all of the file\'s, or none without a file'
 complete -c felosumay -n '__fish_seen_subcommand_from widget' -l speed -x -d 'Run slow commands N times faster; 1 if omitted'
+complete -c felosumay -n '__fish_seen_subcommand_from widget' -l saved -r -F -d 'Keep the fixture\'s values in this file, over restarts'
 complete -c felosumay -n '__fish_seen_subcommand_from widget' -s h -l help -d 'Print help'
 complete -c felosumay -n '__fish_seen_subcommand_from widget' -s V -l version -d 'Print version'
 complete -c felosumay -n '__fish_seen_subcommand_from help' -a 'play words chart fixture parameters widget'

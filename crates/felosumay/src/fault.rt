@@ -4,6 +4,7 @@ use crate::source::OUTPUT;
 use rdm_crew::RunError;
 use rdm_fixture::{FixtureError, Refusal};
 use rdm_frame::Uid;
+use rdm_frame::standard::MOST_DATA;
 use rdm_responder::NewError;
 use rdm_script::{ScriptError, Spelling, refusal_at};
 use std::alloc::{AllocError, AllocFailed};
@@ -55,6 +56,10 @@ pub enum Fault<'a> {
     Fixture(&'a str, Option<usize>, Refusal),
     /// No device can be made of the fixture.
     NoDevice,
+    /// A file has no saved values.
+    NotSaved(&'a str),
+    /// A file has the saved values of a fixture of another profile.
+    OtherProfile(&'a str),
 }
 
 impl<'a> Fault<'a> {
@@ -116,7 +121,9 @@ impl<'a> Fault<'a> {
             | Fault::Syntax(_, _, _)
             | Fault::Fixture(_, _, _)
             | Fault::ControllersUid(_)
-            | Fault::NoDevice => 1,
+            | Fault::NoDevice
+            | Fault::NotSaved(_)
+            | Fault::OtherProfile(_) => 1,
             Fault::Memory => 2,
             Fault::Stopped(_, _, _) | Fault::BadSetup(_, _, _) => 3,
             Fault::Clock(_) | Fault::Io(_, _) => 4,
@@ -223,6 +230,10 @@ impl fmt::Display for Fault<'_> {
                 write!(f, "{refusal}")
             }
             Fault::NoDevice => f.write_str("error: this isn't a valid fixture"),
+            Fault::NotSaved(name) => write!(f, "{name}: this isn't a file of saved values"),
+            Fault::OtherProfile(name) => {
+                write!(f, "{name}: these are the saved values of another fixture")
+            }
             _ => write_refused(f, self),
         }
     }
@@ -272,7 +283,9 @@ fn write_stop<W: fmt::Write>(f: &mut fmt::Formatter<W>, error: RunError) -> fmt:
         RunError::Reserved => f.write_str(
             "QUEUED_MESSAGE and STATUS_MESSAGES are reserved for the controller's polls: use collect",
         ),
-        RunError::TooLong => f.write_str("a frame can't carry more than 231 bytes of data"),
+        RunError::TooLong => {
+            write!(f, "a frame can't carry more than {MOST_DATA} bytes of data")
+        }
         RunError::Unsettled => { f.write_str("settle found no report more times than it allows") }
         RunError::BadSetup | RunError::OutOfMemory | RunError::Astray | RunError::Missing => {
             write!(f, "run {error}")

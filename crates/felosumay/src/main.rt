@@ -10,6 +10,7 @@ mod fixture;
 mod host;
 mod parameters;
 mod play;
+mod saved;
 mod source;
 mod usage;
 mod watched;

@@ -18,6 +18,8 @@ pub const INPUT: &str = "input";
 pub const PARAMETER: &str = "parameter";
 /// The option for the number of sub-devices.
 pub const SUBS: &str = "subs";
+/// The option that names a file for the values of a fixture.
+pub const SAVED: &str = "saved";
 /// The option for how fast time passes.
 pub const SPEED: &str = "speed";
 
@@ -151,6 +153,11 @@ fn widget<'a>(alloc: Global) -> Result<Command<'a>, Error> {
         .value_name("N")
         .value_parser(value_parser!(u32).range(1..=1000000))
         .help("Run slow commands N times faster; 1 if omitted");
+    let saved = Arg::new(alloc, SAVED)
+        .long("saved")
+        .value_name("FILE")
+        .action(ArgAction::Set)
+        .help("Keep the fixture's values in this file, over restarts");
     Ok(
         Command::new(alloc, "widget")
             .about(
@@ -158,7 +165,8 @@ fn widget<'a>(alloc: Global) -> Result<Command<'a>, Error> {
             )
             .arg(fixture_file(alloc, "The fixture; the demonstration fixture if omitted"))?
             .arg(subs)?
-            .arg(speed)?,
+            .arg(speed)?
+            .arg(saved)?,
     )
 }
 

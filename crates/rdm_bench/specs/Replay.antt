@@ -2,6 +2,7 @@
 use Rattle.std.specs.Prelude.{◌≡◌, ℕ, zero, suc, List, [], ◌++◌, Option, Some, None, filter_map, flat_map, unwrap_or}
 use Rattle.rdm_params.specs.Device.Demo.{demo}
 use Rattle.rdm_outbox.specs.declared.job.Job.{Job}
+use Rattle.rdm_outbox.specs.State.{most_entries}
 use Rattle.rdm_responder.specs.declared.report.Report.{Report}
 use Rattle.rdm_responder.specs.declared.run.Input.{Input}
 use Rattle.rdm_responder.specs.declared.run.Input.TheVariants as input
@@ -15,9 +16,9 @@ use Rattle.rdm_bench.specs.Reports.{reports_with, reports_of}
 use Rattle.rdm_bench.specs.Tally.{tally_of}
 
 -- The device that hears them: its UID is 7FF0:00000001, it is the demo fixture with so many sub-devices, and it has room
--- for 1,024 results of slow commands.
+-- for 1,024 results of slow commands and the most status entries.
 abbrev pub bench_setup : ℕ → Setup
-bench_setup subs = record { uid = record { maker = 0x7FF0; device = 1 }; profile = demo subs; queue_size = 1024 }
+bench_setup subs = record { uid = record { maker = 0x7FF0; device = 1 }; profile = demo subs; queue_size = 1024; entries = most_entries }
 
 -- these, that many times over
 abbrev pub repeated : ℕ → List (List ℕ) → List (List ℕ)

@@ -1,8 +1,9 @@
 //! What C calls.
 
 ghost use Rattle.std.specs.Prelude.{◌≡◌, ◌≢◌, ◌↔◌, ◌<◌, ◌≤◌, ◌++◌, ℕ, List, IfOk};
+ghost use Rattle.rdm_outbox.specs.State.{IsListSize};
 ghost use Rattle.rdm_responder.specs.History.{History, empty_history};
-ghost use Rattle.rdm_responder.specs.StandsFor.{StandsFor};
+ghost use Rattle.rdm_responder.specs.StandsFor.{IsQueueSize, StandsFor};
 ghost use Rattle.rdm_bench.specs.Packed.{packed, ArePackable};
 ghost use Rattle.rdm_bench.specs.Replay.{repeated, bench_setup, IsReplay, AnswersReplay};
 
@@ -57,6 +58,21 @@ pub extern "C" fn rdm_bench_run(
             0
         }
         Err(fault) => fault.code(),
+    }
+}
+
+/// Makes a responder with no sub-devices and room for so many results of slow commands and status entries, and lets it go:
+/// `bench/memory` counts what it takes. The answer is 0, or 2 where it can't have these sizes, or 1 where memory is refused.
+#[unsafe(no_mangle)]
+pub extern "C" fn rdm_bench_make(alloc: Global, queue_size: u16, entries: u16) -> u8
+    ensures codes { result ≤ 2 }
+    ensures bad_size { (result ≡ 2) ↔ (¬ (IsQueueSize queue_size × IsListSize entries)) }
+{
+    match Responder::with_entries(alloc, DEVICE, Profile::demo(0), queue_size, entries) {
+        Ok(_) => 0,
+        Err(NewError::BadSize) => 2,
+        // The UID addresses one device, and the profile is such as a responder takes.
+        Err(NewError::OutOfMemory | NewError::BadProfile | NewError::BadUid) => 1,
     }
 }
 

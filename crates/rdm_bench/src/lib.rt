@@ -12,7 +12,7 @@ mod replay;
 mod reports;
 mod tally;
 
-pub use export::rdm_bench_run;
+pub use export::{rdm_bench_make, rdm_bench_run};
 pub use fault::Fault;
 pub use reports::Reports;
 pub use tally::Tally;

@@ -87,6 +87,9 @@ event_next : (a : Account) (e : Event) → HasNextNumber a.outbox (job_at a e)
 event_next a (history.Heard bytes) = request_next a (request_in a.setup.uid (frame_in bytes))
 event_next a (history.Arrived r) = tt
 event_next a (history.Changed change) = tt
+event_next a (history.Placed sub pid bytes) = tt
+event_next a (history.Noted entry) = tt
+event_next a (history.Restored image) = tt
 
 -- ---- every history
 
@@ -121,6 +124,12 @@ ends_events w a (history.Arrived r ∷ es) lawful within =
     ends_events w (account_after a (history.Arrived r)) es lawful.1 (comes w _ _ r (event_grows a (history.Arrived r)) lawful.0.oldest within).within
 ends_events w a (history.Changed change ∷ es) lawful within =
     ends_events w (account_after a (history.Changed change)) es lawful.1 (accepts w _ _ _ (event_grows a (history.Changed change)) within).within
+ends_events w a (history.Placed sub pid bytes ∷ es) lawful within =
+    ends_events w (account_after a (history.Placed sub pid bytes)) es lawful.1 (accepts w _ _ _ (event_grows a (history.Placed sub pid bytes)) within).within
+ends_events w a (history.Noted entry ∷ es) lawful within =
+    ends_events w (account_after a (history.Noted entry)) es lawful.1 (accepts w _ _ _ (event_grows a (history.Noted entry)) within).within
+ends_events w a (history.Restored image ∷ es) lawful within =
+    ends_events w (account_after a (history.Restored image)) es lawful.1 (accepts w _ _ _ (event_grows a (history.Restored image)) within).within
 
 pub ends_within : (h : History) (w : ℕ) → IsLawful h → EndsWithin w (outbox_of h)
 unfolding account_of

@@ -16,6 +16,7 @@ use Rattle.rdm_params.specs.declared.panel.Change.{Change}
 use Rattle.rdm_params.specs.declared.jobs.message.Message.{Message}
 use Rattle.rdm_params.specs.declared.jobs.outcome.Outcome.{Outcome}
 use Rattle.rdm_params.specs.declared.jobs.outcome.Outcome.TheVariants.{Done, Reading, Failed}
+use Rattle.rdm_params.specs.declared.jobs.status.Entry.{Entry as StatusEntry}
 use Rattle.rdm_params.specs.declared.jobs.work.Work.{Work}
 use Rattle.rdm_params.specs.declared.verdict.Verdict.{Verdict}
 use Rattle.rdm_params.specs.declared.verdict.Verdict.TheVariants.{Reply, Start, Queue, Status, Clear, Refuse}
@@ -36,7 +37,7 @@ use Rattle.rdm_responder.specs.declared.report.Arrival.{Arrival}
 use Rattle.rdm_responder.specs.History as history
 use Rattle.rdm_responder.specs.History.{History, Event, then_event}
 use Rattle.rdm_responder.specs.Requests.{Request, Ignored, Branch, Muting, Get, Set, request_of, request_in, discovery_of}
-use Rattle.rdm_responder.specs.Rules.{Account, Response, ack_message, account_of, account_before, account_after, account_with, after_message, after_outcome, outbox_after, answer_to, answer_with, reply_with, message_count}
+use Rattle.rdm_responder.specs.Rules.{Account, Response, ack_message, account_of, account_before, account_after, account_with, after_message, after_entry, after_outcome, outbox_after, answer_to, answer_with, reply_with, message_count}
 use Rattle.rdm_responder.specs.Runs.{IsArrival, IsChange, outbox_of}
 use Rattle.rdm_responder.proofs.Accounts.{account_of-then}
 use Rattle.rdm_collector.specs.Answers.{message_of}
@@ -149,10 +150,13 @@ note_still : (b b' : outbox.Account) (c : Bool) → IsStill b b' → IsStill b (
 note_still b b' true s = s
 note_still b b' false s = still b
 
+entry_still : (p : Parameters) (b : outbox.Account) (entry : StatusEntry) → IsStill b (after_entry p b entry)
+entry_still p b entry = note_still b _ _ (note_still b _ (can_note b) (record { arrived = refl; given = refl; answers = refl }))
+
 outcome_still : (p : Parameters) (b : outbox.Account) (work : Work) (outcome : Outcome) → IsStill b (after_outcome p b work outcome)
 outcome_still p b work Done = still b
 outcome_still p b work (Reading v) = still b
-outcome_still p b work (Failed severity id v1 v2) = note_still b _ _ (note_still b _ (can_note b) (record { arrived = refl; given = refl; answers = refl }))
+outcome_still p b work (Failed severity id v1 v2) = entry_still p b _
 
 within_arrive : (b : outbox.Account) (worker : ℕ) (m : Message) → IsWithin b → IsWithin (after_arrive b worker m)
 within_arrive b worker m w = omega (arith, w, length-append b.arrived (m ∷ []))
@@ -166,6 +170,9 @@ within_event a (history.Heard bytes) w = within_request a (request_in a.setup.ui
 within_event a (history.Arrived r) w =
     within_still _ _ (outcome_still _ _ r.job.work r.outcome) (within_arrive a.outbox (worker_of r.job.work) (committed a.parameters r.job.work r.outcome) w)
 within_event a (history.Changed change) w = within_message a.outbox (change_message a.parameters change) w
+within_event a (history.Placed sub pid bytes) w = w
+within_event a (history.Noted entry) w = within_still _ _ (entry_still a.parameters a.outbox entry) w
+within_event a (history.Restored image) w = w
 
 within_events : (a : Account) (es : List Event) → IsWithin a.outbox → IsWithin (fold account_after a es).outbox
 within_events a [] w = w

@@ -7,8 +7,7 @@ use Rattle.rdm_params.specs.declared.verdict.Verdict.{Verdict}
 use Rattle.rdm_params.specs.declared.verdict.Verdict.TheVariants.{Reply, Refuse}
 use Rattle.rdm_params.specs.Commands.Nacks.{nack_code}
 use Rattle.rdm_params.specs.Commands.Panel.{change_message}
-use Rattle.rdm_responder.specs.declared.report.Report.{Report}
-use Rattle.rdm_responder.specs.History.{History, Setup, Arrived, then_event}
+use Rattle.rdm_responder.specs.History.{History, Setup, Event, then_event}
 use Rattle.rdm_outbox.specs.Jobs.{has_place}
 use Rattle.rdm_responder.specs.Runs.{outbox_of}
 use Rattle.rdm_responder.specs.Rules.{account_of, answered}
@@ -79,13 +78,18 @@ abbrev pub found : Bool → Status
 found true = status.Done
 found false = status.Absent
 
--- what a responder is set up with
-abbrev pub setup_of : ℕ → ℕ → Profile → ℕ → Setup
-setup_of maker device profile queue_size = record { uid = record { maker = maker; device = device }; profile = profile; queue_size = queue_size }
+-- what a responder is set up with: its UID, its profile, the size of its queue, and how many status entries can wait
+abbrev pub setup_of : ℕ → ℕ → Profile → ℕ → ℕ → Setup
+setup_of maker device profile queue_size entries =
+    record { uid = record { maker = maker; device = device }; profile = profile; queue_size = queue_size; entries = entries }
 
--- whether the report leaves a status entry that is kept
-abbrev pub is_noted : History → Report → Bool
-is_noted h r = nat_lt (length (outbox_of h).noted) (length (outbox_of (then_event h (Arrived r))).noted)
+-- what C is told of whether something is so: 1 or 0
+abbrev pub flag : Bool → ℕ
+flag holds = if holds then 1 else 0
+
+-- whether what happens leaves a status entry that is kept
+abbrev pub is_noted : History → Event → Bool
+is_noted h event = nat_lt (length (outbox_of h).noted) (length (outbox_of (then_event h event)).noted)
 
 -- the bytes at the front, if this is 1
 abbrev pub told : ℕ → ℕ → List ℕ → Option (List ℕ)

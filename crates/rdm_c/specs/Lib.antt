@@ -1,5 +1,6 @@
 pub mod Held
 pub mod Statuses
+pub mod Changes
 pub mod Jobs
 pub mod Outcomes
 pub mod Profiles

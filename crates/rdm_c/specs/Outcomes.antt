@@ -1,8 +1,9 @@
--- Outcomes and reports as the numbers that C has of them.
-use Rattle.std.specs.Prelude.{◌==◌, if◌then◌else◌, Option, Some, None}
+-- Outcomes, reports and status entries as the numbers that C has of them.
+use Rattle.std.specs.Prelude.{ℕ, ◌==◌, if◌then◌else◌, Option, Some, None}
 use Rattle.std.specs.Option.{option_map}
 use Rattle.rdm_params.specs.declared.jobs.outcome.Outcome.{Outcome}
 use Rattle.rdm_params.specs.declared.jobs.outcome.Outcome.TheVariants.{Done, Reading, Failed}
+use Rattle.rdm_params.specs.declared.jobs.status.Entry.{Entry as StatusEntry}
 use Rattle.rdm_params.specs.declared.jobs.status.Severity.{Severity}
 use Rattle.rdm_params.specs.Jobs.Severities.{severity_in}
 use Rattle.rdm_outbox.specs.declared.job.Job.{Job}
@@ -28,3 +29,11 @@ report_of _ _ = None
 -- the report that both stand for
 abbrev pub report_in : JobNumbers → OutcomeNumbers → Option Report
 report_in job outcome = report_of (job_in job) (outcome_in outcome)
+
+-- The status entry that numbers stand for, if the status type is one of the six of table A-4: the sub-device, the status
+-- type, the status ID, and the two values that its text names. E1.20 section 10.3.2.
+abbrev pub entry_with : ℕ → ℕ → ℕ → ℕ → Severity → StatusEntry
+entry_with sub id v1 v2 severity = record { sub = sub; severity = severity; id = id; v1 = v1; v2 = v2 }
+
+abbrev pub entry_in : ℕ → ℕ → ℕ → ℕ → ℕ → Option StatusEntry
+entry_in sub severity id v1 v2 = option_map (entry_with sub id v1 v2) (severity_in severity)

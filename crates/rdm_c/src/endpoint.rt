@@ -1,7 +1,9 @@
 //! What stands behind a handle, and what it does for C.
 
 pub(crate) mod collector;
+pub(crate) mod firmware;
 pub(crate) mod responder;
+pub(crate) mod saving;
 pub(crate) mod search;
 
 use crate::running_search::RunningSearch;

@@ -2,6 +2,8 @@
 
 pub(crate) mod change;
 pub(crate) mod collector;
+pub(crate) mod firmware;
 pub(crate) mod reading;
 pub(crate) mod responder;
+pub(crate) mod saving;
 pub(crate) mod search;

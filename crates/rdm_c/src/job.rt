@@ -1,14 +1,16 @@
 //! A job as numbers.
 
-ghost use Rattle.std.specs.Prelude.{◌≡◌, Some, IfSome};
+ghost use Rattle.std.specs.Prelude.{◌≡◌, None, Some, IfSome, is_some};
 ghost use Rattle.std.specs.Option.{option_map};
 ghost use Rattle.rdm_responder.specs.Started.{job_in as the_job_in, IsAsInTable};
+ghost use Rattle.rdm_c.specs.Changes.{with_change};
 ghost use Rattle.rdm_c.specs.Jobs.{job_in, numbers_of, class_of, verb_in, started_in};
+ghost use Rattle.rdm_c.specs.Endpoints.{flag};
 
 use rdm_frame::standard::{GET_COMMAND, SET_COMMAND};
 use rdm_outbox::Job;
 use rdm_params::{Verb, Work};
-use rdm_responder::Started;
+use rdm_responder::{Changed, Started};
 
 /// A slow command that was accepted. The header calls it `felosumay_job`.
 #[repr(C)]
@@ -40,8 +42,14 @@ pub struct SteppedNumbers {
     pub replied: u8,
     /// 1 if a job started, else 0.
     pub started: u8,
+    /// 0 if no value changed, 1 if those of one parameter at one device did, and 2 for those of several.
+    pub changed: u8,
     /// The job that started.
     pub job: JobNumbers,
+    /// The device whose values changed: 0 for the root, or a sub-device. It is 0 too if `changed` isn't 1.
+    pub changed_sub_device: u16,
+    /// The parameter whose values changed, or 0 if `changed` isn't 1.
+    pub changed_parameter: u16,
 }
 
 impl JobNumbers {
@@ -82,19 +90,35 @@ impl JobNumbers {
 }
 
 impl SteppedNumbers {
-    /// Tells that there is neither a reply nor a job.
+    /// Tells that there is neither a reply nor a job, and that no value changed.
     pub(crate) fn clear(&mut self)
-        ensures { self.new ≡ record self.old { count = 0; replied = 0; started = 0 } }
+        ensures { self.new ≡ with_change (record self.old { count = 0; replied = 0; started = 0 }) None }
     {
         self.count = 0;
         self.replied = 0;
         self.started = 0;
+        self.tell_change(None);
+    }
+
+    /// Tells what changed of the parameters, if anything did.
+    pub(crate) fn tell_change(&mut self, changed: Option<Changed>)
+        ensures { self.new ≡ with_change self.old changed }
+    {
+        let (code, sub, pid) = match changed {
+            None => (0, 0, 0),
+            Some(Changed::Value { sub, pid }) => (1, sub, pid),
+            Some(Changed::Several) => (2, 0, 0),
+        };
+        self.changed = code;
+        self.changed_sub_device = sub;
+        self.changed_parameter = pid;
     }
 
     /// Tells of the job that started, if one did.
     pub(crate) fn tell_job(&mut self, started: Option<Started>)
         requires { IfSome started IsAsInTable }
         ensures job { started_in self.new ≡ option_map numbers_of (the_job_in started) }
+        ensures flag { self.new.started ≡ flag (is_some (the_job_in started)) }
         ensures reply { (self.new.count ≡ self.old.count) × (self.new.replied ≡ self.old.replied) }
     {
         match started {

@@ -30,13 +30,17 @@ pub use exports::collector::{
     felosumay_collector_new, felosumay_collector_next, felosumay_collector_over,
     felosumay_collector_poll,
 };
+pub use exports::firmware::{felosumay_responder_note, felosumay_responder_place};
 pub use exports::reading::{
     felosumay_responder_get, felosumay_responder_outstanding, felosumay_responder_room,
     felosumay_responder_waiting,
 };
 pub use exports::responder::{
     felosumay_responder_arrive, felosumay_responder_demo, felosumay_responder_free,
-    felosumay_responder_new, felosumay_responder_step,
+    felosumay_responder_new, felosumay_responder_new_with_entries, felosumay_responder_step,
+};
+pub use exports::saving::{
+    felosumay_responder_restore, felosumay_responder_save, felosumay_responder_saved_size,
 };
 pub use exports::search::{
     felosumay_search_count, felosumay_search_found, felosumay_search_free, felosumay_search_hear,

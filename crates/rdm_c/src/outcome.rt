@@ -1,10 +1,10 @@
-//! The outcome of a job as numbers.
+//! The outcome of a job, and a status entry, as numbers.
 
 ghost use Rattle.std.specs.Prelude.{◌≡◌};
-ghost use Rattle.rdm_c.specs.Outcomes.{outcome_in, report_in};
+ghost use Rattle.rdm_c.specs.Outcomes.{entry_in, outcome_in, report_in};
 
 use crate::job::JobNumbers;
-use rdm_params::{Outcome, Severity};
+use rdm_params::{Entry, Outcome, Severity};
 use rdm_responder::Report;
 
 /// How a job ended. The header calls it `felosumay_outcome`.
@@ -54,4 +54,18 @@ pub(crate) fn report_in(job: &JobNumbers, outcome: &OutcomeNumbers) -> Option<Re
     let job = job.job()?;
     let outcome = outcome.outcome()?;
     Some(Report { job, outcome })
+}
+
+/// The status entry that the numbers stand for, if the status type is one of table A-4.
+pub(crate) fn entry_in(sub: u16, severity: u8, id: u16, v1: u16, v2: u16) -> Option<Entry>
+    ensures { result ≡ entry_in sub severity id v1 v2 }
+{
+    let severity = Severity::of(severity)?;
+    Some(Entry {
+        sub,
+        severity,
+        id,
+        v1,
+        v2,
+    })
 }

@@ -12,7 +12,7 @@ pub enum Status {
     OutOfMemory,
     /// The profile breaks a rule, or has too many sub-devices.
     BadProfile,
-    /// The size of the queue isn't 1 to 1,024.
+    /// The size of the queue, or the number of status entries, isn't 1 to 1,024.
     BadSize,
     /// The UID addresses more than one device.
     BadUid,
@@ -36,10 +36,24 @@ pub enum Status {
     NoMore,
     /// There is no room for one more message.
     NoRoom,
-    /// A SET of the value would be out of range.
+    /// A SET of the value would be out of range, or there is no such sensor.
     OutOfRange,
     /// The search took as many transactions as it may.
     Limit,
+    /// There is no such sub-device.
+    NoDevice,
+    /// The device stores no value of the parameter.
+    NotStored,
+    /// The data have another length than the value.
+    BadLength,
+    /// There is no room for the image.
+    ShortImage,
+    /// The image has another length than one of these values.
+    ImageLength,
+    /// The image is altered.
+    AlteredImage,
+    /// The image is of another profile.
+    ForeignImage,
 }
 
 impl Status {
@@ -65,6 +79,13 @@ impl Status {
             Status::NoRoom => 14,
             Status::OutOfRange => 15,
             Status::Limit => 16,
+            Status::NoDevice => 17,
+            Status::NotStored => 18,
+            Status::BadLength => 19,
+            Status::ShortImage => 20,
+            Status::ImageLength => 21,
+            Status::AlteredImage => 22,
+            Status::ForeignImage => 23,
         }
     }
 }

@@ -2,15 +2,17 @@
 use Rattle.std.specs.Prelude.{◌≡◌, ◌⊎◌, true, false}
 use Rattle.rdm_frame.specs.Addressing.{is_broadcast}
 use Rattle.rdm_params.specs.Device.Profiles.{CanBeMade}
+use Rattle.rdm_outbox.specs.State.{most_entries}
 use Rattle.rdm_responder.specs.History.{empty_history}
 use Rattle.rdm_responder.specs.StandsFor.{IsQueueSize}
 use Rattle.rdm_bus.specs.BusRun.{Start}
 use Rattle.rdm_crew.specs.declared.setup.Setup.{Setup}
 
--- The device was just switched on, the first transaction has the number 0, and no poll is unanswered.
+-- The device was just switched on, with room for the most status entries. The first transaction has the number 0, and no
+-- poll is unanswered.
 abbrev pub switched_on : Setup → Start
 switched_on s = record {
-  history = empty_history (record { uid = s.device; profile = s.profile; queue_size = s.queue_size });
+  history = empty_history (record { uid = s.device; profile = s.profile; queue_size = s.queue_size; entries = most_entries });
   uid = s.controller;
   target = s.device;
   want = s.want;

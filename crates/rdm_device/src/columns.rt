@@ -4,3 +4,4 @@ pub mod changes;
 pub mod forms;
 pub mod ranges;
 pub mod replies;
+pub mod writes;

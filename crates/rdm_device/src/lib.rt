@@ -12,7 +12,7 @@ mod value;
 
 pub use device::Place;
 pub use device::footprint::footprint;
-pub use device::measuring::measure;
+pub use device::measuring::{measure, place_measured};
 pub use device::state::{CommonValues, Measured, RootValues};
 pub use laws::{
     personalities_are_equal_by_value, profiles_are_equal_by_value, self_tests_are_equal_by_value,

@@ -1,20 +1,15 @@
 -- Each fixture that a text describes is one that a file can describe.
-use Rattle.std.proofs.Common.{◌≡◌, ℕ, ℤ, ◌+◌, ◌*◌, ◌/◌, ◌%◌, ◌≤◌, ◌<◌, Bool, true, false, ◌&&◌, if◌then◌else◌, List, [], ◌∷◌, Option, Some, None, option_map, option_and_then, All, IsTrue, refl, sym, ap, ◌∙◌, subst, arith, codes}
+use Rattle.std.proofs.Common.{◌≡◌, ℕ, ℤ, ◌+◌, ◌*◌, ◌/◌, ◌%◌, ◌≤◌, ◌<◌, Bool, true, false, ◌&&◌, if◌then◌else◌, List, [], ◌∷◌, Option, Some, None, option_map, option_and_then, All, IsTrue, refl, sym, ap, ◌∙◌, arith, codes}
 use Rattle.std.proofs.lemmas.Bool.{and_parts, leb-true, le-leb}
 use Rattle.std.proofs.lemmas.Option.{same_Some}
 use Rattle.std.proofs.lemmas.List.Elements.{All-cons}
 use Rattle.rdm_frame.specs.declared.uid.Uid.{Uid}
 use Rattle.rdm_frame.specs.Addressing.{is_broadcast}
 use Rattle.rdm_frame.specs.DigitReading.{uid_in}
-use Rattle.rdm_device.specs.declared.profile.Personality.{Personality}
 use Rattle.rdm_device.specs.declared.profile.Profile.{Profile}
-use Rattle.rdm_device.specs.declared.profile.SelfTest.{SelfTest}
-use Rattle.rdm_device.specs.declared.profile.SensorDef.{SensorDef}
-use Rattle.rdm_device.specs.declared.profile.Slot.{Slot}
-use Rattle.rdm_device.specs.declared.profile.StatusText.{StatusText}
 use Rattle.rdm_device.specs.declared.profile.Unit.{Unit as DeviceUnit}
 use Rattle.rdm_params.specs.declared.jobs.outcome.Outcome.{Outcome}
-use Rattle.rdm_params.specs.declared.jobs.outcome.Outcome.TheVariants.{Done, Reading, Failed}
+use Rattle.rdm_params.specs.declared.jobs.outcome.Outcome.TheVariants.{Reading}
 use Rattle.rdm_params.specs.declared.jobs.status.Severity.{Severity}
 use Rattle.rdm_params.specs.declared.jobs.status.Severity.TheVariants.{Advisory, Warning, Error}
 use Rattle.rdm_outcomes.specs.declared.rule.Rule.{Rule}
@@ -22,7 +17,7 @@ use Rattle.toml.specs.Data.{Data, string, integer, float, boolean, datetime, arr
 use Rattle.rdm_fixture.specs.declared.fixture.Fixture.{Fixture}
 use Rattle.rdm_fixture.specs.Values.{number, signed, text, is_text, uid, own_uid, language, language_in, is_letter}
 use Rattle.rdm_fixture.specs.Keys.{may, must, OfTable, Lists}
-use Rattle.rdm_fixture.specs.Outcomes.{IsOutcome, severity, severity_named, only_number, done, failed, failed_in, outcome_at}
+use Rattle.rdm_fixture.specs.Outcomes.{IsOutcome, severity, only_number, done, failed, failed_in, outcome_at}
 use Rattle.rdm_fixture.specs.Format.{IsPersonality, IsSlot, IsSensor, IsSelfTest, IsStatus, IsUnit, SubDevices, LanguagesAt, IsProfile}
 use Rattle.rdm_fixture.specs.Describes.{Describes}
 use Rattle.rdm_fixture.specs.Describable.{are_printable, HasPrintableUnit, HasPrintableTexts, is_coded, is_counted, is_base_form, is_told, is_ruled, CanBeDescribed}

@@ -10,3 +10,11 @@ pub mod Parts
 pub mod WrongEntries
 pub mod Names
 pub mod WrongRules
+pub mod Fields
+pub mod Texts
+pub mod WrittenLists
+pub mod Said
+pub mod WrittenEntries
+pub mod WrittenUnits
+pub mod WrittenRules
+pub mod WrittenFixtures

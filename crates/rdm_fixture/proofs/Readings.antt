@@ -1,5 +1,5 @@
 -- What a reader answers is carried over to what is said otherwise.
-use Rattle.std.proofs.Common.{◌≡◌, Option, Some, None, Result, Ok, Err, IfOk, IsErr}
+use Rattle.std.proofs.Common.{◌≡◌, Some, None, Result, Ok, Err, IfOk, IsErr}
 use Rattle.rdm_fixture.specs.Keys.{Reads}
 
 pub Reads-same : {S T A E : Type 0} (P : S → A → Type 0) (Q : T → A → Type 0) (s : S) (t : T) (r : Result A E)

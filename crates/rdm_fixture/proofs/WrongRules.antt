@@ -1,5 +1,5 @@
 -- What is wrong with a table that is no rule.
-use Rattle.std.proofs.Common.{◌≡◌, ℕ, Bool, true, false, List, Option, Some, None, IsSome, IsTrue, option_map, pos, neg_ℤ, refl, sym, ap, ◌∙◌, codes}
+use Rattle.std.proofs.Common.{◌≡◌, ℕ, Bool, true, false, Option, Some, None, IsSome, IsTrue, option_map, pos, neg_ℤ, refl, ap, codes}
 use Rattle.toml.specs.Data.{Data, Members, get_member}
 use Rattle.rdm_params.specs.declared.jobs.outcome.Outcome.{Outcome}
 use Rattle.rdm_params.specs.declared.jobs.status.Severity.{Severity}

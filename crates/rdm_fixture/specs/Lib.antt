@@ -9,3 +9,4 @@ pub mod Refusals
 pub mod Faults
 pub mod Wrong
 pub mod FirstWrong
+pub mod Writing

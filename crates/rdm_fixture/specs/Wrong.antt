@@ -1,5 +1,5 @@
 -- Which fault of a table is told: one of the first of its parts that isn't right.
-use Rattle.std.specs.Prelude.{◌≡◌, ℕ, ◌+◌, ◌<◌, ℤ, pos, neg_ℤ, true, false, ◌⊎◌, IsTrue, List, [], ◌∷◌, Option, Some, None, IsSome, ⊤}
+use Rattle.std.specs.Prelude.{◌≡◌, ℕ, ◌+◌, ◌<◌, pos, neg_ℤ, false, ◌⊎◌, IsTrue, List, [], ◌∷◌, Option, Some, None, IsSome, ⊤}
 use Rattle.std.specs.List.{list_any}
 use Rattle.std.specs.Str.{bytes_eq}
 use Rattle.toml.specs.Data.{Data, table, array, Items, no_items, item, Members, no_members, member, get_member}

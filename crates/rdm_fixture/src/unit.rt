@@ -13,11 +13,11 @@ use crate::keys::{find, number, number_or, only, text_or_none};
 use crate::lists::list;
 use crate::refusal::{Refusal, Wanted};
 use rdm_device::Unit;
-use rdm_frame::standard::MOST_SUB_DEVICES;
+use rdm_frame::standard::{MOST_DMX_SLOTS, MOST_SUB_DEVICES};
 use toml::{Table, Value};
 
 /// How many slots DMX512 has.
-const DMX_SLOTS: u32 = 512;
+const DMX_SLOTS: u32 = MOST_DMX_SLOTS as u32;
 
 /// These keys, and those that the root and the sub-devices each have.
 macro_rules! and_unit_keys {

@@ -1,22 +1,29 @@
 //! The text of a fixture.
 
-ghost use Rattle.std.specs.Prelude.{◌≡◌, ◌↔◌, ℕ, List, Err, IfOk, IfErr, string_bytes};
+ghost use Rattle.std.specs.Prelude.{◌≡◌, ◌↔◌, ℕ, List, Some, Err, IfOk, IfErr, string_bytes};
+ghost use Rattle.toml.specs.Data.{table as table_data};
+ghost use Rattle.toml.specs.Parse.{parse_document};
+ghost use Rattle.toml.specs.View.{table_view};
 ghost use Rattle.rdm_fixture.specs.Describes.{Describes};
 ghost use Rattle.rdm_fixture.specs.Describable.{CanBeDescribed};
+ghost use Rattle.rdm_fixture.specs.Writing.{IsPlain};
 
 mod checks;
-mod text;
+mod entries;
+mod fields;
+mod rules;
+mod tables;
+mod units;
 
-use crate::document::FixtureError;
 use crate::fixture::Fixture;
-use crate::laws::fixtures_are_equal_by_value;
 use checks::can_be_described;
 use std::alloc::Global;
-use text::text_of;
-use thiserror::Error;
+use tables::table_of;
+use toml::Table;
+use toml::ser::Error;
 
 /// Why a fixture wasn't written.
-#[derive(Clone, Copy, Debug, PartialEq, Eq, Error)]
+#[derive(Clone, Copy, Debug, PartialEq, Eq, thiserror::Error)]
 pub enum WriteError {
     /// Out of memory for its text.
     #[error("out of memory")]
@@ -26,16 +33,13 @@ pub enum WriteError {
     /// in a file: it is of job 0, its outcome isn't one that its parameter can have, or it fails with what is over (table A-4).
     #[error("no file describes the fixture")]
     Indescribable,
-    /// The text that was written doesn't parse back to the fixture. No fixture is known for which it comes.
-    #[error("the text doesn't parse back to the fixture")]
-    NotReadBack,
 }
 
 impl Fixture {
     /// A text that describes the fixture.
     ///
     /// It is rejected as `Indescribable` exactly when one of the conditions of `CanBeDescribed` fails, and then no text
-    /// describes it. The text is read again before it is handed out, so it is never one of another fixture.
+    /// describes it. Otherwise only memory can be missing.
     pub fn to_toml(&self, alloc: Global) -> Result<String, WriteError>
         ensures ok { IfOk result (λ text. Describes (string_bytes text) self.now) }
         ensures indescribable { (result ≡ Err WriteError.Indescribable) ↔ ¬ CanBeDescribed self.now }
@@ -44,27 +48,21 @@ impl Fixture {
         if !can_be_described(self) {
             return Err(WriteError::Indescribable);
         }
-        let Ok(text) = text_of(alloc, self) else {
+        let Ok(table) = table_of(alloc, self) else {
             return Err(WriteError::OutOfMemory);
         };
-        match Fixture::from_toml(alloc, text.as_str()) {
-            Ok(read) => same_or_none(text, &read, self),
-            Err(FixtureError::OutOfMemory) => Err(WriteError::OutOfMemory),
-            Err(_) => Err(WriteError::NotReadBack),
+        match text_of(alloc, &table) {
+            Ok(text) => Ok(text),
+            Err(_) => Err(WriteError::OutOfMemory),
         }
     }
 }
 
-/// The text, if what was read of it is the fixture.
-fn same_or_none(text: String, read: &Fixture, fixture: &Fixture) -> Result<String, WriteError>
-    requires { Describes (string_bytes text) read.now }
-    ensures ok { IfOk result (λ text. Describes (string_bytes text) fixture.now) }
-    ensures other { IfErr result (λ e. e ≡ WriteError.NotReadBack) }
+/// The text of a table with no date-time, nested no deeper than TOML's parser allows: then only memory can be missing.
+fn text_of(alloc: Global, table: &Table) -> Result<String, Error>
+    requires { IsPlain 4 (table_data (table_view table.now)) }
+    ensures reads_back { IfOk result (λ text. parse_document (string_bytes text) ≡ Some (table_view table.now)) }
+    ensures memory { IfErr result (λ e. e ≡ Error.OutOfMemory) }
 {
-    fixtures_are_equal_by_value();
-    if *read == *fixture {
-        Ok(text)
-    } else {
-        Err(WriteError::NotReadBack)
-    }
+    toml::table_to_string(alloc, table)
 }

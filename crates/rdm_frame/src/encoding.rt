@@ -1,10 +1,10 @@
 //! From a frame to its text.
 
 ghost use Rattle.std.specs.Prelude.{[], ◌≡◌, ◌+◌, ◌++◌, ◌%◌, ◌≤◌, length, sum};
-ghost use Rattle.rdm_frame.specs.FrameText.{frame_text, head_slots};
+ghost use Rattle.rdm_frame.specs.FrameText.{frame_text, head_slots, uid_slots};
 
 use crate::standard::{START_CODE, SUB_START_CODE};
-use crate::{Frame, FrameView, Wire};
+use crate::{Frame, FrameView, Uid, Wire};
 
 /// How many slots stand before the parameter data.
 pub(crate) const HEAD_SLOTS: usize = 24;
@@ -44,8 +44,7 @@ fn write_head(frame: &FrameView<'_>, wire: &mut Wire)
 {
     let data = frame.body.len() as u8;
     wire.append(&[START_CODE, SUB_START_CODE, HEAD_SLOTS as u8 + data]);
-    wire.append(&frame.dst.maker.to_be_bytes());
-    wire.append(&frame.dst.device.to_be_bytes());
+    wire.append(&uid_slots(frame.dst));
     wire.append(&frame.src.maker.to_be_bytes());
     wire.append(&frame.src.device.to_be_bytes());
     wire.append(&[frame.tn, frame.port, frame.count]);
@@ -53,6 +52,18 @@ fn write_head(frame: &FrameView<'_>, wire: &mut Wire)
     wire.append(&[frame.class]);
     wire.append(&frame.pid.to_be_bytes());
     wire.append(&[data]);
+}
+
+/// The slots of a UID (E1.20 sections 6.2.4 and 6.2.5).
+// Of a UID that was read from slots, as the requester's is: slot by slot the compiler sees that it stores what it read. The own
+// UID is stored as two numbers, since sixteen slots in a row would go one by one through a vector.
+#[inline(always)]
+fn uid_slots(uid: Uid) -> [u8; 6]
+    ensures { result ≡ uid_slots uid }
+{
+    let [upper, lower] = uid.maker.to_be_bytes();
+    let [first, second, third, fourth] = uid.device.to_be_bytes();
+    [upper, lower, first, second, third, fourth]
 }
 
 /// Writes the parameter data behind them.
@@ -77,33 +88,40 @@ pub(crate) fn checksum_of(slots: &[u8]) -> u16
     (sum_of(slots) % 65536) as u16
 }
 
-/// The sum of the slots, by parts of sixteen, each of which a processor adds at once.
-// Not inlined: at a call the compiler makes it longer, to spare the few instructions of the call.
+/// The sum of the slots.
+// By parts of thirty-two, each of which a processor adds at once: so long, the compiler leaves the loop as it is written. Each
+// shorter part is told by a test of its own: in an arm with others, the compiler mixes its slots with theirs. Not inlined: at a
+// call the compiler makes it longer, to spare the few instructions of the call.
 #[inline(never)]
-#[tactic(auto, using(crate::proofs::Sums::sum_in_parts, crate::proofs::Sums::sum_is_small))]
+#[tactic(auto, using(crate::proofs::Sums::sum_is_small))]
 pub fn sum_of(slots: &[u8]) -> u32
     requires { length slots.now ≤ 257 }
     ensures { result ≡ sum slots.now }
 {
     let mut total = 0;
     let mut rest = slots;
-    while let Some((sixteen, others)) = rest.split_first_chunk::<16>() {
-        total += sum_of_part(sixteen);
+    while let Some((part, others)) = rest.split_first_chunk::<32>() {
+        total += sum_of_part(part);
         rest = others;
     }
-    total + sum_of_rest(rest)
+    let (total, rest) = add_first::<16>(total, rest);
+    let (total, rest) = add_first::<8>(total, rest);
+    total + sum_of_last(rest)
 }
 
-/// The sum of what is left after the parts of sixteen: a part of eight, if there is one, and the last slots.
+/// A sum with that of the first `N` slots added, if there are as many, and the slots that are left.
+// By way of the sum, so that slots that aren't there take no zero.
 #[inline(always)]
-#[tactic(auto, using(crate::proofs::Sums::sum_in_parts, crate::proofs::Sums::sum_is_small))]
-fn sum_of_rest(slots: &[u8]) -> u32
-    requires { length slots.now ≤ 257 }
-    ensures { result ≡ sum slots.now }
+#[tactic(auto, using(crate::proofs::Sums::sum_in_parts))]
+fn add_first<const N: usize>(total: u32, slots: &[u8]) -> (u32, &[u8])
+    requires part { N ≤ 16 }
+    requires fits { total + sum slots.now ≤ 0xFFFF }
+    ensures sum { result.0 + sum result.1.now ≡ total + sum slots.now }
+    ensures shorter { length result.1.now ≤ length slots.now }
 {
-    match slots.split_first_chunk::<8>() {
-        Some((eight, others)) => sum_of_part(eight) + sum_of_last(others),
-        None => sum_of_last(slots),
+    match slots.split_first_chunk::<N>() {
+        Some((first, others)) => (total + sum_of_part(first), others),
+        None => (total, slots),
     }
 }
 

@@ -37,6 +37,7 @@ pub shows_status : (s : State) (a : Account) (ask : Ask) → Shows s a → Shows
 shows_status s a ask h = record {
   q = h.q;
   jobs = h.jobs;
+  entries = h.entries;
   first = h.first;
   second = h.second;
   first_given = h.first_given;
@@ -76,6 +77,7 @@ shows_first s a ask m h is_first =
     rw (lt-ltb a.given (length a.arrived) (omega (arith, waiting_count s a h, some))) (record {
       q = h.q;
       jobs = h.jobs;
+      entries = h.entries;
       first = h.first;
       second = h.second;
       first_given = h.first_given;
@@ -106,6 +108,7 @@ first_ends s a m h some =
     record {
       q = h.q;
       jobs = h.jobs;
+      entries = h.entries;
       first = rw one (ap (drop 1) h.first ∙ drop-drop 1 (ended_of 0 a.ended) (jobs_of 0 a.accepted));
       second = rw none h.second;
       first_given = h.first_given;
@@ -125,6 +128,7 @@ second_ends s a m h some =
     record {
       q = h.q;
       jobs = h.jobs;
+      entries = h.entries;
       first = rw none h.first;
       second = rw one (ap (drop 1) h.second ∙ drop-drop 1 (ended_of 1 a.ended) (jobs_of 1 a.accepted));
       first_given = h.first_given;
@@ -163,6 +167,7 @@ pub shows_clear : (s : State) (a : Account) → Shows s a → Shows (record s { 
 shows_clear s a h = record {
   q = h.q;
   jobs = h.jobs;
+  entries = h.entries;
   first = h.first;
   second = h.second;
   first_given = h.first_given;

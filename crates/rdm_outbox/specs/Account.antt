@@ -10,13 +10,14 @@ pub record Noted : Type 0 where
   pub entry : Entry
   pub shown : Bool
 
--- The greatest number of jobs and messages together, and of jobs for each worker; the jobs that were accepted; the
--- workers whose jobs have ended, one for each; the messages that arrived, and how many of them were given to the
--- controller; the status entries; and the answers to QUEUED_MESSAGE and STATUS_MESSAGES, repeats left out. All of them in
--- order of time.
+-- The greatest number of jobs and messages together, of jobs for each worker, and of entries that wait to be shown; the
+-- jobs that were accepted; the workers whose jobs have ended, one for each; the messages that arrived, and how many of them
+-- were given to the controller; the status entries; and the answers to QUEUED_MESSAGE and STATUS_MESSAGES, repeats left out.
+-- All of them in order of time.
 pub record Account : Type 0 where
   pub q : ℕ
   pub jobs : ℕ
+  pub entries : ℕ
   pub accepted : List Job
   pub ended : List ℕ
   pub arrived : List Message
@@ -25,6 +26,6 @@ pub record Account : Type 0 where
   pub answers : List Message
 
 -- the account of an outbox that was just made
-abbrev pub account_before : ℕ → ℕ → Account
-account_before q jobs =
-    record { q = q; jobs = jobs; accepted = []; ended = []; arrived = []; given = 0; noted = []; answers = [] }
+abbrev pub account_before : ℕ → ℕ → ℕ → Account
+account_before q jobs entries =
+    record { q = q; jobs = jobs; entries = entries; accepted = []; ended = []; arrived = []; given = 0; noted = []; answers = [] }

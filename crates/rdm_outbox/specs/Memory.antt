@@ -9,6 +9,7 @@ abbrev pub seen : Inside → State
 seen o = record {
   q = o.q;
   jobs = o.jobs;
+  entries = o.entries;
   first = o.first.items;
   second = o.second.items;
   first_given = o.first_given;
@@ -18,10 +19,11 @@ seen o = record {
   last = o.last;
 }
 
--- The room rule holds, each ring holds q items, and the list of entries 1,024: all of them had their memory at the start.
+-- The room rule holds, each ring holds q items, and the list as many entries as may wait: all of them had their memory at the
+-- start.
 pub record FitsItsMemory (o : Inside) : Type 0 where
   pub room : HasRoom (seen o)
   pub first : o.first.capacity ≡ o.q
   pub second : o.second.capacity ≡ o.q
   pub queue : o.queue.capacity ≡ o.q
-  pub entries : 1024 ≤ vec_capacity o.unshown
+  pub entries : o.entries ≤ vec_capacity o.unshown

@@ -11,6 +11,7 @@ use Rattle.rdm_outbox.specs.Statuses.{unshown}
 pub record Shows (s : State) (a : Account) : Type 0 where
   pub q : s.q ≡ a.q
   pub jobs : s.jobs ≡ a.jobs
+  pub entries : s.entries ≡ a.entries
   pub first : s.first ≡ outstanding_of a 0
   pub second : s.second ≡ outstanding_of a 1
   pub first_given : s.first_given ≡ length (jobs_of 0 a.accepted)

@@ -4,11 +4,12 @@ use Rattle.rdm_params.specs.declared.jobs.message.Message.{Message}
 use Rattle.rdm_params.specs.declared.jobs.status.Entry.{Entry}
 use Rattle.rdm_outbox.specs.declared.job.Job.{Job}
 
--- Its two bounds; of the first and the second worker the outstanding jobs, and how many it was given; the messages that
+-- Its three bounds; of the first and the second worker the outstanding jobs, and how many it was given; the messages that
 -- wait; the entries that weren't shown; and the last message.
 pub record State : Type 0 where
   pub q : ℕ
   pub jobs : ℕ
+  pub entries : ℕ
   pub first : List Job
   pub second : List Job
   pub first_given : ℕ
@@ -29,14 +30,22 @@ place_in s = nat_lt (length s.first + length s.second + length s.queue) s.q
 abbrev pub most_waiting : ℕ
 most_waiting = 1024
 
+-- the greatest number of status entries that an outbox may have room for
+abbrev pub most_entries : ℕ
+most_entries = 1024
+
 -- How far the lists and counts of an outbox go: for each outstanding job there is room for its message.
 pub record HasRoom (s : State) : Type 0 where
   pub most : s.q ≤ most_waiting
   pub room : length s.first + length s.second + length s.queue ≤ s.q
   pub first_given : s.first_given ≤ s.jobs
   pub second_given : s.second_given ≤ s.jobs
-  pub unshown : length s.unshown ≤ 1024
+  pub unshown : length s.unshown ≤ s.entries
 
 -- how many jobs and messages there may be room for, and jobs for each worker
 abbrev pub IsOutboxSize : ℕ → ℕ → Type 0
 IsOutboxSize q jobs = (1 ≤ q) × (q ≤ most_waiting) × (1 ≤ jobs)
+
+-- how many status entries there may be room for
+abbrev pub IsListSize : ℕ → Type 0
+IsListSize entries = (1 ≤ entries) × (entries ≤ most_entries)

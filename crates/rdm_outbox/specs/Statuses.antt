@@ -12,9 +12,9 @@ use Rattle.rdm_outbox.specs.Account.{Account, Noted}
 abbrev pub unshown : List Noted → List Entry
 unshown noted = map (λ n. n.entry) (filter (λ n. not n.shown) noted)
 
--- whether a further entry is noted: at most 1,024 are kept that weren't shown
+-- whether a further entry is noted: no more are kept that weren't shown than there are places for entries
 abbrev pub can_note : Account → Bool
-can_note a = nat_lt (length (unshown a.noted)) 1024
+can_note a = nat_lt (length (unshown a.noted)) a.entries
 
 -- the account after an entry was handed in, which is dropped if it can't be noted
 abbrev pub after_note : Account → Entry → Account

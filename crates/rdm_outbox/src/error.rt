@@ -8,7 +8,8 @@ pub enum NewError {
     /// Out of memory.
     #[error("out of memory")]
     OutOfMemory,
-    /// The number of jobs and messages isn't 1 to 1,024, or no worker may be given a job.
+    /// The number of jobs and messages isn't 1 to 1,024, no worker may be given a job, or the number of status entries isn't
+    /// 1 to 1,024.
     #[error("bad outbox size")]
     BadSize,
 }

@@ -21,4 +21,4 @@ pub use laws::{
     dispensed_are_equal_by_value, jobs_are_equal_by_value, new_errors_are_equal_by_value,
     refusals_are_equal_by_value, status_messages_mark_what_they_send,
 };
-pub use outbox::{MOST_WAITING, Outbox};
+pub use outbox::{MOST_ENTRIES, MOST_WAITING, Outbox};

@@ -6,7 +6,7 @@ ghost use Rattle.rdm_outbox.specs.Account.{Account, account_before};
 ghost use Rattle.rdm_outbox.specs.Jobs.{outstanding_of, outstanding_count, waiting_of, has_place, reserved, after_reserve, after_arrive};
 ghost use Rattle.rdm_outbox.specs.Messages.{is_last, last_of, next_of, after_next, after_post, dispensed, after_dispense, status_dispensed, after_status};
 ghost use Rattle.rdm_outbox.specs.Shows.{Shows};
-ghost use Rattle.rdm_outbox.specs.State.{IsOutboxSize, jobs_at, place_in};
+ghost use Rattle.rdm_outbox.specs.State.{IsListSize, IsOutboxSize, jobs_at, most_entries, place_in};
 ghost use Rattle.rdm_params.specs.Jobs.Work.{worker_of};
 ghost use Rattle.rdm_outbox.specs.Statuses.{after_clear, can_note, after_note, status_now, after_status_now};
 
@@ -22,14 +22,15 @@ use std::marker::Model;
 /// The greatest number of jobs and messages together that an outbox may have room for.
 pub const MOST_WAITING: u16 = 1024;
 
-/// How many status entries are kept that weren't shown.
-const MOST_ENTRIES: usize = 1024;
+/// The greatest number of status entries that an outbox may have room for.
+pub const MOST_ENTRIES: u16 = 1024;
 
 /// What waits for a controller: the jobs of two workers, the messages that tell of their ends, and status entries.
 #[derive(Debug, Drop)]
 pub struct Outbox {
     q: u16,
     jobs: u32,
+    entries: u16,
     first: HeapCircularBuffer<Job>,
     second: HeapCircularBuffer<Job>,
     first_given: u32,
@@ -52,15 +53,28 @@ impl Model for Outbox {
 }
 
 impl Outbox {
-    /// An empty outbox with room for `q` jobs and messages together, whose workers may each be given `jobs` jobs.
+    /// An empty outbox with room for `q` jobs and messages together and for 1,024 status entries, whose workers may each be
+    /// given `jobs` jobs.
     ///
     /// A `q` that isn't 1 to 1,024, or a `jobs` of 0, is rejected first, then comes out of memory. No later call takes
     /// memory.
     pub fn new(alloc: Global, q: u16, jobs: u32) -> Result<Self, NewError>
-        ensures shows { IfOk result (λ outbox. Shows outbox (account_before q jobs)) }
+        ensures shows { IfOk result (λ outbox. Shows outbox (account_before q jobs most_entries)) }
         ensures bad_size { (result ≡ Err NewError.BadSize) ↔ (¬ IsOutboxSize q jobs) }
     {
-        if q == 0 || q > MOST_WAITING || jobs == 0 {
+        Outbox::with_entries(alloc, q, jobs, MOST_ENTRIES)
+    }
+
+    /// An outbox as of `new`, with room for that many status entries that weren't shown (E1.20 section 10.3.2). Each takes
+    /// 10 bytes.
+    ///
+    /// A `q` that isn't 1 to 1,024, a `jobs` of 0, or an `entries` that isn't 1 to 1,024 is rejected first, then comes out of
+    /// memory. No later call takes memory.
+    pub fn with_entries(alloc: Global, q: u16, jobs: u32, entries: u16) -> Result<Self, NewError>
+        ensures shows { IfOk result (λ outbox. Shows outbox (account_before q jobs entries)) }
+        ensures bad_size { (result ≡ Err NewError.BadSize) ↔ (¬ (IsOutboxSize q jobs × IsListSize entries)) }
+    {
+        if q == 0 || q > MOST_WAITING || jobs == 0 || entries == 0 || entries > MOST_ENTRIES {
             return Err(NewError::BadSize);
         }
         let Ok(first) = HeapCircularBuffer::with_capacity(alloc, usize::from(q)) else {
@@ -72,12 +86,13 @@ impl Outbox {
         let Ok(queue) = HeapCircularBuffer::with_capacity(alloc, usize::from(q)) else {
             return Err(NewError::OutOfMemory);
         };
-        let Ok(unshown) = Vec::with_capacity(alloc, MOST_ENTRIES) else {
+        let Ok(unshown) = Vec::with_capacity(alloc, usize::from(entries)) else {
             return Err(NewError::OutOfMemory);
         };
         Ok(Outbox {
             q,
             jobs,
+            entries,
             first,
             second,
             first_given: 0,
@@ -194,12 +209,12 @@ impl Outbox {
         }
     }
 
-    /// Keeps a status entry, unless 1,024 are kept, and says whether it did.
+    /// Keeps a status entry, unless as many are kept as the outbox has room for, and says whether it did.
     pub fn note(&mut self, entry: Entry) -> bool
         ensures answer { (a : Account) → Shows self.old a → result ≡ can_note a }
         ensures shows { (a : Account) → Shows self.old a → Shows self.new (after_note a entry) }
     {
-        if self.unshown.len() >= MOST_ENTRIES {
+        if self.unshown.len() >= usize::from(self.entries) {
             return false;
         }
         self.unshown.push_reserved(entry);

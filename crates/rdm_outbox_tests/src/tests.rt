@@ -87,6 +87,25 @@ fn sizes_and_numbers(rt: HostRuntime) -> Result<(), Fail> {
     for q in 1..=MOST_WAITING {
         assert!(rt; Outbox::new(rt.alloc(), q, 1).is_ok(), "{q}");
     }
+    for (q, jobs, entries) in [
+        (1, 1, 0),
+        (1, 1, 1025),
+        (1, 1, 0xFFFF),
+        (0, 1, 2),
+        (1, 0, 2),
+    ] {
+        let refused = Outbox::with_entries(rt.alloc(), q, jobs, entries);
+        assert!(rt;
+            matches!(&refused, Err(NewError::BadSize)),
+            "{q} {jobs} {entries}"
+        );
+    }
+    for entries in [1, 2, 64, 1023, MOST_ENTRIES] {
+        assert!(rt;
+            Outbox::with_entries(rt.alloc(), 1, 1, entries).is_ok(),
+            "{entries}"
+        );
+    }
     let mut outbox = made(&rt, 2, 1)?;
     assert_eq!(rt; number(&mut outbox, LAMP), Some(0));
     finish(&rt, &mut outbox, 0, 0x0403);
@@ -251,6 +270,35 @@ fn at_most_1024_entries_are_kept(rt: HostRuntime) -> Result<(), Fail> {
             &[0, 1, 0x04, 0x80, 1, 0, 2, 4, 1]
         )
     );
+    Ok(())
+}
+
+#[test]
+fn a_list_of_2_entries_drops_the_third(rt: HostRuntime) -> Result<(), Fail> {
+    let mut outbox = Outbox::with_entries(rt.alloc(), 1, 1, 2)
+        .ok()
+        .ok_or("a good size")?;
+    assert!(rt; outbox.note(entry(Severity::Error, 7)));
+    assert!(rt; outbox.note(entry(Severity::Advisory, 8)));
+    assert!(rt; !outbox.note(entry(Severity::Error, 9)));
+    assert!(rt;
+        is_status(
+            &outbox.status(Ask::Error),
+            &[0, 1, 0x04, 0x80, 1, 0, 2, 0, 7]
+        )
+    );
+    // One was shown, so there is room for one.
+    assert!(rt; outbox.note(entry(Severity::Warning, 10)));
+    assert!(rt; !outbox.note(entry(Severity::Error, 11)));
+    assert!(rt;
+        is_status(
+            &outbox.status(Ask::Advisory),
+            &[
+                0, 1, 0x02, 0x80, 1, 0, 2, 0, 8, 0, 1, 0x03, 0x80, 1, 0, 2, 0, 10
+            ]
+        )
+    );
+    assert!(rt; outbox.note(entry(Severity::Error, 12)));
     Ok(())
 }
 

@@ -1,4 +1,5 @@
 pub mod Bools
+pub mod Changes
 pub mod Endings
 pub mod Fetches
 pub mod KindNames
@@ -7,12 +8,16 @@ pub mod OtherForms
 pub mod OtherRanges
 pub mod OwnKeys
 pub mod Places
+pub mod PlacesAsSet
 pub mod PlateEquality
 pub mod Plates
+pub mod PowerOns
 pub mod ReadBack
 pub mod RowFacts
 pub mod Rows
 pub mod ReadData
+pub mod Silent
 pub mod StaysAccepted
 pub mod SubSteps
+pub mod Told
 pub mod TwoWorkers

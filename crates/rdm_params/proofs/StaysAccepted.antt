@@ -1,6 +1,6 @@
 -- What is accepted as a slow command is accepted whatever the values are.
 use Rattle.std.proofs.Common.{◌≡◌, ℕ, zero, suc, ◌-◌, ◌==◌, ◌&&◌, not, Bool, true, false, cond, List, [], ◌∷◌, length, map, replicate, Option, Some, None, Result, Ok, Err, refl, sym, ap, ◌∙◌}
-use Rattle.std.specs.Prelude.{slice_get, slice_set, slice_index_or, option_to_list}
+use Rattle.std.specs.Prelude.{slice_get, slice_set, slice_index_or, option_to_list, is_some}
 use Rattle.std.specs.List.{list_all}
 use Rattle.std.proofs.lemmas.List.{length-map, length-set}
 use Rattle.rdm_params.specs.declared.kind.Verb.{Verb}
@@ -15,13 +15,14 @@ use Rattle.rdm_device.specs.declared.value.Value.{Value}
 use Rattle.rdm_device.specs.declared.value.Value.TheVariants.{Byte}
 use Rattle.rdm_params.specs.Commands.Commands.{command_of, accepted, after_set, after_accepted, carried_out, written, addressed, root_spot, sub_spot, is_all_call, is_some_device, known, suits, check, ◌>>=◌}
 use Rattle.rdm_params.specs.Commands.Panel.{changed_pid, changed_value, can_change, after_change}
+use Rattle.rdm_params.specs.Commands.Placing.{place_refusal, after_value, after_place}
 use Rattle.rdm_device.specs.Device.Map.{Entry}
 use Rattle.rdm_device.specs.Device.Parameters.{Parameters}
 use Rattle.rdm_params.specs.Jobs.Commit.{after_commit}
-use Rattle.rdm_params.specs.Jobs.Laws.{SameDevices, StaysAccepted, SetKeepsDevices, CommitKeepsDevices, PanelKeepsDevices}
+use Rattle.rdm_params.specs.Jobs.Laws.{SameDevices, StaysAccepted, SetKeepsDevices, CommitKeepsDevices, PanelKeepsDevices, PlaceKeepsDevices}
 use Rattle.rdm_device.specs.Device.Spot.{Spot}
 use Rattle.rdm_params.specs.Table.Rows.{Command, row_of}
-use Rattle.rdm_params.specs.Table.Uses.{access, read, is_by_job, is_slow, in_range_of}
+use Rattle.rdm_params.specs.Table.Uses.{access, read, is_by_job, is_slow, in_range_of, keeps}
 use Rattle.rdm_params.proofs.RowFacts.{FactsOfWay, Facts, ByProfile, facts_of}
 
 -- ---- ranges that look at the profile alone
@@ -141,3 +142,17 @@ unfolding after_change
 panel_keeps_devices p change =
     let command : Option Command = command_of (changed_pid change) Set in
     if_in_range p (carried_out p 0 command (changed_value change)) (can_change p change) (carried_keeps p 0 command (changed_value change))
+
+value_keeps : (p : Parameters) (sub pid : ℕ) (read' : Result Value Nack) → SameDevices p (after_value p sub pid read')
+value_keeps p sub pid (Err nack) = record { profile = refl; subs = refl }
+value_keeps p sub pid (Ok v) = carried_keeps p sub (command_of pid Set) v
+
+unless_refused : (p new other : Parameters) (refused kept : Bool) → SameDevices p new → SameDevices p other → SameDevices p (cond refused p (cond kept new other))
+unless_refused p new other true kept a b = record { profile = refl; subs = refl }
+unless_refused p new other false true a b = a
+unless_refused p new other false false a b = b
+
+pub place_keeps_devices : PlaceKeepsDevices
+unfolding after_place
+place_keeps_devices p sub pid bytes =
+    unless_refused p _ _ (is_some (place_refusal p sub pid bytes)) (keeps (command_of pid Set)) (value_keeps p sub pid (read (command_of pid Set) bytes)) (record { profile = refl; subs = refl })

@@ -1,3 +1,6 @@
+pub mod Changed
 pub mod Commands
 pub mod Nacks
 pub mod Panel
+pub mod Placing
+pub mod Saving

@@ -2,15 +2,20 @@
 use Rattle.std.specs.Prelude.{◌≡◌, ◌≢◌, ℕ, ℤ, suc, ◌^◌, ◌<◌, ◌≤◌, ◌==◌, false, List, [], ◌∷◌, length, Option, Some, None, Ok, IsTrue, true, slice_index_or, if◌then◌else◌}
 use Rattle.std.specs.List.{list_any}
 use Rattle.rdm_params.specs.declared.kind.Verb.{Verb}
+use Rattle.rdm_params.specs.declared.kind.Verb.TheVariants.{Set}
+use Rattle.rdm_params.specs.declared.verdict.Verdict.TheVariants.{Reply}
 use Rattle.rdm_device.specs.declared.value.Value.{Value}
 use Rattle.rdm_device.specs.declared.value.Value.TheVariants.{Byte, Word, Long, Preset, Label}
+use Rattle.rdm_params.specs.declared.changed.Changed.TheVariants as told
 use Rattle.rdm_params.specs.declared.panel.Change.{Change}
 use Rattle.rdm_params.specs.declared.jobs.outcome.Outcome.{Outcome}
 use Rattle.rdm_params.specs.declared.jobs.outcome.Outcome.TheVariants.{Done, Reading, Failed}
 use Rattle.rdm_params.specs.declared.jobs.status.Severity.{Severity}
 use Rattle.rdm_params.specs.declared.jobs.work.Work.{Work}
-use Rattle.rdm_params.specs.Commands.Commands.{command_of, after_set}
+use Rattle.rdm_params.specs.Commands.Changed.{change_of}
+use Rattle.rdm_params.specs.Commands.Commands.{command_of, answer_to_set, after_set}
 use Rattle.rdm_params.specs.Commands.Panel.{changed_pid, after_change}
+use Rattle.rdm_params.specs.Commands.Placing.{place_refusal, after_place}
 use Rattle.rdm_params.specs.Jobs.Commit.{after_commit}
 use Rattle.rdm_params.specs.Jobs.Outcome.{fits}
 use Rattle.rdm_device.specs.Columns.Forms.{has_form}
@@ -18,7 +23,7 @@ use Rattle.rdm_device.specs.Device.Map.{lookup}
 use Rattle.rdm_device.specs.Device.Parameters.{Parameters}
 use Rattle.rdm_device.specs.Columns.Replies.{factory_pids}
 use Rattle.rdm_params.specs.Table.Rows.{Command}
-use Rattle.rdm_params.specs.Table.Uses.{read}
+use Rattle.rdm_params.specs.Table.Uses.{read, keeps}
 use Rattle.rdm_device.specs.Device.Values.{bytes_of}
 
 -- the numbers of a value that a command can hand in fit their slots
@@ -69,6 +74,18 @@ pub record IsSameBut (sub : ℕ) (old new : Parameters) : Type 0 where
 abbrev pub LeavesTheRest : Type 0
 LeavesTheRest = (p : Parameters) (sub pid : ℕ) (bytes : List ℕ) → IsSameBut sub p (after_set p sub pid bytes)
 
+-- A SET that tells of one value changes no value of another parameter, at any device.
+abbrev pub ChangesWhatItTells : Type 0
+ChangesWhatItTells =
+    (p : Parameters) (sub pid sub_told pid_told : ℕ) (bytes : List ℕ) (key index : ℕ)
+    → change_of sub pid ≡ told.Value sub_told pid_told → key ≢ pid_told → SameAt key index p (after_set p sub pid bytes)
+
+-- A SET that tells of one value tells of one device, and changes no value of another.
+abbrev pub LeavesWhatItDoesNotTell : Type 0
+LeavesWhatItDoesNotTell =
+    (p : Parameters) (sub pid sub_told pid_told : ℕ) (bytes : List ℕ)
+    → change_of sub pid ≡ told.Value sub_told pid_told → (sub_told ≢ 0xFFFF) × IsSameBut sub_told p (after_set p sub pid bytes)
+
 -- The end of a job changes no value but at the key of its own parameter, at any device, if the outcome is one that such
 -- a job can have.
 abbrev pub CommitChangesItsKey : Type 0
@@ -115,3 +132,11 @@ PanelChangesItsKey =
 
 abbrev pub PanelLeavesTheRest : Type 0
 PanelLeavesTheRest = (p : Parameters) (change : Change) → IsSameBut 0 p (after_change p change)
+
+-- Where a SET that keeps its data is carried out at one device, and answered at once, the same data can be placed there,
+-- and leave the same values.
+abbrev pub PlacesAsSet : Type 0
+PlacesAsSet =
+    (p : Parameters) (sub pid : ℕ) (bytes reply : List ℕ)
+    → sub ≢ 0xFFFF → keeps (command_of pid Set) ≡ true → answer_to_set p sub pid bytes ≡ Reply reply
+    → (place_refusal p sub pid bytes ≡ None) × (after_place p sub pid bytes ≡ after_set p sub pid bytes)

@@ -2,33 +2,38 @@
 
 mod sub_devices;
 
-ghost use Rattle.std.specs.Prelude.{[], Some, length, ◌≡◌, ◌≢◌, ◌↔◌, ◌≤◌, ◌<◌, IfOk, IfErr, slice_get};
+ghost use Rattle.std.specs.Prelude.{[], Some, None, IfSome, false, length, ◌≡◌, ◌≢◌, ◌↔◌, ◌≤◌, ◌<◌, IfOk, IfErr, slice_get};
 ghost use Rattle.std.specs.List.{list_all};
 ghost use Rattle.std.specs.Option.{option_map, option_map_or};
 ghost use Rattle.rdm_params.specs.declared.kind.Verb.TheVariants.{Set};
 ghost use Rattle.rdm_params.specs.declared.verdict.Verdict.TheVariants.{Refuse};
 ghost use Rattle.rdm_params.specs.Commands.Commands.{got, answer_to_set, after_set, in_range, answered, work};
-ghost use Rattle.rdm_params.specs.Commands.Commands.{addressed, command_of, carried_out, is_all_call, root_spot, sub_spot};
+ghost use Rattle.rdm_params.specs.Commands.Commands.{addressed, command_of, carried_out, is_all_call, reply_at, root_spot, sub_spot};
+ghost use Rattle.rdm_params.specs.Commands.Changed.{change_of};
 ghost use Rattle.rdm_params.specs.Table.Kinds.{pid_of};
 ghost use Rattle.rdm_device.specs.Device.Parameters.{parameters_of};
 ghost use Rattle.rdm_device.specs.Device.Profiles.{IsGoodProfile};
+ghost use Rattle.rdm_device.specs.Device.Spot.{Spot};
 ghost use Rattle.rdm_device.specs.Device.Values.{byte_or_0};
+ghost use Rattle.rdm_device.specs.declared.value.Value.{Value};
 ghost use Rattle.rdm_params.specs.Views.Verdicts.{verdict_with, NamesItsJob};
-ghost use Rattle.rdm_params.specs.Table.Uses.{way_of, in_range_of, reply};
+ghost use Rattle.rdm_params.specs.Table.Uses.{way_of, in_range_of, is_bare, reply};
 ghost use Rattle.rdm_params.specs.Jobs.Asks.{ask_of};
 
 mod commit;
 mod panel;
+mod placing;
 mod read_data;
+mod saving;
 mod thresholds;
 
 use crate::commands::sub_devices::{all_in_range, start_each, store_at, store_each};
 use crate::jobs::Way;
 use crate::table::find::{Found, find};
-use crate::table::respond::reply_into;
+use crate::table::respond::{reply_into, state_into};
 use crate::table::store::{store_common, store_own};
 use crate::table::within::is_in_range;
-use crate::{Answer, Ask, Kind, Nack, Profile, Value, Verb, Verdict, Work};
+use crate::{Answer, Ask, Changed, Kind, Nack, Profile, Value, Verb, Verdict, Work};
 use rdm_device::{Argument, CommonValues, Place, RootValues, is_good};
 use rdm_frame::Body;
 use rdm_frame::standard::{MOST_SUB_DEVICES, SUB_DEVICE_ALL_CALL};
@@ -148,23 +153,33 @@ impl Devices {
         ensures after { self.new ≡ after_set self.old sub pid data.now }
     {
         let mut body = Body::new();
-        let answer = self.set_into(sub, pid, data, &mut body);
+        let (answer, _) = self.set_into(sub, pid, data, &mut body);
         answer.with(body)
     }
 
     /// What a SET answers, as `set`, with the data of the reply in `body`, and none if it isn't `Done`. What stood
-    /// there before is gone.
-    pub fn set_into(&mut self, sub: u16, pid: u16, data: &[u8], body: &mut Body) -> Answer
-        ensures answer { verdict_with result body.new ≡ answer_to_set self.old sub pid data.now }
-        ensures job { NamesItsJob result }
-        ensures empty { result ≢ Answer.Done → body.new ≡ [] }
+    /// there before is gone. It also says what the SET changed, and that is `None` if every value is what it was.
+    pub fn set_into(
+        &mut self,
+        sub: u16,
+        pid: u16,
+        data: &[u8],
+        body: &mut Body,
+    ) -> (Answer, Option<Changed>)
+        ensures answer { verdict_with result.0 body.new ≡ answer_to_set self.old sub pid data.now }
+        ensures job { NamesItsJob result.0 }
+        ensures empty { result.0 ≢ Answer.Done → body.new ≡ [] }
         ensures after { self.new ≡ after_set self.old sub pid data.now }
+        ensures unchanged { (result.1 ≡ None) ↔ (self.new ≡ self.old) }
+        ensures what { IfSome result.1 (λ c. c ≡ change_of sub pid) }
     {
         body.clear();
-        match self.try_set(sub, pid, data, body) {
+        let mut changed = false;
+        let answer = match self.try_set(sub, pid, data, body, &mut changed) {
             Ok(answer) => answer,
             Err(nack) => Answer::Refused(nack),
-        }
+        };
+        (answer, Changed::told(changed, sub, pid))
     }
 
     /// Whether a value is in the range of a command at each device that it is for. It isn't if there is no such
@@ -202,16 +217,25 @@ impl Devices {
         Ok(answer(sub, Verb::Get, found, Some(place), &value, body))
     }
 
-    /// What a SET answers, or the first reason to reject it.
+    /// What a SET answers, or the first reason to reject it. `changed` tells whether it changed a value.
     #[inline(always)]
     #[tactic(auto, unfolding(crate::specs::Commands::Commands::answer_to_set, crate::specs::Commands::Commands::after_set, crate::specs::Commands::Commands::accepted))]
-    fn try_set(&mut self, sub: u16, pid: u16, data: &[u8], body: &mut Body) -> Result<Answer, Nack>
-        requires { body.old ≡ [] }
+    fn try_set(
+        &mut self,
+        sub: u16,
+        pid: u16,
+        data: &[u8],
+        body: &mut Body,
+        changed: &mut bool,
+    ) -> Result<Answer, Nack>
+        requires body { body.old ≡ [] }
+        requires changed { changed.old ≡ false }
         ensures ok { IfOk result (λ answer. verdict_with answer body.new ≡ answer_to_set self.old sub pid data.now) }
         ensures err { IfErr result (λ nack. answer_to_set self.old sub pid data.now ≡ Refuse nack) }
         ensures job { IfOk result (λ answer. NamesItsJob answer) }
         ensures empty { result ≢ Ok Answer.Done → body.new ≡ [] }
         ensures after { self.new ≡ after_set self.old sub pid data.now }
+        ensures same { (changed.new ≡ false) ↔ (self.new ≡ self.old) }
     {
         let place = self
             .first_place(sub, Verb::Set)
@@ -219,11 +243,26 @@ impl Devices {
         let found = find(pid, sub == 0, Verb::Set)?;
         let value = self.read_data(sub, Verb::Set, found, &place, data)?;
         if !found.way.is_by_job() {
-            self.carry_out(sub, found.kind, &value);
+            *changed = self.carry_out(sub, found.kind, &value);
         }
         // The reply tells what the write left, and the write had to end the borrow of the first place.
-        let place = self.first_place(sub, Verb::Set);
+        let place = self.place_of_reply(sub, found);
         Ok(answer(sub, Verb::Set, found, place, &value, body))
+    }
+
+    /// The device whose values the reply to a SET tells, if that has data.
+    #[inline(always)]
+    #[tactic(auto, using(crate::proofs::Silent::silent_at))]
+    fn place_of_reply(&self, sub: u16, found: Found) -> Option<Place<'_>>
+        requires { found.has_reply ≡ false → (spot : Spot) (value : Value) → reply (command_of (pid_of found.kind) Set) spot value ≡ [] }
+        ensures { (value : Value) → option_map_or (λ spot. reply (command_of (pid_of found.kind) Set) spot value) result []
+            ≡ reply_at (command_of (pid_of found.kind) Set) (addressed self.now sub Set) value }
+    {
+        if found.has_reply {
+            self.first_place(sub, Verb::Set)
+        } else {
+            None
+        }
     }
 
     /// Whether a value is in range at each device that a command is for, of which this is the first place.
@@ -246,21 +285,23 @@ impl Devices {
         }
     }
 
-    /// Carries out a SET at the devices that it is for.
+    /// Carries out a SET at the devices that it is for, and says whether that changed a value.
     // Inlined, since a call would save and restore the registers of a SET.
     #[inline(always)]
-    #[tactic(auto, using(rdm_device::proofs::Maps::update_append))]
-    fn carry_out(&mut self, sub: u16, kind: Kind, value: &Argument<'_>)
-        ensures { self.new ≡ carried_out self.old sub (command_of (pid_of kind) Set) value.now }
+    #[tactic(auto, using(rdm_device::proofs::Maps::update_append, crate::proofs::Changes::root_parts))]
+    fn carry_out(&mut self, sub: u16, kind: Kind, value: &Argument<'_>) -> bool
+        ensures after { self.new ≡ carried_out self.old sub (command_of (pid_of kind) Set) value.now }
+        ensures same { (result ≡ false) ↔ (self.new ≡ self.old) }
     {
         let profile = &self.profile;
         if sub == 0 {
-            store_common(kind, value, profile, &mut self.root);
-            store_own(kind, value, profile, &mut self.own);
+            let common = store_common(kind, value, profile, &mut self.root);
+            let own = store_own(kind, value, profile, &mut self.own);
+            common || own
         } else if sub == SUB_DEVICE_ALL_CALL {
-            store_each(kind, value, profile, &mut self.subs);
+            store_each(kind, value, profile, &mut self.subs)
         } else {
-            store_at(kind, value, profile, &mut self.subs, sub as usize - 1);
+            store_at(kind, value, profile, &mut self.subs, sub as usize - 1)
         }
     }
 
@@ -310,6 +351,7 @@ fn answer(
 ) -> Answer
     requires empty { body.old ≡ [] }
     requires way { found.way ≡ way_of (command_of (pid_of found.kind) verb) }
+    requires bare { found.is_bare ≡ is_bare (command_of (pid_of found.kind) verb) }
     ensures answer { verdict_with result body.new ≡ answered found.way
         (option_map_or (λ spot. reply (command_of (pid_of found.kind) verb) spot value.now) place.entry [])
         (work sub (pid_of found.kind) verb value.now) (ask_of (byte_or_0 value.now)) }
@@ -320,7 +362,10 @@ fn answer(
     match found.way {
         Way::AtOnce => {
             if let Some(place) = place {
-                reply_into(found.kind, verb, &place, value, body);
+                match verb {
+                    Verb::Get if found.is_bare => state_into(found.kind, &place, body),
+                    _ => reply_into(found.kind, verb, &place, value, body),
+                }
             }
             Answer::Done
         }

@@ -1,13 +1,14 @@
 //! Laws of the table, over every value, command and device. Each is the contract of a call that does nothing.
 
 ghost use Rattle.std.specs.Prelude.{◌≡◌, ◌↔◌, ℕ, List, IsTrue};
-ghost use Rattle.rdm_params.specs.Laws.{ReadsBack, ChangesItsKeys, LeavesTheRest, PanelChangesItsKey, PanelLeavesTheRest};
+ghost use Rattle.rdm_params.specs.Laws.{ReadsBack, ChangesItsKeys, LeavesTheRest, PanelChangesItsKey, PanelLeavesTheRest, PlacesAsSet};
+ghost use Rattle.rdm_params.specs.Laws.{ChangesWhatItTells, LeavesWhatItDoesNotTell};
 ghost use Rattle.rdm_params.specs.Laws.{CommitChangesItsKey, CommitChangesItsKeys, ReadingChangesItsSensor};
 ghost use Rattle.rdm_params.specs.Laws.{CommitLeavesTheRest, FailedChangesNothing};
 
 use crate::{
-    Answer, Ask, Change, Entry, Kind, Message, Nack, NewError, Outcome, Plate, Severity, Verb,
-    Verdict, Work,
+    Answer, Ask, Change, Changed, Entry, Kind, Message, Nack, NewError, Outcome, PlaceError, Plate,
+    Severity, Verb, Verdict, Work,
 };
 
 /// What `write_value` writes of a value that has the form of a command, `read_value` reads back for that command.
@@ -19,6 +20,12 @@ pub fn written_value_is_read_back()
 pub fn set_changes_its_own_keys()
     ensures keys { ChangesItsKeys }
     ensures rest { LeavesTheRest }
+{}
+
+/// A SET that tells of one value changes no other: none of another parameter, and none of another device.
+pub fn set_changes_what_it_tells()
+    ensures key { ChangesWhatItTells }
+    ensures rest { LeavesWhatItDoesNotTell }
 {}
 
 /// The end of a job changes no value but at the key of its own parameter, and a reading none but its own sensor's; a job
@@ -36,6 +43,12 @@ pub fn commit_changes_its_own_keys()
 pub fn panel_changes_its_own_key()
     ensures key { PanelChangesItsKey }
     ensures rest { PanelLeavesTheRest }
+{}
+
+/// Where a SET that keeps its data is carried out at one device, and answered at once, placing the same data there leaves
+/// the same values.
+pub fn placing_is_setting()
+    ensures { PlacesAsSet }
 {}
 
 /// Two values of `Work` are equal by `==` exactly when they are the same.
@@ -88,6 +101,11 @@ pub fn new_errors_are_equal_by_value()
     ensures { (a b : NewError) → IsTrue (⟦<NewError as PartialEq>⟧.eq a b) ↔ (a ≡ b) }
 {}
 
+/// Two values of `PlaceError` are equal by `==` exactly when they are the same.
+pub fn place_errors_are_equal_by_value()
+    ensures { (a b : PlaceError) → IsTrue (⟦<PlaceError as PartialEq>⟧.eq a b) ↔ (a ≡ b) }
+{}
+
 /// Two values of `Answer` are equal by `==` exactly when they are the same.
 pub fn answers_are_equal_by_value()
     ensures { (a b : Answer) → IsTrue (⟦<Answer as PartialEq>⟧.eq a b) ↔ (a ≡ b) }
@@ -96,6 +114,11 @@ pub fn answers_are_equal_by_value()
 /// Two values of `Verdict` are equal by `==` exactly when they are the same.
 pub fn verdicts_are_equal_by_value()
     ensures { (a b : Verdict) → IsTrue (⟦<Verdict as PartialEq>⟧.eq a b) ↔ (a ≡ b) }
+{}
+
+/// Two values of `Changed` are equal by `==` exactly when they are the same.
+pub fn told_changes_are_equal_by_value()
+    ensures { (a b : Changed) → IsTrue (⟦<Changed as PartialEq>⟧.eq a b) ↔ (a ≡ b) }
 {}
 
 /// Two values of `Plate` are equal by `==` exactly when they are the same.

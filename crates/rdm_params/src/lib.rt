@@ -6,15 +6,18 @@
 //! job, and `Devices::commit` carries it out when the job has ended.
 #![tactic(auto)]
 
+mod changed;
 mod commands;
 mod jobs;
 mod kind;
 mod laws;
 mod nack;
 mod panel;
+mod placing;
 mod table;
 mod verdict;
 
+pub use changed::Changed;
 pub use commands::{Devices, NewError};
 pub use jobs::{
     Ask, Entry, Message, Outcome, Severity, Work, estimate_of, fits, fitting_worker,
@@ -26,14 +29,19 @@ pub use laws::{
     answers_are_equal_by_value, asks_are_equal_by_value, changes_are_equal_by_value,
     commit_changes_its_own_keys, entries_are_equal_by_value, kinds_are_equal_by_value,
     messages_are_equal_by_value, nacks_are_equal_by_value, new_errors_are_equal_by_value,
-    outcomes_are_equal_by_value, panel_changes_its_own_key, plates_are_equal_by_value,
-    set_changes_its_own_keys, severities_are_equal_by_value, verbs_are_equal_by_value,
-    verdicts_are_equal_by_value, works_are_equal_by_value, written_value_is_read_back,
+    outcomes_are_equal_by_value, panel_changes_its_own_key, place_errors_are_equal_by_value,
+    placing_is_setting, plates_are_equal_by_value, set_changes_its_own_keys,
+    set_changes_what_it_tells, severities_are_equal_by_value, told_changes_are_equal_by_value,
+    verbs_are_equal_by_value, verdicts_are_equal_by_value, works_are_equal_by_value,
+    written_value_is_read_back,
 };
 pub use nack::Nack;
 pub use panel::{Change, Plate};
+pub use placing::PlaceError;
 pub use rdm_device::{
     Personality, Profile, SelfTest, SensorDef, Slot, StatusText, Unit, Value, write_value,
 };
+pub use rdm_saved::{RestoreError, SaveError};
+pub use table::names::{other_name, pid_named};
 pub use table::read::read_value;
 pub use verdict::{Answer, Verdict};

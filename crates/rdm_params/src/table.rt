@@ -14,7 +14,9 @@
 //!   entries that wait.
 
 pub(crate) mod find;
+pub(crate) mod keep;
 pub(crate) mod list;
+pub(crate) mod names;
 pub(crate) mod read;
 pub(crate) mod respond;
 pub(crate) mod store;

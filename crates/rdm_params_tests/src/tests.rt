@@ -9,8 +9,10 @@ use rdm_params::*;
 use std::alloc::Global;
 use std::process::Abort;
 
+mod changes;
 mod devices;
 mod panel;
+mod placing;
 mod profiles;
 mod rows;
 mod scalars;

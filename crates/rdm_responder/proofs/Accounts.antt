@@ -1,5 +1,5 @@
 -- What a history comes to, one event after another.
-use Rattle.std.proofs.Common.{◌≡◌, ℕ, List, Option, refl, subst}
+use Rattle.std.proofs.Common.{◌≡◌, ◌↔◌, ℕ, List, Option, refl, sym, subst, ◌∙◌}
 use Rattle.std.proofs.lemmas.List.Sums.{fold_push}
 use Rattle.rdm_frame.specs.declared.frame.Frame.{Frame}
 use Rattle.rdm_frame.specs.Reading.{frame_in}
@@ -27,3 +27,10 @@ stands_for_event new h event shows = rw account_of-then shows
 pub stands_for_then : (new : State) (h : History) (bytes : List ℕ) (found : Option Frame) → found ≡ frame_in bytes → Shows new (account_with (account_of h) (request_in (account_of h).setup.uid found)) → StandsFor new (then_event h (Heard bytes))
 stands_for_then new h bytes found read shows =
     stands_for_event new h (Heard bytes) (subst (λ (f : Option Frame). Shows new (account_with (account_of h) (request_in (account_of h).setup.uid f))) read shows)
+
+-- the values of the state are the same exactly if those of the history are
+pub same_values : {Told : Type 0} (before after : State) (h later : History) → StandsFor before h → StandsFor after later → (Told ↔ (after.parameters ≡ before.parameters)) → (Told ↔ ((account_of later).parameters ≡ (account_of h).parameters))
+same_values before after h later stands_before stands_after same = (
+  λ told. sym stands_after.parameters ∙ same.0 told ∙ stands_before.parameters,
+  λ e. same.1 (stands_after.parameters ∙ e ∙ sym stands_before.parameters),
+)

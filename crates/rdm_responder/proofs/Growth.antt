@@ -9,6 +9,7 @@ use Rattle.rdm_params.specs.declared.jobs.ask.Ask.{Ask}
 use Rattle.rdm_params.specs.declared.jobs.message.Message.{Message}
 use Rattle.rdm_params.specs.declared.jobs.outcome.Outcome.{Outcome}
 use Rattle.rdm_params.specs.declared.jobs.outcome.Outcome.TheVariants.{Done, Reading, Failed}
+use Rattle.rdm_params.specs.declared.jobs.status.Entry.{Entry as StatusEntry}
 use Rattle.rdm_params.specs.declared.jobs.work.Work.{Work}
 use Rattle.rdm_params.specs.declared.verdict.Verdict.{Verdict}
 use Rattle.rdm_params.specs.declared.verdict.Verdict.TheVariants as verdict
@@ -22,9 +23,9 @@ use Rattle.rdm_outbox.specs.Account as outbox
 use Rattle.rdm_outbox.specs.Jobs.{next_job, has_room, after_arrive}
 use Rattle.rdm_outbox.specs.Messages.{is_last, next_of, after_next, after_post}
 use Rattle.rdm_outbox.specs.Statuses.{after_clear, can_note, after_status_now}
-use Rattle.rdm_responder.specs.History.{History, Event, Heard, Arrived, Changed, then_event}
+use Rattle.rdm_responder.specs.History.{History, Event, Heard, Arrived, Changed, Placed, Noted, Restored, then_event}
 use Rattle.rdm_responder.specs.Requests.{Request, Ignored, Branch, Muting, Get, Set, request_in}
-use Rattle.rdm_responder.specs.Rules.{Account, account_of, account_after, account_with, job_with, outbox_after, started_by, after_message, after_outcome}
+use Rattle.rdm_responder.specs.Rules.{Account, account_of, account_after, account_with, job_with, outbox_after, started_by, after_message, after_entry, after_outcome}
 use Rattle.rdm_responder.specs.Runs.{outbox_of}
 use Rattle.rdm_responder.proofs.Accounts.{account_of-then}
 
@@ -86,10 +87,13 @@ notes : (b c : outbox.Account) (r? : Bool) → c.accepted ≡ b.accepted → c.e
 notes b c true e1 e2 e3 = stays b c e1 e2 e3
 notes b c false e1 e2 e3 = still b
 
+pub noted_entry : (p : Parameters) (b : outbox.Account) (entry : StatusEntry) → Grows b (after_entry p b entry) [] []
+noted_entry p b entry = either b _ b _ (notes b _ (can_note b) refl refl refl) (still b)
+
 ends : (p : Parameters) (b : outbox.Account) (work : Work) (outcome : Outcome) → Grows b (after_outcome p b work outcome) [] []
 ends p b work Done = still b
 ends p b work (Reading v) = still b
-ends p b work (Failed severity id v1 v2) = either b _ b _ (notes b _ (can_note b) refl refl refl) (still b)
+ends p b work (Failed severity id v1 v2) = noted_entry p b _
 
 reported : (b : outbox.Account) (worker : ℕ) (m : Message) → Grows b (after_arrive b worker m) [] (worker ∷ [])
 reported b worker m = record { accepted = sym (append-nil b.accepted); ended = refl; most = refl }
@@ -107,16 +111,25 @@ abbrev pub job_at : Account → Event → Option Job
 job_at a (Heard bytes) = job_with a (request_in a.setup.uid (frame_in bytes))
 job_at a (Arrived r) = None
 job_at a (Changed change) = None
+job_at a (Placed sub pid bytes) = None
+job_at a (Noted entry) = None
+job_at a (Restored image) = None
 
 abbrev pub workers_at : Event → List ℕ
 workers_at (Heard bytes) = []
 workers_at (Arrived r) = worker_of r.job.work ∷ []
 workers_at (Changed change) = []
+workers_at (Placed sub pid bytes) = []
+workers_at (Noted entry) = []
+workers_at (Restored image) = []
 
 pub event_grows : (a : Account) (e : Event) → Grows a.outbox (account_after a e).outbox (option_to_list (job_at a e)) (workers_at e)
 event_grows a (Heard bytes) = requested a (request_in a.setup.uid (frame_in bytes))
 event_grows a (Arrived r) = and_then a.outbox _ _ [] [] (worker_of r.job.work ∷ []) [] (reported a.outbox (worker_of r.job.work) _) (ends _ _ r.job.work r.outcome)
 event_grows a (Changed change) = posted a.outbox (change_message a.parameters change)
+event_grows a (Placed sub pid bytes) = still a.outbox
+event_grows a (Noted entry) = noted_entry a.parameters a.outbox entry
+event_grows a (Restored image) = still a.outbox
 
 pub grows : (h : History) (e : Event) → Grows (outbox_of h) (outbox_of (then_event h e)) (option_to_list (job_at (account_of h) e)) (workers_at e)
 grows h e =

@@ -3,6 +3,7 @@ pub mod Arrivals
 pub mod Changes
 pub mod Growth
 pub mod Lawfulness
+pub mod Options
+pub mod Room
 pub mod Runs
 pub mod Shown
-pub mod Room

@@ -8,7 +8,7 @@ use Rattle.rdm_params.specs.declared.jobs.ask.Ask.{Ask}
 use Rattle.rdm_params.specs.declared.jobs.message.Message.{Message}
 use Rattle.rdm_params.specs.declared.jobs.outcome.Outcome.{Outcome}
 use Rattle.rdm_params.specs.declared.jobs.outcome.Outcome.TheVariants.{Done, Reading, Failed}
-use Rattle.rdm_params.specs.declared.jobs.status.Entry.{Entry}
+use Rattle.rdm_params.specs.declared.jobs.status.Entry.{Entry, Entry as StatusEntry}
 use Rattle.rdm_params.specs.declared.jobs.work.Work.{Work}
 use Rattle.rdm_params.specs.declared.verdict.Verdict.{Verdict}
 use Rattle.rdm_params.specs.declared.verdict.Verdict.TheVariants.{Reply, Start, Queue, Status, Clear, Refuse}
@@ -30,11 +30,12 @@ use Rattle.rdm_outbox.specs.State.{HasRoom, most_waiting}
 use Rattle.rdm_outbox.specs.Statuses.{can_note, most_shown, show, unshown, after_status_now}
 use Rattle.rdm_outbox.proofs.Entries.{unshown_after_clear}
 use Rattle.rdm_outbox.proofs.Marks.{show_only_marks}
-use Rattle.rdm_responder.specs.History.{Event, Heard, Arrived, Changed}
+use Rattle.rdm_responder.specs.History as history
+use Rattle.rdm_responder.specs.History.{Event, Heard, Arrived, Changed, Placed, Restored}
 use Rattle.rdm_responder.specs.Lawful.{MayHappen, AreLawful}
 use Rattle.rdm_responder.specs.Laws.{LawfulHistoriesHaveRoom}
 use Rattle.rdm_responder.specs.Requests.{Request, Ignored, Branch, Muting, Get, Set, request_in}
-use Rattle.rdm_responder.specs.Rules.{Account, account_of, account_before, account_after, account_with, after_message, after_outcome, outbox_after}
+use Rattle.rdm_responder.specs.Rules.{Account, account_of, account_before, account_after, account_with, after_message, after_entry, after_outcome, outbox_after}
 use Rattle.rdm_responder.proofs.Shown.{IsWithin, either, after_event, ended_one}
 
 -- how many jobs a worker was given, and how many of them have ended
@@ -49,7 +50,7 @@ record Fits (b : outbox.Account) : Type 0 where
   pub most : b.q ≤ most_waiting
   pub room : given_to 0 b + given_to 1 b + length b.arrived ≤ b.q + done_by 0 b + done_by 1 b + b.given
   pub jobs : (w : ℕ) → given_to w b ≤ b.jobs
-  pub unshown : length (unshown b.noted) ≤ 1024
+  pub unshown : length (unshown b.noted) ≤ b.entries
 
 -- there is a place
 has_a_place : (b : outbox.Account) → IsWithin b → has_place b ≡ true → given_to 0 b + given_to 1 b + length b.arrived < b.q + done_by 0 b + done_by 1 b + b.given
@@ -168,14 +169,17 @@ arrive_fits b worker m two fits = record {
 
 noted_fits : (b : outbox.Account) (entry : Entry) (can : Bool) → can_note b ≡ can → Fits b → Fits (cond can (record b { noted = b.noted ++ record { entry = entry; shown = false } ∷ [] }) b)
 noted_fits b entry true e fits =
-    let some = ltb-true (length (unshown b.noted)) 1024 e in
+    let some = ltb-true (length (unshown b.noted)) b.entries e in
     record { most = fits.most; room = fits.room; jobs = fits.jobs; unshown = omega (arith, noted_one b.noted entry, some) }
 noted_fits b entry false e fits = fits
+
+entry_fits : (p : Parameters) (b : outbox.Account) (entry : StatusEntry) → Fits b → Fits (after_entry p b entry)
+entry_fits p b entry fits = either Fits _ _ b (noted_fits b entry (can_note b) refl fits) fits
 
 outcome_fits : (p : Parameters) (b : outbox.Account) (work : Work) (outcome : Outcome) → Fits b → Fits (after_outcome p b work outcome)
 outcome_fits p b work Done fits = fits
 outcome_fits p b work (Reading v) fits = fits
-outcome_fits p b work (Failed severity id v1 v2) fits = either Fits _ _ b (noted_fits b _ (can_note b) refl fits) fits
+outcome_fits p b work (Failed severity id v1 v2) fits = entry_fits p b _ fits
 
 message_fits : (b : outbox.Account) (message : Option Message) → IsWithin b → has_place b ≡ true → Fits b → Fits (after_message b message)
 message_fits b None is place fits = fits
@@ -192,6 +196,9 @@ event_fits a (Arrived r) may is fits =
     outcome_fits _ _ r.job.work r.outcome
     (arrive_fits a.outbox (worker_of r.job.work) (committed a.parameters r.job.work r.outcome) (there_are_two_workers r.job.work) fits)
 event_fits a (Changed change) may is fits = message_fits a.outbox (change_message a.parameters change) is may fits
+event_fits a (Placed sub pid bytes) may is fits = fits
+event_fits a (history.Noted entry) may is fits = entry_fits a.parameters a.outbox entry fits
+event_fits a (Restored image) may is fits = fits
 
 events_fit : (a : Account) (es : List Event) → AreLawful a es → IsWithin a.outbox → Fits a.outbox → IsWithin (fold account_after a es).outbox × Fits (fold account_after a es).outbox
 events_fit a [] lawful is fits = (is, fits)
@@ -205,7 +212,7 @@ room_of s b is fits shows = record {
   room = omega (arith, shows.q, fits.room, ap length shows.first ∙ length-drop (done_by 0 b) (jobs_of 0 b.accepted), ap length shows.second ∙ length-drop (done_by 1 b) (jobs_of 1 b.accepted), ap length shows.queue ∙ length-drop b.given b.arrived, is.ended 0, is.ended 1, is.given);
   first_given = omega (arith, shows.first_given, shows.jobs, fits.jobs 0);
   second_given = omega (arith, shows.second_given, shows.jobs, fits.jobs 1);
-  unshown = omega (arith, ap length shows.unshown, fits.unshown);
+  unshown = omega (arith, ap length shows.unshown, shows.entries, fits.unshown);
 }
 
 pub lawful_histories_have_room : LawfulHistoriesHaveRoom

@@ -8,6 +8,7 @@ use Rattle.rdm_params.specs.declared.jobs.ask.Ask.{Ask}
 use Rattle.rdm_params.specs.declared.jobs.message.Message.{Message}
 use Rattle.rdm_params.specs.declared.jobs.outcome.Outcome.{Outcome}
 use Rattle.rdm_params.specs.declared.jobs.outcome.Outcome.TheVariants.{Done, Reading, Failed}
+use Rattle.rdm_params.specs.declared.jobs.status.Entry.{Entry as StatusEntry}
 use Rattle.rdm_params.specs.declared.jobs.work.Work.{Work}
 use Rattle.rdm_params.specs.declared.verdict.Verdict.{Verdict}
 use Rattle.rdm_params.specs.declared.verdict.Verdict.TheVariants.{Reply, Start, Queue, Status, Clear, Refuse}
@@ -24,11 +25,11 @@ use Rattle.rdm_outbox.specs.Shows as outbox_shows
 use Rattle.rdm_outbox.specs.State as outbox_state
 use Rattle.rdm_outbox.specs.Statuses.{can_note, unshown}
 use Rattle.rdm_outbox.proofs.Outboxes.{ended_sum, within_more}
-use Rattle.rdm_responder.specs.History.{Event, Heard, Arrived, Changed}
+use Rattle.rdm_responder.specs.History.{Event, Heard, Arrived, Changed, Placed, Noted, Restored}
 use Rattle.rdm_responder.specs.Lawful.{MayHappen, AreLawful}
 use Rattle.rdm_responder.specs.Laws.{CanBeShown, LawfulHistoriesCanBeShown, LawfulHistoriesHaveOneState}
 use Rattle.rdm_responder.specs.Requests.{Request, Ignored, Branch, Muting, Get, Set, request_in}
-use Rattle.rdm_responder.specs.Rules.{Account, account_of, account_before, account_after, account_with, after_message, after_outcome, is_muted, outbox_after}
+use Rattle.rdm_responder.specs.Rules.{Account, account_of, account_before, account_after, account_with, after_message, after_entry, after_outcome, is_muted, outbox_after}
 use Rattle.rdm_responder.specs.StandsFor.{State, Shows}
 use Rattle.rdm_responder.proofs.Arrivals.{some_outstanding}
 
@@ -94,11 +95,14 @@ arrives b worker m some is = record {
   given = omega (arith, is.given, length-append b.arrived (m ∷ []));
 }
 
+after_the_entry : (p : Parameters) (b : outbox.Account) (entry : StatusEntry) → IsWithin b → IsWithin (after_entry p b entry)
+after_the_entry p b entry is =
+    either IsWithin _ _ b (either IsWithin (can_note b) _ b (record { ended = is.ended; given = is.given }) is) is
+
 after_the_outcome : (p : Parameters) (b : outbox.Account) (work : Work) (outcome : Outcome) → IsWithin b → IsWithin (after_outcome p b work outcome)
 after_the_outcome p b work Done is = is
 after_the_outcome p b work (Reading v) is = is
-after_the_outcome p b work (Failed severity id v1 v2) is =
-    either IsWithin _ _ b (either IsWithin (can_note b) _ b (record { ended = is.ended; given = is.given }) is) is
+after_the_outcome p b work (Failed severity id v1 v2) is = after_the_entry p b _ is
 
 -- ---- an event, and a history
 
@@ -112,6 +116,9 @@ after_event a (Arrived r) may is =
     after_the_outcome _ _ r.job.work r.outcome
     (arrives a.outbox (worker_of r.job.work) (committed a.parameters r.job.work r.outcome) (some_outstanding (outstanding_of a.outbox (worker_of r.job.work)) r.job may.oldest) is)
 after_event a (Changed change) may is = after_posting a.outbox (change_message a.parameters change) is
+after_event a (Placed sub pid bytes) may is = is
+after_event a (Noted entry) may is = after_the_entry a.parameters a.outbox entry is
+after_event a (Restored image) may is = is
 
 after_events : (a : Account) (es : List Event) → AreLawful a es → IsWithin a.outbox → IsWithin (fold account_after a es).outbox
 after_events a [] lawful is = is
@@ -128,6 +135,7 @@ abbrev outbox_at : outbox.Account → outbox_state.State
 outbox_at b = record {
   q = b.q;
   jobs = b.jobs;
+  entries = b.entries;
   first = outstanding_of b 0;
   second = outstanding_of b 1;
   first_given = length (jobs_of 0 b.accepted);
@@ -148,6 +156,7 @@ stands a can = record {
   outbox = record {
     q = refl;
     jobs = refl;
+    entries = refl;
     first = refl;
     second = refl;
     first_given = refl;
@@ -166,6 +175,7 @@ same_outbox : (s : outbox_state.State) (b : outbox.Account) → outbox_shows.Sho
 same_outbox s b is = λ i. record {
   q = is.q i;
   jobs = is.jobs i;
+  entries = is.entries i;
   first = is.first i;
   second = is.second i;
   first_given = is.first_given i;

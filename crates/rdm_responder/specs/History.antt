@@ -2,21 +2,28 @@
 use Rattle.std.specs.Prelude.{ℕ, List, [], ◌∷◌, ◌++◌}
 use Rattle.rdm_frame.specs.declared.uid.Uid.{Uid}
 use Rattle.rdm_params.specs.declared.panel.Change.{Change}
+use Rattle.rdm_params.specs.declared.jobs.status.Entry.{Entry as StatusEntry}
 use Rattle.rdm_device.specs.declared.profile.Profile.{Profile}
 use Rattle.rdm_responder.specs.declared.report.Report.{Report}
 
--- What a responder is set up with: its UID, what it is, and how many results of slow commands it has room for.
+-- What a responder is set up with: its UID, what it is, how many results of slow commands it has room for, and how many
+-- status entries can wait to be shown.
 pub record Setup : Type 0 where
   pub uid : Uid
   pub profile : Profile
   pub queue_size : ℕ
+  pub entries : ℕ
 
--- Something that happens: bytes are heard on the bus, the report of a job arrives, or a person changes something at the
--- fixture's own menu.
+-- Something that happens: bytes are heard on the bus, the report of a job arrives, a person changes something at the
+-- fixture's own menu, the firmware places a value, of a sub-device and a PID, it has a status entry to tell, or it restores
+-- the values from an image of them, as it does when the fixture was switched on.
 pub data Event : Type 0 where
   Heard : List ℕ → Event
   Arrived : Report → Event
   Changed : Change → Event
+  Placed : ℕ → ℕ → List ℕ → Event
+  Noted : StatusEntry → Event
+  Restored : List ℕ → Event
 
 -- A setup, and what happened since, in order of time.
 pub record History : Type 0 where

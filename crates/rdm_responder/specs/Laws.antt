@@ -1,10 +1,15 @@
 -- Laws of histories.
 use Rattle.std.specs.Prelude.{◌≡◌, ◌≤◌, length}
+use Rattle.rdm_params.specs.Commands.Saving.{powered_on}
+use Rattle.rdm_params.specs.Device.Parameters.{Parameters}
+use Rattle.rdm_saved.specs.Laws.{IsWhole, AreWhole, AreOfOneMake, taken}
+use Rattle.rdm_saved.specs.SavedText.{saved_text}
 use Rattle.rdm_outbox.specs.Account as outbox
 use Rattle.rdm_outbox.specs.Jobs.{jobs_of, ended_of}
 use Rattle.rdm_outbox.specs.State.{HasRoom}
-use Rattle.rdm_responder.specs.History.{History}
-use Rattle.rdm_responder.specs.Lawful.{IsLawful}
+use Rattle.rdm_responder.specs.History.{History, Restored, then_event}
+use Rattle.rdm_responder.specs.Lawful.{IsLawful, MayRestore}
+use Rattle.rdm_responder.specs.Rules.{account_of}
 use Rattle.rdm_responder.specs.Runs.{outbox_of}
 use Rattle.rdm_responder.specs.StandsFor.{State, StandsFor, IsQueueSize}
 
@@ -26,7 +31,21 @@ LawfulHistoriesHaveOneState =
     → (state : State) × StandsFor state h × ((other : State) → StandsFor other h → other ≡ state)
 
 -- And if the setup has room for 1 to 1,024 results, that state has the room that an outbox keeps: jobs and messages are no
--- more than there are places for, no worker was given more jobs than it may be, and at most 1,024 entries are to be shown.
+-- more than there are places for, no worker was given more jobs than it may be, and no more entries are to be shown than the
+-- setup has room for.
 abbrev pub LawfulHistoriesHaveRoom : Type 0
 LawfulHistoriesHaveRoom =
     (h : History) → IsLawful h → IsQueueSize h.setup.queue_size → (state : State) → StandsFor state h → HasRoom state.outbox
+
+-- the values after a history
+abbrev pub values_of : History → Parameters
+values_of h = (account_of h).parameters
+
+-- What one responder saves, another of the same make may restore. Then its values that last are the saved ones, with one more
+-- power cycle, and the others stay.
+abbrev pub SavedValuesAreRestored : Type 0
+SavedValuesAreRestored =
+    (saves restores : History) → IsWhole (values_of saves).root → AreWhole (values_of saves).subs
+    → AreOfOneMake (values_of restores) (values_of saves)
+    → MayRestore (account_of restores) (saved_text (values_of saves))
+    × (values_of (then_event restores (Restored (saved_text (values_of saves)))) ≡ powered_on (taken (values_of restores) (values_of saves)))

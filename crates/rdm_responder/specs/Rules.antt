@@ -22,6 +22,8 @@ use Rattle.rdm_params.specs.declared.verdict.Verdict.TheVariants.{Reply, Start, 
 use Rattle.rdm_params.specs.Commands.Commands.{got, answer_to_set, after_set}
 use Rattle.rdm_params.specs.Commands.Nacks.{nack_code}
 use Rattle.rdm_params.specs.Commands.Panel.{after_change, change_message}
+use Rattle.rdm_params.specs.Commands.Placing.{after_place}
+use Rattle.rdm_params.specs.Commands.Saving.{powered_on}
 use Rattle.rdm_params.specs.Device.Parameters.{Parameters, parameters_of}
 use Rattle.rdm_params.specs.Jobs.Work.{worker_of, estimate_of}
 use Rattle.rdm_params.specs.Jobs.Commit.{after_commit, committed}
@@ -31,8 +33,9 @@ use Rattle.rdm_outbox.specs.Account as outbox
 use Rattle.rdm_outbox.specs.Jobs.{has_room, reserved, after_reserve, after_arrive, waiting_of}
 use Rattle.rdm_outbox.specs.Messages.{after_post, dispensed, after_dispense, status_dispensed, after_status}
 use Rattle.rdm_outbox.specs.Statuses.{after_note, after_clear}
+use Rattle.rdm_saved.specs.Restoring.{restored}
 use Rattle.rdm_responder.specs.declared.report.Report.{Report}
-use Rattle.rdm_responder.specs.History.{Setup, Event, Heard, Arrived, Changed, History}
+use Rattle.rdm_responder.specs.History.{Setup, Event, Heard, Arrived, Changed, Placed, Noted, Restored, History}
 use Rattle.rdm_responder.specs.Requests.{Request, Ignored, Branch, Muting, Get, Set, request_in}
 
 -- What a history comes to: the setup, the values of the parameters, each mute (true) and un-mute (false) that was
@@ -193,17 +196,22 @@ account_after_change a change = record a {
   outbox = after_message a.outbox (change_message a.parameters change);
 }
 
+-- What the firmware places changes the values alone. An entry that it tells is noted as that of a failed job is. What it
+-- restores changes the values alone, and since a fixture restores them when it was switched on, that is one more power cycle.
 abbrev pub account_after : Account → Event → Account
 account_after a (Heard bytes) = account_with a (request_in a.setup.uid (frame_in bytes))
 account_after a (Arrived report) = account_after_report a report
 account_after a (Changed change) = account_after_change a change
+account_after a (Placed sub pid bytes) = record a { parameters = after_place a.parameters sub pid bytes }
+account_after a (Noted entry) = record a { outbox = after_entry a.parameters a.outbox entry }
+account_after a (Restored image) = record a { parameters = powered_on (restored a.parameters image) }
 
 -- how many jobs a worker can be given: their numbers have 32 bits
 abbrev pub most_jobs : ℕ
 most_jobs = 4294967295
 
 abbrev pub account_before : Setup → Account
-account_before setup = record { setup = setup; parameters = parameters_of setup.profile; mutings = []; outbox = outbox.account_before setup.queue_size most_jobs }
+account_before setup = record { setup = setup; parameters = parameters_of setup.profile; mutings = []; outbox = outbox.account_before setup.queue_size most_jobs setup.entries }
 
 unfoldable pub account_of : History → Account
 account_of h = fold account_after (account_before h.setup) h.events

@@ -1,6 +1,6 @@
 //! What an answer does: a job starts, a message leaves the queue, status entries are told or cleared. Then it is replied.
 
-ghost use Rattle.std.specs.Prelude.{◌≡◌, ◌<◌, IfSome};
+ghost use Rattle.std.specs.Prelude.{◌≡◌, ◌<◌, None, IfSome};
 ghost use Rattle.std.specs.Int.{w16, to_be_bytes};
 ghost use Rattle.std.specs.Bool.{OnFalse};
 ghost use Rattle.rdm_frame.specs.declared.frame.Frame.{Frame};
@@ -40,6 +40,7 @@ pub(crate) fn carry_out(
     ensures silent { OnFalse result.replied (wire.new ≡ wire.old) }
     ensures job { (b : Account) → Shows outbox.old b → job_in result.started ≡ started_by b (verdict_with answer body.old) }
     ensures table { IfSome result.started IsAsInTable }
+    ensures changed { result.changed ≡ None }
     ensures after { (b : Account) → Shows outbox.old b → Shows outbox.new (outbox_after b (verdict_with answer body.old)) }
 {
     let mut started = None;
@@ -76,7 +77,11 @@ pub(crate) fn carry_out(
             send(own, request, heading, body.as_slice(), outbox.count(), wire)
         }
     };
-    Stepped { replied, started }
+    Stepped {
+        replied,
+        started,
+        changed: None,
+    }
 }
 
 /// Gives a slow command room, if there is any, and puts the data of its response in `body`: the estimate in tenths of a

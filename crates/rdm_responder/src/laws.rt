@@ -1,12 +1,15 @@
 //! Laws of histories, and of `==`, by which tests compare. Each is the contract of a call that does nothing.
 
 ghost use Rattle.std.specs.Prelude.{◌≡◌, ◌↔◌, IsTrue};
-ghost use Rattle.rdm_responder.specs.Laws.{LawfulHistoriesCanBeShown, LawfulHistoriesHaveOneState, LawfulHistoriesHaveRoom};
+ghost use Rattle.rdm_responder.specs.Laws.{LawfulHistoriesCanBeShown, LawfulHistoriesHaveOneState, LawfulHistoriesHaveRoom, SavedValuesAreRestored};
 
 use crate::{Arrival, Astray, NewError, NoRoom, Output, Report, Started, Stepped};
 use rdm_frame::bytes_are_equal_by_value;
 use rdm_outbox::jobs_are_equal_by_value;
-use rdm_params::{changes_are_equal_by_value, messages_are_equal_by_value};
+use rdm_params::{
+    changes_are_equal_by_value, messages_are_equal_by_value, told_changes_are_equal_by_value,
+};
+use rdm_saved::saved_is_restored;
 
 /// For every lawful history there is one state that stands for it, and no other: a history in which each report was of the
 /// oldest outstanding job of its worker ends no more jobs than were accepted, and gives no more messages than arrived. That
@@ -16,6 +19,14 @@ pub fn lawful_histories_have_one_state()
     ensures state { LawfulHistoriesHaveOneState }
     ensures room { LawfulHistoriesHaveRoom }
 {}
+
+/// What one responder saves is restored by another of the same make: then its values that last are the saved ones, with one
+/// more power cycle, and the others stay.
+pub fn saved_values_are_restored()
+    ensures { SavedValuesAreRestored }
+{
+    saved_is_restored();
+}
 
 /// Two reports are equal by `==` exactly when their jobs and their outcomes are.
 pub fn reports_are_equal_by_value()
@@ -30,7 +41,10 @@ pub fn starts_are_equal_by_value()
 /// Two answers to bytes are equal by `==` exactly when each of their fields is.
 pub fn answers_are_equal_by_value()
     ensures { (a b : Stepped) → IsTrue (⟦<Stepped as PartialEq>⟧.eq a b) ↔ (a ≡ b) }
-{}
+{
+    starts_are_equal_by_value();
+    told_changes_are_equal_by_value();
+}
 
 /// Two arrivals are equal by `==` exactly when their messages are, and each notes an entry or neither does.
 pub fn arrivals_are_equal_by_value()

@@ -19,13 +19,15 @@ mod stepped;
 pub use laws::{
     answers_are_equal_by_value, arrivals_are_equal_by_value, astrays_are_equal_by_value,
     lawful_histories_have_one_state, new_errors_are_equal_by_value, no_rooms_are_equal_by_value,
-    outputs_are_equal_by_value, reports_are_equal_by_value, starts_are_equal_by_value,
+    outputs_are_equal_by_value, reports_are_equal_by_value, saved_values_are_restored,
+    starts_are_equal_by_value,
 };
 pub use rdm_frame::{Body, Text, Uid, Wire};
 pub use rdm_outbox::Job;
 pub use rdm_params::{
-    Ask, Change, Devices, Kind, Message, Nack, Outcome, Personality, Plate, Profile, SelfTest,
-    SensorDef, Severity, Slot, StatusText, Unit, Value, Verb, Verdict, Work,
+    Ask, Change, Changed, Devices, Kind, Message, Nack, Outcome, Personality, Plate, Profile,
+    RestoreError, SaveError, SelfTest, SensorDef, Severity, Slot, StatusText, Unit, Value, Verb,
+    Verdict, Work,
 };
 pub use report::{Arrival, Astray, NoRoom, Report};
 pub use responder::{NewError, Responder};

@@ -1,12 +1,13 @@
 //! The responder.
 
-ghost use Rattle.std.specs.Prelude.{◌≡◌, ◌↔◌, ◌<◌, ◌≤◌, ◌≢◌, ℕ, IsTrue, IsOk, IfOk, OnOk, OnErr, IfErr, IsErrOf, IfSome, IsSome, Option, None, Some, true, slice_get, length, nat_lt};
+ghost use Rattle.std.specs.Prelude.{◌≡◌, ◌↔◌, ◌<◌, ◌≤◌, ◌≢◌, ℕ, IsTrue, IsOk, IfOk, OnOk, OnErr, IfErr, IsErrOf, IfSome, IsSome, IsSomeAnd, Option, None, Some, true, slice_get, length, nat_lt};
 ghost use Rattle.std.specs.Bool.{OnFalse};
 ghost use Rattle.rdm_outbox.specs.Account.{Account as OutboxAccount};
 ghost use Rattle.rdm_outbox.specs.Jobs.{outstanding_count, outstanding_of, waiting_of};
 ghost use Rattle.rdm_outbox.specs.Shows.{Shows as OutboxShows};
-ghost use Rattle.rdm_outbox.specs.State.{jobs_at};
-ghost use Rattle.rdm_params.specs.Device.Parameters.{parameters_of};
+ghost use Rattle.rdm_outbox.specs.State.{IsListSize, jobs_at, most_entries};
+ghost use Rattle.rdm_frame.specs.Reading.{frame_in};
+ghost use Rattle.rdm_params.specs.Commands.Changed.{change_of};
 ghost use Rattle.rdm_params.specs.Device.Profiles.{CanBeMade};
 ghost use Rattle.rdm_params.specs.Jobs.Outcome.{fits};
 ghost use Rattle.rdm_params.specs.Jobs.Work.{worker_of};
@@ -17,13 +18,16 @@ ghost use Rattle.rdm_responder.specs.Runs.{IsArrival, outbox_of};
 ghost use Rattle.rdm_responder.specs.StandsFor.{Shows, StandsFor, IsQueueSize};
 ghost use Rattle.rdm_responder.specs.Started.{job_in, IsAsInTable};
 
+mod firmware;
 mod hear;
 mod panel;
+mod saving;
 
 use crate::report::{Arrival, Astray, Report};
+use crate::responder::firmware::note_entry;
 use crate::stepped::Stepped;
 use rdm_frame::{Body, Uid, Wire, decode_view};
-use rdm_outbox::{Job, MOST_WAITING, Outbox};
+use rdm_outbox::{Job, MOST_ENTRIES, MOST_WAITING, Outbox};
 use rdm_params::{Devices, Entry, Message, Outcome, Profile, Work, fitting_worker};
 use std::alloc::Global;
 use std::marker::Model;
@@ -41,7 +45,7 @@ pub enum NewError {
     /// The profile breaks a rule, or has too many sub-devices.
     #[error("bad profile")]
     BadProfile,
-    /// The size of the queue isn't 1 to 1,024.
+    /// The size of the queue, or the number of status entries, isn't 1 to 1,024.
     #[error("bad queue size")]
     BadSize,
     /// The UID addresses more than one device.
@@ -70,26 +74,57 @@ impl Model for Responder {
 
 impl Responder {
     /// A responder with this UID, whose parameters have the initial values of the profile, with room for
-    /// `queue_size` results of slow commands.
+    /// `queue_size` results of slow commands and for 1,024 status entries.
     ///
     /// A UID that addresses more than one device is rejected first, then a size that isn't 1 to 1,024, then a profile
     /// that breaks a rule or has too many sub-devices, and last comes out of memory.
     pub fn new(alloc: Global, uid: Uid, profile: Profile, queue_size: u16) -> Result<Self, NewError>
         ensures stands { IfOk result (λ r.
-            StandsFor r (empty_history (record { uid = uid; profile = profile; queue_size = queue_size }))) }
+            StandsFor r (empty_history (record { uid = uid; profile = profile; queue_size = queue_size; entries = most_entries }))) }
         ensures bad_uid { IsErrOf result NewError.BadUid ↔ (uid.device ≡ 0xFFFFFFFF) }
         ensures bad_size { IsErrOf result NewError.BadSize ↔ ((uid.device ≢ 0xFFFFFFFF) × ¬ IsQueueSize queue_size) }
         ensures bad_profile { IsErrOf result NewError.BadProfile
             ↔ ((uid.device ≢ 0xFFFFFFFF) × IsQueueSize queue_size × ¬ CanBeMade profile) }
     {
+        Responder::with_entries(alloc, uid, profile, queue_size, MOST_ENTRIES)
+    }
+
+    /// A responder as of `new`, with room for `entries` status entries that weren't shown (E1.20 section 10.3.2): for a
+    /// controller with little memory. Each takes 10 bytes. While that many wait, a further one is dropped.
+    ///
+    /// The order of the refusals is that of `new`; a number of entries that isn't 1 to 1,024 is a bad size too.
+    // Inlined, since a call would have a copy of the profile on the stack.
+    #[inline(always)]
+    pub fn with_entries(
+        alloc: Global,
+        uid: Uid,
+        profile: Profile,
+        queue_size: u16,
+        entries: u16,
+    ) -> Result<Self, NewError>
+        ensures stands { IfOk result (λ r.
+            StandsFor r (empty_history (record { uid = uid; profile = profile; queue_size = queue_size; entries = entries }))) }
+        ensures bad_uid { IsErrOf result NewError.BadUid ↔ (uid.device ≡ 0xFFFFFFFF) }
+        ensures bad_size { IsErrOf result NewError.BadSize
+            ↔ ((uid.device ≢ 0xFFFFFFFF) × ¬ (IsQueueSize queue_size × IsListSize entries)) }
+        ensures bad_profile { IsErrOf result NewError.BadProfile
+            ↔ ((uid.device ≢ 0xFFFFFFFF) × (IsQueueSize queue_size × IsListSize entries) × ¬ CanBeMade profile) }
+    {
         if uid.is_broadcast() {
             return Err(NewError::BadUid);
         }
-        if queue_size == 0 || queue_size > MOST_WAITING {
+        if queue_size == 0 || queue_size > MOST_WAITING || entries == 0 || entries > MOST_ENTRIES {
             return Err(NewError::BadSize);
         }
-        let devices = devices_of(alloc, profile)?;
-        let Ok(outbox) = Outbox::new(alloc, queue_size, MOST_JOBS) else {
+        // Here, since a call that turned the error into this one would hand on a copy of the devices.
+        let devices = match Devices::new(alloc, profile) {
+            Ok(devices) => devices,
+            Err(rdm_params::NewError::OutOfMemory) => return Err(NewError::OutOfMemory),
+            Err(rdm_params::NewError::TooManySubs | rdm_params::NewError::BadProfile) => {
+                return Err(NewError::BadProfile);
+            }
+        };
+        let Ok(outbox) = Outbox::with_entries(alloc, queue_size, MOST_JOBS, entries) else {
             return Err(NewError::OutOfMemory);
         };
         Ok(Responder {
@@ -116,15 +151,19 @@ impl Responder {
         }
     }
 
-    /// Hears bytes as `step` does, and says whether there is a reply, and which job started, with its worker and its
-    /// estimate (E1.20 section 6.3.3). The bytes of the reply stand in `wire`, which stays as it was if there is none.
-    /// If one `wire` takes all replies, none is blanked or copied on its way.
+    /// Hears bytes as `step` does, and says whether there is a reply, which job started, with its worker and its estimate
+    /// (E1.20 section 6.3.3), and what changed of the parameters: so firmware sees at once that the fixture is to identify
+    /// itself (section 10.11), and a request that changes no value says nothing. The bytes of the reply stand in `wire`,
+    /// which stays as it was if there is none. If one `wire` takes all replies, none is blanked or copied on its way.
     pub fn step_into(&mut self, bytes: &[u8], wire: &mut Wire) -> Stepped
         ensures reply { (h : History) → StandsFor self.old h → answered result.replied wire.new ≡ reply_of h bytes.now }
         ensures silent { OnFalse result.replied (wire.new ≡ wire.old) }
         ensures job { (h : History) → StandsFor self.old h → job_in result.started ≡ job_of h bytes.now }
         ensures table { IfSome result.started IsAsInTable }
         ensures stands { (h : History) → StandsFor self.old h → StandsFor self.new (then_event h (Heard bytes.now)) }
+        ensures unchanged { (h : History) → StandsFor self.old h → ((result.changed ≡ None)
+            ↔ ((account_of (then_event h (Heard bytes.now))).parameters ≡ (account_of h).parameters)) }
+        ensures what { IfSome result.changed (λ c. IsSomeAnd (frame_in bytes.now) (λ f. c ≡ change_of f.sub f.pid)) }
     {
         match decode_view(bytes) {
             Ok(request) => self.answer(&request, wire),
@@ -150,9 +189,14 @@ impl Responder {
         };
         let work = report.job.work;
         let message = self.devices.commit(&work, report.outcome);
-        self.outbox.arrive(worker, message.copy());
+        // The copy is the caller's: inlined into one that doesn't look at it, it isn't made.
+        let twin = message.copy();
+        self.outbox.arrive(worker, message);
         let kept = note_failure(&self.devices, &mut self.outbox, &work, report.outcome);
-        Ok(Arrival { message, kept })
+        Ok(Arrival {
+            message: twin,
+            kept,
+        })
     }
 
     /// The devices, as the firmware of a fixture looks at them: the values of their parameters as they are now.
@@ -230,25 +274,8 @@ fn note_failure(devices: &Devices, outbox: &mut Outbox, work: &Work, outcome: Ou
                 v1,
                 v2,
             };
-            devices.notes(&entry) && outbox.note(entry)
+            note_entry(devices, outbox, entry)
         }
         Outcome::Done | Outcome::Reading(_) => false,
-    }
-}
-
-/// The devices of a profile, with its initial values.
-// Inlined, since a call would have a copy of the profile on the stack.
-#[inline(always)]
-fn devices_of(alloc: Global, profile: Profile) -> Result<Devices, NewError>
-    ensures ok { IfOk result (λ devices. devices ≡ parameters_of profile) }
-    ensures bad_profile { (result ≡ Err NewError.BadProfile) ↔ (¬ CanBeMade profile) }
-    ensures others { (result ≢ Err NewError.BadUid) × (result ≢ Err NewError.BadSize) }
-{
-    match Devices::new(alloc, profile) {
-        Ok(devices) => Ok(devices),
-        Err(rdm_params::NewError::OutOfMemory) => Err(NewError::OutOfMemory),
-        Err(rdm_params::NewError::TooManySubs | rdm_params::NewError::BadProfile) => {
-            Err(NewError::BadProfile)
-        }
     }
 }

@@ -4,6 +4,7 @@ ghost use Rattle.std.specs.Prelude.{◌≡◌, false, None};
 ghost use Rattle.rdm_responder.specs.Started.{job_in};
 
 use rdm_outbox::Job;
+use rdm_params::Changed;
 
 /// A job that started, with what the table of parameters says of its command: so nobody needs to ask it again.
 #[derive(Clone, Copy, Debug, PartialEq, Eq)]
@@ -23,16 +24,19 @@ pub struct Stepped {
     pub replied: bool,
     /// The job that started, if one did.
     pub started: Option<Started>,
+    /// What changed of the parameters, and `None` if every value is what it was.
+    pub changed: Option<Changed>,
 }
 
 impl Stepped {
-    /// No reply, and no job.
+    /// No reply, no job, and no change.
     pub(crate) fn silent() -> Stepped
-        ensures { result ≡ record { replied = false; started = None } }
+        ensures { result ≡ record { replied = false; started = None; changed = None } }
     {
         Stepped {
             replied: false,
             started: None,
+            changed: None,
         }
     }
 

@@ -2,13 +2,16 @@
 //!
 //! The device is 7FF0:00000001, the controller 7FF0:00000002.
 
+mod changes;
 mod clear;
 mod cuts;
 mod discovery;
+mod firmware;
 mod identify;
 mod panel;
 mod parameters;
 mod play;
+mod saving;
 mod slow;
 mod waiting;
 mod words;
@@ -176,6 +179,18 @@ fn a_responder_is_made_or_refused(rt: HostRuntime) {
         let made = Responder::new(rt.alloc(), uid, Profile::demo(0), queue_size);
         assert_eq!(rt; made.err(), refusal, "{uid:?} {queue_size}");
     }
+    for (uid, queue_size, entries, refusal) in [
+        (DEVICE, 8, 1, None),
+        (DEVICE, 8, 64, None),
+        (DEVICE, 8, 1024, None),
+        (DEVICE, 8, 0, Some(NewError::BadSize)),
+        (DEVICE, 8, 1025, Some(NewError::BadSize)),
+        (DEVICE, 0, 64, Some(NewError::BadSize)),
+        (broadcast, 8, 0, Some(NewError::BadUid)),
+    ] {
+        let made = Responder::with_entries(rt.alloc(), uid, Profile::demo(0), queue_size, entries);
+        assert_eq!(rt; made.err(), refusal, "{uid:?} {queue_size} {entries}");
+    }
     let made = |subs| Responder::new(rt.alloc(), DEVICE, Profile::demo(subs), 8);
     assert_eq!(rt; made(2).err(), None);
     assert_eq!(rt; made(512).err(), None);
@@ -192,5 +207,9 @@ fn a_responder_is_made_or_refused(rt: HostRuntime) {
     ] {
         let made = Responder::new(rt.alloc(), uid, no_start(), queue_size);
         assert_eq!(rt; made.err(), Some(refusal), "{uid:?} {queue_size}");
+    }
+    for (entries, refusal) in [(1, NewError::BadProfile), (1025, NewError::BadSize)] {
+        let made = Responder::with_entries(rt.alloc(), DEVICE, no_start(), 8, entries);
+        assert_eq!(rt; made.err(), Some(refusal), "{entries}");
     }
 }

@@ -16,7 +16,7 @@ use Rattle.rdm_script.specs.declared.dialect.Spelling.TheVariants.{Strict, Frien
 use Rattle.rdm_script.specs.Decimals.{number_up_to}
 use Rattle.rdm_params.specs.declared.kind.Kind.{Kind}
 use Rattle.rdm_params.specs.Table.Kinds.{name_of, kinds, kind_named}
-use Rattle.rdm_script.specs.Names.{named_in, other_names, pid_named}
+use Rattle.rdm_params.specs.Table.Names.{named_in, other_names, pid_named}
 use Rattle.rdm_script.specs.Grammar.{is_plain, sub_named, sub_in, pid_in, bytes_load_in, is_shown, is_quoted, between, quoted_in, load_in}
 use Rattle.rdm_script.specs.Spelling.{SpellsCount, SpellsSub, SpellsPid, SpellsQuoted, SpellsLoad}
 use Rattle.rdm_script.proofs.DecimalSpellings.{number_read, number_again}

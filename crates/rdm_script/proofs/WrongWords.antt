@@ -8,7 +8,7 @@ use Rattle.rdm_script.specs.declared.dialect.Spelling.TheVariants.{Strict, Frien
 use Rattle.rdm_frame.specs.DigitReading.{byte_in, number_in, uid_in}
 use Rattle.rdm_params.specs.Table.Kinds.{kind_named}
 use Rattle.rdm_script.specs.Decimals.{decimal_in, number_up_to}
-use Rattle.rdm_script.specs.Names.{pid_named}
+use Rattle.rdm_params.specs.Table.Names.{pid_named}
 use Rattle.rdm_script.specs.Grammar.{word, action_in, destination_in, sub_named, bytes_load_in, sub_in, pid_in, load_in, lost_in, raise_in}
 use Rattle.rdm_script.specs.WrongWords.{AreLine, AreFault, IsFirstWrong}
 use Rattle.rdm_script.proofs.LineParts.{some_isnt, IsAltered, AreAltered, AreCommand, no_altered, lost_isnt, fault_parts, no_fault, loss, raised, command_line, line_command}

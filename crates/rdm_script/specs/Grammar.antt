@@ -29,7 +29,7 @@ use Rattle.rdm_script.specs.declared.grammar.parsing.ScriptError.{ScriptError}
 use Rattle.rdm_script.specs.declared.grammar.parsing.ScriptError.TheVariants as errors
 use Rattle.rdm_script.specs.Parties.{plain_setup}
 use Rattle.rdm_script.specs.Decimals.{number_up_to}
-use Rattle.rdm_script.specs.Names.{pid_named}
+use Rattle.rdm_params.specs.Table.Names.{pid_named}
 use Rattle.rdm_script.specs.Search.{search_of}
 
 abbrev pub word : List (List ℕ) → ℕ → List ℕ

@@ -3,7 +3,6 @@ pub mod DemoParts
 pub mod Dialects
 pub mod ErrorLine
 pub mod Grammar
-pub mod Names
 pub mod Parties
 pub mod Playing
 pub mod Program

@@ -23,7 +23,7 @@ use Rattle.rdm_script.specs.declared.dialect.Spelling.{Spelling}
 use Rattle.rdm_script.specs.declared.dialect.Spelling.TheVariants.{Strict, Friendly}
 use Rattle.rdm_script.specs.declared.script.ScriptSetup.{ScriptSetup}
 use Rattle.rdm_script.specs.Decimals.{SpellsDecimal}
-use Rattle.rdm_script.specs.Names.{pid_named}
+use Rattle.rdm_params.specs.Table.Names.{pid_named}
 use Rattle.rdm_script.specs.Parties.{plain_setup}
 use Rattle.rdm_script.specs.Search.{search_of}
 use Rattle.rdm_script.specs.Grammar.{word, is_shown, is_skipped, words_of, lines_of}

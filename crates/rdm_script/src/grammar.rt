@@ -4,7 +4,6 @@ mod command;
 mod decimals;
 mod fault;
 pub(crate) mod line;
-mod names;
 pub(crate) mod parsing;
 mod search;
 mod telling;

@@ -7,7 +7,7 @@ use Rattle.rdm_outbox.specs.Jobs.{outstanding_of, outstanding_count}
 use Rattle.rdm_outcomes.specs.declared.rule.Rule.{Rule}
 use Rattle.rdm_outcomes.specs.Outcomes.{outcome_of, HasEnded}
 use Rattle.rdm_responder.specs.declared.report.Report.{Report}
-use Rattle.rdm_responder.specs.History.{Setup, Event, Heard, Arrived, Changed, History, empty_history, then_event}
+use Rattle.rdm_responder.specs.History.{Setup, Event, Heard, Arrived, Changed, Placed, Noted, Restored, History, empty_history, then_event}
 use Rattle.rdm_responder.specs.Runs.{outbox_of}
 use Rattle.rdm_responder.specs.StandsFor.{StandsFor}
 use Rattle.rdm_widget.specs.declared.live_fixture.LiveFixture.{LiveFixture}
@@ -59,6 +59,9 @@ reported_in [] = []
 reported_in (Arrived report ∷ events) = report.job ∷ reported_in events
 reported_in (Heard bytes ∷ events) = reported_in events
 reported_in (Changed change ∷ events) = reported_in events
+reported_in (Placed sub pid bytes ∷ events) = reported_in events
+reported_in (Noted entry ∷ events) = reported_in events
+reported_in (Restored image ∷ events) = reported_in events
 
 -- the report of a job, which ends by the rules after the jobs before
 abbrev pub report_of : Situation → Job → Report
@@ -113,6 +116,10 @@ after_heard s bytes = record s { history = then_event s.history (Heard bytes) }
 -- a person changes something at the fixture's own menu
 abbrev pub after_panel : Situation → Change → Situation
 after_panel s change = record s { history = then_event s.history (Changed change) }
+
+-- the values are restored from an image, as it is done when the fixture was switched on
+abbrev pub after_restore : Situation → List ℕ → Situation
+after_restore s image = record s { history = then_event s.history (Restored image) }
 
 -- ---- when a fixture is in a situation
 

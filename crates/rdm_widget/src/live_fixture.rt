@@ -1,15 +1,19 @@
 //! The fixture: a responder whose slow commands take their time.
 
 ghost use Rattle.std.specs.Prelude.{◌≡◌, ◌≢◌, ◌↔◌, ℕ, Some, IsOk, IfOk, OnOk, OnErr, IfErr, IsErrOf};
+ghost use Rattle.std.specs.Result.{result_err};
 ghost use Rattle.rdm_params.specs.Device.Profiles.{CanBeMade};
 ghost use Rattle.rdm_params.specs.Jobs.Work.{worker_of};
 ghost use Rattle.rdm_outbox.specs.Jobs.{outstanding_count};
-ghost use Rattle.rdm_responder.specs.History.{Changed, then_event};
+ghost use Rattle.rdm_outbox.specs.State.{most_entries};
+ghost use Rattle.rdm_responder.specs.History.{Changed, Restored, then_event};
 ghost use Rattle.rdm_responder.specs.Lawful.{IsLawful, MayChange};
+ghost use Rattle.rdm_responder.specs.Laws.{values_of};
 ghost use Rattle.rdm_responder.specs.Rules.{account_of, answered, reply_of};
 ghost use Rattle.rdm_responder.specs.Runs.{IsChange, outbox_of};
 ghost use Rattle.rdm_responder.specs.StandsFor.{IsQueueSize, StandsFor};
-ghost use Rattle.rdm_widget.specs.LiveFixtures.{Situation, IsIn, switched_on, oldest_of, first_ended, after_report, after_next, after_several, begun, ready, after_heard, after_panel};
+ghost use Rattle.rdm_saved.specs.Restoring.{restore_refusal};
+ghost use Rattle.rdm_widget.specs.LiveFixtures.{Situation, IsIn, switched_on, oldest_of, first_ended, after_report, after_next, after_several, begun, ready, after_heard, after_panel, after_restore};
 
 mod ending;
 
@@ -18,7 +22,7 @@ use ending::{Ended, earlier, ended_by, since_after, since_when};
 use rdm_frame::{Uid, Wire};
 use rdm_outcomes::{MOST_RULES, Planned, Rule, outcomes_fit};
 use rdm_params::{Change, Message, Profile, started_work_is_its_command};
-use rdm_responder::{NewError, NoRoom, Report, Responder};
+use rdm_responder::{NewError, NoRoom, Report, Responder, RestoreError};
 use std::alloc::Global;
 
 /// A fixture: a responder, and the workers that do its slow commands in their time. It keeps no queue of its own.
@@ -44,7 +48,7 @@ impl LiveFixture {
         rules: &ArrayVec<Rule, MOST_RULES>,
     ) -> Result<LiveFixture, NewError>
         ensures fixture { IfOk result (λ d.
-            IsIn d (switched_on rules.now.items (record { uid = uid; profile = profile; queue_size = queue_size }))) }
+            IsIn d (switched_on rules.now.items (record { uid = uid; profile = profile; queue_size = queue_size; entries = most_entries }))) }
         ensures bad_uid { IsErrOf result NewError.BadUid ↔ (uid.device ≡ 0xFFFFFFFF) }
         ensures bad_size { IsErrOf result NewError.BadSize ↔ ((uid.device ≢ 0xFFFFFFFF) × ¬ IsQueueSize queue_size) }
         ensures bad_profile { IsErrOf result NewError.BadProfile
@@ -73,6 +77,20 @@ impl LiveFixture {
         ensures same { OnErr result (self.new ≡ self.old) }
     {
         self.responder.change(change)
+    }
+
+    /// Restores the values from an image that `Responder::save_into` wrote, as it is done when the fixture was switched on.
+    ///
+    /// An image is refused as `RestoreError` says, and then nothing changes.
+    pub fn restore(&mut self, image: &[u8]) -> Result<(), RestoreError>
+        ensures lawful { (s : Situation) → IsLawful s.history → IsIn self.old s →
+            (IsOk result ↔ IsLawful (then_event s.history (Restored image.now))) }
+        ensures refused { (s : Situation) → IsIn self.old s →
+            result_err result ≡ restore_refusal (values_of s.history) image.now }
+        ensures fixture { OnOk result ((s : Situation) → IsIn self.old s → IsIn self.new (after_restore s image.now)) }
+        ensures same { OnErr result (self.new ≡ self.old) }
+    {
+        self.responder.restore(image)
     }
 
     /// The responder: what the fixture's parameters are now, and what waits for the controller.

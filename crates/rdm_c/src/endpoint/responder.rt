@@ -1,7 +1,9 @@
 //! What a responder does for C.
 
-ghost use Rattle.std.specs.Prelude.{◌≡◌, ◌≢◌, ◌==◌, ◌↔◌, IfSome, false, length};
+ghost use Rattle.std.specs.Prelude.{◌≡◌, ◌≢◌, ◌==◌, ◌↔◌, IfSome, IsSomeAnd, None, false, length, is_some};
 ghost use Rattle.std.specs.Option.{option_map};
+ghost use Rattle.rdm_frame.specs.Reading.{frame_in};
+ghost use Rattle.rdm_params.specs.Commands.Changed.{change_of};
 ghost use Rattle.rdm_params.specs.Commands.Commands.{got};
 ghost use Rattle.rdm_outbox.specs.Jobs.{has_place, outstanding_count, waiting_of};
 ghost use Rattle.rdm_responder.specs.History.{History, Heard, Arrived, Changed, then_event};
@@ -9,9 +11,10 @@ ghost use Rattle.rdm_responder.specs.Lawful.{IsLawful};
 ghost use Rattle.rdm_responder.specs.Rules.{account_of, reply_of, job_of};
 ghost use Rattle.rdm_responder.specs.Runs.{outbox_of};
 ghost use Rattle.rdm_responder.specs.StandsFor.{StandsFor};
+ghost use Rattle.rdm_c.specs.Changes.{change_in, IsPlainly};
 ghost use Rattle.rdm_c.specs.Jobs.{numbers_of, started_in};
 ghost use Rattle.rdm_c.specs.Statuses.{code_of};
-ghost use Rattle.rdm_c.specs.Endpoints.{changed, GetTold, IsFor, found, is_noted, is_responder, told};
+ghost use Rattle.rdm_c.specs.Endpoints.{changed, GetTold, IsFor, found, flag, is_noted, is_responder, told};
 
 use crate::endpoint::{Endpoint, RunningResponder};
 use crate::front::write_front;
@@ -21,7 +24,7 @@ use rdm_frame::standard::{MOST_DATA, MOST_SLOTS};
 use rdm_params::{Change, Verdict};
 use rdm_responder::Report;
 
-/// Hears bytes, and tells of the reply and of the job that started.
+/// Hears bytes, and tells of the reply, of the job that started and of what changed.
 pub(crate) fn step(
     endpoint: &mut Endpoint,
     bytes: &[u8],
@@ -32,8 +35,15 @@ pub(crate) fn step(
     ensures reply { (h : History) → IsFor endpoint.old h → told stepped.new.replied stepped.new.count reply.new ≡ reply_of h bytes.now }
     ensures count { (h : History) → IsFor endpoint.old h → IfSome (reply_of h bytes.now) (λ r. stepped.new.count ≡ length r) }
     ensures job { (h : History) → IsFor endpoint.old h → started_in stepped.new ≡ option_map numbers_of (job_of h bytes.now) }
+    ensures flags { (h : History) → IsFor endpoint.old h → (stepped.new.replied ≡ flag (is_some (reply_of h bytes.now)))
+        × (stepped.new.started ≡ flag (is_some (job_of h bytes.now))) }
     ensures stands { (h : History) → IsFor endpoint.old h → IsFor endpoint.new (then_event h (Heard bytes.now)) }
-    ensures absent { result ≢ Status.Done → (endpoint.new ≡ endpoint.old) × (stepped.new.replied ≡ 0) × (stepped.new.started ≡ 0) }
+    ensures unchanged { (h : History) → IsFor endpoint.old h → ((change_in stepped.new ≡ None)
+        ↔ ((account_of (then_event h (Heard bytes.now))).parameters ≡ (account_of h).parameters)) }
+    ensures what { IfSome (change_in stepped.new) (λ c. IsSomeAnd (frame_in bytes.now) (λ f. c ≡ change_of f.sub f.pid)) }
+    ensures plainly { IsPlainly stepped.new }
+    ensures absent { result ≢ Status.Done →
+        (endpoint.new ≡ endpoint.old) × (stepped.new.replied ≡ 0) × (stepped.new.started ≡ 0) × (stepped.new.changed ≡ 0) }
 {
     match endpoint {
         Endpoint::Responder(running) => {
@@ -60,8 +70,14 @@ fn hear(
         IfSome (reply_of h bytes.now) (λ r. stepped.new.count ≡ length r) }
     ensures job { (h : History) → StandsFor running.old.responder h →
         started_in stepped.new ≡ option_map numbers_of (job_of h bytes.now) }
+    ensures flags { (h : History) → StandsFor running.old.responder h → (stepped.new.replied ≡ flag (is_some (reply_of h bytes.now)))
+        × (stepped.new.started ≡ flag (is_some (job_of h bytes.now))) }
     ensures stands { (h : History) → StandsFor running.old.responder h →
         StandsFor running.new.responder (then_event h (Heard bytes.now)) }
+    ensures unchanged { (h : History) → StandsFor running.old.responder h → ((change_in stepped.new ≡ None)
+        ↔ ((account_of (then_event h (Heard bytes.now))).parameters ≡ (account_of h).parameters)) }
+    ensures what { IfSome (change_in stepped.new) (λ c. IsSomeAnd (frame_in bytes.now) (λ f. c ≡ change_of f.sub f.pid)) }
+    ensures plainly { IsPlainly stepped.new }
 {
     let outcome = running.responder.step_into(bytes, &mut running.wire);
     stepped.clear();
@@ -70,6 +86,7 @@ fn hear(
         stepped.replied = 1;
     }
     stepped.tell_job(outcome.started);
+    stepped.tell_change(outcome.changed);
 }
 
 /// Takes the report of a job, and says whether it noted a status entry.
@@ -78,7 +95,7 @@ pub(crate) fn arrive(endpoint: &mut Endpoint, report: Report, kept: &mut u8) -> 
     ensures lawful { (h : History) → IsLawful h → IsFor endpoint.old h →
         ((result ≡ Status.Done) ↔ IsLawful (then_event h (Arrived report))) }
     ensures stands { (h : History) → IsFor endpoint.old h → result ≡ Status.Done → IsFor endpoint.new (then_event h (Arrived report)) }
-    ensures kept { (h : History) → IsFor endpoint.old h → result ≡ Status.Done → (kept.new == 1) ≡ is_noted h report }
+    ensures kept { (h : History) → IsFor endpoint.old h → result ≡ Status.Done → kept.new ≡ flag (is_noted h (Arrived report)) }
     ensures same { result ≢ Status.Done → endpoint.new ≡ endpoint.old }
     ensures statuses { (result ≢ Status.Absent) → result ≢ Status.Done → result ≡ Status.Astray }
 {
@@ -95,7 +112,7 @@ fn take_report(running: &mut RunningResponder, report: Report, kept: &mut u8) ->
     ensures stands { (h : History) → StandsFor running.old.responder h → result ≡ Status.Done →
         StandsFor running.new.responder (then_event h (Arrived report)) }
     ensures kept { (h : History) → StandsFor running.old.responder h → result ≡ Status.Done →
-        (kept.new == 1) ≡ is_noted h report }
+        kept.new ≡ flag (is_noted h (Arrived report)) }
     ensures same { result ≢ Status.Done → running.new ≡ running.old }
     ensures statuses { result ≢ Status.Done → result ≡ Status.Astray }
 {
@@ -197,7 +214,7 @@ pub(crate) fn outstanding(endpoint: &Endpoint, count: &mut usize) -> Status
 /// Tells whether there is room for the message of a change.
 pub(crate) fn room(endpoint: &Endpoint, room: &mut u8) -> Status
     ensures status { result ≡ found (is_responder endpoint.now) }
-    ensures room { (h : History) → IsFor endpoint.now h → (room.new == 1) ≡ has_place (outbox_of h) }
+    ensures room { (h : History) → IsFor endpoint.now h → room.new ≡ flag (has_place (outbox_of h)) }
 {
     let Endpoint::Responder(running) = endpoint else {
         return Status::Absent;

@@ -7,7 +7,7 @@ ghost use Rattle.rdm_responder.specs.History.{History};
 ghost use Rattle.rdm_responder.specs.Rules.{account_of};
 ghost use Rattle.rdm_responder.specs.Runs.{outbox_of};
 ghost use Rattle.rdm_c.specs.Statuses.{code_of};
-ghost use Rattle.rdm_c.specs.Endpoints.{HeldFor, GetTold, found, holds_responder};
+ghost use Rattle.rdm_c.specs.Endpoints.{HeldFor, GetTold, found, flag, holds_responder};
 
 use crate::endpoint::responder::{get, outstanding, room, waiting};
 use crate::handle::Handle;
@@ -89,7 +89,7 @@ pub extern "C" fn felosumay_responder_room(
     there: &mut u8,
 ) -> u8
     ensures status { result ≡ code_of (found (holds_responder responder.old.held)) }
-    ensures room { (h : History) → HeldFor responder.old.held h → (there.new == 1) ≡ has_place (outbox_of h) }
+    ensures room { (h : History) → HeldFor responder.old.held h → there.new ≡ flag (has_place (outbox_of h)) }
     ensures same { responder.new.held ≡ responder.old.held }
 {
     let Some(endpoint) = take(alloc, responder) else {

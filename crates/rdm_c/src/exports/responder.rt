@@ -1,18 +1,22 @@
 //! The responder, as C calls it: made, given up, and what happens to it.
 
-ghost use Rattle.std.specs.Prelude.{◌≡◌, ◌≢◌, ◌↔◌, ◌≤◌, ◌==◌, None, Err, false, IfSome, IfOk, IfErr, length};
+ghost use Rattle.std.specs.Prelude.{◌≡◌, ◌≢◌, ◌↔◌, ◌≤◌, ◌==◌, None, Err, false, IfSome, IsSomeAnd, IfOk, IfErr, length, is_some};
 ghost use Rattle.std.specs.Option.{option_map};
+ghost use Rattle.rdm_frame.specs.Reading.{frame_in};
+ghost use Rattle.rdm_params.specs.Commands.Changed.{change_of};
 ghost use Rattle.rdm_device.specs.Device.Demo.{demo};
 ghost use Rattle.rdm_device.specs.Device.Profiles.{CanBeMade};
+ghost use Rattle.rdm_outbox.specs.State.{IsListSize, most_entries};
 ghost use Rattle.rdm_responder.specs.History.{History, Heard, Arrived, empty_history, then_event};
 ghost use Rattle.rdm_responder.specs.Lawful.{IsLawful};
-ghost use Rattle.rdm_responder.specs.Rules.{reply_of, job_of};
+ghost use Rattle.rdm_responder.specs.Rules.{account_of, reply_of, job_of};
 ghost use Rattle.rdm_responder.specs.StandsFor.{IsQueueSize, StandsFor};
 ghost use Rattle.rdm_c.specs.Statuses.{code_of};
+ghost use Rattle.rdm_c.specs.Changes.{change_in, IsPlainly};
 ghost use Rattle.rdm_c.specs.Jobs.{numbers_of, started_in};
 ghost use Rattle.rdm_c.specs.Outcomes.{report_in};
 ghost use Rattle.rdm_c.specs.Profiles.{profile_in};
-ghost use Rattle.rdm_c.specs.Endpoints.{HeldFor, found, holds_responder, is_noted, setup_of, told};
+ghost use Rattle.rdm_c.specs.Endpoints.{HeldFor, found, holds_responder, flag, is_noted, setup_of, told};
 
 use crate::endpoint::responder::{arrive, step};
 use crate::endpoint::{Endpoint, RunningResponder};
@@ -24,6 +28,7 @@ use crate::profile::ProfileNumbers;
 use crate::status::Status;
 use rdm_frame::standard::MOST_SLOTS;
 use rdm_frame::{Uid, Wire};
+use rdm_outbox::MOST_ENTRIES;
 use rdm_params::Profile;
 use rdm_responder::{NewError, Responder};
 use std::alloc::Global;
@@ -42,7 +47,8 @@ pub extern "C" fn felosumay_responder_new(
     profile: &ProfileNumbers,
     queue_size: u16,
 ) -> u8
-    ensures made { result ≡ code_of Status.Done → HeldFor responder.new.held (empty_history (setup_of maker device (profile_in profile.now) queue_size)) }
+    ensures made { result ≡ code_of Status.Done →
+        HeldFor responder.new.held (empty_history (setup_of maker device (profile_in profile.now) queue_size most_entries)) }
     ensures bad_uid { (result ≡ code_of Status.BadUid) ↔ (device ≡ 0xFFFFFFFF) }
     ensures bad_size { (result ≡ code_of Status.BadSize) ↔ ((device ≢ 0xFFFFFFFF) × ¬ IsQueueSize queue_size) }
     ensures bad_profile { (result ≡ code_of Status.BadProfile)
@@ -50,8 +56,44 @@ pub extern "C" fn felosumay_responder_new(
     ensures codes { result ≤ 4 }
     ensures refused { result ≢ code_of Status.Done → responder.new ≡ responder.old }
 {
+    felosumay_responder_new_with_entries(
+        alloc,
+        responder,
+        maker,
+        device,
+        profile,
+        queue_size,
+        MOST_ENTRIES,
+    )
+}
+
+/// Makes a responder as `felosumay_responder_new` does, with room for `entries` status entries that weren't shown (E1.20
+/// section 10.3.2), at 10 bytes each: for a controller with little memory. While that many wait, a further one is dropped.
+///
+/// It is rejected as `felosumay_responder_new` says, and a number of entries that isn't 1 to 1,024 is a bad size too.
+#[unsafe(no_mangle)]
+pub extern "C" fn felosumay_responder_new_with_entries(
+    alloc: Global,
+    responder: &mut Handle,
+    maker: u16,
+    device: u32,
+    profile: &ProfileNumbers,
+    queue_size: u16,
+    entries: u16,
+) -> u8
+    ensures made { result ≡ code_of Status.Done →
+        HeldFor responder.new.held (empty_history (setup_of maker device (profile_in profile.now) queue_size entries)) }
+    ensures bad_uid { (result ≡ code_of Status.BadUid) ↔ (device ≡ 0xFFFFFFFF) }
+    ensures bad_size { (result ≡ code_of Status.BadSize)
+        ↔ ((device ≢ 0xFFFFFFFF) × ¬ (IsQueueSize queue_size × IsListSize entries)) }
+    ensures bad_profile { (result ≡ code_of Status.BadProfile)
+        ↔ ((device ≢ 0xFFFFFFFF) × (IsQueueSize queue_size × IsListSize entries) × ¬ CanBeMade (profile_in profile.now)) }
+    ensures codes { result ≤ 4 }
+    ensures refused { result ≢ code_of Status.Done → responder.new ≡ responder.old }
+{
     let uid = Uid { maker, device };
-    start(alloc, responder, uid, profile.profile(), queue_size).code()
+    let profile = profile.profile();
+    start(alloc, responder, uid, profile, queue_size, entries).code()
 }
 
 /// Makes a responder that is the demonstration fixture with N sub-devices, and replaces what the handle held.
@@ -66,7 +108,8 @@ pub extern "C" fn felosumay_responder_demo(
     subs: u16,
     queue_size: u16,
 ) -> u8
-    ensures made { result ≡ code_of Status.Done → HeldFor responder.new.held (empty_history (setup_of maker device (demo subs) queue_size)) }
+    ensures made { result ≡ code_of Status.Done →
+        HeldFor responder.new.held (empty_history (setup_of maker device (demo subs) queue_size most_entries)) }
     ensures bad_uid { (result ≡ code_of Status.BadUid) ↔ (device ≡ 0xFFFFFFFF) }
     ensures bad_size { (result ≡ code_of Status.BadSize) ↔ ((device ≢ 0xFFFFFFFF) × ¬ IsQueueSize queue_size) }
     ensures bad_profile { (result ≡ code_of Status.BadProfile)
@@ -75,11 +118,12 @@ pub extern "C" fn felosumay_responder_demo(
     ensures refused { result ≢ code_of Status.Done → responder.new ≡ responder.old }
 {
     let uid = Uid { maker, device };
-    start(alloc, responder, uid, Profile::demo(subs), queue_size).code()
+    let profile = Profile::demo(subs);
+    start(alloc, responder, uid, profile, queue_size, MOST_ENTRIES).code()
 }
 
-/// Hears bytes, and tells of the reply, whose bytes stand at the front of `reply` then, and of the job that started. The
-/// answer to discovery is a reply as any other.
+/// Hears bytes, and tells of the reply, whose bytes stand at the front of `reply` then, of the job that started, and of what
+/// changed of the parameters. The answer to discovery is a reply as any other.
 #[unsafe(no_mangle)]
 pub extern "C" fn felosumay_responder_step(
     alloc: Global,
@@ -92,9 +136,15 @@ pub extern "C" fn felosumay_responder_step(
     ensures reply { (h : History) → HeldFor responder.old.held h → told stepped.new.replied stepped.new.count reply.new ≡ reply_of h bytes.now }
     ensures count { (h : History) → HeldFor responder.old.held h → IfSome (reply_of h bytes.now) (λ r. stepped.new.count ≡ length r) }
     ensures job { (h : History) → HeldFor responder.old.held h → started_in stepped.new ≡ option_map numbers_of (job_of h bytes.now) }
+    ensures flags { (h : History) → HeldFor responder.old.held h → (stepped.new.replied ≡ flag (is_some (reply_of h bytes.now)))
+        × (stepped.new.started ≡ flag (is_some (job_of h bytes.now))) }
     ensures stands { (h : History) → HeldFor responder.old.held h → HeldFor responder.new.held (then_event h (Heard bytes.now)) }
-    ensures absent { holds_responder responder.old.held ≡ false →
-        (responder.new.held ≡ responder.old.held) × (stepped.new.replied ≡ 0) × (stepped.new.started ≡ 0) }
+    ensures unchanged { (h : History) → HeldFor responder.old.held h → ((change_in stepped.new ≡ None)
+        ↔ ((account_of (then_event h (Heard bytes.now))).parameters ≡ (account_of h).parameters)) }
+    ensures what { IfSome (change_in stepped.new) (λ c. IsSomeAnd (frame_in bytes.now) (λ f. c ≡ change_of f.sub f.pid)) }
+    ensures plainly { IsPlainly stepped.new }
+    ensures absent { holds_responder responder.old.held ≡ false → (responder.new.held ≡ responder.old.held)
+        × (stepped.new.replied ≡ 0) × (stepped.new.started ≡ 0) × (stepped.new.changed ≡ 0) }
 {
     let Some(mut endpoint) = take(alloc, responder) else {
         stepped.clear();
@@ -128,7 +178,7 @@ pub extern "C" fn felosumay_responder_arrive(
     ensures stands { IfSome (report_in job.now outcome.now) (λ r. (h : History) → HeldFor responder.old.held h →
         result ≡ code_of Status.Done → HeldFor responder.new.held (then_event h (Arrived r))) }
     ensures kept { IfSome (report_in job.now outcome.now) (λ r. (h : History) → HeldFor responder.old.held h →
-        result ≡ code_of Status.Done → (kept.new == 1) ≡ is_noted h r) }
+        result ≡ code_of Status.Done → kept.new ≡ flag (is_noted h (Arrived r))) }
     ensures same { result ≢ code_of Status.Done → responder.new.held ≡ responder.old.held }
 {
     let Some(report) = report_in(job, outcome) else {
@@ -157,15 +207,18 @@ fn start(
     uid: Uid,
     profile: Profile,
     queue_size: u16,
+    entries: u16,
 ) -> Status
-    ensures made { result ≡ Status.Done → HeldFor responder.new.held (empty_history (setup_of uid.maker uid.device profile queue_size)) }
+    ensures made { result ≡ Status.Done →
+        HeldFor responder.new.held (empty_history (setup_of uid.maker uid.device profile queue_size entries)) }
     ensures bad_uid { (result ≡ Status.BadUid) ↔ (uid.device ≡ 0xFFFFFFFF) }
-    ensures bad_size { (result ≡ Status.BadSize) ↔ ((uid.device ≢ 0xFFFFFFFF) × ¬ IsQueueSize queue_size) }
-    ensures bad_profile { (result ≡ Status.BadProfile) ↔ ((uid.device ≢ 0xFFFFFFFF) × IsQueueSize queue_size × ¬ CanBeMade profile) }
+    ensures bad_size { (result ≡ Status.BadSize) ↔ ((uid.device ≢ 0xFFFFFFFF) × ¬ (IsQueueSize queue_size × IsListSize entries)) }
+    ensures bad_profile { (result ≡ Status.BadProfile)
+        ↔ ((uid.device ≢ 0xFFFFFFFF) × (IsQueueSize queue_size × IsListSize entries) × ¬ CanBeMade profile) }
     ensures codes { code_of result ≤ 4 }
     ensures refused { result ≢ Status.Done → responder.new ≡ responder.old }
 {
-    match running_responder(alloc, uid, profile, queue_size) {
+    match running_responder(alloc, uid, profile, queue_size, entries) {
         Ok(made) => replace(alloc, responder, Endpoint::Responder(made)),
         Err(status) => status,
     }
@@ -177,15 +230,17 @@ fn running_responder(
     uid: Uid,
     profile: Profile,
     queue_size: u16,
+    entries: u16,
 ) -> Result<RunningResponder, Status>
-    ensures made { IfOk result (λ s. StandsFor s.responder (empty_history (setup_of uid.maker uid.device profile queue_size))) }
+    ensures made { IfOk result (λ s. StandsFor s.responder (empty_history (setup_of uid.maker uid.device profile queue_size entries))) }
     ensures bad_uid { (result ≡ Err Status.BadUid) ↔ (uid.device ≡ 0xFFFFFFFF) }
-    ensures bad_size { (result ≡ Err Status.BadSize) ↔ ((uid.device ≢ 0xFFFFFFFF) × ¬ IsQueueSize queue_size) }
+    ensures bad_size { (result ≡ Err Status.BadSize)
+        ↔ ((uid.device ≢ 0xFFFFFFFF) × ¬ (IsQueueSize queue_size × IsListSize entries)) }
     ensures bad_profile { (result ≡ Err Status.BadProfile)
-        ↔ ((uid.device ≢ 0xFFFFFFFF) × IsQueueSize queue_size × ¬ CanBeMade profile) }
+        ↔ ((uid.device ≢ 0xFFFFFFFF) × (IsQueueSize queue_size × IsListSize entries) × ¬ CanBeMade profile) }
     ensures codes { IfErr result (λ status. (code_of status ≤ 4) × (status ≢ Status.Done)) }
 {
-    match Responder::new(alloc, uid, profile, queue_size) {
+    match Responder::with_entries(alloc, uid, profile, queue_size, entries) {
         Ok(made) => Ok(RunningResponder {
             responder: made,
             wire: Wire::new(),

@@ -1,5 +1,5 @@
 -- What a sensor shows after it has measured. E1.20 section 10.7.2.
-use Rattle.std.specs.Prelude.{ℕ, ℤ, List, ◌++◌, take, drop, if◌then◌else◌}
+use Rattle.std.specs.Prelude.{ℕ, ℤ, List, ◌++◌, take, drop, slice_index, if◌then◌else◌}
 use Rattle.std.specs.Int.{w16, from_be_bytes, cast_signed, int_min, int_max}
 use Rattle.rdm_device.specs.Device.Map.{Entry, has_key}
 use Rattle.rdm_device.specs.Device.Values.{signed_slots}
@@ -17,6 +17,15 @@ measured v bytes =
     ++ signed_slots (int_max (signed_in (take 2 (drop 4 bytes))) v)
     ++ drop 6 bytes
 
+-- the sensor of this number shows what is made of the bytes that it shows
+abbrev pub at_sensor : (List ℕ → List ℕ) → ℕ → Entry → List ℕ
+at_sensor made number e = if has_key 0x0201 number e then made e.bytes else e.bytes
+
 -- the sensor of this number has measured v
 abbrev pub measured_by : ℕ → ℤ → Entry → List ℕ
-measured_by number v e = if has_key 0x0201 number e then measured v e.bytes else e.bytes
+measured_by number v e = at_sensor (measured v) number e
+
+-- The sensor that the first of these 9 slots names shows the other eight: the present, the lowest, the highest and the
+-- recorded value, as SENSOR_VALUE replies them. Section 10.7.2.
+abbrev pub placed_by : List ℕ → Entry → List ℕ
+placed_by slots e = at_sensor (λ bytes. drop 1 slots) (slice_index slots 0) e

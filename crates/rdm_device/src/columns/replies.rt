@@ -55,18 +55,24 @@ pub fn device_info(place: &Place<'_>, body: &mut Body)
     requires { body.old ≡ [] }
     ensures { body.new ≡ device_info place.now }
 {
+    // Numbers are read before the first byte is written, so that the compiler looks nothing up twice, and stores the length of the
+    // list once. Read as arrays of bytes they would lie in memory, and each append would test whether the list does too.
     let unit = place.unit;
+    let (model, category, software) = (unit.model, unit.category, unit.software);
+    let (personality, personalities) = (place.common.personality, unit.personalities.len() as u8);
+    let (slots, start) = (footprint(place), start_number(place));
+    let (subs, sensors) = (place.profile.subs, sensor_count(place));
     // It is empty already. Here the compiler sees that, and looks for room no more.
     body.clear();
     body.append(&PROTOCOL_VERSION.to_be_bytes());
-    body.append(&unit.model.to_be_bytes());
-    body.append(&unit.category.to_be_bytes());
-    body.append(&unit.software.to_be_bytes());
-    body.append(&footprint(place).to_be_bytes());
-    body.append(&[place.common.personality, unit.personalities.len() as u8]);
-    body.append(&start_number(place).to_be_bytes());
-    body.append(&place.profile.subs.to_be_bytes());
-    body.append(&[sensor_count(place)]);
+    body.append(&model.to_be_bytes());
+    body.append(&category.to_be_bytes());
+    body.append(&software.to_be_bytes());
+    body.append(&slots.to_be_bytes());
+    body.append(&[personality, personalities]);
+    body.append(&start.to_be_bytes());
+    body.append(&subs.to_be_bytes());
+    body.append(&[sensors]);
 }
 
 /// How many sensors the device has: only the root has any.

@@ -1,11 +1,12 @@
 //! What a command hands in.
 
-ghost use Rattle.std.specs.Prelude.{◌≡◌, ◌≤◌, length, unwrap_or, Some, None, if◌then◌else◌};
+ghost use Rattle.std.specs.Prelude.{◌≡◌, ◌≤◌, ◌↔◌, length, unwrap_or, Some, None, false, if◌then◌else◌};
 ghost use Rattle.rdm_device.specs.declared.value.Value.TheVariants.{Nothing, Byte, Word, Label};
 ghost use Rattle.rdm_device.specs.Columns.Forms.{nothing, label, has_form, is_of_a_form};
 ghost use Rattle.rdm_device.specs.Device.Values.{byte_in, word_in, long_in, preset_in, label_in};
 
 use crate::Value;
+use crate::columns::writes;
 use rdm_frame::Text;
 use std::marker::Model;
 
@@ -179,15 +180,16 @@ impl<'a> Argument<'a> {
         }
     }
 
-    /// Writes the text over another one, if the value is a text.
+    /// Writes the text over another one, if the value is a text, and says whether it is another text.
     // A call: if the text lay among the bytes of a match over all rows, each SET would make room for it.
     #[inline(never)]
-    pub fn write_label(&self, label: &mut Text)
-        ensures { label.new ≡ unwrap_or (label_in self.now) label.old }
+    pub fn write_label(&self, label: &mut Text) -> bool
+        ensures now { label.new ≡ unwrap_or (label_in self.now) label.old }
+        ensures same { (result ≡ false) ↔ (label.new ≡ label.old) }
     {
-        if let ValueRef::Label(bytes) = &self.value {
-            label.clear();
-            label.append(bytes);
+        match &self.value {
+            ValueRef::Label(bytes) => writes::text(label, bytes),
+            _ => false,
         }
     }
 }

@@ -10,6 +10,7 @@ use Rattle.rdm_params.specs.declared.panel.Change.{Change}
 use Rattle.rdm_params.specs.declared.verdict.Verdict.TheVariants.{Start, Queue, Status, Clear}
 use Rattle.rdm_params.specs.Commands.Commands.{command_of, accepted, got, answer_to_set, after_set}
 use Rattle.rdm_params.specs.Commands.Panel.{after_change}
+use Rattle.rdm_params.specs.Commands.Placing.{after_place}
 use Rattle.rdm_device.specs.Device.Parameters.{Parameters}
 use Rattle.rdm_params.specs.Jobs.Commit.{after_commit}
 use Rattle.rdm_params.specs.Jobs.Work.{IsAccepted}
@@ -35,6 +36,9 @@ CommitKeepsDevices = (p : Parameters) (w : Work) (outcome : Outcome) → SameDev
 
 abbrev pub PanelKeepsDevices : Type 0
 PanelKeepsDevices = (p : Parameters) (change : Change) → SameDevices p (after_change p change)
+
+abbrev pub PlaceKeepsDevices : Type 0
+PlaceKeepsDevices = (p : Parameters) (sub pid : ℕ) (bytes : List ℕ) → SameDevices p (after_place p sub pid bytes)
 
 -- A work is that of this command, a slow one that the devices accept.
 pub record IsWorkOf (p : Parameters) (sub pid : ℕ) (verb : Verb) (w : Work) : Type 0 where

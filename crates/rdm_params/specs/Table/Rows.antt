@@ -16,13 +16,15 @@ use Rattle.rdm_device.specs.Device.Values.{word_slots, long_slots}
 
 -- A command of a row: the form of its data, the range of it, the way in which it is answered, what it makes of the
 -- entries of a device, and the data of its reply, which is of the device afterwards. If a job carries it out, the
--- change and the reply are those at the end of the job.
+-- change and the reply are those at the end of the job. And whether it keeps the data that it hands in, as the value of
+-- its parameter.
 pub record Command : Type 0 where
   pub form : Form
   pub range : Range
   pub way : Way
   pub change : Change
   pub reply : Spot → Value → List ℕ
+  pub keeps : Bool
 
 -- A row: the PID, whether the parameter is at the root alone, and its two commands.
 pub record Row : Type 0 where
@@ -53,7 +55,7 @@ none pid = None
 
 -- a GET that is asked with data
 abbrev pub asks : Form → (Form → Range) → (Spot → Value → List ℕ) → Cell
-asks form range reply pid = Some (record { form = form; range = range form; way = AtOnce; change = unchanged; reply = reply })
+asks form range reply pid = Some (record { form = form; range = range form; way = AtOnce; change = unchanged; reply = reply; keeps = false })
 
 -- a GET without data
 abbrev pub reads : (Spot → List ℕ) → Cell
@@ -65,29 +67,30 @@ stored pid = reads (λ spot. lookup spot.entries pid 0) pid
 
 -- a SET with a change and a reply
 abbrev pub sets : Form → (Form → Range) → Change → (Spot → Value → List ℕ) → Cell
-sets form range change reply pid = Some (record { form = form; range = range form; way = AtOnce; change = change; reply = reply })
+sets form range change reply pid = Some (record { form = form; range = range form; way = AtOnce; change = change; reply = reply; keeps = false })
 
 -- a SET that keeps its data at the key of its PID
 abbrev pub takes : Form → (Form → Range) → Cell
-takes form range pid = sets form range (stored_at pid form) (λ spot v. []) pid
+takes form range pid =
+    Some (record { form = form; range = range form; way = AtOnce; change = stored_at pid form; reply = λ spot v. []; keeps = true })
 
 -- a SET by a job of a worker, with an estimate in tenths of a second, which keeps its data at the key of its PID
 abbrev pub starts : ℕ → ℕ → (Form → Range) → Cell
 starts worker estimate range pid =
-    Some (record { form = byte; range = range byte; way = ByJob worker estimate; change = stored_at pid byte; reply = λ spot v. [] })
+    Some (record { form = byte; range = range byte; way = ByJob worker estimate; change = stored_at pid byte; reply = λ spot v. []; keeps = true })
 
 -- a GET by a job of a worker, with an estimate in tenths of a second, which shows what it has measured
 abbrev pub measures : ℕ → ℕ → (Form → Range) → (Spot → Value → List ℕ) → Cell
 measures worker estimate range reply pid =
-    Some (record { form = byte; range = range byte; way = ByJob worker estimate; change = unchanged; reply = reply })
+    Some (record { form = byte; range = range byte; way = ByJob worker estimate; change = unchanged; reply = reply; keeps = false })
 
 -- a GET that is answered from what waits for the controller
 abbrev pub fetches : Way → (Form → Range) → Cell
-fetches way range pid = Some (record { form = byte; range = range byte; way = way; change = unchanged; reply = λ spot v. [] })
+fetches way range pid = Some (record { form = byte; range = range byte; way = way; change = unchanged; reply = λ spot v. []; keeps = false })
 
 -- a SET without data that clears the list of status entries
 abbrev pub clears : Cell
-clears pid = Some (record { form = nothing; range = any nothing; way = Clears; change = unchanged; reply = λ spot v. [] })
+clears pid = Some (record { form = nothing; range = any nothing; way = Clears; change = unchanged; reply = λ spot v. []; keeps = false })
 
 -- a row that shows and takes what is kept at the key of its PID
 abbrev pub kept : ℕ → Bool → Form → (Form → Range) → Row

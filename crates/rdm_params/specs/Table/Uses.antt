@@ -53,6 +53,11 @@ is_by_job _ = false
 abbrev pub is_slow : Option Command → Bool
 is_slow command = is_by_job (way_of command)
 
+-- whether the command keeps the data that it hands in, as the value of its parameter
+abbrev pub keeps : Option Command → Bool
+keeps None = false
+keeps (Some c) = c.keeps
+
 -- whether the value is in range at the device
 abbrev pub in_range_of : Option Command → Spot → Value → Bool
 in_range_of None spot v = false

@@ -41,6 +41,7 @@ impl Devices {
 
     /// Whether every sub-device can take a value at once, if the first can, or the first reason why not.
     // A call, so that the other commands don't make room for it.
+    #[cold]
     #[inline(never)]
     fn suits_each(
         &self,

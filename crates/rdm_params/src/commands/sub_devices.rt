@@ -1,6 +1,6 @@
 //! The sub-devices.
 
-ghost use Rattle.std.specs.Prelude.{◌≡◌, IfOk, map, replicate, slice_set, slice_index_or, []};
+ghost use Rattle.std.specs.Prelude.{◌≡◌, ◌↔◌, false, IfOk, map, replicate, slice_set, slice_index_or, []};
 ghost use Rattle.std.specs.List.{list_all};
 ghost use Rattle.rdm_params.specs.declared.kind.Verb.TheVariants.{Set};
 ghost use Rattle.rdm_params.specs.Commands.Commands.{command_of, profile_sub_spot, written};
@@ -50,35 +50,45 @@ pub(crate) fn all_in_range<'a>(
     true
 }
 
-/// Carries out a SET at every sub-device.
+/// Carries out a SET at every sub-device, and says whether that changed a value of one.
+// A call, so that the other commands don't make room for its loop.
+#[cold]
+#[inline(never)]
 pub(crate) fn store_each(
     kind: Kind,
     value: &Argument<'_>,
     profile: &Profile,
     subs: &mut [CommonValues],
-)
-    ensures { map common_entries subs.new
+) -> bool
+    ensures after { map common_entries subs.new
         ≡ map (λ entries. written (command_of (pid_of kind) Set) value.now (profile_sub_spot profile.now entries)) (map common_entries subs.old) }
+    ensures same { (result ≡ false) ↔ (map common_entries subs.new ≡ map common_entries subs.old) }
 {
+    let mut changed = false;
     for i in 0..subs.len() {
-        store_at(kind, value, profile, subs, i);
+        let here = store_at(kind, value, profile, subs, i);
+        changed = changed || here;
     }
+    changed
 }
 
-/// Carries out a SET at one sub-device, if there is one at this place.
+/// Carries out a SET at one sub-device, if there is one at this place, and says whether that changed a value.
 pub(crate) fn store_at(
     kind: Kind,
     value: &Argument<'_>,
     profile: &Profile,
     subs: &mut [CommonValues],
     index: usize,
-)
-    ensures { map common_entries subs.new
+) -> bool
+    ensures after { map common_entries subs.new
         ≡ slice_set (map common_entries subs.old) index
         (written (command_of (pid_of kind) Set) value.now
         (profile_sub_spot profile.now (slice_index_or (map common_entries subs.old) index []))) }
+    ensures same { (result ≡ false) ↔ (map common_entries subs.new ≡ map common_entries subs.old) }
 {
     if index < subs.len() {
-        store_common(kind, value, profile, &mut subs[index]);
+        store_common(kind, value, profile, &mut subs[index])
+    } else {
+        false
     }
 }

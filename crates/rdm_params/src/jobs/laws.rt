@@ -2,14 +2,16 @@
 
 ghost use Rattle.rdm_params.specs.Jobs.Laws.{StaysAccepted, SetKeepsDevices, CommitKeepsDevices, GetStartsItsWork};
 ghost use Rattle.rdm_params.specs.Jobs.Laws.{SetStartsItsWork, GetQueues, GetStatuses, SetFetchesNothing};
-ghost use Rattle.rdm_params.specs.Jobs.Laws.{PanelKeepsDevices, SetClears, GetClearsNothing};
+ghost use Rattle.rdm_params.specs.Jobs.Laws.{PanelKeepsDevices, PlaceKeepsDevices, SetClears, GetClearsNothing};
 
-/// A slow command that is accepted stays so, whatever is set, whatever jobs end and whatever a person changes.
+/// A slow command that is accepted stays so, whatever is set, whatever jobs end, whatever a person changes and whatever
+/// the firmware places.
 pub fn slow_command_stays_accepted()
     ensures accepted { StaysAccepted }
     ensures set { SetKeepsDevices }
     ensures commit { CommitKeepsDevices }
     ensures panel { PanelKeepsDevices }
+    ensures place { PlaceKeepsDevices }
 {}
 
 /// The work that a command starts has its sub-device, PID and verb, and is accepted as a slow command.

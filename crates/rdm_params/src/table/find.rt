@@ -1,10 +1,12 @@
 //! The parameter of a PID, which the device must have, and which must have the command.
 
-ghost use Rattle.std.specs.Prelude.{◌≡◌, IfOk, IfErr, Ok, Err};
+ghost use Rattle.std.specs.Prelude.{◌≡◌, [], false, IfOk, IfErr, Ok, Err};
+ghost use Rattle.rdm_device.specs.declared.value.Value.{Value};
+ghost use Rattle.rdm_device.specs.Device.Spot.{Spot};
 ghost use Rattle.rdm_params.specs.Commands.Commands.{command_of};
 ghost use Rattle.rdm_params.specs.Table.Kinds.{pid_of};
 ghost use Rattle.rdm_params.specs.Table.Rows.{row_of};
-ghost use Rattle.rdm_params.specs.Table.Uses.{access, way_of, is_bare};
+ghost use Rattle.rdm_params.specs.Table.Uses.{access, way_of, is_bare, reply};
 
 use crate::jobs::Way;
 use crate::table::rows;
@@ -19,6 +21,8 @@ pub(crate) struct Found {
     pub(crate) way: Way,
     /// Whether it hands in no data, and so has no range to ask about.
     pub(crate) is_bare: bool,
+    /// Whether its reply can have data, and so needs the device.
+    pub(crate) has_reply: bool,
 }
 
 macro_rules! found_rows {
@@ -41,7 +45,7 @@ macro_rules! found_rows {
 macro_rules! found_command {
     ($name:ident none) => { Err(Nack::UnsupportedCommandClass) };
     ($name:ident $command:tt) => {
-        Ok(Found { kind: Kind::$name, way: way_command!($command), is_bare: is_bare!($command) })
+        Ok(Found { kind: Kind::$name, way: way_command!($command), is_bare: is_bare!($command), has_reply: has_reply!($command) })
     };
 }
 
@@ -68,6 +72,14 @@ macro_rules! is_bare {
     ($command:tt) => { false };
 }
 
+macro_rules! has_reply {
+    ((takes $($rest:tt)*)) => { false };
+    ((starts $($rest:tt)*)) => { false };
+    ((clears $($rest:tt)*)) => { false };
+    ((sets $form:ident $range:tt $change:tt none)) => { false };
+    ($command:tt) => { true };
+}
+
 /// The command that the root, or else a sub-device, has for a PID, or the first reason to reject it.
 // One look at the table for the parameter, the right to it, the way and the form.
 #[inline(always)]
@@ -76,6 +88,7 @@ pub(crate) fn find(pid: u16, is_root: bool, verb: Verb) -> Result<Found, Nack>
     ensures kind { IfOk result (λ found. pid_of found.kind ≡ pid) }
     ensures way { IfOk result (λ found. found.way ≡ way_of (command_of pid verb)) }
     ensures bare { IfOk result (λ found. found.is_bare ≡ is_bare (command_of pid verb)) }
+    ensures silent { IfOk result (λ found. found.has_reply ≡ false → (spot : Spot) (value : Value) → reply (command_of (pid_of found.kind) verb) spot value ≡ []) }
     ensures ok { IfOk result (λ found. access (row_of pid) is_root verb ≡ Ok tt) }
     ensures err { IfErr result (λ nack. access (row_of pid) is_root verb ≡ Err nack) }
 {

@@ -1,10 +1,12 @@
 //! What a command answers.
 
-ghost use Rattle.std.specs.Prelude.{◌≡◌, [], ◌∷◌, ◌++◌};
+ghost use Rattle.std.specs.Prelude.{◌≡◌, true, [], ◌∷◌, ◌++◌};
 ghost use Rattle.rdm_device.specs.Device.Values.{word_slots, long_slots};
+ghost use Rattle.rdm_device.specs.declared.value.Value.{Value};
+ghost use Rattle.rdm_params.specs.declared.kind.Verb.TheVariants.{Get};
 ghost use Rattle.rdm_params.specs.Table.Kinds.{pid_of};
 ghost use Rattle.rdm_params.specs.Table.Rows.{row_of, command_in};
-ghost use Rattle.rdm_params.specs.Table.Uses.{reply};
+ghost use Rattle.rdm_params.specs.Table.Uses.{reply, is_bare};
 
 use crate::table::list::supported;
 use crate::table::rows;
@@ -71,6 +73,30 @@ pub(crate) fn reply_into(
     ensures { body.new ≡ reply (command_in (row_of (pid_of kind)) verb) place.now value.now }
 {
     rows!(reply_rows!(kind verb place value body))
+}
+
+macro_rules! state_rows {
+    (($kind:ident $place:ident $body:ident) $(($name:ident $pid:tt $at:ident $get:tt $set:tt))*) => {
+        match $kind {
+            $(Kind::$name => state_command!($get $place $body),)*
+        }
+    };
+}
+
+macro_rules! state_command {
+    ((reads $source:tt) $place:ident $body:ident) => { source!($source $place $body) };
+    ($command:tt $place:ident $body:ident) => { {} };
+}
+
+/// Writes what a GET without data answers at a device into an empty list.
+// Apart from `reply_into`, which makes room for the data that other commands hand in.
+#[tactic(auto, unfolding(crate::specs::Table::Rows::row_of, crate::specs::Table::Rows::table, rdm_device::specs::Views::State::common_entries, rdm_device::specs::Views::State::own_entries))]
+pub(crate) fn state_into(kind: Kind, place: &Place<'_>, body: &mut Body)
+    requires empty { body.old ≡ [] }
+    requires bare { is_bare (command_in (row_of (pid_of kind)) Get) ≡ true }
+    ensures { (value : Value) → body.new ≡ reply (command_in (row_of (pid_of kind)) Get) place.now value }
+{
+    rows!(state_rows!(kind place body))
 }
 
 // What follows are calls: if their bytes lay among those of `reply_into`, each reply would clear them all first.

@@ -1,6 +1,6 @@
 //! What a SET writes.
 
-ghost use Rattle.std.specs.Prelude.{◌≡◌};
+ghost use Rattle.std.specs.Prelude.{◌≡◌, ◌↔◌, false};
 ghost use Rattle.rdm_params.specs.Table.Kinds.{pid_of};
 ghost use Rattle.rdm_device.specs.Device.Spot.{Spot};
 ghost use Rattle.rdm_device.specs.Views.State.{common_entries, own_entries};
@@ -9,7 +9,7 @@ ghost use Rattle.rdm_params.specs.Table.Uses.{after_store};
 
 use crate::table::rows;
 use crate::{Kind, Profile};
-use rdm_device::columns::changes;
+use rdm_device::columns::{changes, writes};
 use rdm_device::{Argument, CommonValues, RootValues};
 
 macro_rules! common_rows {
@@ -25,20 +25,26 @@ macro_rules! write_common {
         $value.write_label(&mut $common.$field)
     };
     ((takes $form:ident $range:tt (common $field:ident)) $value:ident $profile:ident $common:ident) => {
-        if let Some(written) = $value.$form() {
-            $common.$field = written;
+        match $value.$form() {
+            Some(written) => writes::$form(&mut $common.$field, written),
+            None => false,
         }
     };
     ((starts $form:ident $range:tt $worker:literal $estimate:literal (common $field:ident)) $value:ident $profile:ident $common:ident) => {
-        if let Some(written) = $value.$form() {
-            $common.$field = written;
+        match $value.$form() {
+            Some(written) => writes::$form(&mut $common.$field, written),
+            None => false,
         }
     };
-    ((sets $form:ident $range:tt (none $own:ident) $reply:ident) $value:ident $profile:ident $common:ident) => { {} };
+    ((sets $form:ident $range:tt (none $own:ident) $reply:ident) $value:ident $profile:ident $common:ident) => {
+        false
+    };
     ((sets $form:ident $range:tt ($change:ident $own:ident) $reply:ident) $value:ident $profile:ident $common:ident) => {
         changes::$change($profile, $common)
     };
-    ($command:tt $value:ident $profile:ident $common:ident) => { {} };
+    ($command:tt $value:ident $profile:ident $common:ident) => {
+        false
+    };
 }
 
 macro_rules! own_rows {
@@ -51,40 +57,51 @@ macro_rules! own_rows {
 
 macro_rules! write_own {
     ((takes $form:ident $range:tt (own $field:ident)) $value:ident $profile:ident $own:ident) => {
-        if let Some(written) = $value.$form() {
-            $own.$field = written;
+        match $value.$form() {
+            Some(written) => writes::$form(&mut $own.$field, written),
+            None => false,
         }
     };
     ((starts $form:ident $range:tt $worker:literal $estimate:literal (own $field:ident)) $value:ident $profile:ident $own:ident) => {
-        if let Some(written) = $value.$form() {
-            $own.$field = written;
+        match $value.$form() {
+            Some(written) => writes::$form(&mut $own.$field, written),
+            None => false,
         }
     };
     ((sets $form:ident $range:tt ($common:ident $change:ident) $reply:ident) $value:ident $profile:ident $own:ident) => {
         changes::$change($profile, $value, $own)
     };
-    ($command:tt $value:ident $profile:ident $own:ident) => { {} };
+    ($command:tt $value:ident $profile:ident $own:ident) => {
+        false
+    };
 }
 
-/// Writes what a SET writes of the values that every device keeps.
+/// Writes what a SET writes of the values that every device keeps, and says whether that changed one.
 #[tactic(auto, unfolding(crate::specs::Table::Rows::row_of, crate::specs::Table::Rows::table, rdm_device::specs::Views::State::common_entries))]
 pub(crate) fn store_common(
     kind: Kind,
     value: &Argument<'_>,
     profile: &Profile,
     common: &mut CommonValues,
-)
-    ensures { (spot : Spot) → spot.profile ≡ profile.now
+) -> bool
+    ensures after { (spot : Spot) → spot.profile ≡ profile.now
         → common_entries common.new ≡ after_store (row_of (pid_of kind)) spot value.now (common_entries common.old) }
+    ensures same { (result ≡ false) ↔ (common_entries common.new ≡ common_entries common.old) }
 {
     rows!(common_rows!(kind value profile common))
 }
 
-/// Writes what a SET writes of the values that the root alone keeps.
+/// Writes what a SET writes of the values that the root alone keeps, and says whether that changed one.
 #[tactic(auto, unfolding(crate::specs::Table::Rows::row_of, crate::specs::Table::Rows::table, rdm_device::specs::Views::State::own_entries), using(rdm_device::proofs::Sensors::sensors_stay))]
-pub(crate) fn store_own(kind: Kind, value: &Argument<'_>, profile: &Profile, own: &mut RootValues)
-    ensures { (spot : Spot) → spot.profile ≡ profile.now
+pub(crate) fn store_own(
+    kind: Kind,
+    value: &Argument<'_>,
+    profile: &Profile,
+    own: &mut RootValues,
+) -> bool
+    ensures after { (spot : Spot) → spot.profile ≡ profile.now
         → own_entries own.new ≡ after_store (row_of (pid_of kind)) spot value.now (own_entries own.old) }
+    ensures same { (result ≡ false) ↔ (own_entries own.new ≡ own_entries own.old) }
 {
     rows!(own_rows!(kind value profile own))
 }

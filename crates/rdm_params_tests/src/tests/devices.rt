@@ -13,7 +13,7 @@ pub(super) fn answers(rt: &impl Abort, devices: &mut Devices, rows: &[Answered])
         let mut body = Body::of(b"Fixture");
         let told = match verb {
             Get => devices.get_into(0, *pid, bytes, &mut body),
-            Set => devices.set_into(0, *pid, bytes, &mut body),
+            Set => devices.set_into(0, *pid, bytes, &mut body).0,
         };
         let told = (told, body.as_slice());
         assert_eq!(rt; told, (*answer, *beside), "{verb:?} {pid:04X} {bytes:?}");

@@ -4,7 +4,7 @@ use super::*;
 
 pub(super) const RUNS: [Run; 1] = [(1, &ASKED)];
 
-const FAILED: Outcome = Outcome::Failed {
+pub(super) const FAILED: Outcome = Outcome::Failed {
     severity: Severity::Error,
     id: 0x8001,
     v1: 2,
@@ -12,7 +12,7 @@ const FAILED: Outcome = Outcome::Failed {
 };
 
 /// A job ends so, as it can, and its message is of this class and has these data.
-fn ends(
+pub(super) fn ends(
     rt: &impl Abort,
     devices: &mut Devices,
     work: &Work,

@@ -1,8 +1,9 @@
 //! What is answered to a request: a frame that was heard.
 
-ghost use Rattle.std.specs.Prelude.{◌≡◌, Option, None, IfSome};
+ghost use Rattle.std.specs.Prelude.{◌≡◌, ◌↔◌, Option, None, IfSome};
 ghost use Rattle.std.specs.Bool.{OnFalse};
 ghost use Rattle.std.specs.Int.{w16, to_be_bytes};
+ghost use Rattle.rdm_params.specs.Commands.Changed.{change_of};
 ghost use Rattle.rdm_responder.specs.Requests.{Branch, Muting, Set, request_of, get_of, discovery_of};
 ghost use Rattle.rdm_responder.specs.Rules.{answered, Account, answer_to, job_with, account_with, control_field};
 ghost use Rattle.rdm_responder.specs.StandsFor.{Shows};
@@ -21,7 +22,7 @@ use rdm_frame::{FrameView, Uid, Wire, disc_reply, uid_at};
 const HAS_SUB_DEVICES: u16 = 0x0002;
 
 impl Responder {
-    /// Writes what is answered to a frame, and says whether anything is, and which job started.
+    /// Writes what is answered to a frame, and says whether anything is, which job started, and what changed.
     pub(super) fn answer(&mut self, request: &FrameView<'_>, wire: &mut Wire) -> Stepped
         ensures reply { (a : Account) → Shows self.old a →
             answered result.replied wire.new ≡ answer_to a (request_of a.setup.uid request.now) }
@@ -29,6 +30,8 @@ impl Responder {
         ensures job { (a : Account) → Shows self.old a → job_in result.started ≡ job_with a (request_of a.setup.uid request.now) }
         ensures table { IfSome result.started IsAsInTable }
         ensures after { (a : Account) → Shows self.old a → Shows self.new (account_with a (request_of a.setup.uid request.now)) }
+        ensures unchanged { (result.changed ≡ None) ↔ (self.new.parameters ≡ self.old.parameters) }
+        ensures what { IfSome result.changed (λ c. c ≡ change_of request.now.sub request.now.pid) }
     {
         if !request.dst.addresses(self.uid) {
             return Stepped::silent();
@@ -37,6 +40,7 @@ impl Responder {
             DISCOVERY_COMMAND => Stepped {
                 replied: self.answer_discovery(request, wire),
                 started: None,
+                changed: None,
             },
             GET_COMMAND => self.answer_get(request, wire),
             SET_COMMAND => self.answer_set(request, wire),
@@ -52,6 +56,7 @@ impl Responder {
         ensures job { (a : Account) → Shows self.old a → job_in result.started ≡ job_with a (get_of request.now) }
         ensures table { IfSome result.started IsAsInTable }
         ensures after { (a : Account) → Shows self.old a → Shows self.new (account_with a (get_of request.now)) }
+        ensures unchanged { (result.changed ≡ None) × (self.new.parameters ≡ self.old.parameters) }
     {
         if request.dst.is_broadcast() {
             return Stepped::silent();
@@ -71,12 +76,16 @@ impl Responder {
         ensures job { (a : Account) → Shows self.old a → job_in result.started ≡ job_with a (Set request.now) }
         ensures table { IfSome result.started IsAsInTable }
         ensures after { (a : Account) → Shows self.old a → Shows self.new (account_with a (Set request.now)) }
+        ensures unchanged { (result.changed ≡ None) ↔ (self.new.parameters ≡ self.old.parameters) }
+        ensures what { IfSome result.changed (λ c. c ≡ change_of request.now.sub request.now.pid) }
     {
-        let answer = self
+        let (answer, changed) = self
             .devices
             .set_into(request.sub, request.pid, request.body, &mut self.body);
         let body = &mut self.body;
-        carry_out(self.uid, request, answer, body, &mut self.outbox, wire)
+        let mut stepped = carry_out(self.uid, request, answer, body, &mut self.outbox, wire);
+        stepped.changed = changed;
+        stepped
     }
 
     /// Answers a discovery command.
@@ -89,6 +98,7 @@ impl Responder {
         ensures silent { OnFalse result (wire.new ≡ wire.old) }
         ensures job { (a : Account) → job_with a (discovery_of request.now) ≡ None }
         ensures after { (a : Account) → Shows self.old a → Shows self.new (account_with a (discovery_of request.now)) }
+        ensures unchanged { self.new.parameters ≡ self.old.parameters }
     {
         if request.sub != 0 {
             return false;
@@ -105,6 +115,8 @@ impl Responder {
     }
 
     /// Answers a search for unmuted devices from one UID to another.
+    // A call, so that GET and SET don't make room for it.
+    #[inline(never)]
     fn answer_branch(&self, lower: Uid, upper: Uid, wire: &mut Wire) -> bool
         ensures reply { (a : Account) → Shows self.now a → answered result wire.new ≡ answer_to a (Branch lower upper) }
         ensures silent { OnFalse result (wire.new ≡ wire.old) }
@@ -126,6 +138,7 @@ impl Responder {
         ensures reply { (a : Account) → Shows self.old a → answered result wire.new ≡ answer_to a (Muting muted request.now) }
         ensures silent { OnFalse result (wire.new ≡ wire.old) }
         ensures after { (a : Account) → Shows self.old a → Shows self.new (account_with a (Muting muted request.now)) }
+        ensures unchanged { self.new.parameters ≡ self.old.parameters }
     {
         self.muted = muted;
         let field = self.control_field();

@@ -120,6 +120,36 @@ fn a_status_message_shows_25_entries_once(rt: HostRuntime) -> Result<(), Fail> {
     shows(&rt, &mut responder, 30, &status(30, 2)?, &[])
 }
 
+#[test]
+fn a_list_of_2_entries_drops_that_of_the_third_failure(rt: HostRuntime) -> Result<(), Fail> {
+    let mut responder = Responder::with_entries(rt.alloc(), DEVICE, Profile::demo(0), 8, 2)?;
+    for (tn, kept) in [(0, true), (1, true), (2, false)] {
+        let job = started(&mut responder, &lamp(tn)?)?;
+        let outcome = failed(Severity::Error, u16::from(tn));
+        let arrival = responder.arrive(Report { job, outcome })?;
+        assert_eq!(rt; arrival.kept, kept, "{tn}");
+    }
+    // The first two are shown, while three messages wait; then there is room again.
+    let shown = printed(&rt, "0000 04 8001 0000 0000 0000 04 8001 0001 0000");
+    answers(
+        &rt,
+        &mut responder,
+        &status(3, 4)?,
+        status_reply(3, 3, shown.as_slice())?,
+    );
+    let job = started(&mut responder, &lamp(4)?)?;
+    let outcome = failed(Severity::Error, 4);
+    assert!(rt; responder.arrive(Report { job, outcome })?.kept);
+    let shown = printed(&rt, "0000 04 8001 0004 0000");
+    answers(
+        &rt,
+        &mut responder,
+        &status(5, 4)?,
+        status_reply(5, 4, shown.as_slice())?,
+    );
+    Ok(())
+}
+
 /// IDENTIFY_DEVICE, and QUEUED_MESSAGE twice, while 256 messages wait at first.
 const COUNTED: [(&str, &str); 3] = [
     (

@@ -5,11 +5,11 @@ ghost use Rattle.std.specs.List.{list_all};
 ghost use Rattle.rdm_script.specs.Grammar.{action_in, destination_in, is_plain, sub_in, sub_named, pid_in, bytes_load_in, is_shown, is_quoted, quoted_in, load_in, command_in};
 
 use super::decimals;
-use super::names::pid_named;
 use crate::dialect::{Dialect, Spelling};
 use rdm_bus::{Action, Command};
 use rdm_frame::digits::{bytes_in, word_in};
 use rdm_frame::{Load, Uid};
+use rdm_params::pid_named;
 
 /// How many digits a sub-device has at most, if it is a decimal number.
 const MOST_DIGITS: usize = 3;

@@ -13,6 +13,8 @@ pub(crate) enum Form {
     Nothing,
     /// A number of this table, of one slot.
     Code(Table),
+    /// A status type (table A-4).
+    StatusType,
     /// These fields.
     Fields(Record),
     /// The fields of the first record, of which the second one is said in a picture.

@@ -14,7 +14,6 @@ use crate::frame::class::Class;
 use crate::tables::settings::{
     DISPLAY_INVERSIONS, LAMP_ON_MODES, LAMP_STATES, POWER_STATES, SWITCHES, TRUTHS,
 };
-use crate::tables::statuses::STATUS_TYPES;
 use rdm_frame::standard::{
     DISC_MUTE, DISC_UN_MUTE, DISC_UNIQUE_BRANCH, DISCOVERY_COMMAND, DISCOVERY_COMMAND_RESPONSE,
 };
@@ -65,10 +64,7 @@ fn discovery_layout(code: u8, pid: u16) -> Option<Layout>
 /// The data of a GET.
 fn get_layout(kind: Kind) -> Layout {
     match kind {
-        Kind::QueuedMessage | Kind::StatusMessages => Layout(
-            "status type",
-            Form::Code(STATUS_TYPES),
-        ),
+        Kind::QueuedMessage | Kind::StatusMessages => Layout("status type", Form::StatusType),
         Kind::StatusIdDescription => Layout("", Form::Fields(STATUS_ID)),
         Kind::DmxPersonalityDescription => Layout("personality", Form::Fields(NUMBER)),
         Kind::SlotDescription => Layout("", Form::Fields(SLOT)),
@@ -135,10 +131,7 @@ fn value_layout(kind: Kind) -> Layout {
 /// The same of a parameter whose value is a number of a table.
 fn code_layout(kind: Kind) -> Layout {
     match kind {
-        Kind::SubDeviceStatusReportThreshold => Layout(
-            "report threshold",
-            Form::Code(STATUS_TYPES),
-        ),
+        Kind::SubDeviceStatusReportThreshold => Layout("report threshold", Form::StatusType),
         Kind::LampState => Layout("lamp state", Form::Code(LAMP_STATES)),
         Kind::LampOnMode => Layout("lamp on mode", Form::Code(LAMP_ON_MODES)),
         Kind::DisplayInvert => Layout("display invert", Form::Code(DISPLAY_INVERSIONS)),

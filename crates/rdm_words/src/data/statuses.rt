@@ -1,9 +1,9 @@
 //! The words of status messages (E1.20 section 10.3 and table B-2).
 
 use crate::Known;
-use crate::data::values::put_coded;
+use crate::data::values::{put_coded, put_named};
 use crate::tables::slots::SLOT_LABELS;
-use crate::tables::statuses::{STATUS_IDS, STATUS_TYPES};
+use crate::tables::statuses::{STATUS_IDS, status_type};
 use crate::text::put_foreign;
 use std::alloc::AllocError;
 use std::fmt::Write;
@@ -37,7 +37,7 @@ pub(crate) fn put_failure(
     known: &Known<'_>,
 ) -> Result<(), AllocError> {
     let id = status.id;
-    put_coded(text, STATUS_TYPES, &[status.severity])?;
+    put_named(text, status_type(status.severity), &[status.severity])?;
     text.push_str(", ")?;
     match template(id, known) {
         Some(words) => {

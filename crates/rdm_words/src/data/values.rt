@@ -8,6 +8,7 @@ use crate::data::form::{Field, Form, Layout, Record, Value};
 use crate::data::lists::put_count_of;
 use crate::data::meanings::put_meaning;
 use crate::tables::Table;
+use crate::tables::statuses::status_type;
 use crate::text::{put_hex, put_quoted};
 use std::alloc::AllocError;
 use std::fmt::Write;
@@ -26,6 +27,13 @@ pub(crate) fn put_value(
             [code] => {
                 put_noun(text, noun)?;
                 put_coded(text, table, &[*code])
+            }
+            _ => put_data(text, data),
+        },
+        Form::StatusType => match data {
+            [code] => {
+                put_noun(text, noun)?;
+                put_named(text, status_type(*code), data)
             }
             _ => put_data(text, data),
         },

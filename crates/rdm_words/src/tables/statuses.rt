@@ -1,18 +1,20 @@
 //! What the status of a device tells.
 
 use super::Table;
+use rdm_frame::standard::GET_LAST_MESSAGE;
+use rdm_params::Severity;
 
-/// Status types, as `warning` (table A-4).
-pub const STATUS_TYPES: Table = Table(&[
-    (0x00, "none"),
-    (0x01, "get last message"),
-    (0x02, "advisory"),
-    (0x03, "warning"),
-    (0x04, "error"),
-    (0x12, "advisory cleared"),
-    (0x13, "warning cleared"),
-    (0x14, "error cleared"),
-]);
+/// A status type, as `warning` (table A-4).
+pub(crate) fn status_type(code: u8) -> Option<&'static str> {
+    match code {
+        0x00 => Some("none"),
+        GET_LAST_MESSAGE => Some("get last message"),
+        _ => match Severity::of(code) {
+            Some(severity) => Some(severity.name()),
+            None => None,
+        },
+    }
+}
 
 /// What a status ID means (table B-2). In its place stands the next of two values: for `%d` as a number, and for `%L` as the
 /// name of a slot.

@@ -1,9 +1,8 @@
-use Rattle.std.proofs.Common.{◌≡◌, ◌≤◌, ◌+◌, ◌++◌, ◌-◌, ◌∷◌, length, encode_utf8, sym, ap, ◌∙◌, arith, append-nil}
-use Rattle.std.specs.Str.Iter.{chars_rest}
+use Rattle.std.proofs.Common.{◌≤◌, ◌+◌, ◌++◌, ◌-◌, length, encode_utf8, sym, ap, ◌∙◌, arith, append-nil}
 use Rattle.std.proofs.lemmas.List.{length-append}
 use Rattle.std.proofs.lemmas.Str.{IsUtf8-past_char}
 use Rattle.rdm_fixture.specs.Faults.{shown_character, kept}
-use Rattle.rdm_fixture.proofs.Names.{shown_characters, shown_none, shown_step, front_step, front_stops}
+use Rattle.rdm_fixture.proofs.Names.{shown_none, shown_step, front_step, front_stops}
 use Rattle.rdm_fixture.proofs.refusal.front_of.Goals as goal
 
 pub returns-then-len-len_utf8-clause-value : goal.returns-then-len-len_utf8-clause-value

@@ -1,20 +1,11 @@
-use Rattle.std.proofs.Common.{◌≡◌, Bool, Option, Some, None, refl, ap}
+use Rattle.std.proofs.Common.{◌≡◌, refl, ap}
 use Rattle.std.specs.Bool.{Decides}
-use Rattle.std.specs.Option.{option_eq}
 use Rattle.std.proofs.lemmas.Bool.Decides.{Decides-and, Decides-like}
 use Rattle.rdm_responder.specs.declared.run.Output.{Output}
 use Rattle.rdm_responder.specs.declared.run.Output.TheVariants.{Answered, Arrived, HandedBack, Changed, NoRoom}
 use Rattle.rdm_responder.specs.contracts.run.OutputPartialEq.TheImpl as compared
+use Rattle.rdm_responder.proofs.Options.{option_decides}
 use Rattle.rdm_responder.proofs.laws.outputs_are_equal_by_value.Goals as goal
-
-some_is : {X : Type 0} (x y : X) → Some x ≡ Some y → x ≡ y
-some_is x y e = cc
-
-option_decides : {X : Type 0} (F : X → X → Bool) → ((x y : X) → Decides (F x y) (x ≡ y)) → (a b : Option X) → Decides (option_eq F a b) (a ≡ b)
-option_decides F decides None None = (λ _. refl, λ _. refl)
-option_decides F decides None (Some y) = (λ e. absurd cc, λ e. absurd cc)
-option_decides F decides (Some x) None = (λ e. absurd cc, λ e. absurd cc)
-option_decides F decides (Some x) (Some y) = Decides-like (F x y) (ap Some) (some_is x y) (decides x y)
 
 decides : (c : goal.After-no_rooms_are_equal_by_value) (a b : Output) → Decides (compared.ghosts.eq a b) (a ≡ b)
 decides c (Answered w j) (Answered v k) =

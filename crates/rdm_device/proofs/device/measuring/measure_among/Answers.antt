@@ -9,7 +9,7 @@ use Rattle.rdm_device.proofs.device.measuring.measure_among.Goals as goal
 pub returns-then-index-sensors : goal.returns-then-index-sensors
 returns-then-index-sensors c =
     let before = measured_slots (get_or c.args.sensors.now c.args.index unmeasured) in
-    one_measures c.args.index c.args.value c.args.sensors.now c.with_reading.result unmeasured c.if-index-sensors.true (c.with_reading.ensures ∙ ap (λ (z : ℤ). measured z before) (to_z-of_z w16 c.args.value c.ranges.value))
+    one_measures c.args.index (measured c.args.value) c.args.sensors.now c.with_reading.result unmeasured c.if-index-sensors.true (c.with_reading.ensures ∙ ap (λ (z : ℤ). measured z before) (to_z-of_z w16 c.args.value c.ranges.value))
 
 pub returns-else-index-sensors : goal.returns-else-index-sensors
-returns-else-index-sensors c = none_measures c.args.index c.args.value c.args.sensors.now (search rules)
+returns-else-index-sensors c = none_measures c.args.index (measured c.args.value) c.args.sensors.now (search rules)

@@ -4,10 +4,16 @@ use Rattle.rdm_device.specs.declared.device.state.CommonValues.{CommonValues}
 use Rattle.rdm_params.specs.Commands.Commands.{command_of, profile_sub_spot, written}
 use Rattle.rdm_params.specs.Table.Kinds.{pid_of}
 use Rattle.rdm_device.specs.Views.State.{common_entries}
+use Rattle.rdm_params.proofs.Changes.{one_same}
 use Rattle.rdm_params.proofs.SubSteps.{one_written}
 use Rattle.rdm_params.proofs.commands.sub_devices.store_at.Goals as goal
 
-pub returns-then-index-subs : goal.returns-then-index-subs
-returns-then-index-subs c =
+pub returns-then-index-subs-clause-after : goal.returns-then-index-subs-clause-after
+returns-then-index-subs-clause-after c =
     let old : CommonValues = get_or c.args.subs.now c.args.index c.index-subs-index.result in
-    one_written (λ entries. written (command_of (pid_of c.args.kind) Set) c.args.value.now (profile_sub_spot c.args.profile.now entries)) c.args.subs.now c.args.index old c.store_common.new.common c.if-index-subs.true (ap (λ (d : CommonValues). get_or c.args.subs.now c.args.index d) c.index-subs-index.is) (c.store_common.ensures (profile_sub_spot c.args.profile.now (common_entries old)) refl)
+    one_written (λ entries. written (command_of (pid_of c.args.kind) Set) c.args.value.now (profile_sub_spot c.args.profile.now entries)) c.args.subs.now c.args.index old c.store_common.new.common c.if-index-subs.true (ap (λ (d : CommonValues). get_or c.args.subs.now c.args.index d) c.index-subs-index.is) (c.store_common.ensures.after (profile_sub_spot c.args.profile.now (common_entries old)) refl)
+
+pub returns-then-index-subs-clause-same : goal.returns-then-index-subs-clause-same
+returns-then-index-subs-clause-same c =
+    let old : CommonValues = get_or c.args.subs.now c.args.index c.index-subs-index.result in
+    one_same c.store_common.result c.args.subs.now c.args.index old c.store_common.new.common c.if-index-subs.true (ap (λ (d : CommonValues). get_or c.args.subs.now c.args.index d) c.index-subs-index.is) c.store_common.ensures.same

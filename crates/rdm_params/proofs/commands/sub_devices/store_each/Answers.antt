@@ -1,12 +1,25 @@
-use Rattle.std.proofs.Common.{map}
-use Rattle.std.proofs.lemmas.List.{length-map}
+use Rattle.std.proofs.Common.{◌≡◌, ◌<◌, ◌∙◌, ◌||◌, length, map, ap, List}
+use Rattle.std.proofs.lemmas.List.{length-map, length-set}
 use Rattle.rdm_params.specs.declared.kind.Verb.TheVariants.{Set}
 use Rattle.rdm_params.specs.Commands.Commands.{command_of, profile_sub_spot, written}
 use Rattle.rdm_params.specs.Table.Kinds.{pid_of}
+use Rattle.rdm_device.specs.Device.Map.{Entry}
 use Rattle.rdm_device.specs.Views.State.{common_entries}
+use Rattle.rdm_params.proofs.Changes.{each_same, joined_true, joined_false}
 use Rattle.rdm_params.proofs.SubSteps.{each_step}
 use Rattle.rdm_params.proofs.commands.sub_devices.store_each.Goals as goal
+use Rattle.rdm_params.proofs.commands.sub_devices.store_each.Goals.{then-changed, else-changed}
 
 pub loop-i-preserved : goal.loop-i-preserved
 loop-i-preserved c =
-    each_step (λ entries. written (command_of (pid_of c.args.kind) Set) c.args.value.now (profile_sub_spot c.args.profile.now entries)) (map common_entries c.args.subs.now) (map common_entries c.loop-i.subs) (map common_entries c.store_at.new.subs) c.loop-i.i (simp length-map c.loop-i-test.true) c.loop-i.invariant c.store_at.ensures
+    let becomes : List Entry → List Entry = λ entries. written (command_of (pid_of c.args.kind) Set) c.args.value.now (profile_sub_spot c.args.profile.now entries) in
+    let before = map common_entries c.args.subs.now in
+    let now = map common_entries c.loop-i.subs in
+    let next = map common_entries c.store_at-here.new.subs in
+    let fits : c.loop-i.i < length (map common_entries c.args.subs.now) = simp length-map c.loop-i-test.true in
+    let joined : c.if-changed.changed ≡ (c.loop-i.changed || c.store_at-here.result) = elim c.if-changed.branch [ then-changed w ↦ joined_true _ _ _ w.if-changed.true w.changed-is | else-changed w ↦ joined_false _ _ _ w.if-changed.false w.changed-is ] in
+    record {
+      written = each_step becomes before now next c.loop-i.i fits c.loop-i.invariant.written c.store_at-here.ensures.after;
+      as_many = ap (length {A = List Entry}) c.store_at-here.ensures.after ∙ length-set now c.loop-i.i _ ∙ c.loop-i.invariant.as_many;
+      same = each_same becomes c.loop-i.changed c.store_at-here.result c.if-changed.changed before now next c.loop-i.i fits c.loop-i.invariant.as_many c.loop-i.invariant.written c.store_at-here.ensures.after c.store_at-here.ensures.same c.loop-i.invariant.same joined;
+    }

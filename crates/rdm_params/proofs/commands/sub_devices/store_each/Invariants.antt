@@ -1,11 +1,14 @@
-use Rattle.std.proofs.Common.{◌≡◌, ◌++◌, map, take, drop}
+use Rattle.std.proofs.Common.{◌≡◌, ◌↔◌, ◌++◌, false, length, map, take, drop}
 use Rattle.rdm_params.specs.declared.kind.Verb.TheVariants.{Set}
 use Rattle.rdm_params.specs.Commands.Commands.{command_of, profile_sub_spot, written}
 use Rattle.rdm_params.specs.Table.Kinds.{pid_of}
 use Rattle.rdm_device.specs.Views.State.{common_entries}
 use Rattle.rdm_params.proofs.commands.sub_devices.store_each.Given as goal
 
--- the sub-devices before this one are written, and the others as they were
+-- the sub-devices before this one are written, and the others as they were; and whether all are as they were
 abbrev pub invariant-loop-i : goal.invariant-loop-i
-invariant-loop-i l =
-    map common_entries l.subs ≡ map (λ entries. written (command_of (pid_of l.kind) Set) l.value (profile_sub_spot l.profile entries)) (take l.i (map common_entries l.initial.subs)) ++ drop l.i (map common_entries l.initial.subs)
+invariant-loop-i l = record {
+  written : map common_entries l.subs ≡ map (λ entries. written (command_of (pid_of l.kind) Set) l.value (profile_sub_spot l.profile entries)) (take l.i (map common_entries l.initial.subs)) ++ drop l.i (map common_entries l.initial.subs);
+  as_many : length (map common_entries l.subs) ≡ length (map common_entries l.initial.subs);
+  same : (l.changed ≡ false) ↔ (map common_entries l.subs ≡ map common_entries l.initial.subs);
+}

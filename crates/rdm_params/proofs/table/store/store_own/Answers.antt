@@ -1,10 +1,10 @@
 use Rattle.rdm_params.specs.Table.Rows.{row_of}
 use Rattle.rdm_params.proofs.table.store.store_own.Goals as goal
 
-pub returns-in-SensorValue : goal.returns-in-SensorValue
+pub returns-in-SensorValue-clause-after : goal.returns-in-SensorValue-clause-after
 unfolding row_of
-returns-in-SensorValue c = rw c.in-SensorValue.is (λ spot e. c.sensors_reset.ensures spot e)
+returns-in-SensorValue-clause-after c = rw c.in-SensorValue.is (λ spot e. c.sensors_reset.ensures.after spot e)
 
-pub returns-in-RecordSensors : goal.returns-in-RecordSensors
+pub returns-in-RecordSensors-clause-after : goal.returns-in-RecordSensors-clause-after
 unfolding row_of
-returns-in-RecordSensors c = rw c.in-RecordSensors.is (λ spot e. c.sensors_recorded.ensures spot e)
+returns-in-RecordSensors-clause-after c = rw c.in-RecordSensors.is (λ spot e. c.sensors_recorded.ensures.after spot e)

@@ -25,19 +25,19 @@ returns-clause-arrival c h stands =
     let b = (account_of h).outbox in
     let r = c.args.report in
     let shows = subst (λ (s : State). outbox_state.Shows s.outbox b) (sym c.self.view_is) stands.outbox in
-    let kept = c.note_failure-kept.ensures.kept (after_arrive b c.in-Some.worker c.copy.result) (c.arrive.ensures.shows b shows) in
+    let kept = c.note_failure-kept.ensures.kept (after_arrive b c.in-Some.worker c.commit-message.result) (c.arrive.ensures.shows b shows) in
     is_arrival h r _ c.self.inside.devices c.commit-message.new.self c.in-Some.worker ((c.in-Some.ensures.account (account_of h) stands).0 refl)
-    (ap (λ (s : State). s.parameters) c.self.view_is ∙ stands.parameters) c.commit-message.ensures.after c.in-Some.ensures.worker c.commit-message.ensures.message
-    (kept ∙ ap (λ (m : Message). nat_lt (length b.noted) (length (after_outcome c.commit-message.new.self (after_arrive b c.in-Some.worker m) r.job.work r.outcome).noted)) c.copy.ensures)
+    (ap (λ (s : State). s.parameters) c.self.view_is ∙ stands.parameters) c.commit-message.ensures.after c.in-Some.ensures.worker (c.copy-twin.ensures ∙ c.commit-message.ensures.message)
+    (kept ∙ ap (λ (m : Message). nat_lt (length b.noted) (length (after_outcome c.commit-message.new.self (after_arrive b c.in-Some.worker m) r.job.work r.outcome).noted)) (sym c.copy-twin.ensures))
 
 pub returns-clause-stands : goal.returns-clause-stands
 returns-clause-stands c h stands =
     let b = (account_of h).outbox in
     let r = c.args.report in
     let shows = subst (λ (s : State). outbox_state.Shows s.outbox b) (sym c.self.view_is) stands.outbox in
-    let message = c.copy.ensures ∙ c.commit-message.ensures.message ∙ ap (λ (s : State). committed s.parameters r.job.work r.outcome) c.self.view_is in
+    let message = c.commit-message.ensures.message ∙ ap (λ (s : State). committed s.parameters r.job.work r.outcome) c.self.view_is in
     let after = c.commit-message.ensures.after ∙ ap (λ (s : State). after_commit s.parameters r.job.work r.outcome) c.self.view_is in
     stands_for_event _ h (Arrived r)
-    (shows_report c.args.self.now _ (account_of h) r c.in-Some.worker c.copy.result stands c.in-Some.ensures.worker message
+    (shows_report c.args.self.now _ (account_of h) r c.in-Some.worker c.commit-message.result stands c.in-Some.ensures.worker message
     (ap (λ (s : State). s.uid) c.self.view_is) after (ap (λ (s : State). s.muted) c.self.view_is)
-    (c.note_failure-kept.ensures.shows (after_arrive b c.in-Some.worker c.copy.result) (c.arrive.ensures.shows b shows)))
+    (c.note_failure-kept.ensures.shows (after_arrive b c.in-Some.worker c.commit-message.result) (c.arrive.ensures.shows b shows)))

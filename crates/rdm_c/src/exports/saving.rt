@@ -1,0 +1,89 @@
+//! Values of a responder that outlive power-off, as C saves and restores them.
+
+ghost use Rattle.std.specs.Prelude.{◌≡◌, ◌≢◌, ◌↔◌, ◌++◌, min, nat_le, false, length, drop, if◌then◌else◌};
+ghost use Rattle.rdm_responder.specs.History.{History, Restored, then_event};
+ghost use Rattle.rdm_responder.specs.Lawful.{IsLawful};
+ghost use Rattle.rdm_responder.specs.Laws.{values_of};
+ghost use Rattle.rdm_saved.specs.Restoring.{restore_refusal, saved_len};
+ghost use Rattle.rdm_saved.specs.SavedText.{saved_text};
+ghost use Rattle.rdm_c.specs.Statuses.{code_of, of_restore_refusal};
+ghost use Rattle.rdm_c.specs.Endpoints.{HeldFor, found, holds_responder};
+
+use crate::endpoint;
+use crate::handle::Handle;
+use crate::keeping::{put, take};
+use crate::status::Status;
+use std::alloc::Global;
+
+/// Tells how many bytes an image of the values has that outlive power-off.
+#[unsafe(no_mangle)]
+pub extern "C" fn felosumay_responder_saved_size(
+    alloc: Global,
+    responder: &mut Handle,
+    count: &mut usize,
+) -> u8
+    ensures status { result ≡ code_of (found (holds_responder responder.old.held)) }
+    ensures count { (h : History) → HeldFor responder.old.held h → count.new ≡ min (saved_len (values_of h)) usize.MAX }
+    ensures same { responder.new.held ≡ responder.old.held }
+{
+    let Some(endpoint) = take(alloc, responder) else {
+        return Status::Absent.code();
+    };
+    let status = endpoint::saving::saved_size(&endpoint, count);
+    put(responder, endpoint);
+    status.code()
+}
+
+/// Writes the image of the values that outlive power-off to the front of these bytes, and tells how many it has.
+///
+/// If there are fewer bytes, there is no room for the image, and nothing is written.
+#[unsafe(no_mangle)]
+pub extern "C" fn felosumay_responder_save(
+    alloc: Global,
+    responder: &mut Handle,
+    image: &mut [u8],
+    count: &mut usize,
+) -> u8
+    ensures told { (h : History) → HeldFor responder.old.held h →
+        result ≡ code_of (if nat_le (saved_len (values_of h)) (length image.old) then Status.Done else Status.ShortImage) }
+    ensures written { (h : History) → HeldFor responder.old.held h → result ≡ code_of Status.Done →
+        (count.new ≡ saved_len (values_of h)) × (image.new ≡ saved_text (values_of h) ++ drop count.new image.old) }
+    ensures absent { (result ≡ code_of Status.Absent) ↔ (holds_responder responder.old.held ≡ false) }
+    ensures unwritten { result ≢ code_of Status.Done → image.new ≡ image.old }
+    ensures same { responder.new.held ≡ responder.old.held }
+{
+    let Some(endpoint) = take(alloc, responder) else {
+        return Status::Absent.code();
+    };
+    let status = endpoint::saving::save(&endpoint, image, count);
+    put(responder, endpoint);
+    status.code()
+}
+
+/// Restores the values from an image that `felosumay_responder_save` wrote, as firmware does when the fixture was switched on:
+/// at once, and with no message. The number of power cycles is one more than was saved (E1.20 section 10.8.6).
+///
+/// If the image has another length than one of these values, that comes first, then that it is altered, and last that it is of
+/// another profile. Nothing changes then.
+#[unsafe(no_mangle)]
+pub extern "C" fn felosumay_responder_restore(
+    alloc: Global,
+    responder: &mut Handle,
+    image: &[u8],
+) -> u8
+    ensures told { (h : History) → HeldFor responder.old.held h →
+        result ≡ code_of (of_restore_refusal (restore_refusal (values_of h) image.now)) }
+    ensures lawful { (h : History) → IsLawful h → HeldFor responder.old.held h →
+        ((result ≡ code_of Status.Done) ↔ IsLawful (then_event h (Restored image.now))) }
+    ensures stands { (h : History) → HeldFor responder.old.held h → result ≡ code_of Status.Done →
+        HeldFor responder.new.held (then_event h (Restored image.now)) }
+    ensures absent { (result ≡ code_of Status.Absent) ↔ (holds_responder responder.old.held ≡ false) }
+    ensures same { result ≢ code_of Status.Done → responder.new.held ≡ responder.old.held }
+{
+    let Some(mut endpoint) = take(alloc, responder) else {
+        return Status::Absent.code();
+    };
+    let status = endpoint::saving::restore(&mut endpoint, image);
+    put(responder, endpoint);
+    status.code()
+}

@@ -1,0 +1,105 @@
+-- What is written of the entries of lists.
+use Rattle.std.proofs.Common.{◌≡◌, ℕ, ◌≤◌, ◌<◌, ℤ, pos, neg_ℤ, List, [], ◌∷◌, Some, refl, arith, codes}
+use Rattle.rdm_device.specs.declared.profile.Personality.{Personality}
+use Rattle.rdm_device.specs.declared.profile.SelfTest.{SelfTest}
+use Rattle.rdm_device.specs.declared.profile.SensorDef.{SensorDef}
+use Rattle.rdm_device.specs.declared.profile.Slot.{Slot}
+use Rattle.rdm_device.specs.declared.profile.StatusText.{StatusText}
+use Rattle.toml.specs.Data.{integer, table}
+use Rattle.rdm_fixture.specs.Format.{IsPersonality, IsSlot, IsSensor, IsSelfTest, IsStatus, personality_keys, slot_keys, sensor_keys, self_test_keys, status_keys}
+use Rattle.rdm_fixture.specs.Keys.{may}
+use Rattle.rdm_fixture.specs.Values.{number, signed, text}
+use Rattle.rdm_fixture.specs.Writing.{text_field, IsPlain}
+use Rattle.rdm_fixture.proofs.Fields.{Field, members_from, only_from, plain_from}
+use Rattle.rdm_fixture.proofs.Said.{number_says, must_say, may_say, may_text, number_plain, text_plain}
+
+-- ---- slots
+
+abbrev pub slot_fields : Slot → List Field
+slot_fields s =
+    (codes "description", text_field s.name) ∷ (codes "default_value", Some (integer (pos s.value)))
+    ∷ (codes "label_id", Some (integer (pos s.label))) ∷ (codes "type", Some (integer (pos s.kind))) ∷ []
+
+abbrev pub says_byte : ℕ → Type 0
+says_byte n = number 0 0xFF (integer (pos n)) ≡ Some n
+
+abbrev pub says_word : ℕ → Type 0
+says_word n = number 0 0xFFFF (integer (pos n)) ≡ Some n
+
+abbrev pub says_signed : ℤ → Type 0
+says_signed z = signed (integer z) ≡ Some z
+
+abbrev pub says_text : List ℕ → Type 0
+says_text s = may [] text (text_field s) ≡ Some s
+
+pub slot_says : (s : Slot) → says_byte s.kind → says_word s.label → says_byte s.value → says_text s.name → IsSlot (members_from (slot_fields s)) s
+slot_says s kind label value name = let fs = slot_fields s in record {
+  keys = only_from slot_keys fs refl;
+  kind = may_say (codes "type") fs 0 (number 0 0xFF) _ _ refl kind;
+  label = must_say (codes "label_id") fs (number 0 0xFFFF) _ _ refl label;
+  value = may_say (codes "default_value") fs 0 (number 0 0xFF) _ _ refl value;
+  name = may_text (codes "description") fs s.name refl name;
+}
+
+pub slot_plain : (s : Slot) → IsPlain 1 (table (members_from (slot_fields s)))
+slot_plain s = plain_from 0 (slot_fields s) (text_plain 0 (codes "description") s.name _ (number_plain 0 _, (number_plain 0 _, (number_plain 0 _, tt))))
+
+-- ---- sensors
+
+abbrev pub sensor_fields : SensorDef → List Field
+sensor_fields s =
+    (codes "description", text_field s.name) ∷ (codes "recorded_value_support", Some (integer (pos s.support)))
+    ∷ (codes "normal_maximum_value", Some (integer s.normal_high)) ∷ (codes "normal_minimum_value", Some (integer s.normal_low))
+    ∷ (codes "range_maximum_value", Some (integer s.high)) ∷ (codes "range_minimum_value", Some (integer s.low))
+    ∷ (codes "prefix", Some (integer (pos s.prefix))) ∷ (codes "unit", Some (integer (pos s.unit)))
+    ∷ (codes "type", Some (integer (pos s.kind))) ∷ []
+
+pub sensor_says : (s : SensorDef) → says_byte s.kind → says_byte s.unit → says_byte s.prefix → says_signed s.low → says_signed s.high
+    → says_signed s.normal_low → says_signed s.normal_high → says_byte s.support → says_text s.name → IsSensor (members_from (sensor_fields s)) s
+sensor_says s kind unit prefix low high normal_low normal_high support name = let fs = sensor_fields s in record {
+  keys = only_from sensor_keys fs refl;
+  kind = must_say (codes "type") fs (number 0 0xFF) _ _ refl kind;
+  unit = may_say (codes "unit") fs 0 (number 0 0xFF) _ _ refl unit;
+  prefix = may_say (codes "prefix") fs 0 (number 0 0xFF) _ _ refl prefix;
+  low = may_say (codes "range_minimum_value") fs (neg_ℤ (pos 32768)) signed _ _ refl low;
+  high = may_say (codes "range_maximum_value") fs (pos 32767) signed _ _ refl high;
+  normal_low = may_say (codes "normal_minimum_value") fs (neg_ℤ (pos 32768)) signed _ _ refl normal_low;
+  normal_high = may_say (codes "normal_maximum_value") fs (pos 32767) signed _ _ refl normal_high;
+  support = may_say (codes "recorded_value_support") fs 0 (number 0 0xFF) _ _ refl support;
+  name = may_text (codes "description") fs s.name refl name;
+}
+
+pub sensor_plain : (s : SensorDef) → IsPlain 1 (table (members_from (sensor_fields s)))
+sensor_plain s =
+    plain_from 0 (sensor_fields s)
+    (text_plain 0 (codes "description") s.name _ (number_plain 0 _, (number_plain 0 _, (number_plain 0 _, (number_plain 0 _, (number_plain 0 _, (number_plain 0 _, (number_plain 0 _, (number_plain 0 _, tt)))))))))
+
+-- ---- entries with a number and a text
+
+abbrev pub pair_fields : List ℕ → ℕ → List ℕ → List Field
+pair_fields key n s = (codes "description", text_field s) ∷ (key, Some (integer (pos n))) ∷ []
+
+pub pair_plain : (key : List ℕ) (n : ℕ) (s : List ℕ) → IsPlain 1 (table (members_from (pair_fields key n s)))
+pair_plain key n s = plain_from 0 (pair_fields key n s) (text_plain 0 (codes "description") s _ (number_plain 0 _, tt))
+
+pub personality_says : (slots : ℕ) (m : Personality) → m.footprint ≤ slots → says_text m.name
+    → IsPersonality slots (members_from (pair_fields (codes "dmx_footprint") m.footprint m.name)) m
+personality_says slots m footprint name = let fs = pair_fields (codes "dmx_footprint") m.footprint m.name in record {
+  keys = only_from personality_keys fs refl;
+  footprint = must_say (codes "dmx_footprint") fs (number 0 slots) _ _ refl (number_says 0 slots m.footprint (omega arith) footprint);
+  name = may_text (codes "description") fs m.name refl name;
+}
+
+pub test_says : (s : SelfTest) → 0 < s.number → s.number < 255 → says_text s.name → IsSelfTest (members_from (pair_fields (codes "number") s.number s.name)) s
+test_says s low high name = let fs = pair_fields (codes "number") s.number s.name in record {
+  keys = only_from self_test_keys fs refl;
+  number = must_say (codes "number") fs (number 1 254) _ _ refl (number_says 1 254 s.number (omega (arith, low)) (omega (arith, high)));
+  name = may_text (codes "description") fs s.name refl name;
+}
+
+pub status_says : (s : StatusText) → says_word s.id → says_text s.text → IsStatus (members_from (pair_fields (codes "id") s.id s.text)) s
+status_says s id name = let fs = pair_fields (codes "id") s.id s.text in record {
+  keys = only_from status_keys fs refl;
+  id = must_say (codes "id") fs (number 0 0xFFFF) _ _ refl id;
+  text = may_text (codes "description") fs s.text refl name;
+}

@@ -1,0 +1,57 @@
+use Rattle.std.proofs.Common.{ap, refl}
+use Rattle.std.specs.Int.{w16}
+use Rattle.std.proofs.lemmas.Int.{to_z-of_z}
+use Rattle.std.proofs.Common.{rules}
+use Rattle.toml.specs.View.{members_view}
+use Rattle.rdm_fixture.proofs.WrittenEntries.{sensor_says, sensor_plain}
+use Rattle.rdm_fixture.proofs.writing.entries.SensorDefToEntry.to_entry.Goals as goal
+
+pub returns-clause-says : goal.returns-clause-says
+returns-clause-says c = λ slots can.
+    let low = to_z-of_z w16 c.args.self.now.low (search rules) in
+    let high = to_z-of_z w16 c.args.self.now.high (search rules) in
+    let normal_low = to_z-of_z w16 c.args.self.now.normal_low (search rules) in
+    let normal_high = to_z-of_z w16 c.args.self.now.normal_high (search rules) in
+    rw (
+      c.in_ok-put_text.ensures.put refl,
+      c.in_ok-put_byte-4.ensures.put refl,
+      c.in_ok-put_signed-4.ensures.put refl,
+      c.in_ok-put_signed-3.ensures.put refl,
+      c.in_ok-put_signed-2.ensures.put refl,
+      c.in_ok-put_signed.ensures.put refl,
+      c.in_ok-put_byte-3.ensures.put refl,
+      c.in_ok-put_byte-2.ensures.put refl,
+      c.in_ok-put_byte.ensures.put refl,
+      ap members_view c.new-table.ensures.empty,
+      low,
+      high,
+      normal_low,
+      normal_high,
+    )
+    (sensor_says c.args.self.now c.put_byte.ensures.says c.put_byte-2.ensures.says c.put_byte-3.ensures.says
+    (rw low at c.put_signed.ensures.says) (rw high at c.put_signed-2.ensures.says) (rw normal_low at c.put_signed-3.ensures.says)
+    (rw normal_high at c.put_signed-4.ensures.says) c.put_byte-4.ensures.says (c.put_text.ensures.says can))
+
+pub returns-clause-plain : goal.returns-clause-plain
+returns-clause-plain c =
+    let low = to_z-of_z w16 c.args.self.now.low (search rules) in
+    let high = to_z-of_z w16 c.args.self.now.high (search rules) in
+    let normal_low = to_z-of_z w16 c.args.self.now.normal_low (search rules) in
+    let normal_high = to_z-of_z w16 c.args.self.now.normal_high (search rules) in
+    rw (
+      c.in_ok-put_text.ensures.put refl,
+      c.in_ok-put_byte-4.ensures.put refl,
+      c.in_ok-put_signed-4.ensures.put refl,
+      c.in_ok-put_signed-3.ensures.put refl,
+      c.in_ok-put_signed-2.ensures.put refl,
+      c.in_ok-put_signed.ensures.put refl,
+      c.in_ok-put_byte-3.ensures.put refl,
+      c.in_ok-put_byte-2.ensures.put refl,
+      c.in_ok-put_byte.ensures.put refl,
+      ap members_view c.new-table.ensures.empty,
+      low,
+      high,
+      normal_low,
+      normal_high,
+    )
+    (sensor_plain c.args.self.now)

@@ -1,0 +1,76 @@
+use Rattle.std.proofs.Common.{◌≤◌, ap, length, refl, option_map, arith}
+use Rattle.toml.specs.View.{view, table_view}
+use Rattle.rdm_fixture.specs.Format.{IsSlot, IsSensor, IsSelfTest, IsStatus}
+use Rattle.rdm_fixture.specs.Keys.{ListAt, OfTable}
+use Rattle.rdm_fixture.specs.Outcomes.{IsOutcome}
+use Rattle.rdm_fixture.proofs.WrittenFixtures.{fixture_says, fixture_plain, deeper, deeper_some}
+use Rattle.rdm_fixture.proofs.WrittenLists.{some_plain}
+use Rattle.rdm_fixture.proofs.writing.tables.table_of.Goals as goal
+
+pub returns-clause-says : goal.returns-clause-says
+returns-clause-says c = λ can.
+    let f = c.args.fixture.now in
+    let texts = can.texts in
+    let made = can.made.1 in
+    let slots : ListAt (OfTable IsSlot) (option_map view c.in_ok-list_of.field-0) f.profile.slots.items =
+    rw c.as_slice.ensures.value at (c.in_ok-list_of.ensures.says 0 (rw c.as_slice.ensures.value (λ k d less. texts.slots k d less))) in
+    let slots_fit : length f.profile.slots.items ≤ 46 = omega (arith, ap length c.as_slice.ensures.value, c.as_slice.ensures.fits) in
+    let sensors : ListAt (OfTable IsSensor) (option_map view c.in_ok-list_of-2.field-0) f.profile.sensors.items =
+    rw c.as_slice-2.ensures.value at (c.in_ok-list_of-2.ensures.says 0 (rw c.as_slice-2.ensures.value (λ k d less. texts.sensors k d less))) in
+    let sensors_fit : length f.profile.sensors.items ≤ 8 = omega (arith, ap length c.as_slice-2.ensures.value, c.as_slice-2.ensures.fits) in
+    let tests : ListAt (OfTable IsSelfTest) (option_map view c.in_ok-list_of-3.field-0) f.profile.tests.items =
+    rw c.as_slice-3.ensures.value at (c.in_ok-list_of-3.ensures.says 0 (rw c.as_slice-3.ensures.value (λ k d less. (made.test_numbers k d less, texts.tests k d less)))) in
+    let tests_fit : length f.profile.tests.items ≤ 8 = omega (arith, ap length c.as_slice-3.ensures.value, c.as_slice-3.ensures.fits) in
+    let statuses : ListAt (OfTable IsStatus) (option_map view c.in_ok-list_of-4.field-0) f.profile.status_texts.items =
+    rw c.as_slice-4.ensures.value at (c.in_ok-list_of-4.ensures.says 0 (rw c.as_slice-4.ensures.value (λ k d less. texts.statuses k d less))) in
+    let statuses_fit : length f.profile.status_texts.items ≤ 8 = omega (arith, ap length c.as_slice-4.ensures.value, c.as_slice-4.ensures.fits) in
+    let outcomes : ListAt (OfTable IsOutcome) (option_map view c.in_ok-list_of-5.field-0) f.outcomes.items =
+    rw c.as_slice-5.ensures.value at (c.in_ok-list_of-5.ensures.says 0 (rw c.as_slice-5.ensures.value (can.outcomes))) in
+    let outcomes_fit : length f.outcomes.items ≤ 32 = omega (arith, ap length c.as_slice-5.ensures.value, c.as_slice-5.ensures.fits) in
+    rw (
+      c.in_ok-put-8.ensures refl,
+      c.in_ok-put-7.ensures refl,
+      c.in_ok-put-6.ensures refl,
+      c.in_ok-put-5.ensures refl,
+      c.in_ok-put-4.ensures refl,
+      c.in_ok-put-3.ensures refl,
+      c.in_ok-put_word.ensures.put refl,
+      c.in_ok-put-2.ensures refl,
+      c.in_ok-put_text.ensures.put refl,
+      c.in_ok-put_long.ensures.put refl,
+      c.in_ok-put.ensures refl,
+    )
+    (fixture_says f (table_view c.in_ok-table.table) (view c.in_ok-uid_of.field-0) (view c.in_ok-languages_of.field-0)
+    (option_map view c.in_ok-list_of.field-0) (option_map view c.in_ok-list_of-2.field-0) (option_map view c.in_ok-list_of-3.field-0) (option_map view c.in_ok-list_of-4.field-0) (option_map view c.in_ok-list_of-5.field-0) (option_map view c.in_ok-sub_devices_of.field-0)
+    can c.in_ok-table.ensures.keys (λ n same. c.in_ok-table.ensures.says n (rw same made.root) texts.root)
+    (c.in_ok-uid_of.ensures.says can.own) c.put_long.ensures.says (c.put_text.ensures.says texts.boot)
+    (c.in_ok-languages_of.ensures.says made.language can.languages)
+    slots slots_fit sensors sensors_fit tests tests_fit statuses statuses_fit outcomes outcomes_fit
+    (c.in_ok-sub_devices_of.ensures.says can.made texts.sub))
+
+pub returns-clause-plain : goal.returns-clause-plain
+returns-clause-plain c =
+    let f = c.args.fixture.now in
+    rw (
+      c.in_ok-put-8.ensures refl,
+      c.in_ok-put-7.ensures refl,
+      c.in_ok-put-6.ensures refl,
+      c.in_ok-put-5.ensures refl,
+      c.in_ok-put-4.ensures refl,
+      c.in_ok-put-3.ensures refl,
+      c.in_ok-put_word.ensures.put refl,
+      c.in_ok-put-2.ensures refl,
+      c.in_ok-put_text.ensures.put refl,
+      c.in_ok-put_long.ensures.put refl,
+      c.in_ok-put.ensures refl,
+    )
+    (fixture_plain f (table_view c.in_ok-table.table) (view c.in_ok-uid_of.field-0) (view c.in_ok-languages_of.field-0)
+    (option_map view c.in_ok-list_of.field-0) (option_map view c.in_ok-list_of-2.field-0) (option_map view c.in_ok-list_of-3.field-0) (option_map view c.in_ok-list_of-4.field-0) (option_map view c.in_ok-list_of-5.field-0) (option_map view c.in_ok-sub_devices_of.field-0)
+    (deeper 3 4 _ (omega arith) c.in_ok-table.ensures.plain)
+    (deeper 0 3 _ (omega arith) c.in_ok-uid_of.ensures.plain) (deeper 1 3 _ (omega arith) c.in_ok-languages_of.ensures.plain)
+    (deeper_some 2 3 _ (omega arith) (some_plain 2 c.in_ok-list_of.field-0 c.in_ok-list_of.ensures.plain))
+    (deeper_some 2 3 _ (omega arith) (some_plain 2 c.in_ok-list_of-2.field-0 c.in_ok-list_of-2.ensures.plain))
+    (deeper_some 2 3 _ (omega arith) (some_plain 2 c.in_ok-list_of-3.field-0 c.in_ok-list_of-3.ensures.plain))
+    (deeper_some 2 3 _ (omega arith) (some_plain 2 c.in_ok-list_of-4.field-0 c.in_ok-list_of-4.ensures.plain))
+    (deeper_some 2 3 _ (omega arith) (some_plain 2 c.in_ok-list_of-5.field-0 c.in_ok-list_of-5.ensures.plain))
+    (some_plain 3 c.in_ok-sub_devices_of.field-0 c.in_ok-sub_devices_of.ensures.plain))

@@ -1,0 +1,56 @@
+-- What is put into a table that is written, and what TOML can write of it.
+use Rattle.std.specs.Prelude.{◌≡◌, ℕ, ◌≤◌, pos, true, List, [], ◌∷◌, Option, Some, None, codes}
+use Rattle.std.specs.Ordering.{nat_cmp, match_ordering}
+use Rattle.std.specs.Cmp.Lexicographic.{slice_cmp}
+use Rattle.std.specs.Str.Lossy.{utf8_lossy}
+use Rattle.rdm_params.specs.Jobs.Severities.{severity_name}
+use Rattle.rdm_params.specs.declared.jobs.outcome.Outcome.{Outcome}
+use Rattle.rdm_params.specs.declared.jobs.outcome.Outcome.TheVariants.{Done, Reading, Failed}
+use Rattle.rdm_fixture.specs.Values.{number, signed}
+use Rattle.toml.specs.Data.{Data, string, integer, boolean, depth, has_valid_dates, Members, no_members, member}
+
+-- the members with this one besides, in the order of the keys; if the key was there, it has the new value
+abbrev pub with_member : List ℕ → Data → Members → Members
+with_member k d no_members = member k d no_members
+with_member k d (member l e ms) =
+    match_ordering (slice_cmp nat_cmp k l) (member k d (member l e ms)) (member l d ms) (member l e (with_member k d ms))
+
+-- the same, if there is a value
+abbrev pub with_field : List ℕ → Option Data → Members → Members
+with_field k None ms = ms
+with_field k (Some d) ms = with_member k d ms
+
+-- what is written of a text: nothing if it is empty. Printable characters are written as they are.
+abbrev pub text_field : List ℕ → Option Data
+text_field [] = None
+text_field (c ∷ cs) = Some (string (utf8_lossy (c ∷ cs)))
+
+-- The data nest at most n deep, and every date-time in them can be written.
+pub record IsPlain (n : ℕ) (d : Data) : Type 0 where
+  pub shallow : depth d ≤ n
+  pub dates : has_valid_dates d ≡ true
+
+-- ---- how jobs end
+
+-- the members, and these besides, one after the other
+abbrev pub with_fields : List (List ℕ × Option Data) → Members → Members
+with_fields [] ms = ms
+with_fields (f ∷ fs) ms = with_fields fs (with_field f.0 f.1 ms)
+
+abbrev pub word_field : ℕ → Option Data
+word_field n = Some (integer (pos n))
+
+-- what is written of an outcome: that it is done, the reading, or the fields of a status message. Section 10.3.2.
+abbrev pub outcome_fields : Outcome → List (List ℕ × Option Data)
+outcome_fields Done = (codes "done", Some (boolean true)) ∷ []
+outcome_fields (Reading value) = (codes "reading", Some (integer value)) ∷ []
+outcome_fields (Failed severity id v1 v2) =
+    (codes "severity", Some (string (severity_name severity))) ∷ (codes "status_id", word_field id)
+    ∷ (codes "data_value_1", word_field v1) ∷ (codes "data_value_2", word_field v2) ∷ []
+
+-- the numbers of an outcome have 16 bits
+abbrev pub HasWords : Outcome → Type 0
+HasWords Done = Unit {0}
+HasWords (Reading value) = signed (integer value) ≡ Some value
+HasWords (Failed severity id v1 v2) =
+    (number 0 0xFFFF (integer (pos id)) ≡ Some id) × (number 0 0xFFFF (integer (pos v1)) ≡ Some v1) × (number 0 0xFFFF (integer (pos v2)) ≡ Some v2)

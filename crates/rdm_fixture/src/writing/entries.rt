@@ -1,0 +1,84 @@
+//! The entries of the lists: personalities, slots, sensors, self tests and status IDs.
+
+ghost use Rattle.std.specs.Prelude.{◌≡◌, ◌≤◌, ◌<◌, IsTrue};
+ghost use Rattle.rdm_fixture.specs.Describable.{are_printable};
+ghost use Rattle.rdm_fixture.specs.Format.{IsPersonality, IsSlot, IsSensor, IsSelfTest, IsStatus};
+
+use super::fields::{ToEntry, put_byte, put_signed, put_text, put_word};
+use rdm_device::{Personality, SelfTest, SensorDef, Slot, StatusText};
+use std::alloc::{AllocError, Global};
+use toml::Table;
+
+impl ToEntry for Personality {
+    ghost says = { IsPersonality };
+
+    ghost can = { λ slots m. (m.footprint ≤ slots) × IsTrue (are_printable m.name) };
+
+    fn to_entry(&self, alloc: Global) -> Result<Table, AllocError> {
+        let mut table = Table::new(alloc);
+        put_word(alloc, &mut table, "dmx_footprint", self.footprint)?;
+        put_text(alloc, &mut table, "description", &self.name)?;
+        Ok(table)
+    }
+}
+
+impl ToEntry for Slot {
+    ghost says = { λ _. IsSlot };
+
+    ghost can = { λ _ s. IsTrue (are_printable s.name) };
+
+    fn to_entry(&self, alloc: Global) -> Result<Table, AllocError> {
+        let mut table = Table::new(alloc);
+        put_byte(alloc, &mut table, "type", self.kind)?;
+        put_word(alloc, &mut table, "label_id", self.label)?;
+        put_byte(alloc, &mut table, "default_value", self.value)?;
+        put_text(alloc, &mut table, "description", &self.name)?;
+        Ok(table)
+    }
+}
+
+impl ToEntry for SensorDef {
+    ghost says = { λ _. IsSensor };
+
+    ghost can = { λ _ s. IsTrue (are_printable s.name) };
+
+    fn to_entry(&self, alloc: Global) -> Result<Table, AllocError> {
+        let mut table = Table::new(alloc);
+        put_byte(alloc, &mut table, "type", self.kind)?;
+        put_byte(alloc, &mut table, "unit", self.unit)?;
+        put_byte(alloc, &mut table, "prefix", self.prefix)?;
+        put_signed(alloc, &mut table, "range_minimum_value", self.low)?;
+        put_signed(alloc, &mut table, "range_maximum_value", self.high)?;
+        put_signed(alloc, &mut table, "normal_minimum_value", self.normal_low)?;
+        put_signed(alloc, &mut table, "normal_maximum_value", self.normal_high)?;
+        put_byte(alloc, &mut table, "recorded_value_support", self.support)?;
+        put_text(alloc, &mut table, "description", &self.name)?;
+        Ok(table)
+    }
+}
+
+impl ToEntry for SelfTest {
+    ghost says = { λ _. IsSelfTest };
+
+    ghost can = { λ _ s. ((0 < s.number) × (s.number < 255)) × IsTrue (are_printable s.name) };
+
+    fn to_entry(&self, alloc: Global) -> Result<Table, AllocError> {
+        let mut table = Table::new(alloc);
+        put_byte(alloc, &mut table, "number", self.number)?;
+        put_text(alloc, &mut table, "description", &self.name)?;
+        Ok(table)
+    }
+}
+
+impl ToEntry for StatusText {
+    ghost says = { λ _. IsStatus };
+
+    ghost can = { λ _ s. IsTrue (are_printable s.text) };
+
+    fn to_entry(&self, alloc: Global) -> Result<Table, AllocError> {
+        let mut table = Table::new(alloc);
+        put_word(alloc, &mut table, "id", self.id)?;
+        put_text(alloc, &mut table, "description", &self.text)?;
+        Ok(table)
+    }
+}

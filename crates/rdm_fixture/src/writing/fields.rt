@@ -1,0 +1,139 @@
+//! What is put into a table, key by key.
+
+ghost use Rattle.std.specs.Prelude.{◌≡◌, ◌≤◌, ℕ, pos, [], Some, IsOk, IfOk, IfSome, IsTrue, All, length, option_map};
+ghost use Rattle.toml.specs.Data.{Members, table as table_data, string, integer};
+ghost use Rattle.toml.specs.View.{view, table_view};
+ghost use Rattle.rdm_fixture.specs.Describable.{are_printable};
+ghost use Rattle.rdm_fixture.specs.Keys.{may, OfTable, ListAt};
+ghost use Rattle.rdm_fixture.specs.Values as says;
+ghost use Rattle.rdm_fixture.specs.Writing.{with_field, text_field, IsPlain};
+
+use rdm_frame::Text;
+use std::alloc::{AllocError, Global};
+use toml::{Table, Value};
+
+/// What is written as an entry of a list of tables.
+pub(super) trait ToEntry {
+    ghost says: { ℕ → Members → Self → Type 0 };
+
+    ghost can: { ℕ → Self → Type 0 };
+
+    /// The entry. It says the item for each number of slots with which the item can be (a personality uses no more than there are).
+    fn to_entry(&self, alloc: Global) -> Result<Table, AllocError>
+        ensures says { IfOk result (λ t. (slots : ℕ) → can slots self.now → says slots (table_view t) self.now) }
+        ensures plain { IfOk result (λ t. IsPlain 1 (table_data (table_view t))) };
+}
+
+/// Puts a value at the key, if there is one.
+pub(super) fn put(
+    alloc: Global,
+    table: &mut Table,
+    key: &str,
+    value: Option<Value>,
+) -> Result<(), AllocError>
+    ensures { IsOk result → table_view table.new ≡ with_field key.now (option_map view value) (table_view table.old) }
+{
+    let Some(value) = value else {
+        return Ok(());
+    };
+    table.insert(String::from_str(alloc, key)?, value)?;
+    Ok(())
+}
+
+/// Puts a number of 8 bits at the key.
+pub(super) fn put_byte(
+    alloc: Global,
+    table: &mut Table,
+    key: &str,
+    number: u8,
+) -> Result<(), AllocError>
+    ensures put { IsOk result → table_view table.new ≡ with_field key.now (Some (integer (pos number))) (table_view table.old) }
+    ensures says { says.number 0 0xFF (integer (pos number)) ≡ Some number }
+{
+    put(alloc, table, key, Some(Value::from(number)))
+}
+
+/// Puts a number of 16 bits at the key.
+pub(super) fn put_word(
+    alloc: Global,
+    table: &mut Table,
+    key: &str,
+    number: u16,
+) -> Result<(), AllocError>
+    ensures put { IsOk result → table_view table.new ≡ with_field key.now (Some (integer (pos number))) (table_view table.old) }
+    ensures says { says.number 0 0xFFFF (integer (pos number)) ≡ Some number }
+{
+    put(alloc, table, key, Some(Value::from(u32::from(number))))
+}
+
+/// Puts a number of 32 bits at the key.
+pub(super) fn put_long(
+    alloc: Global,
+    table: &mut Table,
+    key: &str,
+    number: u32,
+) -> Result<(), AllocError>
+    ensures put { IsOk result → table_view table.new ≡ with_field key.now (Some (integer (pos number))) (table_view table.old) }
+    ensures says { says.number 0 0xFFFFFFFF (integer (pos number)) ≡ Some number }
+{
+    put(alloc, table, key, Some(Value::from(number)))
+}
+
+/// Puts a signed number of 16 bits at the key.
+pub(super) fn put_signed(
+    alloc: Global,
+    table: &mut Table,
+    key: &str,
+    number: i16,
+) -> Result<(), AllocError>
+    ensures put { IsOk result → table_view table.new ≡ with_field key.now (Some (integer number)) (table_view table.old) }
+    ensures says { says.signed (integer number) ≡ Some number }
+{
+    put(alloc, table, key, Some(Value::from(i32::from(number))))
+}
+
+/// Puts a name at the key.
+pub(super) fn put_name(
+    alloc: Global,
+    table: &mut Table,
+    key: &str,
+    name: &str,
+) -> Result<(), AllocError>
+    ensures { IsOk result → table_view table.new ≡ with_field key.now (Some (string name.now)) (table_view table.old) }
+{
+    let value = Value::string(alloc, name)?;
+    put(alloc, table, key, Some(value))
+}
+
+/// Puts a text at the key, unless it is empty.
+pub(super) fn put_text(
+    alloc: Global,
+    table: &mut Table,
+    key: &str,
+    text: &Text,
+) -> Result<(), AllocError>
+    ensures put { IsOk result → table_view table.new ≡ with_field key.now (text_field text.now) (table_view table.old) }
+    ensures says { IsTrue (are_printable text.now) → may [] says.text (text_field text.now) ≡ Some text.now }
+{
+    let bytes = text.as_slice();
+    if bytes.is_empty() {
+        return Ok(());
+    }
+    let string = String::from_utf8_lossy(alloc, bytes)?;
+    put(alloc, table, key, Some(Value::String(string)))
+}
+
+/// The list of the entries, or nothing if there are none.
+pub(super) fn list_of<E: ToEntry>(alloc: Global, items: &[E]) -> Result<Option<Value>, AllocError>
+    ensures says { IfOk result (λ v. (slots : ℕ) → All (E.can slots) items.now → ListAt (OfTable (E.says slots)) (option_map view v) items.now) }
+    ensures plain { IfOk result (λ v. IfSome v (λ x. IsPlain 2 (view x))) }
+{
+    if items.is_empty() {
+        return Ok(None);
+    }
+    let mut entries = Vec::new(alloc);
+    for item in items {
+        entries.push(Value::Table(item.to_entry(alloc)?))?;
+    }
+    Ok(Some(Value::Array(entries)))
+}

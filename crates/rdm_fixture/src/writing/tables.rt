@@ -1,0 +1,127 @@
+//! The table of a fixture.
+
+ghost use Rattle.std.specs.Prelude.{◌≡◌, ◌≤◌, ℕ, Some, IsOk, IfOk, IfSome, IsTrue, All, false, length, option_map};
+ghost use Rattle.toml.specs.Data.{Members, table as table_data, string, array};
+ghost use Rattle.toml.specs.View.{view, items_view, table_view};
+ghost use Rattle.rdm_frame.specs.Addressing.{is_broadcast};
+ghost use Rattle.rdm_device.specs.Device.Profiles.{IsGoodUnit, CanBeMade};
+ghost use Rattle.rdm_fixture.specs.Describable.{HasPrintableUnit, CanBeDescribed, is_coded};
+ghost use Rattle.rdm_fixture.specs.Format.{IsFixture, IsUnit, SubDevices, LanguagesAt};
+ghost use Rattle.rdm_fixture.specs.Values as says;
+ghost use Rattle.rdm_fixture.specs.Writing.{with_field, IsPlain};
+
+use super::fields::{list_of, put, put_long, put_text, put_word};
+use super::units::unit_table;
+use crate::fixture::Fixture;
+use arrayvec::ArrayVec;
+use rdm_device::{Profile, units_are_equal_by_value};
+use rdm_frame::Uid;
+use std::alloc::{AllocError, Global};
+use toml::{Table, Value};
+
+/// The table of the fixture.
+pub(super) fn table_of(alloc: Global, fixture: &Fixture) -> Result<Table, AllocError>
+    ensures says { IfOk result (λ t. CanBeDescribed fixture.now → IsFixture (table_view t) fixture.now) }
+    ensures plain { IfOk result (λ t. IsPlain 4 (table_data (table_view t))) }
+{
+    let profile = &fixture.profile;
+    let mut table = unit_table(alloc, &profile.root)?;
+    put(alloc, &mut table, "uid", Some(uid_of(alloc, fixture.uid)?))?;
+    put_long(alloc, &mut table, "boot_software_version_id", profile.boot)?;
+    put_text(
+        alloc,
+        &mut table,
+        "boot_software_version_label",
+        &profile.boot_text,
+    )?;
+    put(
+        alloc,
+        &mut table,
+        "languages",
+        Some(languages_of(alloc, &profile.languages)?),
+    )?;
+    put_word(alloc, &mut table, "presets", profile.presets)?;
+    put(
+        alloc,
+        &mut table,
+        "slot",
+        list_of(alloc, profile.slots.as_slice())?,
+    )?;
+    put(
+        alloc,
+        &mut table,
+        "sensor",
+        list_of(alloc, profile.sensors.as_slice())?,
+    )?;
+    put(
+        alloc,
+        &mut table,
+        "self_test",
+        list_of(alloc, profile.tests.as_slice())?,
+    )?;
+    put(
+        alloc,
+        &mut table,
+        "status",
+        list_of(alloc, profile.status_texts.as_slice())?,
+    )?;
+    put(
+        alloc,
+        &mut table,
+        "outcome",
+        list_of(alloc, fixture.outcomes.as_slice())?,
+    )?;
+    put(
+        alloc,
+        &mut table,
+        "sub_devices",
+        sub_devices_of(alloc, profile)?,
+    )?;
+    Ok(table)
+}
+
+/// The text of a UID.
+fn uid_of(alloc: Global, uid: Uid) -> Result<Value, AllocError>
+    ensures says { IfOk result (λ v. is_broadcast uid ≡ false → says.uid (view v) ≡ Some uid) }
+    ensures plain { IfOk result (λ v. IsPlain 0 (view v)) }
+{
+    let text = format!(in alloc; "{uid}")?;
+    Ok(Value::String(text))
+}
+
+/// The codes of the languages.
+fn languages_of(alloc: Global, languages: &ArrayVec<u16, 8>) -> Result<Value, AllocError>
+    ensures says { IfOk result (λ v. 1 ≤ length languages.now.items → All (λ l. IsTrue (is_coded l)) languages.now.items
+        → LanguagesAt (Some (view v)) languages.now.items) }
+    ensures plain { IfOk result (λ v. IsPlain 1 (view v)) }
+{
+    let mut codes = Vec::new(alloc);
+    for language in languages.as_slice() {
+        codes.push(code_of(alloc, *language)?)?;
+    }
+    Ok(Value::Array(codes))
+}
+
+/// The two letters of a language.
+fn code_of(alloc: Global, language: u16) -> Result<Value, AllocError>
+    ensures says { IfOk result (λ v. IsTrue (is_coded language) → says.language (view v) ≡ Some language) }
+    ensures plain { IfOk result (λ v. IsPlain 0 (view v)) }
+{
+    let code = String::from_utf8_lossy(alloc, &language.to_be_bytes())?;
+    Ok(Value::String(code))
+}
+
+/// The table of the sub-devices. Without it there are none, and what they would start as is the root.
+fn sub_devices_of(alloc: Global, profile: &Profile) -> Result<Option<Value>, AllocError>
+    ensures says { IfOk result (λ v. CanBeMade profile.now → HasPrintableUnit profile.now.sub → (slots : ℕ) (t : Members)
+        → IsUnit slots t profile.now.root → SubDevices slots t (option_map view v) profile.now.subs profile.now.sub) }
+    ensures plain { IfOk result (λ v. IfSome v (λ x. IsPlain 3 (view x))) }
+{
+    units_are_equal_by_value();
+    if profile.subs == 0 && profile.sub == profile.root {
+        return Ok(None);
+    }
+    let mut table = unit_table(alloc, &profile.sub)?;
+    put_word(alloc, &mut table, "count", profile.subs)?;
+    Ok(Some(Value::Table(table)))
+}

@@ -1,0 +1,45 @@
+//! What is written of the root and of the sub-devices.
+
+ghost use Rattle.std.specs.Prelude.{ℕ, IfOk, IsTrue};
+ghost use Rattle.toml.specs.Data.{table as table_data};
+ghost use Rattle.toml.specs.View.{table_view};
+ghost use Rattle.rdm_device.specs.Device.Profiles.{IsGoodUnit};
+ghost use Rattle.rdm_fixture.specs.Describable.{HasPrintableUnit};
+ghost use Rattle.rdm_fixture.specs.Format.{IsUnit, unit_keys};
+ghost use Rattle.rdm_fixture.specs.Keys.{has_only};
+ghost use Rattle.rdm_fixture.specs.Writing.{IsPlain};
+
+use super::fields::{list_of, put, put_long, put_text, put_word};
+use rdm_device::Unit;
+use std::alloc::{AllocError, Global};
+use toml::Table;
+
+/// What the root or a sub-device says of itself.
+pub(super) fn unit_table(alloc: Global, unit: &Unit) -> Result<Table, AllocError>
+    ensures says { IfOk result (λ t. (slots : ℕ) → IsGoodUnit unit.now slots → HasPrintableUnit unit.now → IsUnit slots (table_view t) unit.now) }
+    ensures keys { IfOk result (λ t. IsTrue (has_only unit_keys (table_view t))) }
+    ensures plain { IfOk result (λ t. IsPlain 3 (table_data (table_view t))) }
+{
+    let mut table = Table::new(alloc);
+    put_word(alloc, &mut table, "device_model_id", unit.model)?;
+    put_text(
+        alloc,
+        &mut table,
+        "device_model_description",
+        &unit.model_text,
+    )?;
+    put_text(alloc, &mut table, "manufacturer_label", &unit.maker_text)?;
+    put_text(alloc, &mut table, "device_label", &unit.label)?;
+    put_word(alloc, &mut table, "product_category", unit.category)?;
+    put_long(alloc, &mut table, "software_version_id", unit.software)?;
+    put_text(
+        alloc,
+        &mut table,
+        "software_version_label",
+        &unit.software_text,
+    )?;
+    put_word(alloc, &mut table, "dmx_start_address", unit.start)?;
+    let personalities = list_of(alloc, unit.personalities.as_slice())?;
+    put(alloc, &mut table, "personality", personalities)?;
+    Ok(table)
+}

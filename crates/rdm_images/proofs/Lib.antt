@@ -1,0 +1,9 @@
+pub mod Parts
+pub mod Rising
+pub mod Texts
+pub mod Holding
+pub mod Newest
+pub mod Writing
+pub mod Finding
+pub mod Altering
+pub mod Erasing

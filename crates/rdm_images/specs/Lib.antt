@@ -1,0 +1,4 @@
+pub mod ImageText
+pub mod Reading
+pub mod Areas
+pub mod Laws

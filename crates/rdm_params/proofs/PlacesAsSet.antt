@@ -1,0 +1,127 @@
+-- What a SET would make of the values, placing the same data makes of them.
+use Rattle.std.proofs.Common.{◌≡◌, ℕ, ◌-◌, ◌==◌, ◌&&◌, not, Bool, true, false, cond, List, [], ◌∷◌, map, Option, Some, None, Result, Ok, Err, refl, sym, ap, subst, ◌∙◌}
+use Rattle.std.specs.Prelude.{slice_get, option_to_list, is_some, is_ok}
+use Rattle.std.specs.List.{list_all}
+use Rattle.std.specs.Option.{option_map_or}
+use Rattle.std.proofs.lemmas.Bool.{ne_eqb}
+use Rattle.rdm_params.specs.declared.kind.Verb.TheVariants.{Get, Set}
+use Rattle.rdm_params.specs.declared.nack.Nack.{Nack}
+use Rattle.rdm_params.specs.declared.nack.Nack.TheVariants.{DataOutOfRange, SubDeviceOutOfRange}
+use Rattle.rdm_params.specs.declared.placing.PlaceError.{PlaceError}
+use Rattle.rdm_params.specs.declared.placing.PlaceError.TheVariants.{NoDevice, NoValue, OutOfRange}
+use Rattle.rdm_params.specs.declared.jobs.ask.Ask.{Ask}
+use Rattle.rdm_params.specs.declared.jobs.way.Way.{Way}
+use Rattle.rdm_params.specs.declared.jobs.way.Way.TheVariants.{AtOnce, ByJob, FromQueue, FromStatus, Clears}
+use Rattle.rdm_params.specs.declared.jobs.work.Work.{Work}
+use Rattle.rdm_params.specs.declared.verdict.Verdict.TheVariants.{Reply}
+use Rattle.rdm_device.specs.declared.value.Value.{Value}
+use Rattle.rdm_params.specs.Commands.Commands.{command_of, accepted, after_set, answer_to_set, answered, verdict, carried_out, addressed, is_some_device, is_all_call, root_spot, sub_spot, known, taken, after_accepted, check, ◌>>=◌}
+use Rattle.rdm_params.specs.Commands.Placing.{device, has_set, value_refusal, place_refusal, after_value, after_place}
+use Rattle.rdm_device.specs.Device.Parameters.{Parameters}
+use Rattle.rdm_device.specs.Device.Spot.{Spot}
+use Rattle.rdm_params.specs.Laws.{PlacesAsSet}
+use Rattle.rdm_params.specs.Table.Rows.{row_of}
+use Rattle.rdm_params.specs.Table.Uses.{access, read, is_by_job, is_slow, way_of, in_range_of, keeps}
+use Rattle.rdm_params.proofs.Bools.{both_true}
+
+-- ---- what an accepted SET says
+
+abbrev ok : Value → Result Value Nack
+ok v = Ok v
+
+ok_is : (a b : Value) → ok a ≡ ok b → a ≡ b
+ok_is a b e = cc
+
+-- the steps of acceptance, each of which was passed
+record Passed (here within : Bool) (access : Result (Unit {0}) Nack) : Type 0 where
+  some : here ≡ true
+  allowed : is_ok access ≡ true
+  within_range : within ≡ true
+
+passed_at : (here : Bool) (access : Result (Unit {0}) Nack) (within fits : Bool) (v w : Value) → ((check here SubDeviceOutOfRange >>= (λ u. access)) >>= (λ u. (check within DataOutOfRange >>= (λ u. check fits SubDeviceOutOfRange)) >>= (λ u. ok v))) ≡ ok w → Passed here within access × (v ≡ w)
+passed_at false access within fits v w e = absurd cc
+passed_at true (Err nack) within fits v w e = absurd cc
+passed_at true (Ok u) false fits v w e = absurd cc
+passed_at true (Ok u) true false v w e = absurd cc
+passed_at true (Ok u) true true v w e = (record { some = refl; allowed = refl; within_range = refl }, ok_is v w e)
+
+head_all : (f : Spot → Bool) (spots : List Spot) → is_some_device spots ≡ true → list_all f spots ≡ true → option_map_or f (slice_get spots 0) false ≡ true
+head_all f [] some all = absurd cc
+head_all f (s ∷ spots) some all = (both_true (f s) (list_all f spots) all).0
+
+-- ---- the answer tells that it was accepted
+
+no_reply : (way : Way) (body : List ℕ) (job : Work) (ask : Ask) (reply : List ℕ) → answered way body job ask ≡ Reply reply → is_by_job way ≡ false
+no_reply AtOnce body job ask reply e = refl
+no_reply (ByJob worker estimate) body job ask reply e = absurd cc
+no_reply FromQueue body job ask reply e = refl
+no_reply FromStatus body job ask reply e = refl
+no_reply Clears body job ask reply e = refl
+
+-- ---- the device
+
+device_is : (p : Parameters) (sub : ℕ) → (sub == 0xFFFF) ≡ false → device p sub ≡ slice_get (addressed p sub Set) 0
+device_is p sub e =
+    ap (λ (all : Bool). cond all None (slice_get (addressed p sub Get) 0)) e
+    ∙ ap (λ (all : Bool). slice_get (cond (sub == 0) (root_spot p ∷ []) (cond all (map (sub_spot p) p.subs) (map (sub_spot p) (option_to_list (slice_get p.subs (sub - 1)))))) 0) (sym e)
+
+-- ---- placing
+
+none_refused : (some has kept : Bool) (x y : Option PlaceError) → some ≡ true → has ≡ true → kept ≡ true → x ≡ None → cond (not some) (Some NoDevice) (cond (not has) (Some NoValue) (cond kept x y)) ≡ None
+none_refused false has kept x y e f g h = absurd cc
+none_refused true false kept x y e f g h = absurd cc
+none_refused true true false x y e f g h = absurd cc
+none_refused true true true x y e f g h = h
+
+value_fits : (p : Parameters) (sub pid : ℕ) (r : Result Value Nack) (w : Value) → r ≡ ok w → option_map_or (λ spot. in_range_of (command_of pid Set) spot w) (device p sub) false ≡ true → value_refusal p sub pid r ≡ None
+value_fits p sub pid r w e fits =
+    ap (value_refusal p sub pid) e ∙ ap (λ (within : Bool). cond within None (Some OutOfRange)) fits
+
+after_is : (p new other : Parameters) (refusal : Option PlaceError) (kept : Bool) → refusal ≡ None → kept ≡ true → cond (is_some refusal) p (cond kept new other) ≡ new
+after_is p new other refusal kept e f =
+    ap (λ (o : Option PlaceError). cond (is_some o) p (cond kept new other)) e ∙ ap (λ (k : Bool). cond k new other) f
+
+-- ---- together
+
+err_is_no_value : (known : Result (Unit {0}) Nack) (nack : Nack) (w : Value) → (known >>= (λ u. Err nack)) ≡ ok w → ⊥
+err_is_no_value (Err other) nack w e = cc
+err_is_no_value (Ok u) nack w e = cc
+
+-- what a SET says that is accepted with this value
+record Says (p : Parameters) (sub pid : ℕ) (read' : Result Value Nack) (w : Value) : Type 0 where
+  read_is : read' ≡ ok w
+  some : is_some_device (addressed p sub Set) ≡ true
+  allowed : is_ok (access (row_of pid) (sub == 0) Set) ≡ true
+  within : list_all (λ spot. in_range_of (command_of pid Set) spot w) (addressed p sub Set) ≡ true
+
+says : (p : Parameters) (sub pid : ℕ) (r : Result Value Nack) (w : Value) → (known p sub pid Set >>= (λ u. r >>= (λ value. taken p sub pid Set value))) ≡ ok w → Says p sub pid r w
+says p sub pid (Err nack) w e = absurd (err_is_no_value (known p sub pid Set) nack w e)
+says p sub pid (Ok v) w e =
+    let passed = passed_at (is_some_device (addressed p sub Set)) (access (row_of pid) (sub == 0) Set) (list_all (λ spot. in_range_of (command_of pid Set) spot v) (addressed p sub Set)) (not (is_all_call sub Set && is_slow (command_of pid Set))) v w e in
+    record {
+      read_is = ap ok passed.1;
+      some = passed.0.some;
+      allowed = passed.0.allowed;
+      within = subst (λ (x : Value). list_all (λ spot. in_range_of (command_of pid Set) spot x) (addressed p sub Set) ≡ true) passed.1 passed.0.within_range;
+    }
+
+placed_as : (p : Parameters) (sub pid : ℕ) (bytes : List ℕ) (w : Value) → (sub == 0xFFFF) ≡ false → keeps (command_of pid Set) ≡ true → is_slow (command_of pid Set) ≡ false → Says p sub pid (read (command_of pid Set) bytes) w → (place_refusal p sub pid bytes ≡ None) × (after_place p sub pid bytes ≡ after_accepted p sub pid (ok w))
+unfolding after_place place_refusal
+placed_as p sub pid bytes w apart kept quick is =
+    let device_at = device_is p sub apart in
+    let c = command_of pid Set in
+    let there : is_some (device p sub) ≡ true = ap is_some device_at ∙ is.some in
+    let fits : option_map_or (λ spot. in_range_of c spot w) (device p sub) false ≡ true = ap (λ (o : Option Spot). option_map_or (λ spot. in_range_of c spot w) o false) device_at ∙ head_all (λ spot. in_range_of c spot w) (addressed p sub Set) is.some is.within in
+    let none : place_refusal p sub pid bytes ≡ None = none_refused (is_some (device p sub)) (has_set sub pid) (keeps c) _ _ there is.allowed kept (value_fits p sub pid (read c bytes) w is.read_is fits) in
+    (none, after_is p (after_value p sub pid (read c bytes)) _ (place_refusal p sub pid bytes) (keeps c) none kept ∙ ap (after_value p sub pid) is.read_is ∙ ap (λ (slow : Bool). cond slow p (carried_out p sub c w)) (sym quick))
+
+of_accepted : (p : Parameters) (sub pid : ℕ) (bytes reply : List ℕ) (r : Result Value Nack) → accepted p sub pid Set bytes ≡ r → (sub == 0xFFFF) ≡ false → keeps (command_of pid Set) ≡ true → verdict (after_accepted p sub pid r) sub pid Set r ≡ Reply reply → (place_refusal p sub pid bytes ≡ None) × (after_place p sub pid bytes ≡ after_accepted p sub pid r)
+unfolding accepted
+of_accepted p sub pid bytes reply (Err nack) e apart kept told = absurd cc
+of_accepted p sub pid bytes reply (Ok w) e apart kept told =
+    placed_as p sub pid bytes w apart kept (no_reply (way_of (command_of pid Set)) _ _ _ reply told) (says p sub pid (read (command_of pid Set) bytes) w e)
+
+pub places_as_set : PlacesAsSet
+unfolding after_set answer_to_set
+places_as_set p sub pid bytes reply apart kept told =
+    of_accepted p sub pid bytes reply (accepted p sub pid Set bytes) refl (ne_eqb sub 0xFFFF apart) kept told

@@ -1,0 +1,13 @@
+use Rattle.std.proofs.Common.{ap, ◌∙◌, min, List}
+use Rattle.rdm_device.specs.declared.device.state.CommonValues.{CommonValues}
+use Rattle.rdm_device.specs.Device.Parameters.{Parameters}
+use Rattle.rdm_saved.specs.SavedText.{kept}
+use Rattle.rdm_saved.specs.Restoring.{saved_len}
+use Rattle.rdm_params.proofs.commands.Devices.saved_len.Goals as goal
+
+pub returns : goal.returns
+returns c =
+    let inside = c.self.inside in
+    c.saved_len.ensures inside.profile.value inside.root
+    ∙ ap (λ (subs : List CommonValues). min (saved_len (kept inside.profile.value inside.root inside.own subs)) 18446744073709551615) c.as_slice.ensures.value
+    ∙ ap (λ (p : Parameters). min (saved_len p) 18446744073709551615) c.self.view_is

@@ -1,0 +1,125 @@
+//! Values that the firmware of a fixture places.
+
+ghost use Rattle.std.specs.Prelude.{◌≡◌, OnOk, OnErr, false, length};
+ghost use Rattle.std.specs.Result.{result_err};
+ghost use Rattle.std.specs.Option.{option_map_or};
+ghost use Rattle.rdm_params.specs.declared.kind.Verb.TheVariants.{Get, Set};
+ghost use Rattle.rdm_device.specs.declared.value.Value.TheVariants.{Byte};
+ghost use Rattle.rdm_params.specs.Commands.Commands.{command_of, root_spot};
+ghost use Rattle.rdm_params.specs.Commands.Placing.{device, place_refusal, after_place, value_refusal, after_value, sensor_refusal};
+ghost use Rattle.rdm_params.specs.Table.Kinds.{pid_of};
+ghost use Rattle.rdm_params.specs.Table.Uses.{read, in_range_of};
+ghost use Rattle.rdm_device.specs.Device.Map.{update};
+ghost use Rattle.rdm_device.specs.Device.Measuring.{placed_by};
+
+use super::Devices;
+use crate::table::find::find;
+use crate::table::keep::keeps_data;
+use crate::table::read::read_argument;
+use crate::table::within::is_in_range;
+use crate::{Kind, PlaceError, Verb};
+use rdm_device::{Argument, Place, place_measured};
+use rdm_frame::standard::SUB_DEVICE_ALL_CALL;
+
+/// How many slots say what a sensor shows: its number, and four values (E1.20 section 10.7.2).
+const SENSOR_SLOTS: usize = 9;
+
+impl Devices {
+    /// Makes a stored value at the root, or at one sub-device, what a SET of it would make it: at once, with no message,
+    /// and for a slow SET too. What a sensor shows is placed by the 9 slots with which SENSOR_VALUE replies: the number,
+    /// then the present, the lowest, the highest and the recorded value (E1.20 section 10.7.2).
+    ///
+    /// It is `NoDevice` if there is no such sub-device, else `NoValue` if the device stores no value of this parameter,
+    /// else `Length` if the data have another length than the value, and else `OutOfRange` if the SET would be out of
+    /// range, or there is no such sensor. Then nothing changes.
+    #[tactic(auto, unfolding(crate::specs::Commands::Placing::place_refusal, crate::specs::Commands::Placing::after_place))]
+    pub fn place(&mut self, sub: u16, pid: u16, data: &[u8]) -> Result<(), PlaceError>
+        ensures refused { result_err result ≡ place_refusal self.old sub pid data.now }
+        ensures after { self.new ≡ after_place self.old sub pid data.now }
+        ensures same { OnErr result (self.new ≡ self.old) }
+    {
+        if self.device(sub).is_none() {
+            return Err(PlaceError::NoDevice);
+        }
+        let Ok(found) = find(pid, sub == 0, Verb::Set) else {
+            return Err(PlaceError::NoValue);
+        };
+        if keeps_data(found.kind) {
+            self.place_value(sub, found.kind, data)
+        } else if pid == Kind::SensorValue.pid() {
+            self.place_sensor(data)
+        } else {
+            Err(PlaceError::NoValue)
+        }
+    }
+
+    /// The device of this number, if there is one.
+    fn device(&self, sub: u16) -> Option<Place<'_>>
+        ensures { result ≡ device self.now sub }
+    {
+        if sub == SUB_DEVICE_ALL_CALL {
+            None
+        } else {
+            self.first_place(sub, Verb::Get)
+        }
+    }
+
+    /// Carries out a SET at one device, if its data have the length and the value is in range.
+    fn place_value(&mut self, sub: u16, kind: Kind, data: &[u8]) -> Result<(), PlaceError>
+        ensures refused { result_err result ≡ value_refusal self.old sub (pid_of kind) (read (command_of (pid_of kind) Set) data.now) }
+        ensures after { OnOk result (self.new ≡ after_value self.old sub (pid_of kind) (read (command_of (pid_of kind) Set) data.now)) }
+        ensures same { OnErr result (self.new ≡ self.old) }
+    {
+        let Ok(value) = read_argument(kind, Verb::Set, data) else {
+            return Err(PlaceError::Length);
+        };
+        if !self.takes_at(sub, kind, &value) {
+            return Err(PlaceError::OutOfRange);
+        }
+        self.carry_out(sub, kind, &value);
+        Ok(())
+    }
+
+    /// Whether there is a device of this number at which a SET of the value would be in range.
+    fn takes_at(&self, sub: u16, kind: Kind, value: &Argument<'_>) -> bool
+        ensures { result ≡ option_map_or (λ spot. in_range_of (command_of (pid_of kind) Set) spot value.now) (device self.now sub) false }
+    {
+        match self.device(sub) {
+            Some(place) => is_in_range(kind, Verb::Set, &place, value),
+            None => false,
+        }
+    }
+
+    /// Makes these slots what a sensor shows, if they are as many as it has and there is the sensor.
+    fn place_sensor(&mut self, data: &[u8]) -> Result<(), PlaceError>
+        ensures refused { result_err result ≡ sensor_refusal self.old data.now }
+        ensures after { OnOk result (self.new ≡ record self.old { root = update (placed_by data.now) self.old.root }) }
+        ensures same { OnErr result (self.new ≡ self.old) }
+    {
+        if data.len() != SENSOR_SLOTS {
+            return Err(PlaceError::Length);
+        }
+        if !self.has_sensor(data[0]) {
+            return Err(PlaceError::OutOfRange);
+        }
+        self.show(data);
+        Ok(())
+    }
+
+    /// Makes the last eight of these slots what the sensor shows that the first one names.
+    #[tactic(auto, using(rdm_device::proofs::SensorReads::root_placed))]
+    fn show(&mut self, slots: &[u8])
+        requires { length slots.now ≡ 9 }
+        ensures { self.new ≡ record self.old { root = update (placed_by slots.now) self.old.root } }
+    {
+        place_measured(&mut self.own, slots);
+    }
+
+    /// Whether the root has a sensor of this number.
+    fn has_sensor(&self, number: u8) -> bool
+        ensures { result ≡ in_range_of (command_of 0x0201 Get) (root_spot self.now) (Byte number) }
+    {
+        let number = Argument::from_byte(number);
+        is_in_range(Kind::SensorValue, Verb::Get, &self.root_place(), &number)
+    }
+}

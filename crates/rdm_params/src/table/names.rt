@@ -1,0 +1,79 @@
+//! The names of the standard's parameters, whether or not a responder here has them (ANSI E1.20-2010, table A-3).
+
+ghost use Rattle.std.specs.Prelude.{◌≡◌, option_map};
+ghost use Rattle.rdm_params.specs.Table.Names.{named_in, name_in, other_names, pid_named};
+
+use crate::Kind;
+use rdm_frame::standard::{
+    CAPTURE_PRESET, COMMS_STATUS, DISC_MUTE, DISC_UN_MUTE, DISC_UNIQUE_BRANCH,
+    PARAMETER_DESCRIPTION, PRODUCT_DETAIL_ID_LIST, PROXIED_DEVICE_COUNT, PROXIED_DEVICES,
+    REAL_TIME_CLOCK, RESET_DEVICE,
+};
+
+/// The parameters that no responder here has, a row each: the PID and the name.
+macro_rules! other_rows {
+    ($use:ident!($argument:ident)) => {
+        $use! {
+            ($argument)
+            (DISC_UNIQUE_BRANCH "DISC_UNIQUE_BRANCH")
+            (DISC_MUTE "DISC_MUTE")
+            (DISC_UN_MUTE "DISC_UN_MUTE")
+            (PROXIED_DEVICES "PROXIED_DEVICES")
+            (PROXIED_DEVICE_COUNT "PROXIED_DEVICE_COUNT")
+            (COMMS_STATUS "COMMS_STATUS")
+            (PARAMETER_DESCRIPTION "PARAMETER_DESCRIPTION")
+            (PRODUCT_DETAIL_ID_LIST "PRODUCT_DETAIL_ID_LIST")
+            (REAL_TIME_CLOCK "REAL_TIME_CLOCK")
+            (RESET_DEVICE "RESET_DEVICE")
+            (CAPTURE_PRESET "CAPTURE_PRESET")
+        }
+    };
+}
+
+macro_rules! pid_of_name {
+    (($name:ident) $(($pid:ident $text:literal))*) => {{
+        $(
+            if $name == $text.as_bytes() {
+                return Some($pid);
+            }
+        )*
+        None
+    }};
+}
+
+macro_rules! name_of_pid {
+    (($pid:ident) $(($number:ident $text:literal))*) => {{
+        $(
+            if $pid == $number {
+                return Some($text);
+            }
+        )*
+        None
+    }};
+}
+
+/// The PID of the parameter with this name in the standard, such as `DMX_START_ADDRESS` or `DISC_MUTE`, or `None` if the
+/// standard has none: the text is compared byte for byte.
+#[tactic(auto, unfolding(crate::specs::Table::Names::pid_named))]
+pub fn pid_named(name: &[u8]) -> Option<u16>
+    ensures { result ≡ pid_named name.now }
+{
+    match Kind::named(name) {
+        Some(kind) => Some(kind.pid()),
+        None => other_named(name),
+    }
+}
+
+/// The PID of a parameter that no responder here has.
+fn other_named(name: &[u8]) -> Option<u16>
+    ensures { result ≡ named_in other_names name.now }
+{
+    other_rows!(pid_of_name!(name))
+}
+
+/// The name of a parameter that no responder here has, or `None` if it is another one: `Kind::name` has those of the table.
+pub fn other_name(pid: u16) -> Option<&'static str>
+    ensures { option_map (λ text. text.now) result ≡ name_in other_names pid }
+{
+    other_rows!(name_of_pid!(pid))
+}

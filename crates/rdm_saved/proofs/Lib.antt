@@ -1,0 +1,10 @@
+pub mod Sensors
+pub mod Sizes
+pub mod Parts
+pub mod Lists
+pub mod Restored
+pub mod Back
+pub mod Refusing
+pub mod Whole
+pub mod SameDevices
+pub mod Writing

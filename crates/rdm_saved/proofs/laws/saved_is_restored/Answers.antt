@@ -1,0 +1,6 @@
+use Rattle.rdm_saved.proofs.Back.{values_back}
+use Rattle.rdm_saved.proofs.Refusing.{saved_accepted}
+use Rattle.rdm_saved.proofs.laws.saved_is_restored.Goals as goal
+
+pub returns : goal.returns
+returns c = λ now saved root subs make. (saved_accepted now saved root subs make, values_back now saved root subs make)

@@ -1,0 +1,84 @@
+-- What holds of every image.
+use Rattle.std.specs.Prelude.{◌≡◌, ◌≢◌, ℕ, ◌<◌, ◌==◌, List, [], ◌∷◌, ◌++◌, length, take, drop, slice_index, slice_set, Some, None, if◌then◌else◌}
+use Rattle.rdm_saved.specs.declared.errors.RestoreError.TheVariants.{Length, Altered}
+use Rattle.rdm_device.specs.declared.profile.Profile.{Profile}
+use Rattle.rdm_device.specs.declared.device.state.CommonValues.{CommonValues}
+use Rattle.rdm_device.specs.declared.device.state.RootValues.{RootValues}
+use Rattle.rdm_device.specs.Device.Map.{Entry, entry}
+use Rattle.rdm_device.specs.Device.Parameters.{Parameters}
+use Rattle.rdm_saved.specs.SavedText.{is_of_the_moment, kept, lasting, saved_text}
+use Rattle.rdm_saved.specs.Restoring.{size, restored, restore_refusal}
+
+-- What is saved of each value of a device has the size of its PID: a label has at most 32 bytes, a number those of its type.
+abbrev pub IsWhole : List Entry → Type 0
+IsWhole [] = Unit {0}
+IsWhole (e ∷ es) = (length (lasting e) ≡ size e.pid) × IsWhole es
+
+abbrev pub AreWhole : List (List Entry) → Type 0
+AreWhole [] = Unit {0}
+AreWhole (d ∷ ds) = IsWhole d × AreWhole ds
+
+-- Two devices have values of the same PIDs, in the same order.
+abbrev pub HaveSamePids : List Entry → List Entry → Type 0
+HaveSamePids [] [] = Unit {0}
+HaveSamePids [] (s ∷ ss) = ⊥
+HaveSamePids (e ∷ es) [] = ⊥
+HaveSamePids (e ∷ es) (s ∷ ss) = (e.pid ≡ s.pid) × HaveSamePids es ss
+
+abbrev pub AllHaveSamePids : List (List Entry) → List (List Entry) → Type 0
+AllHaveSamePids [] [] = Unit {0}
+AllHaveSamePids [] (s ∷ ss) = ⊥
+AllHaveSamePids (d ∷ ds) [] = ⊥
+AllHaveSamePids (d ∷ ds) (s ∷ ss) = HaveSamePids d s × AllHaveSamePids ds ss
+
+-- Both are values of the same devices: of one profile, with as many sensors and sub-devices.
+pub record AreOfOneMake (now saved : Parameters) : Type 0 where
+  pub profile : now.profile ≡ saved.profile
+  pub root : HaveSamePids now.root saved.root
+  pub subs : AllHaveSamePids now.subs saved.subs
+
+-- The value that is saved takes the place of that of now, but for the moment's, and those that a sensor has measured.
+abbrev pub taken_value : Entry → Entry → List ℕ
+taken_value now saved =
+    if is_of_the_moment now.pid then now.bytes
+    else if now.pid == 0x0201 then take 6 now.bytes ++ drop 6 saved.bytes else saved.bytes
+
+abbrev pub taken_device : List Entry → List Entry → List Entry
+taken_device [] saved = []
+taken_device (e ∷ es) [] = e ∷ es
+taken_device (e ∷ es) (s ∷ ss) = entry e.pid e.index (taken_value e s) ∷ taken_device es ss
+
+abbrev pub taken_devices : List (List Entry) → List (List Entry) → List (List Entry)
+taken_devices [] saved = []
+taken_devices (d ∷ ds) [] = d ∷ ds
+taken_devices (d ∷ ds) (s ∷ ss) = taken_device d s ∷ taken_devices ds ss
+
+-- the values of now, with those that last as they were saved
+abbrev pub taken : Parameters → Parameters → Parameters
+taken now saved = record now { root = taken_device now.root saved.root; subs = taken_devices now.subs saved.subs }
+
+-- So are values of one profile with as many sensors and sub-devices.
+abbrev pub SameDevicesAreOfOneMake : Type 0
+SameDevicesAreOfOneMake =
+    (p : Profile) (root root' : CommonValues) (own own' : RootValues) (subs subs' : List CommonValues)
+    → length own.sensors.items ≡ length own'.sensors.items → length subs ≡ length subs'
+    → AreOfOneMake (kept p root own subs) (kept p root' own' subs')
+
+-- What is saved is restored: on any values of the same devices.
+abbrev pub SavedIsRestored : Type 0
+SavedIsRestored =
+    (now saved : Parameters) → IsWhole saved.root → AreWhole saved.subs → AreOfOneMake now saved
+    → (restore_refusal now (saved_text saved) ≡ None) × (restored now (saved_text saved) ≡ taken now saved)
+
+-- An image that is cut anywhere is refused.
+abbrev pub CutIsRefused : Type 0
+CutIsRefused =
+    (p : Parameters) (image : List ℕ) (n : ℕ) → restore_refusal p image ≡ None → n < length image
+    → restore_refusal p (take n image) ≡ Some Length
+
+-- An image in which one byte is another is refused.
+abbrev pub AlteredIsRefused : Type 0
+AlteredIsRefused =
+    (p : Parameters) (image : List ℕ) (i byte : ℕ) → restore_refusal p image ≡ None → i < length image
+    → slice_index image i < 256 → byte < 256 → byte ≢ slice_index image i
+    → restore_refusal p (slice_set image i byte) ≡ Some Altered

@@ -1,0 +1,3 @@
+pub mod SavedText
+pub mod Restoring
+pub mod Laws

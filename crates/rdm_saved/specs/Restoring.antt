@@ -1,0 +1,69 @@
+-- What values are restored from an image, and which images are refused.
+use Rattle.std.specs.Prelude.{ℕ, ◌+◌, ◌-◌, ◌==◌, Bool, List, [], ◌∷◌, ◌++◌, length, take, drop, slice_index, bytes_eq, not, Option, Some, None, if◌then◌else◌}
+use Rattle.std.specs.List.{list_any}
+use Rattle.rdm_saved.specs.declared.errors.RestoreError.{RestoreError}
+use Rattle.rdm_saved.specs.declared.errors.RestoreError.TheVariants.{Length, Altered, OfAnother}
+use Rattle.rdm_device.specs.Device.Map.{Entry, entry}
+use Rattle.rdm_device.specs.Device.Parameters.{Parameters}
+use Rattle.rdm_saved.specs.SavedText.{is_of_the_moment, profile_text, sum_text}
+
+-- how many bytes are saved of the value of a PID
+abbrev pub size : ℕ → ℕ
+size pid =
+    if is_of_the_moment pid then 0
+    else if pid == 0x0082 then 33
+    else if list_any (λ word. pid == word) (0x00B0 ∷ 0x00F0 ∷ 0x0201 ∷ []) then 2
+    else if list_any (λ long. pid == long) (0x0400 ∷ 0x0401 ∷ 0x0402 ∷ 0x0405 ∷ []) then 4 else 1
+
+abbrev pub device_size : List Entry → ℕ
+device_size [] = 0
+device_size (e ∷ es) = size e.pid + device_size es
+
+abbrev pub devices_size : List (List Entry) → ℕ
+devices_size [] = 0
+devices_size (d ∷ ds) = device_size d + devices_size ds
+
+-- The value after these bytes, which were saved of it, are restored: a value of the moment stays, and so do the present,
+-- the lowest and the highest value of a sensor.
+abbrev pub restored_value : Entry → List ℕ → List ℕ
+restored_value e bytes =
+    if is_of_the_moment e.pid then e.bytes
+    else if e.pid == 0x0201 then take 6 e.bytes ++ bytes
+    else if e.pid == 0x0082 then take (slice_index bytes 0) (drop 1 bytes) else bytes
+
+-- the values of a device, each restored from its bytes, which stand in the same order
+abbrev pub restored_device : List Entry → List ℕ → List Entry
+restored_device [] bytes = []
+restored_device (e ∷ es) bytes =
+    entry e.pid e.index (restored_value e (take (size e.pid) bytes)) ∷ restored_device es (drop (size e.pid) bytes)
+
+abbrev pub restored_devices : List (List Entry) → List ℕ → List (List Entry)
+restored_devices [] bytes = []
+restored_devices (d ∷ ds) bytes = restored_device d bytes ∷ restored_devices ds (drop (device_size d) bytes)
+
+-- the bytes that say the profile
+abbrev pub profile_size : ℕ
+profile_size = 17
+
+-- how many bytes the image of these values has
+abbrev pub saved_len : Parameters → ℕ
+saved_len p = profile_size + device_size p.root + devices_size p.subs + 4
+
+-- The values after an image of them is restored.
+unfoldable pub restored : Parameters → List ℕ → Parameters
+restored p image = record p {
+  root = restored_device p.root (drop profile_size image);
+  subs = restored_devices p.subs (drop (profile_size + device_size p.root) image);
+}
+
+-- whether the last four bytes are the sum of the others
+abbrev pub is_sound : List ℕ → Bool
+is_sound image = bytes_eq (drop (length image - 4) image) (sum_text (take (length image - 4) image))
+
+-- Why an image is refused, by the first reason: it has another length than one of these values; its sum is wrong; it is
+-- of another profile.
+unfoldable pub restore_refusal : Parameters → List ℕ → Option RestoreError
+restore_refusal p image =
+    if not (length image == saved_len p) then Some Length
+    else if not (is_sound image) then Some Altered
+    else if not (bytes_eq (take profile_size image) (profile_text p.profile)) then Some OfAnother else None

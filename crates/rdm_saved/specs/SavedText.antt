@@ -1,0 +1,61 @@
+-- Which values of devices outlive power-off, and what image they are saved as.
+use Rattle.std.specs.Prelude.{ℕ, ◌-◌, ◌%◌, ◌^◌, ◌==◌, Bool, List, [], ◌∷◌, ◌++◌, length, drop, replicate, flat_map, map, sum, if◌then◌else◌}
+use Rattle.std.specs.List.{list_any}
+use Rattle.rdm_device.specs.declared.profile.Profile.{Profile}
+use Rattle.rdm_device.specs.declared.profile.Unit.{Unit as DeviceUnit}
+use Rattle.rdm_device.specs.Device.Map.{Entry}
+use Rattle.rdm_device.specs.Device.Parameters.{Parameters}
+use Rattle.rdm_device.specs.declared.device.state.CommonValues.{CommonValues}
+use Rattle.rdm_device.specs.declared.device.state.RootValues.{RootValues}
+use Rattle.rdm_device.specs.Views.State.{common_entries, own_entries}
+use Rattle.rdm_device.specs.Device.Values.{word_slots, long_slots}
+
+-- The values of the moment, which power-off ends: LAMP_STATE, IDENTIFY_DEVICE, POWER_STATE, PERFORM_SELFTEST and
+-- PRESET_PLAYBACK. Sections 10.8.4 and 10.11.
+abbrev pub is_of_the_moment : ℕ → Bool
+is_of_the_moment pid = list_any (λ m. pid == m) (0x0403 ∷ 0x1000 ∷ 0x1010 ∷ 0x1020 ∷ 0x1031 ∷ [])
+
+-- a label: how many bytes it has, and 32 bytes that begin with them
+abbrev pub label_text : List ℕ → List ℕ
+label_text label = length label ∷ label ++ replicate (32 - length label) 0
+
+-- What is saved of a value: of a sensor the recorded value, behind the present, the lowest and the highest one; of the
+-- others the bytes, but for those of the moment.
+abbrev pub lasting : Entry → List ℕ
+lasting e =
+    if is_of_the_moment e.pid then []
+    else if e.pid == 0x0201 then drop 6 e.bytes
+    else if e.pid == 0x0082 then label_text e.bytes else e.bytes
+
+-- what is saved of a device, in the order of its values
+abbrev pub device_text : List Entry → List ℕ
+device_text entries = flat_map lasting entries
+
+-- the model, the software version and how many personalities there are
+abbrev pub unit_text : DeviceUnit → List ℕ
+unit_text u = word_slots u.model ++ long_slots u.software ++ length u.personalities.items ∷ []
+
+-- What an image says of the profile, so that one of another profile is told: how many sub-devices and sensors there are,
+-- and the two kinds of devices.
+abbrev pub profile_text : Profile → List ℕ
+profile_text p = word_slots p.subs ++ length p.sensors.items ∷ unit_text p.root ++ unit_text p.sub
+
+-- the sum of bytes, in four
+abbrev pub sum_text : List ℕ → List ℕ
+sum_text bytes = long_slots (sum bytes % 2 ^ 32)
+
+-- the profile, the root, and the sub-devices in their order
+abbrev pub values_text : Parameters → List ℕ
+values_text p = profile_text p.profile ++ device_text p.root ++ flat_map device_text p.subs
+
+-- The image of the values.
+unfoldable pub saved_text : Parameters → List ℕ
+saved_text p = values_text p ++ sum_text (values_text p)
+
+-- the values of a root device, and of sub-devices
+abbrev pub kept : Profile → CommonValues → RootValues → List CommonValues → Parameters
+kept profile root own subs = record {
+  profile = profile;
+  root = common_entries root ++ own_entries own;
+  subs = map common_entries subs;
+}

@@ -1,0 +1,189 @@
+//! All values, as one image.
+
+ghost use Rattle.std.specs.Prelude.{◌≡◌, ◌≤◌, ◌==◌, ◌+◌, ◌*◌, ◌++◌, min, nat_le, bytes_eq, map, length, take, drop, OnOk, OnErr, IfOk, Some, None, if◌then◌else◌};
+ghost use Rattle.std.specs.Result.{result_err};
+ghost use Rattle.rdm_saved.specs.declared.errors.SaveError.TheVariants.{Short};
+ghost use Rattle.rdm_saved.specs.SavedText.{kept, profile_text, saved_text, values_text};
+ghost use Rattle.rdm_saved.specs.Restoring.{saved_len, restored, restored_device, restored_devices, restore_refusal, is_sound};
+ghost use Rattle.rdm_saved.specs.Laws.{IsWhole, AreWhole};
+ghost use Rattle.rdm_device.specs.Views.State.{common_entries, own_entries};
+
+use crate::restoring::{restore_common, restore_each, restore_own};
+use crate::saving::{
+    COMMON_BYTES, OWN_BYTES, PROFILE_BYTES, own_text, profile_text, save_common, save_each,
+    save_sensors, sum_of,
+};
+use crate::{RestoreError, SaveError};
+use rdm_device::{CommonValues, Profile, RootValues};
+
+/// How many bytes the sum has.
+const SUM_BYTES: usize = 4;
+
+/// How many bytes `save_into` writes, or `usize::MAX` if they are more.
+#[tactic(auto, using(crate::proofs::Sizes::len_is))]
+pub fn saved_len(own: &RootValues, subs: &[CommonValues]) -> usize
+    ensures { (profile : Profile) → (root : CommonValues)
+        → result ≡ min (saved_len (kept profile root own.now subs.now)) usize.MAX }
+{
+    COMMON_BYTES
+        .saturating_mul(subs.len())
+        .saturating_add(fixed_len(own))
+}
+
+/// Writes the image of the values to the front of these bytes, and tells how many it has.
+///
+/// It is `Short` if there are fewer bytes, and then nothing is written.
+#[tactic(auto, unfolding(crate::specs::SavedText::saved_text), using(crate::proofs::Sizes::len_is))]
+pub fn save_into(
+    profile: &Profile,
+    root: &CommonValues,
+    own: &RootValues,
+    subs: &[CommonValues],
+    image: &mut [u8],
+) -> Result<usize, SaveError>
+    ensures written { IfOk result (λ n. (n ≡ saved_len (kept profile.now root.now own.now subs.now))
+        × (image.new ≡ saved_text (kept profile.now root.now own.now subs.now) ++ drop n image.old)) }
+    // Of its image the law of `saved_is_restored` speaks.
+    ensures whole { IfOk result (λ n. IsWhole (common_entries root.now ++ own_entries own.now) × AreWhole (map common_entries subs.now)) }
+    ensures refused { result_err result
+        ≡ (if nat_le (saved_len (kept profile.now root.now own.now subs.now)) (length image.old) then None else Some Short) }
+    ensures same { OnErr result (image.new ≡ image.old) }
+{
+    let fixed = fixed_len(own);
+    if image.len() < fixed || subs.len() > (image.len() - fixed) / COMMON_BYTES {
+        return Err(SaveError::Short);
+    }
+    let len = fixed + COMMON_BYTES * subs.len();
+    let (front, _) = image.split_at_mut(len);
+    write_image(profile, root, own, subs, front);
+    Ok(len)
+}
+
+/// Restores the values from an image of such values. Those of the moment stay as they are.
+///
+/// An image is refused as `RestoreError` says, and then nothing changes.
+#[tactic(auto, unfolding(crate::specs::Restoring::restored, crate::specs::Restoring::restore_refusal), using(crate::proofs::Sizes::len_is, crate::proofs::Restored::other_length))]
+pub fn restore(
+    profile: &Profile,
+    root: &mut CommonValues,
+    own: &mut RootValues,
+    subs: &mut [CommonValues],
+    image: &[u8],
+) -> Result<(), RestoreError>
+    ensures refused { result_err result ≡ restore_refusal (kept profile.now root.old own.old subs.old) image.now }
+    ensures after { OnOk result (kept profile.now root.new own.new subs.new
+        ≡ restored (kept profile.now root.old own.old subs.old) image.now) }
+    ensures same { OnErr result (kept profile.now root.new own.new subs.new ≡ kept profile.now root.old own.old subs.old) }
+{
+    if !is_length(own, subs, image.len()) {
+        return Err(RestoreError::Length);
+    }
+    if !is_sound(image) {
+        return Err(RestoreError::Altered);
+    }
+    if !is_of(profile, image) {
+        return Err(RestoreError::OfAnother);
+    }
+    let (_, values) = image.split_at(PROFILE_BYTES);
+    restore_parts(root, own, subs, values);
+    Ok(())
+}
+
+/// Restores the values from the bytes behind those that say the profile.
+#[tactic(auto, unfolding(crate::specs::Restoring::restored))]
+fn restore_parts(
+    root: &mut CommonValues,
+    own: &mut RootValues,
+    subs: &mut [CommonValues],
+    bytes: &[u8],
+)
+    requires { length bytes.now ≡ 65 + 2 * length own.old.sensors.items + 46 * length subs.old }
+    ensures root { common_entries root.new ++ own_entries own.new
+        ≡ restored_device (common_entries root.old ++ own_entries own.old) bytes.now }
+    ensures subs { map common_entries subs.new
+        ≡ restored_devices (map common_entries subs.old) (drop (61 + 2 * length own.old.sensors.items) bytes.now) }
+{
+    let (common, rest) = bytes.split_at(COMMON_BYTES);
+    let (beside, rest) = rest.split_at(OWN_BYTES + 2 * own.sensors.len());
+    let (each, _) = rest.split_at(COMMON_BYTES * subs.len());
+    restore_common(root, common);
+    restore_own(own, beside);
+    restore_each(subs, each);
+}
+
+/// Whether the bytes that say the profile say this one.
+fn is_of(profile: &Profile, image: &[u8]) -> bool
+    requires { 17 ≤ length image.now }
+    ensures { result ≡ bytes_eq (take 17 image.now) (profile_text profile.now) }
+{
+    let (front, _) = image.split_at(PROFILE_BYTES);
+    front == profile_text(profile).as_slice()
+}
+
+/// Whether the last four bytes are the sum of the others.
+fn is_sound(image: &[u8]) -> bool
+    requires { 4 ≤ length image.now }
+    ensures { result ≡ is_sound image.now }
+{
+    let (values, sum) = image.split_at(image.len() - SUM_BYTES);
+    sum == sum_of(values).to_be_bytes().as_slice()
+}
+
+/// Whether an image of such values has so many bytes.
+fn is_length(own: &RootValues, subs: &[CommonValues], len: usize) -> bool
+    ensures { result ≡ (len == 82 + 2 * length own.now.sensors.items + 46 * length subs.now) }
+{
+    let fixed = fixed_len(own);
+    len >= fixed
+        && subs.len() <= (len - fixed) / COMMON_BYTES
+        && len - fixed == COMMON_BYTES * subs.len()
+}
+
+/// How many bytes an image has without sub-devices.
+fn fixed_len(own: &RootValues) -> usize
+    ensures { result ≡ 82 + 2 * length own.now.sensors.items }
+{
+    PROFILE_BYTES + COMMON_BYTES + OWN_BYTES + 2 * own.sensors.len() + SUM_BYTES
+}
+
+/// Writes an image.
+#[tactic(auto, unfolding(crate::specs::SavedText::saved_text))]
+fn write_image(
+    profile: &Profile,
+    root: &CommonValues,
+    own: &RootValues,
+    subs: &[CommonValues],
+    out: &mut [u8],
+)
+    requires { length out.old ≡ 82 + 2 * length own.now.sensors.items + 46 * length subs.now }
+    ensures text { out.new ≡ saved_text (kept profile.now root.now own.now subs.now) }
+    ensures whole { IsWhole (common_entries root.now ++ own_entries own.now) × AreWhole (map common_entries subs.now) }
+{
+    let (values, sum) = out.split_at_mut(out.len() - SUM_BYTES);
+    write_values(profile, root, own, subs, values);
+    sum.copy_from_slice(&sum_of(values).to_be_bytes());
+}
+
+/// Writes all but the sum.
+#[tactic(auto, using(crate::proofs::Whole::root_whole))]
+fn write_values(
+    profile: &Profile,
+    root: &CommonValues,
+    own: &RootValues,
+    subs: &[CommonValues],
+    out: &mut [u8],
+)
+    requires { length out.old ≡ 78 + 2 * length own.now.sensors.items + 46 * length subs.now }
+    ensures text { out.new ≡ values_text (kept profile.now root.now own.now subs.now) }
+    ensures whole { IsWhole (common_entries root.now ++ own_entries own.now) × AreWhole (map common_entries subs.now) }
+{
+    let (front, rest) = out.split_at_mut(PROFILE_BYTES);
+    let (common, rest) = rest.split_at_mut(COMMON_BYTES);
+    let (beside, rest) = rest.split_at_mut(OWN_BYTES);
+    let (sensors, each) = rest.split_at_mut(2 * own.sensors.len());
+    front.copy_from_slice(&profile_text(profile));
+    save_common(root, common);
+    beside.copy_from_slice(&own_text(own));
+    save_sensors(own.sensors.as_slice(), sensors);
+    save_each(subs, each);
+}

@@ -1,0 +1,223 @@
+//! What no clause says: that the definitions say what is meant. The images are worked out by hand.
+
+use rdm_device::{CommonValues, Profile, RootValues};
+use rdm_frame::Text;
+use rdm_saved::{RestoreError, SaveError, restore, save_into};
+
+/// The image of a demonstration fixture with one sub-device as it starts: what it is of, the root, the values of the root alone, two
+/// sensors, the sub-device, and 1655, the sum of all of them.
+const AT_START: [u8; 132] = [
+    0x00, 0x01, 0x02, 0x00, 0x11, 0x00, 0x00, 0x01, 0x00, 0x02, 0x00, 0x12, 0x00, 0x00, 0x01, 0x00,
+    0x01, 0x02, 0x07, 0x46, 0x69, 0x78, 0x74, 0x75, 0x72, 0x65, 0x00, 0x00, 0x00, 0x00, 0x00, 0x00,
+    0x00, 0x00, 0x00, 0x00, 0x00, 0x00, 0x00, 0x00, 0x00, 0x00, 0x00, 0x00, 0x00, 0x00, 0x00, 0x00,
+    0x00, 0x00, 0x00, 0x01, 0x00, 0x01, 0x00, 0x00, 0x00, 0x00, 0x00, 0x00, 0x00, 0x00, 0x00, 0x65,
+    0x6E, 0x00, 0x00, 0x00, 0x00, 0x00, 0x00, 0x00, 0x00, 0x00, 0xFF, 0x00, 0x00, 0x00, 0x00, 0x00,
+    0x00, 0x00, 0x02, 0x04, 0x43, 0x65, 0x6C, 0x6C, 0x00, 0x00, 0x00, 0x00, 0x00, 0x00, 0x00, 0x00,
+    0x00, 0x00, 0x00, 0x00, 0x00, 0x00, 0x00, 0x00, 0x00, 0x00, 0x00, 0x00, 0x00, 0x00, 0x00, 0x00,
+    0x00, 0x00, 0x00, 0x00, 0x01, 0x00, 0x01, 0x00, 0x00, 0x00, 0x00, 0x00, 0x00, 0x00, 0x00, 0x00,
+    0x00, 0x00, 0x06, 0x77,
+];
+
+/// The image of the values of `changed`. Its sum is 2646.
+const CHANGED: [u8; 132] = [
+    0x00, 0x01, 0x02, 0x00, 0x11, 0x00, 0x00, 0x01, 0x00, 0x02, 0x00, 0x12, 0x00, 0x00, 0x01, 0x00,
+    0x01, 0x04, 0x04, 0x4C, 0x65, 0x66, 0x74, 0x00, 0x00, 0x00, 0x00, 0x00, 0x00, 0x00, 0x00, 0x00,
+    0x00, 0x00, 0x00, 0x00, 0x00, 0x00, 0x00, 0x00, 0x00, 0x00, 0x00, 0x00, 0x00, 0x00, 0x00, 0x00,
+    0x00, 0x00, 0x00, 0x02, 0x01, 0x23, 0x01, 0x02, 0x03, 0x04, 0x05, 0x06, 0x07, 0x08, 0x03, 0x64,
+    0x65, 0x11, 0x12, 0x13, 0x14, 0x21, 0x22, 0x23, 0x24, 0x02, 0x7F, 0x01, 0x01, 0x01, 0xFF, 0xFE,
+    0x01, 0x2C, 0x00, 0x00, 0x00, 0x00, 0x00, 0x00, 0x00, 0x00, 0x00, 0x00, 0x00, 0x00, 0x00, 0x00,
+    0x00, 0x00, 0x00, 0x00, 0x00, 0x00, 0x00, 0x00, 0x00, 0x00, 0x00, 0x00, 0x00, 0x00, 0x00, 0x00,
+    0x00, 0x00, 0x00, 0x00, 0x01, 0x02, 0x00, 0xFF, 0xFF, 0xFF, 0xFF, 0x00, 0x00, 0x00, 0x00, 0x01,
+    0x00, 0x00, 0x0A, 0x56,
+];
+
+/// A root device and its sub-device.
+#[derive(Drop)]
+struct Fixture {
+    profile: Profile,
+    root: CommonValues,
+    own: RootValues,
+    subs: [CommonValues; 1],
+}
+
+impl Fixture {
+    fn at_start(profile: Profile) -> Fixture {
+        Fixture {
+            root: CommonValues::at_start(&profile.root),
+            own: RootValues::at_start(&profile),
+            subs: [CommonValues::at_start(&profile.sub)],
+            profile,
+        }
+    }
+
+    fn save_into(&self, image: &mut [u8]) -> Result<usize, SaveError> {
+        save_into(
+            &self.profile,
+            &self.root,
+            &self.own,
+            self.subs.as_slice(),
+            image,
+        )
+    }
+
+    fn restore(&mut self, image: &[u8]) -> Result<(), RestoreError> {
+        restore(
+            &self.profile,
+            &mut self.root,
+            &mut self.own,
+            self.subs.as_mut_slice(),
+            image,
+        )
+    }
+
+    /// The image of the values, in a buffer of its length.
+    fn image(&self) -> [u8; 132] {
+        let mut image = [0xEE; 132];
+        let _ = self.save_into(&mut image);
+        image
+    }
+}
+
+/// A fixture in which every value is another than at the start.
+fn changed() -> Fixture {
+    let mut fixture = Fixture::at_start(Profile::demo(1));
+    let root = &mut fixture.root;
+    root.report_threshold = 4;
+    root.label = Text::of(b"Left");
+    root.personality = 2;
+    root.start = 0x0123;
+    root.lamp_hours = 0x0102_0304;
+    root.lamp_strikes = 0x0506_0708;
+    root.lamp_state = 3;
+    root.lamp_on_mode = 3;
+    root.identify = 1;
+    root.power_state = 0;
+    let own = &mut fixture.own;
+    own.language = 0x6465;
+    own.device_hours = 0x1112_1314;
+    own.power_cycles = 0x2122_2324;
+    own.display_invert = 2;
+    own.display_level = 0x7F;
+    own.pan_invert = 1;
+    own.tilt_invert = 1;
+    own.pan_tilt_swap = 1;
+    own.self_test = 1;
+    own.preset = (2, 3);
+    if let Some(sensor) = own.sensors.as_mut_slice().get_mut(0) {
+        sensor.present = 5;
+        sensor.lowest = -7;
+        sensor.highest = 9;
+        sensor.recorded = -2;
+    }
+    if let Some(sensor) = own.sensors.as_mut_slice().get_mut(1) {
+        sensor.recorded = 300;
+    }
+    let sub = &mut fixture.subs[0];
+    sub.report_threshold = 0;
+    sub.label = Text::of(b"");
+    sub.start = 512;
+    sub.lamp_hours = 0xFFFF_FFFF;
+    sub.lamp_on_mode = 1;
+    sub.identify = 1;
+    fixture
+}
+
+#[test]
+fn images_are_those_worked_out(rt: HostRuntime) {
+    assert_eq!(rt;
+        Fixture::at_start(Profile::demo(1)).image().as_slice(),
+        AT_START.as_slice()
+    );
+    assert_eq!(rt; changed().image().as_slice(), CHANGED.as_slice());
+}
+
+#[test]
+fn an_image_stands_in_front(rt: HostRuntime) {
+    let fixture = changed();
+    let mut longer = [0xEE; 140];
+    assert_eq!(rt; fixture.save_into(&mut longer), Ok(132));
+    let mut wanted = [0xEE; 140];
+    for (place, byte) in wanted.iter_mut().zip(CHANGED) {
+        *place = byte;
+    }
+    assert_eq!(rt; longer.as_slice(), wanted.as_slice());
+    let mut shorter = [0xEE; 131];
+    assert_eq!(rt; fixture.save_into(&mut shorter), Err(SaveError::Short));
+    assert_eq!(rt; shorter.as_slice(), [0xEE; 131].as_slice());
+}
+
+#[test]
+fn saved_values_are_restored(rt: HostRuntime) {
+    let mut fixture = Fixture::at_start(Profile::demo(1));
+    assert_eq!(rt; fixture.restore(&CHANGED), Ok(()));
+    assert_eq!(rt; fixture.image().as_slice(), CHANGED.as_slice());
+    assert_eq!(rt; fixture.root.label.as_slice(), b"Left".as_slice());
+    assert_eq!(rt; fixture.root.start, 0x0123);
+    assert_eq!(rt; fixture.own.power_cycles, 0x2122_2324);
+    assert_eq!(rt;
+        fixture.own.sensors.first().map(|sensor| sensor.recorded),
+        Some(-2)
+    );
+    assert_eq!(rt; fixture.subs[0].label.as_slice(), b"".as_slice());
+    assert_eq!(rt; fixture.subs[0].start, 512);
+}
+
+#[test]
+fn values_of_the_moment_stay(rt: HostRuntime) {
+    let mut fixture = changed();
+    assert_eq!(rt; fixture.restore(&AT_START), Ok(()));
+    assert_eq!(rt; fixture.image().as_slice(), AT_START.as_slice());
+    assert_eq!(rt; fixture.root.lamp_state, 3);
+    assert_eq!(rt; fixture.root.identify, 1);
+    assert_eq!(rt; fixture.root.power_state, 0);
+    assert_eq!(rt; fixture.own.self_test, 1);
+    assert_eq!(rt; fixture.own.preset, (2, 3));
+    let sensor = fixture.own.sensors.first();
+    assert_eq!(rt;
+        sensor.map(|sensor| (sensor.present, sensor.lowest, sensor.highest)),
+        Some((5, -7, 9))
+    );
+    assert_eq!(rt; fixture.subs[0].identify, 1);
+}
+
+#[test]
+fn each_cut_and_each_altered_byte_is_refused(rt: HostRuntime) {
+    let mut fixture = Fixture::at_start(Profile::demo(1));
+    for i in 0..CHANGED.len() {
+        assert_eq!(rt;
+            fixture.restore(&CHANGED[..i]),
+            Err(RestoreError::Length),
+            "{i}"
+        );
+        let mut altered = CHANGED;
+        altered[i] ^= 0x80;
+        assert_eq!(rt;
+            fixture.restore(&altered),
+            Err(RestoreError::Altered),
+            "{i}"
+        );
+    }
+    assert_eq!(rt; fixture.image().as_slice(), AT_START.as_slice());
+}
+
+#[test]
+fn images_of_other_profiles_are_refused(rt: HostRuntime) {
+    // The model and the software version of the root, those of the sub-device, and how many sub-devices the profile says.
+    for (model, software, sub_model, sub_software, subs) in [
+        (0x0013, 0x0000_0100, 0x0012, 0x0000_0100, 1),
+        (0x0011, 0x0000_0101, 0x0012, 0x0000_0100, 1),
+        (0x0011, 0x0000_0100, 0x0013, 0x0000_0100, 1),
+        (0x0011, 0x0000_0100, 0x0012, 0x0000_0101, 1),
+        (0x0011, 0x0000_0100, 0x0012, 0x0000_0100, 2),
+    ] {
+        let mut profile = Profile::demo(subs);
+        profile.root.model = model;
+        profile.root.software = software;
+        profile.sub.model = sub_model;
+        profile.sub.software = sub_software;
+        let mut fixture = Fixture::at_start(profile);
+        let before = fixture.image();
+        assert_eq!(rt; fixture.restore(&CHANGED), Err(RestoreError::OfAnother));
+        assert_eq!(rt; fixture.image().as_slice(), before.as_slice());
+    }
+}

@@ -1,0 +1,23 @@
+use Rattle.std.proofs.Common.{List, sym, subst}
+use Rattle.rdm_outbox.specs.declared.job.Job.{Job}
+use Rattle.rdm_outcomes.specs.Outcomes.{HasEnded}
+use Rattle.rdm_responder.specs.History.{History, Restored, then_event}
+use Rattle.rdm_responder.specs.StandsFor.{StandsFor}
+use Rattle.rdm_widget.specs.LiveFixtures.{Situation, IsIn, after_restore}
+use Rattle.rdm_widget.proofs.Reports.{reported-restored}
+use Rattle.rdm_widget.proofs.Turns.{on_ok}
+use Rattle.rdm_widget.proofs.live_fixture.LiveFixture.restore.Goals as goal
+
+pub returns-clause-fixture : goal.returns-clause-fixture
+returns-clause-fixture c =
+    on_ok c.restore.result
+    ((h : History) → StandsFor c.args.self.now.responder h → StandsFor c.restore.new.self (then_event h (Restored c.args.image.now)))
+    ((s : Situation) → IsIn c.args.self.now s → IsIn (record c.args.self.now { responder = c.restore.new.self }) (after_restore s c.args.image.now))
+    c.restore.ensures.stands
+    (λ stands s is. record {
+      responder = stands s.history is.responder;
+      planned =
+          subst (λ (l : List Job). HasEnded c.args.self.now.planned s.rules l) (sym (reported-restored s.history.events c.args.image.now)) is.planned;
+      first = is.first;
+      second = is.second;
+    })
