@@ -24,25 +24,32 @@ fn place_all(rt: &impl Abort, responder: &mut Responder, start: u8, cycles: &[u8
     assert_eq!(rt; responder.place(0, 0x0082, &[0x46, 0x4F, 0x48]), Ok(()));
 }
 
+/// A list that is too short stays as it was, and of one that is longer the rest does.
+#[test]
+fn an_image_has_its_length(rt: HostRuntime) -> Result<(), Fail> {
+    let responder = responder_with(rt.alloc(), 1, 1)?;
+    assert_eq!(rt; responder.saved_len(), IMAGE);
+    let mut short = [0xEE; IMAGE - 1];
+    assert_eq!(rt; responder.save_into(&mut short), Err(SaveError::Short));
+    assert_eq!(rt; short, [0xEE; IMAGE - 1]);
+    let mut long = [0xEE; IMAGE + 1];
+    assert_eq!(rt; responder.save_into(&mut long), Ok(IMAGE));
+    assert_eq!(rt; long[IMAGE], 0xEE);
+    Ok(())
+}
+
 /// The values that last are back, with one more power cycle; what identifies itself goes on, and what waits stays.
 #[test]
 fn what_was_saved_is_restored(rt: HostRuntime) -> Result<(), Fail> {
-    let mut image = [0xEE; IMAGE + 1];
+    let mut image = [0; IMAGE];
     let mut saved = responder_with(rt.alloc(), 1, 1)?;
-    assert_eq!(rt; saved.saved_len(), IMAGE);
     place_all(&rt, &mut saved, 101, &[0, 0, 0, 41]);
-    assert_eq!(rt;
-        saved.save_into(&mut image[..IMAGE - 1]),
-        Err(SaveError::Short)
-    );
-    assert_eq!(rt; image, [0xEE; IMAGE + 1]);
     assert_eq!(rt; saved.save_into(&mut image), Ok(IMAGE));
-    assert_eq!(rt; image[IMAGE], 0xEE);
     let mut restored = responder_with(rt.alloc(), 1, 1)?;
     let identify = request(DEVICE, 0, SET, 0x1000, &[1])?;
     assert!(rt; restored.step(identify.as_slice()).0.is_some());
     assert!(rt; restored.change(rdm_params::Change::Personality(2)).is_ok());
-    assert_eq!(rt; restored.restore(&image[..IMAGE]), Ok(()));
+    assert_eq!(rt; restored.restore(&image), Ok(()));
     shows(&rt, &restored, 0x00F0, &[0, 101]);
     shows(&rt, &restored, 0x0405, &[0, 0, 0, 42]);
     shows(&rt, &restored, 0x0082, &[0x46, 0x4F, 0x48]);
