@@ -52,7 +52,6 @@ pub(crate) fn all_in_range<'a>(
 
 /// Carries out a SET at every sub-device, and says whether that changed a value of one.
 // A call, so that the other commands don't make room for its loop.
-#[cold]
 #[inline(never)]
 pub(crate) fn store_each(
     kind: Kind,
@@ -73,6 +72,8 @@ pub(crate) fn store_each(
 }
 
 /// Carries out a SET at one sub-device, if there is one at this place, and says whether that changed a value.
+// Inlined, since a SET of all sub-devices would make a call for each.
+#[inline(always)]
 pub(crate) fn store_at(
     kind: Kind,
     value: &Argument<'_>,

@@ -77,6 +77,8 @@ macro_rules! write_own {
 }
 
 /// Writes what a SET writes of the values that every device keeps, and says whether that changed one.
+// Inlined, since a call would save and restore the registers of a SET, and of each sub-device in a SET of all.
+#[inline(always)]
 #[tactic(auto, unfolding(crate::specs::Table::Rows::row_of, crate::specs::Table::Rows::table, rdm_device::specs::Views::State::common_entries))]
 pub(crate) fn store_common(
     kind: Kind,
