@@ -10,9 +10,7 @@ static uint8_t exchange(felosumay_collector *console, const uint8_t *request, si
     while (heard == FELOSUMAY_IGNORED && (count = line_receive(answer)) != 0)
         felosumay_collector_hear(console, answer, count, &heard);
     felosumay_collector_over(console);
-    if (felosumay_reply_read(answer, count, reply) != FELOSUMAY_DONE)
-        heard = FELOSUMAY_IGNORED;
-    return heard;
+    return felosumay_reply_read(answer, count, reply) == FELOSUMAY_DONE ? heard : (uint8_t)FELOSUMAY_IGNORED;
 }
 
 int main(void) {
