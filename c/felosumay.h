@@ -1,16 +1,27 @@
 /* Felosumay: a responder, a collector and discovery for Remote Device Management (ANSI E1.20-2010).
  *
  * A handle starts as {0}. It belongs to the library from then on: never copy it, and never look behind its pointer or write
- * it. Pointers must be valid, even if a length is 0, and no two of one call may overlap. Each handle may be in one call at a
- * time, on any thread, so a mutex may hand a handle from thread to thread. These are the only preconditions: all else is
- * tested, and the result says so. If a call isn't DONE, what stands behind its other pointers has no meaning, unless the call
- * says more.
+ * it. Pointers must be valid, and no two of one call may overlap; the bytes that a call reads or writes may be NULL if their
+ * length is 0. Each handle may be in one call at a time, on any thread, so a mutex may hand a handle from thread to thread;
+ * that holds of a const handle too, which holds the same after the call as before. These are the only preconditions: all else
+ * is tested, and the result says so. If a call isn't DONE, what stands behind its other pointers has no meaning, unless the
+ * call says more.
  *
+ * Words of the trade and the calls: a device receives bytes by `step`, and a job is done by `arrive`; a controller receives bytes
+ * by `hear`, and `over` is its timeout.
+ *
+ * felosumay_names.h has the numbers of the standard by name. felosumay.hpp has the same library for C++.
  * The library runs on x86-64 processors of the level x86-64-v2, which have SSE4.2. */
 #ifndef FELOSUMAY_H
 #define FELOSUMAY_H
 #include <stddef.h>
 #include <stdint.h>
+
+/* The version of this header. felosumay_version() tells that of the library. */
+#define FELOSUMAY_VERSION "0.1.0"
+#define FELOSUMAY_VERSION_MAJOR 0
+#define FELOSUMAY_VERSION_MINOR 1
+#define FELOSUMAY_VERSION_PATCH 0
 
 #ifdef __cplusplus
 extern "C" {
@@ -46,7 +57,8 @@ enum {
     FELOSUMAY_SHORT_IMAGE = 20,  /* there is no room for the image */
     FELOSUMAY_IMAGE_LENGTH = 21, /* the image has another length than one of these values: it is cut, or of other devices */
     FELOSUMAY_ALTERED_IMAGE = 22, /* the image is altered, or it is none */
-    FELOSUMAY_FOREIGN_IMAGE = 23  /* the image is of another profile */
+    FELOSUMAY_FOREIGN_IMAGE = 23, /* the image is of another profile */
+    FELOSUMAY_NO_REPLY = 24       /* the bytes aren't a response */
 };
 
 enum {
@@ -60,8 +72,8 @@ enum { FELOSUMAY_DISCOVERY = 0x10, FELOSUMAY_GET = 0x20, FELOSUMAY_SET = 0x30 };
 /* ---- what a responder is made with: a count that is greater than its array stands for the whole array */
 
 typedef struct {
-    uint8_t count;
-    uint8_t bytes[32];
+    uint8_t count;     /* how many bytes the text has: 0 to 32 */
+    uint8_t bytes[32]; /* any bytes, as a rule ASCII; those behind the text have no meaning */
 } felosumay_text;
 
 /* felosumay_text name = FELOSUMAY_TEXT("Moving head"); at most 31 letters */
@@ -72,74 +84,86 @@ typedef struct {
     felosumay_text name;
 } felosumay_personality;
 
+/* What a DMX512 slot is for (E1.20 sections 10.6.4 to 10.6.6). */
 typedef struct {
-    uint16_t label;
-    uint8_t kind;
-    uint8_t value;
+    uint16_t label; /* of a primary slot its label, FELOSUMAY_SD_..; of a secondary one the slot that it belongs to, from 0 */
+    uint8_t kind;   /* the slot type, FELOSUMAY_ST_.. */
+    uint8_t value;  /* the DMX512 level if none is received: 0 to 255 */
     felosumay_text name;
 } felosumay_slot;
 
+/* What a sensor measures (sections 10.7.1 and 10.7.2). Its values are in `unit`, times what `prefix` stands for. */
 typedef struct {
-    int16_t low;
+    int16_t low; /* the least and the greatest value that it can give; nothing compares them with its readings */
     int16_t high;
-    int16_t normal_low;
+    int16_t normal_low; /* the least and the greatest value in normal use */
     int16_t normal_high;
-    uint8_t kind;
-    uint8_t unit;
-    uint8_t prefix;
-    uint8_t support;
+    uint8_t kind;    /* the sensor type, FELOSUMAY_SENS_.. */
+    uint8_t unit;    /* FELOSUMAY_UNITS_.. */
+    uint8_t prefix;  /* FELOSUMAY_PREFIX_.. */
+    uint8_t support; /* bit 0: values can be recorded; bit 1: the lowest and the highest are kept */
     felosumay_text name;
 } felosumay_sensor;
 
 typedef struct {
-    uint8_t number; /* neither 0 nor 255, and no two alike */
+    uint8_t number; /* 1 to 254, and no two alike */
     felosumay_text name;
 } felosumay_self_test;
 
 typedef struct {
-    uint16_t id; /* no two alike */
+    uint16_t id; /* the status ID: those of a manufacturer are 0x8000 to 0xFFDF; no two alike */
     felosumay_text text;
 } felosumay_status_text;
 
 typedef struct {
-    uint32_t software;
-    uint16_t model;
-    uint16_t category;
-    uint16_t start; /* the DMX512 start address: 1 to 512 */
+    uint32_t software; /* the software version ID: any number */
+    uint16_t model;    /* the model ID: any number of the maker's */
+    uint16_t category; /* FELOSUMAY_PRODUCT_CATEGORY_.. */
+    uint16_t start;    /* the DMX512 start address: 1 to 512 */
     felosumay_text model_text;
     felosumay_text maker_text;
-    felosumay_text label;
+    felosumay_text label; /* the label that it starts with */
     felosumay_text software_text;
-    uint8_t personality_count; /* at least 1 */
-    felosumay_personality personalities[8];
+    uint8_t personality_count;              /* 1 to 8 */
+    felosumay_personality personalities[8]; /* the first is number 1, and the one that it starts with */
 } felosumay_unit;
 
 typedef struct {
     felosumay_unit root;
-    felosumay_unit sub;
-    uint32_t boot;
-    uint16_t subs;    /* at most 512 */
-    uint16_t presets; /* below 65535 */
+    felosumay_unit sub; /* what each sub-device starts as */
+    uint32_t boot;      /* the boot software version ID: any number */
+    uint16_t subs;      /* how many sub-devices there are: 0 to 512 */
+    uint16_t presets;   /* how many presets (scenes) there are: 0 to 65534 */
     felosumay_text boot_text;
-    uint8_t language_count; /* at least 1 */
-    uint8_t slot_count;
-    uint8_t sensor_count;
-    uint8_t test_count;
-    uint8_t status_text_count;
-    uint16_t languages[8]; /* two letters each, the first in the upper byte */
+    uint8_t language_count;    /* 1 to 8 */
+    uint8_t slot_count;        /* 0 to 46 */
+    uint8_t sensor_count;      /* 0 to 8 */
+    uint8_t test_count;        /* 0 to 8 */
+    uint8_t status_text_count; /* 0 to 8 */
+    uint16_t languages[8];     /* ISO 639-1: two letters each, the first in the upper byte; it starts with the first language */
     felosumay_slot slots[46];
     felosumay_sensor sensors[8];
     felosumay_self_test tests[8];
     felosumay_status_text status_texts[8];
 } felosumay_profile;
 
-/* BAD_PROFILE says that one of these rules is broken, and not which:
- *   subs is at most 512, and presets below 65535;
- *   root and sub have at least one personality each, and a start address of 1 to 512, even if there are no sub-devices;
- *   the footprint of each personality of the root is at most slot_count, and so at most 46; of sub at most 512;
- *   there is a language;
- *   the number of each self test is 1 to 254, and no two have the same;
- *   no two status texts have the same ID. */
+/* The rules of a profile, in the order in which they are tested. BAD_PROFILE says that one of them is broken. */
+enum {
+    FELOSUMAY_NO_FAULT = 0,            /* none is */
+    FELOSUMAY_FAULT_SUB_DEVICES = 1,   /* subs is at most 512 */
+    FELOSUMAY_FAULT_PRESETS = 2,       /* presets is below 65535 */
+    FELOSUMAY_FAULT_PERSONALITIES = 3, /* root and sub have at least one personality each, even if there are no sub-devices */
+    FELOSUMAY_FAULT_START = 4,         /* the start address of root and of sub is 1 to 512, even if there are no sub-devices */
+    FELOSUMAY_FAULT_FOOTPRINT = 5,     /* the footprint of each personality of root is at most slot_count, and so at most 46 */
+    FELOSUMAY_FAULT_SUB_FOOTPRINT = 6, /* the footprint of each personality of sub is at most 512 */
+    FELOSUMAY_FAULT_LANGUAGES = 7,     /* there is a language */
+    FELOSUMAY_FAULT_TEST_NUMBER = 8,   /* the number of each self test is 1 to 254 */
+    FELOSUMAY_FAULT_TWIN_TESTS = 9,    /* no two self tests have the same number */
+    FELOSUMAY_FAULT_TWIN_TEXTS = 10    /* no two status texts have the same ID */
+};
+
+/* Which rule the profile breaks: the first of them, or NO_FAULT, and then `new` doesn't call it a BAD_PROFILE. */
+uint8_t felosumay_profile_fault(const felosumay_profile *profile);
 
 /* ---- the responder */
 
@@ -147,15 +171,15 @@ typedef struct {
 typedef struct {
     uint32_t number;   /* counts the jobs of its worker, from 0 in each new responder */
     uint16_t estimate; /* tenths of a second, as the controller was told */
-    uint16_t sub;      /* the sub-device, or 0 for the root */
+    uint16_t sub;      /* the sub-device, 1 to 512, or 0 for the root */
     uint16_t pid;
     uint8_t command_class; /* FELOSUMAY_GET or FELOSUMAY_SET */
-    uint8_t argument;
-    uint8_t worker; /* 0 or 1: each worker's jobs end in order */
+    uint8_t argument;      /* the byte of data: the state of the lamp or the power, the self test, or the sensor, from 0 */
+    uint8_t worker;        /* 0 or 1: each worker's jobs end in order */
 } felosumay_job;
 
 typedef struct {
-    size_t count;    /* how many bytes the reply has */
+    size_t count;    /* how many bytes the reply has: at most 257 */
     uint8_t replied; /* 1 if there is a reply, else 0 */
     uint8_t started; /* 1 if a job started, else 0 */
     uint8_t changed; /* FELOSUMAY_NOTHING_CHANGED and so on */
@@ -175,8 +199,8 @@ enum {
 typedef struct {
     uint8_t kind;     /* FELOSUMAY_JOB_DONE and so on */
     uint8_t severity; /* if it failed, its status type: 0x02 advisory, 0x03 warning, 0x04 error; 0x12, 0x13, 0x14 when over */
-    int16_t reading;
-    uint16_t id;
+    int16_t reading; /* if it is a reading: what the sensor measures, in its unit and prefix */
+    uint16_t id;     /* if it failed: the status ID, and the two values that its text names, in the text's units, or 0 */
     uint16_t v1;
     uint16_t v2;
 } felosumay_outcome;
@@ -221,7 +245,7 @@ felosumay_result felosumay_responder_change_personality(felosumay_responder *res
 felosumay_result felosumay_responder_change_label(felosumay_responder *responder, const uint8_t *label, size_t length);
 
 /* Whether there is room for the message of a change: `there` is 1 then, else 0. ABSENT. */
-felosumay_result felosumay_responder_room(felosumay_responder *responder, uint8_t *there);
+felosumay_result felosumay_responder_room(const felosumay_responder *responder, uint8_t *there);
 
 /* The firmware sets a value of its own: of the root (`sub` 0) or of a sub-device, 1 to 512. It counts hours or strikes, or has
  * no room for the message of a change. The value becomes what a SET of it makes it,
@@ -241,8 +265,8 @@ felosumay_result felosumay_responder_place(felosumay_responder *responder, uint1
  * counts one more than was saved (E1.20 section 10.8.6). No message waits, and jobs, messages and status entries stay.
  * `saved_size`: ABSENT. `save`: ABSENT, SHORT_IMAGE; nothing is written then. `restore`: ABSENT, IMAGE_LENGTH, ALTERED_IMAGE,
  * FOREIGN_IMAGE, in this order; nothing changes then. */
-felosumay_result felosumay_responder_saved_size(felosumay_responder *responder, size_t *count);
-felosumay_result felosumay_responder_save(felosumay_responder *responder, uint8_t *image, size_t size, size_t *count);
+felosumay_result felosumay_responder_saved_size(const felosumay_responder *responder, size_t *count);
+felosumay_result felosumay_responder_save(const felosumay_responder *responder, uint8_t *image, size_t size, size_t *count);
 felosumay_result felosumay_responder_restore(felosumay_responder *responder, const uint8_t *image, size_t length);
 
 /* The firmware warns: it has a status entry of its own, such as a fan that stands still, of the root (`sub` 0) or of a
@@ -256,34 +280,66 @@ felosumay_result felosumay_responder_note(felosumay_responder *responder, uint16
 
 /* Reads a parameter as a GET would. ABSENT; REFUSED, with the code of the NACK in `reason`; NO_VALUE if the command starts
  * a job or fetches a message. Nothing changes. */
-felosumay_result felosumay_responder_get(felosumay_responder *responder, uint16_t sub, uint16_t pid, const uint8_t *argument,
+felosumay_result felosumay_responder_get(const felosumay_responder *responder, uint16_t sub, uint16_t pid, const uint8_t *argument,
                                          size_t length, uint8_t value[FELOSUMAY_VALUE_BYTES], size_t *count,
                                          uint16_t *reason);
 
 /* How many messages wait, and how many jobs are outstanding. ABSENT. */
-felosumay_result felosumay_responder_waiting(felosumay_responder *responder, size_t *count);
-felosumay_result felosumay_responder_outstanding(felosumay_responder *responder, size_t *count);
+felosumay_result felosumay_responder_waiting(const felosumay_responder *responder, size_t *count);
+felosumay_result felosumay_responder_outstanding(const felosumay_responder *responder, size_t *count);
 
-/* Gives up what the handle holds, if anything. The handle is {0} again. */
-void felosumay_responder_free(felosumay_responder *responder);
+/* Gives up what the handle holds, if anything. The handle is {0} again. `free` takes NULL too, and does nothing then. */
+void felosumay_responder_release(felosumay_responder *responder);
+static inline void felosumay_responder_free(felosumay_responder *responder) {
+    if (responder != NULL)
+        felosumay_responder_release(responder);
+}
 
 /* ---- the collector */
 
 typedef struct {
-    uint32_t device;
+    uint32_t device; /* the device ID and the manufacturer ID of the destination */
     uint16_t maker;
-    uint16_t sub;
-    uint16_t pid;
-    uint8_t command_class;
+    uint16_t sub;          /* the sub-device, 1 to 512, 0 for the root, or 0xFFFF for a SET of all sub-devices */
+    uint16_t pid;          /* FELOSUMAY_PID_.. */
+    uint8_t command_class; /* FELOSUMAY_GET, FELOSUMAY_SET or FELOSUMAY_DISCOVERY */
 } felosumay_command;
 
 typedef struct {
-    size_t count;
+    size_t count; /* how many bytes of data it has: 0 to 231 */
     uint16_t pid;
-    uint16_t sub;
-    uint8_t command_class;
+    uint16_t sub;          /* the sub-device, 1 to 512, or 0 for the root */
+    uint8_t command_class; /* that of the response: 0x21 of a GET, 0x31 of a SET */
     uint8_t bytes[FELOSUMAY_VALUE_BYTES];
 } felosumay_message;
+
+/* What a response says (E1.20 section 6.3). */
+typedef struct {
+    size_t count;    /* how many bytes of data it has: 0 to 231 */
+    uint32_t device; /* the device ID and the manufacturer ID of the device that answers */
+    uint16_t maker;
+    uint16_t sub; /* the sub-device, 1 to 512, or 0 for the root */
+    uint16_t pid;
+    uint16_t reason; /* of a NACK_REASON why the request is rejected, FELOSUMAY_NR_..; else 0 */
+    uint16_t tenths; /* of an ACK_TIMER in how many tenths of a second the result is there; else 0 */
+    uint8_t type;    /* FELOSUMAY_ACK and so on */
+    uint8_t command_class; /* that of the response: 0x11 of discovery, 0x21 of a GET, 0x31 of a SET */
+    uint8_t waiting;       /* how many messages wait in the device, at most 255: poll if there are any */
+    uint8_t bytes[FELOSUMAY_VALUE_BYTES];
+} felosumay_reply;
+
+/* Response types (table A-2). */
+enum {
+    FELOSUMAY_ACK = 0,         /* it was carried out */
+    FELOSUMAY_ACK_TIMER = 1,   /* the result comes later: poll for it when the time is over */
+    FELOSUMAY_NACK = 2,        /* it is rejected */
+    FELOSUMAY_ACK_OVERFLOW = 3 /* the data are a part: the same request fetches the next */
+};
+
+/* Reads a response. It takes no handle, and asks not whom the response is for: `felosumay_collector_hear` says whether it
+ * answers the open request. NO_REPLY if the bytes aren't a response: a frame of class 0x11, 0x21 or 0x31 with a response type of
+ * the table, in which ACK_TIMER and NACK_REASON have two bytes of data. Nothing is written then. */
+felosumay_result felosumay_reply_read(const uint8_t *bytes, size_t length, felosumay_reply *reply);
 
 /* What a collector takes bytes for. */
 enum { FELOSUMAY_IGNORED = 0, FELOSUMAY_MESSAGE = 1, FELOSUMAY_REPLY = 2 };
@@ -317,8 +373,12 @@ felosumay_result felosumay_collector_over(felosumay_collector *collector);
  * in this order. */
 felosumay_result felosumay_collector_next(felosumay_collector *collector, felosumay_message *message);
 
-/* Gives up what the handle holds, if anything. The handle is {0} again. */
-void felosumay_collector_free(felosumay_collector *collector);
+/* Gives up what the handle holds, if anything. The handle is {0} again. `free` takes NULL too, and does nothing then. */
+void felosumay_collector_release(felosumay_collector *collector);
+static inline void felosumay_collector_free(felosumay_collector *collector) {
+    if (collector != NULL)
+        felosumay_collector_release(collector);
+}
 
 /* ---- the search for the fixtures of a line */
 
@@ -340,7 +400,7 @@ felosumay_result felosumay_search_new(felosumay_search *search, uint16_t maker, 
 /* Tells what to send: the request stands at the front of `request`. Nothing changes: until `hear` each call tells the same.
  * ABSENT; NO_MORE if the search has ended, and each fixture was found; LIMIT if it hasn't and no transaction is left, since
  * the line sounds though nobody answers, or has more fixtures than the limit is for. */
-felosumay_result felosumay_search_next(felosumay_search *search, uint8_t request[FELOSUMAY_FRAME_BYTES], size_t *count);
+felosumay_result felosumay_search_next(const felosumay_search *search, uint8_t request[FELOSUMAY_FRAME_BYTES], size_t *count);
 
 /* Hears what came after the request that `next` told: all bytes of it, even if they aren't an answer, as after a collision; of
  * length 0 if nothing came. ABSENT; OUT_OF_MEMORY: the search stands where it stood then, and the same bytes can be heard
@@ -352,13 +412,58 @@ felosumay_result felosumay_search_hear(felosumay_search *search, const uint8_t *
 felosumay_result felosumay_search_resume(felosumay_search *search, uint32_t limit);
 
 /* How many fixtures were found so far. ABSENT. */
-felosumay_result felosumay_search_count(felosumay_search *search, size_t *count);
+felosumay_result felosumay_search_count(const felosumay_search *search, size_t *count);
 
 /* The fixture with this index, from 0, in the order in which they were found. ABSENT; NO_MORE if no more were found. */
-felosumay_result felosumay_search_found(felosumay_search *search, size_t index, felosumay_found *found);
+felosumay_result felosumay_search_found(const felosumay_search *search, size_t index, felosumay_found *found);
 
-/* Gives up what the handle holds, if anything. The handle is {0} again. */
-void felosumay_search_free(felosumay_search *search);
+/* Gives up what the handle holds, if anything. The handle is {0} again. `free` takes NULL too, and does nothing then. */
+void felosumay_search_release(felosumay_search *search);
+static inline void felosumay_search_free(felosumay_search *search) {
+    if (search != NULL)
+        felosumay_search_release(search);
+}
+
+/* ---- names and the version. They last as long as the program, and end with a NUL; what has no name is "unknown". The calls
+ * `felosumay_tell_..` are for languages without inline functions: `letters` points to any byte before them. */
+
+typedef struct {
+    const char *letters;
+    size_t count; /* how many bytes there are, with the NUL */
+} felosumay_name;
+
+void felosumay_tell_status(felosumay_result status, felosumay_name *name);
+void felosumay_tell_parameter(uint16_t pid, felosumay_name *name);
+void felosumay_tell_reason(uint16_t reason, felosumay_name *name);
+void felosumay_tell_version(felosumay_name *name);
+
+/* What a call answered, as "NO_ROOM". */
+static inline const char *felosumay_status_name(felosumay_result status) {
+    felosumay_name name = {"", 1};
+    felosumay_tell_status(status, &name);
+    return name.letters;
+}
+
+/* A parameter by its PID, as "DMX_START_ADDRESS" (table A-3). */
+static inline const char *felosumay_parameter_name(uint16_t pid) {
+    felosumay_name name = {"", 1};
+    felosumay_tell_parameter(pid, &name);
+    return name.letters;
+}
+
+/* The reason of a NACK, as "data out of range" (table A-17). */
+static inline const char *felosumay_reason_name(uint16_t reason) {
+    felosumay_name name = {"", 1};
+    felosumay_tell_reason(reason, &name);
+    return name.letters;
+}
+
+/* The version of the library, as FELOSUMAY_VERSION is that of the header. */
+static inline const char *felosumay_version(void) {
+    felosumay_name name = {"", 1};
+    felosumay_tell_version(&name);
+    return name.letters;
+}
 
 /* ---- the heap: what the library calls for memory. libfelosumay_heap.a has the three functions over malloc, realloc and free
  * (c/heap.c). A program that takes memory from a pool defines them itself, and doesn't link that library. An alignment is 1, 2,

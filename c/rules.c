@@ -19,9 +19,10 @@ static felosumay_profile *least(void) {
 static void expect(int rule, const char *what, felosumay_result wanted) {
     felosumay_responder responder = {0};
     felosumay_result status = felosumay_responder_new(&responder, 0x7FF0, 1, &profile, 1);
+    uint8_t fault = felosumay_profile_fault(&profile);
     felosumay_responder_free(&responder);
-    if (status != wanted) {
-        printf("rule %d, %s: status %u\n", rule, what, status);
+    if (status != wanted || fault != (wanted == FELOSUMAY_BAD_PROFILE ? rule : FELOSUMAY_NO_FAULT)) {
+        printf("rule %d, %s: status %u, fault %u\n", rule, what, status, fault);
         failed = 1;
     }
 }

@@ -25,3 +25,5 @@ SIZE_IS(felosumay_outcome, 10);
 SIZE_IS(felosumay_command, 12);
 SIZE_IS(felosumay_message, 248);
 SIZE_IS(felosumay_found, 16);
+SIZE_IS(felosumay_reply, 256);
+SIZE_IS(felosumay_name, 16);

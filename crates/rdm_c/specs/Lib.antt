@@ -8,3 +8,6 @@ pub mod Endpoints
 pub mod Messages
 pub mod SearchStates
 pub mod Searches
+pub mod Names
+pub mod Replies
+pub mod Faults

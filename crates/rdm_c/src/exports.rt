@@ -3,7 +3,10 @@
 pub(crate) mod change;
 pub(crate) mod collector;
 pub(crate) mod firmware;
+pub(crate) mod names;
+pub(crate) mod profile;
 pub(crate) mod reading;
+pub(crate) mod reply;
 pub(crate) mod responder;
 pub(crate) mod saving;
 pub(crate) mod search;

@@ -14,9 +14,11 @@ mod handle;
 mod job;
 mod keeping;
 mod message;
+mod names;
 mod outcome;
 mod profile;
 mod raw_box;
+mod reply;
 mod running_search;
 mod sizes;
 mod status;
@@ -26,32 +28,39 @@ pub use exports::change::{
     felosumay_responder_change_start,
 };
 pub use exports::collector::{
-    felosumay_collector_ask, felosumay_collector_free, felosumay_collector_hear,
-    felosumay_collector_new, felosumay_collector_next, felosumay_collector_over,
-    felosumay_collector_poll,
+    felosumay_collector_ask, felosumay_collector_hear, felosumay_collector_new,
+    felosumay_collector_next, felosumay_collector_over, felosumay_collector_poll,
+    felosumay_collector_release,
 };
 pub use exports::firmware::{felosumay_responder_note, felosumay_responder_place};
+pub use exports::names::{
+    felosumay_tell_parameter, felosumay_tell_reason, felosumay_tell_status, felosumay_tell_version,
+};
+pub use exports::profile::felosumay_profile_fault;
 pub use exports::reading::{
     felosumay_responder_get, felosumay_responder_outstanding, felosumay_responder_room,
     felosumay_responder_waiting,
 };
+pub use exports::reply::felosumay_reply_read;
 pub use exports::responder::{
-    felosumay_responder_arrive, felosumay_responder_demo, felosumay_responder_free,
-    felosumay_responder_new, felosumay_responder_new_with_entries, felosumay_responder_step,
+    felosumay_responder_arrive, felosumay_responder_demo, felosumay_responder_new,
+    felosumay_responder_new_with_entries, felosumay_responder_release, felosumay_responder_step,
 };
 pub use exports::saving::{
     felosumay_responder_restore, felosumay_responder_save, felosumay_responder_saved_size,
 };
 pub use exports::search::{
-    felosumay_search_count, felosumay_search_found, felosumay_search_free, felosumay_search_hear,
-    felosumay_search_new, felosumay_search_next, felosumay_search_resume,
+    felosumay_search_count, felosumay_search_found, felosumay_search_hear, felosumay_search_new,
+    felosumay_search_next, felosumay_search_release, felosumay_search_resume,
 };
 pub use found::FoundNumbers;
 pub use handle::Handle;
 pub use job::{JobNumbers, SteppedNumbers};
 pub use message::{CommandNumbers, MessageNumbers};
+pub use names::NameNumbers;
 pub use outcome::OutcomeNumbers;
 pub use profile::{
     PersonalityNumbers, ProfileNumbers, SelfTestNumbers, SensorNumbers, SlotNumbers,
     StatusTextNumbers, TextNumbers, UnitNumbers,
 };
+pub use reply::ReplyNumbers;

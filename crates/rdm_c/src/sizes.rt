@@ -4,11 +4,13 @@ use crate::found::FoundNumbers;
 use crate::handle::Handle;
 use crate::job::{JobNumbers, SteppedNumbers};
 use crate::message::{CommandNumbers, MessageNumbers};
+use crate::names::NameNumbers;
 use crate::outcome::OutcomeNumbers;
 use crate::profile::{
     PersonalityNumbers, ProfileNumbers, SelfTestNumbers, SensorNumbers, SlotNumbers,
     StatusTextNumbers, TextNumbers, UnitNumbers,
 };
+use crate::reply::ReplyNumbers;
 use std::mem::size_of;
 
 const _: () = prove!(size_of::<Handle>() == 8);
@@ -40,3 +42,7 @@ const _: () = prove!(size_of::<CommandNumbers>() == 12);
 const _: () = prove!(size_of::<MessageNumbers>() == 248);
 
 const _: () = prove!(size_of::<FoundNumbers>() == 16);
+
+const _: () = prove!(size_of::<NameNumbers>() == 16);
+
+const _: () = prove!(size_of::<ReplyNumbers>() == 256);

@@ -54,6 +54,8 @@ pub enum Status {
     AlteredImage,
     /// The image is of another profile.
     ForeignImage,
+    /// The bytes aren't a response.
+    NoReply,
 }
 
 impl Status {
@@ -86,6 +88,7 @@ impl Status {
             Status::ImageLength => 21,
             Status::AlteredImage => 22,
             Status::ForeignImage => 23,
+            Status::NoReply => 24,
         }
     }
 }

@@ -4,3 +4,4 @@ pub mod Collecting
 pub mod Hearing
 pub mod Recording
 pub mod Polling
+pub mod Replies

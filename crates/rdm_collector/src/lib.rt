@@ -4,6 +4,7 @@
 //! A `Collector` sends one request at a time. By `poll` it fetches the messages that wait in one device, and records them; by
 //! `ask` it sends the commands of its user; and `hear` says what it takes bytes for. It neither opens a port nor reads a
 //! clock: whoever has the port sends the bytes that it gives, hands it those that come, and calls `over` on a timeout.
+//! `read_reply` reads what a response says.
 //! `specs/Collecting.antt` says what each call does, `specs/Hearing.antt` what is taken for an answer, and
 //! `specs/Recording.antt` what the record then holds.
 #![tactic(auto)]
@@ -13,6 +14,7 @@ mod command;
 mod laws;
 mod message;
 mod ranges;
+mod reply;
 mod transaction;
 mod want;
 
@@ -22,10 +24,11 @@ pub use laws::{
     actions_are_equal_by_value, answers_are_taken, ask_errors_are_equal_by_value,
     commands_are_equal_by_value, heards_are_equal_by_value, joining_goes_from_the_front,
     poll_errors_are_equal_by_value, recording_laws_hold, recording_laws_rule_out,
-    wants_are_equal_by_value,
+    responses_are_equal_by_value, wants_are_equal_by_value,
 };
 pub use rdm_frame::standard::MOST_DATA;
 pub use rdm_frame::{Body, Load, Uid, Wire};
 pub use rdm_params::Message;
+pub use reply::{Reply, Response, read_reply};
 pub use transaction::Heard;
 pub use want::Want;

@@ -3,6 +3,7 @@
 //! The device is 7FF0:00000001, the controller 7FF0:00000002, and what it wants is advisory.
 
 mod readme;
+mod replies;
 mod words;
 
 use rdm_collector::{Action, Collector, Command, Load, Uid, Want};

@@ -1,4 +1,5 @@
 pub mod Demo
+pub mod Faults
 pub mod Map
 pub mod Measuring
 pub mod Parameters

@@ -2,7 +2,9 @@
 
 ghost use Rattle.std.specs.Prelude.{◌≡◌, ◌↔◌, IsTrue};
 
-use crate::{Personality, Profile, SelfTest, SensorDef, Slot, StatusText, Unit, Value};
+use crate::{
+    Personality, Profile, ProfileFault, SelfTest, SensorDef, Slot, StatusText, Unit, Value,
+};
 
 /// Two personalities are equal by `==` exactly when their footprints and their names are.
 pub fn personalities_are_equal_by_value()
@@ -53,3 +55,8 @@ pub fn values_are_equal_by_value()
 {
     sensor_defs_are_equal_by_value();
 }
+
+/// Two faults of profiles are equal by `==` exactly when they are the same.
+pub fn profile_faults_are_equal_by_value()
+    ensures { (a b : ProfileFault) → IsTrue (⟦<ProfileFault as PartialEq>⟧.eq a b) ↔ (a ≡ b) }
+{}

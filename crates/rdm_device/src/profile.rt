@@ -3,6 +3,7 @@
 mod blank;
 pub(crate) mod checks;
 mod demo;
+pub(crate) mod faults;
 mod making;
 
 ghost use Rattle.std.specs.Prelude.{◌≡◌};

@@ -1,9 +1,9 @@
 -- The values after one more power cycle.
-use Rattle.std.proofs.Common.{◌≡◌, ◌<◌, ◌+◌, ◌^◌, ℕ, List, ◌++◌, min, refl, ap, ◌∙◌, sym}
+use Rattle.std.proofs.Common.{◌≡◌, ◌<◌, ◌+◌, ◌^◌, ℕ, ◌++◌, min, refl, ap, ◌∙◌, sym}
 use Rattle.std.proofs.lemmas.Nat.{from_be_bytes-to_be_bytes_4}
 use Rattle.rdm_device.specs.declared.device.state.CommonValues.{CommonValues}
 use Rattle.rdm_device.specs.declared.device.state.RootValues.{RootValues}
-use Rattle.rdm_device.specs.Device.Map.{Entry, update}
+use Rattle.rdm_device.specs.Device.Map.{update}
 use Rattle.rdm_device.specs.Device.Values.{long_slots}
 use Rattle.rdm_device.specs.Views.State.{common_entries, own_entries}
 use Rattle.rdm_device.proofs.Sensors.{sensors_stay}

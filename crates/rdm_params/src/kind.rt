@@ -2,7 +2,7 @@
 
 ghost use Rattle.std.specs.Prelude.{◌≡◌, ◌↔◌, Some, IfSome, IsSome, find, option_copied};
 ghost use Rattle.std.specs.Str.{bytes_eq};
-ghost use Rattle.rdm_params.specs.Table.Kinds.{pid_of, name_of, kinds, kind_named};
+ghost use Rattle.rdm_params.specs.Table.Kinds.{pid_of, name_of, kinds, kind_named, kind_with, for_c};
 ghost use Rattle.rdm_params.specs.Table.Rows.{row_of};
 
 use crate::table::rows;
@@ -117,6 +117,72 @@ macro_rules! each_kind {
     };
 }
 
+/// The names, a row each.
+macro_rules! named {
+    ($use:ident!($argument:ident)) => {
+        $use! {
+            ($argument)
+            (QueuedMessage "QUEUED_MESSAGE")
+            (StatusMessages "STATUS_MESSAGES")
+            (StatusIdDescription "STATUS_ID_DESCRIPTION")
+            (ClearStatusId "CLEAR_STATUS_ID")
+            (SubDeviceStatusReportThreshold "SUB_DEVICE_STATUS_REPORT_THRESHOLD")
+            (SupportedParameters "SUPPORTED_PARAMETERS")
+            (DeviceInfo "DEVICE_INFO")
+            (DeviceModelDescription "DEVICE_MODEL_DESCRIPTION")
+            (ManufacturerLabel "MANUFACTURER_LABEL")
+            (DeviceLabel "DEVICE_LABEL")
+            (FactoryDefaults "FACTORY_DEFAULTS")
+            (LanguageCapabilities "LANGUAGE_CAPABILITIES")
+            (Language "LANGUAGE")
+            (SoftwareVersionLabel "SOFTWARE_VERSION_LABEL")
+            (BootSoftwareVersionId "BOOT_SOFTWARE_VERSION_ID")
+            (BootSoftwareVersionLabel "BOOT_SOFTWARE_VERSION_LABEL")
+            (DmxPersonality "DMX_PERSONALITY")
+            (DmxPersonalityDescription "DMX_PERSONALITY_DESCRIPTION")
+            (DmxStartAddress "DMX_START_ADDRESS")
+            (SlotInfo "SLOT_INFO")
+            (SlotDescription "SLOT_DESCRIPTION")
+            (DefaultSlotValue "DEFAULT_SLOT_VALUE")
+            (SensorDefinition "SENSOR_DEFINITION")
+            (SensorValue "SENSOR_VALUE")
+            (RecordSensors "RECORD_SENSORS")
+            (DeviceHours "DEVICE_HOURS")
+            (LampHours "LAMP_HOURS")
+            (LampStrikes "LAMP_STRIKES")
+            (LampState "LAMP_STATE")
+            (LampOnMode "LAMP_ON_MODE")
+            (DevicePowerCycles "DEVICE_POWER_CYCLES")
+            (DisplayInvert "DISPLAY_INVERT")
+            (DisplayLevel "DISPLAY_LEVEL")
+            (PanInvert "PAN_INVERT")
+            (TiltInvert "TILT_INVERT")
+            (PanTiltSwap "PAN_TILT_SWAP")
+            (IdentifyDevice "IDENTIFY_DEVICE")
+            (PowerState "POWER_STATE")
+            (PerformSelfTest "PERFORM_SELFTEST")
+            (SelfTestDescription "SELF_TEST_DESCRIPTION")
+            (PresetPlayback "PRESET_PLAYBACK")
+        }
+    };
+}
+
+macro_rules! names {
+    (($kind:ident) $(($name:ident $text:literal))*) => {
+        match $kind {
+            $(Kind::$name => $text,)*
+        }
+    };
+}
+
+macro_rules! names_for_c {
+    (($kind:ident) $(($name:ident $text:literal))*) => {
+        match $kind {
+            $(Kind::$name => concat!($text, "\0").as_bytes(),)*
+        }
+    };
+}
+
 impl Kind {
     /// Every parameter of the table, in the order of the PIDs.
     pub fn all() -> [Kind; 41]
@@ -146,49 +212,16 @@ impl Kind {
     pub fn name(self) -> &'static str
         ensures { result.now ≡ name_of self }
     {
-        match self {
-            Kind::QueuedMessage => "QUEUED_MESSAGE",
-            Kind::StatusMessages => "STATUS_MESSAGES",
-            Kind::StatusIdDescription => "STATUS_ID_DESCRIPTION",
-            Kind::ClearStatusId => "CLEAR_STATUS_ID",
-            Kind::SubDeviceStatusReportThreshold => "SUB_DEVICE_STATUS_REPORT_THRESHOLD",
-            Kind::SupportedParameters => "SUPPORTED_PARAMETERS",
-            Kind::DeviceInfo => "DEVICE_INFO",
-            Kind::DeviceModelDescription => "DEVICE_MODEL_DESCRIPTION",
-            Kind::ManufacturerLabel => "MANUFACTURER_LABEL",
-            Kind::DeviceLabel => "DEVICE_LABEL",
-            Kind::FactoryDefaults => "FACTORY_DEFAULTS",
-            Kind::LanguageCapabilities => "LANGUAGE_CAPABILITIES",
-            Kind::Language => "LANGUAGE",
-            Kind::SoftwareVersionLabel => "SOFTWARE_VERSION_LABEL",
-            Kind::BootSoftwareVersionId => "BOOT_SOFTWARE_VERSION_ID",
-            Kind::BootSoftwareVersionLabel => "BOOT_SOFTWARE_VERSION_LABEL",
-            Kind::DmxPersonality => "DMX_PERSONALITY",
-            Kind::DmxPersonalityDescription => "DMX_PERSONALITY_DESCRIPTION",
-            Kind::DmxStartAddress => "DMX_START_ADDRESS",
-            Kind::SlotInfo => "SLOT_INFO",
-            Kind::SlotDescription => "SLOT_DESCRIPTION",
-            Kind::DefaultSlotValue => "DEFAULT_SLOT_VALUE",
-            Kind::SensorDefinition => "SENSOR_DEFINITION",
-            Kind::SensorValue => "SENSOR_VALUE",
-            Kind::RecordSensors => "RECORD_SENSORS",
-            Kind::DeviceHours => "DEVICE_HOURS",
-            Kind::LampHours => "LAMP_HOURS",
-            Kind::LampStrikes => "LAMP_STRIKES",
-            Kind::LampState => "LAMP_STATE",
-            Kind::LampOnMode => "LAMP_ON_MODE",
-            Kind::DevicePowerCycles => "DEVICE_POWER_CYCLES",
-            Kind::DisplayInvert => "DISPLAY_INVERT",
-            Kind::DisplayLevel => "DISPLAY_LEVEL",
-            Kind::PanInvert => "PAN_INVERT",
-            Kind::TiltInvert => "TILT_INVERT",
-            Kind::PanTiltSwap => "PAN_TILT_SWAP",
-            Kind::IdentifyDevice => "IDENTIFY_DEVICE",
-            Kind::PowerState => "POWER_STATE",
-            Kind::PerformSelfTest => "PERFORM_SELFTEST",
-            Kind::SelfTestDescription => "SELF_TEST_DESCRIPTION",
-            Kind::PresetPlayback => "PRESET_PLAYBACK",
-        }
+        let kind = self;
+        named!(names!(kind))
+    }
+
+    /// The name in the standard and a NUL behind it, as C wants a text.
+    pub fn name_for_c(self) -> &'static [u8]
+        ensures { result.now ≡ for_c (name_of self) }
+    {
+        let kind = self;
+        named!(names_for_c!(kind))
     }
 }
 
@@ -217,10 +250,11 @@ pub enum Verb {
 }
 
 /// The parameter of a PID (table A-3), or `None` if the table has none.
-#[tactic(auto, unfolding(crate::specs::Table::Rows::row_of, crate::specs::Table::Rows::table))]
+#[tactic(auto, unfolding(crate::specs::Table::Rows::row_of, crate::specs::Table::Rows::table, crate::specs::Table::Kinds::kind_with))]
 pub fn kind_of(pid: u16) -> Option<Kind>
     ensures value { IfSome result (λ kind. pid_of kind ≡ pid) }
     ensures known { IsSome result ↔ IsSome (row_of pid) }
+    ensures first { result ≡ kind_with pid }
 {
     rows!(kind_rows!(pid))
 }

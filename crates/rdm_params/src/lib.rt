@@ -35,13 +35,13 @@ pub use laws::{
     verbs_are_equal_by_value, verdicts_are_equal_by_value, works_are_equal_by_value,
     written_value_is_read_back,
 };
-pub use nack::Nack;
+pub use nack::{Nack, reason_name, reason_name_for_c};
 pub use panel::{Change, Plate};
 pub use placing::PlaceError;
 pub use rdm_device::{
     Personality, Profile, SelfTest, SensorDef, Slot, StatusText, Unit, Value, write_value,
 };
 pub use rdm_saved::{RestoreError, SaveError};
-pub use table::names::{other_name, pid_named};
+pub use table::names::{other_name, parameter_name, parameter_name_for_c, pid_named};
 pub use table::read::read_value;
 pub use verdict::{Answer, Verdict};

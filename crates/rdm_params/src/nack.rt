@@ -1,7 +1,8 @@
 //! Why a command is rejected.
 
-ghost use Rattle.std.specs.Prelude.{◌≡◌};
-ghost use Rattle.rdm_params.specs.Commands.Nacks.{nack_code};
+ghost use Rattle.std.specs.Prelude.{◌≡◌, option_map};
+ghost use Rattle.rdm_params.specs.Commands.Nacks.{nack_code, reason_name};
+ghost use Rattle.rdm_params.specs.Table.Kinds.{for_c};
 
 /// The reason of a NACK (E1.20 section 6.3.4 and table A-17).
 #[derive(Clone, Copy, Debug, PartialEq, Eq)]
@@ -34,4 +35,57 @@ impl Nack {
             Nack::SubDeviceOutOfRange => 9,
         }
     }
+}
+
+/// The reasons of table A-17, a row each: the code and the words.
+macro_rules! reason_rows {
+    ($use:ident!($argument:ident)) => {
+        $use! {
+            ($argument)
+            (0 "unknown PID")
+            (1 "format error")
+            (2 "hardware fault")
+            (3 "proxy reject")
+            (4 "write protect")
+            (5 "unsupported command class")
+            (6 "data out of range")
+            (7 "buffer full")
+            (8 "packet size unsupported")
+            (9 "sub-device out of range")
+            (10 "proxy buffer full")
+        }
+    };
+}
+
+macro_rules! words {
+    (($code:ident) $(($number:literal $text:literal))*) => {
+        match $code {
+            $($number => Some($text),)*
+            _ => None,
+        }
+    };
+}
+
+macro_rules! words_for_c {
+    (($code:ident) $(($number:literal $text:literal))*) => {
+        match $code {
+            $($number => Some(concat!($text, "\0").as_bytes()),)*
+            _ => None,
+        }
+    };
+}
+
+/// The reason of this code in words, such as `data out of range`, or `None` if table A-17 has none: also those that no responder
+/// here gives.
+pub fn reason_name(code: u16) -> Option<&'static str>
+    ensures { option_map (λ text. text.now) result ≡ reason_name code }
+{
+    reason_rows!(words!(code))
+}
+
+/// The same words and a NUL behind them, as C wants a text.
+pub fn reason_name_for_c(code: u16) -> Option<&'static [u8]>
+    ensures { option_map (λ text. text.now) result ≡ option_map for_c (reason_name code) }
+{
+    reason_rows!(words_for_c!(code))
 }

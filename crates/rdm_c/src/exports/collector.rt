@@ -192,7 +192,7 @@ pub extern "C" fn felosumay_collector_next(
 
 /// Gives up the collector that the handle holds, if any, and its memory.
 #[unsafe(no_mangle)]
-pub extern "C" fn felosumay_collector_free(alloc: Global, collector: &mut Handle)
+pub extern "C" fn felosumay_collector_release(alloc: Global, collector: &mut Handle)
     ensures { collector.new.held ≡ None }
 {
     free(alloc, collector);

@@ -194,7 +194,7 @@ pub extern "C" fn felosumay_responder_arrive(
 
 /// Gives up the responder that the handle holds, if any, and its memory.
 #[unsafe(no_mangle)]
-pub extern "C" fn felosumay_responder_free(alloc: Global, responder: &mut Handle)
+pub extern "C" fn felosumay_responder_release(alloc: Global, responder: &mut Handle)
     ensures { responder.new.held ≡ None }
 {
     free(alloc, responder);

@@ -146,7 +146,7 @@ pub extern "C" fn felosumay_search_found(
 
 /// Gives up the search that the handle holds, if any, and its memory.
 #[unsafe(no_mangle)]
-pub extern "C" fn felosumay_search_free(alloc: Global, search: &mut Handle)
+pub extern "C" fn felosumay_search_release(alloc: Global, search: &mut Handle)
     ensures { search.new.held ≡ None }
 {
     free(alloc, search);

@@ -30,21 +30,21 @@ fn is_good_unit(unit: &Unit, slots: usize) -> bool
 }
 
 /// Whether no personality uses more slots than there are.
-fn fit(personalities: &[Personality], slots: usize) -> bool
+pub(crate) fn fit(personalities: &[Personality], slots: usize) -> bool
     ensures { IsTrue result ↔ All (λ m. m.footprint ≤ slots) personalities.now }
 {
     personalities.iter().all(|m| m.footprint as usize <= slots)
 }
 
 /// Whether no test has a number that stands for none or for all.
-fn are_numbered(tests: &[SelfTest]) -> bool
+pub(crate) fn are_numbered(tests: &[SelfTest]) -> bool
     ensures { IsTrue result ↔ All (λ t. (0 < t.number) × (t.number < 255)) tests.now }
 {
     tests.iter().all(|t| 0 < t.number && t.number < 255)
 }
 
 /// Whether no two tests have one number.
-fn tests_differ(tests: &[SelfTest]) -> bool
+pub(crate) fn tests_differ(tests: &[SelfTest]) -> bool
     ensures { IsTrue result ↔ AllPairs (λ s t. s.number ≢ t.number) tests.now }
 {
     for i in 0..tests.len() {
@@ -58,7 +58,7 @@ fn tests_differ(tests: &[SelfTest]) -> bool
 }
 
 /// Whether no two status texts have one ID.
-fn statuses_differ(texts: &[StatusText]) -> bool
+pub(crate) fn statuses_differ(texts: &[StatusText]) -> bool
     ensures { IsTrue result ↔ AllPairs (λ s t. s.id ≢ t.id) texts.now }
 {
     for i in 0..texts.len() {

@@ -1,5 +1,5 @@
 -- The PIDs and the names of the parameters. E1.20 table A-3.
-use Rattle.std.specs.Prelude.{ℕ, List, [], ◌∷◌, Option, find, codes}
+use Rattle.std.specs.Prelude.{ℕ, ◌==◌, List, [], ◌∷◌, ◌++◌, Option, find, codes}
 use Rattle.std.specs.Str.{bytes_eq}
 use Rattle.rdm_params.specs.declared.kind.Kind.{Kind}
 use Rattle.rdm_params.specs.declared.kind.Kind.TheVariants.{QueuedMessage, StatusMessages, StatusIdDescription, ClearStatusId, SubDeviceStatusReportThreshold, SupportedParameters, DeviceInfo, DeviceModelDescription, ManufacturerLabel, DeviceLabel, FactoryDefaults, LanguageCapabilities, Language, SoftwareVersionLabel, BootSoftwareVersionId, BootSoftwareVersionLabel, DmxPersonality, DmxPersonalityDescription, DmxStartAddress, SlotInfo, SlotDescription, DefaultSlotValue, SensorDefinition, SensorValue, RecordSensors, DeviceHours, LampHours, LampStrikes, LampState, LampOnMode, DevicePowerCycles, DisplayInvert, DisplayLevel, PanInvert, TiltInvert, PanTiltSwap, IdentifyDevice, PowerState, PerformSelfTest, SelfTestDescription, PresetPlayback}
@@ -71,3 +71,11 @@ kinds =
 -- the parameter with this name in the standard
 unfoldable pub kind_named : List ℕ → Option Kind
 kind_named name = find (λ kind. bytes_eq (name_of kind) name) kinds
+
+-- the parameter with this PID
+unfoldable pub kind_with : ℕ → Option Kind
+kind_with pid = find (λ kind. pid == pid_of kind) kinds
+
+-- a text as C has it: with a NUL behind it
+abbrev pub for_c : List ℕ → List ℕ
+for_c text = text ++ 0 ∷ []

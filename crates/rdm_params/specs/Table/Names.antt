@@ -2,7 +2,7 @@
 use Rattle.std.specs.Prelude.{ℕ, ◌==◌, List, [], ◌∷◌, Option, Some, None, if◌then◌else◌, codes}
 use Rattle.std.specs.Option.{option_map, option_or}
 use Rattle.std.specs.Str.{bytes_eq}
-use Rattle.rdm_params.specs.Table.Kinds.{pid_of, kind_named}
+use Rattle.rdm_params.specs.Table.Kinds.{pid_of, name_of, kind_named, kind_with}
 
 -- the PID that stands beside a name in these rows
 abbrev pub named_in : List (ℕ × List ℕ) → List ℕ → Option ℕ
@@ -32,3 +32,7 @@ pid_named name = option_or (option_map pid_of (kind_named name)) (named_in other
 abbrev pub name_in : List (ℕ × List ℕ) → ℕ → Option (List ℕ)
 name_in [] pid = None
 name_in (row ∷ rows) pid = if pid == row.0 then Some row.1 else name_in rows pid
+
+-- the name of the parameter with this PID
+abbrev pub parameter_name : ℕ → Option (List ℕ)
+parameter_name pid = option_or (option_map name_of (kind_with pid)) (name_in other_names pid)

@@ -1,9 +1,10 @@
 //! The names of the standard's parameters, whether or not a responder here has them (ANSI E1.20-2010, table A-3).
 
 ghost use Rattle.std.specs.Prelude.{◌≡◌, option_map};
-ghost use Rattle.rdm_params.specs.Table.Names.{named_in, name_in, other_names, pid_named};
+ghost use Rattle.rdm_params.specs.Table.Kinds.{for_c};
+ghost use Rattle.rdm_params.specs.Table.Names.{named_in, name_in, other_names, pid_named, parameter_name};
 
-use crate::Kind;
+use crate::{Kind, kind_of};
 use rdm_frame::standard::{
     CAPTURE_PRESET, COMMS_STATUS, DISC_MUTE, DISC_UN_MUTE, DISC_UNIQUE_BRANCH,
     PARAMETER_DESCRIPTION, PRODUCT_DETAIL_ID_LIST, PROXIED_DEVICE_COUNT, PROXIED_DEVICES,
@@ -52,6 +53,17 @@ macro_rules! name_of_pid {
     }};
 }
 
+macro_rules! name_for_c_of_pid {
+    (($pid:ident) $(($number:ident $text:literal))*) => {{
+        $(
+            if $pid == $number {
+                return Some(concat!($text, "\0").as_bytes());
+            }
+        )*
+        None
+    }};
+}
+
 /// The PID of the parameter with this name in the standard, such as `DMX_START_ADDRESS` or `DISC_MUTE`, or `None` if the
 /// standard has none: the text is compared byte for byte.
 #[tactic(auto, unfolding(crate::specs::Table::Names::pid_named))]
@@ -76,4 +88,31 @@ pub fn other_name(pid: u16) -> Option<&'static str>
     ensures { option_map (λ text. text.now) result ≡ name_in other_names pid }
 {
     other_rows!(name_of_pid!(pid))
+}
+
+/// The name of a parameter in the standard, or `None` if the standard has none for its PID.
+pub fn parameter_name(pid: u16) -> Option<&'static str>
+    ensures { option_map (λ text. text.now) result ≡ parameter_name pid }
+{
+    match kind_of(pid) {
+        Some(kind) => Some(kind.name()),
+        None => other_name(pid),
+    }
+}
+
+/// The name of a parameter in the standard and a NUL behind it, as C wants a text, or `None` if the standard has none for its PID.
+pub fn parameter_name_for_c(pid: u16) -> Option<&'static [u8]>
+    ensures { option_map (λ text. text.now) result ≡ option_map for_c (parameter_name pid) }
+{
+    match kind_of(pid) {
+        Some(kind) => Some(kind.name_for_c()),
+        None => other_name_for_c(pid),
+    }
+}
+
+/// The name of a parameter that no responder here has, with a NUL behind it.
+fn other_name_for_c(pid: u16) -> Option<&'static [u8]>
+    ensures { option_map (λ text. text.now) result ≡ option_map for_c (name_in other_names pid) }
+{
+    other_rows!(name_for_c_of_pid!(pid))
 }

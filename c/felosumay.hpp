@@ -1,0 +1,182 @@
+// felosumay.h for C++17 and later: handles that free themselves, and bytes as spans. Each member does what the call of its name does, and
+// answers with what that answers; none throws and none takes memory beside the library's. A handle moves, and isn't copied: what it
+// was moved from holds nothing, as {} does.
+#ifndef FELOSUMAY_HPP
+#define FELOSUMAY_HPP
+#include "felosumay.h"
+#include <array>
+#include <cstddef>
+#include <cstdint>
+#include <string_view>
+#include <type_traits>
+#include <utility>
+
+namespace felosumay {
+
+using result = felosumay_result;
+
+// What a call answered, as "NO_ROOM"; a parameter, as "DMX_START_ADDRESS"; a reason, as "data out of range". Else "unknown".
+inline std::string_view status_name(result status) noexcept { return felosumay_status_name(status); }
+inline std::string_view parameter_name(std::uint16_t pid) noexcept { return felosumay_parameter_name(pid); }
+inline std::string_view reason_name(std::uint16_t reason) noexcept { return felosumay_reason_name(reason); }
+
+struct uid {
+    std::uint16_t maker;
+    std::uint32_t device;
+};
+
+// Bytes of somebody else's: an array, a std::vector, a std::span or any other range of uint8_t with data() and size().
+class bytes {
+public:
+    constexpr bytes() noexcept = default;
+    constexpr bytes(const std::uint8_t *data, std::size_t size) noexcept : data_(data), size_(size) {}
+    template <std::size_t N> constexpr bytes(const std::uint8_t (&array)[N]) noexcept : data_(array), size_(N) {}
+    template <class Range, class = std::enable_if_t<std::is_convertible<decltype(std::declval<const Range &>().data()),
+                                                                        const std::uint8_t *>::value>>
+    constexpr bytes(const Range &range) noexcept : data_(range.data()), size_(range.size()) {}
+    constexpr const std::uint8_t *data() const noexcept { return data_; }
+    constexpr std::size_t size() const noexcept { return size_; }
+    constexpr const std::uint8_t *begin() const noexcept { return data_; }
+    constexpr const std::uint8_t *end() const noexcept { return data_ + size_; }
+
+private:
+    const std::uint8_t *data_ = nullptr;
+    std::size_t size_ = 0;
+};
+
+// Bytes at the front of an array that has room for as many as there can be.
+template <std::size_t Room> struct buffer {
+    std::array<std::uint8_t, Room> room{};
+    std::size_t count = 0;
+    const std::uint8_t *data() const noexcept { return room.data(); }
+    std::size_t size() const noexcept { return count; }
+    const std::uint8_t *begin() const noexcept { return data(); }
+    const std::uint8_t *end() const noexcept { return data() + count; }
+};
+
+using frame = buffer<FELOSUMAY_FRAME_BYTES>;
+using value = buffer<FELOSUMAY_VALUE_BYTES>;
+
+inline result read_reply(bytes heard, felosumay_reply &reply) noexcept {
+    return felosumay_reply_read(heard.data(), heard.size(), &reply);
+}
+
+// A handle of C's that frees what it holds.
+template <class Handle, void (*Release)(Handle *)> class owner {
+public:
+    owner() noexcept = default;
+    owner(owner &&other) noexcept : handle_(std::exchange(other.handle_, Handle{})) {}
+    owner &operator=(owner &&other) noexcept {
+        if (this != &other) {
+            Release(&handle_);
+            handle_ = std::exchange(other.handle_, Handle{});
+        }
+        return *this;
+    }
+    owner(const owner &) = delete;
+    owner &operator=(const owner &) = delete;
+    ~owner() { Release(&handle_); }
+    void free() noexcept { Release(&handle_); }
+    // For the calls of felosumay.h itself.
+    Handle *get() noexcept { return &handle_; }
+    const Handle *get() const noexcept { return &handle_; }
+
+private:
+    Handle handle_{};
+};
+
+class responder : public owner<felosumay_responder, felosumay_responder_release> {
+public:
+    [[nodiscard]] result make(uid own, const felosumay_profile &profile, std::uint16_t queue_size,
+                              std::uint16_t entries = 1024) noexcept {
+        return felosumay_responder_new_with_entries(get(), own.maker, own.device, &profile, queue_size, entries);
+    }
+    [[nodiscard]] result demo(uid own, std::uint16_t subs, std::uint16_t queue_size) noexcept {
+        return felosumay_responder_demo(get(), own.maker, own.device, subs, queue_size);
+    }
+    // The reply is empty if there is none.
+    [[nodiscard]] result step(bytes heard, frame &reply, felosumay_stepped &stepped) noexcept {
+        result status = felosumay_responder_step(get(), heard.data(), heard.size(), reply.room.data(), &stepped);
+        reply.count = stepped.replied != 0 ? stepped.count : 0;
+        return status;
+    }
+    [[nodiscard]] result arrive(const felosumay_job &job, const felosumay_outcome &outcome, bool &kept) noexcept {
+        std::uint8_t flag = 0;
+        result status = felosumay_responder_arrive(get(), &job, &outcome, &flag);
+        kept = flag != 0;
+        return status;
+    }
+    [[nodiscard]] result change_start(std::uint16_t start) noexcept { return felosumay_responder_change_start(get(), start); }
+    [[nodiscard]] result change_personality(std::uint8_t number) noexcept {
+        return felosumay_responder_change_personality(get(), number);
+    }
+    [[nodiscard]] result change_label(std::string_view label) noexcept {
+        return felosumay_responder_change_label(get(), reinterpret_cast<const std::uint8_t *>(label.data()), label.size());
+    }
+    [[nodiscard]] result room(bool &there) const noexcept {
+        std::uint8_t flag = 0;
+        result status = felosumay_responder_room(get(), &flag);
+        there = flag != 0;
+        return status;
+    }
+    [[nodiscard]] result place(std::uint16_t sub, std::uint16_t pid, bytes data) noexcept {
+        return felosumay_responder_place(get(), sub, pid, data.data(), data.size());
+    }
+    [[nodiscard]] result note(std::uint16_t sub, std::uint8_t severity, std::uint16_t id, std::uint16_t v1, std::uint16_t v2,
+                              bool &noted) noexcept {
+        std::uint8_t flag = 0;
+        result status = felosumay_responder_note(get(), sub, severity, id, v1, v2, &flag);
+        noted = flag != 0;
+        return status;
+    }
+    [[nodiscard]] result saved_size(std::size_t &count) const noexcept { return felosumay_responder_saved_size(get(), &count); }
+    [[nodiscard]] result save(std::uint8_t *image, std::size_t size, std::size_t &count) const noexcept {
+        return felosumay_responder_save(get(), image, size, &count);
+    }
+    [[nodiscard]] result restore(bytes image) noexcept { return felosumay_responder_restore(get(), image.data(), image.size()); }
+    // `reason` is that of the NACK if it is REFUSED.
+    [[nodiscard]] result get_value(std::uint16_t sub, std::uint16_t pid, bytes argument, value &read,
+                                   std::uint16_t &reason) const noexcept {
+        return felosumay_responder_get(get(), sub, pid, argument.data(), argument.size(), read.room.data(), &read.count, &reason);
+    }
+    [[nodiscard]] result waiting(std::size_t &count) const noexcept { return felosumay_responder_waiting(get(), &count); }
+    [[nodiscard]] result outstanding(std::size_t &count) const noexcept { return felosumay_responder_outstanding(get(), &count); }
+};
+
+class collector : public owner<felosumay_collector, felosumay_collector_release> {
+public:
+    [[nodiscard]] result make(uid own, uid target, std::uint8_t wants) noexcept {
+        return felosumay_collector_new(get(), own.maker, own.device, target.maker, target.device, wants);
+    }
+    [[nodiscard]] result ask(const felosumay_command &command, bytes load, frame &request) noexcept {
+        return felosumay_collector_ask(get(), &command, load.data(), load.size(), request.room.data(), &request.count);
+    }
+    [[nodiscard]] result poll(frame &request) noexcept {
+        return felosumay_collector_poll(get(), request.room.data(), &request.count);
+    }
+    [[nodiscard]] result hear(bytes heard, std::uint8_t &as) noexcept {
+        return felosumay_collector_hear(get(), heard.data(), heard.size(), &as);
+    }
+    [[nodiscard]] result over() noexcept { return felosumay_collector_over(get()); }
+    [[nodiscard]] result next(felosumay_message &message) noexcept { return felosumay_collector_next(get(), &message); }
+};
+
+class search : public owner<felosumay_search, felosumay_search_release> {
+public:
+    [[nodiscard]] result make(uid own, std::uint32_t limit) noexcept {
+        return felosumay_search_new(get(), own.maker, own.device, limit);
+    }
+    [[nodiscard]] result next(frame &request) const noexcept {
+        return felosumay_search_next(get(), request.room.data(), &request.count);
+    }
+    [[nodiscard]] result hear(bytes heard) noexcept { return felosumay_search_hear(get(), heard.data(), heard.size()); }
+    [[nodiscard]] result resume(std::uint32_t limit) noexcept { return felosumay_search_resume(get(), limit); }
+    [[nodiscard]] result count(std::size_t &found) const noexcept { return felosumay_search_count(get(), &found); }
+    [[nodiscard]] result found(std::size_t index, felosumay_found &fixture) const noexcept {
+        return felosumay_search_found(get(), index, &fixture);
+    }
+};
+
+} // namespace felosumay
+
+#endif

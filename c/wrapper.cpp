@@ -1,0 +1,84 @@
+// A fixture and a console in C++, by felosumay.hpp: a search finds the fixture, a command is rejected, a lamp is struck, and handles move.
+#include "felosumay.hpp"
+#include "felosumay_names.h"
+#include <cstdio>
+#include <vector>
+#if __cplusplus >= 202002L
+#include <span>
+#endif
+
+namespace {
+
+constexpr felosumay::uid FIXTURE{0x7FF0, 1}, CONSOLE{0x7FF0, 2};
+
+// Finds the fixtures of a line with one fixture, and says how many there are.
+std::size_t discover(felosumay::responder &fixture) {
+    felosumay::search search;
+    felosumay::frame request, reply;
+    felosumay_stepped stepped;
+    std::size_t count = 0;
+    if (search.make(CONSOLE, 76) != FELOSUMAY_DONE)
+        return 0;
+    while (search.next(request) == FELOSUMAY_DONE)
+        if (fixture.step(request, reply, stepped) != FELOSUMAY_DONE || search.hear(reply) != FELOSUMAY_DONE)
+            return 0;
+    return search.count(count) == FELOSUMAY_DONE ? count : 0;
+}
+
+// A SET and its reply; a job that it starts is done at once.
+felosumay_reply set(felosumay::collector &console, felosumay::responder &fixture, std::uint16_t pid, felosumay::bytes data) {
+    const felosumay_command command = {FIXTURE.device, FIXTURE.maker, 0, pid, FELOSUMAY_SET};
+    const felosumay_outcome done = {FELOSUMAY_JOB_DONE, 0, 0, 0, 0, 0};
+    felosumay::frame request, answer;
+    felosumay_stepped stepped{};
+    felosumay_reply reply{};
+    std::uint8_t heard = FELOSUMAY_IGNORED;
+    bool kept = false;
+    if (console.ask(command, data, request) != FELOSUMAY_DONE || fixture.step(request, answer, stepped) != FELOSUMAY_DONE ||
+        console.hear(answer, heard) != FELOSUMAY_DONE || felosumay::read_reply(answer, reply) != FELOSUMAY_DONE)
+        std::puts("no reply");
+    if (stepped.started != 0 && fixture.arrive(stepped.job, done, kept) != FELOSUMAY_DONE)
+        std::puts("astray");
+    return reply;
+}
+
+} // namespace
+
+int main() {
+    felosumay::responder made, fixture;
+    felosumay::collector console;
+    if (made.demo(FIXTURE, 0, 8) != FELOSUMAY_DONE || console.make(CONSOLE, FIXTURE, FELOSUMAY_STATUS_ADVISORY) != FELOSUMAY_DONE)
+        return 1;
+    fixture = std::move(made);
+    std::size_t waiting = 0;
+    std::printf("moved from: %s\n", felosumay::status_name(made.waiting(waiting)).data());
+    std::printf("found %zu\n", discover(fixture));
+
+    const std::vector<std::uint8_t> far = {0x02, 0x01};
+    felosumay_reply reply = set(console, fixture, FELOSUMAY_PID_DMX_START_ADDRESS, far);
+    std::printf("%s: %s\n", felosumay::parameter_name(reply.pid).data(), felosumay::reason_name(reply.reason).data());
+    const std::uint8_t on[] = {FELOSUMAY_LAMP_ON};
+#if __cplusplus >= 202002L
+    reply = set(console, fixture, FELOSUMAY_PID_LAMP_STATE, std::span<const std::uint8_t>(on));
+#else
+    reply = set(console, fixture, FELOSUMAY_PID_LAMP_STATE, on);
+#endif
+    std::printf("%s: type %u, %u tenths of a second\n", felosumay::parameter_name(reply.pid).data(), reply.type, reply.tenths);
+
+    felosumay::frame request, answer;
+    felosumay_stepped stepped;
+    felosumay_message message;
+    std::uint8_t heard = FELOSUMAY_IGNORED;
+    if (console.poll(request) != FELOSUMAY_DONE || fixture.step(request, answer, stepped) != FELOSUMAY_DONE ||
+        console.hear(answer, heard) != FELOSUMAY_DONE || console.next(message) != FELOSUMAY_DONE)
+        return 1;
+    std::printf("fetched %s\n", felosumay::parameter_name(message.pid).data());
+    felosumay::value value;
+    std::uint16_t reason = 0;
+    if (fixture.get_value(0, FELOSUMAY_PID_LAMP_STATE, {}, value, reason) != FELOSUMAY_DONE)
+        return 1;
+    std::printf("lamp %u\n", value.room[0]);
+    const felosumay::result refused = fixture.get_value(0, FELOSUMAY_PID_SENSOR_DEFINITION, far, value, reason);
+    std::printf("no such sensor: %s, %s\n", felosumay::status_name(refused).data(), felosumay::reason_name(reason).data());
+    return 0;
+}

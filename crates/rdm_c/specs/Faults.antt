@@ -1,0 +1,18 @@
+-- Which rule of profiles is broken, as the header numbers the rules.
+use Rattle.std.specs.Prelude.{ℕ, ◌==◌, if◌then◌else◌, Option, Some, None}
+use Rattle.rdm_device.specs.declared.profile.faults.ProfileFault.{ProfileFault}
+use Rattle.rdm_device.specs.declared.profile.faults.ProfileFault.TheVariants.{SubDevices, Presets, Personalities, Start, RootFootprint, SubFootprint, Languages, TestNumber, TwinTests, TwinStatusTexts}
+
+-- the rule of a number; 0 stands for none
+abbrev pub fault_in : ℕ → Option ProfileFault
+fault_in number =
+    if number == 1 then Some SubDevices
+    else if number == 2 then Some Presets
+    else if number == 3 then Some Personalities
+    else if number == 4 then Some Start
+    else if number == 5 then Some RootFootprint
+    else if number == 6 then Some SubFootprint
+    else if number == 7 then Some Languages
+    else if number == 8 then Some TestNumber
+    else if number == 9 then Some TwinTests
+    else if number == 10 then Some TwinStatusTexts else None
