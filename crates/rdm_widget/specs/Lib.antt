@@ -1,4 +1,5 @@
 pub mod Framing
+pub mod Hearing
 pub mod LiveFixtures
 pub mod Protocol
 pub mod Serving

@@ -9,6 +9,7 @@ mod clock;
 mod framing;
 mod laws;
 mod live_fixture;
+mod on_line;
 mod protocol;
 mod reading;
 mod serving;
@@ -20,4 +21,5 @@ pub use laws::{
     written_messages_are_read_back,
 };
 pub use live_fixture::LiveFixture;
+pub use on_line::OnLine;
 pub use serving::{ServeError, serve, serve_some};

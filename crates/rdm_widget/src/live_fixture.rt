@@ -28,6 +28,7 @@ use std::alloc::Global;
 /// A fixture: a responder, and the workers that do its slow commands in their time. It keeps no queue of its own.
 #[derive(Debug, Drop)]
 pub struct LiveFixture {
+    uid: Uid,
     responder: Responder,
     // How jobs end.
     planned: Planned,
@@ -56,6 +57,7 @@ impl LiveFixture {
     {
         match Responder::new(alloc, uid, profile, queue_size) {
             Ok(responder) => Ok(LiveFixture {
+                uid,
                 responder,
                 planned: Planned::new(rules),
                 first_since: 0,
@@ -93,6 +95,13 @@ impl LiveFixture {
         self.responder.restore(image)
     }
 
+    /// Its UID.
+    pub fn uid(&self) -> Uid
+        ensures { (s : Situation) → IsIn self.now s → result ≡ s.history.setup.uid }
+    {
+        self.uid
+    }
+
     /// The responder: what the fixture's parameters are now, and what waits for the controller.
     pub fn responder(&self) -> &Responder
         ensures { (s : Situation) → IsIn self.now s → StandsFor result.now s.history }
@@ -101,7 +110,7 @@ impl LiveFixture {
     }
 
     /// Hears a request on the line at this time, and says whether there is a reply, whose bytes are put into `reply`.
-    pub(crate) fn hear(&mut self, now: u64, request: &[u8], reply: &mut Wire) -> bool
+    pub(crate) fn hear_at(&mut self, now: u64, request: &[u8], reply: &mut Wire) -> bool
         ensures reply { (s : Situation) → IsIn self.old s → answered result reply.new ≡ reply_of (ready now s).history request.now }
         ensures fixture { (s : Situation) → IsIn self.old s → IsIn self.new (after_heard (ready now s) request.now) }
     {
