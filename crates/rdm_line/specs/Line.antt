@@ -1,5 +1,5 @@
 -- A line of devices, and its histories.
-use Rattle.std.specs.Prelude.{◌≡◌, ℕ, ◌/◌, ◌%◌, ◌^◌, ◌<◌, Bool, not, nat_lt, List, ◌∷◌, ◌++◌, length, map, slice_index}
+use Rattle.std.specs.Prelude.{◌≡◌, ℕ, ◌/◌, ◌%◌, ◌^◌, ◌<◌, ◌≤◌, Bool, not, nat_lt, List, ◌∷◌, ◌++◌, length, map, slice_index, slice_index_or}
 use Rattle.std.specs.List.{AllZip, filter}
 use Rattle.rdm_frame.specs.declared.uid.Uid.{Uid}
 use Rattle.rdm_frame.specs.UidNumber.{uid_number}
@@ -38,3 +38,15 @@ pub record AreInOrder (numbers : List ℕ) : Type 0 where
   pub rise : (i j : ℕ) → i < j → j < length numbers → slice_index numbers i < slice_index numbers j
   pub fit : (i : ℕ) → i < length numbers → slice_index numbers i < 2 ^ 48
   pub single : (i : ℕ) → i < length numbers → slice_index numbers i % 2 ^ 32 < 0xFFFFFFFF
+
+-- This UID stands there, and nowhere else.
+pub record IsOnlyAt (uid : Uid) (uids : List Uid) (i : ℕ) : Type 0 where
+  pub within : i < length uids
+  pub there : slice_index_or uids i uid ≡ uid
+  pub only : (j : ℕ) → j < length uids → slice_index_or uids j uid ≡ uid → j ≡ i
+
+-- A number is above those before this place, and below those from there on.
+pub record IsGap (numbers : List ℕ) (n i : ℕ) : Type 0 where
+  pub within : i ≤ length numbers
+  pub above : (k : ℕ) → k < i → slice_index numbers k < n
+  pub below : (k : ℕ) → i ≤ k → k < length numbers → n < slice_index numbers k

@@ -31,9 +31,8 @@ impl<D: Device> Model for Line<D> {
 }
 
 impl<D: Device> Line<D> {
-    ghost use Rattle.std.specs.Prelude.{◌≡◌, ◌↔◌, [], length, Contains, IsSome, IfSome};
-    ghost use Rattle.rdm_responder.specs.History.{History};
-    ghost use Rattle.rdm_line.specs.Line.{StandFor};
+    ghost use Rattle.std.specs.Prelude.{◌≡◌, ◌↔◌, ◌<◌, ℕ, true, [], length, slice_get, Contains, IsSome, IfSome, Some};
+    ghost use Rattle.rdm_line.specs.Line.{StandFor, IsOnlyAt};
 
     /// A line with no device, on which collisions sound so.
     pub fn new(alloc: Global, rule: Collision) -> Line<D>
@@ -73,14 +72,16 @@ impl<D: Device> Line<D> {
     /// The device with this UID.
     pub fn get(&self, uid: Uid) -> Option<&D>
         ensures found { IsSome result ↔ Contains self.now.uids uid }
+        ensures one { IfSome result (λ d. (i : ℕ) × IsOnlyAt uid self.now.uids i × (slice_get self.now.devices i ≡ Some d.now)) }
     {
         let index = self.find(uid)?;
         Some(&self.devices[index])
     }
 
     /// Where the device with this UID stands.
-    pub(crate) fn find(&self, uid: Uid) -> Option<usize>
+    pub fn find(&self, uid: Uid) -> Option<usize>
         ensures found { IsSome result ↔ Contains self.now.uids uid }
+        ensures place { IfSome result (λ i. IsOnlyAt uid self.now.uids i × (i < length self.now.devices)) }
     {
         self.numbers.binary_search(&uid.number()).ok()
     }
