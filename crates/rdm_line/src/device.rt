@@ -14,6 +14,11 @@ pub trait Device: Drop {
     // It is in the state that this history leads to.
     ghost stands: { Self → History → Type 0 };
 
+    // What of it no bytes change.
+    ghost Rest: { Type 0 };
+
+    ghost rest: { Self → Rest };
+
     /// Its UID.
     fn uid(&self) -> Uid
         ensures uid { (h : History) → stands self.now h → result ≡ h.setup.uid };
@@ -22,5 +27,6 @@ pub trait Device: Drop {
     fn hear(&mut self, bytes: &[u8], wire: &mut Wire) -> bool
         ensures reply { (h : History) → stands self.old h → answered result wire.new ≡ reply_of h bytes.now }
         ensures silent { OnFalse result (wire.new ≡ wire.old) }
+        ensures rest { rest self.new ≡ rest self.old }
         ensures stands { (h : History) → stands self.old h → stands self.new (then_event h (Heard bytes.now)) };
 }

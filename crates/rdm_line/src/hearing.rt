@@ -28,6 +28,7 @@ impl<D: Device> Line<D> {
             → (result, wire.new) ≡ wave self.old.rule wire.old (answers bytes.now hs) }
         ensures stands { (hs : List History) → StandFor D.stands self.old hs
             → StandFor D.stands self.new (map (heard_by bytes.now) hs) }
+        ensures rest { map D.rest self.new.devices ≡ map D.rest self.old.devices }
         ensures uids { self.new.uids ≡ self.old.uids }
         ensures rule { self.new.rule ≡ self.old.rule }
     {
@@ -57,6 +58,7 @@ impl<D: Device> Line<D> {
             → (result, wire.new) ≡ wave self.old.rule wire.old (answers bytes.now hs) }
         ensures stands { (hs : List History) → StandFor D.stands self.old hs
             → StandFor D.stands self.new (map (heard_by bytes.now) hs) }
+        ensures rest { map D.rest self.new.devices ≡ map D.rest self.old.devices }
         ensures uids { self.new.uids ≡ self.old.uids }
         ensures rule { self.new.rule ≡ self.old.rule }
     {
@@ -81,6 +83,7 @@ fn hear_at<D: Device>(devices: &mut [D], index: usize, bytes: &[u8], wire: &mut 
         → AllZip D.stands devices.old (before ++ h ∷ after)
         → AllZip D.stands devices.new (before ++ then_event h (Heard bytes.now) ∷ after) }
     ensures silent { OnFalse result (wire.new ≡ wire.old) }
+    ensures rest { map D.rest devices.new ≡ map D.rest devices.old }
     ensures len { length devices.new ≡ length devices.old }
 {
     devices[index].hear(bytes, wire)
@@ -99,6 +102,7 @@ fn hear_all<D: Device>(
         → (result, wire.new) ≡ wave rule wire.old (answers bytes.now hs) }
     ensures stands { (hs : List History) → AllZip D.stands devices.old hs
         → AllZip D.stands devices.new (map (heard_by bytes.now) hs) }
+    ensures rest { map D.rest devices.new ≡ map D.rest devices.old }
     ensures len { length devices.new ≡ length devices.old }
 {
     let mut on_wire = OnWire::Nothing;
@@ -127,6 +131,7 @@ fn hear_next<D: Device>(
     ensures stands { (before after : List History) (h : History) → length before ≡ index
         → AllZip D.stands devices.old (before ++ h ∷ after)
         → AllZip D.stands devices.new (before ++ heard_by bytes.now h ∷ after) }
+    ensures rest { map D.rest devices.new ≡ map D.rest devices.old }
     ensures len { length devices.new ≡ length devices.old }
 {
     if uid_at(bytes, DESTINATION).addresses(devices[index].uid())

@@ -6,6 +6,7 @@
 
 mod collision;
 mod device;
+mod errand;
 mod hearing;
 mod joining;
 mod line;
@@ -14,6 +15,7 @@ mod station;
 
 pub use collision::Collision;
 pub use device::Device;
+pub use errand::Errand;
 pub use joining::{JoinError, Refused};
 pub use line::Line;
 pub use on_wire::OnWire;

@@ -14,9 +14,14 @@ pub struct Station {
 
 impl Device for Station {
     ghost use Rattle.std.specs.Prelude.{◌≡◌};
+    ghost use Rattle.rdm_frame.specs.declared.uid.Uid.{Uid};
     ghost use Rattle.rdm_responder.specs.StandsFor.{StandsFor};
 
     ghost stands = { λ s h. StandsFor s.responder h × (s.uid ≡ h.setup.uid) };
+
+    ghost Rest = { Uid };
+
+    ghost rest = { λ s. s.uid };
 
     fn uid(&self) -> Uid {
         self.uid

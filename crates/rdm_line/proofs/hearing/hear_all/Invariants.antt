@@ -10,5 +10,6 @@ abbrev pub invariant-loop-i : goal.invariant-loop-i
 invariant-loop-i g l = record {
   stands : (hs : List History) → AllZip g.D.Device.stands l.initial.devices hs → AllZip g.D.Device.stands l.devices (map (heard_by l.bytes) (take l.i hs) ++ drop l.i hs);
   line : (hs : List History) → AllZip g.D.Device.stands l.initial.devices hs → (l.on_wire, l.wire) ≡ wave l.rule l.initial.wire (answers l.bytes (take l.i hs));
+  rest : map g.D.Device.rest l.devices ≡ map g.D.Device.rest l.initial.devices;
   as_many : length l.devices ≡ length l.initial.devices;
 }
