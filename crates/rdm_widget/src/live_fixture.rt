@@ -16,6 +16,7 @@ ghost use Rattle.rdm_saved.specs.Restoring.{restore_refusal};
 ghost use Rattle.rdm_widget.specs.LiveFixtures.{Situation, IsIn, switched_on, oldest_of, first_ended, after_report, after_next, after_several, begun, ready, after_heard, after_panel, after_restore};
 
 mod ending;
+mod on_rig;
 
 use arrayvec::ArrayVec;
 use ending::{Ended, earlier, ended_by, since_after, since_when};
@@ -119,7 +120,7 @@ impl LiveFixture {
     }
 
     /// Hands in the reports of all jobs that have ended by now. A worker that has none left may begin one.
-    fn make_ready(&mut self, now: u64)
+    pub(crate) fn make_ready(&mut self, now: u64)
         ensures { (s : Situation) → IsIn self.old s → IsIn self.new (ready now s) }
     {
         self.report_ended(now);
