@@ -4,3 +4,4 @@ pub mod Turns
 pub mod Reports
 pub mod Ready
 pub mod Ends
+pub mod Rigs

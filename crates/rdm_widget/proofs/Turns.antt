@@ -5,9 +5,8 @@ use Rattle.std.specs.Io.KnownBytes.{Appends, Consumes, Keeps}
 use Rattle.std.proofs.Math.Seq.{drop-append_seam}
 use Rattle.std.proofs.Math.ListN.{drop_of_length-le}
 use Rattle.std.proofs.lemmas.List.{map-append, take_all, length-drop, drop-drop}
-use Rattle.rdm_widget.specs.declared.live_fixture.LiveFixture.{LiveFixture}
 use Rattle.rdm_widget.specs.Framing.{Message, IsMessage, message_bytes, bytes_of, IsUnfinished, IsStray, Piece, Rubbish, Said, stream_of, messages_of, AreCut}
-use Rattle.rdm_widget.specs.LiveFixtures.{Situation, IsIn}
+use Rattle.rdm_widget.specs.Hearing.{Hearing}
 use Rattle.rdm_widget.specs.Protocol.{answer_to, after_message}
 use Rattle.rdm_widget.proofs.Frames.{unfinished_none}
 use Rattle.rdm_widget.specs.Serving.{Turn, messages_in, times_of, after_turns, answer_in, answers, Tells, IsServed, AreDone, AllWritten, LastCutShort, IsServedOnce, IsCutShort}
@@ -44,15 +43,15 @@ AreCut-append (Said m ∷ ps) qs rest cut cut' = (cut.0, AreCut-append ps qs res
 
 -- ---- turns
 
-after_turns-append : (s : Situation) (ts us : List Turn) → after_turns s (ts ++ us) ≡ after_turns (after_turns s ts) us
-after_turns-append s [] us = refl
-after_turns-append s (t ∷ ts) us = after_turns-append (after_message t.at s t.message) ts us
+after_turns-append : {D S : Type 0} (line : Hearing D S) (s : S) (ts us : List Turn) → after_turns line s (ts ++ us) ≡ after_turns line (after_turns line s ts) us
+after_turns-append line s [] us = refl
+after_turns-append line s (t ∷ ts) us = after_turns-append line (after_message line t.at s t.message) ts us
 
-answers-append : (s : Situation) (ts us : List Turn) → answers s (ts ++ us) ≡ answers s ts ++ answers (after_turns s ts) us
-answers-append s [] us = refl
-answers-append s (t ∷ ts) us =
-    ap (λ l. bytes_of (answer_to t.at s t.message) ++ l) (answers-append (after_message t.at s t.message) ts us)
-    ∙ sym (append_assoc (bytes_of (answer_to t.at s t.message)) (answers (after_message t.at s t.message) ts) (answers (after_turns s (t ∷ ts)) us))
+answers-append : {D S : Type 0} (line : Hearing D S) (s : S) (ts us : List Turn) → answers line s (ts ++ us) ≡ answers line s ts ++ answers line (after_turns line s ts) us
+answers-append line s [] us = refl
+answers-append line s (t ∷ ts) us =
+    ap (λ l. bytes_of (answer_to line t.at s t.message) ++ l) (answers-append line (after_message line t.at s t.message) ts us)
+    ∙ sym (append_assoc (bytes_of (answer_to line t.at s t.message)) (answers line (after_message line t.at s t.message) ts) (answers line (after_turns line s (t ∷ ts)) us))
 
 Tells-append : {C : Type 0} (tells : C → ℕ → C → Type 0) (a b c : C) (ts us : List ℕ) → Tells tells a ts b → Tells tells b us c → Tells tells a (ts ++ us) c
 Tells-append tells a b c [] us one two = subst (λ x. Tells tells x us c) one two
@@ -70,26 +69,26 @@ appends_then (Some a) None new xs ys h k = absurd h
 appends_then (Some a) (Some b) None xs ys h k = absurd k
 appends_then (Some a) (Some b) (Some c) xs ys h k = k ∙ ap (λ (zs : List ℕ). zs ++ ys) h ∙ append_assoc a xs ys
 
-pub all_then : (old mid new : Option (List ℕ)) (s : Situation) (ts us : List Turn) → AllWritten old mid s ts → AllWritten mid new (after_turns s ts) us → AllWritten old new s (ts ++ us)
-all_then old mid new s ts us h k =
-    subst (Appends old new) (sym (answers-append s ts us)) (appends_then old mid new (answers s ts) (answers (after_turns s ts) us) h k)
+pub all_then : {D S : Type 0} (line : Hearing D S) (old mid new : Option (List ℕ)) (s : S) (ts us : List Turn) → AllWritten line old mid s ts → AllWritten line mid new (after_turns line s ts) us → AllWritten line old new s (ts ++ us)
+all_then line old mid new s ts us h k =
+    subst (Appends old new) (sym (answers-append line s ts us)) (appends_then old mid new (answers line s ts) (answers line (after_turns line s ts) us) h k)
 
-pub short_then : (old mid new : Option (List ℕ)) (s : Situation) (ts us : List Turn) → AllWritten old mid s ts → LastCutShort mid new (after_turns s ts) us → LastCutShort old new s (ts ++ us)
-short_then old mid new s ts us h k =
-    let last : List ℕ = take k.count (answer_in (after_turns (after_turns s ts) k.before) k.last) in
-    let then : List ℕ = answers (after_turns s ts) k.before in
-    let all : Appends old new (answers s ts ++ (then ++ last)) = appends_then old mid new (answers s ts) (then ++ last) h k.written in
-    let one : Appends old new ((answers s ts ++ then) ++ last) = subst (Appends old new) (sym (append_assoc (answers s ts) then last)) all in
-    let two : Appends old new (answers s (ts ++ k.before) ++ last) = subst (λ (l : List ℕ). Appends old new (l ++ last)) (sym (answers-append s ts k.before)) one in
+pub short_then : {D S : Type 0} (line : Hearing D S) (old mid new : Option (List ℕ)) (s : S) (ts us : List Turn) → AllWritten line old mid s ts → LastCutShort line mid new (after_turns line s ts) us → LastCutShort line old new s (ts ++ us)
+short_then {S = S} line old mid new s ts us h k =
+    let last : List ℕ = take k.count (answer_in line (after_turns line (after_turns line s ts) k.before) k.last) in
+    let then : List ℕ = answers line (after_turns line s ts) k.before in
+    let all : Appends old new (answers line s ts ++ (then ++ last)) = appends_then old mid new (answers line s ts) (then ++ last) h k.written in
+    let one : Appends old new ((answers line s ts ++ then) ++ last) = subst (Appends old new) (sym (append_assoc (answers line s ts) then last)) all in
+    let two : Appends old new (answers line s (ts ++ k.before) ++ last) = subst (λ (l : List ℕ). Appends old new (l ++ last)) (sym (answers-append line s ts k.before)) one in
     record {
       before = ts ++ k.before;
       last = k.last;
       count = k.count;
       ends = ap (λ (l : List Turn). ts ++ l) k.ends ∙ sym (append_assoc ts k.before (k.last ∷ []));
-      lacks = subst (λ (t : Situation). k.count < length (answer_in t k.last)) (sym (after_turns-append s ts k.before)) k.lacks;
+      lacks = subst (λ (t : S). k.count < length (answer_in line t k.last)) (sym (after_turns-append line s ts k.before)) k.lacks;
       written =
-          subst (λ (t : Situation). Appends old new (answers s (ts ++ k.before) ++ take k.count (answer_in t k.last)))
-          (sym (after_turns-append s ts k.before)) two;
+          subst (λ (t : S). Appends old new (answers line s (ts ++ k.before) ++ take k.count (answer_in line t k.last)))
+          (sym (after_turns-append line s ts k.before)) two;
     }
 
 -- ---- what is read
@@ -112,10 +111,10 @@ consumes_kept (Some a) (Some b) (Some c) xs h k = h ∙ ap (λ (zs : List ℕ). 
 
 -- ---- parts
 
-pub join : {C : Type 0} (tells : C → ℕ → C → Type 0) (a b c : C) (bytes mid rest : List ℕ) (s : Situation) (d e : LiveFixture) (W V U : Situation → List Turn → Type 0)
-    → (one : AreDone tells a b bytes mid s d W) → AreDone tells b c mid rest (after_turns s one.turns) e V
-    → ((ts us : List Turn) → W s ts → V (after_turns s ts) us → U s (ts ++ us)) → AreDone tells a c bytes rest s e U
-join tells a b c bytes mid rest s d e W V U one two all =
+pub join : {C D S : Type 0} (tells : C → ℕ → C → Type 0) (line : Hearing D S) (a b c : C) (bytes mid rest : List ℕ) (s : S) (d e : D) (W V U : S → List Turn → Type 0)
+    → (one : AreDone tells line a b bytes mid s d W) → AreDone tells line b c mid rest (after_turns line s one.turns) e V
+    → ((ts us : List Turn) → W s ts → V (after_turns line s ts) us → U s (ts ++ us)) → AreDone tells line a c bytes rest s e U
+join tells line a b c bytes mid rest s d e W V U one two all =
     record {
       pieces = one.pieces ++ two.pieces;
       turns = one.turns ++ two.turns;
@@ -130,13 +129,13 @@ join tells a b c bytes mid rest s d e W V U one two all =
           subst (λ l. Tells tells a l c) (sym (map-append (λ (t : Turn). t.at) one.turns two.turns))
           (Tells-append tells a b c (times_of one.turns) (times_of two.turns) one.times two.times);
       written = all one.turns two.turns one.written two.written;
-      fixture = subst (IsIn e) (sym (after_turns-append s one.turns two.turns)) two.fixture;
+      situation = subst (line.is_in e) (sym (after_turns-append line s one.turns two.turns)) two.situation;
     }
 
 -- more is read behind what is left
-pub more_read : {C : Type 0} (tells : C → ℕ → C → Type 0) (a b : C) (bytes rest more : List ℕ) (s : Situation) (d : LiveFixture) (W : Situation → List Turn → Type 0)
-    → AreDone tells a b bytes rest s d W → AreDone tells a b (bytes ++ more) (rest ++ more) s d W
-more_read tells a b bytes rest more s d W one = record {
+pub more_read : {C D S : Type 0} (tells : C → ℕ → C → Type 0) (line : Hearing D S) (a b : C) (bytes rest more : List ℕ) (s : S) (d : D) (W : S → List Turn → Type 0)
+    → AreDone tells line a b bytes rest s d W → AreDone tells line a b (bytes ++ more) (rest ++ more) s d W
+more_read tells line a b bytes rest more s d W one = record {
   pieces = one.pieces;
   turns = one.turns;
   whole = ap (λ l. l ++ more) one.whole ∙ append_assoc (stream_of one.pieces) rest more;
@@ -144,13 +143,13 @@ more_read tells a b bytes rest more s d W one = record {
   said = one.said;
   times = one.times;
   written = one.written;
-  fixture = one.fixture;
+  situation = one.situation;
 }
 
 -- nothing is done yet
-pub none_done : {C : Type 0} (tells : C → ℕ → C → Type 0) (a : C) (bytes : List ℕ) (s : Situation) (d : LiveFixture) (old : Option (List ℕ))
-    → IsIn d s → AreDone tells a a bytes bytes s d (AllWritten old old)
-none_done tells a bytes s d old is = record {
+pub none_done : {C D S : Type 0} (tells : C → ℕ → C → Type 0) (line : Hearing D S) (a : C) (bytes : List ℕ) (s : S) (d : D) (old : Option (List ℕ))
+    → line.is_in d s → AreDone tells line a a bytes bytes s d (AllWritten line old old)
+none_done tells line a bytes s d old is = record {
   pieces = [];
   turns = [];
   whole = refl;
@@ -158,14 +157,14 @@ none_done tells a bytes s d old is = record {
   said = refl;
   times = refl;
   written = appends_none old;
-  fixture = is;
+  situation = is;
 }
 
 -- a stray byte is passed over
-pub stray_done : {C : Type 0} (tells : C → ℕ → C → Type 0) (a : C) (bytes : List ℕ) (s : Situation) (d : LiveFixture) (old : Option (List ℕ))
-    → IsIn d s → 0 < length bytes → IsStray bytes → AreDone tells a a bytes (drop 1 bytes) s d (AllWritten old old)
-stray_done tells a [] s d old is some stray = absurd (omega (arith, some))
-stray_done tells a (b ∷ bytes) s d old is some stray = record {
+pub stray_done : {C D S : Type 0} (tells : C → ℕ → C → Type 0) (line : Hearing D S) (a : C) (bytes : List ℕ) (s : S) (d : D) (old : Option (List ℕ))
+    → line.is_in d s → 0 < length bytes → IsStray bytes → AreDone tells line a a bytes (drop 1 bytes) s d (AllWritten line old old)
+stray_done tells line a [] s d old is some stray = absurd (omega (arith, some))
+stray_done tells line a (b ∷ bytes) s d old is some stray = record {
   pieces = Rubbish b ∷ [];
   turns = [];
   whole = refl;
@@ -173,13 +172,13 @@ stray_done tells a (b ∷ bytes) s d old is some stray = record {
   said = refl;
   times = refl;
   written = appends_none old;
-  fixture = is;
+  situation = is;
 }
 
 -- a message is answered
-pub said_done : {C : Type 0} (tells : C → ℕ → C → Type 0) (a b : C) (bytes rest : List ℕ) (m : Message) (now : ℕ) (s : Situation) (d : LiveFixture) (W : Situation → List Turn → Type 0)
-    → IsMessage m → bytes ≡ message_bytes m ++ rest → tells a now b → W s (record { at = now; message = m } ∷ []) → IsIn d (after_message now s m) → AreDone tells a b bytes rest s d W
-said_done tells a b bytes rest m now s d W is whole told written fixture = record {
+pub said_done : {C D S : Type 0} (tells : C → ℕ → C → Type 0) (line : Hearing D S) (a b : C) (bytes rest : List ℕ) (m : Message) (now : ℕ) (s : S) (d : D) (W : S → List Turn → Type 0)
+    → IsMessage m → bytes ≡ message_bytes m ++ rest → tells a now b → W s (record { at = now; message = m } ∷ []) → line.is_in d (after_message line now s m) → AreDone tells line a b bytes rest s d W
+said_done tells line a b bytes rest m now s d W is whole told written situation = record {
   pieces = Said m ∷ [];
   turns = record { at = now; message = m } ∷ [];
   whole = whole ∙ ap (λ l. l ++ rest) (sym (append-nil (message_bytes m)));
@@ -187,7 +186,7 @@ said_done tells a b bytes rest m now s d W is whole told written fixture = recor
   said = refl;
   times = (b, (told, refl));
   written = written;
-  fixture = fixture;
+  situation = situation;
 }
 
 length-message_bytes : (m : Message) → length (message_bytes m) ≡ length m.body + 5
@@ -204,33 +203,33 @@ reaches bytes rest m whole =
 
 -- ---- what has been served
 
-pub served : {C : Type 0} (tells : C → ℕ → C → Type 0) (a b : C) (unread left old new : Option (List ℕ)) (input rest : List ℕ) (s : Situation) (d : LiveFixture)
-    → Consumes unread left input → AreDone tells a b input rest s d (AllWritten old new) → IsUnfinished rest → IsServed tells a b unread left old new s d
-served tells a b unread left old new input rest s d read done unfinished = record {
+pub served : {C D S : Type 0} (tells : C → ℕ → C → Type 0) (line : Hearing D S) (a b : C) (unread left old new : Option (List ℕ)) (input rest : List ℕ) (s : S) (d : D)
+    → Consumes unread left input → AreDone tells line a b input rest s d (AllWritten line old new) → IsUnfinished rest → IsServed tells line a b unread left old new s d
+served tells line a b unread left old new input rest s d read done unfinished = record {
   input = input;
   turns = done.turns;
   read = read;
   holds = record { pieces = done.pieces; rest = rest; whole = done.whole; cut = done.cut; unfinished = unfinished; said = done.said };
   times = done.times;
   written = done.written;
-  fixture = done.fixture;
+  situation = done.situation;
 }
 
 -- ---- an answer that is written, whole or in part
 
-pub answered_ok : {C A E : Type 0} (tells : C → ℕ → C → Type 0) (a b : C) (m : Message) (now : ℕ) (d e : LiveFixture) (old new : Option (List ℕ)) (packet : List ℕ) (r : Result A E)
-    → tells a now b → ((s : Situation) → IsIn d s → packet ≡ bytes_of (answer_to now s m)) → ((s : Situation) → IsIn d s → IsIn e (after_message now s m)) → OnOk r (Appends old new packet)
-    → OnOk r ((s : Situation) (bytes rest : List ℕ) → IsIn d s → IsMessage m → bytes ≡ message_bytes m ++ rest → AreDone tells a b bytes rest s e (AllWritten old new))
-answered_ok tells a b m now d e old new packet (Ok u) told bytes_are after written =
+pub answered_ok : {C D S A E : Type 0} (tells : C → ℕ → C → Type 0) (line : Hearing D S) (a b : C) (m : Message) (now : ℕ) (d e : D) (old new : Option (List ℕ)) (packet : List ℕ) (r : Result A E)
+    → tells a now b → ((s : S) → line.is_in d s → packet ≡ bytes_of (answer_to line now s m)) → ((s : S) → line.is_in d s → line.is_in e (after_message line now s m)) → OnOk r (Appends old new packet)
+    → OnOk r ((s : S) (bytes rest : List ℕ) → line.is_in d s → IsMessage m → bytes ≡ message_bytes m ++ rest → AreDone tells line a b bytes rest s e (AllWritten line old new))
+answered_ok tells line a b m now d e old new packet (Ok u) told bytes_are after written =
     λ s bytes rest is message whole.
-    said_done tells a b bytes rest m now s e (AllWritten old new) message whole told
-    (subst (Appends old new) (bytes_are s is ∙ sym (append-nil (bytes_of (answer_to now s m)))) written) (after s is)
-answered_ok tells a b m now d e old new packet (Err fault) told bytes_are after written = written
+    said_done tells line a b bytes rest m now s e (AllWritten line old new) message whole told
+    (subst (Appends old new) (bytes_are s is ∙ sym (append-nil (bytes_of (answer_to line now s m)))) written) (after s is)
+answered_ok tells line a b m now d e old new packet (Err fault) told bytes_are after written = written
 
 -- of this answer a front that isn't all of it
-one_short : (old new : Option (List ℕ)) (s : Situation) (turn : Turn) (packet : List ℕ) → packet ≡ answer_in s turn
-    → (count : ℕ) × (count < length packet) × Appends old new (take count packet) → LastCutShort old new s (turn ∷ [])
-one_short old new s turn packet is cut = record {
+one_short : {D S : Type 0} (line : Hearing D S) (old new : Option (List ℕ)) (s : S) (turn : Turn) (packet : List ℕ) → packet ≡ answer_in line s turn
+    → (count : ℕ) × (count < length packet) × Appends old new (take count packet) → LastCutShort line old new s (turn ∷ [])
+one_short line old new s turn packet is cut = record {
   before = [];
   last = turn;
   count = cut.0;
@@ -239,15 +238,15 @@ one_short old new s turn packet is cut = record {
   written = subst (λ (l : List ℕ). Appends old new (take cut.0 l)) is cut.2;
 }
 
-pub answered_err : {C A E : Type 0} (tells : C → ℕ → C → Type 0) (a b : C) (m : Message) (now : ℕ) (d e : LiveFixture) (old new : Option (List ℕ)) (packet : List ℕ) (r : Result A E)
-    → tells a now b → ((s : Situation) → IsIn d s → packet ≡ bytes_of (answer_to now s m)) → ((s : Situation) → IsIn d s → IsIn e (after_message now s m))
+pub answered_err : {C D S A E : Type 0} (tells : C → ℕ → C → Type 0) (line : Hearing D S) (a b : C) (m : Message) (now : ℕ) (d e : D) (old new : Option (List ℕ)) (packet : List ℕ) (r : Result A E)
+    → tells a now b → ((s : S) → line.is_in d s → packet ≡ bytes_of (answer_to line now s m)) → ((s : S) → line.is_in d s → line.is_in e (after_message line now s m))
     → OnErr r ((count : ℕ) × (count < length packet) × Appends old new (take count packet))
-    → OnErr r ((s : Situation) (bytes rest : List ℕ) → IsIn d s → IsMessage m → bytes ≡ message_bytes m ++ rest → AreDone tells a b bytes rest s e (LastCutShort old new))
-answered_err tells a b m now d e old new packet (Ok u) told bytes_are after written = written
-answered_err tells a b m now d e old new packet (Err fault) told bytes_are after written =
+    → OnErr r ((s : S) (bytes rest : List ℕ) → line.is_in d s → IsMessage m → bytes ≡ message_bytes m ++ rest → AreDone tells line a b bytes rest s e (LastCutShort line old new))
+answered_err tells line a b m now d e old new packet (Ok u) told bytes_are after written = written
+answered_err tells line a b m now d e old new packet (Err fault) told bytes_are after written =
     λ s bytes rest is message whole.
-    said_done tells a b bytes rest m now s e (LastCutShort old new) message whole told
-    (one_short old new s (record { at = now; message = m }) packet (bytes_are s is) written) (after s is)
+    said_done tells line a b bytes rest m now s e (LastCutShort line old new) message whole told
+    (one_short line old new s (record { at = now; message = m }) packet (bytes_are s is) written) (after s is)
 
 pub on_ok : {A E : Type 0} (r : Result A E) (P Q : Type 0) → OnOk r P → (P → Q) → OnOk r Q
 on_ok (Ok a) P Q holds then = then holds
@@ -257,24 +256,24 @@ on_ok (Err e) P Q holds then = holds
 tail_of : (bytes : List ℕ) (done : ℕ) → take (length bytes - done) (drop done bytes) ≡ drop done bytes
 tail_of bytes done = take_all (length bytes - done) (drop done bytes) (omega (arith, length-drop done bytes))
 
-pub next_done : {C : Type 0} (tells : C → ℕ → C → Type 0) (a b c : C) (bytes : List ℕ) (done count : ℕ) (s : Situation) (d e : LiveFixture) (W V U : Situation → List Turn → Type 0)
-    → AreDone tells a b bytes (drop done bytes) s d W
-    → ((t : Situation) → IsIn d t → AreDone tells b c (take (length bytes - done) (drop done bytes)) (drop count (take (length bytes - done) (drop done bytes))) t e V)
-    → ((ts us : List Turn) → W s ts → V (after_turns s ts) us → U s (ts ++ us)) → AreDone tells a c bytes (drop (done + count) bytes) s e U
-next_done tells a b c bytes done count s d e W V U one then all =
-    subst (λ (l : List ℕ). AreDone tells a c bytes l s e U) (drop-drop count done bytes)
-    (join tells a b c bytes (drop done bytes) (drop count (drop done bytes)) s d e W V U one
-    (subst (λ (l : List ℕ). AreDone tells b c l (drop count l) (after_turns s one.turns) e V) (tail_of bytes done) (then (after_turns s one.turns) one.fixture)) all)
+pub next_done : {C D S : Type 0} (tells : C → ℕ → C → Type 0) (line : Hearing D S) (a b c : C) (bytes : List ℕ) (done count : ℕ) (s : S) (d e : D) (W V U : S → List Turn → Type 0)
+    → AreDone tells line a b bytes (drop done bytes) s d W
+    → ((t : S) → line.is_in d t → AreDone tells line b c (take (length bytes - done) (drop done bytes)) (drop count (take (length bytes - done) (drop done bytes))) t e V)
+    → ((ts us : List Turn) → W s ts → V (after_turns line s ts) us → U s (ts ++ us)) → AreDone tells line a c bytes (drop (done + count) bytes) s e U
+next_done tells line a b c bytes done count s d e W V U one then all =
+    subst (λ (l : List ℕ). AreDone tells line a c bytes l s e U) (drop-drop count done bytes)
+    (join tells line a b c bytes (drop done bytes) (drop count (drop done bytes)) s d e W V U one
+    (subst (λ (l : List ℕ). AreDone tells line b c l (drop count l) (after_turns line s one.turns) e V) (tail_of bytes done) (then (after_turns line s one.turns) one.situation)) all)
 
-pub next_fails : {C : Type 0} (tells : C → ℕ → C → Type 0) (a b c : C) (bytes : List ℕ) (done : ℕ) (s : Situation) (d e : LiveFixture) (W V U : Situation → List Turn → Type 0)
-    → AreDone tells a b bytes (drop done bytes) s d W
-    → ((t : Situation) → IsIn d t → (rest : List ℕ) × AreDone tells b c (take (length bytes - done) (drop done bytes)) rest t e V)
-    → ((ts us : List Turn) → W s ts → V (after_turns s ts) us → U s (ts ++ us)) → (rest : List ℕ) × AreDone tells a c bytes rest s e U
-next_fails tells a b c bytes done s d e W V U one then all =
-    let two = then (after_turns s one.turns) one.fixture in (
+pub next_fails : {C D S : Type 0} (tells : C → ℕ → C → Type 0) (line : Hearing D S) (a b c : C) (bytes : List ℕ) (done : ℕ) (s : S) (d e : D) (W V U : S → List Turn → Type 0)
+    → AreDone tells line a b bytes (drop done bytes) s d W
+    → ((t : S) → line.is_in d t → (rest : List ℕ) × AreDone tells line b c (take (length bytes - done) (drop done bytes)) rest t e V)
+    → ((ts us : List Turn) → W s ts → V (after_turns line s ts) us → U s (ts ++ us)) → (rest : List ℕ) × AreDone tells line a c bytes rest s e U
+next_fails tells line a b c bytes done s d e W V U one then all =
+    let two = then (after_turns line s one.turns) one.situation in (
       two.0,
-      join tells a b c bytes (drop done bytes) two.0 s d e W V U one
-          (subst (λ (l : List ℕ). AreDone tells b c l two.0 (after_turns s one.turns) e V) (tail_of bytes done) two.1) all,
+      join tells line a b c bytes (drop done bytes) two.0 s d e W V U one
+          (subst (λ (l : List ℕ). AreDone tells line b c l two.0 (after_turns line s one.turns) e V) (tail_of bytes done) two.1) all,
     )
 
 pub rest_within : (bytes : List ℕ) (done count : ℕ) → done ≤ length bytes → count ≤ length (take (length bytes - done) (drop done bytes)) → done + count ≤ length bytes
@@ -293,87 +292,95 @@ none_left bytes done all = subst IsUnfinished (sym (drop_of_length-le bytes all)
 -- ---- one read after another
 
 -- what was read since the start, and what is held of it
-pub record SoFar {C : Type 0} (tells : C → ℕ → C → Type 0) (a b : C) (unread left old new : Option (List ℕ)) (held : List ℕ) (s : Situation) (d : LiveFixture) : Type 0 where
+pub record SoFar {C D S : Type 0} (tells : C → ℕ → C → Type 0) (line : Hearing D S) (a b : C) (unread left old new : Option (List ℕ)) (held : List ℕ) (s : S) (d : D) : Type 0 where
   pub input : List ℕ
   pub read : Consumes unread left input
-  pub done : AreDone tells a b input held s d (AllWritten old new)
+  pub done : AreDone tells line a b input held s d (AllWritten line old new)
   pub unfinished : IsUnfinished held
 
-pub nothing_so_far : {C : Type 0} (tells : C → ℕ → C → Type 0) (a : C) (unread old : Option (List ℕ)) (held : List ℕ) (s : Situation) (d : LiveFixture)
-    → held ≡ [] → IsIn d s → SoFar tells a a unread unread old old held s d
-nothing_so_far tells a unread old held s d none is = record {
+pub nothing_so_far : {C D S : Type 0} (tells : C → ℕ → C → Type 0) (line : Hearing D S) (a : C) (unread old : Option (List ℕ)) (held : List ℕ) (s : S) (d : D)
+    → held ≡ [] → line.is_in d s → SoFar tells line a a unread unread old old held s d
+nothing_so_far tells line a unread old held s d none is = record {
   input = [];
   read = consumes_none unread;
-  done = subst (λ (l : List ℕ). AreDone tells a a [] l s d (AllWritten old old)) (sym none) (none_done tells a [] s d old is);
+  done = subst (λ (l : List ℕ). AreDone tells line a a [] l s d (AllWritten line old old)) (sym none) (none_done tells line a [] s d old is);
   unfinished = subst IsUnfinished (sym none) unfinished_none;
 }
 
-pub read_once : {C : Type 0} (tells : C → ℕ → C → Type 0) (a b : C) (unread left old new : Option (List ℕ)) (held bytes buffer kept : List ℕ) (count done : ℕ) (s : Situation) (d : LiveFixture)
-    → buffer ≡ held ++ bytes → length bytes ≡ count → Consumes unread left bytes → kept ≡ drop done buffer → AreDone tells a b buffer (drop done buffer) s d (AllWritten old new)
-    → IsUnfinished (drop done buffer) → IsServedOnce tells a b unread left old new held kept count s d
-read_once tells a b unread left old new held bytes buffer kept count done s d is size read kept_is all unfinished = record {
+pub read_once : {C D S : Type 0} (tells : C → ℕ → C → Type 0) (line : Hearing D S) (a b : C) (unread left old new : Option (List ℕ)) (held bytes buffer kept : List ℕ) (count done : ℕ) (s : S) (d : D)
+    → buffer ≡ held ++ bytes → length bytes ≡ count → Consumes unread left bytes → kept ≡ drop done buffer → AreDone tells line a b buffer (drop done buffer) s d (AllWritten line old new)
+    → IsUnfinished (drop done buffer) → IsServedOnce tells line a b unread left old new held kept count s d
+read_once tells line a b unread left old new held bytes buffer kept count done s d is size read kept_is all unfinished = record {
   input = bytes;
   size = size;
   read = read;
   done =
-      subst (λ (l : List ℕ). AreDone tells a b l kept s d (AllWritten old new)) is
-      (subst (λ (l : List ℕ). AreDone tells a b buffer l s d (AllWritten old new)) (sym kept_is) all);
+      subst (λ (l : List ℕ). AreDone tells line a b l kept s d (AllWritten line old new)) is
+      (subst (λ (l : List ℕ). AreDone tells line a b buffer l s d (AllWritten line old new)) (sym kept_is) all);
   unfinished = subst IsUnfinished (sym kept_is) unfinished;
 }
 
-pub cut_once : {C : Type 0} (tells : C → ℕ → C → Type 0) (a b : C) (unread left old new : Option (List ℕ)) (held bytes buffer : List ℕ) (s : Situation) (d : LiveFixture)
-    → buffer ≡ held ++ bytes → Consumes unread left bytes → (rest : List ℕ) × AreDone tells a b buffer rest s d (LastCutShort old new)
-    → IsCutShort tells a b unread left old new held s d
-cut_once tells a b unread left old new held bytes buffer s d is read short = record {
+pub cut_once : {C D S : Type 0} (tells : C → ℕ → C → Type 0) (line : Hearing D S) (a b : C) (unread left old new : Option (List ℕ)) (held bytes buffer : List ℕ) (s : S) (d : D)
+    → buffer ≡ held ++ bytes → Consumes unread left bytes → (rest : List ℕ) × AreDone tells line a b buffer rest s d (LastCutShort line old new)
+    → IsCutShort tells line a b unread left old new held s d
+cut_once tells line a b unread left old new held bytes buffer s d is read short = record {
   input = bytes;
   rest = short.0;
   read = read;
-  done = subst (λ (l : List ℕ). AreDone tells a b l short.0 s d (LastCutShort old new)) is short.1;
+  done = subst (λ (l : List ℕ). AreDone tells line a b l short.0 s d (LastCutShort line old new)) is short.1;
 }
 
-pub served_on : {C : Type 0} (tells : C → ℕ → C → Type 0) (a b c : C) (unread then left old mid new : Option (List ℕ)) (held kept : List ℕ) (count : ℕ) (s : Situation) (d e : LiveFixture)
-    → SoFar tells a b unread then old mid held s d → ((t : Situation) → IsIn d t → IsServedOnce tells b c then left mid new held kept count t e)
-    → SoFar tells a c unread left old new kept s e
+pub served_on : {C D S : Type 0} (tells : C → ℕ → C → Type 0) (line : Hearing D S) (a b c : C) (unread then left old mid new : Option (List ℕ)) (held kept : List ℕ) (count : ℕ) (s : S) (d e : D)
+    → SoFar tells line a b unread then old mid held s d → ((t : S) → line.is_in d t → IsServedOnce tells line b c then left mid new held kept count t e)
+    → SoFar tells line a c unread left old new kept s e
 unfolding more_read
-served_on tells a b c unread then left old mid new held kept count s d e so next =
-    let two = next (after_turns s so.done.turns) so.done.fixture in
-    let first : AreDone tells a b (so.input ++ two.input) (held ++ two.input) s d (AllWritten old mid) =
-    more_read tells a b so.input held two.input s d (AllWritten old mid) so.done in
+served_on tells line a b c unread then left old mid new held kept count s d e so next =
+    let two = next (after_turns line s so.done.turns) so.done.situation in
+    let first : AreDone tells line a b (so.input ++ two.input) (held ++ two.input) s d (AllWritten line old mid) =
+    more_read tells line a b so.input held two.input s d (AllWritten line old mid) so.done in
     record {
       input = so.input ++ two.input;
       read = consumes_then unread then left so.input two.input so.read two.read;
       done =
-          join tells a b c (so.input ++ two.input) (held ++ two.input) kept s d e (AllWritten old mid) (AllWritten mid new) (AllWritten old new)
-          first two.done (all_then old mid new s);
+          join tells line a b c (so.input ++ two.input) (held ++ two.input) kept s d e (AllWritten line old mid) (AllWritten line mid new) (AllWritten line old new)
+          first two.done (all_then line old mid new s);
       unfinished = two.unfinished;
     }
 
-pub fails_on : {C : Type 0} (tells : C → ℕ → C → Type 0) (a b c : C) (unread then left old mid new : Option (List ℕ)) (held : List ℕ) (s : Situation) (d e : LiveFixture)
-    → SoFar tells a b unread then old mid held s d → ((t : Situation) → IsIn d t → IsCutShort tells b c then left mid new held t e)
-    → IsCutShort tells a c unread left old new [] s e
+pub fails_on : {C D S : Type 0} (tells : C → ℕ → C → Type 0) (line : Hearing D S) (a b c : C) (unread then left old mid new : Option (List ℕ)) (held : List ℕ) (s : S) (d e : D)
+    → SoFar tells line a b unread then old mid held s d → ((t : S) → line.is_in d t → IsCutShort tells line b c then left mid new held t e)
+    → IsCutShort tells line a c unread left old new [] s e
 unfolding more_read
-fails_on tells a b c unread then left old mid new held s d e so next =
-    let two = next (after_turns s so.done.turns) so.done.fixture in
-    let first : AreDone tells a b (so.input ++ two.input) (held ++ two.input) s d (AllWritten old mid) =
-    more_read tells a b so.input held two.input s d (AllWritten old mid) so.done in
+fails_on tells line a b c unread then left old mid new held s d e so next =
+    let two = next (after_turns line s so.done.turns) so.done.situation in
+    let first : AreDone tells line a b (so.input ++ two.input) (held ++ two.input) s d (AllWritten line old mid) =
+    more_read tells line a b so.input held two.input s d (AllWritten line old mid) so.done in
     record {
       input = so.input ++ two.input;
       rest = two.rest;
       read = consumes_then unread then left so.input two.input so.read two.read;
       done =
-          join tells a b c (so.input ++ two.input) (held ++ two.input) two.rest s d e (AllWritten old mid) (LastCutShort mid new) (LastCutShort old new)
-          first two.done (short_then old mid new s);
+          join tells line a b c (so.input ++ two.input) (held ++ two.input) two.rest s d e (AllWritten line old mid) (LastCutShort line mid new) (LastCutShort line old new)
+          first two.done (short_then line old mid new s);
     }
 
-pub all_served : {C : Type 0} (tells : C → ℕ → C → Type 0) (a b : C) (unread left old new : Option (List ℕ)) (held : List ℕ) (s : Situation) (d : LiveFixture)
-    → SoFar tells a b unread left old new held s d → IsServed tells a b unread left old new s d
-all_served tells a b unread left old new held s d so = served tells a b unread left old new so.input held s d so.read so.done so.unfinished
+pub all_served : {C D S : Type 0} (tells : C → ℕ → C → Type 0) (line : Hearing D S) (a b : C) (unread left old new : Option (List ℕ)) (held : List ℕ) (s : S) (d : D)
+    → SoFar tells line a b unread left old new held s d → IsServed tells line a b unread left old new s d
+all_served tells line a b unread left old new held s d so = served tells line a b unread left old new so.input held s d so.read so.done so.unfinished
 
 -- a read that failed
-pub not_read : {C : Type 0} (tells : C → ℕ → C → Type 0) (a b : C) (unread then left old new : Option (List ℕ)) (held : List ℕ) (s : Situation) (d : LiveFixture)
-    → Keeps then left → SoFar tells a b unread then old new held s d → IsServed tells a b unread left old new s d
-not_read tells a b unread then left old new held s d kept so =
-    served tells a b unread left old new so.input held s d (consumes_kept unread then left so.input so.read kept) so.done so.unfinished
+pub not_read : {C D S : Type 0} (tells : C → ℕ → C → Type 0) (line : Hearing D S) (a b : C) (unread then left old new : Option (List ℕ)) (held : List ℕ) (s : S) (d : D)
+    → Keeps then left → SoFar tells line a b unread then old new held s d → IsServed tells line a b unread left old new s d
+not_read tells line a b unread then left old new held s d kept so =
+    served tells line a b unread left old new so.input held s d (consumes_kept unread then left so.input so.read kept) so.done so.unfinished
+
+-- and changed nothing
+pub still_served : {C D S : Type 0} (tells : C → ℕ → C → Type 0) (line : Hearing D S) (a b c : C) (unread then left old new same : Option (List ℕ)) (held : List ℕ) (s : S) (d e : D)
+    → c ≡ b → same ≡ new → e ≡ d → Keeps then left → SoFar tells line a b unread then old new held s d → IsServed tells line a c unread left old same s e
+still_served tells line a b c unread then left old new same held s d e clock writer stays kept so =
+    subst (λ x. IsServed tells line a x unread left old same s e) (sym clock)
+    (subst (λ (l : Option (List ℕ)). IsServed tells line a b unread left old l s e) (sym writer)
+    (subst (λ x. IsServed tells line a b unread left old new s x) (sym stays) (not_read tells line a b unread then left old new held s d kept so)))
 
 -- what is held is less than a message
 pub unfinished_short : (held : List ℕ) → IsUnfinished held → length held < 605

@@ -8,10 +8,12 @@ use Rattle.rdm_outcomes.specs.declared.rule.Rule.{Rule}
 use Rattle.rdm_outcomes.specs.Outcomes.{outcome_of, HasEnded}
 use Rattle.rdm_responder.specs.declared.report.Report.{Report}
 use Rattle.rdm_responder.specs.History.{Setup, Event, Heard, Arrived, Changed, Placed, Noted, Restored, History, empty_history, then_event}
+use Rattle.rdm_responder.specs.Rules.{reply_of}
 use Rattle.rdm_responder.specs.Runs.{outbox_of}
 use Rattle.rdm_responder.specs.StandsFor.{StandsFor}
 use Rattle.rdm_widget.specs.declared.live_fixture.LiveFixture.{LiveFixture}
 use Rattle.rdm_widget.specs.declared.live_fixture.ending.Ended.{Ended}
+use Rattle.rdm_widget.specs.Hearing.{Hearing}
 
 -- By which rules jobs end, what has happened to the responder, and since when each worker is at its oldest job. A worker
 -- without a job may begin one from then on.
@@ -124,10 +126,19 @@ after_restore s image = record s { history = then_event s.history (Restored imag
 -- ---- when a fixture is in a situation
 
 pub record IsIn (d : LiveFixture) (s : Situation) : Type 0 where
+  pub uid : d.uid ≡ s.history.setup.uid
   pub responder : StandsFor d.responder s.history
   pub planned : HasEnded d.planned s.rules (reported_in s.history.events)
   pub first : d.first_since ≡ s.first_since
   pub second : d.second_since ≡ s.second_since
+
+-- A fixture on a line: before it hears a request, the reports of the jobs that have ended by then are handed in.
+abbrev pub fixture_hearing : Hearing LiveFixture Situation
+fixture_hearing = record {
+  is_in = IsIn;
+  reply = λ now s bytes. reply_of (ready now s).history bytes;
+  heard = λ now s bytes. after_heard (ready now s) bytes;
+}
 
 -- ---- a law
 

@@ -1,8 +1,7 @@
--- What is answered to each message, after any history. Labels are those of the ENTTEC DMX USB Pro.
+-- What is answered to each message, whatever is on the line. Labels are those of the ENTTEC DMX USB Pro.
 use Rattle.std.specs.Prelude.{ℕ, ◌==◌, ◌||◌, List, [], ◌∷◌, Option, Some, None, if◌then◌else◌}
-use Rattle.rdm_responder.specs.Rules.{reply_of}
 use Rattle.rdm_widget.specs.Framing.{Message}
-use Rattle.rdm_widget.specs.LiveFixtures.{Situation, ready, after_heard}
+use Rattle.rdm_widget.specs.Hearing.{Hearing}
 
 -- ---- to the host
 
@@ -33,15 +32,15 @@ abbrev pub answer_of_discovery : Option (List ℕ) → List Message
 answer_of_discovery None = timeout ∷ []
 answer_of_discovery (Some bytes) = from_line bytes ∷ timeout ∷ []
 
--- What is answered to a message that comes now: to 3 the parameters, to 10 the serial number, and to 7 and 11 what the
--- fixture replies on the line. No other message is answered.
-abbrev pub answer_to : ℕ → Situation → Message → List Message
-answer_to now s m =
+-- What is answered to a message that comes now: to 3 the parameters, to 10 the serial number, and to 7 and 11 what comes from
+-- the line. No other message is answered.
+abbrev pub answer_to : {D S : Type 0} → Hearing D S → ℕ → S → Message → List Message
+answer_to line now s m =
     if m.label == 3 then parameters ∷ []
     else (if m.label == 10 then serial_number ∷ []
-    else (if m.label == 7 then answer_of_line (reply_of (ready now s).history m.body)
-    else (if m.label == 11 then answer_of_discovery (reply_of (ready now s).history m.body) else [])))
+    else (if m.label == 7 then answer_of_line (line.reply now s m.body)
+    else (if m.label == 11 then answer_of_discovery (line.reply now s m.body) else [])))
 
--- The reports of jobs that have ended are handed in before each request, and only then.
-abbrev pub after_message : ℕ → Situation → Message → Situation
-after_message now s m = if (m.label == 7) || (m.label == 11) then after_heard (ready now s) m.body else s
+-- Only a request is heard on the line.
+abbrev pub after_message : {D S : Type 0} → Hearing D S → ℕ → S → Message → S
+after_message line now s m = if (m.label == 7) || (m.label == 11) then line.heard now s m.body else s

@@ -1,33 +1,32 @@
 //! The messages of a buffer are answered.
 
 ghost use Rattle.std.specs.Prelude.{◌≡◌, ◌≤◌, ◌++◌, ℕ, List, length, drop, IfOk, OnOk, OnErr};
-ghost use Rattle.rdm_widget.specs.LiveFixtures.{Situation, IsIn};
 ghost use Rattle.rdm_widget.specs.Framing.{IsMessage, IsUnfinished, message_bytes, message_in};
 ghost use Rattle.rdm_widget.specs.Serving.{AreDone, AllWritten, LastCutShort};
 
 use crate::clock::Clock;
 use crate::framing::{FRAME_BYTES, Front, MessageView, front_of};
-use crate::live_fixture::LiveFixture;
+use crate::on_line::OnLine;
 use crate::protocol::answer;
 use rdm_streams::{WriteFault, write_all};
 use std::io::Write;
 
 /// Answers all messages that stand in these bytes, and says how many bytes are done with.
-pub(crate) fn answer_all<W: Write, C: Clock>(
+pub(crate) fn answer_all<W: Write, C: Clock, L: OnLine>(
     writer: &mut W,
     clock: &mut C,
-    fixture: &mut LiveFixture,
+    line: &mut L,
     bytes: &[u8],
 ) -> Result<usize, WriteFault>
-    ensures ok { IfOk result (λ count. (s : Situation) → IsIn fixture.old s → AreDone C.tells clock.old clock.new
-        bytes.now (drop count bytes.now) s fixture.new (AllWritten (W.contents writer.old) (W.contents writer.new))) }
+    ensures ok { IfOk result (λ count. (s : L.Situation) → L.hearing.is_in line.old s → AreDone C.tells L.hearing clock.old clock.new
+        bytes.now (drop count bytes.now) s line.new (AllWritten L.hearing (W.contents writer.old) (W.contents writer.new))) }
     ensures rest { IfOk result (λ count. (count ≤ length bytes.now) × IsUnfinished (drop count bytes.now)) }
-    ensures err { OnErr result ((s : Situation) → IsIn fixture.old s → (rest : List ℕ) × AreDone C.tells clock.old clock.new
-        bytes.now rest s fixture.new (LastCutShort (W.contents writer.old) (W.contents writer.new))) }
+    ensures err { OnErr result ((s : L.Situation) → L.hearing.is_in line.old s → (rest : List ℕ) × AreDone C.tells L.hearing clock.old clock.new
+        bytes.now rest s line.new (LastCutShort L.hearing (W.contents writer.old) (W.contents writer.new))) }
 {
     let mut done = 0;
     while done < bytes.len() {
-        match answer_front(writer, clock, fixture, &bytes[done..]) {
+        match answer_front(writer, clock, line, &bytes[done..]) {
             Ok(count) => {
                 done += count;
                 if count == 0 {
@@ -42,23 +41,23 @@ pub(crate) fn answer_all<W: Write, C: Clock>(
 
 /// Answers the message at the front of these bytes, or passes over a byte with which none begins, and says how many bytes are
 /// done with. It is 0 if a message begins of which more must be read.
-fn answer_front<W: Write, C: Clock>(
+fn answer_front<W: Write, C: Clock, L: OnLine>(
     writer: &mut W,
     clock: &mut C,
-    fixture: &mut LiveFixture,
+    line: &mut L,
     bytes: &[u8],
 ) -> Result<usize, WriteFault>
-    ensures ok { IfOk result (λ count. (s : Situation) → IsIn fixture.old s → AreDone C.tells clock.old clock.new
-        bytes.now (drop count bytes.now) s fixture.new (AllWritten (W.contents writer.old) (W.contents writer.new))) }
+    ensures ok { IfOk result (λ count. (s : L.Situation) → L.hearing.is_in line.old s → AreDone C.tells L.hearing clock.old clock.new
+        bytes.now (drop count bytes.now) s line.new (AllWritten L.hearing (W.contents writer.old) (W.contents writer.new))) }
     ensures within { IfOk result (λ count. count ≤ length bytes.now) }
     ensures unfinished { IfOk result (λ count. count ≡ 0 → IsUnfinished bytes.now) }
-    ensures err { OnErr result ((s : Situation) → IsIn fixture.old s → (rest : List ℕ) × AreDone C.tells clock.old clock.new
-        bytes.now rest s fixture.new (LastCutShort (W.contents writer.old) (W.contents writer.new))) }
+    ensures err { OnErr result ((s : L.Situation) → L.hearing.is_in line.old s → (rest : List ℕ) × AreDone C.tells L.hearing clock.old clock.new
+        bytes.now rest s line.new (LastCutShort L.hearing (W.contents writer.old) (W.contents writer.new))) }
 {
     match front_of(bytes) {
         Front::Unfinished => Ok(0),
         Front::Stray => Ok(1),
-        Front::Whole(message) => match answer_one(writer, clock, fixture, &message) {
+        Front::Whole(message) => match answer_one(writer, clock, line, &message) {
             Ok(()) => Ok(message.body.len() + FRAME_BYTES),
             Err(fault) => Err(fault),
         },
@@ -66,20 +65,20 @@ fn answer_front<W: Write, C: Clock>(
 }
 
 /// Answers a message.
-fn answer_one<W: Write, C: Clock>(
+fn answer_one<W: Write, C: Clock, L: OnLine>(
     writer: &mut W,
     clock: &mut C,
-    fixture: &mut LiveFixture,
+    line: &mut L,
     message: &MessageView<'_>,
 ) -> Result<(), WriteFault>
-    ensures ok { OnOk result ((s : Situation) (bytes rest : List ℕ) → IsIn fixture.old s → IsMessage (message_in message.now) →
-        bytes ≡ message_bytes (message_in message.now) ++ rest → AreDone C.tells clock.old clock.new
-        bytes rest s fixture.new (AllWritten (W.contents writer.old) (W.contents writer.new))) }
-    ensures err { OnErr result ((s : Situation) (bytes rest : List ℕ) → IsIn fixture.old s → IsMessage (message_in message.now) →
-        bytes ≡ message_bytes (message_in message.now) ++ rest → AreDone C.tells clock.old clock.new
-        bytes rest s fixture.new (LastCutShort (W.contents writer.old) (W.contents writer.new))) }
+    ensures ok { OnOk result ((s : L.Situation) (bytes rest : List ℕ) → L.hearing.is_in line.old s → IsMessage (message_in message.now) →
+        bytes ≡ message_bytes (message_in message.now) ++ rest → AreDone C.tells L.hearing clock.old clock.new
+        bytes rest s line.new (AllWritten L.hearing (W.contents writer.old) (W.contents writer.new))) }
+    ensures err { OnErr result ((s : L.Situation) (bytes rest : List ℕ) → L.hearing.is_in line.old s → IsMessage (message_in message.now) →
+        bytes ≡ message_bytes (message_in message.now) ++ rest → AreDone C.tells L.hearing clock.old clock.new
+        bytes rest s line.new (LastCutShort L.hearing (W.contents writer.old) (W.contents writer.new))) }
 {
     let now = clock.now();
-    let packet = answer(fixture, now, message);
+    let packet = answer(line, now, message);
     write_all(writer, packet.as_slice())
 }

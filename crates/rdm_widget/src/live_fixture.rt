@@ -16,6 +16,7 @@ ghost use Rattle.rdm_saved.specs.Restoring.{restore_refusal};
 ghost use Rattle.rdm_widget.specs.LiveFixtures.{Situation, IsIn, switched_on, oldest_of, first_ended, after_report, after_next, after_several, begun, ready, after_heard, after_panel, after_restore};
 
 mod ending;
+mod on_rig;
 
 use arrayvec::ArrayVec;
 use ending::{Ended, earlier, ended_by, since_after, since_when};
@@ -28,6 +29,7 @@ use std::alloc::Global;
 /// A fixture: a responder, and the workers that do its slow commands in their time. It keeps no queue of its own.
 #[derive(Debug, Drop)]
 pub struct LiveFixture {
+    uid: Uid,
     responder: Responder,
     // How jobs end.
     planned: Planned,
@@ -56,6 +58,7 @@ impl LiveFixture {
     {
         match Responder::new(alloc, uid, profile, queue_size) {
             Ok(responder) => Ok(LiveFixture {
+                uid,
                 responder,
                 planned: Planned::new(rules),
                 first_since: 0,
@@ -93,6 +96,13 @@ impl LiveFixture {
         self.responder.restore(image)
     }
 
+    /// Its UID.
+    pub fn uid(&self) -> Uid
+        ensures { (s : Situation) → IsIn self.now s → result ≡ s.history.setup.uid }
+    {
+        self.uid
+    }
+
     /// The responder: what the fixture's parameters are now, and what waits for the controller.
     pub fn responder(&self) -> &Responder
         ensures { (s : Situation) → IsIn self.now s → StandsFor result.now s.history }
@@ -101,7 +111,7 @@ impl LiveFixture {
     }
 
     /// Hears a request on the line at this time, and says whether there is a reply, whose bytes are put into `reply`.
-    pub(crate) fn hear(&mut self, now: u64, request: &[u8], reply: &mut Wire) -> bool
+    pub(crate) fn hear_at(&mut self, now: u64, request: &[u8], reply: &mut Wire) -> bool
         ensures reply { (s : Situation) → IsIn self.old s → answered result reply.new ≡ reply_of (ready now s).history request.now }
         ensures fixture { (s : Situation) → IsIn self.old s → IsIn self.new (after_heard (ready now s) request.now) }
     {
@@ -110,7 +120,7 @@ impl LiveFixture {
     }
 
     /// Hands in the reports of all jobs that have ended by now. A worker that has none left may begin one.
-    fn make_ready(&mut self, now: u64)
+    pub(crate) fn make_ready(&mut self, now: u64)
         ensures { (s : Situation) → IsIn self.old s → IsIn self.new (ready now s) }
     {
         self.report_ended(now);

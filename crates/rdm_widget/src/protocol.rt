@@ -1,13 +1,11 @@
 //! What is answered to a message.
 
 ghost use Rattle.std.specs.Prelude.{◌≡◌, ◌≤◌, length};
-ghost use Rattle.rdm_responder.specs.Rules.{reply_of};
-ghost use Rattle.rdm_widget.specs.LiveFixtures.{Situation, IsIn, ready, after_heard};
 ghost use Rattle.rdm_widget.specs.Framing.{bytes_of, message_bytes, message_in};
 ghost use Rattle.rdm_widget.specs.Protocol as says;
 
 use crate::framing::{MessageView, Packet, packet_of};
-use crate::live_fixture::LiveFixture;
+use crate::on_line::OnLine;
 use rdm_frame::{Bytes, Wire};
 
 /// From the host: which parameters the interface has. To the host: these.
@@ -34,27 +32,29 @@ const PARAMETER_BYTES: [u8; 5] = [0x04, 0x02, 9, 1, 40];
 const SERIAL_BYTES: [u8; 4] = [0x01, 0x00, 0x00, 0x00];
 
 /// The bytes of the answer to a message that comes now.
-pub(crate) fn answer(fixture: &mut LiveFixture, now: u64, message: &MessageView<'_>) -> Packet
-    ensures bytes { (s : Situation) → IsIn fixture.old s → result ≡ bytes_of (says.answer_to now s (message_in message.now)) }
-    ensures fixture { (s : Situation) → IsIn fixture.old s → IsIn fixture.new (says.after_message now s (message_in message.now)) }
+pub(crate) fn answer<L: OnLine>(line: &mut L, now: u64, message: &MessageView<'_>) -> Packet
+    ensures bytes { (s : L.Situation) → L.hearing.is_in line.old s →
+        result ≡ bytes_of (says.answer_to L.hearing now s (message_in message.now)) }
+    ensures heard { (s : L.Situation) → L.hearing.is_in line.old s →
+        L.hearing.is_in line.new (says.after_message L.hearing now s (message_in message.now)) }
 {
     match message.label {
         PARAMETERS => packet_of(PARAMETERS, &PARAMETER_BYTES),
         SERIAL_NUMBER => packet_of(SERIAL_NUMBER, &SERIAL_BYTES),
-        REQUEST => answer_request(fixture, now, message.body),
-        DISCOVERY => answer_discovery(fixture, now, message.body),
+        REQUEST => answer_request(line, now, message.body),
+        DISCOVERY => answer_discovery(line, now, message.body),
         _ => Bytes::new(),
     }
 }
 
 /// The answer to a request for the line: the reply, or that none came.
-fn answer_request(fixture: &mut LiveFixture, now: u64, request: &[u8]) -> Packet
-    ensures bytes { (s : Situation) → IsIn fixture.old s →
-        result ≡ bytes_of (says.answer_of_line (reply_of (ready now s).history request.now)) }
-    ensures fixture { (s : Situation) → IsIn fixture.old s → IsIn fixture.new (after_heard (ready now s) request.now) }
+fn answer_request<L: OnLine>(line: &mut L, now: u64, request: &[u8]) -> Packet
+    ensures bytes { (s : L.Situation) → L.hearing.is_in line.old s →
+        result ≡ bytes_of (says.answer_of_line (L.hearing.reply now s request.now)) }
+    ensures heard { (s : L.Situation) → L.hearing.is_in line.old s → L.hearing.is_in line.new (L.hearing.heard now s request.now) }
 {
     let mut reply = Wire::new();
-    if fixture.hear(now, request, &mut reply) {
+    if line.hear(now, request, &mut reply) {
         from_line(&reply)
     } else {
         packet_of(TIMEOUT, &[])
@@ -62,14 +62,14 @@ fn answer_request(fixture: &mut LiveFixture, now: u64, request: &[u8]) -> Packet
 }
 
 /// The answer to a discovery request: the reply, if one came, and the end.
-fn answer_discovery(fixture: &mut LiveFixture, now: u64, request: &[u8]) -> Packet
-    ensures bytes { (s : Situation) → IsIn fixture.old s →
-        result ≡ bytes_of (says.answer_of_discovery (reply_of (ready now s).history request.now)) }
-    ensures fixture { (s : Situation) → IsIn fixture.old s → IsIn fixture.new (after_heard (ready now s) request.now) }
+fn answer_discovery<L: OnLine>(line: &mut L, now: u64, request: &[u8]) -> Packet
+    ensures bytes { (s : L.Situation) → L.hearing.is_in line.old s →
+        result ≡ bytes_of (says.answer_of_discovery (L.hearing.reply now s request.now)) }
+    ensures heard { (s : L.Situation) → L.hearing.is_in line.old s → L.hearing.is_in line.new (L.hearing.heard now s request.now) }
 {
     let mut reply = Wire::new();
     let end = packet_of(TIMEOUT, &[]);
-    if fixture.hear(now, request, &mut reply) {
+    if line.hear(now, request, &mut reply) {
         let mut packet = from_line(&reply);
         packet.append(end.as_slice());
         packet

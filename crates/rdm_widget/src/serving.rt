@@ -3,13 +3,12 @@
 ghost use Rattle.std.specs.Prelude.{◌≡◌, ◌≤◌, ◌<◌, ◌+◌, [], length, drop, IfOk, OnOk};
 ghost use Rattle.std.specs.Io.KnownBytes.{IsAtEnd, Keeps};
 ghost use Rattle.rdm_widget.specs.declared.serving.ServeError.TheVariants.{Read as ReadFault, Write as WriteFault};
-ghost use Rattle.rdm_widget.specs.LiveFixtures.{Situation, IsIn};
 ghost use Rattle.rdm_widget.specs.Serving.{IsServed, IsServedOnce, IsCutShort};
 
 use crate::answering::answer_all;
 use crate::clock::Clock;
 use crate::framing::Packet;
-use crate::live_fixture::LiveFixture;
+use crate::on_line::OnLine;
 use crate::reading::take_more;
 use rdm_frame::Bytes;
 use std::io::{Read, Write};
@@ -30,33 +29,33 @@ pub enum ServeError {
 /// which is 0 at the end of the stream. What isn't a message is skipped, and held is then the beginning of a message.
 ///
 /// It takes no memory. A caller begins with nothing held, and ends if it fails to write: then an answer is cut off.
-pub fn serve_some<R: Read, W: Write, C: Clock>(
+pub fn serve_some<R: Read, W: Write, C: Clock, L: OnLine>(
     reader: &mut R,
     writer: &mut W,
     clock: &mut C,
-    fixture: &mut LiveFixture,
+    line: &mut L,
     held: &mut Packet,
 ) -> Result<usize, ServeError>
     requires { length held.old < 605 }
     // All messages that are whole are answered, and only the beginning of one is held.
-    ensures ok { IfOk result (λ count. (s : Situation) → IsIn fixture.old s → IsServedOnce C.tells clock.old clock.new
+    ensures ok { IfOk result (λ count. (s : L.Situation) → L.hearing.is_in line.old s → IsServedOnce C.tells L.hearing clock.old clock.new
         (R.remaining reader.old) (R.remaining reader.new) (W.contents writer.old) (W.contents writer.new)
-        held.old held.new count s fixture.new) }
+        held.old held.new count s line.new) }
     // No more is read than there is room for behind what was held.
     ensures within { IfOk result (λ count. length held.old + count ≤ 605) }
     ensures room { OnOk result (length held.new < 605) }
     ensures end { result ≡ Ok 0 → IsAtEnd (R.remaining reader.new) }
     // Where the reader failed nothing has changed.
     ensures read { result ≡ Err ReadFault → Keeps (R.remaining reader.old) (R.remaining reader.new)
-        × (writer.new ≡ writer.old) × (clock.new ≡ clock.old) × (fixture.new ≡ fixture.old) × (held.new ≡ held.old) }
+        × (writer.new ≡ writer.old) × (clock.new ≡ clock.old) × (line.new ≡ line.old) × (held.new ≡ held.old) }
     // Where the writer failed, a message was read whose answer isn't all written, and the answers before it are.
-    ensures write { result ≡ Err WriteFault → (s : Situation) → IsIn fixture.old s → IsCutShort C.tells clock.old clock.new
-        (R.remaining reader.old) (R.remaining reader.new) (W.contents writer.old) (W.contents writer.new) held.old s fixture.new }
+    ensures write { result ≡ Err WriteFault → (s : L.Situation) → L.hearing.is_in line.old s → IsCutShort C.tells L.hearing clock.old clock.new
+        (R.remaining reader.old) (R.remaining reader.new) (W.contents writer.old) (W.contents writer.new) held.old s line.new }
 {
     let Ok(count) = take_more(reader, held) else {
         return Err(ServeError::Read);
     };
-    let Ok(done) = answer_all(writer, clock, fixture, held.as_slice()) else {
+    let Ok(done) = answer_all(writer, clock, line, held.as_slice()) else {
         return Err(ServeError::Write);
     };
     *held = rest_of(held, done);
@@ -66,27 +65,27 @@ pub fn serve_some<R: Read, W: Write, C: Clock>(
 /// Answers each message of a stream, until the stream ends: `serve_some` again and again. What isn't a message is skipped.
 ///
 /// It takes no memory, and holds 604 bytes of the stream at most.
-pub fn serve<R: Read, W: Write, C: Clock>(
+pub fn serve<R: Read, W: Write, C: Clock, L: OnLine>(
     reader: &mut R,
     writer: &mut W,
     clock: &mut C,
-    fixture: &mut LiveFixture,
+    line: &mut L,
 ) -> Result<(), ServeError>
     // All messages of the stream are answered,
-    ensures ok { OnOk result ((s : Situation) → IsIn fixture.old s → IsServed C.tells clock.old clock.new
-        (R.remaining reader.old) (R.remaining reader.new) (W.contents writer.old) (W.contents writer.new) s fixture.new) }
+    ensures ok { OnOk result ((s : L.Situation) → L.hearing.is_in line.old s → IsServed C.tells L.hearing clock.old clock.new
+        (R.remaining reader.old) (R.remaining reader.new) (W.contents writer.old) (W.contents writer.new) s line.new) }
     // and it is read to its end.
     ensures whole { OnOk result (IsAtEnd (R.remaining reader.new)) }
     // Where the reader failed, all messages of what was read before are answered.
-    ensures read { result ≡ Err ReadFault → (s : Situation) → IsIn fixture.old s → IsServed C.tells clock.old clock.new
-        (R.remaining reader.old) (R.remaining reader.new) (W.contents writer.old) (W.contents writer.new) s fixture.new }
+    ensures read { result ≡ Err ReadFault → (s : L.Situation) → L.hearing.is_in line.old s → IsServed C.tells L.hearing clock.old clock.new
+        (R.remaining reader.old) (R.remaining reader.new) (W.contents writer.old) (W.contents writer.new) s line.new }
     // Where the writer failed, a message was read whose answer isn't all written, and the answers before it are.
-    ensures write { result ≡ Err WriteFault → (s : Situation) → IsIn fixture.old s → IsCutShort C.tells clock.old clock.new
-        (R.remaining reader.old) (R.remaining reader.new) (W.contents writer.old) (W.contents writer.new) [] s fixture.new }
+    ensures write { result ≡ Err WriteFault → (s : L.Situation) → L.hearing.is_in line.old s → IsCutShort C.tells L.hearing clock.old clock.new
+        (R.remaining reader.old) (R.remaining reader.new) (W.contents writer.old) (W.contents writer.new) [] s line.new }
 {
     let mut held = Packet::new();
     for _turn in 0..u64::MAX {
-        match serve_some(reader, writer, clock, fixture, &mut held) {
+        match serve_some(reader, writer, clock, line, &mut held) {
             Ok(count) => {
                 if count == 0 {
                     return Ok(());

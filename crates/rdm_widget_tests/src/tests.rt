@@ -1,6 +1,7 @@
 //! A fixture by a clock that tells what a test wants, on lines that are lists of bytes.
 
 mod faults;
+mod rig;
 mod streams;
 mod time;
 
@@ -55,11 +56,16 @@ fn put(rt: &(impl AllocGlobal + Abort), bytes: &mut Vec<u8>, label: u8, head: &s
 
 /// The demonstration fixture.
 fn fixture(rt: &(impl AllocGlobal + Abort)) -> LiveFixture {
-    let device = Uid {
+    fixture_with(rt, 1)
+}
+
+/// The demonstration fixture with this device ID.
+fn fixture_with(rt: &(impl AllocGlobal + Abort), device: u32) -> LiveFixture {
+    let uid = Uid {
         maker: 0x7FF0,
-        device: 1,
+        device,
     };
-    LiveFixture::new(rt.alloc(), device, Profile::demo(0), 8, &demo_rules()).expect(rt, "memory")
+    LiveFixture::new(rt.alloc(), uid, Profile::demo(0), 8, &demo_rules()).expect(rt, "memory")
 }
 
 /// Serves what is read by a clock that tells these times.

@@ -1,13 +1,12 @@
 use Rattle.std.proofs.Common.{length, drop, ◌-◌, ◌≤◌}
-use Rattle.rdm_widget.specs.LiveFixtures.{Situation, IsIn}
 use Rattle.rdm_widget.specs.Serving.{AreDone, AllWritten}
 use Rattle.rdm_widget.proofs.answering.answer_all.Given as goal
 
 abbrev pub invariant-loop-done : goal.invariant-loop-done
 invariant-loop-done g l = record {
   within : l.done ≤ length l.bytes;
-  answered : (s : Situation) → IsIn l.fn.fixture s → AreDone g.C.Clock.tells l.fn.clock l.clock l.bytes (drop l.done l.bytes) s l.fixture
-      (AllWritten (g.W.Write.contents l.fn.writer) (g.W.Write.contents l.writer));
+  answered : (s : g.L.OnLine.Situation) → g.L.OnLine.hearing.is_in l.fn.line s → AreDone g.C.Clock.tells g.L.OnLine.hearing l.fn.clock l.clock l.bytes (drop l.done l.bytes) s l.line
+      (AllWritten g.L.OnLine.hearing (g.W.Write.contents l.fn.writer) (g.W.Write.contents l.writer));
 }
 
 abbrev pub decreases-loop-done : goal.decreases-loop-done

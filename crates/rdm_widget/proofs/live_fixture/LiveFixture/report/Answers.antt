@@ -33,6 +33,7 @@ returns c = λ s is oldest.
     (λ a q. q.1 s.history is.responder (record { oldest = oldest; fits = fit }))
     s.history is.responder in
     record {
+      uid = is.uid;
       responder =
           subst (λ (o : Outcome). StandsFor c.arrive.new.self (then_event s.history (Arrived (record { job = c.args.ended.now.job; outcome = o })))) counts.0 stands;
       planned =

@@ -15,6 +15,7 @@ returns-clause-fixture c =
     ((s : Situation) → IsIn c.args.self.now s → IsIn (record c.args.self.now { responder = c.restore.new.self }) (after_restore s c.args.image.now))
     c.restore.ensures.stands
     (λ stands s is. record {
+      uid = is.uid;
       responder = stands s.history is.responder;
       planned =
           subst (λ (l : List Job). HasEnded c.args.self.now.planned s.rules l) (sym (reported-restored s.history.events c.args.image.now)) is.planned;

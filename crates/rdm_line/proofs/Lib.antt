@@ -1,0 +1,9 @@
+pub mod Alone
+pub mod Each
+pub mod Joinings
+pub mod Loops
+pub mod Ones
+pub mod Searches
+pub mod Unheard
+pub mod Waves
+pub mod Zips

@@ -1,0 +1,32 @@
+//! What is on a line.
+
+use rdm_frame::{Uid, Wire};
+
+/// A device on a line.
+///
+/// What it does is a responder's: after any history that it stands for, it answers by the reply rules of `rdm_responder`.
+pub trait Device: Drop {
+    ghost use Rattle.std.specs.Prelude.{◌≡◌};
+    ghost use Rattle.std.specs.Bool.{OnFalse};
+    ghost use Rattle.rdm_responder.specs.History.{History, Heard, then_event};
+    ghost use Rattle.rdm_responder.specs.Rules.{answered, reply_of};
+
+    // It is in the state that this history leads to.
+    ghost stands: { Self → History → Type 0 };
+
+    // What of it no bytes change.
+    ghost Rest: { Type 0 };
+
+    ghost rest: { Self → Rest };
+
+    /// Its UID.
+    fn uid(&self) -> Uid
+        ensures uid { (h : History) → stands self.now h → result ≡ h.setup.uid };
+
+    /// Hears bytes, and says whether it replied. The bytes of the reply stand in `wire`, which stays as it was if there is none.
+    fn hear(&mut self, bytes: &[u8], wire: &mut Wire) -> bool
+        ensures reply { (h : History) → stands self.old h → answered result wire.new ≡ reply_of h bytes.now }
+        ensures silent { OnFalse result (wire.new ≡ wire.old) }
+        ensures rest { rest self.new ≡ rest self.old }
+        ensures stands { (h : History) → stands self.old h → stands self.new (then_event h (Heard bytes.now)) };
+}

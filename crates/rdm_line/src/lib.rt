@@ -1,0 +1,22 @@
+//! A line of Remote Device Management with many devices on it (ANSI E1.20-2010).
+//!
+//! `Line::hear` gives bytes to each device that they address and tells what is on the wire then: nothing, one reply, or a
+//! collision. Only answers to DISC_UNIQUE_BRANCH collide (section 7.5); what they sound like together is chosen with the line.
+#![tactic(auto)]
+
+mod collision;
+mod device;
+mod errand;
+mod hearing;
+mod joining;
+mod line;
+mod on_wire;
+mod station;
+
+pub use collision::Collision;
+pub use device::Device;
+pub use errand::Errand;
+pub use joining::{JoinError, Refused};
+pub use line::Line;
+pub use on_wire::OnWire;
+pub use station::Station;

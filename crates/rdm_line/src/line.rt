@@ -1,0 +1,88 @@
+//! The line.
+
+use crate::{Collision, Device};
+use rdm_frame::{Uid, Wire};
+use std::alloc::Global;
+use std::marker::Model;
+
+/// A line: devices of different UIDs on one pair of wires.
+///
+/// Beside what the devices take, there are 16 bytes of memory for each at most.
+#[derive(Drop)]
+pub struct Line<D: Device> {
+    // In the order of their UIDs.
+    pub(crate) devices: Vec<D>,
+    // The number of the UID of each device, by which it is found.
+    pub(crate) numbers: Vec<u64>,
+    pub(crate) rule: Collision,
+    // Where the answers to a broadcast are heard. It has a place here so that none is made for each.
+    pub(crate) spare: Wire,
+}
+
+impl<D: Device> Model for Line<D> {
+    ghost use Rattle.std.specs.Prelude.{◌≡◌, length, map};
+    ghost use Rattle.rdm_line.specs.Line.{State, AreInOrder, uid_of};
+
+    ghost Value = { State D };
+
+    ghost view = { λ l. record { devices = l.devices.items; uids = map uid_of l.numbers.items; rule = l.rule } };
+
+    ghost invariant = { λ l. AreInOrder l.numbers.items × (length l.devices.items ≡ length l.numbers.items) };
+}
+
+impl<D: Device> Line<D> {
+    ghost use Rattle.std.specs.Prelude.{◌≡◌, ◌↔◌, ◌<◌, ℕ, true, [], length, slice_get, Contains, IsSome, IfSome, Some};
+    ghost use Rattle.rdm_line.specs.Line.{StandFor, IsOnlyAt};
+
+    /// A line with no device, on which collisions sound so.
+    pub fn new(alloc: Global, rule: Collision) -> Line<D>
+        ensures devices { result.devices ≡ [] }
+        ensures rule { result.rule ≡ rule }
+        ensures stands { StandFor D.stands result [] }
+    {
+        Line {
+            devices: Vec::new(alloc),
+            numbers: Vec::new(alloc),
+            rule,
+            spare: Wire::new(),
+        }
+    }
+
+    /// How many devices there are.
+    pub fn len(&self) -> usize
+        ensures { result ≡ length self.now.devices }
+    {
+        self.devices.len()
+    }
+
+    /// Whether there is none.
+    pub fn is_empty(&self) -> bool
+        ensures { (result ≡ true) ↔ (self.now.devices ≡ []) }
+    {
+        self.devices.is_empty()
+    }
+
+    /// The devices, in the order of their UIDs.
+    pub fn devices(&self) -> &[D]
+        ensures { result.now ≡ self.now.devices }
+    {
+        self.devices.as_slice()
+    }
+
+    /// The device with this UID.
+    pub fn get(&self, uid: Uid) -> Option<&D>
+        ensures found { IsSome result ↔ Contains self.now.uids uid }
+        ensures one { IfSome result (λ d. (i : ℕ) × IsOnlyAt uid self.now.uids i × (slice_get self.now.devices i ≡ Some d.now)) }
+    {
+        let index = self.find(uid)?;
+        Some(&self.devices[index])
+    }
+
+    /// Where the device with this UID stands.
+    pub fn find(&self, uid: Uid) -> Option<usize>
+        ensures found { IsSome result ↔ Contains self.now.uids uid }
+        ensures place { IfSome result (λ i. IsOnlyAt uid self.now.uids i × (i < length self.now.devices)) }
+    {
+        self.numbers.binary_search(&uid.number()).ok()
+    }
+}
