@@ -4,14 +4,11 @@ ghost use Rattle.std.specs.Prelude.{◌≡◌};
 ghost use Rattle.rdm_collector.specs.Replies.{reply_in, is_response, response_in};
 
 use rdm_frame::standard::{
-    ACK, ACK_TIMER, DISCOVERY_COMMAND_RESPONSE, GET_COMMAND_RESPONSE, NACK_REASON,
+    ACK, ACK_OVERFLOW, ACK_TIMER, DISCOVERY_COMMAND_RESPONSE, GET_COMMAND_RESPONSE, NACK_REASON,
     SET_COMMAND_RESPONSE,
 };
 use rdm_frame::{Uid, decode_view};
 use std::marker::Model;
-
-/// The response type of data that don't fit one response (E1.20 table A-2, section 6.3.2).
-const ACK_OVERFLOW: u8 = 0x03;
 
 /// How a request is answered (E1.20 section 6.3, table A-2).
 #[derive(Clone, Copy, Debug, PartialEq, Eq)]

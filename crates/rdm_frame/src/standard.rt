@@ -34,6 +34,9 @@ pub const ACK_TIMER: u8 = 0x01;
 /// The response type of a rejected request; its data are a reason of 16 bits (table A-2, section 6.3.4).
 pub const NACK_REASON: u8 = 0x02;
 
+/// The response type of a part of data that don't fit one response (table A-2, section 6.3.2).
+pub const ACK_OVERFLOW: u8 = 0x03;
+
 /// The status type that asks for the last message again, STATUS_GET_LAST_MESSAGE (table A-4).
 pub const GET_LAST_MESSAGE: u8 = 0x01;
 
