@@ -65,8 +65,8 @@ def play_rig(session, program, rig, room):
     with line(room / rig.name, rig.program(program)):
         for uid, step in rig_steps(rig):
             session.count(steps.difference(step, steps.ask(step.asked, session.definitions, uid)))
-    print(f"ola: a rig of {len(rig.uids)}: {session.played - played} steps in {time.monotonic() - begun:.0f} s, "
-          f"{session.wrong - wrong} of them wrong", flush=True)
+    print(f"ola: a rig of {len(rig.uids)}, asked {session.played - played} times in {time.monotonic() - begun:.0f} s: "
+          f"{session.wrong - wrong} answers wrong", flush=True)
 
 
 def play(program, new_session):
