@@ -1,4 +1,5 @@
 pub mod Alone
+pub mod Collisions
 pub mod Joinings
 pub mod Loops
 pub mod Ones

@@ -1,3 +1,4 @@
 pub mod Collisions
 pub mod Hearing
+pub mod Laws
 pub mod Line
