@@ -65,7 +65,7 @@ no_reply a f (Set g) fits all other = no_answer _ f g _ _ fits all
 
 -- ---- who answers
 
-silent_all : (hs : List History) (bytes : List ℕ) → ((h : History) → reply_of h bytes ≡ None) → answers bytes hs ≡ []
+pub silent_all : (hs : List History) (bytes : List ℕ) → ((h : History) → reply_of h bytes ≡ None) → answers bytes hs ≡ []
 silent_all [] bytes none = refl
 silent_all (h ∷ hs) bytes none = ap (λ (o : Option (List ℕ)). option_to_list o ++ answers bytes hs) (none h) ∙ silent_all hs bytes none
 

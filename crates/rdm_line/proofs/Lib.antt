@@ -4,6 +4,7 @@ pub mod Joinings
 pub mod Loops
 pub mod Ones
 pub mod Searches
+pub mod Searching
 pub mod Unheard
 pub mod Waves
 pub mod Zips

@@ -16,7 +16,7 @@ mod station;
 pub use collision::Collision;
 pub use device::Device;
 pub use joining::{JoinError, Refused};
-pub use laws::{only_branches_collide, unheard_bytes_change_nothing};
+pub use laws::{only_branches_collide, searches_hear_a_line, unheard_bytes_change_nothing};
 pub use line::Line;
 pub use on_wire::OnWire;
 pub use station::Station;
