@@ -1,11 +1,11 @@
 -- A line of devices, as a search sees it.
-use Rattle.std.proofs.Common.{◌≡◌, ◌≢◌, ◌↔◌, ℕ, zero, suc, ◌+◌, ◌-◌, ◌^◌, ◌<◌, ◌≤◌, Bool, true, false, List, [], ◌∷◌, ◌++◌, length, get_or, map, drop, Option, Some, None, refl, sym, ap, subst, ◌∙◌, inl, inr, cond, arith}
-use Rattle.std.specs.Prelude.{◌&&◌, ◌||◌, ◌==◌, not, nat_le, max, fold, is_some, IsSome, AllPairs, All, Contains, slice_index_or, slice_index, bit_or}
-use Rattle.std.specs.Option.{option_to_list}
+use Rattle.std.proofs.Common.{◌≡◌, ◌≢◌, ◌↔◌, ℕ, zero, suc, ◌+◌, ◌-◌, ◌^◌, ◌<◌, ◌≤◌, Bool, true, false, List, [], ◌∷◌, ◌++◌, length, get_or, map, drop, Option, Some, None, refl, sym, ap, subst, ◌∙◌, inl, inr, ◌⊎◌, cond, arith}
+use Rattle.std.specs.Prelude.{◌&&◌, ◌||◌, ◌==◌, not, nat_le, max, fold, is_some, IsSome, AllPairs, All, Contains, slice_index_or, slice_index, bit_or, if◌then◌else◌}
+use Rattle.std.specs.Option.{option_to_list, option_and_then}
 use Rattle.std.specs.List.{filter, range_with_len}
 use Rattle.std.specs.Int.{w16, to_be_bytes}
 use Rattle.std.specs.Str.{bytes_eq}
-use Rattle.std.proofs.lemmas.Bool.{cond-true, cond-false, or_left, or_right, cases_Bool, both_ways, cases_lt, le-leb}
+use Rattle.std.proofs.lemmas.Bool.{cond-true, cond-false, cond_both, false≢true, or_left, or_right, cases_Bool, both_ways, cases_lt, le-leb}
 use Rattle.std.proofs.lemmas.List.{length-map, length-append, get_or-append_right}
 use Rattle.std.proofs.lemmas.Nat.{from_be_bytes-to_be_bytes_2, from_be_bytes-to_be_bytes_4}
 use Rattle.std.proofs.lemmas.List.FromFn.{length-map-range_with_len}
@@ -14,7 +14,7 @@ use Rattle.rdm_frame.specs.declared.uid.Uid.{Uid}
 use Rattle.rdm_frame.specs.declared.frame.Frame.{Frame}
 use Rattle.rdm_frame.specs.Addressing.{is_addressed, is_broadcast, same_uid, all_devices}
 use Rattle.rdm_frame.specs.Discovery.{branch_reply, IsBranchReply}
-use Rattle.rdm_frame.specs.FrameText.{frame_text, IsFrame, IsUid, uid_slots}
+use Rattle.rdm_frame.specs.FrameText.{frame_text, head_slots, IsFrame, IsUid, uid_slots}
 use Rattle.rdm_frame.specs.Reading.{frame_in, frame_of, uid_at}
 use Rattle.rdm_frame.proofs.Texts.{frame_again}
 use Rattle.rdm_search.specs.declared.request.Request.{Request as Asked}
@@ -23,16 +23,20 @@ use Rattle.rdm_search.specs.Line.{Fixture, IsDevice, IsCalled, IsHeard, calls, c
 use Rattle.rdm_search.specs.Requests.{request_frame, IsRequest}
 use Rattle.rdm_responder.specs.History.{History, Heard, then_event}
 use Rattle.rdm_responder.specs.Requests.{Request, Ignored, Branch, Muting, Get, Set, discovery_of, get_of, request_of, request_in}
-use Rattle.rdm_responder.specs.Rules.{Account, account_of, account_with, answer_to, is_between, is_muted, reply_of}
+use Rattle.rdm_responder.specs.Rules.{Account, account_of, account_with, answer_to, is_between, is_muted, reply_of, Response, answer_with, control_field}
+use Rattle.rdm_params.specs.Device.Parameters.{Parameters}
+use Rattle.rdm_search.specs.Answers.{mute_answer, is_mute_answer, found_in}
 use Rattle.rdm_responder.proofs.Accounts.{account_of-then}
 use Rattle.rdm_line.specs.declared.collision.Collision.{Collision}
 use Rattle.rdm_line.specs.declared.collision.Collision.TheVariants.{AllBits, First, Rubbish}
 use Rattle.rdm_line.specs.Collisions.{all_bits, collided, on_wire}
 use Rattle.rdm_line.specs.Hearing.{answers, hears, heard_by}
 use Rattle.rdm_line.specs.Line.{uids_of}
-use Rattle.rdm_line.specs.Searching.{fixture_of, RequestsMute, BranchesAreHeard}
-use Rattle.rdm_line.proofs.Collisions.{silent_all, no_answer}
-use Rattle.rdm_line.proofs.Unheard.{setup_of, heard_as, unchanged, uid_stays}
+use Rattle.rdm_line.specs.Searching.{fixture_of, RequestsMute, RequestsAreHeard}
+use Rattle.rdm_line.proofs.Collisions.{silent_all, no_answer, one_answers, broadcasts}
+use Rattle.rdm_line.specs.Laws.{IsBranch}
+use Rattle.rdm_line.proofs.Alone.{uid_decides, absent_deaf}
+use Rattle.rdm_line.proofs.Unheard.{setup_of, heard_as, unchanged, uid_stays, deaf_silent, frame_read}
 
 -- ---- a frame is read as itself
 
@@ -231,7 +235,130 @@ branches_are_heard hs rule source tn low high fit_low fit_high fits =
     (sym (branch_answers low high (frame_text (request_frame source tn (UniqueBranch low high))) (branch_reply_of source tn low high fit_low fit_high fits) hs))
     (called rule (callers low high (map fixture_of hs)))
 
-pub to_all_is_heard : BranchesAreHeard
-to_all_is_heard hs rule UnMute source tn all is fits = un_mutes_are_heard hs rule source tn fits
-to_all_is_heard hs rule (UniqueBranch low high) source tn all is fits = branches_are_heard hs rule source tn low high is.0 is.1 fits
-to_all_is_heard hs rule (Mute uid) source tn all is fits = absurd all
+-- ---- the answer to a mute
+
+some_same : (f g : Frame) → Some f ≡ Some g → f ≡ g
+some_same f g e = cc
+
+-- the response of a device with that control field
+abbrev answer_frame : Uid → Uid → ℕ → List ℕ → Frame
+answer_frame own source tn body = record { dst = source; src = own; tn = tn; port = 0; count = 0; sub = 0; class = 0x11; pid = 0x0002; body = body }
+
+answer_by : (own : Uid) (f : Frame) (count : ℕ) (r : Response) → is_broadcast f.dst ≡ false → answer_with own f count r ≡ Some (frame_text (record { dst = f.src; src = own; tn = f.tn; port = r.port; count = count; sub = r.sub; class = r.class; pid = r.pid; body = r.body }))
+unfolding answer_with
+answer_by own f count r single = cond-false (is_broadcast f.dst) _ _ single
+
+few_bytes : (n i : ℕ) → n < 256 → slice_index (to_be_bytes w16 n) i < 2 ^ 8
+few_bytes n zero small = omega (arith, small)
+few_bytes n (suc zero) small = omega (arith, small)
+few_bytes n (suc (suc i)) small = omega arith
+
+control_bytes : (p : Parameters) (i : ℕ) → slice_index (control_field p) i < 2 ^ 8
+control_bytes p i =
+    cond_both (length p.subs == 0) 0 0x0002 (λ (n : ℕ). slice_index (to_be_bytes w16 n) i < 2 ^ 8) (λ none. few_bytes 0 i (omega arith)) (λ some. few_bytes 2 i (omega arith))
+
+control_long : (p : Parameters) → length (control_field p) ≡ 2
+control_long p = refl
+
+answer_fits : (own source : Uid) (tn : ℕ) (p : Parameters) → IsUid own → IsUid source → tn < 2 ^ 8 → IsFrame (answer_frame own source tn (control_field p))
+answer_fits own source tn p fits fits' small = record {
+  dst = fits';
+  src = fits;
+  tn = small;
+  port = omega arith;
+  count = omega arith;
+  sub = omega arith;
+  class = omega arith;
+  pid = omega arith;
+  body = (let n = control_long p in omega (arith, n));
+  data_slots = control_bytes p;
+}
+
+own_answer : (u : Uid) (source : Uid) (tn : ℕ) (body : List ℕ) → IsFrame (answer_frame u source tn body) → IsSome (mute_answer u (frame_text (answer_frame u source tn body)))
+own_answer u source tn body fits =
+    let f = answer_frame u source tn body in
+    ap (λ (o : Option Frame). is_some (option_and_then (λ g. if is_mute_answer u g then Some (found_in g) else None) o)) (read_again f fits)
+    ∙ ap (λ o. is_some o) (cond-true (is_mute_answer u f) _ _ ((uid_decides u u).1 refl))
+
+-- what the device that is muted answers
+mute_reply : (source : Uid) (tn : ℕ) (uid : Uid) → IsFrame (request_frame source tn (Mute uid)) → is_broadcast uid ≡ false → (h : History) → h.setup.uid ≡ uid → reply_of h (frame_text (request_frame source tn (Mute uid))) ≡ Some (frame_text (answer_frame uid source tn (control_field (account_of h).parameters)))
+mute_reply source tn uid fits single h own =
+    let f = request_frame source tn (Mute uid) in
+    let addressed : is_addressed h.setup.uid uid ≡ true = or_left (same_uid uid h.setup.uid) _ ((uid_decides uid h.setup.uid).1 (sym own)) in
+    reply_by h f (Muting true f) fits (cond-true (is_addressed h.setup.uid uid) (by_class f) Ignored addressed ∙ mute_is source tn uid)
+    ∙ answer_by (account_of h).setup.uid f 0 _ single
+    ∙ ap (λ (u : Uid). Some (frame_text (answer_frame u source tn (control_field (account_of h).parameters)))) (ap (λ s. s.uid) (setup_of h) ∙ own)
+
+silent : frame_in [] ≡ None
+unfolding frame_in frame_text head_slots
+silent = refl
+
+no_mute_answer : (u : Uid) → mute_answer u [] ≡ None
+no_mute_answer u = rw silent refl
+
+uids_same : (hs : List History) → uids (map fixture_of hs) ≡ uids_of hs
+uids_same [] = refl
+uids_same (h ∷ hs) = ap (λ (us : List Uid). h.setup.uid ∷ us) (uids_same hs)
+
+not_branch : (source : Uid) (tn : ℕ) (uid : Uid) → IsFrame (request_frame source tn (Mute uid)) → IsBranch (frame_text (request_frame source tn (Mute uid))) → ⊥
+not_branch source tn uid fits is =
+    let f = request_frame source tn (Mute uid) in
+    let same : f ≡ is.0 = some_same f is.0 (sym (read_again f fits) ∙ is.1) in
+    let pid : 2 ≡ 1 = ap (λ (g : Frame). g.pid) same ∙ is.3 in
+    omega (arith, pid)
+
+not_either : (v : Uid) (us : List Uid) (u : Uid) → same_uid v u ≡ false → (Contains us u → ⊥) → Contains (v ∷ us) u → ⊥
+not_either v us u other gone (zero, lt, e) = both_ways (same_uid v u) other ((uid_decides v u).1 e)
+not_either v us u other gone (suc k, lt, e) = gone (k, omega (arith, lt), e)
+
+-- the device that has a UID
+owner : (hs : List History) (u : Uid) (k : ℕ) → k < length (uids_of hs) → get_or (uids_of hs) k u ≡ u → (h : History) × Contains hs h × (h.setup.uid ≡ u)
+owner [] u k lt e = absurd (omega (arith, lt))
+owner (h ∷ hs) u zero lt e = (h, (0, omega arith, refl), e)
+owner (h ∷ hs) u (suc k) lt e = (let rest = owner hs u k (omega (arith, lt)) e in (rest.0, (suc rest.1.0, omega (arith, rest.1.1), rest.1.2), rest.2))
+
+mute_there : (hs : List History) (rule : Collision) (source : Uid) (tn : ℕ) (uid : Uid) → AllPairs (λ u v. u ≢ v) (uids_of hs) → IsFrame (request_frame source tn (Mute uid)) → IsDevice uid → (h : History) → Contains hs h → h.setup.uid ≡ uid → IsSome (mute_answer uid (on_wire rule [] (answers (frame_text (request_frame source tn (Mute uid))) hs)).1)
+mute_there hs rule source tn uid apart fits device h there own =
+    let f = request_frame source tn (Mute uid) in
+    let a = answer_frame uid source tn (control_field (account_of h).parameters) in
+    let one = one_answers hs h (frame_text f) f apart there (read_again f fits) device.one own
+    ∙ ap (λ (o : Option (List ℕ)). option_to_list o) (mute_reply source tn uid fits device.one h own) in
+    subst (λ (xs : List (List ℕ)). IsSome (mute_answer uid (on_wire rule [] xs).1)) (sym one)
+    (own_answer uid source tn (control_field (account_of h).parameters) (answer_fits uid source tn (account_of h).parameters device.fits fits.src fits.tn))
+
+is_device : (us : List Uid) (u : Uid) → All (λ v. IsDevice v) us → Contains us u → IsDevice u
+is_device us u all there = subst IsDevice there.2 (all there.0 u there.1)
+
+text_dst : (f : Frame) → IsFrame f → f.dst ≡ uid_at (frame_text f) 3
+text_dst f fits = (frame_read (frame_text f) f (read_again f fits)).dst
+
+mute_absent : (hs : List History) (rule : Collision) (source : Uid) (tn : ℕ) (uid : Uid) → IsFrame (request_frame source tn (Mute uid)) → (Contains (uids_of hs) uid → ⊥) → IsSome (mute_answer uid (on_wire rule [] (answers (frame_text (request_frame source tn (Mute uid))) hs)).1) → ⊥
+mute_absent hs rule source tn uid fits gone some =
+    let f = request_frame source tn (Mute uid) in
+    let none : answers (frame_text f) hs ≡ [] = elim (cases_Bool (is_broadcast uid)) [
+      | inl all ↦ broadcasts hs (frame_text f) f (read_again f fits) all (not_branch source tn uid fits)
+      | inr single ↦ deaf_silent (frame_text f) hs (absent_deaf (frame_text f) hs (uids_of hs) uid refl (text_dst f fits) single gone)
+    ] in
+    false≢true (sym (ap (λ (xs : List (List ℕ)). is_some (mute_answer uid (on_wire rule [] xs).1)) none ∙ ap (λ o. is_some o) (no_mute_answer uid)) ∙ some)
+
+there_or_not : (us : List Uid) (u : Uid) → Contains us u ⊎ (Contains us u → ⊥)
+there_or_not [] u = inr (λ h. omega (arith, h.1))
+there_or_not (v ∷ us) u =
+    elim (cases_Bool (same_uid v u)) [
+      | inl same ↦ inl (0, omega arith, (uid_decides v u).0 same)
+      | inr other ↦ elim (there_or_not us u) [ inl h ↦ inl (suc h.0, omega (arith, h.1), h.2) | inr gone ↦ inr (not_either v us u other gone) ]
+    ]
+
+pub mutes_are_heard : (hs : List History) (rule : Collision) (source : Uid) (tn : ℕ) (uid : Uid) → All (λ u. IsDevice u) (uids_of hs) → AllPairs (λ u v. u ≢ v) (uids_of hs) → IsFrame (request_frame source tn (Mute uid)) → IsSome (mute_answer uid (on_wire rule [] (answers (frame_text (request_frame source tn (Mute uid))) hs)).1) ↔ Contains (uids (map fixture_of hs)) uid
+mutes_are_heard hs rule source tn uid devices apart fits = (
+  λ some. subst (λ (us : List Uid). Contains us uid) (sym (uids_same hs)) (elim (there_or_not (uids_of hs) uid) [ inl there ↦ there | inr gone ↦ absurd (mute_absent hs rule source tn uid fits gone some) ]),
+  λ there.
+      let here = subst (λ (us : List Uid). Contains us uid) (uids_same hs) there in
+      let o = owner hs uid here.0 here.1 here.2 in
+      mute_there hs rule source tn uid apart fits (is_device (uids_of hs) uid devices here) o.0 o.1 o.2,
+)
+
+pub requests_are_heard : RequestsAreHeard
+requests_are_heard hs rule UnMute source tn devices apart is fits = un_mutes_are_heard hs rule source tn fits
+requests_are_heard hs rule (UniqueBranch low high) source tn devices apart is fits = branches_are_heard hs rule source tn low high is.0 is.1 fits
+requests_are_heard hs rule (Mute uid) source tn devices apart is fits = mutes_are_heard hs rule source tn uid devices apart fits

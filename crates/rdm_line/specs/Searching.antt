@@ -3,7 +3,6 @@ use Rattle.std.specs.Prelude.{◌≡◌, ◌≢◌, ℕ, List, [], map, All, All
 use Rattle.rdm_frame.specs.declared.uid.Uid.{Uid}
 use Rattle.rdm_frame.specs.FrameText.{frame_text, IsFrame}
 use Rattle.rdm_search.specs.declared.request.Request.{Request}
-use Rattle.rdm_search.specs.declared.request.Request.TheVariants.{UnMute, UniqueBranch, Mute}
 use Rattle.rdm_search.specs.Line.{Fixture, IsDevice, IsHeard, after_request}
 use Rattle.rdm_search.specs.Requests.{request_frame, IsRequest}
 use Rattle.rdm_responder.specs.History.{History}
@@ -17,22 +16,16 @@ use Rattle.rdm_line.specs.Line.{uids_of}
 abbrev pub fixture_of : History → Fixture
 fixture_of h = record { uid = h.setup.uid; muted = is_muted (account_of h).mutings }
 
--- It is sent to all.
-abbrev pub IsToAll : Request → Type 0
-IsToAll UnMute = Unit {0}
-IsToAll (UniqueBranch low high) = Unit {0}
-IsToAll (Mute uid) = ⊥
-
 -- A request of a search changes the mute flags of a line's devices as it does those of the fixtures that they are.
 abbrev pub RequestsMute : Type 0
 RequestsMute =
     (hs : List History) (request : Request) (source : Uid) (tn : ℕ) → IsRequest request → IsFrame (request_frame source tn request)
     → map fixture_of (map (heard_by (frame_text (request_frame source tn request))) hs) ≡ after_request request (map fixture_of hs)
 
--- What is on the wire after DISC_UN_MUTE and DISC_UNIQUE_BRANCH is what may be heard of those fixtures, with every rule of
--- collisions.
-abbrev pub BranchesAreHeard : Type 0
-BranchesAreHeard =
-    (hs : List History) (rule : Collision) (request : Request) (source : Uid) (tn : ℕ) → IsToAll request → IsRequest request
-    → IsFrame (request_frame source tn request)
+-- What is on the wire after a request of a search is what may be heard of those fixtures, with every rule of collisions.
+abbrev pub RequestsAreHeard : Type 0
+RequestsAreHeard =
+    (hs : List History) (rule : Collision) (request : Request) (source : Uid) (tn : ℕ)
+    → All (λ u. IsDevice u) (uids_of hs) → AllPairs (λ u v. u ≢ v) (uids_of hs)
+    → IsRequest request → IsFrame (request_frame source tn request)
     → IsHeard request (map fixture_of hs) (on_wire rule [] (answers (frame_text (request_frame source tn request)) hs)).1

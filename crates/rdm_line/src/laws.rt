@@ -1,6 +1,6 @@
 //! Laws of lines. Each is the contract of a call that does nothing.
 
-ghost use Rattle.rdm_line.specs.Searching.{RequestsMute, BranchesAreHeard};
+ghost use Rattle.rdm_line.specs.Searching.{RequestsMute, RequestsAreHeard};
 ghost use Rattle.rdm_line.specs.Laws.{UnheardBytesChangeNothing, BroadcastsAreUnanswered, OneDeviceAnswers, OnlyBranchesCollide};
 
 /// A device that bytes don't address answers nothing to them, and what its history comes to stays if it hears them all the
@@ -18,11 +18,10 @@ pub fn only_branches_collide()
     ensures others { OnlyBranchesCollide }
 {}
 
-/// A line of devices is a line of fixtures to a search: each of its requests mutes and un-mutes them as `Port` of rdm_search says,
-/// and what is on the wire after DISC_UN_MUTE and DISC_UNIQUE_BRANCH is what it may hear of them (E1.20 sections 7.5 and 7.6),
-/// with every rule of collisions.
-#[tactic(auto, using(crate::proofs::Searching::requests_mute, crate::proofs::Searching::to_all_is_heard))]
+/// A line of devices is a line of fixtures to a search: each of its requests mutes and un-mutes them as `Port` of rdm_search
+/// says, and what is on the wire then is what it may hear of them, with every rule of collisions (E1.20 sections 7.5 and 7.6).
+#[tactic(auto, using(crate::proofs::Searching::requests_mute, crate::proofs::Searching::requests_are_heard))]
 pub fn searches_hear_a_line()
     ensures muted { RequestsMute }
-    ensures heard { BranchesAreHeard }
+    ensures heard { RequestsAreHeard }
 {}
