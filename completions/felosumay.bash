@@ -14,6 +14,8 @@ _felosumay() {
         chart:--fixture) mapfile -t COMPREPLY < <(compgen -f -- "$word"); return ;;
         parameters:--fixture) mapfile -t COMPREPLY < <(compgen -f -- "$word"); return ;;
         widget:--fixture) mapfile -t COMPREPLY < <(compgen -f -- "$word"); return ;;
+        widget:--count) :; return ;;
+        widget:--collision) :; return ;;
         widget:--subs) :; return ;;
         widget:--speed) :; return ;;
         widget:--saved) mapfile -t COMPREPLY < <(compgen -f -- "$word"); return ;;
@@ -47,7 +49,7 @@ _felosumay() {
             esac ;;
         widget)
             case $word in
-                -*) mapfile -t COMPREPLY < <(compgen -W '--fixture --subs --speed --saved -h --help -V --version' -- "$word") ;;
+                -*) mapfile -t COMPREPLY < <(compgen -W '--fixture --count --collision --subs --speed --saved -h --help -V --version' -- "$word") ;;
                 *) : ;;
             esac ;;
     esac

@@ -1,5 +1,5 @@
 #!/usr/bin/env python3
-"""Plays the session of steps/ on the virtual fixture through olad, and then OLA's own device tests.
+"""Plays the session of steps/ on the virtual fixture through olad, then commands whole rigs, and then runs OLA's own device tests.
 
     python3 play.py PROGRAM            compares what comes of it with what must
     python3 play.py PROGRAM --write    writes the files of device_tests/ anew, and keeps their comments
@@ -11,6 +11,7 @@ import os
 import sys
 
 import device_tests
+import rig
 import session
 from line import Fault
 from source import Unfetched
@@ -30,6 +31,7 @@ def main():
     program, is_writing = sys.argv[1], sys.argv[2:] == ["--write"]
     try:
         is_well = session.play(program)
+        is_well = rig.play(program, session.Session) and is_well
         try:
             is_well = device_tests.run(program, is_writing) and is_well
         except Unfetched as why:

@@ -69,14 +69,14 @@ def with_repeated_data(line):
     return re.sub(r" (\d+)\*([0-9A-F]+)$", lambda several: " " + several[2] * int(several[1]), line)
 
 
-def client_words(asked, definitions):
-    """The client for a step, and its words. The folder has what `write_definitions` writes."""
+def client_words(asked, definitions, uid):
+    """The client for a step, and its words. The folder has what `write_definitions` writes, and the UID is the fixture's."""
     command, *words = [part for word in shlex.split(asked) for part in repeated(word)]
     if command == "discover":
         return [CLIENTS[command], "--universe", UNIVERSE, *words]
     if command == "slots":
         return [CLIENTS[command], "--universe", UNIVERSE, "--dmx", *words]
-    to, kind, options = UID, STANDARD, []
+    to, kind, options = uid, STANDARD, []
     while words and words[0].startswith("-"):
         option = words.pop(0)
         if option == "--frame":
@@ -114,9 +114,9 @@ def printed_lines(text):
     return [line for line in lines if line and line != RULE]
 
 
-def ask(asked, definitions):
-    """What a client of olad prints when it is asked this."""
-    return printed_lines(run_client(*client_words(asked, definitions)))
+def ask(asked, definitions, uid=UID):
+    """What a client of olad prints when it is asked this of the fixture with this UID."""
+    return printed_lines(run_client(*client_words(asked, definitions, uid)))
 
 
 def difference(step, printed):

@@ -1,6 +1,7 @@
 //! Why the program couldn't do its work.
 
 use crate::source::OUTPUT;
+use crate::usage::MOST_FIXTURES;
 use rdm_crew::RunError;
 use rdm_fixture::{FixtureError, Refusal};
 use rdm_frame::Uid;
@@ -26,6 +27,14 @@ pub enum Fault<'a> {
     Overwritten(&'a str),
     /// More sub-devices are asked for than the file says.
     TooManySubs(u16),
+    /// There are to be so many fixtures on the line.
+    TooManyFixtures(usize),
+    /// From this UID on there aren't so many device IDs.
+    TooFewDeviceIds(Uid, u16),
+    /// Two fixtures on the line would have this UID.
+    TwoOfOneUid(Uid),
+    /// A file is to keep the values of so many fixtures.
+    SavedOfMany(usize),
     /// The fixture has no such parameter.
     NoParameter(&'a str),
     /// Out of memory or threads.
@@ -132,6 +141,10 @@ impl<'a> Fault<'a> {
             | Fault::WrittenTwice
             | Fault::Overwritten(_)
             | Fault::TooManySubs(_)
+            | Fault::TooManyFixtures(_)
+            | Fault::TooFewDeviceIds(_, _)
+            | Fault::TwoOfOneUid(_)
+            | Fault::SavedOfMany(_)
             | Fault::NoParameter(_) => BAD_USAGE,
         }
     }
@@ -253,6 +266,10 @@ fn write_refused<W: fmt::Write>(f: &mut fmt::Formatter<W>, fault: &Fault<'_>) ->
             f,
             "error: --subs: the fixture has only {most} sub-devices"
         ),
+        Fault::TooManyFixtures(_)
+        | Fault::TooFewDeviceIds(_, _)
+        | Fault::TwoOfOneUid(_)
+        | Fault::SavedOfMany(_) => write_no_rig(f, fault),
         Fault::NoParameter(name) => write!(
             f,
             "error: {name}: the fixture has no such parameter; felosumay parameters lists them"
@@ -262,6 +279,26 @@ fn write_refused<W: fmt::Write>(f: &mut fmt::Formatter<W>, fault: &Fault<'_>) ->
             "error: {uid} is the controller's UID, so no script can be played on this fixture"
         ),
         _ => f.write_str("error: an argument isn't valid UTF-8"),
+    }
+}
+
+/// Writes why the fixtures that the command line asks for can't be on one line.
+fn write_no_rig<W: fmt::Write>(f: &mut fmt::Formatter<W>, fault: &Fault<'_>) -> fmt::Result {
+    match fault {
+        Fault::TooManyFixtures(count) => write!(
+            f,
+            "error: --count: {count} fixtures are more than {MOST_FIXTURES}"
+        ),
+        Fault::TooFewDeviceIds(uid, count) => write!(
+            f,
+            "error: --count: there are fewer than {count} device IDs from {uid} on"
+        ),
+        Fault::TwoOfOneUid(uid) => write!(f, "error: two fixtures would have the UID {uid}"),
+        Fault::SavedOfMany(count) => write!(
+            f,
+            "error: --saved: a file keeps the values of one fixture, not of {count}"
+        ),
+        _ => Ok(()),
     }
 }
 

@@ -68,7 +68,7 @@ impl<'a> FixtureFile<'a> {
     }
 
     /// Reads a file.
-    fn read<H: Host>(rt: H, source: Source<'a>) -> Result<FixtureFile<'a>, Fault<'a>> {
+    pub fn read<H: Host>(rt: H, source: Source<'a>) -> Result<FixtureFile<'a>, Fault<'a>> {
         Ok(FixtureFile {
             name: source.name(),
             bytes: source.read(rt, MOST_BYTES)?,

@@ -1,5 +1,5 @@
 //! The program for people: it plays a script, says what frames say, draws them, checks a fixture file, and is a virtual
-//! fixture on a line.
+//! fixture on a line, or a rig of them.
 //!
 //! What it prints, unless something else is asked for, is exactly what rdm_play prints.
 #![tactic(auto)]
@@ -10,6 +10,7 @@ mod fixture;
 mod host;
 mod parameters;
 mod play;
+mod rig;
 mod saved;
 mod source;
 mod usage;

@@ -71,7 +71,8 @@ pub fn without_mark(text: &[u8]) -> &[u8] {
 pub fn refuse_clashes<'a>(asked: &ArgMatches<'a>) -> Result<(), Fault<'a>> {
     let input = Source::named(asked.get_str(usage::INPUT));
     let fixture = asked.get_str(usage::FIXTURE);
-    if fixture == Some("-") && input == Source::Input {
+    let fixtures = asked.get_strs(usage::FIXTURE).unwrap_or(&[]);
+    if input == Source::Input && fixtures.iter().any(|name| *name == "-") {
         return Err(Fault::ReadTwice);
     }
     let written = match asked.get_str(usage::CHART) {

@@ -20,8 +20,24 @@ pub const PARAMETER: &str = "parameter";
 pub const SUBS: &str = "subs";
 /// The option that names a file for the values of a fixture.
 pub const SAVED: &str = "saved";
+/// The option for how many of each fixture there are.
+pub const COUNT: &str = "count";
+/// The option for what is on the line if several fixtures answer at once.
+pub const COLLISION: &str = "collision";
+/// Of a collision all bits of all answers are on the line.
+pub const ALL_BITS: &str = "all-bits";
+/// Of a collision the first answer alone is on the line.
+pub const FIRST: &str = "first";
+/// Of a collision rubbish is on the line.
+pub const RUBBISH: &str = "rubbish";
 /// The option for how fast time passes.
 pub const SPEED: &str = "speed";
+
+/// How many fixtures there are on a line at most.
+pub const MOST_FIXTURES: u16 = 512;
+
+/// What can be on the line if several fixtures answer at once.
+const COLLISIONS: [&str; 3] = [ALL_BITS, FIRST, RUBBISH];
 
 /// What the arguments ask for, the program's name first.
 pub fn matches<'a>(alloc: Global, words: &'a [String]) -> Result<ArgMatches<'a>, Error> {
@@ -143,6 +159,11 @@ fn parameters<'a>(alloc: Global) -> Result<Command<'a>, Error> {
 
 /// `felosumay widget`.
 fn widget<'a>(alloc: Global) -> Result<Command<'a>, Error> {
+    let fixture = fixture_file(
+        alloc,
+        "A fixture on the line, given once for each; the demonstration fixture if omitted",
+    )
+    .action(ArgAction::Append);
     let subs = Arg::new(alloc, SUBS)
         .long("subs")
         .value_name("N")
@@ -161,13 +182,33 @@ fn widget<'a>(alloc: Global) -> Result<Command<'a>, Error> {
     Ok(
         Command::new(alloc, "widget")
             .about(
-                "Run a virtual fixture behind an ENTTEC DMX USB Pro, on standard input and output",
+                "Run virtual fixtures behind an ENTTEC DMX USB Pro, on standard input and output",
             )
-            .arg(fixture_file(alloc, "The fixture; the demonstration fixture if omitted"))?
+            .arg(fixture)?
+            .arg(count(alloc))?
+            .arg(collision(alloc))?
             .arg(subs)?
             .arg(speed)?
             .arg(saved)?,
     )
+}
+
+/// The option for how many of each fixture there are.
+fn count<'a>(alloc: Global) -> Arg<'a> {
+    Arg::new(alloc, COUNT)
+        .long("count")
+        .value_name("N")
+        .value_parser(value_parser!(u16).range(1..=i64::from(MOST_FIXTURES)))
+        .help("The number of each fixture, with device IDs counted up; 1 if omitted")
+}
+
+/// The option for what is on the line if several fixtures answer at once.
+fn collision<'a>(alloc: Global) -> Arg<'a> {
+    Arg::new(alloc, COLLISION)
+        .long("collision")
+        .value_name("RULE")
+        .value_parser(COLLISIONS.as_slice())
+        .help("What comes of several answers at once; all-bits if omitted")
 }
 
 /// A text that is read, by its place.

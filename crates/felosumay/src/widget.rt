@@ -1,59 +1,80 @@
-//! `felosumay widget`: a virtual fixture on standard input and output.
+//! `felosumay widget`: virtual fixtures on standard input and output.
 
 use crate::fault::Fault;
 use crate::host::Host;
 use crate::saved::Saved;
 use crate::source::{INPUT, OUTPUT, refuse_clashes};
 use crate::watched::Watched;
-use crate::{fixture, saved, usage};
+use crate::{fixture, rig, saved, usage};
 use clap::ArgMatches;
-use rdm_fixture::Fixture;
-use rdm_widget::{Clock, LiveFixture, Packet, RealClock, ServeError, serve, serve_some};
+use rdm_widget::{Clock, LiveFixture, OnLine, Packet, RealClock, ServeError, serve, serve_some};
 use std::fs::OpenFile;
 use std::io;
 use std::io::{Read, Seek, Write};
 
-/// How many results of slow commands there is room for.
-const QUEUE_SIZE: u16 = 8;
-
 /// Serves until standard input ends.
 pub fn run<'a, H: Host>(rt: H, asked: &ArgMatches<'a>) -> Result<(), Fault<'a>> {
     refuse_clashes(asked)?;
-    let mut fixture = fixture::asked_for(rt, asked)?;
-    if let Some(subs) = asked.get_one::<u16>(usage::SUBS) {
-        if asked.contains_id(usage::FIXTURE) && subs > fixture.profile.subs {
-            return Err(Fault::TooManySubs(fixture.profile.subs));
-        }
-        fixture.profile.subs = subs;
+    let count = rig::fixture_count(asked)?;
+    if count == 1 {
+        return serve_one(rt, asked);
     }
-    let speed = asked.get_one::<u32>(usage::SPEED).unwrap_or(1);
-    let Fixture {
-        uid,
-        profile,
-        outcomes,
-    } = fixture;
-    let mut live = match LiveFixture::new(rt.alloc(), uid, profile, QUEUE_SIZE, &outcomes) {
-        Ok(live) => live,
-        Err(error) => return Err(Fault::from(error)),
-    };
+    if asked.contains_id(usage::SAVED) {
+        return Err(Fault::SavedOfMany(count));
+    }
+    let mut line = rig::asked_for(rt, asked)?;
+    serve_line(rt, asked, &mut line)
+}
+
+/// Serves with the one fixture that is asked for, and keeps its values in a file if that is asked for.
+fn serve_one<'a, H: Host>(rt: H, asked: &ArgMatches<'a>) -> Result<(), Fault<'a>> {
+    let mut live = rig::live(rt, asked, fixture::asked_for(rt, asked)?)?;
     let saved = match asked.get_str(usage::SAVED) {
-        Some(name) => Some(saved::open(rt, name, &mut live)?),
-        None => None,
+        Some(name) => saved::open(rt, name, &mut live)?,
+        None => return serve_line(rt, asked, &mut live),
     };
-    let mut clock = match RealClock::start(&rt, speed) {
-        Ok(clock) => clock,
-        Err(error) => return Err(Fault::Clock(error)),
-    };
+    let mut clock = clock(&rt, asked)?;
     let mut reader = Watched::new(rt.reader());
     let mut writer = Watched::new(io::writer(&rt));
-    let served = match saved {
-        Some(saved) => serve_saving(&mut reader, &mut writer, &mut clock, &mut live, saved)?,
-        None => serve(&mut reader, &mut writer, &mut clock, &mut live),
-    };
+    let served = serve_saving(&mut reader, &mut writer, &mut clock, &mut live, saved)?;
+    ended(served, &reader, &writer)
+}
+
+/// Serves with what is on the line.
+fn serve_line<'a, H: Host, L: OnLine>(
+    rt: H,
+    asked: &ArgMatches<'a>,
+    line: &mut L,
+) -> Result<(), Fault<'a>> {
+    let mut clock = clock(&rt, asked)?;
+    let mut reader = Watched::new(rt.reader());
+    let mut writer = Watched::new(io::writer(&rt));
+    let served = serve(&mut reader, &mut writer, &mut clock, line);
+    ended(served, &reader, &writer)
+}
+
+/// How serving ended, with what the reader or the writer that failed tells of it.
+fn ended<'a, R, W>(
+    served: Result<(), ServeError>,
+    reader: &Watched<R>,
+    writer: &Watched<W>,
+) -> Result<(), Fault<'a>> {
     match served {
         Ok(()) => Ok(()),
         Err(ServeError::Read) => Err(Fault::Io(INPUT, reader.error())),
         Err(ServeError::Write) => Err(Fault::Io(OUTPUT, writer.error())),
+    }
+}
+
+/// The system's clock, as fast as it is asked for.
+fn clock<'a, 'b, H: Host>(
+    rt: &'b H,
+    asked: &ArgMatches<'a>,
+) -> Result<RealClock<'b, H>, Fault<'a>> {
+    let speed = asked.get_one::<u32>(usage::SPEED).unwrap_or(1);
+    match RealClock::start(rt, speed) {
+        Ok(clock) => Ok(clock),
+        Err(error) => Err(Fault::Clock(error)),
     }
 }
 

@@ -161,7 +161,7 @@ stand_joined R ds es ns ms rule d hs h i u n fits own number gap items numbers s
     record {
       each = subst (λ xs. AllZip R xs (joined h hs)) (sym items) (subst (AllZip R (take i ds ++ d ∷ drop i ds)) (sym is) (zip_joined R ds hs i d h stand.each one));
       uids = ap uids_of is ∙ map_joined (λ (k : History). k.setup.uid) hs i h
-        ∙ ap (λ (us : List Uid). take i us ++ h.setup.uid ∷ drop i us) stand.uids
-        ∙ ap (λ (v : Uid). take i (map uid_of ns) ++ v ∷ drop i (map uid_of ns)) (sym own ∙ sym (uid_again u fits) ∙ ap uid_of (sym number))
-        ∙ sym (map_joined uid_of ns i n) ∙ ap (map uid_of) (sym numbers);
+          ∙ ap (λ (us : List Uid). take i us ++ h.setup.uid ∷ drop i us) stand.uids
+          ∙ ap (λ (v : Uid). take i (map uid_of ns) ++ v ∷ drop i (map uid_of ns)) (sym own ∙ sym (uid_again u fits) ∙ ap uid_of (sym number))
+          ∙ sym (map_joined uid_of ns i n) ∙ ap (map uid_of) (sym numbers);
     }

@@ -1,9 +1,11 @@
 pub mod Alone
+pub mod Collisions
 pub mod Each
 pub mod Joinings
 pub mod Loops
 pub mod Ones
 pub mod Searches
+pub mod Searching
 pub mod Unheard
 pub mod Waves
 pub mod Zips

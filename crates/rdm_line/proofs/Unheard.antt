@@ -145,7 +145,7 @@ hearing own other dst bytes b c long e d t k =
 
 -- ---- the UIDs stay
 
-uid_stays : (h : History) (bytes : List ℕ) (b : Bool) → hears h.setup.uid bytes ≡ b → (heard_by bytes h).setup.uid ≡ h.setup.uid
+pub uid_stays : (h : History) (bytes : List ℕ) (b : Bool) → hears h.setup.uid bytes ≡ b → (heard_by bytes h).setup.uid ≡ h.setup.uid
 uid_stays h bytes true e = ap (λ (k : History). k.setup.uid) (heard_as h bytes true e)
 uid_stays h bytes false e = ap (λ (k : History). k.setup.uid) (heard_as h bytes false e)
 

@@ -78,6 +78,14 @@ impl<D: Device> Line<D> {
         Some(&self.devices[index])
     }
 
+    /// The device with this UID, for what happens to it beside the line: it must keep its UID. No clause says what is made of it.
+    pub fn get_mut(&mut self, uid: Uid) -> Option<&mut D>
+        ensures found { IsSome result ↔ Contains self.old.uids uid }
+    {
+        let index = self.find(uid)?;
+        self.devices.get_mut(index)
+    }
+
     /// Where the device with this UID stands.
     pub fn find(&self, uid: Uid) -> Option<usize>
         ensures found { IsSome result ↔ Contains self.now.uids uid }

@@ -12,12 +12,11 @@ invariant_of-self-in-Ok-insert g c =
     let old : c.place_for.new.numbers.items ≡ ns = c.place_for.ensures.items in
     let items = c.insert-in-Ok-insert.ensures.items ∙ cond-true _ _ _ ok in
     let all = ap (λ (xs : List ℕ). take c.in-Ok.index xs ++ c.number.result ∷ drop c.in-Ok.index xs) old in
-    let n : c.number.result ≡ uid_number c.uid-uid.result = c.number.ensures in
-    (
+    let n : c.number.result ≡ uid_number c.uid-uid.result = c.number.ensures in (
       subst AreInOrder (sym (items ∙ all))
-      (order_more ns c.in-Ok.index c.number.result c.self.invariant.0 (subst (λ (m : ℕ). IsGap ns m c.in-Ok.index) (sym n) c.in-Ok.ensures.place) (number_fits c.uid-uid.result c.number.result n (search rules)) (number_single c.uid-uid.result c.number.result n c.in-Ok.ensures.single)),
+          (order_more ns c.in-Ok.index c.number.result c.self.invariant.0 (subst (λ (m : ℕ). IsGap ns m c.in-Ok.index) (sym n) c.in-Ok.ensures.place) (number_fits c.uid-uid.result c.number.result n (search rules)) (number_single c.uid-uid.result c.number.result n c.in-Ok.ensures.single)),
       ap (length {A = g.row.D.Denot}) c.in-Ok-insert.ensures.items ∙ length_one c.self.inside.devices.items c.in-Ok.index c.args.device ∙ ap (λ (m : ℕ). m + 1) c.self.invariant.1
-      ∙ sym (ap (length {A = ℕ}) (items ∙ all) ∙ length_one ns c.in-Ok.index c.number.result),
+          ∙ sym (ap (length {A = ℕ}) (items ∙ all) ∙ length_one ns c.in-Ok.index c.number.result),
     )
 
 pub returns-in-Ok-insert-clause-stands : goal.returns-in-Ok-insert-clause-stands

@@ -1,0 +1,127 @@
+//! The rig of `felosumay widget`: the fixtures that are asked for, on one line.
+
+use crate::fault::Fault;
+use crate::fixture::{FixtureFile, demonstration};
+use crate::host::Host;
+use crate::source::Source;
+use crate::usage;
+use clap::ArgMatches;
+use rdm_fixture::Fixture;
+use rdm_frame::Uid;
+use rdm_line::{Collision, JoinError, Line};
+use rdm_widget::LiveFixture;
+
+/// How many results of slow commands there is room for in a fixture.
+const QUEUE_SIZE: u16 = 8;
+
+/// From where on bytes of a collision are made up: the same at each run.
+const SEED: u64 = 1;
+
+/// How many fixtures are asked for. More than there may be on a line are refused.
+pub fn fixture_count<'a>(asked: &ArgMatches<'a>) -> Result<usize, Fault<'a>> {
+    let kinds = match asked.get_strs(usage::FIXTURE) {
+        Some(names) => names.len(),
+        None => 1,
+    };
+    let count = kinds.saturating_mul(usize::from(count_of_each(asked)));
+    if count > usize::from(usage::MOST_FIXTURES) {
+        return Err(Fault::TooManyFixtures(count));
+    }
+    Ok(count)
+}
+
+/// All fixtures that are asked for, on one line: so many of each file, or of the demonstration.
+pub fn asked_for<'a, H: Host>(
+    rt: H,
+    asked: &ArgMatches<'a>,
+) -> Result<Line<LiveFixture>, Fault<'a>> {
+    let mut line = Line::new(rt.alloc(), collision(asked));
+    match asked.get_strs(usage::FIXTURE) {
+        Some(names) => {
+            for name in names {
+                let file = FixtureFile::read(rt, Source::named(Some(*name)))?;
+                join_each(rt, asked, Some(&file), &mut line)?;
+            }
+        }
+        None => join_each(rt, asked, None, &mut line)?,
+    }
+    Ok(line)
+}
+
+/// So many fixtures of this file, or of the demonstration, join a line. Their device IDs are counted up.
+fn join_each<'a, H: Host>(
+    rt: H,
+    asked: &ArgMatches<'a>,
+    file: Option<&FixtureFile<'a>>,
+    line: &mut Line<LiveFixture>,
+) -> Result<(), Fault<'a>> {
+    let count = count_of_each(asked);
+    for number in 0..count {
+        let mut fixture = match file {
+            Some(file) => file.fixture(rt)?,
+            None => demonstration(),
+        };
+        fixture.uid = match counted_up(fixture.uid, number) {
+            Some(uid) => uid,
+            None => return Err(Fault::TooFewDeviceIds(fixture.uid, count)),
+        };
+        let uid = fixture.uid;
+        match line.join(live(rt, asked, fixture)?) {
+            Ok(()) => {}
+            Err(refused) => return Err(no_rig(refused.error, uid)),
+        }
+    }
+    Ok(())
+}
+
+/// Why the fixture with this UID can't join the line.
+fn no_rig<'a>(error: JoinError, uid: Uid) -> Fault<'a> {
+    match error {
+        JoinError::OutOfMemory => Fault::Memory,
+        JoinError::Taken => Fault::TwoOfOneUid(uid),
+        JoinError::BadUid => Fault::NoDevice,
+    }
+}
+
+/// The UID whose device ID is this much greater. There is none if no device can have it (E1.20 section 6.2.4).
+fn counted_up(uid: Uid, number: u16) -> Option<Uid> {
+    let device = uid.device.checked_add(u32::from(number))?;
+    if device == Uid::EVERY_DEVICE {
+        return None;
+    }
+    Some(Uid { device, ..uid })
+}
+
+/// A fixture that was switched on, with as many sub-devices as are asked for.
+pub fn live<'a, H: Host>(
+    rt: H,
+    asked: &ArgMatches<'a>,
+    fixture: Fixture,
+) -> Result<LiveFixture, Fault<'a>> {
+    let Fixture {
+        uid,
+        mut profile,
+        outcomes,
+    } = fixture;
+    if let Some(subs) = asked.get_one::<u16>(usage::SUBS) {
+        if asked.contains_id(usage::FIXTURE) && subs > profile.subs {
+            return Err(Fault::TooManySubs(profile.subs));
+        }
+        profile.subs = subs;
+    }
+    Ok(LiveFixture::new(rt.alloc(), uid, profile, QUEUE_SIZE, &outcomes)?)
+}
+
+/// How many of each fixture are asked for.
+fn count_of_each(asked: &ArgMatches<'_>) -> u16 {
+    asked.get_one::<u16>(usage::COUNT).unwrap_or(1)
+}
+
+/// What is on the line if several fixtures answer at once, as it is asked for.
+fn collision(asked: &ArgMatches<'_>) -> Collision {
+    match asked.get_str(usage::COLLISION) {
+        Some(usage::FIRST) => Collision::First,
+        Some(usage::RUBBISH) => Collision::Rubbish(SEED),
+        _ => Collision::AllBits,
+    }
+}

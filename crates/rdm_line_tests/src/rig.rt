@@ -1,0 +1,45 @@
+//! Lines for tests.
+
+use rdm_frame::standard::{FIRST_PORT, ROOT_DEVICE};
+use rdm_frame::{Body, Frame, Uid, Wire, encode};
+use rdm_line::{Collision, Line, Station};
+use rdm_params::Profile;
+use rdm_responder::Responder;
+use std::alloc::Global;
+use std::test::Fail;
+
+/// The UID of the console.
+pub const CONSOLE: Uid = Uid {
+    maker: 0x7FF0,
+    device: 9,
+};
+
+/// A device with this UID.
+pub fn station(alloc: Global, uid: Uid) -> Result<Station, Fail> {
+    let responder = Responder::with_entries(alloc, uid, Profile::demo(0), 1, 1)?;
+    Ok(Station::new(uid, responder))
+}
+
+/// A line with devices of these UIDs.
+pub fn line(alloc: Global, rule: Collision, uids: &[Uid]) -> Result<Line<Station>, Fail> {
+    let mut line = Line::new(alloc, rule);
+    for uid in uids {
+        let _ = line.join(station(alloc, *uid)?);
+    }
+    Ok(line)
+}
+
+/// The bytes of a request to the root of a device, without data.
+pub fn request(dst: Uid, class: u8, pid: u16) -> Wire {
+    encode(&Frame {
+        dst,
+        src: CONSOLE,
+        tn: 1,
+        port: FIRST_PORT,
+        count: 0,
+        sub: ROOT_DEVICE,
+        class,
+        pid,
+        body: Body::new(),
+    })
+}
