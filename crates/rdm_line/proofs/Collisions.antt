@@ -1,6 +1,6 @@
 -- Only answers to DISC_UNIQUE_BRANCH collide.
-use Rattle.std.proofs.Common.{◌≡◌, ◌≢◌, ℕ, zero, suc, ◌+◌, ◌<◌, ◌≤◌, Bool, true, false, List, [], ◌∷◌, ◌++◌, length, get_or, map, Option, Some, None, refl, sym, ap, subst, ◌∙◌, inl, inr, cond, arith}
-use Rattle.std.specs.Prelude.{◌&&◌, ◌==◌, AllPairs, Contains}
+use Rattle.std.proofs.Common.{◌≡◌, ◌≢◌, ℕ, zero, suc, ◌<◌, ◌≤◌, true, false, List, [], ◌∷◌, ◌++◌, length, get_or, Option, Some, None, refl, sym, ap, subst, ◌∙◌, inl, inr, arith}
+use Rattle.std.specs.Prelude.{◌&&◌, ◌==◌, AllPairs}
 use Rattle.std.specs.Option.{option_to_list}
 use Rattle.std.specs.Bool.{⊤}
 use Rattle.std.proofs.lemmas.Bool.{cond_both, cond-true, and_parts, eqb-true, cases_Bool, both_ways}
@@ -9,13 +9,13 @@ use Rattle.rdm_frame.specs.declared.uid.Uid.{Uid}
 use Rattle.rdm_frame.specs.declared.frame.Frame.{Frame}
 use Rattle.rdm_frame.specs.Addressing.{is_broadcast, is_addressed, same_uid}
 use Rattle.rdm_frame.specs.Reading.{frame_in, uid_at}
-use Rattle.rdm_responder.specs.History.{History, Heard, then_event}
+use Rattle.rdm_responder.specs.History.{History}
 use Rattle.rdm_responder.specs.Requests.{Request, Ignored, Branch, Muting, Get, Set, discovery_of, get_of, request_of, request_in}
 use Rattle.rdm_responder.specs.Rules.{Account, Response, account_of, answer_to, answer_with, reply_of}
-use Rattle.rdm_line.specs.Hearing.{hears, answers}
+use Rattle.rdm_line.specs.Hearing.{answers}
 use Rattle.rdm_line.specs.Laws.{UnheardBytesChangeNothing, IsBranch, BroadcastsAreUnanswered, OneDeviceAnswers, OnlyBranchesCollide}
 use Rattle.rdm_line.specs.Line.{uids_of}
-use Rattle.rdm_line.proofs.Alone.{Others, others, others_deaf, uid_decides, other_unaddressed}
+use Rattle.rdm_line.proofs.Alone.{Others, others, others_deaf, uid_decides}
 use Rattle.rdm_line.proofs.Unheard.{Deaf, deaf_silent, frame_read, unanswered, unchanged}
 
 pub unheard : UnheardBytesChangeNothing

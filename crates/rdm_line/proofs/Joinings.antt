@@ -1,9 +1,8 @@
 -- A device joins a line.
-use Rattle.std.proofs.Common.{◌≡◌, ◌≢◌, ℕ, zero, suc, ◌+◌, ◌-◌, ◌*◌, ◌/◌, ◌%◌, ◌^◌, ◌<◌, ◌≤◌, Bool, true, false, List, [], ◌∷◌, ◌++◌, length, get_or, map, take, drop, Result, Ok, Err, refl, sym, ap, subst, ◌∙◌, inl, inr, arith}
-use Rattle.std.specs.Prelude.{not, nat_lt}
+use Rattle.std.proofs.Common.{◌≡◌, ℕ, zero, suc, ◌+◌, ◌%◌, ◌^◌, ◌<◌, ◌≤◌, true, false, List, [], ◌∷◌, ◌++◌, length, get_or, map, take, drop, Result, Ok, Err, refl, sym, ap, subst, ◌∙◌, inl, inr, arith}
+use Rattle.std.specs.Prelude.{not}
 use Rattle.std.specs.List.{AllZip, filter}
-use Rattle.std.proofs.lemmas.Bool.{cases_order, cases_lt, lt-ltb, le-ltb}
-use Rattle.std.proofs.lemmas.List.{length-map}
+use Rattle.std.proofs.lemmas.Bool.{cases_order, lt-ltb, le-ltb}
 use Rattle.rdm_frame.specs.declared.uid.Uid.{Uid}
 use Rattle.rdm_frame.specs.FrameText.{IsUid}
 use Rattle.rdm_frame.specs.UidNumber.{uid_number}
@@ -11,7 +10,7 @@ use Rattle.rdm_responder.specs.History.{History}
 use Rattle.rdm_line.specs.declared.collision.Collision.{Collision}
 use Rattle.rdm_line.specs.declared.joining.JoinError.{JoinError}
 use Rattle.rdm_line.specs.declared.joining.JoinError.TheVariants.{Taken, OutOfMemory, BadUid}
-use Rattle.rdm_line.specs.Line.{State, StandFor, AreInOrder, IsGap, joined, is_below, uid_of, uids_of}
+use Rattle.rdm_line.specs.Line.{StandFor, AreInOrder, IsGap, joined, is_below, uid_of, uids_of}
 use Rattle.rdm_line.proofs.Searches.{number_again, uid_again}
 
 pub ok_no_err : (i : ℕ) (e : JoinError) → Ok i ≡ (Err e) → ⊥

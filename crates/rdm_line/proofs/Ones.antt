@@ -1,6 +1,6 @@
 -- Bytes for one device, and what they make of a line.
-use Rattle.std.proofs.Common.{◌≡◌, ◌↔◌, ℕ, ◌<◌, ◌≤◌, Bool, true, false, List, [], ◌∷◌, ◌++◌, length, map, Option, Some, None, refl, sym, ap, subst, ◌∙◌, arith}
-use Rattle.std.specs.Prelude.{◌&&◌, ◌||◌, nat_le, is_some, IsSome, Contains}
+use Rattle.std.proofs.Common.{◌≡◌, ◌↔◌, ℕ, ◌≤◌, true, false, List, ◌∷◌, ◌++◌, length, map, Option, None, sym, ap, subst, ◌∙◌}
+use Rattle.std.specs.Prelude.{nat_le, is_some, IsSome}
 use Rattle.std.specs.Option.{option_to_list}
 use Rattle.std.specs.List.{AllZip}
 use Rattle.std.proofs.lemmas.Bool.{le-leb, or_left, and_from, false≢true}

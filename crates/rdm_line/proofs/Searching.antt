@@ -1,28 +1,25 @@
 -- A line of devices, as a search sees it.
-use Rattle.std.proofs.Common.{◌≡◌, ◌≢◌, ◌↔◌, ℕ, zero, suc, ◌+◌, ◌-◌, ◌^◌, ◌<◌, ◌≤◌, Bool, true, false, List, [], ◌∷◌, ◌++◌, length, get_or, map, drop, Option, Some, None, refl, sym, ap, subst, ◌∙◌, inl, inr, ◌⊎◌, cond, arith}
-use Rattle.std.specs.Prelude.{◌&&◌, ◌||◌, ◌==◌, not, nat_le, max, fold, is_some, IsSome, AllPairs, All, Contains, slice_index_or, slice_index, bit_or, if◌then◌else◌}
+use Rattle.std.proofs.Common.{◌≡◌, ◌≢◌, ◌↔◌, ℕ, zero, suc, ◌-◌, ◌^◌, ◌<◌, ◌≤◌, Bool, true, false, List, [], ◌∷◌, ◌++◌, length, get_or, map, Option, Some, None, refl, sym, ap, subst, ◌∙◌, inl, inr, ◌⊎◌, cond, arith}
+use Rattle.std.specs.Prelude.{◌&&◌, ◌||◌, ◌==◌, not, max, fold, is_some, IsSome, AllPairs, All, Contains, slice_index, bit_or, if◌then◌else◌}
 use Rattle.std.specs.Option.{option_to_list, option_and_then}
-use Rattle.std.specs.List.{filter, range_with_len}
 use Rattle.std.specs.Int.{w16, to_be_bytes}
-use Rattle.std.specs.Str.{bytes_eq}
-use Rattle.std.proofs.lemmas.Bool.{cond-true, cond-false, cond_both, false≢true, or_left, or_right, cases_Bool, both_ways, cases_lt, le-leb}
-use Rattle.std.proofs.lemmas.List.{length-map, length-append, get_or-append_right}
+use Rattle.std.proofs.lemmas.Bool.{cond-true, cond-false, cond_both, false≢true, or_left, or_right, cases_Bool, both_ways}
+use Rattle.std.proofs.lemmas.List.{length-append, get_or-append_right}
 use Rattle.std.proofs.lemmas.Nat.{from_be_bytes-to_be_bytes_2, from_be_bytes-to_be_bytes_4}
 use Rattle.std.proofs.lemmas.List.FromFn.{length-map-range_with_len}
 use Rattle.std.proofs.lemmas.Slice.Eq.{bytes_eq-Decides}
 use Rattle.rdm_frame.specs.declared.uid.Uid.{Uid}
 use Rattle.rdm_frame.specs.declared.frame.Frame.{Frame}
 use Rattle.rdm_frame.specs.Addressing.{is_addressed, is_broadcast, same_uid, all_devices}
-use Rattle.rdm_frame.specs.Discovery.{branch_reply, IsBranchReply}
+use Rattle.rdm_frame.specs.Discovery.{branch_reply}
 use Rattle.rdm_frame.specs.FrameText.{frame_text, head_slots, IsFrame, IsUid, uid_slots}
 use Rattle.rdm_frame.specs.Reading.{frame_in, frame_of, uid_at}
 use Rattle.rdm_frame.proofs.Texts.{frame_again}
-use Rattle.rdm_search.specs.declared.request.Request.{Request as Asked}
 use Rattle.rdm_search.specs.declared.request.Request.TheVariants.{UnMute, UniqueBranch, Mute}
-use Rattle.rdm_search.specs.Line.{Fixture, IsDevice, IsCalled, IsHeard, calls, callers, uids, after_request, after_mute, after_un_mute}
-use Rattle.rdm_search.specs.Requests.{request_frame, IsRequest}
+use Rattle.rdm_search.specs.Line.{Fixture, IsDevice, IsCalled, calls, callers, uids, after_mute, after_un_mute}
+use Rattle.rdm_search.specs.Requests.{request_frame}
 use Rattle.rdm_responder.specs.History.{History, Heard, then_event}
-use Rattle.rdm_responder.specs.Requests.{Request, Ignored, Branch, Muting, Get, Set, discovery_of, get_of, request_of, request_in}
+use Rattle.rdm_responder.specs.Requests.{Request, Ignored, Branch, Muting, Set, discovery_of, get_of, request_of, request_in}
 use Rattle.rdm_responder.specs.Rules.{Account, account_of, account_with, answer_to, is_between, is_muted, reply_of, Response, answer_with, control_field}
 use Rattle.rdm_params.specs.Device.Parameters.{Parameters}
 use Rattle.rdm_search.specs.Answers.{mute_answer, is_mute_answer, found_in}

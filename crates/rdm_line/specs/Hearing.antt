@@ -1,5 +1,5 @@
 -- Which devices of a line hear bytes, what it makes of their histories, and what they answer. E1.20 section 6.2.4.
-use Rattle.std.specs.Prelude.{ℕ, Bool, ◌&&◌, nat_le, List, length, map, if◌then◌else◌}
+use Rattle.std.specs.Prelude.{ℕ, Bool, ◌&&◌, nat_le, List, length, if◌then◌else◌}
 use Rattle.std.specs.Option.{option_to_list}
 use Rattle.std.specs.List.{flat_map}
 use Rattle.rdm_frame.specs.declared.uid.Uid.{Uid}

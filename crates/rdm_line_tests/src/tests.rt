@@ -6,7 +6,7 @@ use rdm_frame::{Uid, Wire, decode};
 use rdm_line::{Collision, Device, JoinError, OnWire};
 use std::test::Fail;
 
-/// IDENTIFY_DEVICE (E1.20 section 10.11.1).
+/// IDENTIFY_DEVICE (E1.20 section 10.11).
 const IDENTIFY_DEVICE: u16 = 0x1000;
 
 const fn uid(device: u32) -> Uid {
@@ -71,5 +71,24 @@ fn some_may_not_join(rt: HostRuntime) -> Result<(), Fail> {
     assert!(rt; line.get(uid(1)).is_some());
     assert!(rt; line.get(uid(3)).is_none());
     assert!(rt; line.find(uid(2)) == Some(1));
+    Ok(())
+}
+
+/// The firmware of each device reaches its responder.
+#[test]
+fn each_device_is_lent(rt: HostRuntime) -> Result<(), Fail> {
+    let uids = [uid(4), uid(2)];
+    let mut line = line(rt.alloc(), Collision::First, &uids)?;
+    for own in uids {
+        match line.get_mut(own) {
+            Some(station) => {
+                assert!(rt; station.uid() == own);
+                assert!(rt; station.responder_mut().room());
+                assert_eq!(rt; station.responder().waiting(), 0);
+            }
+            None => assert!(rt; false),
+        }
+    }
+    assert!(rt; line.get_mut(uid(3)).is_none());
     Ok(())
 }

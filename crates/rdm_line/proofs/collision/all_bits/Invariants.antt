@@ -1,4 +1,4 @@
-use Rattle.std.proofs.Common.{◌≡◌, ◌+◌, ◌≤◌, length, map, slice_index, bit_or}
+use Rattle.std.proofs.Common.{◌≡◌, map, slice_index, bit_or}
 use Rattle.std.specs.List.{range_with_len}
 use Rattle.rdm_line.proofs.collision.all_bits.Given as goal
 

@@ -1,8 +1,4 @@
-use Rattle.std.proofs.Common.{rules, ◌≡◌, ◌<◌, ◌≤◌, ◌∷◌, ◌++◌, [], List, ℕ, suc, length, map, take, drop, refl, sym, ap, subst, ◌∙◌, arith}
-use Rattle.std.specs.List.{AllZip}
-use Rattle.std.proofs.lemmas.List.{take_all, append-nil, length-map, map-append, append_assoc}
-use Rattle.rdm_responder.specs.History.{History}
-use Rattle.rdm_line.specs.Hearing.{answers, heard_by}
+use Rattle.std.proofs.Common.{refl, ◌∙◌, arith}
 use Rattle.rdm_line.proofs.Loops.{ended_stands, ended_line, next_stands, next_line}
 use Rattle.rdm_line.proofs.hearing.hear_all.Goals as goal
 

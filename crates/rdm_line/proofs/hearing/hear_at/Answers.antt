@@ -1,4 +1,3 @@
-use Rattle.std.proofs.Common.{rules, ◌≡◌, ◌<◌, ◌∷◌, ◌++◌, List, ℕ, length}
 use Rattle.rdm_line.proofs.Each.{map_set}
 use Rattle.rdm_line.proofs.Zips.{zip_at, zip_set}
 use Rattle.rdm_line.proofs.hearing.hear_at.Goals as goal

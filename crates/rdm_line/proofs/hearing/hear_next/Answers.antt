@@ -1,6 +1,5 @@
-use Rattle.std.proofs.Common.{◌≡◌, ◌≤◌, ◌∷◌, ◌++◌, List, length, true, false, sym, subst}
+use Rattle.std.proofs.Common.{◌∷◌, ◌++◌, true, false, sym, subst}
 use Rattle.std.specs.List.{AllZip}
-use Rattle.rdm_responder.specs.History.{History}
 use Rattle.rdm_line.specs.Hearing.{heard_by}
 use Rattle.rdm_line.proofs.Loops.{was_silent, has_replied, none_of, set_heard, set_unheard}
 use Rattle.rdm_line.proofs.Unheard.{hearing, unanswered}

@@ -1,6 +1,4 @@
-use Rattle.std.proofs.Common.{◌≡◌, ◌↔◌, ℕ, Ok, Err, rules}
-use Rattle.rdm_line.specs.declared.joining.JoinError.{JoinError}
-use Rattle.rdm_line.specs.declared.joining.JoinError.TheVariants.{Taken, OutOfMemory}
+use Rattle.std.proofs.Common.{rules}
 use Rattle.rdm_line.proofs.Joinings.{ok_no_err, memory_not_taken}
 use Rattle.rdm_line.proofs.Searches.{gap_of, not_there, in_numbers}
 use Rattle.rdm_line.proofs.joining.place_for.Goals as goal

@@ -1,10 +1,5 @@
-use Rattle.std.proofs.Common.{◌≡◌, ◌↔◌, ◌<◌, ◌≤◌, ℕ, length, map, get_or, ◌∙◌, sym, subst, arith, rules}
-use Rattle.std.specs.Prelude.{IfSome, IsSome, Contains}
-use Rattle.std.specs.Result.{MatchResult}
-use Rattle.std.proofs.lemmas.List.Sorted.{searched}
-use Rattle.rdm_frame.specs.UidNumber.{uid_number}
-use Rattle.rdm_line.specs.Line.{IsOnlyAt}
-use Rattle.rdm_line.proofs.Searches.{Found, Gap, place_of, is_found, in_numbers}
+use Rattle.std.proofs.Common.{length, rules}
+use Rattle.rdm_line.proofs.Searches.{place_of, is_found, in_numbers}
 use Rattle.rdm_line.proofs.line.Line.find.Goals as goal
 
 pub returns-clause-found : goal.returns-clause-found

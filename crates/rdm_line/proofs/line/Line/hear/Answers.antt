@@ -1,8 +1,8 @@
-use Rattle.std.proofs.Common.{◌≡◌, ◌<◌, ◌≤◌, List, length, map, refl, sym, ap, subst, ◌∙◌, arith}
+use Rattle.std.proofs.Common.{map, sym, ap, subst, ◌∙◌}
 use Rattle.std.specs.List.{AllZip}
 use Rattle.std.proofs.lemmas.List.{with_items_is}
 use Rattle.rdm_line.specs.Collisions.{on_wire as wave}
-use Rattle.rdm_line.specs.Hearing.{answers, heard_by}
+use Rattle.rdm_line.specs.Hearing.{heard_by}
 use Rattle.rdm_line.specs.Line.{State}
 use Rattle.rdm_line.proofs.Ones.{stand_heard, stand_deaf}
 use Rattle.rdm_line.proofs.Unheard.{deaf_silent, short_deaf}

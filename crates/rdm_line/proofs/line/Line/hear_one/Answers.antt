@@ -1,7 +1,6 @@
-use Rattle.std.proofs.Common.{◌≡◌, ◌≤◌, ◌∷◌, ◌++◌, List, length, map, true, false, refl, sym, ap, subst, ◌∙◌}
+use Rattle.std.proofs.Common.{map, sym, ap, subst, ◌∙◌}
 use Rattle.std.specs.List.{AllZip}
 use Rattle.std.proofs.lemmas.List.{with_items_is}
-use Rattle.rdm_responder.specs.History.{History}
 use Rattle.rdm_line.specs.Collisions.{on_wire as wave}
 use Rattle.rdm_line.specs.Hearing.{answers, heard_by}
 use Rattle.rdm_line.specs.Line.{State}

@@ -1,7 +1,7 @@
-use Rattle.std.proofs.Common.{◌≡◌, ◌+◌, ◌<◌, ℕ, List, ◌∷◌, ◌++◌, length, map, take, drop, get_or, refl, sym, ap, subst, ◌∙◌, arith, rules}
+use Rattle.std.proofs.Common.{◌≡◌, ◌+◌, ℕ, List, ◌∷◌, ◌++◌, length, take, drop, sym, ap, subst, ◌∙◌, rules}
 use Rattle.std.proofs.lemmas.Bool.{cond-true}
 use Rattle.rdm_frame.specs.UidNumber.{uid_number}
-use Rattle.rdm_line.specs.Line.{State, StandFor, AreInOrder, IsGap, uid_of}
+use Rattle.rdm_line.specs.Line.{State, StandFor, AreInOrder, IsGap}
 use Rattle.rdm_line.proofs.Joinings.{order_more, length_one, number_fits, number_single, stand_joined}
 use Rattle.rdm_line.proofs.line.Line.join.Goals as goal
 
