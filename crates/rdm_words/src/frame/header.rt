@@ -1,12 +1,13 @@
 //! The words of a frame's header (E1.20 section 6.2).
 
-use crate::data::values::put_coded;
+use crate::data::values::put_named;
 use crate::frame::class::put_class;
 use crate::frame::place::put_place;
 use crate::tables::parameters::parameter;
-use crate::tables::replies::{NACK_REASONS, RESPONSE_TYPES};
+use crate::tables::replies::RESPONSE_TYPES;
 use rdm_frame::standard::{ACK_TIMER, FIRST_PORT, NACK_REASON};
 use rdm_frame::{FrameView, Uid};
+use rdm_params::reason_name;
 use std::alloc::AllocError;
 use std::fmt::Write;
 
@@ -85,9 +86,9 @@ pub(crate) fn put_response_type(
             let (seconds, rest) = (tenths / 10, tenths % 10);
             write!(text, " {seconds}.{rest} s")
         }
-        (NACK_REASON, [_, _]) => {
+        (NACK_REASON, [a, b]) => {
             text.push(' ')?;
-            put_coded(text, NACK_REASONS, data)
+            put_named(text, reason_name(u16::from_be_bytes([*a, *b])), data)
         }
         _ => Ok(()),
     }

@@ -12,10 +12,10 @@ use crate::frame::frame_words::cause_of;
 use crate::frame::header::put_response_type;
 use crate::frame::place::put_place;
 use crate::tables::parameters::parameter;
-use crate::tables::replies::NACK_REASONS;
 use crate::text::put_shown;
 use rdm_frame::standard::{ACK, NACK_REASON, ROOT_DEVICE};
 use rdm_frame::{FrameError, FrameView, branch_uid, decode_view};
+use rdm_params::reason_name;
 use std::alloc::AllocError;
 use std::fmt::Write;
 
@@ -93,7 +93,7 @@ fn put_reply(
         }
         (NACK_REASON, [a, b]) => {
             let code = u16::from_be_bytes([*a, *b]);
-            match NACK_REASONS.name(u32::from(code)) {
+            match reason_name(code) {
                 Some(reason) => write!(text, "NACK: {reason}"),
                 None => write!(text, "NACK: reason {code:04X}"),
             }
