@@ -12,6 +12,8 @@ mod joining;
 mod laws;
 mod line;
 mod on_wire;
+mod port;
+mod ranges;
 mod station;
 
 pub use collision::Collision;
@@ -21,4 +23,5 @@ pub use joining::{JoinError, Refused};
 pub use laws::{only_branches_collide, searches_hear_a_line, unheard_bytes_change_nothing};
 pub use line::Line;
 pub use on_wire::OnWire;
+pub use port::LinePort;
 pub use station::Station;

@@ -31,7 +31,8 @@ impl<D: Device> Model for Line<D> {
 }
 
 impl<D: Device> Line<D> {
-    ghost use Rattle.std.specs.Prelude.{◌≡◌, ◌↔◌, ◌<◌, ℕ, true, [], length, slice_get, Contains, IsSome, IfSome, Some};
+    ghost use Rattle.std.specs.Prelude.{◌≡◌, ◌≢◌, ◌↔◌, ◌<◌, ℕ, true, [], length, slice_get, All, AllPairs, Contains, IsSome, IfSome, Some};
+    ghost use Rattle.rdm_search.specs.Line.{IsDevice};
     ghost use Rattle.rdm_line.specs.Line.{StandFor, IsOnlyAt};
 
     /// A line with no device, on which collisions sound so.
@@ -84,6 +85,15 @@ impl<D: Device> Line<D> {
     {
         let index = self.find(uid)?;
         self.devices.get_mut(index)
+    }
+
+    /// Its devices have different UIDs, each that of one device. The call does nothing: it is there for its clauses.
+    pub fn uids_differ(&self)
+        ensures devices { All (λ u. IsDevice u) self.now.uids }
+        ensures differ { AllPairs (λ u v. u ≢ v) self.now.uids }
+    {
+        // What holds of every line is known where a field is read.
+        let _count = self.numbers.len();
     }
 
     /// Where the device with this UID stands.

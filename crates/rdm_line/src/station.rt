@@ -19,6 +19,10 @@ impl Device for Station {
 
     ghost stands = { λ s h. StandsFor s.responder h × (s.uid ≡ h.setup.uid) };
 
+    ghost muted = { λ s. s.responder.muted };
+
+    ghost mutings = { λ s h is. is.0.muted };
+
     ghost Rest = { Uid };
 
     ghost rest = { λ s. s.uid };
