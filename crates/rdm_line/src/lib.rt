@@ -15,6 +15,7 @@ mod on_wire;
 mod port;
 mod ranges;
 mod station;
+mod watched;
 
 pub use collision::Collision;
 pub use device::Device;
@@ -25,3 +26,4 @@ pub use line::Line;
 pub use on_wire::OnWire;
 pub use port::LinePort;
 pub use station::Station;
+pub use watched::WatchedStation;
