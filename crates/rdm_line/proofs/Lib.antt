@@ -4,6 +4,7 @@ pub mod Each
 pub mod Joinings
 pub mod Loops
 pub mod Ones
+pub mod Ports
 pub mod Searches
 pub mod Searching
 pub mod Unheard

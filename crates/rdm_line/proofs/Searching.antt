@@ -175,10 +175,10 @@ low_at low high fits = uid_same _ low.maker _ low.device (from_be_bytes-to_be_by
 high_at : (low high : Uid) → IsUid high → uid_at (uid_slots low ++ uid_slots high) 6 ≡ high
 high_at low high fits = uid_same _ high.maker _ high.device (from_be_bytes-to_be_bytes_2 high.maker fits.maker) (from_be_bytes-to_be_bytes_4 high.device fits.device)
 
-abbrev Reply_ : Uid → Uid → History → Option (List ℕ)
+abbrev pub Reply_ : Uid → Uid → History → Option (List ℕ)
 Reply_ low high h = cond (calls low high (fixture_of h)) (Some (branch_reply h.setup.uid)) None
 
-branch_reply_of : (source : Uid) (tn : ℕ) (low high : Uid) → IsUid low → IsUid high → IsFrame (request_frame source tn (UniqueBranch low high)) → (h : History) → reply_of h (frame_text (request_frame source tn (UniqueBranch low high))) ≡ Reply_ low high h
+pub branch_reply_of : (source : Uid) (tn : ℕ) (low high : Uid) → IsUid low → IsUid high → IsFrame (request_frame source tn (UniqueBranch low high)) → (h : History) → reply_of h (frame_text (request_frame source tn (UniqueBranch low high))) ≡ Reply_ low high h
 branch_reply_of source tn low high fit_low fit_high fits h =
     let f = request_frame source tn (UniqueBranch low high) in
     reply_by h f _ fits (to_all h.setup.uid f refl refl ∙ branch_at source tn low high)
@@ -196,7 +196,7 @@ called_by low high h hs bytes false t e rest =
     ∙ rest
     ∙ ap (λ (fs : List Fixture). map branch_reply (uids fs)) (sym (cond-false (calls low high (fixture_of h)) _ _ t))
 
-branch_answers : (low high : Uid) (bytes : List ℕ) → ((h : History) → reply_of h bytes ≡ Reply_ low high h) → (hs : List History) → answers bytes hs ≡ map branch_reply (callers low high (map fixture_of hs))
+pub branch_answers : (low high : Uid) (bytes : List ℕ) → ((h : History) → reply_of h bytes ≡ Reply_ low high h) → (hs : List History) → answers bytes hs ≡ map branch_reply (callers low high (map fixture_of hs))
 branch_answers low high bytes each [] = refl
 branch_answers low high bytes each (h ∷ hs) = called_by low high h hs bytes (calls low high (fixture_of h)) refl (each h) (branch_answers low high bytes each hs)
 
@@ -218,7 +218,7 @@ collided_sounds AllBits first others some e = (let n = all_long first others in 
 collided_sounds First first others some e = (let z = ap (length {A = ℕ}) e in omega (arith, z, some))
 collided_sounds (Rubbish seed) first others some e = (let z : 24 ≡ 0 = ap (length {A = ℕ}) e in omega (arith, z))
 
-called : (rule : Collision) (us : List Uid) → IsCalled us (on_wire rule [] (map branch_reply us)).1
+pub called : (rule : Collision) (us : List Uid) → IsCalled us (on_wire rule [] (map branch_reply us)).1
 called rule [] = refl
 called rule (u ∷ []) = (0, omega arith, refl)
 called rule (u ∷ (v ∷ us)) = (let n = has_bytes u in collided_sounds rule (branch_reply u) (branch_reply v ∷ map branch_reply us) (omega (arith, n)))
@@ -338,7 +338,7 @@ mute_absent hs rule source tn uid fits gone some =
     ] in
     false≢true (sym (ap (λ (xs : List (List ℕ)). is_some (mute_answer uid (on_wire rule [] xs).1)) none ∙ ap (λ o. is_some o) (no_mute_answer uid)) ∙ some)
 
-there_or_not : (us : List Uid) (u : Uid) → Contains us u ⊎ (Contains us u → ⊥)
+pub there_or_not : (us : List Uid) (u : Uid) → Contains us u ⊎ (Contains us u → ⊥)
 there_or_not [] u = inr (λ h. omega (arith, h.1))
 there_or_not (v ∷ us) u =
     elim (cases_Bool (same_uid v u)) [

@@ -1,5 +1,7 @@
 pub mod Collisions
 pub mod Hearing
 pub mod Laws
+pub mod Lends
 pub mod Line
 pub mod Searching
+pub mod Stations

@@ -1,5 +1,5 @@
 -- A line of devices, as a search sees it. E1.20 sections 7.5 and 7.6.
-use Rattle.std.specs.Prelude.{◌≡◌, ◌≢◌, ℕ, List, [], map, All, AllPairs}
+use Rattle.std.specs.Prelude.{◌≡◌, ◌≢◌, ℕ, Bool, List, [], map, zip, All, AllPairs}
 use Rattle.rdm_frame.specs.declared.uid.Uid.{Uid}
 use Rattle.rdm_frame.specs.FrameText.{frame_text, IsFrame}
 use Rattle.rdm_search.specs.declared.request.Request.{Request}
@@ -10,7 +10,7 @@ use Rattle.rdm_responder.specs.Rules.{account_of, is_muted}
 use Rattle.rdm_line.specs.declared.collision.Collision.{Collision}
 use Rattle.rdm_line.specs.Collisions.{on_wire}
 use Rattle.rdm_line.specs.Hearing.{answers, heard_by}
-use Rattle.rdm_line.specs.Line.{uids_of}
+use Rattle.rdm_line.specs.Line.{State, StandFor, uids_of}
 
 -- the fixture that a device is after its history
 abbrev pub fixture_of : History → Fixture
@@ -29,3 +29,11 @@ RequestsAreHeard =
     → All (λ u. IsDevice u) (uids_of hs) → AllPairs (λ u v. u ≢ v) (uids_of hs)
     → IsRequest request → IsFrame (request_frame source tn request)
     → IsHeard request (map fixture_of hs) (on_wire rule [] (answers (frame_text (request_frame source tn request)) hs)).1
+
+-- the fixtures that the devices of a line are, where `muted` says of each whether it is muted
+abbrev pub fixtures_of : {D : Type 0} → (D → Bool) → State D → List Fixture
+fixtures_of muted line = map (λ x. record { uid = x.0; muted = muted x.1 }) (zip line.uids line.devices)
+
+-- There are histories that lead each device of the line to its state.
+abbrev pub HasHistories : {D : Type 0} → (D → History → Type 0) → State D → Type 0
+HasHistories stands line = ∥ ((hs : List History) × StandFor stands line hs) ∥₁

@@ -6,13 +6,16 @@ use rdm_frame::{Uid, Wire};
 ///
 /// What it does is a responder's: after any history that it stands for, it answers by the reply rules of `rdm_responder`.
 pub trait Device: Drop {
-    ghost use Rattle.std.specs.Prelude.{◌≡◌};
+    ghost use Rattle.std.specs.Prelude.{◌≡◌, Bool};
     ghost use Rattle.std.specs.Bool.{OnFalse};
     ghost use Rattle.rdm_responder.specs.History.{History, Heard, then_event};
-    ghost use Rattle.rdm_responder.specs.Rules.{answered, reply_of};
+    ghost use Rattle.rdm_responder.specs.Rules.{account_of, answered, is_muted, reply_of};
 
     // It is in the state that this history leads to.
     ghost stands: { Self → History → Type 0 };
+
+    // Whether it is muted (E1.20 section 7.6).
+    ghost muted: { Self → Bool };
 
     // What of it no bytes change.
     ghost Rest: { Type 0 };
@@ -29,4 +32,7 @@ pub trait Device: Drop {
         ensures silent { OnFalse result (wire.new ≡ wire.old) }
         ensures rest { rest self.new ≡ rest self.old }
         ensures stands { (h : History) → stands self.old h → stands self.new (then_event h (Heard bytes.now)) };
+
+    // It is muted if the last muting of its history is a mute.
+    ghost mutings: { (d : Self) (h : History) → stands d h → muted d ≡ is_muted (account_of h).mutings };
 }

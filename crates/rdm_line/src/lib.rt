@@ -12,7 +12,10 @@ mod joining;
 mod laws;
 mod line;
 mod on_wire;
+mod port;
+mod ranges;
 mod station;
+mod watched;
 
 pub use collision::Collision;
 pub use device::Device;
@@ -21,4 +24,6 @@ pub use joining::{JoinError, Refused};
 pub use laws::{only_branches_collide, searches_hear_a_line, unheard_bytes_change_nothing};
 pub use line::Line;
 pub use on_wire::OnWire;
+pub use port::LinePort;
 pub use station::Station;
+pub use watched::WatchedStation;

@@ -1,5 +1,7 @@
 //! The line.
 
+ghost use Rattle.std.specs.Prelude.{◌≡◌, ◌<◌, length, slice_index, IfSome};
+
 use crate::{Collision, Device};
 use rdm_frame::{Uid, Wire};
 use std::alloc::Global;
@@ -31,7 +33,10 @@ impl<D: Device> Model for Line<D> {
 }
 
 impl<D: Device> Line<D> {
-    ghost use Rattle.std.specs.Prelude.{◌≡◌, ◌↔◌, ◌<◌, ℕ, true, [], length, slice_get, Contains, IsSome, IfSome, Some};
+    ghost use Rattle.std.specs.Prelude.{◌≡◌, ◌≢◌, ◌↔◌, ◌<◌, ℕ, true, [], length, slice_get, All, AllPairs, Contains, IsSome, IfSome, Some};
+    ghost use Rattle.rdm_search.specs.Line.{IsDevice};
+    ghost use Rattle.std.specs.Borrow.{sem};
+    ghost use Rattle.rdm_line.specs.Lends.{lends_device};
     ghost use Rattle.rdm_line.specs.Line.{StandFor, IsOnlyAt};
 
     /// A line with no device, on which collisions sound so.
@@ -78,12 +83,22 @@ impl<D: Device> Line<D> {
         Some(&self.devices[index])
     }
 
-    /// The device with this UID, for what happens to it beside the line: it must keep its UID. No clause says what is made of it.
+    /// The device with this UID, for what happens to it beside the line: it must keep its UID. The others stay.
     pub fn get_mut(&mut self, uid: Uid) -> Option<&mut D>
+        ensures* writes_back { sem 𝓛 (lends_device D.row D.Device self.entry uid result) }
         ensures found { IsSome result ↔ Contains self.old.uids uid }
     {
         let index = self.find(uid)?;
         self.devices.get_mut(index)
+    }
+
+    /// Its devices have different UIDs, each that of one device. The call does nothing: it is there for its clauses.
+    pub fn uids_differ(&self)
+        ensures devices { All (λ u. IsDevice u) self.now.uids }
+        ensures differ { AllPairs (λ u v. u ≢ v) self.now.uids }
+    {
+        // What holds of every line is known where a field is read.
+        let _count = self.numbers.len();
     }
 
     /// Where the device with this UID stands.
@@ -91,6 +106,23 @@ impl<D: Device> Line<D> {
         ensures found { IsSome result ↔ Contains self.now.uids uid }
         ensures place { IfSome result (λ i. IsOnlyAt uid self.now.uids i × (i < length self.now.devices)) }
     {
-        self.numbers.binary_search(&uid.number()).ok()
+        let number = uid.number();
+        match place_if_counted(self.numbers.as_slice(), number) {
+            Some(index) => Some(index),
+            None => self.numbers.binary_search(&number).ok(),
+        }
+    }
+}
+
+/// Where a number stands if those from the first to it are counted up, as the UIDs of a rig often are: then no search is needed.
+fn place_if_counted(numbers: &[u64], number: u64) -> Option<usize>
+    ensures { IfSome result (λ i. (i < length numbers.now) × (slice_index numbers.now i ≡ number)) }
+{
+    let first = numbers.first()?;
+    let index = usize::try_from(number.wrapping_sub(*first)).ok()?;
+    if index < numbers.len() && numbers[index] == number {
+        Some(index)
+    } else {
+        None
     }
 }

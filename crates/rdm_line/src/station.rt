@@ -2,22 +2,24 @@
 
 use crate::Device;
 use rdm_frame::{Uid, Wire};
-use rdm_responder::{Responder, Stepped};
+use rdm_responder::Responder;
 
-/// A responder on a line, with what its last request came to: the job that is to be done, and what changed.
+/// A responder on a line. It takes 8 bytes beside its responder.
 #[derive(Debug, Drop)]
 pub struct Station {
     uid: Uid,
     responder: Responder,
-    stepped: Stepped,
 }
 
 impl Device for Station {
-    ghost use Rattle.std.specs.Prelude.{◌≡◌};
     ghost use Rattle.rdm_frame.specs.declared.uid.Uid.{Uid};
-    ghost use Rattle.rdm_responder.specs.StandsFor.{StandsFor};
+    ghost use Rattle.rdm_line.specs.Stations.{StationStandsFor};
 
-    ghost stands = { λ s h. StandsFor s.responder h × (s.uid ≡ h.setup.uid) };
+    ghost stands = { StationStandsFor };
+
+    ghost muted = { λ s. s.responder.muted };
+
+    ghost mutings = { λ s h is. is.0.muted };
 
     ghost Rest = { Uid };
 
@@ -28,36 +30,21 @@ impl Device for Station {
     }
 
     fn hear(&mut self, bytes: &[u8], wire: &mut Wire) -> bool {
-        self.stepped = self.responder.step_into(bytes, wire);
-        self.stepped.replied
+        self.responder.step_into(bytes, wire).replied
     }
 }
 
 impl Station {
-    ghost use Rattle.std.specs.Prelude.{◌≡◌, false, None};
+    ghost use Rattle.std.specs.Borrow.{sem};
+    ghost use Rattle.std.specs.Prelude.{◌≡◌};
+    ghost use Rattle.rdm_line.specs.Lends.{lends_responder};
 
-    /// This responder, whose UID this is. It has heard no request yet.
+    /// This responder, whose UID this is.
     pub fn new(uid: Uid, responder: Responder) -> Station
         ensures uid { result.uid ≡ uid }
         ensures responder { result.responder ≡ responder }
-        ensures stepped { result.stepped ≡ record { replied = false; started = None; changed = None } }
     {
-        Station {
-            uid,
-            responder,
-            stepped: Stepped {
-                replied: false,
-                started: None,
-                changed: None,
-            },
-        }
-    }
-
-    /// What the last request that it heard came to.
-    pub fn stepped(&self) -> Stepped
-        ensures { result ≡ self.now.stepped }
-    {
-        self.stepped
+        Station { uid, responder }
     }
 
     /// The responder.
@@ -68,7 +55,10 @@ impl Station {
     }
 
     /// The responder, for what happens to it beside the line: reports, changes at its menu, and what its firmware tells.
-    pub fn responder_mut(&mut self) -> &mut Responder {
+    pub fn responder_mut(&mut self) -> &mut Responder
+        ensures* writes_back { sem 𝓛 (lends_responder self.entry result) }
+        ensures value { result.now ≡ self.old.responder }
+    {
         &mut self.responder
     }
 }

@@ -1,9 +1,9 @@
 //! A search over lines of many devices, with each rule of collisions.
 
 use crate::rig::{CONSOLE, line};
-use rdm_frame::{Uid, Wire, encode};
-use rdm_line::{Collision, Device, Line, Station};
-use rdm_search::{Found, Search};
+use rdm_frame::Uid;
+use rdm_line::{Collision, Device, LinePort};
+use rdm_search::discover;
 use std::alloc::Global;
 use std::test::Fail;
 
@@ -15,20 +15,6 @@ const RULES: [Collision; 3] = [
     Collision::First,
     Collision::Rubbish(0x5EED),
 ];
-
-/// What a search finds on the line.
-fn search(alloc: Global, line: &mut Line<Station>) -> Result<Vec<Found>, Fail> {
-    let mut search = Search::new(alloc, CONSOLE, LIMIT);
-    for _ in 0..LIMIT {
-        let Some(frame) = search.next()? else {
-            break;
-        };
-        let mut wire = Wire::new();
-        line.hear(encode(&frame).as_slice(), &mut wire);
-        search.hear(wire.as_slice())?;
-    }
-    Ok(search.into_found())
-}
 
 /// Whether a search finds these UIDs and no others, whatever a collision sounds like.
 fn all_are_found(alloc: Global, uids: &[Uid]) -> Result<bool, Fail> {
@@ -42,8 +28,13 @@ fn all_are_found(alloc: Global, uids: &[Uid]) -> Result<bool, Fail> {
 
 /// Whether a search finds these UIDs and no others, with this rule.
 fn all_are_found_by(alloc: Global, rule: Collision, uids: &[Uid]) -> Result<bool, Fail> {
-    let mut line = line(alloc, rule, uids)?;
-    let found = search(alloc, &mut line)?;
+    let mut port = LinePort::new(line(alloc, rule, uids)?);
+    let found = discover(alloc, &mut port, CONSOLE, LIMIT)?;
+    let sent = port.sent() as usize;
+    let line = port.into_line();
+    if sent > uids.len().saturating_mul(74).saturating_add(2) {
+        return Ok(false);
+    }
     if found.len() != uids.len() || line.len() != uids.len() {
         return Ok(false);
     }

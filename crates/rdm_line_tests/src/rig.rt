@@ -1,5 +1,10 @@
 //! Lines for tests.
 
+ghost use Rattle.std.specs.Prelude.{IfOk};
+ghost use Rattle.rdm_responder.specs.History.{History};
+ghost use Rattle.rdm_line.specs.Searching.{HasHistories};
+ghost use Rattle.rdm_line.specs.Stations.{StationStandsFor};
+
 use rdm_frame::standard::{FIRST_PORT, ROOT_DEVICE};
 use rdm_frame::{Body, Frame, Uid, Wire, encode};
 use rdm_line::{Collision, Line, Station};
@@ -15,13 +20,17 @@ pub const CONSOLE: Uid = Uid {
 };
 
 /// A device with this UID.
-pub fn station(alloc: Global, uid: Uid) -> Result<Station, Fail> {
+pub fn station(alloc: Global, uid: Uid) -> Result<Station, Fail>
+    ensures { IfOk result (λ s. (h : History) × StationStandsFor s h) }
+{
     let responder = Responder::with_entries(alloc, uid, Profile::demo(0), 1, 1)?;
     Ok(Station::new(uid, responder))
 }
 
 /// A line with devices of these UIDs.
-pub fn line(alloc: Global, rule: Collision, uids: &[Uid]) -> Result<Line<Station>, Fail> {
+pub fn line(alloc: Global, rule: Collision, uids: &[Uid]) -> Result<Line<Station>, Fail>
+    ensures { IfOk result (λ l. HasHistories StationStandsFor l) }
+{
     let mut line = Line::new(alloc, rule);
     for uid in uids {
         let _ = line.join(station(alloc, *uid)?);

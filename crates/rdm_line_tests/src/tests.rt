@@ -3,7 +3,9 @@
 use crate::rig::{CONSOLE, line, request, station};
 use rdm_frame::standard::{DISC_MUTE, DISC_UN_MUTE, DISCOVERY_COMMAND, GET_COMMAND};
 use rdm_frame::{Uid, Wire, decode};
-use rdm_line::{Collision, Device, JoinError, OnWire};
+use rdm_line::{Collision, Device, JoinError, Line, OnWire, WatchedStation};
+use rdm_params::Profile;
+use rdm_responder::Responder;
 use std::test::Fail;
 
 /// IDENTIFY_DEVICE (E1.20 section 10.11).
@@ -29,7 +31,7 @@ fn each_answers_for_itself(rt: HostRuntime) -> Result<(), Fail> {
         assert!(rt; reply.src == own);
         assert!(rt; reply.dst == CONSOLE);
         assert_eq!(rt; reply.body.as_slice(), [0].as_slice());
-        assert!(rt; line.get(own).is_some_and(|s| s.stepped().replied));
+        assert!(rt; line.get(own).is_some());
     }
     Ok(())
 }
@@ -71,6 +73,30 @@ fn some_may_not_join(rt: HostRuntime) -> Result<(), Fail> {
     assert!(rt; line.get(uid(1)).is_some());
     assert!(rt; line.get(uid(3)).is_none());
     assert!(rt; line.find(uid(2)) == Some(1));
+    Ok(())
+}
+
+/// A watched station keeps what its last request came to.
+#[test]
+fn a_watched_station_tells(rt: HostRuntime) -> Result<(), Fail> {
+    let responder = Responder::with_entries(rt.alloc(), uid(1), Profile::demo(0), 1, 1)?;
+    let mut line = Line::new(rt.alloc(), Collision::First);
+    let _ = line.join(WatchedStation::new(uid(1), responder));
+    let mut wire = Wire::new();
+    assert!(rt; line.get(uid(1)).is_some_and(|s| !s.stepped().replied));
+    let bytes = request(uid(1), GET_COMMAND, IDENTIFY_DEVICE);
+    assert!(rt; line.hear(bytes.as_slice(), &mut wire) == OnWire::Reply);
+    assert!(rt; line.get(uid(1)).is_some_and(|s| s.stepped().replied));
+    let bytes = request(uid(2), GET_COMMAND, IDENTIFY_DEVICE);
+    assert!(rt; line.hear(bytes.as_slice(), &mut wire) == OnWire::Nothing);
+    match line.get_mut(uid(1)) {
+        Some(station) => {
+            assert!(rt; station.uid() == uid(1));
+            assert!(rt; station.responder_mut().room());
+            assert_eq!(rt; station.responder().waiting(), 0);
+        }
+        None => assert!(rt; false),
+    }
     Ok(())
 }
 

@@ -11,6 +11,10 @@ impl Device for LiveFixture {
 
     ghost stands = { λ d h. StandsFor d.responder h × (d.uid ≡ h.setup.uid) };
 
+    ghost muted = { λ d. d.responder.muted };
+
+    ghost mutings = { λ d h is. is.0.muted };
+
     ghost Rest = { Timing };
 
     ghost rest = { timing_of };

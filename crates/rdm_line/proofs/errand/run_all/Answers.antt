@@ -1,4 +1,4 @@
-use Rattle.std.proofs.Common.{◌≡◌, ◌≢◌, ◌<◌, ◌≤◌, ◌+◌, ℕ, length, get_or, set, sym, subst, arith, ◌∙◌}
+use Rattle.std.proofs.Common.{◌≢◌, ◌<◌, length, sym, arith, ◌∙◌}
 use Rattle.std.proofs.lemmas.List.{get_or-set_other, length-set}
 use Rattle.rdm_line.proofs.Each.{zip_of, one_more}
 use Rattle.rdm_line.proofs.errand.run_all.Goals as goal

@@ -1,0 +1,96 @@
+//! Requests to devices on a line, and to a responder alone.
+
+use crate::fault::Fault;
+use rdm_frame::standard::{FIRST_PORT, GET_COMMAND, ROOT_DEVICE};
+use rdm_frame::{Body, Frame, Uid, Wire, encode};
+use rdm_line::{Collision, Line, OnWire, Station};
+use rdm_params::Profile;
+use rdm_responder::Responder;
+use std::alloc::{AllocError, Global};
+
+/// IDENTIFY_DEVICE (E1.20 section 10.11).
+const IDENTIFY_DEVICE: u16 = 0x1000;
+
+/// The manufacturer of all devices and of the console.
+const MAKER: u16 = 0x7FF0;
+
+/// The UID of the console.
+const CONSOLE: Uid = Uid {
+    maker: MAKER,
+    device: 0x0001_0000,
+};
+
+/// How many bytes of replies a responder alone gives to so many requests.
+pub(crate) fn alone(alloc: Global, rounds: u32) -> Result<u64, Fault> {
+    let mut responder = responder(alloc, 0)?;
+    let requests = requests(alloc, 1)?;
+    let mut wire = Wire::new();
+    let mut bytes: u64 = 0;
+    for _ in 0..rounds {
+        for request in requests.as_slice() {
+            if responder.step_into(request.as_slice(), &mut wire).replied {
+                bytes = bytes.wrapping_add(wire.as_slice().len() as u64);
+            }
+        }
+    }
+    Ok(bytes)
+}
+
+/// How many bytes of replies there are on a line of so many devices, where a request is sent to each in every round.
+pub(crate) fn on_line(alloc: Global, devices: u16, rounds: u32) -> Result<u64, Fault> {
+    let mut line = line(alloc, devices)?;
+    let requests = requests(alloc, devices)?;
+    let mut wire = Wire::new();
+    let mut bytes: u64 = 0;
+    for _ in 0..rounds {
+        for request in requests.as_slice() {
+            if line.hear(request.as_slice(), &mut wire) == OnWire::Reply {
+                bytes = bytes.wrapping_add(wire.as_slice().len() as u64);
+            }
+        }
+    }
+    Ok(bytes)
+}
+
+/// A line of so many devices.
+fn line(alloc: Global, devices: u16) -> Result<Line<Station>, Fault> {
+    let mut line = Line::new(alloc, Collision::First);
+    for device in 0..devices {
+        let station = Station::new(uid_of(device), responder(alloc, device)?);
+        line.join(station).map_err(|_| Fault::Refused)?;
+    }
+    Ok(line)
+}
+
+/// The UID of the device with this number.
+fn uid_of(device: u16) -> Uid {
+    Uid {
+        maker: MAKER,
+        device: u32::from(device),
+    }
+}
+
+/// The responder of the device with this number.
+fn responder(alloc: Global, device: u16) -> Result<Responder, Fault> {
+    let responder = Responder::with_entries(alloc, uid_of(device), Profile::demo(0), 1, 1)?;
+    Ok(responder)
+}
+
+/// A GET of IDENTIFY_DEVICE to each of so many devices.
+fn requests(alloc: Global, devices: u16) -> Result<Vec<Wire>, AllocError> {
+    let mut requests = Vec::new(alloc);
+    for device in 0..devices {
+        requests.push(encode(&Frame {
+            dst: uid_of(device),
+            src: CONSOLE,
+            tn: 1,
+            port: FIRST_PORT,
+            count: 0,
+            sub: ROOT_DEVICE,
+            class: GET_COMMAND,
+            pid: IDENTIFY_DEVICE,
+            body: Body::new(),
+        }))?;
+    }
+    Ok(requests)
+}
