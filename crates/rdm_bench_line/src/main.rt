@@ -1,7 +1,8 @@
 //! What a request to one of many devices on a line takes, and to a responder alone: `bench/line` counts the instructions.
 //!
 //! Without arguments it is shown what a few requests come to. `alone` with a number of rounds sends so many requests to a responder;
-//! `line` with a number of devices and one of rounds sends so many to each device of a line.
+//! `line` with a number of devices and one of rounds sends so many to each device of a line, whose UIDs are counted up; with `gaps` in its
+//! place there are others between these.
 #![tactic(auto)]
 
 mod fault;
@@ -31,15 +32,20 @@ fn run<R: Env + Alloc + Print + Copy>(rt: R, alloc: Global) -> Result<(), Fault>
     match read_arguments(&rt)? {
         Asked::Show => show(rt, alloc),
         Asked::Alone(rounds) => tell(rt, "alone", alone(alloc, rounds)?),
-        Asked::Line(devices, rounds) => tell(rt, "line", on_line(alloc, devices, rounds)?),
+        Asked::Line(devices, rounds) => tell(rt, "line", on_line(alloc, devices, 1, rounds)?),
+        Asked::Gaps(devices, rounds) => tell(rt, "gaps", on_line(alloc, devices, 3, rounds)?),
     }
 }
 
 /// Prints what a few requests come to.
 fn show<R: Print + Copy>(rt: R, alloc: Global) -> Result<(), Fault> {
     tell(rt, "alone, 3 requests", alone(alloc, 3)?)?;
-    tell(rt, "one on a line, 3 requests", on_line(alloc, 1, 3)?)?;
-    tell(rt, "two on a line, 3 requests each", on_line(alloc, 2, 3)?)
+    tell(rt, "one on a line, 3 requests", on_line(alloc, 1, 1, 3)?)?;
+    tell(
+        rt,
+        "two on a line, 3 requests each",
+        on_line(alloc, 2, 3, 3)?,
+    )
 }
 
 /// Prints how many bytes of replies there were.
@@ -56,6 +62,8 @@ enum Asked {
     Alone(u32),
     /// Requests to each of so many devices, in so many rounds.
     Line(u16, u32),
+    /// The same, where other UIDs lie between those of the devices.
+    Gaps(u16, u32),
 }
 
 /// Reads the arguments.
@@ -70,12 +78,15 @@ fn read_arguments<R: Env + Alloc>(rt: &R) -> Result<Asked, Fault> {
     };
     match (word.as_str(), third) {
         ("alone", None) => Ok(Asked::Alone(read_number(&number)?)),
-        ("line", Some(rounds)) => {
-            let devices = number.parse::<u16>().map_err(|_| Fault::Usage)?;
-            Ok(Asked::Line(devices, read_number(&rounds)?))
-        }
+        ("line", Some(rounds)) => Ok(Asked::Line(read_count(&number)?, read_number(&rounds)?)),
+        ("gaps", Some(rounds)) => Ok(Asked::Gaps(read_count(&number)?, read_number(&rounds)?)),
         _ => Err(Fault::Usage),
     }
+}
+
+/// Reads a number of devices.
+fn read_count(word: &str) -> Result<u16, Fault> {
+    word.parse::<u16>().map_err(|_| Fault::Usage)
 }
 
 /// Reads a number of rounds.

@@ -17,13 +17,13 @@ const MAKER: u16 = 0x7FF0;
 /// The UID of the console.
 const CONSOLE: Uid = Uid {
     maker: MAKER,
-    device: 0x0001_0000,
+    device: 0x0100_0000,
 };
 
 /// How many bytes of replies a responder alone gives to so many requests.
 pub(crate) fn alone(alloc: Global, rounds: u32) -> Result<u64, Fault> {
-    let mut responder = responder(alloc, 0)?;
-    let requests = requests(alloc, 1)?;
+    let mut responder = responder(alloc, uid_of(0, 1))?;
+    let requests = requests(alloc, 1, 1)?;
     let mut wire = Wire::new();
     let mut bytes: u64 = 0;
     for _ in 0..rounds {
@@ -36,10 +36,11 @@ pub(crate) fn alone(alloc: Global, rounds: u32) -> Result<u64, Fault> {
     Ok(bytes)
 }
 
-/// How many bytes of replies there are on a line of so many devices, where a request is sent to each in every round.
-pub(crate) fn on_line(alloc: Global, devices: u16, rounds: u32) -> Result<u64, Fault> {
-    let mut line = line(alloc, devices)?;
-    let requests = requests(alloc, devices)?;
+/// How many bytes of replies there are on a line of so many devices, where a request is sent to each in every round. Their
+/// device IDs are multiples of `step`.
+pub(crate) fn on_line(alloc: Global, devices: u16, step: u32, rounds: u32) -> Result<u64, Fault> {
+    let mut line = line(alloc, devices, step)?;
+    let requests = requests(alloc, devices, step)?;
     let mut wire = Wire::new();
     let mut bytes: u64 = 0;
     for _ in 0..rounds {
@@ -53,35 +54,36 @@ pub(crate) fn on_line(alloc: Global, devices: u16, rounds: u32) -> Result<u64, F
 }
 
 /// A line of so many devices.
-fn line(alloc: Global, devices: u16) -> Result<Line<Station>, Fault> {
+fn line(alloc: Global, devices: u16, step: u32) -> Result<Line<Station>, Fault> {
     let mut line = Line::new(alloc, Collision::First);
     for device in 0..devices {
-        let station = Station::new(uid_of(device), responder(alloc, device)?);
+        let uid = uid_of(device, step);
+        let station = Station::new(uid, responder(alloc, uid)?);
         line.join(station).map_err(|_| Fault::Refused)?;
     }
     Ok(line)
 }
 
 /// The UID of the device with this number.
-fn uid_of(device: u16) -> Uid {
+fn uid_of(device: u16, step: u32) -> Uid {
     Uid {
         maker: MAKER,
-        device: u32::from(device),
+        device: u32::from(device).wrapping_mul(step),
     }
 }
 
-/// The responder of the device with this number.
-fn responder(alloc: Global, device: u16) -> Result<Responder, Fault> {
-    let responder = Responder::with_entries(alloc, uid_of(device), Profile::demo(0), 1, 1)?;
+/// The responder of the device with this UID.
+fn responder(alloc: Global, uid: Uid) -> Result<Responder, Fault> {
+    let responder = Responder::with_entries(alloc, uid, Profile::demo(0), 1, 1)?;
     Ok(responder)
 }
 
 /// A GET of IDENTIFY_DEVICE to each of so many devices.
-fn requests(alloc: Global, devices: u16) -> Result<Vec<Wire>, AllocError> {
+fn requests(alloc: Global, devices: u16, step: u32) -> Result<Vec<Wire>, AllocError> {
     let mut requests = Vec::new(alloc);
     for device in 0..devices {
         requests.push(encode(&Frame {
-            dst: uid_of(device),
+            dst: uid_of(device, step),
             src: CONSOLE,
             tn: 1,
             port: FIRST_PORT,

@@ -43,7 +43,7 @@ all_differ ns order i j d lt within e =
     let here : j < length ns = omega (arith, length-map ns uid_of, within) in
     let there : i < length ns = omega (arith, here, lt) in
     let same : get_or ns i 0 ≡ get_or ns j 0 =
-        sym (number_again (get_or ns i 0)) ∙ ap uid_number (sym (at_map ns i 0 d there) ∙ e ∙ at_map ns j 0 d here) ∙ number_again (get_or ns j 0) in
+    sym (number_again (get_or ns i 0)) ∙ ap uid_number (sym (at_map ns i 0 d there) ∙ e ∙ at_map ns j 0 d here) ∙ number_again (get_or ns j 0) in
     omega (arith, order.rise i j lt here, same)
 
 -- ---- the fixtures of a line
