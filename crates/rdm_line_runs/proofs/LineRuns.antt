@@ -286,6 +286,14 @@ laws_of_small s t said noted is =
       no_loss = no_loss_of _ _ (queue_of s.history) _ _ _ _ is.unanswered is.queue is.noted_is laws.no_loss;
     }
 
+-- a place is still there after events
+stays_there : (steps : List LineStep) (events : List Event) (line : List Start) (i : ℕ) (s : Start) → slice_get line i ≡ Some s → (t : Start) × (slice_get (line_after_all steps events line) i ≡ Some t)
+stays_there [] events line i s at = (s, at)
+stays_there (placed ∷ steps) [] line i s at = (s, at)
+stays_there (placed ∷ steps) (event ∷ events) line i s at =
+    stays_there steps events (line_after placed.place event line) i (cond (i == placed.place) (after_own s event) (after_other s event)) (after_at 0 placed.place i i event line s (omega arith) at)
+
 pub line_laws_hold : GetQueues → GetStatuses → SetFetchesNothing → LineLawsHold
-line_laws_hold queues statuses sets rule line steps events is run i s t at end =
-    laws_of_small s t _ _ (small_run queues statuses sets rule line steps events is run i s t at end)
+line_laws_hold queues statuses sets rule line steps events is run i s at =
+    let last = stays_there steps events line i s at in
+    (last.0, last.1, laws_of_small s last.0 _ _ (small_run queues statuses sets rule line steps events is run i s last.0 at last.1))

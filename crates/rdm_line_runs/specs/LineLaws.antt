@@ -38,12 +38,12 @@ pub record PairLaws (before after : Start) (dispensed recorded : List Message) :
   pub prefix : PrefixLaw after.unanswered dispensed recorded
   pub no_loss : NoLossLaw after.unanswered (given_between (queue_of before.history) (queue_of after.history)) recorded
 
--- The laws hold of each device of a line and its collector, whatever the others do: whichever commands, polls, arrivals and
--- changes there are at any of them, whatever a collision sounds like, whichever requests and replies are lost or altered, and
--- however many in a row.
+-- Each place of a line is still there after a run, and the laws hold of its device and its collector, whatever the others do:
+-- whichever commands, polls, arrivals and changes there are at any of them, whatever a collision sounds like, whichever requests
+-- and replies are lost or altered, and however many in a row.
 abbrev pub LineLawsHold : Type 0
 LineLawsHold =
     (rule : Collision) (line : List Start) (steps : List LineStep) (events : List Event) → IsLine line
-    → IsLineRun rule line steps events → (i : ℕ) (before after : Start) → slice_get line i ≡ Some before
-    → slice_get (line_after_all steps events line) i ≡ Some after
-    → PairLaws before after (dispensed_at i line steps events) (recorded_at i steps events)
+    → IsLineRun rule line steps events → (i : ℕ) (before : Start) → slice_get line i ≡ Some before
+    → (after : Start) × (slice_get (line_after_all steps events line) i ≡ Some after)
+    × PairLaws before after (dispensed_at i line steps events) (recorded_at i steps events)
