@@ -1,6 +1,8 @@
 pub mod Demo
+pub mod LeftOut
 pub mod Map
 pub mod Measuring
+pub mod OwnParameters
 pub mod Parameters
 pub mod Plain
 pub mod Profiles
