@@ -12,7 +12,7 @@ use Rattle.rdm_device.specs.declared.device.state.CommonValues.{CommonValues}
 use Rattle.rdm_device.specs.declared.device.state.RootValues.{RootValues}
 use Rattle.rdm_device.specs.declared.device.state.Measured.{Measured}
 use Rattle.rdm_device.specs.Device.Map.{Entry, entry}
-use Rattle.rdm_device.specs.Views.State.{common_entries, own_entries, sensor_entries, measured_slots}
+use Rattle.rdm_device.specs.Views.State.{common_entries, own_entries, sensor_entries, measured_slots, added_entries}
 use Rattle.rdm_saved.specs.Restoring.{size, device_size, devices_size, restored_value, restored_device, restored_devices, restored, saved_len, restore_refusal}
 use Rattle.rdm_saved.specs.declared.errors.RestoreError.TheVariants.{Length}
 
@@ -160,18 +160,18 @@ subs_parts ds ds' n t rest behind each er eb ee made =
     let behind_is : behind ≡ drop (61 + 2 * n) t = eb ∙ ap (drop (15 + 2 * n)) er ∙ drop_drop 46 (15 + 2 * n) t ∙ ap (λ (k : ℕ). drop k t) place in
     made ∙ ap (restored_devices (map common_entries ds)) (ee ∙ ap (λ (k : ℕ). take k behind) sizes) ∙ devices_front (map common_entries ds) 0 behind ∙ ap (restored_devices (map common_entries ds)) behind_is
 
-abbrev with_devices : Profile → List Entry → List (List Entry) → Parameters
-with_devices p root subs = record { profile = p; root = root; subs = subs }
+abbrev with_devices : Profile → List Entry → List Entry → List (List Entry) → Parameters
+with_devices p root added subs = record { profile = p; root = root; added = added; subs = subs }
 
-devices_same : (p : Profile) {a b : List Entry} {xs ys : List (List Entry)} → a ≡ b → xs ≡ ys → with_devices p a xs ≡ with_devices p b ys
-devices_same p e f = rw (e, f) refl
+devices_same : (p : Profile) {a b c d : List Entry} {xs ys : List (List Entry)} → a ≡ b → c ≡ d → xs ≡ ys → with_devices p a c xs ≡ with_devices p b d ys
+devices_same p e f g = rw (e, f, g) refl
 
 -- what is restored from an image
-pub restored_is : (p : Profile) (d d' : CommonValues) (o o' : RootValues) (ds ds' : List CommonValues) (image bytes : List ℕ) → bytes ≡ drop 17 image → common_entries d' ++ own_entries o' ≡ restored_device (common_entries d ++ own_entries o) bytes → map common_entries ds' ≡ restored_devices (map common_entries ds) (drop (61 + 2 * length o.sensors.items) bytes) → kept p d' o' ds' ≡ restored (kept p d o ds) image
+pub restored_is : (p : Profile) (d d' : CommonValues) (o o' : RootValues) (ds ds' : List CommonValues) (image bytes : List ℕ) → bytes ≡ drop 17 image → o'.added ≡ o.added → common_entries d' ++ own_entries o' ≡ restored_device (common_entries d ++ own_entries o) bytes → map common_entries ds' ≡ restored_devices (map common_entries ds) (drop (61 + 2 * length o.sensors.items) bytes) → kept p d' o' ds' ≡ restored (kept p d o ds) image
 unfolding restored
-restored_is p d d' o o' ds ds' image bytes e root subs =
+restored_is p d d' o o' ds ds' image bytes e added root subs =
     let place : 17 + (61 + 2 * length o.sensors.items) ≡ 17 + device_size (common_entries d ++ own_entries o) = omega (arith, size_append (common_entries d) (own_entries o), common_size d, own_size o) in
-    devices_same p (root ∙ ap (restored_device (common_entries d ++ own_entries o)) e)
+    devices_same p (root ∙ ap (restored_device (common_entries d ++ own_entries o)) e) (ap (λ values. added_entries values.items) added)
     (subs ∙ ap (λ (bytes : List ℕ). restored_devices (map common_entries ds) (drop (61 + 2 * length o.sensors.items) bytes)) e ∙ ap (restored_devices (map common_entries ds)) (drop_drop 17 (61 + 2 * length o.sensors.items) image ∙ ap (λ (n : ℕ). drop n image) place))
 
 -- an image of another length

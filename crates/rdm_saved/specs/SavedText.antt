@@ -7,7 +7,7 @@ use Rattle.rdm_device.specs.Device.Map.{Entry}
 use Rattle.rdm_device.specs.Device.Parameters.{Parameters}
 use Rattle.rdm_device.specs.declared.device.state.CommonValues.{CommonValues}
 use Rattle.rdm_device.specs.declared.device.state.RootValues.{RootValues}
-use Rattle.rdm_device.specs.Views.State.{common_entries, own_entries}
+use Rattle.rdm_device.specs.Views.State.{common_entries, own_entries, added_entries}
 use Rattle.rdm_device.specs.Device.Values.{word_slots, long_slots}
 
 -- The values of the moment, which power-off ends: LAMP_STATE, IDENTIFY_DEVICE, POWER_STATE, PERFORM_SELFTEST and
@@ -57,5 +57,6 @@ abbrev pub kept : Profile → CommonValues → RootValues → List CommonValues 
 kept profile root own subs = record {
   profile = profile;
   root = common_entries root ++ own_entries own;
+  added = added_entries own.added.items;
   subs = map common_entries subs;
 }

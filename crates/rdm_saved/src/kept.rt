@@ -102,6 +102,7 @@ fn restore_parts(
         ≡ restored_device (common_entries root.old ++ own_entries own.old) bytes.now }
     ensures subs { map common_entries subs.new
         ≡ restored_devices (map common_entries subs.old) (drop (61 + 2 * length own.old.sensors.items) bytes.now) }
+    ensures added { own.new.added ≡ own.old.added }
 {
     let (common, rest) = bytes.split_at(COMMON_BYTES);
     let (beside, rest) = rest.split_at(OWN_BYTES + 2 * own.sensors.len());

@@ -79,7 +79,8 @@ pub(crate) fn restore_each(subs: &mut [CommonValues], bytes: &[u8])
 #[tactic(auto, unfolding(rdm_device::specs::Views::State::own_entries))]
 pub(crate) fn restore_own(values: &mut RootValues, bytes: &[u8])
     requires { length bytes.now ≡ 15 + 2 * length values.old.sensors.items }
-    ensures { own_entries values.new ≡ restored_device (own_entries values.old) bytes.now }
+    ensures own { own_entries values.new ≡ restored_device (own_entries values.old) bytes.now }
+    ensures added { values.new.added ≡ values.old.added }
 {
     let (numbers, sensors) = bytes.split_at(OWN_BYTES);
     let [

@@ -4,7 +4,7 @@ use Rattle.rdm_saved.proofs.kept.restore_parts.Goals as goal
 
 pub returns-clause-root : goal.returns-clause-root
 returns-clause-root c =
-    root_parts c.args.root.now c.restore_common.new.values c.args.own.now c.restore_own.new.values c.args.bytes.now _ _ _ c.split_at.ensures.front c.split_at.ensures.back (c.split_at-2.ensures.front ∙ ap (λ (n : ℕ). take (15 + 2 * n) c.split_at.result.1.now) c.len.ensures.value) c.restore_common.ensures c.restore_own.ensures
+    root_parts c.args.root.now c.restore_common.new.values c.args.own.now c.restore_own.new.values c.args.bytes.now _ _ _ c.split_at.ensures.front c.split_at.ensures.back (c.split_at-2.ensures.front ∙ ap (λ (n : ℕ). take (15 + 2 * n) c.split_at.result.1.now) c.len.ensures.value) c.restore_common.ensures c.restore_own.ensures.own
 
 pub returns-clause-subs : goal.returns-clause-subs
 returns-clause-subs c =
