@@ -24,14 +24,14 @@ use Rattle.rdm_params.specs.Table.Rows.{Row, table, row_of, row_in, command_in}
 use Rattle.rdm_params.specs.Table.Uses.{is_slow}
 use Rattle.rdm_params.proofs.Bools.{both_true, is_not}
 use Rattle.rdm_params.proofs.OtherDevices.{unchanged, carried}
-use Rattle.rdm_params.proofs.OwnKeys.{Keeps, IsApart, lookup-update, not_either, carried_keeps, apart_test}
+use Rattle.rdm_params.proofs.OwnKeys.{Keeps, IsApart, lookup-update, not_either, carried_keeps, of_table, apart_test}
 use Rattle.rdm_params.proofs.Rows.{found}
 
 same : (p : Parameters) (key index : ℕ) → SameAt key index p p
-same p key index = record { root = refl; subs = λ k. refl }
+same p key index = record { root = refl; added = refl; subs = λ k. refl }
 
 carried_same : (p : Parameters) (sub pid : ℕ) (v : Value) (key index : ℕ) → IsApart pid key → SameAt key index p (carried_out p sub (command_of pid Set) v)
-carried_same p sub pid v key index apart = carried_keeps p sub pid v key index apart (sub == 0) (is_all_call sub Set)
+carried_same p sub pid v key index apart = carried_keeps p sub pid (command_of pid Set) v key index (of_table pid) apart (sub == 0) (is_all_call sub Set)
 
 -- ---- readings
 
@@ -45,7 +45,7 @@ measures_only number v key apart e at = either_false (e.pid == 0x0201) (e.index 
 reading_keeps : (p : Parameters) (w : Work) (v : ℤ) (key index : ℕ) → (0x0201 == key) ≡ false → SameAt key index p (after_commit p w (Reading v))
 unfolding after_commit
 reading_keeps p w v key index apart =
-    record { root = lookup-update key index (measured_by w.arg v) p.root (measures_only w.arg v key apart); subs = λ k. refl }
+    record { root = lookup-update key index (measured_by w.arg v) p.root (measures_only w.arg v key apart); added = refl; subs = λ k. refl }
 
 pub changes_its_keys_at_end : CommitChangesItsKeys
 unfolding after_commit
@@ -73,12 +73,12 @@ other_sensor number v key index apart (e ∷ es) =
 pub reading_changes_its_sensor : ReadingChangesItsSensor
 unfolding after_commit
 reading_changes_its_sensor p w v key index apart =
-    record { root = other_sensor w.arg v key index apart p.root; subs = λ k. refl }
+    record { root = other_sensor w.arg v key index apart p.root; added = refl; subs = λ k. refl }
 
 pub leaves_the_rest_at_end : CommitLeavesTheRest
 unfolding after_commit
-leaves_the_rest_at_end p w Done = carried p w.sub w.pid (Byte w.arg) (w.sub == 0) (w.sub == 0xFFFF) refl refl
-leaves_the_rest_at_end p w (Reading v) = record { profile = refl; count = refl; root = λ n. absurd (n refl); subs = λ k n m. refl }
+leaves_the_rest_at_end p w Done = carried p w.sub (command_of w.pid Set) (Byte w.arg) (w.sub == 0) (w.sub == 0xFFFF) refl refl
+leaves_the_rest_at_end p w (Reading v) = record { profile = refl; count = refl; root = λ n. absurd (n refl); added = λ n. refl; subs = λ k n m. refl }
 leaves_the_rest_at_end p w (Failed severity id v1 v2) = unchanged p 0
 
 pub failed_changes_nothing : FailedChangesNothing
@@ -174,4 +174,4 @@ pub panel_leaves_the_rest : PanelLeavesTheRest
 unfolding after_change
 panel_leaves_the_rest p change =
     either (IsSameBut 0 p) (can_change p change) (carried_out p 0 (command_of (changed_pid change) Set) (changed_value change)) p
-    (carried p 0 (changed_pid change) (changed_value change) (0 == 0) (0 == 0xFFFF) refl refl) (unchanged p 0)
+    (carried p 0 (command_of (changed_pid change) Set) (changed_value change) (0 == 0) (0 == 0xFFFF) refl refl) (unchanged p 0)

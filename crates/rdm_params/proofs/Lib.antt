@@ -1,3 +1,5 @@
+pub mod AddedCommands
+pub mod AddedRows
 pub mod Bools
 pub mod Changes
 pub mod Endings
@@ -19,5 +21,6 @@ pub mod ReadData
 pub mod Silent
 pub mod StaysAccepted
 pub mod SubSteps
+pub mod Supported
 pub mod Told
 pub mod TwoWorkers

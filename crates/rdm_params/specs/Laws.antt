@@ -51,9 +51,11 @@ ReadsBack =
 abbrev pub keys_written : ℕ → List ℕ
 keys_written pid = if pid == 0x0090 then factory_pids else (if pid == 0x0202 then 0x0201 ∷ [] else pid ∷ [])
 
--- the values at this key are the same at the root and at every sub-device, of which the first is number 1
+-- the values at this key are the same at the root, also of the parameters that the maker adds, and at every sub-device, of
+-- which the first is number 1
 pub record SameAt (pid index : ℕ) (old new : Parameters) : Type 0 where
   pub root : lookup new.root pid index ≡ lookup old.root pid index
+  pub added : lookup new.added pid index ≡ lookup old.added pid index
   pub subs : (k : ℕ) → lookup (slice_index_or new.subs k []) pid index ≡ lookup (slice_index_or old.subs k []) pid index
 
 -- A SET changes no value but at the keys of its parameter, at any device.
@@ -68,6 +70,7 @@ pub record IsSameBut (sub : ℕ) (old new : Parameters) : Type 0 where
   pub profile : new.profile ≡ old.profile
   pub count : length new.subs ≡ length old.subs
   pub root : sub ≢ 0 → new.root ≡ old.root
+  pub added : sub ≢ 0 → new.added ≡ old.added
   pub subs : (k : ℕ) → sub ≢ suc k → sub ≢ 0xFFFF → slice_index_or new.subs k [] ≡ slice_index_or old.subs k []
 
 -- A SET changes nothing but the values of the devices that it addresses.

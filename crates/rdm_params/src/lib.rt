@@ -39,7 +39,8 @@ pub use nack::Nack;
 pub use panel::{Change, Plate};
 pub use placing::PlaceError;
 pub use rdm_device::{
-    Personality, Profile, SelfTest, SensorDef, Slot, StatusText, Unit, Value, write_value,
+    OwnParameters, ParameterDef, Personality, Profile, Rights, SelfTest, SensorDef, Shape, Slot,
+    StatusText, Unit, Value, write_value,
 };
 pub use rdm_saved::{RestoreError, SaveError};
 pub use table::names::{other_name, pid_named};

@@ -1,6 +1,6 @@
 -- Values that the firmware of a fixture places: which it may, and the values afterwards. What is placed has the form, the
 -- range and the effect of a SET at that device, and no message tells of it. Sections 9 and 10.
-use Rattle.std.specs.Prelude.{ℕ, Bool, false, ◌==◌, not, List, length, Option, Some, None, Result, Ok, Err, is_ok, is_some, slice_get, slice_index, if◌then◌else◌}
+use Rattle.std.specs.Prelude.{ℕ, Bool, false, ◌==◌, ◌&&◌, not, List, length, Option, Some, None, Result, Ok, Err, is_ok, is_some, slice_get, slice_index, if◌then◌else◌}
 use Rattle.std.specs.Option.{option_map_or}
 use Rattle.rdm_params.specs.declared.kind.Verb.TheVariants.{Get, Set}
 use Rattle.rdm_params.specs.declared.nack.Nack.{Nack}
@@ -13,16 +13,16 @@ use Rattle.rdm_device.specs.Device.Map.{update}
 use Rattle.rdm_device.specs.Device.Measuring.{placed_by}
 use Rattle.rdm_device.specs.Device.Parameters.{Parameters}
 use Rattle.rdm_device.specs.Device.Spot.{Spot}
-use Rattle.rdm_params.specs.Table.Rows.{row_of}
+use Rattle.rdm_params.specs.Table.Rows.{row_of, is_left_out}
 use Rattle.rdm_params.specs.Table.Uses.{access, read, keeps, in_range_of}
 
 -- The device of this number: 0 is the root, and the sub-devices are numbered from 1. 65535 is none. Section 9.
 abbrev pub device : Parameters → ℕ → Option Spot
 device p sub = if sub == 0xFFFF then None else slice_get (addressed p sub Get) 0
 
--- whether the device has the parameter, and a SET of it
-abbrev pub has_set : ℕ → ℕ → Bool
-has_set sub pid = is_ok (access (row_of pid) (sub == 0) Set)
+-- whether the device has the parameter of the table, and a SET of it
+abbrev pub has_set : Parameters → ℕ → ℕ → Bool
+has_set p sub pid = is_ok (access (row_of pid) (sub == 0) Set) && not (is_left_out p.profile pid)
 
 -- the refusal of the value that the data say, by the range of the SET at the device
 abbrev pub value_refusal : Parameters → ℕ → ℕ → Result Value Nack → Option PlaceError
@@ -41,7 +41,7 @@ sensor_refusal p bytes =
 unfoldable pub place_refusal : Parameters → ℕ → ℕ → List ℕ → Option PlaceError
 place_refusal p sub pid bytes =
     if not (is_some (device p sub)) then Some NoDevice
-    else if not (has_set sub pid) then Some NoValue
+    else if not (has_set p sub pid) then Some NoValue
     else if keeps (command_of pid Set) then value_refusal p sub pid (read (command_of pid Set) bytes)
     else if pid == 0x0201 then sensor_refusal p bytes else Some NoValue
 

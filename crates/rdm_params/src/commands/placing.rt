@@ -44,6 +44,9 @@ impl Devices {
         let Ok(found) = find(pid, sub == 0, Verb::Set) else {
             return Err(PlaceError::NoValue);
         };
+        if self.profile.lacks(pid) {
+            return Err(PlaceError::NoValue);
+        }
         if keeps_data(found.kind) {
             self.place_value(sub, found.kind, data)
         } else if pid == Kind::SensorValue.pid() {

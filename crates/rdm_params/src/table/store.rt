@@ -102,6 +102,7 @@ pub(crate) fn store_own(
     ensures after { (spot : Spot) → spot.profile ≡ profile.now
         → own_entries own.new ≡ after_store (row_of (pid_of kind)) spot value.now (own_entries own.old) }
     ensures same { (result ≡ false) ↔ (own_entries own.new ≡ own_entries own.old) }
+    ensures added { own.new.added ≡ own.old.added }
 {
     rows!(own_rows!(kind value profile own))
 }
