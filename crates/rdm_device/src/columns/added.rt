@@ -14,7 +14,7 @@ ghost use Rattle.rdm_device.specs.Device.Spot.{Spot};
 ghost use Rattle.rdm_device.specs.Device.Values.{bytes_of};
 ghost use Rattle.rdm_device.specs.Views.State.{added_entries, own_entries, kept_entry, stored_in, no_entry};
 
-pub use crate::columns::added::description::described;
+pub use crate::columns::added::description::{data_type_of, described, size_of};
 use crate::columns::{forms, writes};
 use crate::device::Place;
 use crate::device::state::{Kept, RootValues};

@@ -41,7 +41,7 @@ fn describe(def: &ParameterDef, body: &mut Body)
 }
 
 /// How many slots the data have; of a text, how many at most.
-fn size_of(shape: Shape) -> u8
+pub fn size_of(shape: Shape) -> u8
     ensures { result ≡ size_of shape }
 {
     match shape {
@@ -55,7 +55,7 @@ fn size_of(shape: Shape) -> u8
 }
 
 /// The type of the data (table A-15).
-fn data_type_of(shape: Shape) -> u8
+pub fn data_type_of(shape: Shape) -> u8
     ensures { result ≡ data_type_of shape }
 {
     match shape {
