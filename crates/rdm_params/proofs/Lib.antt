@@ -1,5 +1,6 @@
 pub mod AddedCommands
 pub mod AddedRows
+pub mod Ascending
 pub mod Bools
 pub mod Changes
 pub mod Endings

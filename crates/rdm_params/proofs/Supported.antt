@@ -1,5 +1,5 @@
 -- The list of supported parameters.
-use Rattle.std.proofs.Common.{◌≡◌, ℕ, zero, suc, ◌+◌, ◌<◌, ◌≤◌, ◌&&◌, not, Bool, true, false, cond, List, [], ◌∷◌, ◌++◌, length, get_or, insert, map, take, drop, refl, sym, ap, ◌∙◌, append_assoc, add-one, arith}
+use Rattle.std.proofs.Common.{◌≡◌, ℕ, zero, suc, ◌+◌, ◌<◌, ◌≤◌, ◌&&◌, not, Bool, true, false, cond, List, [], ◌∷◌, ◌++◌, length, get_or, insert, map, take, drop, refl, sym, ap, ◌∙◌, append_assoc, add-one, arith, Option, Some, None}
 use Rattle.std.specs.Prelude.{filter, nat_le}
 use Rattle.std.specs.List.{list_any}
 use Rattle.std.proofs.lemmas.Bool.{le-leb, lt-leb}
@@ -8,7 +8,7 @@ use Rattle.rdm_device.specs.declared.profile.own.ParameterDef.{ParameterDef}
 use Rattle.rdm_device.specs.declared.profile.Profile.{Profile}
 use Rattle.rdm_device.specs.Columns.Added.{has_makers_pid}
 use Rattle.rdm_device.specs.Device.LeftOut.{is_optional, lacks}
-use Rattle.rdm_params.specs.Table.Rows.{Row, added_rows, added_row, added_pids, description_row, is_left_out, supported_pids, table_pids, with_pid, with_pids}
+use Rattle.rdm_params.specs.Table.Rows.{Row, row_of, row_in, row_or, row_at, added_rows, added_row, added_pids, description_row, is_left_out, supported_pids, table_pids, with_pid, with_pids}
 
 -- ---- a profile with the table alone
 
@@ -35,6 +35,20 @@ pub plain : (p : Profile) (is_root : Bool) → p.own ≡ [] → p.without.items 
 unfolding supported_pids
 plain p is_root no_own all =
     ap (λ (pids : List ℕ). with_pids pids (filter (λ pid. not (is_left_out p pid)) (table_pids is_root))) (either_none is_root (added_pids p) (none_added p no_own)) ∙ ap (λ (left : List ℕ). filter (λ pid. not (lacks left pid)) (table_pids is_root)) all ∙ all_stay (table_pids is_root)
+
+row_alone : (row : Option Row) → row_or row None ≡ row
+row_alone None = refl
+row_alone (Some r) = refl
+
+nothing_added : (p : Profile) (pid : ℕ) → p.own ≡ [] → row_in (added_rows p) pid ≡ None
+unfolding added_rows
+nothing_added p pid e = ap (λ (own : List ParameterDef). row_in (rows_of own) pid) e
+
+pub table_alone : (p : Profile) (pid : ℕ) → p.own ≡ [] → p.without.items ≡ [] → row_at p pid ≡ row_of pid
+table_alone p pid no_own all =
+    let row : Option Row = row_or (row_of pid) (row_in (added_rows p) pid) in
+    ap (λ (left : List ℕ). cond (lacks left pid) None row) all ∙ ap (λ (left : Bool). cond left None row) (and_false (is_optional pid))
+    ∙ ap (row_or (row_of pid)) (nothing_added p pid no_own) ∙ row_alone (row_of pid)
 
 -- ---- what stays
 
@@ -85,7 +99,7 @@ pids_of : (ds : List ParameterDef) → map (λ (r : Row). r.pid) (map added_row 
 pids_of [] = refl
 pids_of (d ∷ ds) = ap (λ (ps : List ℕ). d.pid ∷ ps) (pids_of ds)
 
-with_first : (makers : Bool) (own : List ParameterDef) (old : List ℕ) → with_pids (map (λ (r : Row). r.pid) (cond makers (description_row ∷ []) [] ++ map added_row own)) old ≡ with_pids (map (λ (d : ParameterDef). d.pid) own) (cond makers (with_pid 0x0051 old) old)
+pub with_first : (makers : Bool) (own : List ParameterDef) (old : List ℕ) → with_pids (map (λ (r : Row). r.pid) (cond makers (description_row ∷ []) [] ++ map added_row own)) old ≡ with_pids (map (λ (d : ParameterDef). d.pid) own) (cond makers (with_pid 0x0051 old) old)
 with_first true own old = ap (λ (ps : List ℕ). with_pids ps (with_pid 0x0051 old)) (pids_of own)
 with_first false own old = ap (λ (ps : List ℕ). with_pids ps old) (pids_of own)
 

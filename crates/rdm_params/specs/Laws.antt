@@ -1,6 +1,7 @@
 -- Laws of the table, for every value, command and device.
-use Rattle.std.specs.Prelude.{◌≡◌, ◌≢◌, ℕ, ℤ, suc, ◌^◌, ◌<◌, ◌≤◌, ◌==◌, false, List, [], ◌∷◌, length, Option, Some, None, Ok, IsTrue, true, slice_index_or, if◌then◌else◌}
+use Rattle.std.specs.Prelude.{◌≡◌, ◌≢◌, ℕ, ℤ, suc, ◌^◌, ◌<◌, ◌≤◌, ◌==◌, false, List, [], ◌∷◌, length, Option, Some, None, Ok, IsTrue, Bool, true, slice_index_or, if◌then◌else◌}
 use Rattle.std.specs.List.{list_any}
+use Rattle.std.specs.List.Sorted.{IsStrictlyIncreasing}
 use Rattle.rdm_params.specs.declared.kind.Verb.{Verb}
 use Rattle.rdm_params.specs.declared.kind.Verb.TheVariants.{Set}
 use Rattle.rdm_params.specs.declared.verdict.Verdict.TheVariants.{Reply}
@@ -20,9 +21,11 @@ use Rattle.rdm_params.specs.Jobs.Commit.{after_commit}
 use Rattle.rdm_params.specs.Jobs.Outcome.{fits}
 use Rattle.rdm_device.specs.Columns.Forms.{has_form}
 use Rattle.rdm_device.specs.Device.Map.{lookup}
+use Rattle.rdm_device.specs.declared.profile.Profile.{Profile}
 use Rattle.rdm_device.specs.Device.Parameters.{Parameters}
+use Rattle.rdm_device.specs.Device.Profiles.{IsGoodProfile}
 use Rattle.rdm_device.specs.Columns.Replies.{factory_pids}
-use Rattle.rdm_params.specs.Table.Rows.{Command}
+use Rattle.rdm_params.specs.Table.Rows.{Command, row_of, row_at, supported_pids}
 use Rattle.rdm_params.specs.Table.Uses.{read, keeps}
 use Rattle.rdm_device.specs.Device.Values.{bytes_of}
 
@@ -45,6 +48,14 @@ abbrev pub ReadsBack : Type 0
 ReadsBack =
     (pid : ℕ) (verb : Verb) (v : Value)
     → HasFormOf (command_of pid verb) v → FitsSlots v → read (command_of pid verb) (bytes_of v) ≡ Ok v
+
+-- Devices of a profile that adds no parameters and leaves none out have the table.
+abbrev pub TheTableAlone : Type 0
+TheTableAlone = (p : Profile) (pid : ℕ) → p.own ≡ [] → p.without.items ≡ [] → row_at p pid ≡ row_of pid
+
+-- SUPPORTED_PARAMETERS lists PIDs in ascending order, and so none twice, at the root and at a sub-device. Section 10.4.1.
+abbrev pub SupportedAscend : Type 0
+SupportedAscend = (p : Profile) (is_root : Bool) → IsGoodProfile p → IsStrictlyIncreasing (supported_pids p is_root)
 
 -- The PIDs of the keys that a SET of a parameter may write: its own, but for FACTORY_DEFAULTS, which sets ten
 -- parameters back, and RECORD_SENSORS, which writes the sensors' values.
