@@ -8,11 +8,11 @@ use Rattle.rdm_device.specs.declared.profile.own.ParameterDef.{ParameterDef}
 use Rattle.rdm_device.specs.Device.LeftOut.{is_optional, lacks}
 use Rattle.rdm_device.specs.Device.Map.{Entry, entry, lookup, update}
 use Rattle.rdm_device.specs.Device.Parameters.{added_at_start}
-use Rattle.rdm_device.specs.Columns.Added.{added_stored}
+use Rattle.rdm_device.specs.Columns.Added.{added_stored, set_back_in, added_set_back}
 use Rattle.rdm_device.specs.Device.Spot.{Spot}
 use Rattle.rdm_device.specs.Device.Values.{bytes_of}
 use Rattle.rdm_device.specs.declared.value.Value.{Value}
-use Rattle.rdm_device.specs.Views.State.{kept_entry, added_entries, stored_in}
+use Rattle.rdm_device.specs.Views.State.{kept_entry, added_entries, stored_in, made_of}
 
 -- one more parameter that starts
 pub start_step : (ks : List Kept) (i : ℕ) (ds : List ParameterDef) (d : ParameterDef) (k : Kept) (total : List Entry) → i < length ds → k.pid ≡ (get_or ds i d).pid → k.bytes ≡ (get_or ds i d).start → added_entries ks ++ added_at_start (drop i ds) ≡ total → added_entries (ks ++ k ∷ []) ++ added_at_start (drop (i + 1) ds) ≡ total
@@ -52,6 +52,14 @@ update_is_map pid spot v (e ∷ es) = ap (λ (rest : List Entry). stored_in pid 
 -- each entry that is stored
 pub stored_all : (pid : ℕ) (spot : Spot) (v : Value) (es new : List Entry) (bytes : List ℕ) → bytes ≡ bytes_of v → new ≡ map (stored_in pid bytes) es → new ≡ update (added_stored pid spot v) es
 stored_all pid spot v es new bytes same e = e ∙ ap (λ (xs : List ℕ). map (stored_in pid xs) es) same ∙ sym (update_is_map pid spot v es)
+
+update_is_made : (f : Entry → List ℕ) (es : List Entry) → update f es ≡ map (made_of f) es
+update_is_made f [] = refl
+update_is_made f (e ∷ es) = ap (λ (rest : List Entry). made_of f e ∷ rest) (update_is_made f es)
+
+-- each entry that is set back
+pub all_set_back : (spot : Spot) (v : Value) (es new : List Entry) (ds : List ParameterDef) → ds ≡ spot.profile.own → new ≡ map (made_of (set_back_in ds)) es → new ≡ update (added_set_back spot v) es
+all_set_back spot v es new ds same e = e ∙ ap (λ (own : List ParameterDef). map (made_of (set_back_in own)) es) same ∙ sym (update_is_made (added_set_back spot v) es)
 
 not_either : (a b : Bool) → (a || b) ≡ false → (a ≡ false) × (b ≡ false)
 not_either true b h = absurd cc

@@ -3,6 +3,7 @@ use Rattle.std.proofs.Common.{◌≡◌, ℕ, ◌==◌, ◌&&◌, ◌||◌, Bool
 use Rattle.std.specs.Prelude.{find}
 use Rattle.std.specs.List.{AllByRecursion, list_any}
 use Rattle.std.specs.Option.{option_map}
+use Rattle.std.proofs.lemmas.Bool.{eqb-true}
 use Rattle.rdm_params.specs.declared.kind.Verb.{Verb}
 use Rattle.rdm_params.specs.declared.kind.Verb.TheVariants.{Get, Set}
 use Rattle.rdm_params.specs.declared.jobs.way.Way.TheVariants.{AtOnce}
@@ -10,7 +11,7 @@ use Rattle.rdm_params.specs.declared.nack.Nack.TheVariants.{UnknownPid}
 use Rattle.rdm_device.specs.declared.profile.own.ParameterDef.{ParameterDef}
 use Rattle.rdm_device.specs.declared.profile.Profile.{Profile}
 use Rattle.rdm_device.specs.declared.value.Value.{Value}
-use Rattle.rdm_device.specs.Columns.Added.{within, has_makers_pid, is_pid_of}
+use Rattle.rdm_device.specs.Columns.Added.{within, has_makers_pid, is_pid_of, added_set_back}
 use Rattle.rdm_device.specs.Device.Map.{Entry, update}
 use Rattle.rdm_device.specs.Device.OwnParameters.{form_of, has_get, has_set}
 use Rattle.rdm_device.specs.Device.Spot.{Spot}
@@ -43,29 +44,45 @@ added_have P one each p = described_first P (list_any has_makers_pid p.own) (map
 
 -- ---- what the table leaves
 
+-- but for FACTORY_DEFAULTS, a SET of the table leaves the parameters that the maker adds
 abbrev LeavesAdded : Row → Type 0
-LeavesAdded r = (spot : Spot) (v : Value) (e : Entry) → added_change (command_in (Some r) Set) spot v e ≡ e.bytes
+LeavesAdded r = (r.pid == 0x0090) ≡ false → (spot : Spot) (v : Value) (e : Entry) → added_change (command_in (Some r) Set) spot v e ≡ e.bytes
+
+factory : true ≡ false → (spot : Spot) (v : Value) (e : Entry) → added_set_back spot v e ≡ e.bytes
+factory never spot v e = absurd cc
 
 rows_leave : AllByRecursion LeavesAdded table
 unfolding table
-rows_leave = (λ s v e. refl, (λ s v e. refl, (λ s v e. refl, (λ s v e. refl, (λ s v e. refl, (λ s v e. refl, (λ s v e. refl, (λ s v e. refl, (λ s v e. refl, (λ s v e. refl, (λ s v e. refl, (λ s v e. refl, (λ s v e. refl, (λ s v e. refl, (λ s v e. refl, (λ s v e. refl, (λ s v e. refl, (λ s v e. refl, (λ s v e. refl, (λ s v e. refl, (λ s v e. refl, (λ s v e. refl, (λ s v e. refl, (λ s v e. refl, (λ s v e. refl, (λ s v e. refl, (λ s v e. refl, (λ s v e. refl, (λ s v e. refl, (λ s v e. refl, (λ s v e. refl, (λ s v e. refl, (λ s v e. refl, (λ s v e. refl, (λ s v e. refl, (λ s v e. refl, (λ s v e. refl, (λ s v e. refl, (λ s v e. refl, (λ s v e. refl, (λ s v e. refl, tt)))))))))))))))))))))))))))))))))))))))))
+rows_leave = (λ n s v e. refl, (λ n s v e. refl, (λ n s v e. refl, (λ n s v e. refl, (λ n s v e. refl, (λ n s v e. refl, (λ n s v e. refl, (λ n s v e. refl, (λ n s v e. refl, (λ n s v e. refl, (factory, (λ n s v e. refl, (λ n s v e. refl, (λ n s v e. refl, (λ n s v e. refl, (λ n s v e. refl, (λ n s v e. refl, (λ n s v e. refl, (λ n s v e. refl, (λ n s v e. refl, (λ n s v e. refl, (λ n s v e. refl, (λ n s v e. refl, (λ n s v e. refl, (λ n s v e. refl, (λ n s v e. refl, (λ n s v e. refl, (λ n s v e. refl, (λ n s v e. refl, (λ n s v e. refl, (λ n s v e. refl, (λ n s v e. refl, (λ n s v e. refl, (λ n s v e. refl, (λ n s v e. refl, (λ n s v e. refl, (λ n s v e. refl, (λ n s v e. refl, (λ n s v e. refl, (λ n s v e. refl, (λ n s v e. refl, tt)))))))))))))))))))))))))))))))))))))))))
 
-leaving : (pid : ℕ) (row : Option Row) → row_in table pid ≡ row → (spot : Spot) (v : Value) (e : Entry) → added_change (command_in row Set) spot v e ≡ e.bytes
-leaving pid None e spot v entry = refl
-leaving pid (Some r) e spot v entry = (found LeavesAdded table pid r rows_leave e).0 spot v entry
+leaving : (pid : ℕ) (row : Option Row) → row_in table pid ≡ row → (pid == 0x0090) ≡ false → (spot : Spot) (v : Value) (e : Entry) → added_change (command_in row Set) spot v e ≡ e.bytes
+leaving pid None e other spot v entry = refl
+leaving pid (Some r) e other spot v entry =
+    let one = found LeavesAdded table pid r rows_leave e in
+    one.0 (ap (λ (n : ℕ). n == 0x0090) one.1 ∙ other) spot v entry
 
--- a SET of the table leaves the parameters that the maker adds
-pub table_leaves : (pid : ℕ) (spot : Spot) (v : Value) (e : Entry) → added_change (command_of pid Set) spot v e ≡ e.bytes
+others_leave : (pid : ℕ) → (pid == 0x0090) ≡ false → (spot : Spot) (v : Value) (e : Entry) → added_change (command_of pid Set) spot v e ≡ e.bytes
 unfolding row_of
-table_leaves pid spot v e = leaving pid (row_in table pid) refl spot v e
+others_leave pid other spot v e = leaving pid (row_in table pid) refl other spot v e
 
 -- a change that leaves the bytes of every entry leaves the entries
 pub update_leaves : (f : Entry → List ℕ) (es : List Entry) → ((e : Entry) → f e ≡ e.bytes) → update f es ≡ es
 update_leaves f [] stays = refl
 update_leaves f (e ∷ es) stays = rw (stays e, update_leaves f es stays) refl
 
-pub table_leaves_added : (pid : ℕ) (spot : Spot) (v : Value) (es : List Entry) → update (added_change (command_of pid Set) spot v) es ≡ es
-table_leaves_added pid spot v es = update_leaves (added_change (command_of pid Set) spot v) es (table_leaves pid spot v)
+-- FACTORY_DEFAULTS, and the others
+pub left_by_others : (pid : ℕ) (factory : Bool) (spot : Spot) (v : Value) (es : List Entry) → factory ≡ (pid == 0x0090) → factory ≡ false → es ≡ update (added_change (command_of pid Set) spot v) es
+left_by_others pid factory spot v es is other = sym (update_leaves (added_change (command_of pid Set) spot v) es (others_leave pid (sym is ∙ other) spot v))
+
+abbrev is_set_back : ℕ → Type 0
+is_set_back pid = (spot : Spot) (v : Value) (es : List Entry) → update (added_set_back spot v) es ≡ update (added_change (command_of pid Set) spot v) es
+
+factory_is : is_set_back 0x0090
+unfolding row_of table
+factory_is spot v es = refl
+
+pub set_back_by_factory : (pid : ℕ) (factory : Bool) (spot : Spot) (v : Value) (es new : List Entry) → factory ≡ (pid == 0x0090) → factory ≡ true → new ≡ update (added_set_back spot v) es → new ≡ update (added_change (command_of pid Set) spot v) es
+set_back_by_factory pid factory spot v es new is holds e = e ∙ (subst is_set_back (sym (eqb-true pid 0x0090 (sym is ∙ holds))) factory_is) spot v es
 
 -- ---- what the rows that are added have
 

@@ -32,7 +32,7 @@ use crate::commands::sub_devices::{all_in_range, start_each, store_at, store_eac
 use crate::jobs::Way;
 use crate::table::find::{Found, find};
 use crate::table::respond::{reply_into, state_into};
-use crate::table::store::{store_common, store_own};
+use crate::table::store::{store_added, store_common, store_own};
 use crate::table::within::is_in_range;
 use crate::{Answer, Ask, Changed, Kind, Nack, Profile, Value, Verb, Verdict, Work};
 use rdm_device::{Argument, CommonValues, Place, RootValues, is_good};
@@ -320,7 +320,7 @@ impl Devices {
     /// Carries out a SET at the devices that it is for, and says whether that changed a value.
     // Inlined, since a call would save and restore the registers of a SET.
     #[inline(always)]
-    #[tactic(auto, using(rdm_device::proofs::Maps::update_append, crate::proofs::Changes::root_parts, crate::proofs::AddedRows::table_leaves_added))]
+    #[tactic(auto, using(rdm_device::proofs::Maps::update_append, crate::proofs::Changes::root_parts))]
     fn carry_out(&mut self, sub: u16, kind: Kind, value: &Argument<'_>) -> bool
         ensures after { self.new ≡ carried_out self.old sub (command_of (pid_of kind) Set) value.now }
         ensures same { (result ≡ false) ↔ (self.new ≡ self.old) }
@@ -329,7 +329,8 @@ impl Devices {
         if sub == 0 {
             let common = store_common(kind, value, profile, &mut self.root);
             let own = store_own(kind, value, profile, &mut self.own);
-            common || own
+            let added = store_added(kind, value, profile, &mut self.own);
+            common || own || added
         } else if sub == SUB_DEVICE_ALL_CALL {
             store_each(kind, value, profile, &mut self.subs)
         } else {

@@ -12,7 +12,7 @@ use Rattle.rdm_device.specs.declared.value.Value.{Value}
 use Rattle.rdm_device.specs.Columns.Changes.{Change}
 use Rattle.rdm_device.specs.Columns.Forms.{Form, value_of}
 use Rattle.rdm_device.specs.Columns.Ranges.{Range, for_word}
-use Rattle.rdm_device.specs.Device.Map.{has_key, lookup}
+use Rattle.rdm_device.specs.Device.Map.{Entry, has_key, lookup}
 use Rattle.rdm_device.specs.Device.OwnParameters.{form_of, number_in, is_within, is_makers}
 use Rattle.rdm_device.specs.Device.Spot.{Spot}
 use Rattle.rdm_device.specs.Device.Values.{bytes_of, word_slots, long_slots, word_or_0}
@@ -28,6 +28,14 @@ added_value pid spot = lookup spot.added pid 0
 -- its entry takes the value
 abbrev pub added_stored : ℕ → Change
 added_stored pid spot v e = if has_key pid 0 e then bytes_of v else e.bytes
+
+-- what the bytes of an entry become when those of these parameters that FACTORY_DEFAULTS sets back take the data that they start with
+abbrev pub set_back_in : List ParameterDef → Entry → List ℕ
+set_back_in ds e = option_map_or (λ d. d.start) (find (λ d. d.resets && (d.pid == e.pid)) ds) e.bytes
+
+-- FACTORY_DEFAULTS sets back those of the maker's own that say so. Section 10.5.6.
+abbrev pub added_set_back : Change
+added_set_back spot v e = set_back_in spot.profile.own e
 
 -- ---- PARAMETER_DESCRIPTION: section 10.4.2
 

@@ -63,6 +63,10 @@ added_entries ks = map kept_entry ks
 abbrev pub stored_in : ℕ → List ℕ → Entry → Entry
 stored_in pid bytes e = entry e.pid e.index (if has_key pid 0 e then bytes else e.bytes)
 
+-- the entry with the bytes that it becomes
+abbrev pub made_of : (Entry → List ℕ) → Entry → Entry
+made_of becomes e = entry e.pid e.index (becomes e)
+
 -- no entry
 abbrev pub no_entry : Entry
 no_entry = entry 0 0 []

@@ -1,6 +1,7 @@
 //! What the parameters that a maker adds take and reply.
 
 mod description;
+mod resetting;
 
 ghost use Rattle.std.specs.Prelude.{◌≡◌, ◌↔◌, ◌<◌, ◌≤◌, ◌==◌, ◌&&◌, int_le, [], length, map, slice_set, slice_index_or, false, find};
 ghost use Rattle.std.specs.List.{list_any};
@@ -15,6 +16,7 @@ ghost use Rattle.rdm_device.specs.Device.Values.{bytes_of};
 ghost use Rattle.rdm_device.specs.Views.State.{added_entries, own_entries, kept_entry, stored_in, no_entry};
 
 pub use crate::columns::added::description::{data_type_of, described, size_of};
+pub use crate::columns::added::resetting::{are_at_start, set_added_back};
 use crate::columns::{forms, writes};
 use crate::device::Place;
 use crate::device::state::{Kept, RootValues};

@@ -8,7 +8,7 @@ use Rattle.rdm_params.specs.declared.jobs.way.Way.TheVariants.{AtOnce, ByJob, Fr
 use Rattle.rdm_device.specs.declared.profile.own.ParameterDef.{ParameterDef}
 use Rattle.rdm_device.specs.declared.profile.Profile.{Profile}
 use Rattle.rdm_device.specs.declared.value.Value.{Value}
-use Rattle.rdm_device.specs.Columns.Added.{within, added_value, added_stored, has_makers_pid, a_makers_pid, described}
+use Rattle.rdm_device.specs.Columns.Added.{within, added_value, added_stored, added_set_back, has_makers_pid, a_makers_pid, described}
 use Rattle.rdm_device.specs.Columns.Changes.{Change, unchanged, stored_at, set_back, sensors_reset, sensors_recorded}
 use Rattle.rdm_device.specs.Columns.Forms.{Form, nothing, byte, word, long, preset, label}
 use Rattle.rdm_device.specs.Device.LeftOut.{lacks}
@@ -71,9 +71,10 @@ reads shown = asks nothing any (λ spot v. shown spot)
 abbrev pub stored : Cell
 stored pid = reads (λ spot. lookup spot.entries pid 0) pid
 
--- a SET with a change and a reply
-abbrev pub sets : Form → (Form → Range) → Change → (Spot → Value → List ℕ) → Cell
-sets form range change reply pid = Some (record { form = form; range = range form; way = AtOnce; change = change; added_change = unchanged; reply = reply; keeps = false })
+-- a SET with a change, one of the parameters that the maker adds, and a reply
+abbrev pub sets : Form → (Form → Range) → Change → Change → (Spot → Value → List ℕ) → Cell
+sets form range change added_change reply pid =
+    Some (record { form = form; range = range form; way = AtOnce; change = change; added_change = added_change; reply = reply; keeps = false })
 
 -- a SET that keeps its data at the key of its PID
 abbrev pub takes : Form → (Form → Range) → Cell
@@ -119,7 +120,7 @@ information =
     ∷ row 0x0080 both (reads (λ spot. spot.unit.model_text)) none  -- DEVICE_MODEL_DESCRIPTION
     ∷ row 0x0081 both (reads (λ spot. spot.unit.maker_text)) none  -- MANUFACTURER_LABEL
     ∷ kept 0x0082 both label any  -- DEVICE_LABEL
-    ∷ row 0x0090 root (reads at_factory_defaults) (sets nothing any set_back (λ spot v. []))  -- FACTORY_DEFAULTS
+    ∷ row 0x0090 root (reads at_factory_defaults) (sets nothing any set_back added_set_back (λ spot v. []))  -- FACTORY_DEFAULTS
     ∷ []
 
 -- Language and software: sections 10.5.7 to 10.5.11
@@ -147,8 +148,8 @@ dmx =
 abbrev pub sensing : List Row
 sensing =
     row 0x0200 root (asks byte a_sensor sensor_described) none  -- SENSOR_DEFINITION
-    ∷ row 0x0201 root (measures 1 5 a_sensor sensor_measured) (sets byte sensors sensors_reset sensor_measured)  -- SENSOR_VALUE
-    ∷ row 0x0202 root none (sets byte sensors sensors_recorded (λ spot v. []))  -- RECORD_SENSORS
+    ∷ row 0x0201 root (measures 1 5 a_sensor sensor_measured) (sets byte sensors sensors_reset unchanged sensor_measured)  -- SENSOR_VALUE
+    ∷ row 0x0202 root none (sets byte sensors sensors_recorded unchanged (λ spot v. []))  -- RECORD_SENSORS
     ∷ []
 
 -- Power and lamp: section 10.8
