@@ -1,6 +1,6 @@
 //! What no clause says: that the definitions say what is meant. The images are worked out by hand.
 
-use rdm_device::{CommonValues, Profile, RootValues};
+use rdm_device::{CommonValues, ParameterDef, Profile, RootValues, Shape};
 use rdm_frame::Text;
 use rdm_saved::{RestoreError, SaveError, restore, save_into};
 use std::alloc::Global;
@@ -227,4 +227,50 @@ fn images_of_other_profiles_are_refused(rt: HostRuntime) {
         assert_eq!(rt; fixture.restore(&CHANGED), Err(RestoreError::OfAnother));
         assert_eq!(rt; fixture.image().as_slice(), before.as_slice());
     }
+}
+
+/// A demonstration fixture with a parameter of its own, and without LAMP_STRIKES.
+fn with_own(rt: &impl Abort, alloc: Global, pid: u16) -> Fixture {
+    let mut profile = Profile::demo(1);
+    let mut def = ParameterDef::default();
+    def.pid = pid;
+    def.shape = Shape::Word;
+    def.high = 8000;
+    def.start = Text::of(&[0x15, 0xE0]);
+    profile.own.push(alloc, def).expect(rt, "memory");
+    assert!(rt; profile.without.try_push(0x0402).is_ok());
+    Fixture::at_start(rt, alloc, profile)
+}
+
+/// The image of that fixture as it starts is that of the demonstration, with the parameter and what is left out behind the profile, and the
+/// value behind the sensors. Its sum is 2044.
+fn own_at_start() -> [u8; 171] {
+    let mut image = [0; 171];
+    image[..17].copy_from_slice(&AT_START[..17]);
+    image[17..23].copy_from_slice(&[0x80, 0x01, 0x05, 0x02, 0x04, 0x02]);
+    image[23..88].copy_from_slice(&AT_START[17..82]);
+    image[88..91].copy_from_slice(&[2, 0x15, 0xE0]);
+    image[121..167].copy_from_slice(&AT_START[82..128]);
+    image[167..].copy_from_slice(&[0x00, 0x00, 0x07, 0xFC]);
+    image
+}
+
+#[test]
+fn own_values_are_saved_and_restored(rt: HostRuntime) {
+    let mut fixture = with_own(&rt, rt.alloc(), 0x8001);
+    let mut image = [0xEE; 171];
+    assert_eq!(rt; fixture.save_into(&mut image), Ok(171));
+    assert_eq!(rt; image.as_slice(), own_at_start().as_slice());
+    if let Some(kept) = fixture.own.added.first_mut() {
+        kept.bytes = Text::of(b"123");
+    }
+    assert_eq!(rt; fixture.restore(&image), Ok(()));
+    let kept = fixture.own.added.first();
+    assert_eq!(rt;
+        kept.map(|kept| (kept.pid, kept.bytes.as_slice())),
+        Some((0x8001, [0x15, 0xE0].as_slice()))
+    );
+    let mut other = with_own(&rt, rt.alloc(), 0x8002);
+    assert_eq!(rt; other.restore(&image), Err(RestoreError::OfAnother));
+    assert_eq!(rt; other.restore(&AT_START), Err(RestoreError::Length));
 }
