@@ -36,6 +36,7 @@ fn colour() -> ParameterDef {
     def.unit = 0x1C;
     def.prefix = 0x11;
     def.name = Text::of(b"Colour temperature");
+    def.resets = true;
     def
 }
 
@@ -160,4 +161,22 @@ fn a_fixture_has_the_parameters_that_it_has(rt: HostRuntime) {
 fn the_demonstration_has_no_description(rt: HostRuntime) {
     let steps: [Step<'static>; 1] = [(Get, 0, 0x0051, &[0x80, 0x01], Refuse(UnknownPid))];
     plays(&rt, &mut demo(&rt, rt.alloc(), 0), &steps);
+}
+
+#[test]
+fn factory_defaults_set_back_what_says_so(rt: HostRuntime) {
+    let profile = wash(&rt, rt.alloc());
+    let steps: [Step<'static>; 9] = [
+        (Get, 0, 0x0090, &[], Reply(&[1])),
+        // The trim isn't set back, and the colour temperature is.
+        (Set, 0, 0x8010, &[3], Reply(&[])),
+        (Get, 0, 0x0090, &[], Reply(&[1])),
+        (Set, 0, 0x8001, &[0x0F, 0xA0], Reply(&[])),
+        (Get, 0, 0x0090, &[], Reply(&[0])),
+        (Set, 0, 0x0090, &[], Reply(&[])),
+        (Get, 0, 0x8001, &[], Reply(&[0x15, 0xE0])),
+        (Get, 0, 0x8010, &[], Reply(&[3])),
+        (Get, 0, 0x0090, &[], Reply(&[1])),
+    ];
+    plays(&rt, &mut made(&rt, rt.alloc(), profile), &steps);
 }
