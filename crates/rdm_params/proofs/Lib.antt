@@ -12,6 +12,7 @@ pub mod OtherRanges
 pub mod OwnKeys
 pub mod Places
 pub mod PlacesAsSet
+pub mod PlacesOwn
 pub mod PlateEquality
 pub mod Plates
 pub mod PowerOns

@@ -67,19 +67,19 @@ device_is p sub e =
 
 -- ---- placing
 
-none_refused : (some has kept : Bool) (x y : Option PlaceError) → some ≡ true → has ≡ true → kept ≡ true → x ≡ None → cond (not some) (Some NoDevice) (cond (not has) (Some NoValue) (cond kept x y)) ≡ None
-none_refused false has kept x y e f g h = absurd cc
-none_refused true false kept x y e f g h = absurd cc
-none_refused true true false x y e f g h = absurd cc
-none_refused true true true x y e f g h = h
+none_refused : (some has kept : Bool) (own x y : Option PlaceError) → some ≡ true → has ≡ true → kept ≡ true → x ≡ None → cond (not some) (Some NoDevice) (cond (not has) own (cond kept x y)) ≡ None
+none_refused false has kept own x y e f g h = absurd cc
+none_refused true false kept own x y e f g h = absurd cc
+none_refused true true false own x y e f g h = absurd cc
+none_refused true true true own x y e f g h = h
 
 value_fits : (p : Parameters) (sub pid : ℕ) (r : Result Value Nack) (w : Value) → r ≡ ok w → option_map_or (λ spot. in_range_of (command_of pid Set) spot w) (device p sub) false ≡ true → value_refusal p sub pid r ≡ None
 value_fits p sub pid r w e fits =
     ap (value_refusal p sub pid) e ∙ ap (λ (within : Bool). cond within None (Some OutOfRange)) fits
 
-after_is : (p new other : Parameters) (refusal : Option PlaceError) (kept : Bool) → refusal ≡ None → kept ≡ true → cond (is_some refusal) p (cond kept new other) ≡ new
-after_is p new other refusal kept e f =
-    ap (λ (o : Option PlaceError). cond (is_some o) p (cond kept new other)) e ∙ ap (λ (k : Bool). cond k new other) f
+after_is : (p own new other : Parameters) (refusal : Option PlaceError) (has kept : Bool) → refusal ≡ None → has ≡ true → kept ≡ true → cond (is_some refusal) p (cond (not has) own (cond kept new other)) ≡ new
+after_is p own new other refusal has kept e h f =
+    ap (λ (o : Option PlaceError). cond (is_some o) p (cond (not has) own (cond kept new other))) e ∙ ap (λ (b : Bool). cond (not b) own (cond kept new other)) h ∙ ap (λ (k : Bool). cond k new other) f
 
 -- ---- together
 
@@ -122,8 +122,8 @@ placed_as p sub pid bytes w apart stays kept quick is =
     let there : is_some (device p sub) ≡ true = ap is_some device_at ∙ is.some in
     let fits : option_map_or (λ spot. in_range_of c spot w) (device p sub) false ≡ true = ap (λ (o : Option Spot). option_map_or (λ spot. in_range_of c spot w) o false) device_at ∙ head_all (λ spot. in_range_of c spot w) (addressed p sub Set) is.some is.within in
     let has : has_set p sub pid ≡ true = and_from (is_ok (access (row_of pid) (sub == 0) Set)) (not (is_left_out p.profile pid)) is.allowed (not_left (is_left_out p.profile pid) stays) in
-    let none : place_refusal p sub pid bytes ≡ None = none_refused (is_some (device p sub)) (has_set p sub pid) (keeps c) _ _ there has kept (value_fits p sub pid (read c bytes) w is.read_is fits) in
-    (none, after_is p (after_value p sub pid (read c bytes)) _ (place_refusal p sub pid bytes) (keeps c) none kept ∙ ap (after_value p sub pid) is.read_is ∙ ap (λ (slow : Bool). cond slow p (carried_out p sub c w)) (sym quick))
+    let none : place_refusal p sub pid bytes ≡ None = none_refused (is_some (device p sub)) (has_set p sub pid) (keeps c) _ _ _ there has kept (value_fits p sub pid (read c bytes) w is.read_is fits) in
+    (none, after_is p _ (after_value p sub pid (read c bytes)) _ (place_refusal p sub pid bytes) (has_set p sub pid) (keeps c) none has kept ∙ ap (after_value p sub pid) is.read_is ∙ ap (λ (slow : Bool). cond slow p (carried_out p sub c w)) (sym quick))
 
 -- what is said of the SET of the devices
 abbrev Placed : Parameters → ℕ → ℕ → List ℕ → Option Command → Result Value Nack → Type 0

@@ -121,7 +121,7 @@ fn is_description(profile: &Profile, pid: u16) -> bool
 }
 
 /// The parameter that the profile adds with this PID.
-fn parameter_of(profile: &Profile, pid: u16) -> Option<&ParameterDef>
+pub(super) fn parameter_of(profile: &Profile, pid: u16) -> Option<&ParameterDef>
     ensures { option_copied result ≡ find (is_pid_of pid) profile.now.own }
 {
     added::parameter_of(profile.own.as_slice(), pid)
