@@ -41,7 +41,11 @@ fn run<R: Env + Alloc + Print + Copy>(rt: R, alloc: Global) -> Result<(), Fault>
 /// Prints what a few requests come to.
 fn show<R: Print + Copy>(rt: R, alloc: Global) -> Result<(), Fault> {
     tell(rt, "alone, 3 requests", alone(alloc, 3)?)?;
-    tell(rt, "one on a line, 3 requests", on_line(alloc, 1, Uids::CountedUp, 3)?)?;
+    tell(
+        rt,
+        "one on a line, 3 requests",
+        on_line(alloc, 1, Uids::CountedUp, 3)?,
+    )?;
     tell(
         rt,
         "two on a line, 3 requests each",
@@ -79,11 +83,7 @@ fn read_arguments<R: Env + Alloc>(rt: &R) -> Result<Asked, Fault> {
         ("alone", None) => Ok(Asked::Alone(read_number(&number)?)),
         (word, Some(rounds)) => {
             let uids = read_uids(word)?;
-            Ok(Asked::Line(
-                uids,
-                read_count(&number)?,
-                read_number(&rounds)?,
-            ))
+            Ok(Asked::Line(uids, read_count(&number)?, read_number(&rounds)?))
         }
         _ => Err(Fault::Usage),
     }

@@ -36,7 +36,9 @@ impl Hints {
     pub(crate) fn note_all(&mut self, numbers: &[u64]) {
         self.slots.clear();
         // If there were no room there would be no hints, and all would be searched for.
-        let _ = self.slots.resize(numbers.len().saturating_mul(SLOTS_EACH), 0);
+        let _ = self
+            .slots
+            .resize(numbers.len().saturating_mul(SLOTS_EACH), 0);
         for index in 0..numbers.len() {
             self.note(numbers[index], index);
         }

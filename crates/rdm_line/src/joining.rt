@@ -57,7 +57,11 @@ impl<D: Device> Line<D> {
             Ok(index) => index,
             Err(error) => return Err(Refused { device, error }),
         };
-        if self.hints.make_room(self.numbers.len().saturating_add(1)).is_err() {
+        if self
+            .hints
+            .make_room(self.numbers.len().saturating_add(1))
+            .is_err()
+        {
             return Err(Refused {
                 device,
                 error: JoinError::OutOfMemory,
