@@ -10,7 +10,7 @@ use thiserror::Error;
 #[derive(Debug, Drop, Error)]
 pub(crate) enum Fault {
     /// The arguments are none of those that it knows.
-    #[error("usage: rdm_bench_line [alone ROUNDS | line DEVICES ROUNDS | gaps DEVICES ROUNDS]")]
+    #[error("usage: rdm_bench_line [alone ROUNDS | (line | gaps | scattered) DEVICES ROUNDS]")]
     Usage,
     /// A device couldn't be made.
     #[error("{0}")]

@@ -2,14 +2,14 @@
 //!
 //! Without arguments it is shown what a few requests come to. `alone` with a number of rounds sends so many requests to a responder;
 //! `line` with a number of devices and one of rounds sends so many to each device of a line, whose UIDs are counted up; with `gaps` in its
-//! place there are others between these.
+//! place there are others between these, and with `scattered` they have no order.
 #![tactic(auto)]
 
 mod fault;
 mod requests;
 
 use fault::Fault;
-use requests::{alone, on_line};
+use requests::{Uids, alone, on_line};
 use std::alloc::{Alloc, Global};
 use std::env;
 use std::env::Env;
@@ -32,19 +32,24 @@ fn run<R: Env + Alloc + Print + Copy>(rt: R, alloc: Global) -> Result<(), Fault>
     match read_arguments(&rt)? {
         Asked::Show => show(rt, alloc),
         Asked::Alone(rounds) => tell(rt, "alone", alone(alloc, rounds)?),
-        Asked::Line(devices, rounds) => tell(rt, "line", on_line(alloc, devices, 1, rounds)?),
-        Asked::Gaps(devices, rounds) => tell(rt, "gaps", on_line(alloc, devices, 3, rounds)?),
+        Asked::Line(uids, devices, rounds) => {
+            tell(rt, "line", on_line(alloc, devices, uids, rounds)?)
+        }
     }
 }
 
 /// Prints what a few requests come to.
 fn show<R: Print + Copy>(rt: R, alloc: Global) -> Result<(), Fault> {
     tell(rt, "alone, 3 requests", alone(alloc, 3)?)?;
-    tell(rt, "one on a line, 3 requests", on_line(alloc, 1, 1, 3)?)?;
+    tell(
+        rt,
+        "one on a line, 3 requests",
+        on_line(alloc, 1, Uids::CountedUp, 3)?,
+    )?;
     tell(
         rt,
         "two on a line, 3 requests each",
-        on_line(alloc, 2, 3, 3)?,
+        on_line(alloc, 2, Uids::WithGaps, 3)?,
     )
 }
 
@@ -60,10 +65,8 @@ enum Asked {
     Show,
     /// So many requests to a responder alone.
     Alone(u32),
-    /// Requests to each of so many devices, in so many rounds.
-    Line(u16, u32),
-    /// The same, where other UIDs lie between those of the devices.
-    Gaps(u16, u32),
+    /// Requests to each of so many devices with these UIDs, in so many rounds.
+    Line(Uids, u16, u32),
 }
 
 /// Reads the arguments.
@@ -78,8 +81,20 @@ fn read_arguments<R: Env + Alloc>(rt: &R) -> Result<Asked, Fault> {
     };
     match (word.as_str(), third) {
         ("alone", None) => Ok(Asked::Alone(read_number(&number)?)),
-        ("line", Some(rounds)) => Ok(Asked::Line(read_count(&number)?, read_number(&rounds)?)),
-        ("gaps", Some(rounds)) => Ok(Asked::Gaps(read_count(&number)?, read_number(&rounds)?)),
+        (word, Some(rounds)) => {
+            let uids = read_uids(word)?;
+            Ok(Asked::Line(uids, read_count(&number)?, read_number(&rounds)?))
+        }
+        _ => Err(Fault::Usage),
+    }
+}
+
+/// Reads which UIDs the devices have.
+fn read_uids(word: &str) -> Result<Uids, Fault> {
+    match word {
+        "line" => Ok(Uids::CountedUp),
+        "gaps" => Ok(Uids::WithGaps),
+        "scattered" => Ok(Uids::Scattered),
         _ => Err(Fault::Usage),
     }
 }

@@ -95,6 +95,6 @@ not_there ns u r i e order fits is there =
     false≢true (ap (λ (q : Result ℕ ℕ). is_some (result_ok q)) (sym e) ∙ (is_found ns u r order fits is).1 there)
 
 -- a place at which the number stands
-pub counted_place : (ns given : List ℕ) (u : Uid) (n i m : ℕ) → given ≡ ns → n ≡ uid_number u → m ≡ length ns → AreInOrder ns → IsUid u → (i < length given) × (get_or given i 0 ≡ n) → IsOnlyAt u (map uid_of ns) i × (i < m)
-counted_place ns given u n i m e k long order fits is =
+pub hinted_place : (ns given : List ℕ) (u : Uid) (n i m : ℕ) → given ≡ ns → n ≡ uid_number u → m ≡ length ns → AreInOrder ns → IsUid u → (i < length given) × (get_or given i 0 ≡ n) → IsOnlyAt u (map uid_of ns) i × (i < m)
+hinted_place ns given u n i m e k long order fits is =
     place_of ns u (Ok i) m long order fits (subst (λ (xs : List ℕ). (i < length xs) × (get_or xs i 0 ≡ uid_number u)) e (is.0, is.1 ∙ k))

@@ -9,9 +9,7 @@ use Rattle.rdm_line.specs.Line.{State, IsOnlyAt}
 use Rattle.rdm_line.specs.declared.device.Device.{Ghosts}
 use Rattle.rdm_line.specs.declared.station.Station.{Station}
 use Rattle.rdm_line.specs.contracts.line.Line.{the_row}
-use Rattle.rdm_line.specs.declared.watched.WatchedStation.{WatchedStation}
 use Rattle.rdm_line.specs.contracts.station.Station.{the_row as station_row}
-use Rattle.rdm_line.specs.contracts.watched.WatchedStation.{the_row as watched_row}
 
 -- The device with this UID is `device`, and all else of the line is what it was.
 abbrev pub HasPut : {D : Type 0} → Uid → D → State D → State D → Type 0
@@ -25,6 +23,3 @@ module _ (D : RattleType) (device : Ghosts D.Denot) (line : MutBor (State D.Deno
 -- the station's responder ends as it is given back, and all else of it stays
 abbrev pub lends_responder : MutBor Station → MutBor ResponderState → Fml
 lends_responder station r = Lends station_row responder_row station r (λ responder. record station.now { responder = responder })
-
-abbrev pub lends_watched : MutBor WatchedStation → MutBor ResponderState → Fml
-lends_watched station r = Lends watched_row responder_row station r (λ responder. record station.now { responder = responder })

@@ -57,10 +57,21 @@ impl<D: Device> Line<D> {
             Ok(index) => index,
             Err(error) => return Err(Refused { device, error }),
         };
+        if self
+            .hints
+            .make_room(self.numbers.len().saturating_add(1))
+            .is_err()
+        {
+            return Err(Refused {
+                device,
+                error: JoinError::OutOfMemory,
+            });
+        }
         match self.devices.insert(index, device) {
             Ok(()) => {
                 // There is room.
                 let _ = self.numbers.insert(index, uid.number());
+                self.hints.note_all(self.numbers.as_slice());
                 Ok(())
             }
             Err(refused) => Err(Refused {
@@ -90,7 +101,7 @@ fn place_for(numbers: &mut Vec<u64>, uid: Uid) -> Result<usize, JoinError>
         Ok(_) => return Err(JoinError::Taken),
         Err(index) => index,
     };
-    match numbers.reserve(1) {
+    match numbers.reserve_exact(1) {
         Ok(()) => Ok(index),
         Err(_) => Err(JoinError::OutOfMemory),
     }

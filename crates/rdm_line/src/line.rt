@@ -2,6 +2,7 @@
 
 ghost use Rattle.std.specs.Prelude.{◌≡◌, ◌<◌, length, slice_index, IfSome};
 
+use crate::hints::Hints;
 use crate::{Collision, Device};
 use rdm_frame::{Uid, Wire};
 use std::alloc::Global;
@@ -9,13 +10,15 @@ use std::marker::Model;
 
 /// A line: devices of different UIDs on one pair of wires.
 ///
-/// Beside what the devices take, there are 16 bytes of memory for each at most.
+/// Beside what the devices take, there are 16 bytes of memory for each: 8 for the number of its UID, and 8 for hints where it stands.
 #[derive(Drop)]
 pub struct Line<D: Device> {
     // In the order of their UIDs.
     pub(crate) devices: Vec<D>,
     // The number of the UID of each device, by which it is found.
     pub(crate) numbers: Vec<u64>,
+    // Where each number is likely to stand.
+    pub(crate) hints: Hints,
     pub(crate) rule: Collision,
     // Where the answers to a broadcast are heard. It has a place here so that none is made for each.
     pub(crate) spare: Wire,
@@ -48,6 +51,7 @@ impl<D: Device> Line<D> {
         Line {
             devices: Vec::new(alloc),
             numbers: Vec::new(alloc),
+            hints: Hints::new(alloc),
             rule,
             spare: Wire::new(),
         }
@@ -107,21 +111,19 @@ impl<D: Device> Line<D> {
         ensures place { IfSome result (λ i. IsOnlyAt uid self.now.uids i × (i < length self.now.devices)) }
     {
         let number = uid.number();
-        match place_if_counted(self.numbers.as_slice(), number) {
+        match place_if_there(self.numbers.as_slice(), number, self.hints.place(number)) {
             Some(index) => Some(index),
             None => self.numbers.binary_search(&number).ok(),
         }
     }
 }
 
-/// Where a number stands if those from the first to it are counted up, as the UIDs of a rig often are: then no search is needed.
-fn place_if_counted(numbers: &[u64], number: u64) -> Option<usize>
+/// This place, if the number stands there.
+fn place_if_there(numbers: &[u64], number: u64, place: usize) -> Option<usize>
     ensures { IfSome result (λ i. (i < length numbers.now) × (slice_index numbers.now i ≡ number)) }
 {
-    let first = numbers.first()?;
-    let index = usize::try_from(number.wrapping_sub(*first)).ok()?;
-    if index < numbers.len() && numbers[index] == number {
-        Some(index)
+    if place < numbers.len() && numbers[place] == number {
+        Some(place)
     } else {
         None
     }

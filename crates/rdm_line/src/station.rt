@@ -1,50 +1,65 @@
-//! A responder on a line.
+//! A responder on a line, and what its last request came to.
 
 use crate::Device;
 use rdm_frame::{Uid, Wire};
-use rdm_responder::Responder;
+use rdm_responder::{Responder, Stepped};
 
-/// A responder on a line. It takes 8 bytes beside its responder.
+/// A responder on a line, with what its last request came to: the job that is to be done, and what changed. That takes 32 bytes
+/// more than the responder.
 #[derive(Debug, Drop)]
 pub struct Station {
-    uid: Uid,
     responder: Responder,
+    stepped: Stepped,
 }
 
 impl Device for Station {
-    ghost use Rattle.rdm_frame.specs.declared.uid.Uid.{Uid};
     ghost use Rattle.rdm_line.specs.Stations.{StationStandsFor};
 
     ghost stands = { StationStandsFor };
 
     ghost muted = { λ s. s.responder.muted };
 
-    ghost mutings = { λ s h is. is.0.muted };
+    ghost mutings = { λ s h is. is.muted };
 
-    ghost Rest = { Uid };
+    ghost Rest = { Unit {0} };
 
-    ghost rest = { λ s. s.uid };
+    ghost rest = { λ s. tt };
 
     fn uid(&self) -> Uid {
-        self.uid
+        self.responder.uid()
     }
 
     fn hear(&mut self, bytes: &[u8], wire: &mut Wire) -> bool {
-        self.responder.step_into(bytes, wire).replied
+        self.stepped = self.responder.step_into(bytes, wire);
+        self.stepped.replied
     }
 }
 
 impl Station {
     ghost use Rattle.std.specs.Borrow.{sem};
-    ghost use Rattle.std.specs.Prelude.{◌≡◌};
+    ghost use Rattle.std.specs.Prelude.{◌≡◌, false, None};
     ghost use Rattle.rdm_line.specs.Lends.{lends_responder};
 
-    /// This responder, whose UID this is.
-    pub fn new(uid: Uid, responder: Responder) -> Station
-        ensures uid { result.uid ≡ uid }
+    /// This responder. It has heard no request yet.
+    pub fn new(responder: Responder) -> Station
         ensures responder { result.responder ≡ responder }
+        ensures stepped { result.stepped ≡ record { replied = false; started = None; changed = None } }
     {
-        Station { uid, responder }
+        Station {
+            responder,
+            stepped: Stepped {
+                replied: false,
+                started: None,
+                changed: None,
+            },
+        }
+    }
+
+    /// What the last request that it heard came to.
+    pub fn stepped(&self) -> Stepped
+        ensures { result ≡ self.now.stepped }
+    {
+        self.stepped
     }
 
     /// The responder.

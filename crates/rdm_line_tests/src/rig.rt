@@ -3,11 +3,11 @@
 ghost use Rattle.std.specs.Prelude.{IfOk};
 ghost use Rattle.rdm_responder.specs.History.{History};
 ghost use Rattle.rdm_line.specs.Searching.{HasHistories};
-ghost use Rattle.rdm_line.specs.Stations.{StationStandsFor};
+ghost use Rattle.rdm_responder.specs.StandsFor.{StandsFor};
 
 use rdm_frame::standard::{FIRST_PORT, ROOT_DEVICE};
 use rdm_frame::{Body, Frame, Uid, Wire, encode};
-use rdm_line::{Collision, Line, Station};
+use rdm_line::{Collision, Line};
 use rdm_params::Profile;
 use rdm_responder::Responder;
 use std::alloc::Global;
@@ -20,20 +20,20 @@ pub const CONSOLE: Uid = Uid {
 };
 
 /// A device with this UID.
-pub fn station(alloc: Global, uid: Uid) -> Result<Station, Fail>
-    ensures { IfOk result (λ s. (h : History) × StationStandsFor s h) }
+pub fn device(alloc: Global, uid: Uid) -> Result<Responder, Fail>
+    ensures { IfOk result (λ d. (h : History) × StandsFor d h) }
 {
-    let responder = Responder::with_entries(alloc, uid, Profile::demo(0), 1, 1)?;
-    Ok(Station::new(uid, responder))
+    let device = Responder::with_entries(alloc, uid, Profile::demo(0), 1, 1)?;
+    Ok(device)
 }
 
 /// A line with devices of these UIDs.
-pub fn line(alloc: Global, rule: Collision, uids: &[Uid]) -> Result<Line<Station>, Fail>
-    ensures { IfOk result (λ l. HasHistories StationStandsFor l) }
+pub fn line(alloc: Global, rule: Collision, uids: &[Uid]) -> Result<Line<Responder>, Fail>
+    ensures { IfOk result (λ l. HasHistories StandsFor l) }
 {
     let mut line = Line::new(alloc, rule);
     for uid in uids {
-        let _ = line.join(station(alloc, *uid)?);
+        let _ = line.join(device(alloc, *uid)?);
     }
     Ok(line)
 }

@@ -1,11 +1,9 @@
 //! Requests to one device, to all, and to nobody.
 
-use crate::rig::{CONSOLE, line, request, station};
+use crate::rig::{CONSOLE, device, line, request};
 use rdm_frame::standard::{DISC_MUTE, DISC_UN_MUTE, DISCOVERY_COMMAND, GET_COMMAND};
 use rdm_frame::{Uid, Wire, decode};
-use rdm_line::{Collision, Device, JoinError, Line, OnWire, WatchedStation};
-use rdm_params::Profile;
-use rdm_responder::Responder;
+use rdm_line::{Collision, Device, JoinError, Line, OnWire, Station};
 use std::test::Fail;
 
 /// IDENTIFY_DEVICE (E1.20 section 10.11).
@@ -61,7 +59,7 @@ fn broadcasts_are_unanswered(rt: HostRuntime) -> Result<(), Fail> {
 #[test]
 fn some_may_not_join(rt: HostRuntime) -> Result<(), Fail> {
     let mut line = line(rt.alloc(), Collision::First, &[uid(2), uid(1)])?;
-    match line.join(station(rt.alloc(), uid(2))?) {
+    match line.join(device(rt.alloc(), uid(2))?) {
         Ok(()) => assert!(rt; false),
         Err(refused) => {
             assert!(rt; refused.error == JoinError::Taken);
@@ -76,12 +74,11 @@ fn some_may_not_join(rt: HostRuntime) -> Result<(), Fail> {
     Ok(())
 }
 
-/// A watched station keeps what its last request came to.
+/// A station keeps what its last request came to.
 #[test]
-fn a_watched_station_tells(rt: HostRuntime) -> Result<(), Fail> {
-    let responder = Responder::with_entries(rt.alloc(), uid(1), Profile::demo(0), 1, 1)?;
+fn a_station_tells(rt: HostRuntime) -> Result<(), Fail> {
     let mut line = Line::new(rt.alloc(), Collision::First);
-    let _ = line.join(WatchedStation::new(uid(1), responder));
+    let _ = line.join(Station::new(device(rt.alloc(), uid(1))?));
     let mut wire = Wire::new();
     assert!(rt; line.get(uid(1)).is_some_and(|s| !s.stepped().replied));
     let bytes = request(uid(1), GET_COMMAND, IDENTIFY_DEVICE);
@@ -107,10 +104,10 @@ fn each_device_is_lent(rt: HostRuntime) -> Result<(), Fail> {
     let mut line = line(rt.alloc(), Collision::First, &uids)?;
     for own in uids {
         match line.get_mut(own) {
-            Some(station) => {
-                assert!(rt; station.uid() == own);
-                assert!(rt; station.responder_mut().room());
-                assert_eq!(rt; station.responder().waiting(), 0);
+            Some(device) => {
+                assert!(rt; device.uid() == own);
+                assert!(rt; device.room());
+                assert_eq!(rt; device.waiting(), 0);
             }
             None => assert!(rt; false),
         }

@@ -1,11 +1,13 @@
 -- What a history comes to, one event after another.
-use Rattle.std.proofs.Common.{◌≡◌, ◌↔◌, ℕ, List, Option, refl, sym, subst, ◌∙◌}
+use Rattle.std.proofs.Common.{◌≡◌, ◌↔◌, ℕ, List, [], ◌∷◌, Option, refl, sym, ap, subst, ◌∙◌}
+use Rattle.std.specs.Prelude.{fold}
 use Rattle.std.proofs.lemmas.List.Sums.{fold_push}
 use Rattle.rdm_frame.specs.declared.frame.Frame.{Frame}
 use Rattle.rdm_frame.specs.Reading.{frame_in}
-use Rattle.rdm_responder.specs.History.{Setup, Event, Heard, History, empty_history, then_event}
-use Rattle.rdm_responder.specs.Requests.{request_in}
-use Rattle.rdm_responder.specs.Rules.{account_of, account_before, account_after, account_with}
+use Rattle.rdm_responder.specs.History.{Setup, Event, Heard, Arrived, Changed, Placed, Noted, Restored, History, empty_history, then_event}
+use Rattle.rdm_frame.specs.declared.uid.Uid.{Uid}
+use Rattle.rdm_responder.specs.Requests.{Request, Ignored, Branch, Muting, Get, Set, request_in}
+use Rattle.rdm_responder.specs.Rules.{Account, account_of, account_before, account_after, account_with}
 use Rattle.rdm_responder.specs.StandsFor.{State, Shows, StandsFor}
 
 account_of-empty : (setup : Setup) → account_of (empty_history setup) ≡ account_before setup
@@ -34,3 +36,31 @@ same_values before after h later stands_before stands_after same = (
   λ told. sym stands_after.parameters ∙ same.0 told ∙ stands_before.parameters,
   λ e. same.1 (stands_after.parameters ∙ e ∙ sym stands_before.parameters),
 )
+
+setup_with : (a : Account) (r : Request) → (account_with a r).setup ≡ a.setup
+setup_with a Ignored = refl
+setup_with a (Branch lower upper) = refl
+setup_with a (Muting muted f) = refl
+setup_with a (Get f) = refl
+setup_with a (Set f) = refl
+
+setup_after : (a : Account) (event : Event) → (account_after a event).setup ≡ a.setup
+setup_after a (Heard bytes) = setup_with a (request_in a.setup.uid (frame_in bytes))
+setup_after a (Arrived report) = refl
+setup_after a (Changed change) = refl
+setup_after a (Placed sub pid bytes) = refl
+setup_after a (Noted entry) = refl
+setup_after a (Restored image) = refl
+
+setup_after_all : (a : Account) (events : List Event) → (fold account_after a events).setup ≡ a.setup
+setup_after_all a [] = refl
+setup_after_all a (event ∷ events) = setup_after_all (account_after a event) events ∙ setup_after a event
+
+-- whatever happens, the setup stays
+setup_stays : (h : History) → (account_of h).setup ≡ h.setup
+unfolding account_of
+setup_stays h = setup_after_all (account_before h.setup) h.events
+
+-- the UID of the state is that of the history
+pub uid_of_history : (state : State) (h : History) → StandsFor state h → state.uid ≡ h.setup.uid
+uid_of_history state h shows = shows.uid ∙ ap (λ (s : Setup). s.uid) (setup_stays h)

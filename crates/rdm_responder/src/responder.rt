@@ -136,6 +136,13 @@ impl Responder {
         })
     }
 
+    /// Its UID.
+    pub fn uid(&self) -> Uid
+        ensures { (h : History) → StandsFor self.now h → result ≡ h.setup.uid }
+    {
+        self.uid
+    }
+
     /// Hears bytes, and gives the bytes of the reply, if there is one, and the job that they start, if they do.
     pub fn step(&mut self, bytes: &[u8]) -> (Option<Wire>, Option<Job>)
         ensures reply { (h : History) → StandsFor self.old h → result.0 ≡ reply_of h bytes.now }
