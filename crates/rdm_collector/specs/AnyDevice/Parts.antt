@@ -1,0 +1,60 @@
+-- The parts of a message that doesn't fit one response, and their data joined. E1.20 section 6.3.2.
+use Rattle.std.specs.Prelude.{◌≡◌, ℕ, ◌-◌, ◌<◌, Bool, true, false, ◌&&◌, ◌||◌, ◌==◌, if◌then◌else◌, List, [], ◌∷◌, ◌++◌, length}
+use Rattle.std.specs.List.{AllAdjacentBelow, HoldsAt, IsChunkByPrefix}
+use Rattle.rdm_params.specs.declared.jobs.message.Message.{Message}
+use Rattle.rdm_collector.specs.declared.reply.Response.{Response}
+use Rattle.rdm_collector.specs.declared.reply.Response.TheVariants.{Ack, AckTimer, Nack, AckOverflow}
+use Rattle.rdm_collector.specs.declared.any_device.collected.Collected.{Collected}
+use Rattle.rdm_collector.specs.AnyDevice.Items.{item_of, same_item}
+
+-- more of the message follows: ACK_OVERFLOW
+abbrev pub is_part : Response → Bool
+is_part Ack = false
+is_part (AckTimer tenths) = false
+is_part (Nack reason) = false
+is_part AckOverflow = true
+
+abbrev pub same_parameter : Message → Message → Bool
+same_parameter m n = (m.class == n.class) && (m.pid == n.pid) && (m.sub == n.sub)
+
+-- It was asked for again, and says the same as what was recorded before it: it may be a repeat of it.
+abbrev pub is_repeat : Collected → Collected → Bool
+is_repeat before c = c.again && same_item (item_of before) (item_of c)
+
+-- It goes on with the message of what was recorded before it: that was a part, and this is of the same parameter; or it may be a
+-- repeat.
+abbrev pub goes_on : Collected → Collected → Bool
+goes_on before c = is_repeat before c || (is_part before.response && same_parameter before.message c.message)
+
+abbrev pub GoesOn : Collected → Collected → Type 0
+GoesOn before c = goes_on before c ≡ true
+
+abbrev pub IsPart : Collected → Type 0
+IsPart c = is_part c.response ≡ true
+
+-- These are the first of what was recorded, as far as they go on.
+pub record AreFirst (recorded items : List Collected) : Type 0 where
+  pub some : 0 < length items
+  pub rest : List Collected
+  pub front : recorded ≡ items ++ rest
+  pub run : IsChunkByPrefix goes_on recorded (length items)
+
+-- They are the first message, and it is whole, or won't go on: something else follows its last part.
+pub record IsFirstMessage (recorded items : List Collected) : Type 0 where
+  pub first : AreFirst recorded items
+  pub whole : length items ≡ length recorded → HoldsAt (λ (c : Collected). is_part c.response ≡ false) recorded (length recorded - 1)
+
+-- There is none: nothing was recorded, or the parts of one message alone, which goes on.
+pub record NoneIsWhole (recorded : List Collected) : Type 0 where
+  pub run : AllAdjacentBelow GoesOn recorded (length recorded)
+  pub part : 0 < length recorded → HoldsAt IsPart recorded (length recorded - 1)
+
+-- the data of what follows this, the repeats left out
+abbrev pub data_behind : Collected → List Collected → List ℕ
+data_behind before [] = []
+data_behind before (c ∷ cs) = if is_repeat before c then data_behind before cs else c.message.body ++ data_behind c cs
+
+-- The data of a message: those of its parts, one behind the other, the repeats left out.
+abbrev pub joined_data : List Collected → List ℕ
+joined_data [] = []
+joined_data (c ∷ cs) = c.message.body ++ data_behind c cs
