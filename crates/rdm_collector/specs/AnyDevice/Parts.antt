@@ -1,18 +1,15 @@
 -- The parts of a message that doesn't fit one response, and their data joined. E1.20 section 6.3.2.
-use Rattle.std.specs.Prelude.{◌≡◌, ℕ, ◌-◌, ◌<◌, Bool, true, false, ◌&&◌, ◌||◌, ◌==◌, if◌then◌else◌, List, [], ◌∷◌, ◌++◌, length}
-use Rattle.std.specs.List.{AllAdjacentBelow, HoldsAt, IsChunkByPrefix}
+use Rattle.std.specs.Prelude.{◌≡◌, ℕ, ◌-◌, ◌<◌, Bool, true, false, ◌&&◌, ◌||◌, ◌==◌, if◌then◌else◌, List, [], ◌∷◌, ◌++◌, length, slice_get}
+use Rattle.std.specs.Option.{option_map_or}
+use Rattle.std.specs.List.{AllAdjacentBelow, IsChunkByPrefix}
 use Rattle.rdm_params.specs.declared.jobs.message.Message.{Message}
 use Rattle.rdm_collector.specs.declared.reply.Response.{Response}
-use Rattle.rdm_collector.specs.declared.reply.Response.TheVariants.{Ack, AckTimer, Nack, AckOverflow}
 use Rattle.rdm_collector.specs.declared.any_device.collected.Collected.{Collected}
-use Rattle.rdm_collector.specs.AnyDevice.Items.{item_of, same_item}
+use Rattle.rdm_collector.specs.AnyDevice.Items.{item_of, same_item, type_code}
 
--- more of the message follows: ACK_OVERFLOW
+-- More of the message follows. Section 6.3.2.
 abbrev pub is_part : Response → Bool
-is_part Ack = false
-is_part (AckTimer tenths) = false
-is_part (Nack reason) = false
-is_part AckOverflow = true
+is_part r = type_code r == 0x03
 
 abbrev pub same_parameter : Message → Message → Bool
 same_parameter m n = (m.class == n.class) && (m.pid == n.pid) && (m.sub == n.sub)
@@ -29,8 +26,9 @@ goes_on before c = is_repeat before c || (is_part before.response && same_parame
 abbrev pub GoesOn : Collected → Collected → Type 0
 GoesOn before c = goes_on before c ≡ true
 
-abbrev pub IsPart : Collected → Type 0
-IsPart c = is_part c.response ≡ true
+-- the last of what was recorded is a part
+abbrev pub ends_in_part : List Collected → Bool
+ends_in_part cs = option_map_or (λ (c : Collected). is_part c.response) (slice_get cs (length cs - 1)) false
 
 -- These are the first of what was recorded, as far as they go on.
 pub record AreFirst (recorded items : List Collected) : Type 0 where
@@ -42,17 +40,17 @@ pub record AreFirst (recorded items : List Collected) : Type 0 where
 -- They are the first message, and it is whole, or won't go on: something else follows its last part.
 pub record IsFirstMessage (recorded items : List Collected) : Type 0 where
   pub first : AreFirst recorded items
-  pub whole : length items ≡ length recorded → HoldsAt (λ (c : Collected). is_part c.response ≡ false) recorded (length recorded - 1)
+  pub whole : length items ≡ length recorded → ends_in_part recorded ≡ false
 
 -- There is none: nothing was recorded, or the parts of one message alone, which goes on.
 pub record NoneIsWhole (recorded : List Collected) : Type 0 where
   pub run : AllAdjacentBelow GoesOn recorded (length recorded)
-  pub part : 0 < length recorded → HoldsAt IsPart recorded (length recorded - 1)
+  pub part : 0 < length recorded → ends_in_part recorded ≡ true
 
 -- the data of what follows this, the repeats left out
 abbrev pub data_behind : Collected → List Collected → List ℕ
 data_behind before [] = []
-data_behind before (c ∷ cs) = if is_repeat before c then data_behind before cs else c.message.body ++ data_behind c cs
+data_behind before (c ∷ cs) = (if is_repeat before c then [] else c.message.body) ++ data_behind c cs
 
 -- The data of a message: those of its parts, one behind the other, the repeats left out.
 abbrev pub joined_data : List Collected → List ℕ

@@ -1,9 +1,130 @@
 //! The parts of a message that doesn't fit one response, and their data joined (E1.20 section 6.3.2).
 
-ghost use Rattle.std.specs.Prelude.{◌≡◌, IfSome, IsNone, IfErr, OnOk, OnErr, []};
-ghost use Rattle.rdm_collector.specs.AnyDevice.Parts.{is_part, same_parameter, is_repeat, goes_on, AreFirst, IsFirstMessage, NoneIsWhole, joined_data};
+ghost use Rattle.std.specs.Prelude.{◌≡◌, ◌++◌, [], IfSome, IsNone, OnOk, OnErr};
+ghost use Rattle.rdm_collector.specs.AnyDevice.Items.{item_of, same_item, type_code};
+ghost use Rattle.rdm_collector.specs.AnyDevice.Parts.{is_part, same_parameter, is_repeat, goes_on, ends_in_part, data_behind, joined_data, IsFirstMessage, NoneIsWhole};
 
 use crate::any_device::collected::Collected;
 use crate::reply::Response;
+use rdm_frame::standard::{ACK, ACK_OVERFLOW, ACK_TIMER, NACK_REASON};
 use rdm_params::Message;
 use std::alloc::AllocError;
+
+/// The first message of what was recorded, if it is whole: the one that came first and its repeats, or all its parts in order
+/// (E1.20 section 6.3.2). So many may be forgotten when it is done with.
+///
+/// Parts are of one message as long as the next that was recorded is of the same command class, parameter and sub-device. If
+/// something else follows a part, the rest won't come, and what came is given: its last is then an ACK_OVERFLOW.
+pub fn first_message(recorded: &[Collected]) -> Option<&[Collected]>
+    ensures some { IfSome result (λ items. IsFirstMessage recorded.now items.now) }
+    ensures none { IsNone result → NoneIsWhole recorded.now }
+{
+    let items = recorded
+        .chunk_by(|before, item| goes_on(before, item))
+        .next()?;
+    if items.len() == recorded.len() && ends_in_part(recorded) {
+        return None;
+    }
+    Some(items)
+}
+
+/// Replaces `data` by those of a message that `first_message` gave: the data of its parts, one behind the other, at most 231
+/// bytes for each. A part that was asked for again and says the same as the one before it is taken for a repeat, and left out.
+///
+/// It fails if there is no memory for them, and then `data` is empty.
+pub fn join_data(items: &[Collected], data: &mut Vec<u8>) -> Result<(), AllocError>
+    ensures ok { OnOk result (data.new.items ≡ joined_data items.now) }
+    ensures err { OnErr result (data.new.items ≡ []) }
+{
+    data.clear();
+    let Some((first, others)) = items.split_first() else {
+        return Ok(());
+    };
+    let joined = append_data(first, others, data);
+    if joined.is_err() {
+        data.clear();
+    }
+    joined
+}
+
+/// Puts the data of these at the end, the repeats left out.
+fn append_data(
+    first: &Collected,
+    others: &[Collected],
+    data: &mut Vec<u8>,
+) -> Result<(), AllocError>
+    ensures { OnOk result (data.new.items ≡ data.old.items ++ (first.now.message.body ++ data_behind first.now others.now)) }
+{
+    data.extend_from_slice(first.message.body.as_slice())?;
+    let mut before = first;
+    for item in others {
+        if !is_repeat(before, item) {
+            data.extend_from_slice(item.message.body.as_slice())?;
+        }
+        before = item;
+    }
+    Ok(())
+}
+
+/// Whether this goes on with the message of what was recorded before it.
+fn goes_on(before: &Collected, item: &Collected) -> bool
+    ensures { result ≡ goes_on before.now item.now }
+{
+    is_repeat(before, item)
+        || (is_part(before.response) && is_same_parameter(&before.message, &item.message))
+}
+
+/// Whether this may be a repeat of what was recorded before it.
+fn is_repeat(before: &Collected, item: &Collected) -> bool
+    ensures { result ≡ is_repeat before.now item.now }
+{
+    item.again && says_the_same(before, item)
+}
+
+/// Whether the two have one response type, and their messages say the same.
+#[tactic(auto, unfolding(crate::specs::AnyDevice::Items::same_item, crate::specs::Recording::same_message))]
+fn says_the_same(a: &Collected, b: &Collected) -> bool
+    ensures { result ≡ same_item (item_of a.now) (item_of b.now) }
+{
+    type_code(a.response) == type_code(b.response)
+        && a.message.class == b.message.class
+        && a.message.pid == b.message.pid
+        && a.message.sub == b.message.sub
+        && a.message.body.as_slice() == b.message.body.as_slice()
+}
+
+/// Whether two messages are of one command class, parameter and sub-device.
+fn is_same_parameter(a: &Message, b: &Message) -> bool
+    ensures { result ≡ same_parameter a.now b.now }
+{
+    a.class == b.class && a.pid == b.pid && a.sub == b.sub
+}
+
+/// Whether the last of these is a part.
+fn ends_in_part(recorded: &[Collected]) -> bool
+    ensures { result ≡ ends_in_part recorded.now }
+{
+    match recorded.last() {
+        Some(last) => is_part(last.response),
+        None => false,
+    }
+}
+
+/// Whether more of the message follows.
+fn is_part(response: Response) -> bool
+    ensures { result ≡ is_part response }
+{
+    type_code(response) == ACK_OVERFLOW
+}
+
+/// The code of a response type (E1.20 table A-2).
+fn type_code(response: Response) -> u8
+    ensures { result ≡ type_code response }
+{
+    match response {
+        Response::Ack => ACK,
+        Response::AckTimer { .. } => ACK_TIMER,
+        Response::Nack { .. } => NACK_REASON,
+        Response::AckOverflow => ACK_OVERFLOW,
+    }
+}
