@@ -1,0 +1,4 @@
+pub mod Hearing
+pub mod Joining
+pub mod Kept
+pub mod Runs
