@@ -101,11 +101,11 @@ declined : (base : List Collected) (s : DeviceState) (last : Option Item) (d : L
     → is_kept h ≡ false → MayDecline s.unanswered last h → Stands base (after_answer (after_poll s) c h) last d
 declined base s last d c heard.Message st e may = absurd (true≢false e)
 declined base s last d c heard.Part st e may = absurd (true≢false e)
-declined base s last d c heard.Unsupported st e may = rejected base s _ last d refl refl st may
-declined base s last d c (heard.Refused reason) st e may = rejected base s _ last d refl refl st may
+declined base s last d c heard.Unsupported st e may = rejected base s (after_answer (after_poll s) c heard.Unsupported) last d refl refl st may
+declined base s last d c (heard.Refused reason) st e may = rejected base s (after_answer (after_poll s) c (heard.Refused reason)) last d refl refl st may
 declined base s last d c (heard.NotYet tenths) st e may = st
-declined base s last d c heard.Reply st e may = rejected base s _ last d refl refl st may
-declined base s last d c heard.Ignored st e may = rejected base s _ last d refl refl st may
+declined base s last d c heard.Reply st e may = rejected base s (after_answer (after_poll s) c heard.Reply) last d refl refl st may
+declined base s last d c heard.Ignored st e may = rejected base s (after_answer (after_poll s) c heard.Ignored) last d refl refl st may
 
 -- ---- each event
 
@@ -119,7 +119,7 @@ gives base s d ds f r bs st next =
     at_last base t (Some x) (after_giving (asks_again (poll_of s)) d x).last (ds ++ x ∷ []) (last_given (asks_again (poll_of s)) d x)
     (elim (reply_or_noise s f r next.0.0 bs next.1) [
       | inl same ↦ at_state base (after_poll s) t (Some x) (ds ++ x ∷ []) same (given_unheard base s d x ds st may)
-      | inr made ↦ at_state base _ t (Some x) (ds ++ x ∷ []) made (given_heard base s d (collected s.unanswered f r) ds (poll_heard f.pid r) st next.0.1 may)
+      | inr made ↦ at_state base (after_answer (after_poll s) (collected s.unanswered f r) (poll_heard f.pid r)) t (Some x) (ds ++ x ∷ []) made (given_heard base s d (collected s.unanswered f r) ds (poll_heard f.pid r) st next.0.1 may)
     ])
 
 declines : (base : List Collected) (s : DeviceState) (d : Device) (ds : List Item) (f : Frame) (r : Response) (bs : List (List ℕ)) → Stands base s d.last ds
@@ -130,7 +130,7 @@ declines base s d ds f r bs st next =
     let t : DeviceState = fold after_hearing (after_poll s) bs in
     elim (reply_or_noise s f r next.0.0 bs next.1) [
       | inl same ↦ at_state base (after_poll s) t d.last ds same (unheard base s d.last ds st)
-      | inr made ↦ at_state base _ t d.last ds made (declined base s d.last ds (collected s.unanswered f r) (poll_heard f.pid r) st next.0.1 may)
+      | inr made ↦ at_state base (after_answer (after_poll s) (collected s.unanswered f r) (poll_heard f.pid r)) t d.last ds made (declined base s d.last ds (collected s.unanswered f r) (poll_heard f.pid r) st next.0.1 may)
     ]
 
 happens : (base : List Collected) (s : DeviceState) (d : Device) (ds : List Item) (e : Event) → Stands base s d.last ds → IsNext s d e
@@ -138,11 +138,11 @@ happens : (base : List Collected) (s : DeviceState) (d : Device) (ds : List Item
 happens base s d ds (Arrived x) st next = same_end base s d.last ds st
 happens base s d ds (Asked c bs) st next =
     let still = command_still (after_ask s c) bs refl in
-    same_end base _ d.last ds (commanded base s (fold after_hearing (after_ask s c) bs) d.last ds still.recorded still.unanswered st)
+    same_end base (after s (Asked c bs)) d.last ds (commanded base s (fold after_hearing (after_ask s c) bs) d.last ds still.recorded still.unanswered st)
 happens base s d ds (Polled Silence bs) st next =
-    same_end base _ d.last ds (at_state base (after_poll s) (fold after_hearing (after_poll s) bs) d.last ds (noise_alone s bs next.1) (unheard base s d.last ds st))
+    same_end base (after s (Polled Silence bs)) d.last ds (at_state base (after_poll s) (fold after_hearing (after_poll s) bs) d.last ds (noise_alone s bs next.1) (unheard base s d.last ds st))
 happens base s d ds (Polled (Gives f r) bs) st next = gives base s d ds f r bs st next
-happens base s d ds (Polled (Declines f r) bs) st next = same_end base _ d.last ds (declines base s d ds f r bs st next)
+happens base s d ds (Polled (Declines f r) bs) st next = same_end base (after s (Polled (Declines f r) bs)) d.last ds (declines base s d ds f r bs st next)
 
 -- ---- all events
 
