@@ -38,7 +38,7 @@ pub enum DeviceHeard {
 }
 
 /// What the open transaction takes a frame for.
-#[derive(Clone, Copy, Debug, PartialEq, Eq)]
+#[derive(Clone, Copy, Debug)]
 pub(crate) enum Taken {
     /// The answer to its poll, of this response type.
     Answer(Response),
@@ -51,7 +51,7 @@ pub(crate) enum Taken {
 /// What the open transaction, if there is one, takes a frame from its target for.
 pub(crate) fn taken_for(transaction: Option<Transaction>, frame: &FrameView<'_>) -> Taken
     ensures taken { result ≡ taken_for transaction frame.now }
-    ensures poll { (r : _) → result ≡ Taken.Answer r → IsTrue (is_poll transaction) }
+    ensures poll { (r : Response) → result ≡ Taken.Answer r → IsTrue (is_poll transaction) }
 {
     match transaction {
         Some(Transaction::Poll { tn }) => match answer_to(tn, frame) {
