@@ -1,7 +1,7 @@
 //! Laws of a collector for any device. Each is the contract of a call that does nothing.
 
 ghost use Rattle.std.specs.Prelude.{◌≡◌, ◌↔◌, IsTrue};
-ghost use Rattle.rdm_collector.specs.AnyDevice.Laws.{AnyDeviceIsRecorded, AnswersGoOn};
+ghost use Rattle.rdm_collector.specs.AnyDevice.Laws.{AnyDeviceIsRecorded, AnswersGoOn, SkippingIsRefused, RecordingNothingIsRefused};
 
 use crate::any_device::collected::Collected;
 use crate::any_device::heard::DeviceHeard;
@@ -19,6 +19,12 @@ pub fn any_device_is_recorded()
 #[tactic(auto, using(crate::proofs::AnyDevice::Runs::go_on))]
 pub fn any_device_answers_go_on()
     ensures { AnswersGoOn }
+{}
+
+/// What that law rules out: a collector that skips a message that was lost, and one that records none of two.
+pub fn any_device_law_rules_out()
+    ensures skipping { SkippingIsRefused }
+    ensures recording_nothing { RecordingNothingIsRefused }
 {}
 
 /// Two values of `DeviceHeard` are equal by `==` exactly when they are the same, with the same number.
