@@ -11,7 +11,6 @@ pub use collector::DeviceCollector;
 pub use heard::DeviceHeard;
 pub use laws::{
     any_device_answers_go_on, any_device_is_recorded, any_device_law_rules_out,
-    collecteds_are_equal_by_value,
-    device_heards_are_equal_by_value,
+    collecteds_are_equal_by_value, device_heards_are_equal_by_value,
 };
 pub use parts::{first_message, join_data};

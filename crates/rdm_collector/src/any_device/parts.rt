@@ -40,11 +40,11 @@ pub fn join_data(items: &[Collected], data: &mut Vec<u8>) -> Result<(), AllocErr
     let Some((first, others)) = items.split_first() else {
         return Ok(());
     };
-    let joined = append_data(first, others, data);
-    if joined.is_err() {
+    if let Err(error) = append_data(first, others, data) {
         data.clear();
+        return Err(error);
     }
-    joined
+    Ok(())
 }
 
 /// Puts the data of these at the end, the repeats left out.
