@@ -2,11 +2,11 @@
 use Rattle.std.proofs.Common.{◌≡◌, ℕ, ◌==◌, ◌&&◌, ◌||◌, ◌⊎◌, Bool, true, false, cond, List, [], ◌∷◌, Option, Some, None, refl, sym, ap, subst, ◌∙◌, true≢false, inl, inr}
 use Rattle.std.specs.List.{All, fold}
 use Rattle.std.specs.Option.{option_map_or}
-use Rattle.std.proofs.lemmas.Bool.{eqb-true, eq-eqb, or_left, or_right}
+use Rattle.std.proofs.lemmas.Bool.{eqb-true, eq-eqb, or_cases, or_left, or_right}
 use Rattle.std.proofs.lemmas.List.Elements.{All-head, All-tail, All-weaker}
 use Rattle.rdm_frame.specs.declared.frame.Frame.{Frame}
 use Rattle.rdm_frame.specs.Addressing.{same_uid}
-use Rattle.rdm_frame.specs.FrameText.{frame_text}
+use Rattle.rdm_frame.specs.FrameText.{frame_text, IsFrame}
 use Rattle.rdm_frame.specs.Reading.{frame_in}
 use Rattle.rdm_collector.specs.declared.transaction.Transaction.{Transaction}
 use Rattle.rdm_collector.specs.declared.transaction.Transaction.TheVariants.{Poll, Command}
@@ -25,18 +25,28 @@ use Rattle.rdm_collector.proofs.ReadBack.{read_as_itself}
 
 -- ---- noise
 
-noise_at : (s : DeviceState) (f : Frame) (a b c : Bool) (o : Option Response) → (a ≡ true → b ≡ true → ⊥)
+noise_at : (s : DeviceState) (f : Frame) (a b c : Bool) (o : Option Response) → ((r : Response) → a ≡ true → b ≡ true → c ≡ true → o ≡ Some r → ⊥)
     → cond a (after_taken (after_poll s) f (option_map_or (λ r. Answer r) (cond (b && c) o None) Nothing)) (after_poll s) ≡ after_poll s
 noise_at s f false b c o no = refl
 noise_at s f true false c o no = refl
-noise_at s f true true c o no = absurd (no refl refl)
+noise_at s f true true false o no = refl
+noise_at s f true true true None no = refl
+noise_at s f true true true (Some r) no = absurd (no r refl refl refl refl)
+
+class_from : (f : Frame) → ((f.class == 0x21) || (f.class == 0x31)) ≡ true → (f.class ≡ 0x21) ⊎ (f.class ≡ 0x31)
+class_from f e =
+    elim (or_cases (f.class == 0x21) (f.class == 0x31) e) [
+      | inl get ↦ inl (eqb-true f.class 0x21 get)
+      | inr set ↦ inr (eqb-true f.class 0x31 set)
+    ]
 
 noise_frame : (s : DeviceState) (bytes : List ℕ) (o : Option Frame) → frame_in bytes ≡ o → IsNoise (poll_of s) bytes
     → option_map_or (after_frame (after_poll s)) o (after_poll s) ≡ after_poll s
 noise_frame s bytes None e n = refl
 noise_frame s bytes (Some f) e n =
+    let both = from_both f s.target s.uid in
     noise_at s f (same_uid f.src s.target && same_uid f.dst s.uid) (f.tn == s.tn) ((f.class == 0x21) || (f.class == 0x31)) (response_in f.port f.body)
-    (λ a b. n f (record { text = e; source = ((from_both f s.target s.uid).0 a).0; destination = ((from_both f s.target s.uid).0 a).1; number_is = eqb-true f.tn s.tn b }))
+    (λ r a b c o. n f r e (record { source = (both.0 a).0; destination = (both.0 a).1; number = eqb-true f.tn s.tn b; class = class_from f c; response = o }))
 
 pub noise : (s : DeviceState) (bytes : List ℕ) → IsNoise (poll_of s) bytes → after_hearing (after_poll s) bytes ≡ after_poll s
 noise s bytes n = noise_frame s bytes (frame_in bytes) refl n
@@ -57,10 +67,10 @@ is_class : (f : Frame) → (f.class ≡ 0x21) ⊎ (f.class ≡ 0x31) → ((f.cla
 is_class f (inl e) = or_left _ _ (eq-eqb f.class 0x21 e)
 is_class f (inr e) = or_right _ _ (eq-eqb f.class 0x31 e)
 
-pub heard_reply : (s : DeviceState) (f : Frame) (r : Response) → IsReplyTo (poll_of s) f r
+pub heard_reply : (s : DeviceState) (f : Frame) (r : Response) → IsFrame f → IsReplyTo (poll_of s) f r
     → after_hearing (after_poll s) (frame_text f) ≡ after_answer (after_poll s) (collected s.unanswered f r) (poll_heard f.pid r)
-heard_reply s f r is =
-    ap (λ (o : Option Frame). option_map_or (after_frame (after_poll s)) o (after_poll s)) (read_as_itself f is.is_frame)
+heard_reply s f r fits is =
+    ap (λ (o : Option Frame). option_map_or (after_frame (after_poll s)) o (after_poll s)) (read_as_itself f fits)
     ∙ answered_at s f r (same_uid f.src s.target && same_uid f.dst s.uid) (f.tn == s.tn) ((f.class == 0x21) || (f.class == 0x31)) (response_in f.port f.body)
     ((from_both f s.target s.uid).1 (is.source, is.destination)) (eq-eqb f.tn s.tn is.number) (is_class f is.class) is.response
 
@@ -107,12 +117,12 @@ listened t u (b ∷ bs) e all =
 abbrev pub IsReplyOrNoise : DeviceState → Frame → List ℕ → Type 0
 IsReplyOrNoise s f b = (b ≡ frame_text f) ⊎ IsNoise (poll_of s) b
 
-module _ (s : DeviceState) (f : Frame) (r : Response) (is : IsReplyTo (poll_of s) f r) where
+module _ (s : DeviceState) (f : Frame) (r : Response) (fits : IsFrame f) (is : IsReplyTo (poll_of s) f r) where
   abbrev answered : DeviceState
   answered = after_answer (after_poll s) (collected s.unanswered f r) (poll_heard f.pid r)
 
   one_heard : (b : List ℕ) → IsReplyOrNoise s f b → LeavesOrMakes (after_poll s) answered b
-  one_heard b (inl e) = inr (ap (λ (x : List ℕ). after_hearing (after_poll s) x) e ∙ heard_reply s f r is)
+  one_heard b (inl e) = inr (ap (λ (x : List ℕ). after_hearing (after_poll s) x) e ∙ heard_reply s f r fits is)
   one_heard b (inr n) = inl (noise s b n)
 
   pub reply_or_noise : (bs : List (List ℕ)) → All (IsReplyOrNoise s f) bs

@@ -114,23 +114,23 @@ gives : (base : List Collected) (s : DeviceState) (d : Device) (ds : List Item) 
 gives base s d ds f r bs st next =
     let x : Item = item_in f r in
     let P : Bool → Type 0 = λ v. MayGive v d.last d.waiting x in
-    let may : MayGive s.unanswered d.last d.waiting x = subst P (asks s) next.0.2 in
+    let may : MayGive s.unanswered d.last d.waiting x = subst P (asks s) next.0.3 in
     let t : DeviceState = fold after_hearing (after_poll s) bs in
     at_last base t (Some x) (after_giving (asks_again (poll_of s)) d x).last (ds ++ x ∷ []) (last_given (asks_again (poll_of s)) d x)
-    (elim (reply_or_noise s f r next.0.0 bs next.1) [
+    (elim (reply_or_noise s f r next.0.0 next.0.1 bs next.1) [
       | inl same ↦ at_state base (after_poll s) t (Some x) (ds ++ x ∷ []) same (given_unheard base s d x ds st may)
-      | inr made ↦ at_state base (after_answer (after_poll s) (collected s.unanswered f r) (poll_heard f.pid r)) t (Some x) (ds ++ x ∷ []) made (given_heard base s d (collected s.unanswered f r) ds (poll_heard f.pid r) st next.0.1 may)
+      | inr made ↦ at_state base (after_answer (after_poll s) (collected s.unanswered f r) (poll_heard f.pid r)) t (Some x) (ds ++ x ∷ []) made (given_heard base s d (collected s.unanswered f r) ds (poll_heard f.pid r) st next.0.2 may)
     ])
 
 declines : (base : List Collected) (s : DeviceState) (d : Device) (ds : List Item) (f : Frame) (r : Response) (bs : List (List ℕ)) → Stands base s d.last ds
     → IsNext s d (Polled (Declines f r) bs) → Stands base (after s (Polled (Declines f r) bs)) d.last ds
 declines base s d ds f r bs st next =
     let P : Bool → Type 0 = λ v. MayDecline v d.last (poll_heard f.pid r) in
-    let may : MayDecline s.unanswered d.last (poll_heard f.pid r) = subst P (asks s) next.0.2 in
+    let may : MayDecline s.unanswered d.last (poll_heard f.pid r) = subst P (asks s) next.0.3 in
     let t : DeviceState = fold after_hearing (after_poll s) bs in
-    elim (reply_or_noise s f r next.0.0 bs next.1) [
+    elim (reply_or_noise s f r next.0.0 next.0.1 bs next.1) [
       | inl same ↦ at_state base (after_poll s) t d.last ds same (unheard base s d.last ds st)
-      | inr made ↦ at_state base (after_answer (after_poll s) (collected s.unanswered f r) (poll_heard f.pid r)) t d.last ds made (declined base s d.last ds (collected s.unanswered f r) (poll_heard f.pid r) st next.0.1 may)
+      | inr made ↦ at_state base (after_answer (after_poll s) (collected s.unanswered f r) (poll_heard f.pid r)) t d.last ds made (declined base s d.last ds (collected s.unanswered f r) (poll_heard f.pid r) st next.0.2 may)
     ]
 
 happens : (base : List Collected) (s : DeviceState) (d : Device) (ds : List Item) (e : Event) → Stands base s d.last ds → IsNext s d e
@@ -172,5 +172,5 @@ asks_for_next s c heard.Reply no = refl
 asks_for_next s c heard.Ignored no = refl
 
 pub go_on : AnswersGoOn
-go_on s f r is no =
-    ap (λ (t : DeviceState). poll_of t) (heard_reply s f r is) ∙ asks_for_next s (collected s.unanswered f r) (poll_heard f.pid r) no
+go_on s f r fits is no =
+    ap (λ (t : DeviceState). poll_of t) (heard_reply s f r fits is) ∙ asks_for_next s (collected s.unanswered f r) (poll_heard f.pid r) no

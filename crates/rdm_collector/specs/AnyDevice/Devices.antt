@@ -4,12 +4,12 @@ use Rattle.std.specs.Prelude.{◌≡◌, ◌⊎◌, ℕ, ◌==◌, Bool, true, f
 use Rattle.std.specs.List.{All, flat_map}
 use Rattle.rdm_frame.specs.declared.frame.Frame.{Frame}
 use Rattle.rdm_frame.specs.FrameText.{frame_text, IsFrame}
+use Rattle.rdm_frame.specs.Reading.{frame_in}
 use Rattle.rdm_collector.specs.declared.command.Command.{Command}
 use Rattle.rdm_collector.specs.declared.reply.Response.{Response}
 use Rattle.rdm_collector.specs.declared.any_device.heard.DeviceHeard.{DeviceHeard}
 use Rattle.rdm_collector.specs.declared.any_device.heard.DeviceHeard.TheVariants.{Message, Part, NotYet}
 use Rattle.rdm_collector.specs.Collecting.{refusal_of, poll_request}
-use Rattle.rdm_collector.specs.Hearing.{IsAnswer}
 use Rattle.rdm_collector.specs.Replies.{response_in}
 use Rattle.rdm_collector.specs.AnyDevice.Answers.{poll_heard}
 use Rattle.rdm_collector.specs.AnyDevice.Collecting.{DeviceState, sender, after_ask, after_poll, after_over, after_hearing}
@@ -34,9 +34,8 @@ abbrev pub asks_again : Frame → Bool
 asks_again request = slice_index request.body 0 == 0x01
 
 -- The frame replies to the request: it has its number, and goes from its destination to its source, as the response to a GET or
--- a SET. Section 6.2.
+-- a SET, of this response type. Sections 6.2 and 6.3.
 pub record IsReplyTo (request f : Frame) (r : Response) : Type 0 where
-  pub is_frame : IsFrame f
   pub source : f.src ≡ request.dst
   pub destination : f.dst ≡ request.src
   pub number : f.tn ≡ request.tn
@@ -65,9 +64,9 @@ MayDecline again last _ = again ≡ true → last ≡ None
 abbrev pub IsReply : Device → Frame → Reply → Type 0
 IsReply d request Silence = Unit {0}
 IsReply d request (Gives f r) =
-    IsReplyTo request f r × (is_kept (poll_heard f.pid r) ≡ true) × MayGive (asks_again request) d.last d.waiting (item_in f r)
+    IsFrame f × IsReplyTo request f r × (is_kept (poll_heard f.pid r) ≡ true) × MayGive (asks_again request) d.last d.waiting (item_in f r)
 IsReply d request (Declines f r) =
-    IsReplyTo request f r × (is_kept (poll_heard f.pid r) ≡ false) × MayDecline (asks_again request) d.last (poll_heard f.pid r)
+    IsFrame f × IsReplyTo request f r × (is_kept (poll_heard f.pid r) ≡ false) × MayDecline (asks_again request) d.last (poll_heard f.pid r)
 
 -- what it gives becomes the last message, and the next one leaves the queue unless the last was asked for
 abbrev pub after_giving : Bool → Device → Item → Device
@@ -88,10 +87,10 @@ pub data Event : Type 0 where
   Asked : Command → (heard : List (List ℕ)) → Event
   Polled : Reply → (heard : List (List ℕ)) → Event
 
--- The bytes answer no such request: they are no frame, as when one was altered, or one of another device, for another
--- controller, or with another number, as an answer that comes too late.
+-- The bytes reply to no such request: they are no frame, as when one was altered; or they are one of another device, for another
+-- controller, or with another number, as an answer that comes too late; or they are no response.
 abbrev pub IsNoise : Frame → List ℕ → Type 0
-IsNoise request bytes = (f : Frame) → ¬ IsAnswer request.dst request.src request.tn bytes f
+IsNoise request bytes = (f : Frame) (r : Response) → frame_in bytes ≡ Some f → ¬ IsReplyTo request f r
 
 -- After a poll the collector hears the reply or noise.
 abbrev pub MayHear : Frame → Reply → List ℕ → Type 0

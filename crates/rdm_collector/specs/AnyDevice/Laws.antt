@@ -1,7 +1,7 @@
 -- What a collector for any device records of what the device said. E1.20 sections 6.3 and 10.3.1.
 use Rattle.std.specs.Prelude.{◌≡◌, ◌≢◌, ℕ, ◌+◌, ◌%◌, Bool, false, List, [], ◌∷◌, ◌++◌, map}
 use Rattle.rdm_frame.specs.declared.frame.Frame.{Frame}
-use Rattle.rdm_frame.specs.FrameText.{frame_text}
+use Rattle.rdm_frame.specs.FrameText.{frame_text, IsFrame}
 use Rattle.rdm_collector.specs.declared.reply.Response.{Response}
 use Rattle.rdm_collector.specs.declared.any_device.heard.DeviceHeard.TheVariants.{NotYet}
 use Rattle.rdm_collector.specs.declared.any_device.collected.Collected.{Collected}
@@ -27,7 +27,8 @@ AnyDeviceIsRecorded = (s : DeviceState) (d : Device) (events : List Event) → I
 -- poll asks for the next message. Only after ACK_TIMER of QUEUED_MESSAGE itself it asks for the same once more.
 abbrev pub AnswersGoOn : Type 0
 AnswersGoOn =
-    (s : DeviceState) (f : Frame) (r : Response) → IsReplyTo (poll_of s) f r → ((tenths : ℕ) → poll_heard f.pid r ≢ NotYet tenths)
+    (s : DeviceState) (f : Frame) (r : Response) → IsFrame f → IsReplyTo (poll_of s) f r
+    → ((tenths : ℕ) → poll_heard f.pid r ≢ NotYet tenths)
     → poll_of (after_hearing (after_poll s) (frame_text f)) ≡ request_of s.uid ((s.tn + 1) % 256) (queued_message s.target (type_of s.want))
 
 -- What the prefix law rules out, of any two messages that don't say the same.
