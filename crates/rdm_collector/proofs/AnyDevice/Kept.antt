@@ -10,7 +10,7 @@ use Rattle.rdm_collector.specs.AnyDevice.Joining.{ends_with, and_then, join, Pre
 use Rattle.rdm_collector.proofs.AnyDevice.Joining.{and_then_old, and_then_new, and_then-and_then, join-push}
 
 -- one list is the other, or lacks what was said last at its end
-abbrev IsBehind : Option Item → List Item → List Item → Type 0
+abbrev pub IsBehind : Option Item → List Item → List Item → Type 0
 IsBehind last js ks = (js ≡ ks) ⊎ ((x : Item) × (last ≡ Some x) × (and_then same_item js x ≡ ks))
 
 pub record Kept (u : Bool) (last : Option Item) (d r : List Item) : Type 0 where
