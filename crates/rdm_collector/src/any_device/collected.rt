@@ -22,7 +22,7 @@ pub struct Collected {
 }
 
 /// What is recorded of an answer to a poll, of this response type.
-pub(crate) fn collected(again: bool, frame: &FrameView<'_>, response: Response) -> Collected
+pub(crate) fn record_of(again: bool, frame: &FrameView<'_>, response: Response) -> Collected
     ensures { result ≡ collected again frame.now response }
 {
     Collected {

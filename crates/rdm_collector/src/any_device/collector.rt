@@ -6,7 +6,7 @@ ghost use Rattle.rdm_frame.specs.FrameText.{frame_text, IsFrame};
 ghost use Rattle.rdm_collector.specs.Collecting.{refusal_of, poll_request, command_request};
 ghost use Rattle.rdm_collector.specs.AnyDevice.Collecting.{new_device_collector, sender, after_ask, after_poll, after_over, heard_in, after_hearing};
 
-use crate::any_device::collected::{Collected, collected};
+use crate::any_device::collected::{Collected, record_of};
 use crate::any_device::heard::{DeviceHeard, Taken, poll_heard, taken_for};
 use crate::collector::{AskError, PollError};
 use crate::command::{Command, class_of, is_reserved, queued_message, request_of};
@@ -162,7 +162,7 @@ impl DeviceCollector {
         match heard {
             DeviceHeard::Message | DeviceHeard::Part => {
                 self.recorded
-                    .push_reserved(collected(self.again, &frame, response));
+                    .push_reserved(record_of(self.again, &frame, response));
                 self.unanswered = false;
             }
             DeviceHeard::NotYet { .. } => self.unanswered = self.again,

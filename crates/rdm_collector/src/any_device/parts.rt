@@ -28,20 +28,20 @@ pub fn first_message(recorded: &[Collected]) -> Option<&[Collected]>
     Some(items)
 }
 
-/// Replaces `data` by those of a message that `first_message` gave: the data of its parts, one behind the other, at most 231
+/// Replaces `bytes` by the data of a message that `first_message` gave: those of its parts, one behind the other, at most 231
 /// bytes for each. A part that was asked for again and says the same as the one before it is taken for a repeat, and left out.
 ///
-/// It fails if there is no memory for them, and then `data` is empty.
-pub fn join_data(items: &[Collected], data: &mut Vec<u8>) -> Result<(), AllocError>
-    ensures ok { OnOk result (data.new.items ≡ joined_data items.now) }
-    ensures err { OnErr result (data.new.items ≡ []) }
+/// It fails if there is no memory for them, and then `bytes` is empty.
+pub fn join_data(items: &[Collected], bytes: &mut Vec<u8>) -> Result<(), AllocError>
+    ensures ok { OnOk result (bytes.new.items ≡ joined_data items.now) }
+    ensures err { OnErr result (bytes.new.items ≡ []) }
 {
-    data.clear();
+    bytes.clear();
     let Some((first, others)) = items.split_first() else {
         return Ok(());
     };
-    if let Err(error) = append_data(first, others, data) {
-        data.clear();
+    if let Err(error) = append_data(first, others, bytes) {
+        bytes.clear();
         return Err(error);
     }
     Ok(())
@@ -51,15 +51,15 @@ pub fn join_data(items: &[Collected], data: &mut Vec<u8>) -> Result<(), AllocErr
 fn append_data(
     first: &Collected,
     others: &[Collected],
-    data: &mut Vec<u8>,
+    bytes: &mut Vec<u8>,
 ) -> Result<(), AllocError>
-    ensures { OnOk result (data.new.items ≡ data.old.items ++ (first.now.message.body ++ data_behind first.now others.now)) }
+    ensures { OnOk result (bytes.new.items ≡ bytes.old.items ++ (first.now.message.body ++ data_behind first.now others.now)) }
 {
-    data.extend_from_slice(first.message.body.as_slice())?;
+    bytes.extend_from_slice(first.message.body.as_slice())?;
     let mut before = first;
     for item in others {
         if !is_repeat(before, item) {
-            data.extend_from_slice(item.message.body.as_slice())?;
+            bytes.extend_from_slice(item.message.body.as_slice())?;
         }
         before = item;
     }

@@ -5,4 +5,4 @@ use Rattle.rdm_collector.proofs.any_device.parts.append_data.Given as goal
 -- with the data of what is left, all are there
 abbrev pub invariant-loop-item : goal.invariant-loop-item
 invariant-loop-item l =
-    l.data.items ++ data_behind l.before (drop l.item-index l.others) ≡ l.fn.data.items ++ (l.fn.first.message.body ++ data_behind l.fn.first l.others)
+    l.bytes.items ++ data_behind l.before (drop l.item-index l.others) ≡ l.fn.bytes.items ++ (l.fn.first.message.body ++ data_behind l.fn.first l.others)
