@@ -27,11 +27,11 @@ use Rattle.rdm_collector.proofs.ReadBack.{read_as_itself}
 
 noise_at : (s : DeviceState) (f : Frame) (a b c : Bool) (o : Option Response) → ((r : Response) → a ≡ true → b ≡ true → c ≡ true → o ≡ Some r → ⊥)
     → cond a (after_taken (after_poll s) f (option_map_or (λ r. Answer r) (cond (b && c) o None) Nothing)) (after_poll s) ≡ after_poll s
-noise_at s f false b c o no = refl
-noise_at s f true false c o no = refl
-noise_at s f true true false o no = refl
-noise_at s f true true true None no = refl
-noise_at s f true true true (Some r) no = absurd (no r refl refl refl refl)
+noise_at s f false b c o never = refl
+noise_at s f true false c o never = refl
+noise_at s f true true false o never = refl
+noise_at s f true true true None never = refl
+noise_at s f true true true (Some r) never = absurd (never r refl refl refl refl)
 
 class_from : (f : Frame) → ((f.class == 0x21) || (f.class == 0x31)) ≡ true → (f.class ≡ 0x21) ⊎ (f.class ≡ 0x31)
 class_from f e =

@@ -163,14 +163,14 @@ recorded s d es run =
 
 asks_for_next : (s : DeviceState) (c : Collected) (h : DeviceHeard) → ((tenths : ℕ) → h ≢ heard.NotYet tenths)
     → poll_of (after_answer (after_poll s) c h) ≡ request_of s.uid ((s.tn + 1) % 256) (queued_message s.target (type_of s.want))
-asks_for_next s c heard.Message no = refl
-asks_for_next s c heard.Part no = refl
-asks_for_next s c heard.Unsupported no = refl
-asks_for_next s c (heard.Refused reason) no = refl
-asks_for_next s c (heard.NotYet tenths) no = absurd (no tenths refl)
-asks_for_next s c heard.Reply no = refl
-asks_for_next s c heard.Ignored no = refl
+asks_for_next s c heard.Message never = refl
+asks_for_next s c heard.Part never = refl
+asks_for_next s c heard.Unsupported never = refl
+asks_for_next s c (heard.Refused reason) never = refl
+asks_for_next s c (heard.NotYet tenths) never = absurd (never tenths refl)
+asks_for_next s c heard.Reply never = refl
+asks_for_next s c heard.Ignored never = refl
 
 pub go_on : AnswersGoOn
-go_on s f r fits is no =
-    ap (λ (t : DeviceState). poll_of t) (heard_reply s f r fits is) ∙ asks_for_next s (collected s.unanswered f r) (poll_heard f.pid r) no
+go_on s f r fits is never =
+    ap (λ (t : DeviceState). poll_of t) (heard_reply s f r fits is) ∙ asks_for_next s (collected s.unanswered f r) (poll_heard f.pid r) never

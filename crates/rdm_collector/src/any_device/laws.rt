@@ -5,6 +5,8 @@ ghost use Rattle.rdm_collector.specs.AnyDevice.Laws.{AnyDeviceIsRecorded, Answer
 
 use crate::any_device::collected::Collected;
 use crate::any_device::heard::DeviceHeard;
+use crate::laws::responses_are_equal_by_value;
+use rdm_params::messages_are_equal_by_value;
 
 /// Against any device that keeps a queue and a last message, whatever response types its replies have, what was recorded, with
 /// equal neighbours joined, is what the device dispensed, joined likewise, but for one message at most. Nothing is missing if
@@ -35,4 +37,7 @@ pub fn device_heards_are_equal_by_value()
 /// Two collected messages are equal by `==` exactly when each of their fields is.
 pub fn collecteds_are_equal_by_value()
     ensures { (a b : Collected) → IsTrue (⟦<Collected as PartialEq>⟧.eq a b) ↔ (a ≡ b) }
-{}
+{
+    messages_are_equal_by_value();
+    responses_are_equal_by_value();
+}
