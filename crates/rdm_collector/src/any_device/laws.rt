@@ -18,7 +18,6 @@ pub fn any_device_is_recorded()
 
 /// Any reply to a poll that is heard in its transaction answers the poll: the next one asks for the next message, also after a
 /// NACK. Only after ACK_TIMER of QUEUED_MESSAGE itself it asks once more for what the poll asked for.
-#[tactic(auto, using(crate::proofs::AnyDevice::Runs::go_on))]
 pub fn any_device_answers_go_on()
     ensures { AnswersGoOn }
 {}
