@@ -1,7 +1,6 @@
 -- The parts of a message that doesn't fit one response, and their data joined. E1.20 section 6.3.2.
-use Rattle.std.specs.Prelude.{◌≡◌, ℕ, ◌-◌, ◌<◌, Bool, true, false, ◌&&◌, ◌||◌, ◌==◌, if◌then◌else◌, List, [], ◌∷◌, ◌++◌, length, slice_get}
+use Rattle.std.specs.Prelude.{ℕ, ◌+◌, ◌-◌, nat_lt, Bool, false, not, ◌&&◌, ◌||◌, ◌==◌, if◌then◌else◌, List, [], ◌∷◌, ◌++◌, length, slice_get}
 use Rattle.std.specs.Option.{option_map_or}
-use Rattle.std.specs.List.{AllAdjacentBelow, IsChunkByPrefix}
 use Rattle.rdm_params.specs.declared.jobs.message.Message.{Message}
 use Rattle.rdm_collector.specs.declared.reply.Response.{Response}
 use Rattle.rdm_collector.specs.declared.any_device.collected.Collected.{Collected}
@@ -23,29 +22,24 @@ is_repeat before c = c.again && same_item (item_of before) (item_of c)
 abbrev pub goes_on : Collected → Collected → Bool
 goes_on before c = is_repeat before c || (is_part before.response && same_parameter before.message c.message)
 
-abbrev pub GoesOn : Collected → Collected → Type 0
-GoesOn before c = goes_on before c ≡ true
+-- how many of those behind go on, one after the other
+abbrev pub run_behind : Collected → List Collected → ℕ
+run_behind before [] = 0
+run_behind before (c ∷ cs) = if goes_on before c then 1 + run_behind c cs else 0
+
+-- How many of what was recorded make up the first message, as far as it came: its parts and its repeats.
+abbrev pub first_run : List Collected → ℕ
+first_run [] = 0
+first_run (c ∷ cs) = 1 + run_behind c cs
 
 -- the last of what was recorded is a part
 abbrev pub ends_in_part : List Collected → Bool
 ends_in_part cs = option_map_or (λ (c : Collected). is_part c.response) (slice_get cs (length cs - 1)) false
 
--- These are the first of what was recorded, as far as they go on.
-pub record AreFirst (recorded items : List Collected) : Type 0 where
-  pub some : 0 < length items
-  pub rest : List Collected
-  pub front : recorded ≡ items ++ rest
-  pub run : IsChunkByPrefix goes_on recorded (length items)
-
--- They are the first message, and it is whole, or won't go on: something else follows its last part.
-pub record IsFirstMessage (recorded items : List Collected) : Type 0 where
-  pub first : AreFirst recorded items
-  pub whole : length items ≡ length recorded → ends_in_part recorded ≡ false
-
--- There is none: nothing was recorded, or the parts of one message alone, which goes on.
-pub record NoneIsWhole (recorded : List Collected) : Type 0 where
-  pub run : AllAdjacentBelow GoesOn recorded (length recorded)
-  pub part : 0 < length recorded → ends_in_part recorded ≡ true
+-- The first message is whole, or won't go on, since something else follows its last part. It is not if all that was recorded is
+-- the parts of one message, the last of which says that more follows.
+abbrev pub has_whole : List Collected → Bool
+has_whole cs = nat_lt 0 (length cs) && not ((first_run cs == length cs) && ends_in_part cs)
 
 -- the data of what follows this, the repeats left out
 abbrev pub data_behind : Collected → List Collected → List ℕ

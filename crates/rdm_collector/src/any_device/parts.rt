@@ -1,8 +1,8 @@
 //! The parts of a message that doesn't fit one response, and their data joined (E1.20 section 6.3.2).
 
-ghost use Rattle.std.specs.Prelude.{◌≡◌, ◌++◌, [], IfSome, IsNone, OnOk, OnErr};
+ghost use Rattle.std.specs.Prelude.{◌≡◌, ◌≤◌, ◌++◌, [], length, take, is_some, IfSome, OnOk, OnErr};
 ghost use Rattle.rdm_collector.specs.AnyDevice.Items.{item_of, same_item, type_code};
-ghost use Rattle.rdm_collector.specs.AnyDevice.Parts.{is_part, same_parameter, is_repeat, goes_on, ends_in_part, data_behind, joined_data, IsFirstMessage, NoneIsWhole};
+ghost use Rattle.rdm_collector.specs.AnyDevice.Parts.{is_part, same_parameter, is_repeat, goes_on, run_behind, first_run, ends_in_part, has_whole, data_behind, joined_data};
 
 use crate::any_device::collected::Collected;
 use crate::reply::Response;
@@ -16,16 +16,40 @@ use std::alloc::AllocError;
 /// Parts are of one message as long as the next that was recorded is of the same command class, parameter and sub-device. If
 /// something else follows a part, the rest won't come, and what came is given: its last is then an ACK_OVERFLOW.
 pub fn first_message(recorded: &[Collected]) -> Option<&[Collected]>
-    ensures some { IfSome result (λ items. IsFirstMessage recorded.now items.now) }
-    ensures none { IsNone result → NoneIsWhole recorded.now }
+    ensures items { IfSome result (λ items. items.now ≡ take (first_run recorded.now) recorded.now) }
+    ensures whole { is_some result ≡ has_whole recorded.now }
 {
-    let items = recorded
-        .chunk_by(|before, item| goes_on(before, item))
-        .next()?;
-    if items.len() == recorded.len() && ends_in_part(recorded) {
+    let count = first_run(recorded);
+    if recorded.is_empty() || (count == recorded.len() && ends_in_part(recorded)) {
         return None;
     }
-    Some(items)
+    Some(&recorded[..count])
+}
+
+/// How many of what was recorded make up the first message, as far as it came.
+fn first_run(recorded: &[Collected]) -> usize
+    ensures count { result ≡ first_run recorded.now }
+    ensures within { result ≤ length recorded.now }
+{
+    match recorded.split_first() {
+        Some((first, others)) => run_behind(first, others) + 1,
+        None => 0,
+    }
+}
+
+/// How many of those behind go on, one after the other.
+fn run_behind(first: &Collected, others: &[Collected]) -> usize
+    ensures count { result ≡ run_behind first.now others.now }
+    ensures within { result ≤ length others.now }
+{
+    let mut before = first;
+    for (index, item) in others.iter().enumerate() {
+        if !goes_on(before, item) {
+            return index;
+        }
+        before = item;
+    }
+    others.len()
 }
 
 /// Replaces `bytes` by the data of a message that `first_message` gave: those of its parts, one behind the other, at most 231
