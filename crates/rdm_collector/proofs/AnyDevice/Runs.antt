@@ -80,7 +80,7 @@ given_heard : (base : List Collected) (s : DeviceState) (d : Device) (c : Collec
 given_heard base s d c ds h (cs, is, k) kept may =
     let P : List Item → Type 0 = λ xs. Kept false (Some (item_of c)) (ds ++ item_of c ∷ []) xs in
     let now : Kept false (Some (item_of c)) (ds ++ item_of c ∷ []) (map item_of (cs ++ c ∷ [])) =
-        subst P (sym (map-append item_of cs (c ∷ []))) (Kept-given s.unanswered d.last d.waiting (item_of c) ds (map item_of cs) k may) in
+    subst P (sym (map-append item_of cs (c ∷ []))) (Kept-given s.unanswered d.last d.waiting (item_of c) ds (map item_of cs) k may) in
     at_state base (record (after_over (after_poll s)) { unanswered = false; recorded = s.recorded ++ c ∷ [] }) (after_answer (after_poll s) c h) (Some (item_of c)) (ds ++ item_of c ∷ [])
     (kept_answer (after_poll s) c h kept)
     (cs ++ c ∷ [], ap (λ (xs : List Collected). xs ++ c ∷ []) is ∙ append_assoc base cs (c ∷ []), now)

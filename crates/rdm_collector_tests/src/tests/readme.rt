@@ -65,10 +65,7 @@ struct Port {
 impl Port {
     /// Sends a request, which must be the next of the traffic.
     fn send(&mut self, bytes: &[u8]) -> Result<(), Fail> {
-        let (expected, _) = self
-            .traffic
-            .get(self.sent)
-            .ok_or("no request is expected")?;
+        let (expected, _) = self.traffic.get(self.sent).ok_or("no request is expected")?;
         let text = hex::encode_upper(self.alloc, bytes)?;
         (text.as_str() == *expected)
             .then_some(())
