@@ -294,8 +294,9 @@ fn a_rejected_poll_is_answered(rt: HostRuntime) {
 #[test]
 fn parts_are_joined(rt: HostRuntime) -> Result<(), Fail> {
     let mut data = Vec::new(rt.alloc());
+    let begun = played(&rt, rt.alloc(), &PARTS[..3]);
+    assert!(rt; first_message(begun.recorded()).is_none());
     let mut collector = played(&rt, rt.alloc(), &PARTS);
-    assert!(rt; first_message(&collector.recorded()[..3]).is_none());
     let items = first_message(collector.recorded()).ok_or("a message")?;
     join_data(items, &mut data)?;
     assert_eq!(rt;

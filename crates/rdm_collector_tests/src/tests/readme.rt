@@ -56,13 +56,13 @@ const COLLECTED: [(Response, &[u8]); 2] = [
 
 /// A port on which this traffic is expected.
 #[derive(Drop)]
-struct Port {
+struct Port<'a> {
     alloc: Global,
-    traffic: &'static [Exchange],
+    traffic: &'a [Exchange],
     sent: usize,
 }
 
-impl Port {
+impl Port<'_> {
     /// Sends a request, which must be the next of the traffic.
     fn send(&mut self, bytes: &[u8]) -> Result<(), Fail> {
         let (expected, _) = self.traffic.get(self.sent).ok_or("no request is expected")?;
