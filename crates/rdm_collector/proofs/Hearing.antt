@@ -63,7 +63,7 @@ module _ (device controller : Uid) (n : ℕ) (bytes : List ℕ) (P : Frame → T
   unread : frame_in bytes ≡ None → ¬ Answered device controller n bytes P
   unread e (g, answer, p) = none_is_frame g (sym e ∙ answer.text)
 
-from_both : (f : Frame) (device controller : Uid) → Decides (same_uid f.src device && same_uid f.dst controller) ((f.src ≡ device) × (f.dst ≡ controller))
+pub from_both : (f : Frame) (device controller : Uid) → Decides (same_uid f.src device && same_uid f.dst controller) ((f.src ≡ device) × (f.dst ≡ controller))
 from_both f device controller = Decides-and _ _ (uid_decides f.src device) (uid_decides f.dst controller)
 
 message_decides : (n : ℕ) (f : Frame) → Decides (is_message n f) ((f.tn ≡ n) × IsAcknowledgement f)

@@ -1,3 +1,4 @@
+pub mod AnyDevice
 pub mod Hearing
 pub mod Joining
 pub mod Kept

@@ -5,3 +5,4 @@ pub mod Hearing
 pub mod Recording
 pub mod Polling
 pub mod Replies
+pub mod AnyDevice

@@ -7,8 +7,12 @@
 //! `read_reply` reads what a response says.
 //! `specs/Collecting.antt` says what each call does, `specs/Hearing.antt` what is taken for an answer, and
 //! `specs/Recording.antt` what the record then holds.
+//!
+//! A `DeviceCollector` does the same for any device, also for one that answers polls by NACK, ACK_TIMER or ACK_OVERFLOW:
+//! `specs/AnyDevice/` has its definitions and its laws.
 #![tactic(auto)]
 
+mod any_device;
 mod collector;
 mod command;
 mod laws;
@@ -18,6 +22,11 @@ mod reply;
 mod transaction;
 mod want;
 
+pub use any_device::{
+    Collected, DeviceCollector, DeviceHeard, any_device_answers_go_on, any_device_is_recorded,
+    any_device_law_rules_out, collecteds_are_equal_by_value, device_heards_are_equal_by_value,
+    first_message, join_data,
+};
 pub use collector::{AskError, Collector, PollError};
 pub use command::{Action, Command, is_reserved};
 pub use laws::{

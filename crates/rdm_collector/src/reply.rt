@@ -101,7 +101,7 @@ fn is_response(class: u8) -> bool
 }
 
 /// How a request is answered by this response type with these data.
-fn response_in(response_type: u8, body: &[u8]) -> Option<Response>
+pub(crate) fn response_in(response_type: u8, body: &[u8]) -> Option<Response>
     ensures { result ≡ response_in response_type body.now }
 {
     match (response_type, body) {

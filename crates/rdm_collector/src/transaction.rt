@@ -68,7 +68,7 @@ fn is_message(tn: u8, frame: &FrameView<'_>) -> bool
 
 /// Whether a frame is the reply to a command with this transaction number, command class, sub-device and parameter
 /// ID.
-fn is_reply(tn: u8, class: u8, sub: u16, pid: u16, frame: &FrameView<'_>) -> bool
+pub(crate) fn is_reply(tn: u8, class: u8, sub: u16, pid: u16, frame: &FrameView<'_>) -> bool
     ensures { result ≡ is_reply tn class sub pid frame.now }
 {
     frame.tn == tn

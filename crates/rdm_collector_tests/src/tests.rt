@@ -2,6 +2,7 @@
 //!
 //! The device is 7FF0:00000001, the controller 7FF0:00000002, and what it wants is advisory.
 
+mod any_device;
 mod readme;
 mod replies;
 mod words;

@@ -1,7 +1,10 @@
-//! The console of docs/CONSOLES.md, as its text has it. What is sent was worked out by hand.
+//! The consoles of docs/CONSOLES.md, as its text has them. What is sent was worked out by hand.
 
 use super::{CONTROLLER as CONSOLE, DEVICE as FIXTURE, command};
-use rdm_collector::{Action, Collector, Heard, Want};
+use rdm_collector::{
+    Action, Collector, DeviceCollector, DeviceHeard, Heard, Response, Want, first_message,
+    join_data,
+};
 use std::alloc::Global;
 use std::test::Fail;
 
@@ -24,17 +27,45 @@ const TRAFFIC: [Exchange; 3] = [
     ),
 ];
 
+/// The NACK of SET LAMP_STATE comes when it is polled for, with the reason of a hardware fault. The supported parameters come in
+/// two parts, and the second is lost at first.
+const OTHER_TRAFFIC: [Exchange; 4] = [
+    (
+        "CC01197FF0000000017FF00000000200010000002000200102040B",
+        Some("CC011A7FF0000000027FF00000000100020000003104030200020406"),
+    ),
+    (
+        "CC01197FF0000000017FF00000000201010000002000200102040C",
+        Some("CC011C7FF0000000027FF000000001010300000021005004006000800523"),
+    ),
+    (
+        "CC01197FF0000000017FF00000000202010000002000200102040D",
+        None,
+    ),
+    (
+        "CC01197FF0000000017FF00000000203010000002000200101040D",
+        Some("CC011A7FF0000000027FF00000000103000000002100500200F0052E"),
+    ),
+];
+
+/// What it collects: the response type of each message, and its data.
+const COLLECTED: [(Response, &[u8]); 2] = [
+    (Response::Nack { reason: 2 }, &[0x00, 0x02]),
+    (Response::Ack, &[0x00, 0x60, 0x00, 0x80, 0x00, 0xF0]),
+];
+
 /// A port on which this traffic is expected.
 #[derive(Drop)]
-struct Port {
+struct Port<'a> {
     alloc: Global,
+    traffic: &'a [Exchange],
     sent: usize,
 }
 
-impl Port {
+impl Port<'_> {
     /// Sends a request, which must be the next of the traffic.
     fn send(&mut self, bytes: &[u8]) -> Result<(), Fail> {
-        let (expected, _) = TRAFFIC.get(self.sent).ok_or("no request is expected")?;
+        let (expected, _) = self.traffic.get(self.sent).ok_or("no request is expected")?;
         let text = hex::encode_upper(self.alloc, bytes)?;
         (text.as_str() == *expected)
             .then_some(())
@@ -45,7 +76,8 @@ impl Port {
 
     /// The reply to the last request, if one comes in time.
     fn receive(&self) -> Result<Option<Vec<u8>>, Fail> {
-        let (_, reply) = TRAFFIC
+        let (_, reply) = self
+            .traffic
             .get(self.sent.saturating_sub(1))
             .ok_or("no reply is expected")?;
         match reply {
@@ -59,6 +91,7 @@ impl Port {
 fn a_console_collects_over_its_own_port(rt: HostRuntime) -> Result<(), Fail> {
     let mut port = Port {
         alloc: rt.alloc(),
+        traffic: &TRAFFIC,
         sent: 0,
     };
     let set_lamp_on = command(&rt, Action::Set, 0x0403, &[1]);
@@ -86,5 +119,38 @@ fn a_console_collects_over_its_own_port(rt: HostRuntime) -> Result<(), Fail> {
         assert_eq!(rt; said, (0x31, 0x0403, 0));
     }
     assert_eq!(rt; console.recorded().len(), 1);
+    Ok(())
+}
+
+#[test]
+fn a_console_collects_from_any_device(rt: HostRuntime) -> Result<(), Fail> {
+    let mut port = Port {
+        alloc: rt.alloc(),
+        traffic: &OTHER_TRAFFIC,
+        sent: 0,
+    };
+    let mut console = DeviceCollector::new(rt.alloc(), CONSOLE, FIXTURE, Want::Advisory);
+    // Four polls. The first is answered by a NACK that waited in the queue, the second by a part of a message, the third is lost.
+    for _ in 0..4 {
+        let request = console.poll()?;
+        port.send(request.as_slice())?;
+        if let Some(bytes) = port.receive()? {
+            let heard = console.hear(&bytes);
+            assert!(rt; heard == DeviceHeard::Message || heard == DeviceHeard::Part);
+        }
+        console.over();
+    }
+    // What was collected, a message at a time: its response type, and the data of all its parts.
+    let mut data = Vec::new(rt.alloc());
+    for (response, bytes) in COLLECTED {
+        let items = first_message(console.recorded()).ok_or("no message")?;
+        join_data(items, &mut data)?;
+        let last = items.last().ok_or("no message")?;
+        assert_eq!(rt; last.response, response);
+        assert_eq!(rt; data.as_slice(), bytes);
+        let count = items.len();
+        console.forget(count);
+    }
+    assert!(rt; console.recorded().is_empty());
     Ok(())
 }

@@ -1,0 +1,5 @@
+pub mod Hearing
+pub mod Joining
+pub mod Kept
+pub mod Parts
+pub mod Runs

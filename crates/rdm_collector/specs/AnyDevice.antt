@@ -1,0 +1,7 @@
+pub mod Answers
+pub mod Collecting
+pub mod Devices
+pub mod Items
+pub mod Joining
+pub mod Laws
+pub mod Parts

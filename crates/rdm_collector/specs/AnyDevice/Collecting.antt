@@ -1,0 +1,102 @@
+-- A collector for any device: what it sends, what it takes the answers for, and what it records. It sends what a collector of
+-- `Collecting` sends that stands where it does. E1.20 sections 6.2, 6.3 and 10.3.1.
+use Rattle.std.specs.Prelude.{ℕ, ◌+◌, ◌%◌, Bool, true, false, ◌&&◌, if◌then◌else◌, List, [], ◌∷◌, ◌++◌, Option, Some, None}
+use Rattle.std.specs.Option.{option_map_or}
+use Rattle.rdm_frame.specs.declared.uid.Uid.{Uid}
+use Rattle.rdm_frame.specs.declared.frame.Frame.{Frame}
+use Rattle.rdm_frame.specs.Addressing.{same_uid}
+use Rattle.rdm_frame.specs.Reading.{frame_in}
+use Rattle.rdm_collector.specs.declared.command.Command.{Command}
+use Rattle.rdm_collector.specs.declared.want.Want.{Want}
+use Rattle.rdm_collector.specs.declared.transaction.Transaction.{Transaction}
+use Rattle.rdm_collector.specs.declared.transaction.Transaction.TheVariants as transaction
+use Rattle.rdm_collector.specs.declared.reply.Response.{Response}
+use Rattle.rdm_collector.specs.declared.any_device.heard.DeviceHeard.{DeviceHeard}
+use Rattle.rdm_collector.specs.declared.any_device.heard.DeviceHeard.TheVariants as heard
+use Rattle.rdm_collector.specs.declared.any_device.heard.Taken.{Taken}
+use Rattle.rdm_collector.specs.declared.any_device.heard.Taken.TheVariants as taken
+use Rattle.rdm_collector.specs.declared.any_device.collected.Collected.{Collected}
+use Rattle.rdm_collector.specs.Answers.{message_of}
+use Rattle.rdm_collector.specs.Requests.{class_of}
+use Rattle.rdm_collector.specs.Collecting.{State}
+use Rattle.rdm_collector.specs.AnyDevice.Answers.{taken_for, poll_heard}
+
+-- What a contract sees of a collector for any device: its UID and that of the device, what it wants, the number of its next
+-- transaction, and the open one; whether the last poll asked for the last message again, and whether the next one will, since
+-- the last has no answer; and what was recorded.
+pub record DeviceState : Type 0 where
+  pub uid : Uid
+  pub target : Uid
+  pub want : Want
+  pub tn : ℕ
+  pub transaction : Option Transaction
+  pub again : Bool
+  pub unanswered : Bool
+  pub recorded : List Collected
+
+-- nothing was sent yet
+abbrev pub new_device_collector : Uid → Uid → Want → DeviceState
+new_device_collector uid target want =
+    record { uid = uid; target = target; want = want; tn = 0; transaction = None; again = false; unanswered = false; recorded = [] }
+
+-- The collector of `Collecting` that stands there. What is sent, and why a command isn't, is what it says.
+abbrev pub sender : DeviceState → State
+sender s =
+    record { uid = s.uid; target = s.target; want = s.want; tn = s.tn; transaction = s.transaction; unanswered = s.unanswered; recorded = [] }
+
+-- a command is sent
+abbrev pub after_ask : DeviceState → Command → DeviceState
+after_ask s c =
+    record s { tn = (s.tn + 1) % 256; transaction = Some (transaction.Command s.tn (class_of c.action) c.sub c.pid) }
+
+-- A poll is sent. It asks for the last message again if the poll before it has no answer.
+abbrev pub after_poll : DeviceState → DeviceState
+after_poll s =
+    record s { tn = (s.tn + 1) % 256; transaction = Some (transaction.Poll s.tn); again = s.unanswered; unanswered = true }
+
+-- the open transaction, if there is one, is over
+abbrev pub after_over : DeviceState → DeviceState
+after_over s = record s { transaction = None }
+
+-- ---- what is heard
+
+-- what a frame from the target is heard as
+abbrev pub heard_as : Frame → Taken → DeviceHeard
+heard_as f (taken.Answer r) = poll_heard f.pid r
+heard_as f taken.Reply = heard.Reply
+heard_as f taken.Nothing = heard.Ignored
+
+-- What bytes are heard as: as nothing unless they are a frame from the target to this collector.
+abbrev pub heard_frame : DeviceState → Frame → DeviceHeard
+heard_frame s f =
+    if same_uid f.src s.target && same_uid f.dst s.uid then heard_as f (taken_for s.transaction f) else heard.Ignored
+
+abbrev pub heard_in : DeviceState → List ℕ → DeviceHeard
+heard_in s bytes = option_map_or (heard_frame s) (frame_in bytes) heard.Ignored
+
+-- ---- what is then recorded
+
+-- what is recorded of a message
+abbrev pub collected : Bool → Frame → Response → Collected
+collected again f r = record { response = r; message = message_of f; again = again }
+
+-- The poll is answered, and the next one asks for the next message. A message is recorded. After ACK_TIMER the next poll asks
+-- for what this one asked for, since that was not said yet.
+abbrev pub after_answer : DeviceState → Collected → DeviceHeard → DeviceState
+after_answer s c heard.Message = record (after_over s) { unanswered = false; recorded = s.recorded ++ c ∷ [] }
+after_answer s c heard.Part = record (after_over s) { unanswered = false; recorded = s.recorded ++ c ∷ [] }
+after_answer s c (heard.NotYet tenths) = record (after_over s) { unanswered = s.again }
+after_answer s c _ = record (after_over s) { unanswered = false }
+
+abbrev pub after_taken : DeviceState → Frame → Taken → DeviceState
+after_taken s f (taken.Answer r) = after_answer s (collected s.again f r) (poll_heard f.pid r)
+after_taken s f taken.Reply = after_over s
+after_taken s f taken.Nothing = s
+
+-- the collector after it heard a frame, and after it heard bytes
+abbrev pub after_frame : DeviceState → Frame → DeviceState
+after_frame s f =
+    if same_uid f.src s.target && same_uid f.dst s.uid then after_taken s f (taken_for s.transaction f) else s
+
+abbrev pub after_hearing : DeviceState → List ℕ → DeviceState
+after_hearing s bytes = option_map_or (after_frame s) (frame_in bytes) s
