@@ -1,5 +1,5 @@
 -- The profile that a plain struct of C's stands for. A count that is greater than its array stands for the whole array.
-use Rattle.std.specs.Prelude.{ℕ, List, map, take}
+use Rattle.std.specs.Prelude.{ℕ, List, [], map, take}
 use Rattle.rdm_device.specs.declared.profile.Personality.{Personality}
 use Rattle.rdm_device.specs.declared.profile.Profile.{Profile}
 use Rattle.rdm_device.specs.declared.profile.SelfTest.{SelfTest}
@@ -70,4 +70,7 @@ profile_in p = record {
   tests = record { items = map test_in (take p.test_count p.tests) };
   status_texts = record { items = map status_text_in (take p.status_text_count p.status_texts) };
   presets = p.presets;
+  own = [];
+  without = record { items = [] };
+  more_slots = 0;
 }

@@ -5,8 +5,11 @@ mod lists;
 ghost use Rattle.std.specs.Prelude.{◌≡◌};
 ghost use Rattle.rdm_c.specs.Profiles.{text_in, personality_in, slot_in, sensor_in, test_in, status_text_in, unit_in, profile_in};
 
+use arrayvec::ArrayVec;
 use rdm_frame::Text;
-use rdm_params::{Personality, Profile, SelfTest, SensorDef, Slot, StatusText, Unit};
+use rdm_params::{
+    OwnParameters, Personality, Profile, SelfTest, SensorDef, Slot, StatusText, Unit,
+};
 
 /// A text. The header calls it `felosumay_text`.
 #[repr(C)]
@@ -268,6 +271,9 @@ impl ProfileNumbers {
                 &self.status_texts[..usize::from(self.status_text_count).min(8)],
             ),
             presets: self.presets,
+            own: OwnParameters::none(),
+            without: ArrayVec::new(),
+            more_slots: 0,
         }
     }
 }

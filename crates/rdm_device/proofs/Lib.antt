@@ -1,3 +1,4 @@
+pub mod Added
 pub mod DemoLemmas
 pub mod ListSteps
 pub mod Maps

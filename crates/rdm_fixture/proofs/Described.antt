@@ -211,6 +211,7 @@ pub describable : (t : Members) (f : Fixture) → must uid (get_member (codes "u
 describable t f h profile outcomes = record {
   own = own (get_member (codes "uid") t) f.uid h;
   made = made t f.profile profile;
+  whole = profile.whole;
   texts = printable_texts t f.profile profile;
   languages = all_coded (get_member (codes "languages") t) _ profile.languages;
   outcomes = all_at _ (λ r. IsTrue (is_ruled r)) (of_table IsOutcome (λ r. IsTrue (is_ruled r)) ruled) (get_member (codes "outcome") t) _ outcomes.items;

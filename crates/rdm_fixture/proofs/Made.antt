@@ -1,5 +1,5 @@
 -- A device can be made with each profile that a table says.
-use Rattle.std.proofs.Common.{◌≡◌, ℕ, ◌<◌, ◌≤◌, pos, negsuc, Bool, true, false, if◌then◌else◌, List, [], ◌∷◌, length, Option, Some, None, All, refl, arith, codes}
+use Rattle.std.proofs.Common.{◌≡◌, ℕ, ◌+◌, ◌<◌, ◌≤◌, min, IsTrue, pos, negsuc, Bool, true, false, if◌then◌else◌, List, [], ◌∷◌, length, Option, Some, None, All, refl, arith, codes}
 use Rattle.std.proofs.lemmas.Bool.{and_parts, leb-true}
 use Rattle.std.proofs.lemmas.Option.{same_Some}
 use Rattle.std.proofs.lemmas.List.Elements.{All-cons}
@@ -7,7 +7,8 @@ use Rattle.rdm_device.specs.declared.profile.Personality.{Personality}
 use Rattle.rdm_device.specs.declared.profile.Profile.{Profile}
 use Rattle.rdm_device.specs.declared.profile.SelfTest.{SelfTest}
 use Rattle.rdm_device.specs.declared.profile.Unit.{Unit as DeviceUnit}
-use Rattle.rdm_device.specs.Device.Profiles.{IsGoodUnit, CanBeMade}
+use Rattle.rdm_device.specs.Device.Profiles.{IsGoodUnit, IsGoodParameter, CanBeMade}
+use Rattle.rdm_device.specs.Device.LeftOut.{is_optional}
 use Rattle.toml.specs.Data.{Data, string, integer, float, boolean, datetime, array, table, Items, no_items, item, Members, get_member}
 use Rattle.rdm_fixture.specs.Values.{number}
 use Rattle.rdm_fixture.specs.Keys.{may, must, OfTable, EachIs, ListAt}
@@ -118,6 +119,9 @@ some_language (Some (datetime dt)) xs h = absurd h
 numbered : (t : Members) (s : SelfTest) → IsSelfTest t s → (0 < s.number) × (s.number < 255)
 numbered t s h = let (low, high) = must_range 1 254 (get_member (codes "number") t) _ h.number in (omega (arith, low), omega (arith, high))
 
+few : (n m more : ℕ) → n ≤ m → n ≤ 512 → n ≤ min 512 (m + more)
+few n m more low high = omega (arith, low, high)
+
 pub made : (t : Members) (p : Profile) → IsProfile t p → CanBeMade p
 made t p h =
     let count : length p.slots.items ≡ slot_count (get_member (codes "slot") t) = slot_count-of _ (get_member (codes "slot") t) _ h.slots.items in
@@ -126,12 +130,14 @@ made t p h =
     let (low, high) = may_range 0 0 65534 (get_member (codes "presets") t) _ (omega arith) (omega arith) h.presets in (
       subs,
       record {
-        root = good_unit _ _ t p.root (omega (arith, count)) h.root;
+        root = good_unit _ _ t p.root (few _ _ p.more_slots (omega (arith, count)) (omega (arith, count, fit))) h.root;
         sub = sub;
         language = some_language (get_member (codes "languages") t) _ h.languages;
         test_numbers = all_at _ (λ s. (0 < s.number) × (s.number < 255)) (of_table IsSelfTest _ numbered) (get_member (codes "self_test") t) _ h.tests.items;
         tests_differ = h.tests_differ;
         statuses_differ = h.statuses_differ;
         presets = omega (arith, high);
+        own = rw h.whole.own (record { each = all_none IsGoodParameter; ascending = λ i j d lt within. absurd (omega arith) });
+        without = rw h.whole.without (record { optional = all_none (λ pid. IsTrue (is_optional pid)); needs = refl });
       },
     )

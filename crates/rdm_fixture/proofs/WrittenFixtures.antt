@@ -1,5 +1,5 @@
 -- What is written of a whole fixture, and of its UID and its languages.
-use Rattle.std.proofs.Common.{◌≡◌, ℕ, ◌+◌, ◌≤◌, ◌<◌, pos, false, List, [], ◌∷◌, ◌++◌, length, get_or, take, Option, Some, None, IsTrue, option_and_then, refl, sym, ap, ◌∙◌, arith, codes}
+use Rattle.std.proofs.Common.{◌≡◌, ℕ, ◌+◌, ◌≤◌, ◌<◌, min, subst, pos, false, List, [], ◌∷◌, ◌++◌, length, get_or, take, Option, Some, None, IsTrue, option_and_then, refl, sym, ap, ◌∙◌, arith, codes}
 use Rattle.std.proofs.lemmas.List.{take_more}
 use Rattle.rdm_frame.specs.declared.uid.Uid.{Uid}
 use Rattle.rdm_frame.specs.Addressing.{is_broadcast}
@@ -9,6 +9,8 @@ use Rattle.rdm_frame.proofs.NumberSpellings.{uid_spelled, uid_written}
 use Rattle.toml.specs.Data.{Data, string, integer, table, Members, get_member}
 use Rattle.toml.specs.View.{view, items_view}
 use Rattle.toml.specs.declared.value.Value.{Value}
+use Rattle.rdm_device.specs.declared.profile.Unit.{Unit as DeviceUnit}
+use Rattle.rdm_device.specs.Device.Profiles.{IsGoodUnit}
 use Rattle.rdm_fixture.specs.declared.fixture.Fixture.{Fixture}
 use Rattle.rdm_fixture.specs.Describable.{CanBeDescribed}
 use Rattle.rdm_fixture.specs.Format.{IsFixture, IsUnit, IsSlot, IsSensor, IsSelfTest, IsStatus, SubDevices, LanguagesAt, slot_count, unit_keys, fixture_keys}
@@ -39,6 +41,10 @@ code_more vs v xs i less before is =
     rw (take_more xs i 0 less) (EachIs-last (λ d x. language d ≡ Some x) vs (take i xs) v (get_or xs i 0) before is)
 
 -- ---- the whole
+
+-- a root that uses no slots but those that are described
+pub all_described : (u : DeviceUnit) (count more : ℕ) → count ≤ 512 → more ≡ 0 → IsGoodUnit u (min 512 (count + more)) → IsGoodUnit u count
+all_described u count more few none good = subst (IsGoodUnit u) (omega (arith, few, none)) good
 
 -- what nests at most n deep nests at most m deep
 pub deeper : (n m : ℕ) (d : Data) → n ≤ m → IsPlain n d → IsPlain m d
@@ -103,6 +109,7 @@ module _ (f : Fixture) (base : Members) (uid_data languages : Data) (slots senso
           statuses = record { items = rw (found (codes "status") statuses refl (absent unit_keys (codes "status") base only refl)) status; enough = omega arith; fit = status_fit };
           statuses_differ = good.statuses_differ;
           presets = ap (may 0 (number 0 65534)) (get_on base (codes "presets") fs) ∙ number_says 0 65534 f.profile.presets (omega arith) (omega (arith, few));
+          whole = can.whole;
         };
         outcomes = record { items = rw (found (codes "outcome") outcomes refl (absent unit_keys (codes "outcome") base only refl)) outcome; enough = omega arith; fit = outcome_fit };
       }

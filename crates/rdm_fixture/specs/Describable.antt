@@ -12,6 +12,7 @@ use Rattle.rdm_params.specs.declared.jobs.status.Severity.TheVariants.{Advisory,
 use Rattle.rdm_outcomes.specs.declared.rule.Rule.{Rule}
 use Rattle.rdm_outcomes.specs.Outcomes.{suits}
 use Rattle.rdm_fixture.specs.declared.fixture.Fixture.{Fixture}
+use Rattle.rdm_fixture.specs.Format.{IsSaidWhole}
 use Rattle.rdm_fixture.specs.Values.{is_printable, is_letter}
 
 -- ---- texts
@@ -69,6 +70,7 @@ is_ruled r = is_counted r.turn && (suits r.task r.outcome && is_told r.outcome)
 pub record CanBeDescribed (f : Fixture) : Type 0 where
   pub own : is_broadcast f.uid ≡ false
   pub made : CanBeMade f.profile
+  pub whole : IsSaidWhole f.profile
   pub texts : HasPrintableTexts f.profile
   pub languages : All (λ l. IsTrue (is_coded l)) f.profile.languages.items
   pub outcomes : All (λ r. IsTrue (is_ruled r)) f.outcomes.items

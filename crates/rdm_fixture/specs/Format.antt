@@ -125,6 +125,12 @@ fixture_keys =
     ∷ codes "presets" ∷ codes "slot" ∷ codes "sensor" ∷ codes "self_test" ∷ codes "status" ∷ codes "outcome"
     ∷ codes "sub_devices" ∷ unit_keys
 
+-- A file says no parameters of the maker's own, leaves none of the standard out, and describes each slot that the root uses.
+pub record IsSaidWhole (p : Profile) : Type 0 where
+  pub own : p.own ≡ []
+  pub without : p.without.items ≡ []
+  pub more_slots : p.more_slots ≡ 0
+
 pub record IsProfile (t : Members) (p : Profile) : Type 0 where
   pub root : IsUnit (slot_count (get_member (codes "slot") t)) t p.root
   pub sub : SubDevices (slot_count (get_member (codes "slot") t)) t (get_member (codes "sub_devices") t) p.subs p.sub
@@ -138,6 +144,7 @@ pub record IsProfile (t : Members) (p : Profile) : Type 0 where
   pub statuses : Lists t (codes "status") (OfTable IsStatus) 0 8 p.status_texts.items
   pub statuses_differ : AllPairs (λ a b. a.id ≢ b.id) p.status_texts.items
   pub presets : May t (codes "presets") 0 (number 0 65534) p.presets
+  pub whole : IsSaidWhole p
 
 pub record IsFixture (t : Members) (f : Fixture) : Type 0 where
   pub keys : IsTrue (has_only fixture_keys t)

@@ -16,7 +16,7 @@ use crate::lists::list;
 use crate::refusal::{Refusal, Wanted};
 use crate::unit::{sub_devices, unit};
 use arrayvec::ArrayVec;
-use rdm_device::{Profile, SelfTest, Slot, StatusText};
+use rdm_device::{OwnParameters, Profile, SelfTest, Slot, StatusText};
 use toml::value::Array;
 use toml::{Table, Value};
 
@@ -45,6 +45,9 @@ pub(crate) fn profile(table: &Table) -> Result<Profile, Refusal>
         tests: self_tests(table)?,
         status_texts: status_texts(table)?,
         presets,
+        own: OwnParameters::none(),
+        without: ArrayVec::new(),
+        more_slots: 0,
     })
 }
 

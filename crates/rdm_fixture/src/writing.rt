@@ -28,9 +28,10 @@ pub enum WriteError {
     /// Out of memory for its text.
     #[error("out of memory")]
     OutOfMemory,
-    /// No text describes it: its UID is a broadcast (E1.20 section 6.2.4), devices can't be made with its profile, a text of it
-    /// has a character that isn't printable ASCII, a language isn't two lowercase letters (section 10.5.7), or a rule can't be
-    /// in a file: it is of job 0, its outcome isn't one that its parameter can have, or it fails with what is over (table A-4).
+    /// No text describes it: its UID is a broadcast (E1.20 section 6.2.4), devices can't be made with its profile, this has
+    /// parameters of the maker's own, lacks parameters of the standard or has slots that it doesn't describe, a text of it has a
+    /// character that isn't printable ASCII, a language isn't two lowercase letters (section 10.5.7), or a rule can't be in a
+    /// file: it is of job 0, its outcome isn't one that its parameter can have, or it fails with what is over (table A-4).
     #[error("no file describes the fixture")]
     Indescribable,
 }

@@ -1,8 +1,10 @@
 //! Which profiles a device can be made with.
 
-ghost use Rattle.std.specs.Prelude.{◌≡◌, ◌≢◌, ◌↔◌, ◌<◌, ◌≤◌, length, IsTrue, All, AllPairs};
+ghost use Rattle.std.specs.Prelude.{◌≡◌, ◌≢◌, ◌↔◌, ◌+◌, ◌<◌, ◌≤◌, min, length, IsTrue, All, AllPairs};
 ghost use Rattle.rdm_device.specs.Device.Profiles.{IsGoodUnit, IsGoodProfile};
 
+use crate::profile::left_out::may_be_left_out;
+use crate::profile::own_checks::are_good;
 use crate::{Personality, Profile, SelfTest, StatusText, Unit};
 use rdm_frame::standard::MOST_DMX_SLOTS;
 
@@ -10,13 +12,22 @@ use rdm_frame::standard::MOST_DMX_SLOTS;
 pub fn is_good(profile: &Profile) -> bool
     ensures { IsTrue result ↔ IsGoodProfile profile.now }
 {
-    is_good_unit(&profile.root, profile.slots.len())
+    is_good_unit(&profile.root, root_slots(profile))
         && is_good_unit(&profile.sub, MOST_DMX_SLOTS as usize)
         && !profile.languages.is_empty()
         && are_numbered(profile.tests.as_slice())
         && tests_differ(profile.tests.as_slice())
         && statuses_differ(profile.status_texts.as_slice())
         && profile.presets < 65535
+        && are_good(profile.own.as_slice())
+        && may_be_left_out(profile.without.as_slice())
+}
+
+/// How many DMX512 slots the root can use.
+fn root_slots(profile: &Profile) -> usize
+    ensures { result ≡ min 512 (length profile.now.slots.items + profile.now.more_slots) }
+{
+    (profile.slots.len() + profile.more_slots as usize).min(MOST_DMX_SLOTS as usize)
 }
 
 /// Whether the unit keeps its rules at a device with this many slots.

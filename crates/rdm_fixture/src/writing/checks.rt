@@ -2,6 +2,7 @@
 
 ghost use Rattle.std.specs.Prelude.{◌≡◌, ◌↔◌, IsTrue, All};
 ghost use Rattle.rdm_fixture.specs.Describable as spec;
+ghost use Rattle.rdm_fixture.specs.Format.{IsSaidWhole};
 ghost use Rattle.rdm_fixture.specs.Values.{is_letter as is_small_letter};
 
 use crate::fixture::Fixture;
@@ -19,9 +20,18 @@ pub(super) fn can_be_described(fixture: &Fixture) -> bool
     !fixture.uid.is_broadcast()
         && fixture.profile.subs <= MOST_SUB_DEVICES
         && is_good(&fixture.profile)
+        && is_said_whole(&fixture.profile)
         && has_printable_texts(&fixture.profile)
         && are_coded(fixture.profile.languages.as_slice())
         && are_ruled(fixture.outcomes.as_slice())
+}
+
+/// Whether the profile has nothing that a file can't say: parameters of the maker's own, parameters that are left out, and slots
+/// that aren't described.
+fn is_said_whole(profile: &Profile) -> bool
+    ensures { IsTrue result ↔ IsSaidWhole profile.now }
+{
+    profile.own.as_slice().is_empty() && profile.without.is_empty() && profile.more_slots == 0
 }
 
 // ---- the texts

@@ -45,6 +45,7 @@ returns-clause-read c =
       statuses = search rules;
       statuses_differ = search rules;
       presets = search rules;
+      whole = record { own = search rules; without = search rules; more_slots = search rules };
     }
 
 pub sub_devices-requires : goal.sub_devices-requires

@@ -3,7 +3,7 @@ use Rattle.toml.specs.View.{view, table_view}
 use Rattle.rdm_fixture.specs.Format.{IsSlot, IsSensor, IsSelfTest, IsStatus}
 use Rattle.rdm_fixture.specs.Keys.{ListAt, OfTable}
 use Rattle.rdm_fixture.specs.Outcomes.{IsOutcome}
-use Rattle.rdm_fixture.proofs.WrittenFixtures.{fixture_says, fixture_plain, deeper, deeper_some}
+use Rattle.rdm_fixture.proofs.WrittenFixtures.{all_described, fixture_says, fixture_plain, deeper, deeper_some}
 use Rattle.rdm_fixture.proofs.WrittenLists.{some_plain}
 use Rattle.rdm_fixture.proofs.writing.tables.table_of.Goals as goal
 
@@ -42,7 +42,7 @@ returns-clause-says c = λ can.
     )
     (fixture_says f (table_view c.in_ok-table.table) (view c.in_ok-uid_of.field-0) (view c.in_ok-languages_of.field-0)
     (option_map view c.in_ok-list_of.field-0) (option_map view c.in_ok-list_of-2.field-0) (option_map view c.in_ok-list_of-3.field-0) (option_map view c.in_ok-list_of-4.field-0) (option_map view c.in_ok-list_of-5.field-0) (option_map view c.in_ok-sub_devices_of.field-0)
-    can c.in_ok-table.ensures.keys (λ n same. c.in_ok-table.ensures.says n (rw same made.root) texts.root)
+    can c.in_ok-table.ensures.keys (λ n same. c.in_ok-table.ensures.says n (rw same (all_described f.profile.root (length f.profile.slots.items) f.profile.more_slots (omega (arith, slots_fit)) can.whole.more_slots made.root)) texts.root)
     (c.in_ok-uid_of.ensures.says can.own) c.put_long.ensures.says (c.put_text.ensures.says texts.boot)
     (c.in_ok-languages_of.ensures.says made.language can.languages)
     slots slots_fit sensors sensors_fit tests tests_fit statuses statuses_fit outcomes outcomes_fit
