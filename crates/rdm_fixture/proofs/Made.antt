@@ -1,5 +1,5 @@
 -- A device can be made with each profile that a table says.
-use Rattle.std.proofs.Common.{◌≡◌, ℕ, ◌+◌, ◌<◌, ◌≤◌, min, IsTrue, pos, negsuc, Bool, true, false, if◌then◌else◌, List, [], ◌∷◌, length, Option, Some, None, All, refl, arith, codes}
+use Rattle.std.proofs.Common.{◌≡◌, ℕ, ◌+◌, ◌<◌, ◌≤◌, min, pos, negsuc, Bool, true, false, if◌then◌else◌, List, [], ◌∷◌, length, Option, Some, None, All, refl, arith, codes}
 use Rattle.std.proofs.lemmas.Bool.{and_parts, leb-true}
 use Rattle.std.proofs.lemmas.Option.{same_Some}
 use Rattle.std.proofs.lemmas.List.Elements.{All-cons}
@@ -7,8 +7,8 @@ use Rattle.rdm_device.specs.declared.profile.Personality.{Personality}
 use Rattle.rdm_device.specs.declared.profile.Profile.{Profile}
 use Rattle.rdm_device.specs.declared.profile.SelfTest.{SelfTest}
 use Rattle.rdm_device.specs.declared.profile.Unit.{Unit as DeviceUnit}
-use Rattle.rdm_device.specs.Device.Profiles.{IsGoodUnit, IsGoodParameter, CanBeMade}
-use Rattle.rdm_device.specs.Device.LeftOut.{is_optional}
+use Rattle.rdm_device.specs.Device.Profiles.{IsGoodUnit, CanBeMade}
+use Rattle.rdm_device.proofs.DemoLemmas.{none_good, none_left_out}
 use Rattle.toml.specs.Data.{Data, string, integer, float, boolean, datetime, array, table, Items, no_items, item, Members, get_member}
 use Rattle.rdm_fixture.specs.Values.{number}
 use Rattle.rdm_fixture.specs.Keys.{may, must, OfTable, EachIs, ListAt}
@@ -137,7 +137,7 @@ made t p h =
         tests_differ = h.tests_differ;
         statuses_differ = h.statuses_differ;
         presets = omega (arith, high);
-        own = rw h.whole.own (record { each = all_none IsGoodParameter; ascending = λ i j d lt within. absurd (omega arith) });
-        without = rw h.whole.without (record { optional = all_none (λ pid. IsTrue (is_optional pid)); needs = refl });
+        own = rw h.whole.own none_good;
+        without = rw h.whole.without none_left_out;
       },
     )

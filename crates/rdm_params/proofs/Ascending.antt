@@ -1,5 +1,5 @@
 -- SUPPORTED_PARAMETERS lists PIDs in ascending order.
-use Rattle.std.proofs.Common.{◌≡◌, ◌≢◌, ℕ, zero, suc, ◌+◌, ◌<◌, ◌≤◌, ◌==◌, ◌&&◌, ◌||◌, not, Bool, true, false, cond, List, [], ◌∷◌, length, get_or, map, All, AllPairs, refl, sym, ap, subst, ◌∙◌, inl, inr, arith}
+use Rattle.std.proofs.Common.{◌≡◌, ◌≢◌, ℕ, zero, suc, ◌+◌, ◌<◌, ◌≤◌, ◌==◌, ◌&&◌, ◌||◌, not, Bool, true, false, cond, List, [], ◌∷◌, length, get_or, map, All, AllPairs, IsTrue, refl, sym, ap, subst, ◌∙◌, inl, inr, arith}
 use Rattle.std.specs.Prelude.{filter, nat_le}
 use Rattle.std.specs.List.{list_any, list_all}
 use Rattle.std.specs.List.Sorted.{IsStrictlyIncreasing}
@@ -8,7 +8,7 @@ use Rattle.rdm_device.specs.declared.profile.own.ParameterDef.{ParameterDef}
 use Rattle.rdm_device.specs.declared.profile.Profile.{Profile}
 use Rattle.rdm_device.specs.Columns.Added.{has_makers_pid}
 use Rattle.rdm_device.specs.Device.OwnParameters.{is_addable}
-use Rattle.rdm_device.specs.Device.Profiles.{IsGoodParameter, IsGoodProfile}
+use Rattle.rdm_device.specs.Device.Profiles.{IsGoodProfile}
 use Rattle.rdm_params.specs.Table.Rows.{added_rows, is_left_out, supported_pids, table_pids, with_pid, with_pids}
 use Rattle.rdm_params.proofs.Bools.{both_true}
 use Rattle.rdm_params.proofs.Supported.{with_first}
@@ -149,20 +149,20 @@ own_differ [] h = tt
 own_differ (d ∷ ds) h =
     (later_apart d ds (λ k e within. h 0 (suc k) e (omega arith) (omega arith)), own_differ ds (λ i j e lt within. h (suc i) (suc j) e (omega arith) (omega arith)))
 
-own_apart : (ds : List ParameterDef) (p : ℕ → Bool) → All IsGoodParameter ds → AllApart (map pid_of ds) (filter p (table_pids true))
+own_apart : (ds : List ParameterDef) (p : ℕ → Bool) → All (λ d. IsTrue (is_addable d.pid)) ds → AllApart (map pid_of ds) (filter p (table_pids true))
 own_apart [] p all = tt
 own_apart (d ∷ ds) p all =
-    let good : IsGoodParameter d = all 0 d (omega arith) in
-    (some_apart p d.pid (table_pids true) (apart_by is_new (table_pids true) d.pid none_new (or_right (d.pid == 0x0051) (is_addable d.pid) good.pid)), own_apart ds p (λ k e within. all (suc k) e (omega arith)))
+    let free : is_addable d.pid ≡ true = all 0 d (omega arith) in
+    (some_apart p d.pid (table_pids true) (apart_by is_new (table_pids true) d.pid none_new (or_right (d.pid == 0x0051) (is_addable d.pid) free)), own_apart ds p (λ k e within. all (suc k) e (omega arith)))
 
 not_free : (pid : ℕ) → is_addable pid ≡ true → 0x0051 ≢ pid
 not_free pid free e = let wrong : is_addable 0x0051 ≡ true = ap is_addable e ∙ free in absurd cc
 
-description_apart : (ds : List ParameterDef) → All IsGoodParameter ds → Apart 0x0051 (map pid_of ds)
+description_apart : (ds : List ParameterDef) → All (λ d. IsTrue (is_addable d.pid)) ds → Apart 0x0051 (map pid_of ds)
 description_apart [] all = tt
 description_apart (d ∷ ds) all =
-    let good : IsGoodParameter d = all 0 d (omega arith) in
-    (not_free d.pid good.pid, description_apart ds (λ k e within. all (suc k) e (omega arith)))
+    let free : is_addable d.pid ≡ true = all 0 d (omega arith) in
+    (not_free d.pid free, description_apart ds (λ k e within. all (suc k) e (omega arith)))
 
 -- ---- the whole
 
@@ -184,6 +184,6 @@ ascend p true good =
     let rise : RisesFrom 0 old = some_rise stays 0 (table_pids true) (table_rises true) in
     let free : Apart 0x0051 old = some_apart stays 0x0051 (table_pids true) (apart_by is_new (table_pids true) 0x0051 none_new refl) in
     let mid : List ℕ = cond makers (with_pid 0x0051 old) old in
-    let apart = mid_apart makers (map pid_of p.own) old (description_apart p.own own.each) (own_apart p.own stays own.each) in
+    let apart = mid_apart makers (map pid_of p.own) old (description_apart p.own own.pids.0) (own_apart p.own stays own.pids.0) in
     subst IsStrictlyIncreasing (sym (with_first makers p.own old)) (increasing 0 (with_pids (map pid_of p.own) mid) (put_all (map pid_of p.own) mid (mid_rises makers old rise free) (own_differ p.own own.ascending) apart))
 ascend p false good = increasing 0 (supported_pids p false) (some_rise (λ pid. not (is_left_out p pid)) 0 (table_pids false) (table_rises false))

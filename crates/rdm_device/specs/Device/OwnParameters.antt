@@ -59,6 +59,14 @@ has_number shapes.SignedWord n = lies (neg_ℤ (pos 32768)) (pos 32767) n
 has_number shapes.SignedLong n = lies (neg_ℤ (pos 2147483648)) (pos 2147483647) n
 has_number _ n = true
 
+-- whether the least and the greatest number of a shape are numbers that it can say, in this order; where the data are no number,
+-- whether they have at most 32 slots
+abbrev pub has_limits : Shape → ℤ → ℤ → Bool
+has_limits shapes.Text low high = true
+has_limits (shapes.Bits n) low high = nat_le n 32
+has_limits (shapes.Slots n) low high = nat_le n 32
+has_limits shape low high = has_number shape low && has_number shape high && int_le low high
+
 -- ---- which commands it has
 
 abbrev pub has_get : Rights → Bool

@@ -4,7 +4,7 @@ use Rattle.rdm_device.specs.declared.profile.Profile.{Profile}
 use Rattle.rdm_device.specs.declared.profile.own.ParameterDef.{ParameterDef}
 use Rattle.rdm_device.specs.declared.profile.Unit.{Unit as DeviceUnit}
 use Rattle.rdm_device.specs.Device.LeftOut.{is_optional, leave_no_need}
-use Rattle.rdm_device.specs.Device.OwnParameters.{is_addable, has_number, can_start}
+use Rattle.rdm_device.specs.Device.OwnParameters.{is_addable, has_limits, can_start}
 
 -- A unit has a personality and a start address, and none of its personalities uses more slots than there are.
 pub record IsGoodUnit (u : DeviceUnit) (slots : ℕ) : Type 0 where
@@ -13,30 +13,48 @@ pub record IsGoodUnit (u : DeviceUnit) (slots : ℕ) : Type 0 where
   pub start_greatest : u.start ≤ 512
   pub footprints : All (λ m. m.footprint ≤ slots) u.personalities.items
 
--- A parameter of the maker's own has a PID that is free for it, limits that its data can say, and starts with data in
--- their range.
-pub record IsGoodParameter (d : ParameterDef) : Type 0 where
-  pub pid : IsTrue (is_addable d.pid)
-  pub low : IsTrue (has_number d.shape d.low)
-  pub high : IsTrue (has_number d.shape d.high)
-  pub start : IsTrue (can_start d)
+-- how many DMX512 slots the root can use: those that are described and so many more, of the 512 that there are
+abbrev pub root_slots : Profile → ℕ
+root_slots p = min 512 (length p.slots.items + p.more_slots)
 
--- Each of them is good, and they are in the order of their PIDs.
+-- The parameters that are left out are few, and none is one that each device must have.
+abbrev pub AreOptional : List ℕ → Type 0
+AreOptional pids = (length pids ≤ 36) × All (λ pid. IsTrue (is_optional pid)) pids
+
+-- Each parameter of the maker's own has a PID that is free for it, and no two have the same.
+abbrev pub HaveFreePids : List ParameterDef → Type 0
+HaveFreePids ds = All (λ d. IsTrue (is_addable d.pid)) ds × AllPairs (λ s t. s.pid ≢ t.pid) ds
+
+-- The limits of each are numbers that its data can say, the least first; data that are no number have at most 32 slots.
+abbrev pub HaveLimits : List ParameterDef → Type 0
+HaveLimits ds = All (λ d. IsTrue (has_limits d.shape d.low d.high)) ds
+
+-- Each starts with data of its own, in range.
+abbrev pub HaveStarts : List ParameterDef → Type 0
+HaveStarts ds = All (λ d. IsTrue (can_start d)) ds
+
+-- They are in the order of their PIDs.
+abbrev pub Ascend : List ParameterDef → Type 0
+Ascend ds = AllPairs (λ s t. s.pid < t.pid) ds
+
+-- The parameters of the maker's own are at most 16, each of them is good, and they are in their order.
 pub record AreGoodParameters (ds : List ParameterDef) : Type 0 where
-  pub each : All IsGoodParameter ds
-  pub ascending : AllPairs (λ s t. s.pid < t.pid) ds
+  pub count : length ds ≤ 16
+  pub pids : HaveFreePids ds
+  pub limits : HaveLimits ds
+  pub starts : HaveStarts ds
+  pub ascending : Ascend ds
 
 -- Only parameters are left out that may be, and none that another needs which stays.
 pub record MayBeLeftOut (pids : List ℕ) : Type 0 where
-  pub optional : All (λ pid. IsTrue (is_optional pid)) pids
+  pub optional : AreOptional pids
   pub needs : IsTrue (leave_no_need pids)
 
 -- Both units are good; there is a language; no self test is numbered 0 or 255 and no two alike; no two status IDs
--- are alike; the number of presets isn't the one that stands for all of them; the parameters of the maker's own are good,
--- and in the order of their PIDs; and those that are left out may be. The root uses no slots but those that are described
--- and so many more, of the 512 that there are.
+-- are alike; the number of presets isn't the one that stands for all of them; those parameters that are left out may be; and
+-- the parameters of the maker's own are good.
 pub record IsGoodProfile (p : Profile) : Type 0 where
-  pub root : IsGoodUnit p.root (min 512 (length p.slots.items + p.more_slots))
+  pub root : IsGoodUnit p.root (root_slots p)
   pub sub : IsGoodUnit p.sub 512
   pub language : 0 < length p.languages.items
   pub test_numbers : All (λ t. (0 < t.number) × (t.number < 255)) p.tests.items

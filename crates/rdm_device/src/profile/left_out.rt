@@ -2,19 +2,22 @@
 
 ghost use Rattle.std.specs.Prelude.{◌≡◌, ◌↔◌, ◌||◌, [], not, IsTrue, All};
 ghost use Rattle.rdm_device.specs.Device.LeftOut.{is_optional, leaves_out, leave_no_need, lacks};
-ghost use Rattle.rdm_device.specs.Device.Profiles.{MayBeLeftOut};
+ghost use Rattle.rdm_device.specs.Device.Profiles.{AreOptional};
 
 use crate::Profile;
 
-/// Whether a device may lack the parameters with these PIDs.
-pub(crate) fn may_be_left_out(pids: &[u16]) -> bool
-    ensures { IsTrue result ↔ MayBeLeftOut pids.now }
+/// How many parameters a profile can leave out.
+const MOST_LEFT_OUT: usize = 36;
+
+/// Whether a device may lack each of these parameters, and they are no more than a profile can name.
+pub(crate) fn are_optional(pids: &[u16]) -> bool
+    ensures { IsTrue result ↔ AreOptional pids.now }
 {
-    are_optional(pids) && leave_no_need(pids)
+    pids.len() <= MOST_LEFT_OUT && is_each_optional(pids)
 }
 
 /// Whether a device may lack each of these parameters.
-fn are_optional(pids: &[u16]) -> bool
+fn is_each_optional(pids: &[u16]) -> bool
     ensures { IsTrue result ↔ All (λ pid. IsTrue (is_optional pid)) pids.now }
 {
     pids.iter().all(|pid| is_optional(*pid))
@@ -38,7 +41,7 @@ fn is_optional(pid: u16) -> bool
 }
 
 /// Whether no parameter stays that needs one of these.
-fn leave_no_need(pids: &[u16]) -> bool
+pub(crate) fn leave_no_need(pids: &[u16]) -> bool
     ensures { result ≡ leave_no_need pids.now }
 {
     go_together(pids, 0x0030, 0x0031)

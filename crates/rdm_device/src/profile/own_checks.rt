@@ -1,34 +1,64 @@
 //! Which parameters the maker of a fixture can add.
 
-ghost use Rattle.std.specs.Prelude.{◌≡◌, ◌↔◌, ◌<◌, IsTrue, All, AllPairs};
-ghost use Rattle.rdm_device.specs.Device.OwnParameters.{is_addable, is_makers, is_lent, has_number, can_start};
-ghost use Rattle.rdm_device.specs.Device.Profiles.{IsGoodParameter, AreGoodParameters};
+ghost use Rattle.std.specs.Prelude.{◌≡◌, ◌≢◌, ◌↔◌, ◌<◌, ◌≤◌, length, IsTrue, All, AllPairs};
+ghost use Rattle.rdm_device.specs.Device.OwnParameters.{is_addable, is_makers, is_lent, has_number, has_limits, can_start};
+ghost use Rattle.rdm_device.specs.Device.Profiles.{HaveFreePids, HaveLimits, HaveStarts, Ascend};
 
 use crate::columns::added::{is_within, read_shape};
 use crate::{ParameterDef, Shape};
+use rdm_frame::standard::MOST_TEXT;
 
-/// Whether a device can have these parameters.
-pub(crate) fn are_good(defs: &[ParameterDef]) -> bool
-    ensures { IsTrue result ↔ AreGoodParameters defs.now }
+/// How many parameters a profile can add.
+const MOST_OWN: usize = 16;
+
+/// Whether they are no more than a profile can add.
+pub(crate) fn are_few(defs: &[ParameterDef]) -> bool
+    ensures { IsTrue result ↔ (length defs.now ≤ 16) }
 {
-    is_each_good(defs) && are_ascending(defs)
+    defs.len() <= MOST_OWN
 }
 
-/// Whether a device can have each of these parameters.
-fn is_each_good(defs: &[ParameterDef]) -> bool
-    ensures { IsTrue result ↔ All IsGoodParameter defs.now }
+/// Whether each has a PID that is free for it, and no two have the same.
+pub(crate) fn have_free_pids(defs: &[ParameterDef]) -> bool
+    ensures { IsTrue result ↔ HaveFreePids defs.now }
 {
-    defs.iter().all(|def| is_good_parameter(def))
+    is_each_addable(defs) && pids_differ(defs)
 }
 
-/// Whether the parameter has a PID that is free for it, limits that its data can say, and data in their range to start with.
-fn is_good_parameter(def: &ParameterDef) -> bool
-    ensures { IsTrue result ↔ IsGoodParameter def.now }
+/// Whether each has a PID that is free for it.
+fn is_each_addable(defs: &[ParameterDef]) -> bool
+    ensures { IsTrue result ↔ All (λ d. IsTrue (is_addable d.pid)) defs.now }
 {
-    is_addable(def.pid)
-        && has_number(def.shape, def.low)
-        && has_number(def.shape, def.high)
-        && can_start(def)
+    defs.iter().all(|def| is_addable(def.pid))
+}
+
+/// Whether no two have one PID.
+fn pids_differ(defs: &[ParameterDef]) -> bool
+    ensures { IsTrue result ↔ AllPairs (λ s t. s.pid ≢ t.pid) defs.now }
+{
+    for i in 0..defs.len() {
+        for j in i + 1..defs.len() {
+            if defs[i].pid == defs[j].pid {
+                return false;
+            }
+        }
+    }
+    true
+}
+
+/// Whether the data of each can say its limits, the least first, and have no more slots than there can be.
+pub(crate) fn have_limits(defs: &[ParameterDef]) -> bool
+    ensures { IsTrue result ↔ HaveLimits defs.now }
+{
+    defs.iter()
+        .all(|def| has_limits(def.shape, def.low, def.high))
+}
+
+/// Whether each starts with data of its length and in its range.
+pub(crate) fn have_starts(defs: &[ParameterDef]) -> bool
+    ensures { IsTrue result ↔ HaveStarts defs.now }
+{
+    defs.iter().all(|def| can_start(def))
 }
 
 /// Whether a maker may add a parameter with this PID.
@@ -70,6 +100,24 @@ fn has_number(shape: Shape, number: i64) -> bool
     }
 }
 
+/// Whether the least and the greatest number of a shape are numbers that it can say, in this order; where the data are no number, whether
+/// they have at most 32 slots.
+fn has_limits(shape: Shape, low: i64, high: i64) -> bool
+    ensures { result ≡ has_limits shape low high }
+{
+    match shape {
+        Shape::Text => true,
+        Shape::Bits(size) => size as usize <= MOST_TEXT,
+        Shape::Slots(size) => size as usize <= MOST_TEXT,
+        Shape::Byte
+        | Shape::Word
+        | Shape::Long
+        | Shape::SignedByte
+        | Shape::SignedWord
+        | Shape::SignedLong => has_number(shape, low) && has_number(shape, high) && low <= high,
+    }
+}
+
 /// Whether the data that the parameter starts with have its length and are in its range.
 fn can_start(def: &ParameterDef) -> bool
     ensures { result ≡ can_start def.now }
@@ -81,8 +129,8 @@ fn can_start(def: &ParameterDef) -> bool
 }
 
 /// Whether the PIDs of these parameters ascend.
-fn are_ascending(defs: &[ParameterDef]) -> bool
-    ensures { IsTrue result ↔ AllPairs (λ s t. s.pid < t.pid) defs.now }
+pub(crate) fn are_ascending(defs: &[ParameterDef]) -> bool
+    ensures { IsTrue result ↔ Ascend defs.now }
 {
     for i in 0..defs.len() {
         for j in i + 1..defs.len() {
