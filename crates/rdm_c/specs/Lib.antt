@@ -3,6 +3,8 @@ pub mod Statuses
 pub mod Changes
 pub mod Jobs
 pub mod Outcomes
+pub mod Texts
+pub mod Parameters
 pub mod Profiles
 pub mod Endpoints
 pub mod Messages

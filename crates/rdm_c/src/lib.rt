@@ -59,6 +59,7 @@ pub use job::{JobNumbers, SteppedNumbers};
 pub use message::{CommandNumbers, MessageNumbers};
 pub use names::NameNumbers;
 pub use outcome::OutcomeNumbers;
+pub use profile::parameters::ParameterNumbers;
 pub use profile::{
     PersonalityNumbers, ProfileNumbers, SelfTestNumbers, SensorNumbers, SlotNumbers,
     StatusTextNumbers, TextNumbers, UnitNumbers,

@@ -1,15 +1,25 @@
 //! A profile as a plain struct of C's. A count that is greater than its array stands for the whole array.
 
 mod lists;
+pub(crate) mod parameters;
 
-ghost use Rattle.std.specs.Prelude.{◌≡◌};
-ghost use Rattle.rdm_c.specs.Profiles.{text_in, personality_in, slot_in, sensor_in, test_in, status_text_in, unit_in, profile_in};
+ghost use Rattle.std.specs.Prelude.{◌≡◌, ◌↔◌, ◌<◌, ◌≤◌, List, None, IfOk, IfSome, length};
+ghost use Rattle.rdm_device.specs.Device.Faults.{IsFirstBroken, with_parameters};
+ghost use Rattle.rdm_device.specs.Device.Profiles.{CanBeMade};
+ghost use Rattle.rdm_c.specs.Profiles.{personality_in, slot_in, sensor_in, test_in, status_text_in, unit_in, profile_in};
+ghost use Rattle.rdm_c.specs.Texts.{text_in};
 
+use crate::profile::parameters::ParameterNumbers;
 use arrayvec::ArrayVec;
+use rdm_device::{ProfileFault, profile_fault_with};
 use rdm_frame::Text;
 use rdm_params::{
-    OwnParameters, Personality, Profile, SelfTest, SensorDef, Slot, StatusText, Unit,
+    OwnParameters, ParameterDef, Personality, Profile, SelfTest, SensorDef, Slot, StatusText, Unit,
 };
+use std::alloc::{AllocError, Global};
+
+/// How many parameters of the maker's own there can be.
+const MOST_OWN: usize = 16;
 
 /// A text. The header calls it `felosumay_text`.
 #[repr(C)]
@@ -118,7 +128,7 @@ pub struct UnitNumbers {
 /// What a root device and its sub-devices are made with. The header calls it `felosumay_profile`.
 #[repr(C)]
 #[derive(Clone, Copy)]
-pub struct ProfileNumbers {
+pub struct ProfileNumbers<'a> {
     /// The root device.
     pub root: UnitNumbers,
     /// What each sub-device starts as.
@@ -151,6 +161,12 @@ pub struct ProfileNumbers {
     pub tests: [SelfTestNumbers; 8],
     /// The status IDs of the device (section 10.3.3).
     pub status_texts: [StatusTextNumbers; 8],
+    /// How many DMX512 slots the root device uses beside those that `slots` describes.
+    pub more_slots: u16,
+    /// The parameters of the maker's own, in the order of their PIDs. In C a pointer, and how many there are.
+    pub parameters: &'a [ParameterNumbers],
+    /// The PIDs of the standard's parameters that the device doesn't have. In C a pointer, and how many there are.
+    pub without: &'a [u16],
 }
 
 impl TextNumbers {
@@ -252,10 +268,35 @@ impl UnitNumbers {
     }
 }
 
-impl ProfileNumbers {
+impl ProfileNumbers<'_> {
+    /// The first rule that the profile breaks, or `None` if it breaks none. It takes no memory.
+    pub(crate) fn fault(&self) -> Option<ProfileFault>
+        ensures good { (result ≡ None) ↔ CanBeMade (profile_in self.now) }
+        ensures first { IfSome result (λ fault. IsFirstBroken fault (profile_in self.now)) }
+        ensures own { result ≡ None → length self.now.parameters.now ≤ 16 }
+        ensures without { result ≡ None → length self.now.without.now ≤ 36 }
+    {
+        let others = self.filled(ArrayVec::new(), OwnParameters::none());
+        if self.parameters.len() > MOST_OWN {
+            return Some(fault_of_many(&others, self.without));
+        }
+        let own = lists::parameters(self.parameters);
+        profile_fault_with(&others, self.without, own.as_slice())
+    }
+
     /// The profile.
-    pub(crate) fn profile(&self) -> Profile
-        ensures { result ≡ profile_in self.now }
+    pub(crate) fn profile(&self, alloc: Global) -> Result<Profile, AllocError>
+        requires own { length self.now.parameters.now ≤ 16 }
+        requires without { length self.now.without.now ≤ 36 }
+        ensures { IfOk result (λ profile. profile ≡ profile_in self.now) }
+    {
+        let own = lists::own_parameters(alloc, self.parameters)?;
+        Ok(self.filled(lists::pids(self.without), own))
+    }
+
+    /// The profile with these parameters left out and these of the maker's own.
+    fn filled(&self, without: ArrayVec<u16, 36>, own: OwnParameters) -> Profile
+        ensures { result ≡ with_parameters (profile_in self.now) without.items own }
     {
         Profile {
             root: self.root.unit(),
@@ -271,9 +312,20 @@ impl ProfileNumbers {
                 &self.status_texts[..usize::from(self.status_text_count).min(8)],
             ),
             presets: self.presets,
-            own: OwnParameters::none(),
-            without: ArrayVec::new(),
-            more_slots: 0,
+            own,
+            without,
+            more_slots: self.more_slots,
         }
+    }
+}
+
+/// The first rule that a profile breaks which has more parameters of the maker's own than there can be.
+#[tactic(auto, using(crate::proofs::Many::still_first, crate::proofs::Many::count_first))]
+fn fault_of_many(others: &Profile, without: &[u16]) -> ProfileFault
+    ensures { (own : List ParameterDef) → 16 < length own → IsFirstBroken result (with_parameters others.now without.now own) }
+{
+    match profile_fault_with(others, without, &[]) {
+        Some(fault) => fault,
+        None => ProfileFault::ParameterCount,
     }
 }

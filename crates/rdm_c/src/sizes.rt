@@ -29,7 +29,9 @@ const _: () = prove!(size_of::<StatusTextNumbers>() == 36);
 
 const _: () = prove!(size_of::<UnitNumbers>() == 432);
 
-const _: () = prove!(size_of::<ProfileNumbers>() == 3604);
+const _: () = prove!(size_of::<ParameterNumbers>() == 96);
+
+const _: () = prove!(size_of::<ProfileNumbers<'static>>() == 3640);
 
 const _: () = prove!(size_of::<JobNumbers>() == 16);
 

@@ -28,7 +28,7 @@ use crate::profile::ProfileNumbers;
 use crate::status::Status;
 use rdm_frame::standard::MOST_SLOTS;
 use rdm_frame::{Uid, Wire};
-use rdm_outbox::MOST_ENTRIES;
+use rdm_outbox::{MOST_ENTRIES, MOST_WAITING};
 use rdm_params::Profile;
 use rdm_responder::{NewError, Responder};
 use std::alloc::Global;
@@ -44,7 +44,7 @@ pub extern "C" fn felosumay_responder_new(
     responder: &mut Handle,
     maker: u16,
     device: u32,
-    profile: &ProfileNumbers,
+    profile: &ProfileNumbers<'_>,
     queue_size: u16,
 ) -> u8
     ensures made { result ≡ code_of Status.Done →
@@ -77,7 +77,7 @@ pub extern "C" fn felosumay_responder_new_with_entries(
     responder: &mut Handle,
     maker: u16,
     device: u32,
-    profile: &ProfileNumbers,
+    profile: &ProfileNumbers<'_>,
     queue_size: u16,
     entries: u16,
 ) -> u8
@@ -92,8 +92,10 @@ pub extern "C" fn felosumay_responder_new_with_entries(
     ensures refused { result ≢ code_of Status.Done → responder.new ≡ responder.old }
 {
     let uid = Uid { maker, device };
-    let profile = profile.profile();
-    start(alloc, responder, uid, profile, queue_size, entries).code()
+    match judged(alloc, uid, profile, queue_size, entries) {
+        Ok(profile) => start(alloc, responder, uid, profile, queue_size, entries).code(),
+        Err(status) => status.code(),
+    }
 }
 
 /// Makes a responder that is the demonstration fixture with N sub-devices, and replaces what the handle held.
@@ -198,6 +200,37 @@ pub extern "C" fn felosumay_responder_release(alloc: Global, responder: &mut Han
     ensures { responder.new.held ≡ None }
 {
     free(alloc, responder);
+}
+
+/// The profile of which a responder can be made. Memory is taken for it once nothing else can be wrong.
+fn judged(
+    alloc: Global,
+    uid: Uid,
+    profile: &ProfileNumbers<'_>,
+    queue_size: u16,
+    entries: u16,
+) -> Result<Profile, Status>
+    ensures profile { IfOk result (λ p. p ≡ profile_in profile.now) }
+    ensures bad_uid { (result ≡ Err Status.BadUid) ↔ (uid.device ≡ 0xFFFFFFFF) }
+    ensures bad_size { (result ≡ Err Status.BadSize)
+        ↔ ((uid.device ≢ 0xFFFFFFFF) × ¬ (IsQueueSize queue_size × IsListSize entries)) }
+    ensures bad_profile { (result ≡ Err Status.BadProfile)
+        ↔ ((uid.device ≢ 0xFFFFFFFF) × (IsQueueSize queue_size × IsListSize entries) × ¬ CanBeMade (profile_in profile.now)) }
+    ensures codes { IfErr result (λ status. (code_of status ≤ 4) × (status ≢ Status.Done)) }
+{
+    if uid.is_broadcast() {
+        return Err(Status::BadUid);
+    }
+    if queue_size == 0 || queue_size > MOST_WAITING || entries == 0 || entries > MOST_ENTRIES {
+        return Err(Status::BadSize);
+    }
+    if profile.fault().is_some() {
+        return Err(Status::BadProfile);
+    }
+    match profile.profile(alloc) {
+        Ok(profile) => Ok(profile),
+        Err(_) => Err(Status::OutOfMemory),
+    }
 }
 
 /// Makes a responder, in the place of what the handle held.
