@@ -80,7 +80,7 @@ typedef struct {
 #define FELOSUMAY_TEXT(letters) { sizeof(letters) - 1, letters }
 
 typedef struct {
-    uint16_t footprint; /* how many DMX512 slots it takes: of the root at most slot_count, of sub-devices at most 512 */
+    uint16_t footprint; /* how many DMX512 slots it takes: of the root at most slot_count and more_slots together; at most 512 */
     felosumay_text name;
 } felosumay_personality;
 
@@ -115,6 +115,36 @@ typedef struct {
     felosumay_text text;
 } felosumay_status_text;
 
+/* Data types (table A-15), and the commands of a parameter (table A-16). */
+enum {
+    FELOSUMAY_DS_NOT_DEFINED = 0x00, /* slots of a form that is told elsewhere */
+    FELOSUMAY_DS_BIT_FIELD = 0x01,
+    FELOSUMAY_DS_ASCII = 0x02, /* a text of at most 32 bytes */
+    FELOSUMAY_DS_UNSIGNED_BYTE = 0x03,
+    FELOSUMAY_DS_SIGNED_BYTE = 0x04,
+    FELOSUMAY_DS_UNSIGNED_WORD = 0x05,
+    FELOSUMAY_DS_SIGNED_WORD = 0x06,
+    FELOSUMAY_DS_UNSIGNED_DWORD = 0x07,
+    FELOSUMAY_DS_SIGNED_DWORD = 0x08
+};
+enum { FELOSUMAY_CC_GET = 0x01, FELOSUMAY_CC_SET = 0x02, FELOSUMAY_CC_GET_SET = 0x03 };
+
+/* A parameter of the maker's own, which the root has (section 10.4.2). PARAMETER_DESCRIPTION tells all but `resets` of those of
+ * 0x8000 to 0xFFDF. Its values are in `unit`, times what `prefix` stands for. */
+typedef struct {
+    int64_t low; /* the least and the greatest number that it takes: numbers of its type, or of other data without meaning */
+    int64_t high;
+    uint16_t pid;     /* 0x8000 to 0xFFDF, or 0x0070, 0x0340, 0x0341, 0x0342 or 0x1040 of the standards; no two alike */
+    uint8_t kind;     /* the type of its data, FELOSUMAY_DS_.. */
+    uint8_t commands; /* FELOSUMAY_CC_.. */
+    uint8_t size;     /* how many slots a bit field or data of no defined type have: 0 to 32; of other types without meaning */
+    uint8_t unit;     /* FELOSUMAY_UNITS_.. */
+    uint8_t prefix;   /* FELOSUMAY_PREFIX_.. */
+    uint8_t resets;   /* 1 if FACTORY_DEFAULTS sets it back, as a setting; 0 if it doesn't, as of a counter */
+    felosumay_text start; /* what it starts with: the data of a SET, in its range, the most significant byte first */
+    felosumay_text name;
+} felosumay_parameter;
+
 typedef struct {
     uint32_t software; /* the software version ID: any number */
     uint16_t model;    /* the model ID: any number of the maker's */
@@ -145,6 +175,12 @@ typedef struct {
     felosumay_sensor sensors[8];
     felosumay_self_test tests[8];
     felosumay_status_text status_texts[8];
+    uint16_t more_slots; /* how many DMX512 slots the root has beside those of `slots`, which nothing describes: 0 to 512 */
+    /* What lies outside: `new` reads it once, and it may be NULL if there is none. */
+    const felosumay_parameter *parameters; /* the maker's own, by ascending PID */
+    size_t parameter_count;                /* 0 to 16 */
+    const uint16_t *without;               /* the PIDs of those of docs/PARAMETERS.md that the fixture hasn't, in any order */
+    size_t without_count;                  /* 0 to 36 */
 } felosumay_profile;
 
 /* The rules of a profile, in the order in which they are tested. BAD_PROFILE says that one of them is broken. */
@@ -154,12 +190,19 @@ enum {
     FELOSUMAY_FAULT_PRESETS = 2,       /* presets is below 65535 */
     FELOSUMAY_FAULT_PERSONALITIES = 3, /* root and sub have at least one personality each, even if there are no sub-devices */
     FELOSUMAY_FAULT_START = 4,         /* the start address of root and of sub is 1 to 512, even if there are no sub-devices */
-    FELOSUMAY_FAULT_FOOTPRINT = 5,     /* the footprint of each personality of root is at most slot_count, and so at most 46 */
+    FELOSUMAY_FAULT_FOOTPRINT = 5,     /* that of each personality of root is at most slot_count + more_slots, and at most 512 */
     FELOSUMAY_FAULT_SUB_FOOTPRINT = 6, /* the footprint of each personality of sub is at most 512 */
     FELOSUMAY_FAULT_LANGUAGES = 7,     /* there is a language */
     FELOSUMAY_FAULT_TEST_NUMBER = 8,   /* the number of each self test is 1 to 254 */
     FELOSUMAY_FAULT_TWIN_TESTS = 9,    /* no two self tests have the same number */
-    FELOSUMAY_FAULT_TWIN_TEXTS = 10    /* no two status texts have the same ID */
+    FELOSUMAY_FAULT_TWIN_TEXTS = 10,   /* no two status texts have the same ID */
+    FELOSUMAY_FAULT_LEFT_OUT = 11, /* without_count is at most 36, and each of `without` is a parameter that a device may lack */
+    FELOSUMAY_FAULT_LEFT_OUT_NEEDED = 12,   /* whoever leaves out a parameter leaves out those that need it */
+    FELOSUMAY_FAULT_PARAMETER_COUNT = 13,   /* parameter_count is at most 16 */
+    FELOSUMAY_FAULT_PARAMETER_PID = 14,     /* each has a PID that is free for it, and no two the same */
+    FELOSUMAY_FAULT_PARAMETER_LIMITS = 15,  /* kind and commands are of those above; size is at most 32; low and high fit, in order */
+    FELOSUMAY_FAULT_PARAMETER_START = 16,   /* start has as many bytes as the data, and is in range */
+    FELOSUMAY_FAULT_PARAMETER_ORDER = 17    /* their PIDs ascend */
 };
 
 /* Which rule the profile breaks: the first of them, or NO_FAULT, and then `new` doesn't call it a BAD_PROFILE. */

@@ -7,6 +7,7 @@
 #include <array>
 #include <cstddef>
 #include <cstdint>
+#include <iterator>
 #include <string_view>
 #include <type_traits>
 #include <utility>
@@ -59,6 +60,20 @@ using value = buffer<FELOSUMAY_VALUE_BYTES>;
 
 inline result read_reply(bytes heard, felosumay_reply &reply) noexcept {
     return felosumay_reply_read(heard.data(), heard.size(), &reply);
+}
+
+// Which rule a profile breaks, FELOSUMAY_FAULT_..: the first of them, or FELOSUMAY_NO_FAULT.
+inline std::uint8_t profile_fault(const felosumay_profile &profile) noexcept { return felosumay_profile_fault(&profile); }
+
+// Lend a profile the parameters of the maker's own, and the PIDs of those that the fixture hasn't: of an array, a std::vector or any
+// other range with data and size, which has to stay as it is until the responder is made.
+template <class Parameters> void lend_parameters(felosumay_profile &profile, const Parameters &parameters) noexcept {
+    profile.parameters = std::data(parameters);
+    profile.parameter_count = std::size(parameters);
+}
+template <class Pids> void lend_without(felosumay_profile &profile, const Pids &without) noexcept {
+    profile.without = std::data(without);
+    profile.without_count = std::size(without);
 }
 
 // A handle of C's that frees what it holds.

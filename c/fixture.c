@@ -26,6 +26,8 @@ static const felosumay_profile PROFILE = {
     {{0x8001, FELOSUMAY_TEXT("Lamp failed to strike")},
      {0x8002, FELOSUMAY_TEXT("Fan %d stands still")},
      {0x8003, FELOSUMAY_TEXT("Overheated: %d degrees C")}},
+    /* no more slots, no parameters of the maker's own, and none that are left out: c/own.c has some */
+    0, NULL, 0, NULL, 0,
 };
 
 static void print_bytes(const char *what, const uint8_t *bytes, size_t count) {
