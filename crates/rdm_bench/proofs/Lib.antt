@@ -1,3 +1,4 @@
+pub mod Device
 pub mod Sums
 pub mod Frames
 pub mod Runs

@@ -15,7 +15,7 @@ use Rattle.rdm_device.specs.Device.Profiles.{CanBeMade, AreGoodParameters, MayBe
 none_differ : {X : Type 0} (R : X → X → Type 0) → AllPairs R []
 none_differ R i j d lt within = absurd (omega arith)
 
-two_differ : {X : Type 0} (R : X → X → Type 0) (a b : X) → R a b → AllPairs R (a ∷ b ∷ [])
+pub two_differ : {X : Type 0} (R : X → X → Type 0) (a b : X) → R a b → AllPairs R (a ∷ b ∷ [])
 two_differ R a b differ =
     AllPairs-cons R a (b ∷ []) (All-from_recursion (R a) (b ∷ []) (differ, tt)) (AllPairs-cons R b [] (All-from_recursion (R b) [] tt) (none_differ R))
 
