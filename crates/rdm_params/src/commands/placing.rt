@@ -35,7 +35,8 @@ const SENSOR_SLOTS: usize = 9;
 impl Devices {
     /// Makes a stored value at the root, or at one sub-device, what a SET of it would make it: at once, with no message,
     /// and for a slow SET too. What a sensor shows is placed by the 9 slots with which SENSOR_VALUE replies: the number,
-    /// then the present, the lowest, the highest and the recorded value (E1.20 section 10.7.2).
+    /// then the present, the lowest, the highest and the recorded value (E1.20 section 10.7.2). A parameter of the maker's own is
+    /// placed at the root, whichever commands it has.
     ///
     /// It is `NoDevice` if there is no such sub-device, else `NoValue` if the device stores no value of this parameter,
     /// else `Length` if the data have another length than the value, and else `OutOfRange` if the SET would be out of

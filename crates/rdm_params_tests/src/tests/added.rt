@@ -180,3 +180,39 @@ fn factory_defaults_set_back_what_says_so(rt: HostRuntime) {
     ];
     plays(&rt, &mut made(&rt, rt.alloc(), profile), &steps);
 }
+
+use PlaceError::{Length, NoDevice, NoValue, OutOfRange};
+
+/// What firmware places at the fixture: the sub-device, the PID, the data, and why it is refused.
+const PLACED: [(u16, u16, &'static [u8], Result<(), PlaceError>); 9] = [
+    // One without SET, and one without GET.
+    (0, 0x8002, &[0, 0, 0, 9], Ok(())),
+    (0, 0x8020, b"Encore", Ok(())),
+    (0, 0x8001, &[0x1F, 0x40], Ok(())),
+    (0, 0x8002, &[0, 0, 0, 10], Err(OutOfRange)),
+    (0, 0x8001, &[0x1F], Err(Length)),
+    (1, 0x8001, &[0x1F, 0x40], Err(NoValue)),
+    (2, 0x8001, &[0x1F, 0x40], Err(NoDevice)),
+    (0, 0x0051, &[0x80, 0x01], Err(NoValue)),
+    // What the fixture lacks.
+    (0, 0x0402, &[0, 0, 0, 1], Err(NoValue)),
+];
+
+#[test]
+fn what_is_placed_of_its_own_is_shown(rt: HostRuntime) {
+    let profile = wash(&rt, rt.alloc());
+    let mut devices = made(&rt, rt.alloc(), profile);
+    for (sub, pid, bytes, expected) in &PLACED {
+        assert_eq!(rt;
+            devices.place(*sub, *pid, bytes),
+            *expected,
+            "{sub:04X} {pid:04X} {bytes:?}"
+        );
+    }
+    let steps: [Step<'static>; 3] = [
+        (Get, 0, 0x8002, &[], Reply(&[0, 0, 0, 9])),
+        (Get, 0, 0x8001, &[], Reply(&[0x1F, 0x40])),
+        (Get, 0, 0x0090, &[], Reply(&[0])),
+    ];
+    plays(&rt, &mut devices, &steps);
+}
