@@ -71,7 +71,8 @@ static void explore(felosumay_collector *bus, felosumay_responder *fixture) {
     ask(bus, fixture, FELOSUMAY_PID_DMX_PERSONALITY_DESCRIPTION, FELOSUMAY_GET, &first, 1);
 }
 
-/* A SET of the colour temperature: firmware sees it as any other. A value beyond the greatest is refused, and so is a SET of the counter. */
+/* A SET of the colour temperature: firmware sees it as any other. A value beyond the greatest is refused, and so is a SET of the
+ * counter. */
 static void set(felosumay_collector *bus, felosumay_responder *fixture) {
     const uint8_t daylight[2] = {0x15, 0xE0}, beyond[2] = {0x19, 0x65}, none[4] = {0x00, 0x00, 0x00, 0x00};
     ask(bus, fixture, COLOUR_TEMPERATURE, FELOSUMAY_GET, NULL, 0);
