@@ -1,5 +1,5 @@
 -- The rules of a profile: all of them, and one by one.
-use Rattle.std.proofs.Common.{ℕ, List}
+use Rattle.std.proofs.Common.{◌≡◌, ℕ, List, ap, ◌∙◌}
 use Rattle.rdm_device.specs.declared.profile.Profile.{Profile}
 use Rattle.rdm_device.specs.declared.profile.own.ParameterDef.{ParameterDef}
 use Rattle.rdm_device.specs.Device.Faults.{KeepsOthers, with_parameters}
@@ -30,3 +30,7 @@ keeps_others p without own can =
 
 pub keeps_parameters : (p : Profile) (without : List ℕ) (own : List ParameterDef) → CanBeMade (with_parameters p without own) → MayBeLeftOut without × AreGoodParameters own
 keeps_parameters p without own can = (can.1.without, can.1.own)
+
+-- a profile with its own parameters, and without those that it leaves out
+pub same_profile : (p : Profile) (without : List ℕ) (own : List ParameterDef) → without ≡ p.without.items → own ≡ p.own → with_parameters p without own ≡ p
+same_profile p without own e f = ap (λ (pids : List ℕ). with_parameters p pids own) e ∙ ap (λ (ds : List ParameterDef). with_parameters p p.without.items ds) f

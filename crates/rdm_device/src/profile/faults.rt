@@ -65,6 +65,7 @@ pub fn profile_fault(profile: &Profile) -> Option<ProfileFault>
 
 /// The first rule that the profile would break if it left out the parameters with these PIDs and had these of the maker's own, and no
 /// others, or `None` if it would break none. So they can be judged before there is memory for them.
+#[tactic(auto, using(crate::proofs::Faults::made, crate::proofs::Faults::keeps_others, crate::proofs::Faults::keeps_parameters))]
 pub fn profile_fault_with(
     profile: &Profile,
     without: &[u16],
