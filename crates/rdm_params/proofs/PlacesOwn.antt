@@ -85,3 +85,8 @@ own_viewed p root' added' d bytes o e f g =
 pub ok_viewed : {A : Type 0} (r : Result A PlaceError) (p : Parameters) (root' added' : List Entry) (d : ParameterDef) (bytes : List ℕ) (o : Option ParameterDef) → root' ≡ p.root → OnOk r ((spot : Spot) → spot.added ≡ p.added → added' ≡ own_values spot d bytes) → Some d ≡ o → OnOk r (record p { root = root'; added = added' } ≡ option_map_or (λ x. own_placed p x bytes) o p)
 ok_viewed (Err n) p root' added' d bytes o e f g = tt
 ok_viewed (Ok u) p root' added' d bytes o e f g = own_viewed p root' added' d bytes o e (f (root_spot p) refl) g
+
+-- what a value is that is read and stored
+pub values_are : (spot : Spot) (d : ParameterDef) (bytes : List ℕ) (value : Value) (old new : List Entry) → value_of (form_of d.shape) bytes ≡ Some value → spot.added ≡ old → new ≡ update (added_stored d.pid spot value) old → new ≡ own_values spot d bytes
+values_are spot d bytes value old new is same e =
+    e ∙ ap (λ (es : List Entry). update (added_stored d.pid spot value) es) (sym same) ∙ sym (ap (λ (o : Option Value). option_map_or (λ v. update (added_stored d.pid spot v) spot.added) o spot.added) is)

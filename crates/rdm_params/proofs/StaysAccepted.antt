@@ -2,6 +2,7 @@
 use Rattle.std.proofs.Common.{◌≡◌, ℕ, zero, suc, ◌-◌, ◌==◌, ◌&&◌, not, Bool, true, false, cond, List, [], ◌∷◌, length, map, replicate, Option, Some, None, Result, Ok, Err, refl, sym, ap, ◌∙◌}
 use Rattle.std.specs.Prelude.{slice_get, slice_set, slice_index_or, option_to_list, is_some}
 use Rattle.std.specs.List.{list_all}
+use Rattle.std.specs.Option.{option_map_or}
 use Rattle.std.proofs.lemmas.List.{length-map, length-set}
 use Rattle.rdm_params.specs.declared.kind.Verb.{Verb}
 use Rattle.rdm_params.specs.declared.kind.Verb.TheVariants.{Set}
@@ -15,8 +16,10 @@ use Rattle.rdm_device.specs.declared.value.Value.{Value}
 use Rattle.rdm_device.specs.declared.value.Value.TheVariants.{Byte}
 use Rattle.rdm_params.specs.Commands.Commands.{command_of, command_at, accepted, read_data, after_set, after_accepted, carried_out, written, added_written, addressed, root_spot, sub_spot, is_all_call, is_some_device, known, suits, check, ◌>>=◌}
 use Rattle.rdm_params.specs.Commands.Panel.{changed_pid, changed_value, can_change, after_change}
-use Rattle.rdm_params.specs.Commands.Placing.{place_refusal, after_value, after_place}
-use Rattle.rdm_device.specs.Device.Map.{Entry}
+use Rattle.rdm_params.specs.Commands.Placing.{place_refusal, after_value, after_place, has_set, own_at, own_placed}
+use Rattle.rdm_device.specs.declared.profile.own.ParameterDef.{ParameterDef}
+use Rattle.rdm_device.specs.Device.Map.{Entry, update}
+use Rattle.rdm_device.specs.Device.Measuring.{placed_by}
 use Rattle.rdm_device.specs.Device.Parameters.{Parameters}
 use Rattle.rdm_params.specs.Jobs.Commit.{after_commit}
 use Rattle.rdm_params.specs.Jobs.Laws.{SameDevices, StaysAccepted, SetKeepsDevices, CommitKeepsDevices, PanelKeepsDevices, PlaceKeepsDevices}
@@ -163,12 +166,16 @@ value_keeps : (p : Parameters) (sub pid : ℕ) (read' : Result Value Nack) → S
 value_keeps p sub pid (Err nack) = record { profile = refl; subs = refl }
 value_keeps p sub pid (Ok v) = carried_keeps p sub (command_of pid Set) v
 
-unless_refused : (p new other : Parameters) (refused kept : Bool) → SameDevices p new → SameDevices p other → SameDevices p (cond refused p (cond kept new other))
-unless_refused p new other true kept a b = record { profile = refl; subs = refl }
-unless_refused p new other false true a b = a
-unless_refused p new other false false a b = b
+own_keeps : (p : Parameters) (bytes : List ℕ) (own : Option ParameterDef) → SameDevices p (option_map_or (λ d. own_placed p d bytes) own p)
+own_keeps p bytes None = record { profile = refl; subs = refl }
+own_keeps p bytes (Some d) = record { profile = refl; subs = refl }
+
+either_keeps : (p new other : Parameters) (first : Bool) → SameDevices p new → SameDevices p other → SameDevices p (cond first new other)
+either_keeps p new other true a b = a
+either_keeps p new other false a b = b
 
 pub place_keeps_devices : PlaceKeepsDevices
 unfolding after_place
 place_keeps_devices p sub pid bytes =
-    unless_refused p _ _ (is_some (place_refusal p sub pid bytes)) (keeps (command_of pid Set)) (value_keeps p sub pid (read (command_of pid Set) bytes)) (record { profile = refl; subs = refl })
+    let stored = either_keeps p _ (record p { root = update (placed_by bytes) p.root }) (keeps (command_of pid Set)) (value_keeps p sub pid (read (command_of pid Set) bytes)) (record { profile = refl; subs = refl }) in
+    either_keeps p p _ (is_some (place_refusal p sub pid bytes)) (record { profile = refl; subs = refl }) (either_keeps p _ _ (not (has_set p sub pid)) (own_keeps p bytes (own_at p sub pid)) stored)
