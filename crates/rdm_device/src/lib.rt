@@ -23,7 +23,9 @@ pub use laws::{
 };
 pub use profile::checks::is_good;
 pub use profile::faults::{ProfileFault, profile_fault};
+pub use profile::left_out::{are_optional, leave_no_need};
 pub use profile::own::{OwnParameters, ParameterDef, Rights, Shape};
+pub use profile::own_checks::is_addable;
 pub use profile::{Personality, Profile, SelfTest, SensorDef, Slot, StatusText, Unit};
 pub use value::Value;
 pub use value::argument::Argument;

@@ -4,7 +4,7 @@ mod blank;
 pub(crate) mod checks;
 mod demo;
 pub(crate) mod faults;
-mod left_out;
+pub(crate) mod left_out;
 mod making;
 pub(crate) mod own;
 pub(crate) mod own_checks;

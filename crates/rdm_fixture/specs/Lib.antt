@@ -1,6 +1,7 @@
 pub mod Values
 pub mod Keys
 pub mod Outcomes
+pub mod Parameters
 pub mod Format
 pub mod Describes
 pub mod Describable

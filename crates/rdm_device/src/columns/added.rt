@@ -62,8 +62,8 @@ pub fn is_within(def: &ParameterDef, value: &Argument<'_>) -> bool
     }
 }
 
-/// The number that a value says in a shape.
-fn number_in(shape: Shape, value: &Argument<'_>) -> Option<i64>
+/// The number that a value says in a shape, in two's complement where that is signed, or `None` where the data are no number.
+pub fn number_in(shape: Shape, value: &Argument<'_>) -> Option<i64>
     ensures { result ≡ number_in shape value.now }
 {
     match shape {

@@ -13,8 +13,8 @@ pub(crate) fn may_be_left_out(pids: &[u16]) -> bool
     are_optional(pids) && leave_no_need(pids)
 }
 
-/// Whether a device may lack each of these parameters.
-fn are_optional(pids: &[u16]) -> bool
+/// Whether a device may lack each of these parameters (E1.20 table A-3).
+pub fn are_optional(pids: &[u16]) -> bool
     ensures { IsTrue result ↔ All (λ pid. IsTrue (is_optional pid)) pids.now }
 {
     pids.iter().all(|pid| is_optional(*pid))
@@ -37,8 +37,8 @@ fn is_optional(pid: u16) -> bool
     }
 }
 
-/// Whether no parameter stays that needs one of these.
-fn leave_no_need(pids: &[u16]) -> bool
+/// Whether no parameter stays that needs one of these, as a description needs the list of what it describes.
+pub fn leave_no_need(pids: &[u16]) -> bool
     ensures { result ≡ leave_no_need pids.now }
 {
     go_together(pids, 0x0030, 0x0031)

@@ -1,6 +1,6 @@
 //! The parameters that a fixture has beside those of the standard.
 
-ghost use Rattle.std.specs.Prelude.{◌≡◌, ◌<◌, ◌≤◌, [], ◌∷◌, ◌++◌, length, OnErr, OnOk};
+ghost use Rattle.std.specs.Prelude.{◌≡◌, ◌<◌, ◌≤◌, [], ◌∷◌, ◌++◌, length, IfOk, OnErr, OnOk};
 
 use arrayvec::ArrayVec;
 use rdm_frame::Text;
@@ -89,6 +89,17 @@ impl OwnParameters {
         ensures { result ≡ [] }
     {
         OwnParameters { list: None }
+    }
+
+    /// These parameters. They take memory unless there are none.
+    pub fn of(alloc: Global, list: ArrayVec<ParameterDef, 16>) -> Result<Self, AllocError>
+        ensures { IfOk result (λ own. own ≡ list.items) }
+    {
+        if list.is_empty() {
+            return Ok(OwnParameters::none());
+        }
+        let list = Some(Box::new(alloc, list)?);
+        Ok(OwnParameters { list })
     }
 
     /// The parameters.

@@ -31,8 +31,9 @@ fn is_good_parameter(def: &ParameterDef) -> bool
         && can_start(def)
 }
 
-/// Whether a maker may add a parameter with this PID.
-fn is_addable(pid: u16) -> bool
+/// Whether a maker may add a parameter with this PID: 0x8000 to 0xFFDF (E1.20 table A-3), or one of the standards' whose data can be
+/// described so.
+pub fn is_addable(pid: u16) -> bool
     ensures { result ≡ is_addable pid }
 {
     is_makers(pid) || is_lent(pid)
