@@ -116,13 +116,9 @@ abbrev pub slot_count : Option Data → ℕ
 slot_count (Some (array ds)) = items_count ds
 slot_count _ = 0
 
--- how many the root uses besides
-abbrev pub more_slots : Option Data → Option ℕ
-more_slots = may 0 (number 0 512)
-
--- how many it can use, of the 512 that there are
+-- how many the root can use: those and so many more, of the 512 that there are
 abbrev pub root_slots : Members → ℕ
-root_slots t = min 512 (slot_count (get_member (codes "slot") t) + unwrap_or (more_slots (get_member (codes "more_slots") t)) 0)
+root_slots t = min 512 (slot_count (get_member (codes "slot") t) + unwrap_or (may 0 (number 0 512) (get_member (codes "more_slots") t)) 0)
 
 -- the PID of the parameter of the standard with this name
 abbrev pub parameter_named : Data → Option ℕ
@@ -156,7 +152,7 @@ pub record IsProfile (t : Members) (p : Profile) : Type 0 where
   pub statuses : Lists t (codes "status") (OfTable IsStatus) 0 8 p.status_texts.items
   pub statuses_differ : AllPairs (λ a b. a.id ≢ b.id) p.status_texts.items
   pub presets : May t (codes "presets") 0 (number 0 65534) p.presets
-  pub more_slots : more_slots (get_member (codes "more_slots") t) ≡ Some p.more_slots
+  pub more_slots : May t (codes "more_slots") 0 (number 0 512) p.more_slots
   pub without : Lists t (codes "without") (λ d pid. parameter_named d ≡ Some pid) 0 36 p.without.items
   pub may_lack : MayBeLeftOut p.without.items
   pub own : Lists t (codes "parameter") (OfTable IsParameter) 0 16 p.own
