@@ -3,6 +3,7 @@ pub mod Keys
 pub mod Outcomes
 pub mod Parameters
 pub mod Format
+pub mod Drafts
 pub mod Describes
 pub mod Describable
 pub mod Cause

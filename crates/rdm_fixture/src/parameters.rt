@@ -1,6 +1,6 @@
 //! The parameters that the maker adds, as entries of a list.
 
-ghost use Rattle.std.specs.Prelude.{◌≡◌, IfErr, codes};
+ghost use Rattle.std.specs.Prelude.{◌≡◌, Some, IfErr, codes};
 ghost use Rattle.std.specs.Result.{result_ok};
 ghost use Rattle.toml.specs.Data.{get_member};
 ghost use Rattle.toml.specs.View.{view, table_view};
@@ -13,7 +13,7 @@ ghost use Rattle.rdm_fixture.specs.Wrong.{FirstWrong, needed};
 ghost use Rattle.rdm_fixture.specs.declared.refusal.Wanted.TheVariants as wanted;
 
 mod limits;
-mod start;
+mod starting;
 
 use crate::keys::{find, flag_or, integer_in, number_or, only, text_or_none};
 use crate::lists::FromEntry;
@@ -21,7 +21,7 @@ use crate::refusal::{Refusal, Wanted};
 use limits::{greatest, least};
 use rdm_device::columns::added::has_set;
 use rdm_device::{ParameterDef, Rights, Shape, is_addable};
-use start::start;
+use starting::start;
 use toml::{Table, Value};
 
 pub(crate) use limits::{greatest_of, least_of};
