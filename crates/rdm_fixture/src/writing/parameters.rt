@@ -1,15 +1,17 @@
 //! What is written of the parameters that the maker adds.
 
-ghost use Rattle.std.specs.Prelude.{◌≡◌, ◌<◌, ℤ, IfOk, IfSome, IsTrue, Some, None, option_and_then};
-ghost use Rattle.std.specs.Int.{};
+ghost use Rattle.std.specs.Prelude.{◌≡◌, IfOk, IsTrue, Some, option_and_then, string_bytes};
+ghost use Rattle.std.specs.Str.Lossy.{utf8_lossy};
 ghost use Rattle.toml.specs.View.{view};
+ghost use Rattle.rdm_frame.specs.Digits.{digits};
+ghost use Rattle.rdm_device.specs.declared.profile.own.ParameterDef.{ParameterDef};
 ghost use Rattle.rdm_device.specs.Columns.Forms.{value_of};
-ghost use Rattle.rdm_device.specs.Device.OwnParameters.{form_of, number_in};
+ghost use Rattle.rdm_device.specs.Device.OwnParameters.{form_of, number_in, can_start};
 ghost use Rattle.rdm_device.specs.Device.Profiles.{IsGoodParameter};
 ghost use Rattle.rdm_fixture.specs.Describable.{is_sayable, can_stand};
 ghost use Rattle.rdm_fixture.specs.Parameters as says;
 ghost use Rattle.rdm_fixture.specs.Parameters.{IsParameter};
-ghost use Rattle.rdm_fixture.specs.Writing.{IsPlain, CanStart, rights_name, shape_name};
+ghost use Rattle.rdm_fixture.specs.Writing.{IsPlain, rights_name, shape_name, written_slots};
 
 use super::fields::{ToEntry, put, put_byte, put_flag, put_integer, put_name, put_text, put_word};
 use rdm_device::columns::added::{number_in, read_shape};
@@ -70,8 +72,8 @@ fn shape_name(shape: Shape) -> &'static str
 
 /// What is written of the data that a parameter starts with: a number, a text, or the digits of its slots.
 fn start_of(alloc: Global, shape: Shape, start: &[u8]) -> Result<Value, AllocError>
-    ensures says { IfOk result (λ v. (low high : ℤ) → CanStart shape low high start.now → IsTrue (can_stand shape start.now)
-        → says.start shape low high (view v) ≡ Some start.now) }
+    ensures says { IfOk result (λ v. (d : ParameterDef) → d.shape ≡ shape → d.start ≡ start.now → IsTrue (can_start d) → IsTrue (can_stand d.shape d.start)
+        → says.start d.shape d.low d.high (view v) ≡ Some d.start) }
     ensures plain { IfOk result (λ v. IsPlain 0 (view v)) }
 {
     match number_of(shape, start) {
@@ -88,13 +90,22 @@ fn number_of(shape: Shape, slots: &[u8]) -> Option<i64>
 }
 
 /// A text as it is, and other slots in digits.
-fn text_of(alloc: Global, shape: Shape, start: &[u8]) -> Result<String, AllocError>
-    ensures { IfOk result (λ text. IsWritten shape start.now (string_bytes text)) }
+fn text_of(alloc: Global, shape: Shape, slots: &[u8]) -> Result<String, AllocError>
+    ensures { IfOk result (λ text. string_bytes text ≡ written_slots shape slots.now) }
 {
-    if shape == Shape::Text {
-        return String::from_utf8_lossy(alloc, start);
+    match shape {
+        Shape::Text => String::from_utf8_lossy(alloc, slots),
+        Shape::Byte | Shape::SignedByte | Shape::Word => digits_of(alloc, slots),
+        Shape::SignedWord | Shape::Long | Shape::SignedLong => digits_of(alloc, slots),
+        Shape::Bits(_) | Shape::Slots(_) => digits_of(alloc, slots),
     }
-    let mut digits = Vec::new(alloc);
-    put_digits(&mut digits, start)?;
-    String::from_utf8_lossy(alloc, digits.as_slice())
+}
+
+/// Two hexadecimal digits for each slot.
+fn digits_of(alloc: Global, slots: &[u8]) -> Result<String, AllocError>
+    ensures { IfOk result (λ text. string_bytes text ≡ utf8_lossy (digits slots.now)) }
+{
+    let mut text = Vec::new(alloc);
+    put_digits(&mut text, slots)?;
+    String::from_utf8_lossy(alloc, text.as_slice())
 }
