@@ -1,5 +1,5 @@
 -- A device can be made with each profile that a table says.
-use Rattle.std.proofs.Common.{◌≡◌, ℕ, ◌+◌, ◌<◌, ◌≤◌, min, pos, negsuc, Bool, true, false, if◌then◌else◌, List, [], ◌∷◌, length, Option, Some, None, All, refl, sym, arith, codes}
+use Rattle.std.proofs.Common.{◌≡◌, ℕ, ◌+◌, ◌<◌, ◌≤◌, min, pos, negsuc, Bool, true, false, if◌then◌else◌, List, [], ◌∷◌, length, Option, Some, None, All, refl, sym, ap, ◌∙◌, arith, codes}
 use Rattle.std.specs.Prelude.{unwrap_or}
 use Rattle.std.proofs.lemmas.Bool.{and_parts, leb-true}
 use Rattle.std.proofs.lemmas.Option.{same_Some}
@@ -124,6 +124,10 @@ some_language (Some (datetime dt)) xs h = absurd h
 
 numbered : (t : Members) (s : SelfTest) → IsSelfTest t s → (0 < s.number) × (s.number < 255)
 numbered t s h = let (low, high) = must_range 1 254 (get_member (codes "number") t) _ h.number in (omega (arith, low), omega (arith, high))
+
+pub slots_counted : (found : Option ℕ) (described count more : ℕ) → Some more ≡ found → described ≡ count → min 512 (described + more) ≡ min 512 (count + unwrap_or found 0)
+slots_counted found described count more is same =
+    ap (λ (n : ℕ). min 512 (n + more)) same ∙ ap (λ (o : Option ℕ). min 512 (count + unwrap_or o 0)) is
 
 -- as many slots as the root can use
 all_slots : (found : Option ℕ) (described count more : ℕ) → found ≡ Some more → described ≡ count → min 512 (described + unwrap_or found 0) ≡ min 512 (count + more)

@@ -1,0 +1,58 @@
+use Rattle.std.proofs.Common.{◌≡◌, List, ℕ, All, IsTrue, inl, inr, sym, ap, ◌∙◌, subst}
+use Rattle.std.proofs.lemmas.Bool.{false≢true}
+use Rattle.rdm_device.specs.Device.LeftOut.{is_optional, leave_no_need}
+use Rattle.rdm_fixture.proofs.OneFixture.{one_names}
+use Rattle.rdm_fixture.proofs.profile.added.without.Goals as goal
+
+pub returns-then-not-are_optional-clause-read : goal.returns-then-not-are_optional-clause-read
+returns-then-not-are_optional-clause-read c = λ xs h.
+    let same : xs.items ≡ c.as_slice.result.now = one_names _ _ _ h.0 c.in_ok-pids.ensures.read ∙ sym c.as_slice.ensures.value in
+    let Optional : List ℕ → Type 0 = λ pids. All (λ pid. IsTrue (is_optional pid)) pids in
+    absurd (false≢true (sym c.if-not-are_optional.true ∙ c.are_optional.ensures.1 (subst Optional same h.1.optional)))
+
+pub returns-then-not-are_optional-clause-wrong : goal.returns-then-not-are_optional-clause-wrong
+returns-then-not-are_optional-clause-wrong c =
+    let read = c.in_ok-pids.ensures.read in
+    let Optional : List ℕ → Type 0 = λ pids. All (λ pid. IsTrue (is_optional pid)) pids in
+    inr (
+      (c.in_ok-pids.pids.items, read),
+      inl (
+        c.in_ok-pids.pids.items,
+        read,
+        (λ all. false≢true (sym c.if-not-are_optional.true ∙ c.are_optional.ensures.1 (subst Optional (sym c.as_slice.ensures.value) all))),
+        c.at-then-not-are_optional.ensures,
+      ),
+    )
+
+pub returns-then-not-leave_no_need-clause-read : goal.returns-then-not-leave_no_need-clause-read
+returns-then-not-leave_no_need-clause-read c = λ xs h.
+    let same : xs.items ≡ c.as_slice-2.result.now = one_names _ _ _ h.0 c.in_ok-pids.ensures.read ∙ sym c.as_slice-2.ensures.value in
+    absurd (false≢true (sym c.if-not-leave_no_need.true ∙ c.leave_no_need.ensures ∙ ap leave_no_need (sym same) ∙ h.1.needs))
+
+pub returns-then-not-leave_no_need-clause-wrong : goal.returns-then-not-leave_no_need-clause-wrong
+returns-then-not-leave_no_need-clause-wrong c =
+    let read = c.in_ok-pids.ensures.read in
+    let Optional : List ℕ → Type 0 = λ pids. All (λ pid. IsTrue (is_optional pid)) pids in
+    let optional : Optional c.in_ok-pids.pids.items = subst Optional c.as_slice.ensures.value (c.are_optional.ensures.0 c.if-not-are_optional.false) in
+    inr (
+      (c.in_ok-pids.pids.items, read),
+      inr (
+        (c.in_ok-pids.pids.items, (read, optional)),
+        inl (
+          c.in_ok-pids.pids.items,
+          read,
+          ap leave_no_need (sym c.as_slice-2.ensures.value) ∙ sym c.leave_no_need.ensures ∙ c.if-not-leave_no_need.true,
+          c.at-then-not-leave_no_need.ensures,
+        ),
+      ),
+    )
+
+pub returns-clause-read : goal.returns-clause-read
+returns-clause-read c =
+    let Optional : List ℕ → Type 0 = λ pids. All (λ pid. IsTrue (is_optional pid)) pids in (
+      c.in_ok-pids.ensures.read,
+      record {
+        optional = subst Optional c.as_slice.ensures.value (c.are_optional.ensures.0 c.if-not-are_optional.false);
+        needs = ap leave_no_need (sym c.as_slice-2.ensures.value) ∙ sym c.leave_no_need.ensures ∙ c.if-not-leave_no_need.false;
+      },
+    )
