@@ -21,4 +21,5 @@ pub mod Said
 pub mod WrittenEntries
 pub mod WrittenUnits
 pub mod WrittenRules
+pub mod WrittenParameters
 pub mod WrittenFixtures

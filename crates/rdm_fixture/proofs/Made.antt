@@ -130,7 +130,7 @@ slots_counted found described count more is same =
     ap (λ (n : ℕ). min 512 (n + more)) same ∙ ap (λ (o : Option ℕ). min 512 (count + unwrap_or o 0)) is
 
 -- as many slots as the root can use
-all_slots : (found : Option ℕ) (described count more : ℕ) → found ≡ Some more → described ≡ count → min 512 (described + unwrap_or found 0) ≡ min 512 (count + more)
+pub all_slots : (found : Option ℕ) (described count more : ℕ) → found ≡ Some more → described ≡ count → min 512 (described + unwrap_or found 0) ≡ min 512 (count + more)
 all_slots found described count more is same = rw (is, same) refl
 
 pub made : (t : Members) (p : Profile) → IsProfile t p → CanBeMade p

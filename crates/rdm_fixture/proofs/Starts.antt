@@ -15,19 +15,20 @@ use Rattle.rdm_frame.specs.Digits.{digit, digits, upper, SpellsBytes}
 use Rattle.rdm_frame.specs.DigitReading.{bytes_in}
 use Rattle.rdm_frame.proofs.NumberSpellings.{long}
 use Rattle.rdm_frame.proofs.Spellings.{bytes_read, bytes_again}
+use Rattle.rdm_device.specs.declared.profile.own.ParameterDef.{ParameterDef}
 use Rattle.rdm_device.specs.declared.profile.own.Rights.{Rights}
 use Rattle.rdm_device.specs.declared.profile.own.Rights.TheVariants as rights
 use Rattle.rdm_device.specs.declared.profile.own.Shape.{Shape}
 use Rattle.rdm_device.specs.declared.profile.own.Shape.TheVariants as shapes
 use Rattle.rdm_device.specs.Columns.Forms.{has_length, value_in, has_form}
-use Rattle.rdm_device.specs.Device.OwnParameters.{form_of, number_in}
+use Rattle.rdm_device.specs.Device.OwnParameters.{form_of, number_in, can_start}
 use Rattle.toml.specs.Data.{Data, string, integer, float, boolean, datetime, array, table}
 use Rattle.rdm_fixture.specs.Describable.{are_printable, can_stand}
 use Rattle.rdm_fixture.specs.Keys.{must}
 use Rattle.rdm_fixture.specs.Parameters.{command_class, shape_named, data_type, slots_of, least_of, greatest_of, integer_from, number_slots, spelled, start}
 use Rattle.rdm_fixture.specs.Values.{text, is_text}
 use Rattle.rdm_fixture.specs.Writing.{rights_name, shape_name, written_slots}
-use Rattle.rdm_fixture.proofs.NumberSlots.{le_through, within_from, integer_again, can_be, byte_starts, signed_byte_starts, word_starts, signed_word_starts, long_starts, signed_long_starts, text_starts, bits_start, slots_start, IsBytes, number_said, said_within, slots_again, tested, never_some, parts_of}
+use Rattle.rdm_fixture.proofs.NumberSlots.{le_through, within_from, integer_again, can_be, can_be_of, byte_starts, signed_byte_starts, word_starts, signed_word_starts, long_starts, signed_long_starts, text_starts, bits_start, slots_start, IsBytes, number_said, said_within, slots_again, tested, never_some, parts_of}
 use Rattle.rdm_fixture.proofs.Texts.{ascii}
 
 -- ---- how many slots
@@ -296,3 +297,18 @@ slots_written shapes.Long low high xs t fits none can stand e =
     absurd (never shapes.Long xs _ (some_said shapes.Long xs (pos (from_be_bytes w32 xs)) (long_enough shapes.Long low high xs can) refl) none)
 slots_written shapes.SignedLong low high xs t fits none can stand e =
     absurd (never shapes.SignedLong xs _ (some_said shapes.SignedLong xs (cast_signed w32 (from_be_bytes w32 xs)) (long_enough shapes.SignedLong low high xs can) refl) none)
+
+-- ---- the same of a parameter
+
+pub number_starts : (d : ParameterDef) (s : Shape) (xs : List ℕ) (z : ℤ) → IsBytes xs → d.shape ≡ s → d.start ≡ xs → can_start d ≡ true → number_said s xs ≡ Some z
+    → start d.shape d.low d.high (integer z) ≡ Some d.start
+number_starts d s xs z fits shape starts can said =
+    let written : start s d.low d.high (integer z) ≡ Some xs = number_written s d.low d.high z xs fits said (can_be_of d s xs shape starts can) in
+    ap (λ (r : Shape). start r d.low d.high (integer z)) shape ∙ written ∙ ap (λ (ys : List ℕ). Some ys) (sym starts)
+
+pub slots_start_again : (d : ParameterDef) (s : Shape) (xs t : List ℕ) → IsBytes xs → d.shape ≡ s → d.start ≡ xs → can_start d ≡ true
+    → IsTrue (can_stand d.shape d.start) → number_said s xs ≡ None → t ≡ written_slots s xs → start d.shape d.low d.high (string t) ≡ Some d.start
+slots_start_again d s xs t fits shape starts can stand none e =
+    let stand_too : can_stand s xs ≡ true = subst (λ (ys : List ℕ). can_stand s ys ≡ true) starts (subst (λ (r : Shape). can_stand r d.start ≡ true) shape stand) in
+    let written : start s d.low d.high (string t) ≡ Some xs = slots_written s d.low d.high xs t fits none (can_be_of d s xs shape starts can) stand_too e in
+    ap (λ (r : Shape). start r d.low d.high (string t)) shape ∙ written ∙ ap (λ (ys : List ℕ). Some ys) (sym starts)

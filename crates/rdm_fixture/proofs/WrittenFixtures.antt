@@ -1,5 +1,5 @@
 -- What is written of a whole fixture, and of its UID and its languages.
-use Rattle.std.proofs.Common.{◌≡◌, ℕ, ◌+◌, ◌≤◌, ◌<◌, min, subst, pos, false, List, [], ◌∷◌, ◌++◌, length, get_or, take, Option, Some, None, IsTrue, option_and_then, refl, sym, ap, ◌∙◌, arith, codes}
+use Rattle.std.proofs.Common.{◌≡◌, ℕ, ◌+◌, ◌≤◌, ◌<◌, min, pos, false, List, [], ◌∷◌, ◌++◌, length, get_or, take, Option, Some, None, IsTrue, option_and_then, refl, sym, ap, ◌∙◌, arith, codes}
 use Rattle.std.proofs.lemmas.List.{take_more}
 use Rattle.rdm_frame.specs.declared.uid.Uid.{Uid}
 use Rattle.rdm_frame.specs.Addressing.{is_broadcast}
@@ -9,17 +9,17 @@ use Rattle.rdm_frame.proofs.NumberSpellings.{uid_spelled, uid_written}
 use Rattle.toml.specs.Data.{Data, string, integer, table, Members, get_member}
 use Rattle.toml.specs.View.{view, items_view}
 use Rattle.toml.specs.declared.value.Value.{Value}
-use Rattle.rdm_device.specs.declared.profile.Unit.{Unit as DeviceUnit}
-use Rattle.rdm_device.specs.Device.Profiles.{IsGoodUnit}
 use Rattle.rdm_fixture.specs.declared.fixture.Fixture.{Fixture}
 use Rattle.rdm_fixture.specs.Describable.{CanBeDescribed}
-use Rattle.rdm_fixture.specs.Format.{IsFixture, IsUnit, IsSlot, IsSensor, IsSelfTest, IsStatus, SubDevices, LanguagesAt, slot_count, unit_keys, fixture_keys}
+use Rattle.rdm_fixture.specs.Format.{IsFixture, IsUnit, IsSlot, IsSensor, IsSelfTest, IsStatus, SubDevices, LanguagesAt, slot_count, root_slots, parameter_named, unit_keys, fixture_keys}
 use Rattle.rdm_fixture.specs.Keys.{may, must, has_only, EachIs, ListAt, OfTable}
 use Rattle.rdm_fixture.specs.Outcomes.{IsOutcome}
+use Rattle.rdm_fixture.specs.Parameters.{IsParameter}
 use Rattle.rdm_fixture.specs.Values.{number, text, uid, own_uid, language}
 use Rattle.rdm_fixture.specs.Writing.{text_field, IsPlain}
 use Rattle.rdm_fixture.proofs.Fields.{Field, members_on, find_on, or_else, get_on, only_on, absent, plain_on}
 use Rattle.rdm_fixture.proofs.ListEntries.{EachIs-last, slot_count-of}
+use Rattle.rdm_fixture.proofs.Made.{all_slots}
 use Rattle.rdm_fixture.proofs.Said.{number_says, number_plain, text_plain, option_plain}
 use Rattle.rdm_fixture.proofs.WrittenEntries.{says_text}
 use Rattle.rdm_fixture.proofs.WrittenUnits.{unit_kept, wider, says_long}
@@ -42,10 +42,6 @@ code_more vs v xs i less before is =
 
 -- ---- the whole
 
--- a root that uses no slots but those that are described
-pub all_described : (u : DeviceUnit) (count more : ℕ) → count ≤ 512 → more ≡ 0 → IsGoodUnit u (min 512 (count + more)) → IsGoodUnit u count
-all_described u count more few none good = subst (IsGoodUnit u) (omega (arith, few, none)) good
-
 -- what nests at most n deep nests at most m deep
 pub deeper : (n m : ℕ) (d : Data) → n ≤ m → IsPlain n d → IsPlain m d
 deeper n m d less is = record { shallow = omega (arith, less, is.shallow); dates = is.dates }
@@ -53,11 +49,12 @@ deeper n m d less is = record { shallow = omega (arith, less, is.shallow); dates
 pub deeper_some : (n m : ℕ) (o : Option Data) → n ≤ m → ((d : Data) → o ≡ Some d → IsPlain n d) → (d : Data) → o ≡ Some d → IsPlain m d
 deeper_some n m o less is d e = deeper n m d less (is d e)
 
-module _ (f : Fixture) (base : Members) (uid_data languages : Data) (slots sensors tests statuses outcomes subs : Option Data) where
+module _ (f : Fixture) (base : Members) (uid_data languages : Data) (slots sensors tests statuses names own outcomes subs : Option Data) where
   abbrev pub fixture_fields : List Field
   fixture_fields =
-      (codes "sub_devices", subs) ∷ (codes "outcome", outcomes) ∷ (codes "status", statuses) ∷ (codes "self_test", tests)
-      ∷ (codes "sensor", sensors) ∷ (codes "slot", slots) ∷ (codes "presets", Some (integer (pos f.profile.presets)))
+      (codes "sub_devices", subs) ∷ (codes "outcome", outcomes) ∷ (codes "parameter", own) ∷ (codes "without", names)
+      ∷ (codes "status", statuses) ∷ (codes "self_test", tests) ∷ (codes "sensor", sensors) ∷ (codes "slot", slots)
+      ∷ (codes "more_slots", Some (integer (pos f.profile.more_slots))) ∷ (codes "presets", Some (integer (pos f.profile.presets)))
       ∷ (codes "languages", Some languages) ∷ (codes "boot_software_version_label", text_field f.profile.boot_text)
       ∷ (codes "boot_software_version_id", Some (integer (pos f.profile.boot))) ∷ (codes "uid", Some uid_data) ∷ []
 
@@ -69,31 +66,37 @@ module _ (f : Fixture) (base : Members) (uid_data languages : Data) (slots senso
       → get_member key (members_on base fixture_fields) ≡ o
   found key o is none = get_on base key fixture_fields ∙ is ∙ or_absent o (get_member key base) none
 
-  pub fixture_says : CanBeDescribed f → IsTrue (has_only unit_keys base) → ((slots : ℕ) → slots ≡ length f.profile.slots.items → IsUnit slots base f.profile.root)
+  pub fixture_says : CanBeDescribed f → IsTrue (has_only unit_keys base) → ((slots : ℕ) → slots ≡ min 512 (length f.profile.slots.items + f.profile.more_slots) → IsUnit slots base f.profile.root)
       → uid uid_data ≡ Some f.uid → says_long f.profile.boot → says_text f.profile.boot_text
       → LanguagesAt (Some languages) f.profile.languages.items
       → ListAt (OfTable IsSlot) slots f.profile.slots.items → length f.profile.slots.items ≤ 46
       → ListAt (OfTable IsSensor) sensors f.profile.sensors.items → length f.profile.sensors.items ≤ 8
       → ListAt (OfTable IsSelfTest) tests f.profile.tests.items → length f.profile.tests.items ≤ 8
       → ListAt (OfTable IsStatus) statuses f.profile.status_texts.items → length f.profile.status_texts.items ≤ 8
+      → ListAt (λ d pid. parameter_named d ≡ Some pid) names f.profile.without.items → length f.profile.without.items ≤ 36
+      → ListAt (OfTable IsParameter) own f.profile.own → length f.profile.own ≤ 16
       → ListAt (OfTable IsOutcome) outcomes f.outcomes.items → length f.outcomes.items ≤ 32
       → ((n : ℕ) (t : Members) → IsUnit n t f.profile.root → SubDevices n t subs f.profile.subs f.profile.sub)
       → IsFixture (members_on base fixture_fields) f
-  fixture_says can only root own boot boot_text langs slot slot_fit sensor sensor_fit test test_fit status status_fit outcome outcome_fit sub =
+  fixture_says can only root own boot boot_text langs slot slot_fit sensor sensor_fit test test_fit status status_fit lacked lacked_fit added added_fit outcome outcome_fit sub =
       let fs = fixture_fields in
       let t = members_on base fs in
       let at_slot : get_member (codes "slot") t ≡ slots = found (codes "slot") slots refl (absent unit_keys (codes "slot") base only refl) in
       let count : slot_count (get_member (codes "slot") t) ≡ length f.profile.slots.items =
       ap slot_count at_slot ∙ sym (slot_count-of (OfTable IsSlot) slots f.profile.slots.items slot) in
-      let unit : IsUnit (slot_count (get_member (codes "slot") t)) t f.profile.root =
-      unit_kept base fs _ f.profile.root refl refl refl refl refl refl refl refl refl (root _ count) in
+      let more : may 0 (number 0 512) (get_member (codes "more_slots") t) ≡ Some f.profile.more_slots =
+      ap (may 0 (number 0 512)) (get_on base (codes "more_slots") fs) ∙ number_says 0 512 f.profile.more_slots (omega arith) can.slots in
+      let all : root_slots t ≡ min 512 (length f.profile.slots.items + f.profile.more_slots) = all_slots _ _ _ _ more count in
+      let unit : IsUnit (root_slots t) t f.profile.root =
+      unit_kept base fs _ f.profile.root refl refl refl refl refl refl refl refl refl (root _ all) in
       let at_sub : get_member (codes "sub_devices") t ≡ subs = found (codes "sub_devices") subs refl (absent unit_keys (codes "sub_devices") base only refl) in
       let good = can.made.1 in
       let few = good.presets in
       record {
         keys = only_on fixture_keys base fs
             (wider (codes "uid" ∷ codes "boot_software_version_id" ∷ codes "boot_software_version_label" ∷ codes "languages" ∷ codes "presets"
-            ∷ codes "slot" ∷ codes "sensor" ∷ codes "self_test" ∷ codes "status" ∷ codes "outcome" ∷ codes "sub_devices" ∷ []) unit_keys base only) refl;
+            ∷ codes "more_slots" ∷ codes "slot" ∷ codes "sensor" ∷ codes "self_test" ∷ codes "status" ∷ codes "without" ∷ codes "parameter" ∷ codes "outcome"
+            ∷ codes "sub_devices" ∷ []) unit_keys base only) refl;
         own = ap (must uid) (get_on base (codes "uid") fs) ∙ own;
         profile = record {
           root = unit;
@@ -109,18 +112,24 @@ module _ (f : Fixture) (base : Members) (uid_data languages : Data) (slots senso
           statuses = record { items = rw (found (codes "status") statuses refl (absent unit_keys (codes "status") base only refl)) status; enough = omega arith; fit = status_fit };
           statuses_differ = good.statuses_differ;
           presets = ap (may 0 (number 0 65534)) (get_on base (codes "presets") fs) ∙ number_says 0 65534 f.profile.presets (omega arith) (omega (arith, few));
-          whole = can.whole;
+          more_slots = more;
+          without = record { items = rw (found (codes "without") names refl (absent unit_keys (codes "without") base only refl)) lacked; enough = omega arith; fit = lacked_fit };
+          may_lack = good.without;
+          own = record { items = rw (found (codes "parameter") own refl (absent unit_keys (codes "parameter") base only refl)) added; enough = omega arith; fit = added_fit };
+          own_ascend = good.own.ascending;
         };
         outcomes = record { items = rw (found (codes "outcome") outcomes refl (absent unit_keys (codes "outcome") base only refl)) outcome; enough = omega arith; fit = outcome_fit };
       }
 
   pub fixture_plain : IsPlain 4 (table base) → IsPlain 3 uid_data → IsPlain 3 languages
       → ((d : Data) → slots ≡ Some d → IsPlain 3 d) → ((d : Data) → sensors ≡ Some d → IsPlain 3 d) → ((d : Data) → tests ≡ Some d → IsPlain 3 d)
-      → ((d : Data) → statuses ≡ Some d → IsPlain 3 d) → ((d : Data) → outcomes ≡ Some d → IsPlain 3 d) → ((d : Data) → subs ≡ Some d → IsPlain 3 d)
+      → ((d : Data) → statuses ≡ Some d → IsPlain 3 d) → ((d : Data) → names ≡ Some d → IsPlain 3 d) → ((d : Data) → own ≡ Some d → IsPlain 3 d)
+      → ((d : Data) → outcomes ≡ Some d → IsPlain 3 d) → ((d : Data) → subs ≡ Some d → IsPlain 3 d)
       → IsPlain 4 (table (members_on base fixture_fields))
-  fixture_plain rest is_uid is_languages is_slots is_sensors is_tests is_statuses is_outcomes is_subs =
+  fixture_plain rest is_uid is_languages is_slots is_sensors is_tests is_statuses is_names is_own is_outcomes is_subs =
       plain_on 3 base fixture_fields rest
       (option_plain 3 (codes "sub_devices") subs _ is_subs (option_plain 3 (codes "outcome") outcomes _ is_outcomes
+      (option_plain 3 (codes "parameter") own _ is_own (option_plain 3 (codes "without") names _ is_names
       (option_plain 3 (codes "status") statuses _ is_statuses (option_plain 3 (codes "self_test") tests _ is_tests
       (option_plain 3 (codes "sensor") sensors _ is_sensors (option_plain 3 (codes "slot") slots _ is_slots
-      (number_plain 3 _, (is_languages, text_plain 3 (codes "boot_software_version_label") f.profile.boot_text _ (number_plain 3 _, (is_uid, tt))))))))))
+      (number_plain 3 _, (number_plain 3 _, (is_languages, text_plain 3 (codes "boot_software_version_label") f.profile.boot_text _ (number_plain 3 _, (is_uid, tt)))))))))))))
