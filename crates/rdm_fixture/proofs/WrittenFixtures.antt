@@ -49,10 +49,10 @@ deeper n m d less is = record { shallow = omega (arith, less, is.shallow); dates
 pub deeper_some : (n m : ℕ) (o : Option Data) → n ≤ m → ((d : Data) → o ≡ Some d → IsPlain n d) → (d : Data) → o ≡ Some d → IsPlain m d
 deeper_some n m o less is d e = deeper n m d less (is d e)
 
-module _ (f : Fixture) (base : Members) (uid_data languages : Data) (slots sensors tests statuses names own outcomes subs : Option Data) where
+module _ (f : Fixture) (base : Members) (uid_data languages : Data) (slots sensors tests statuses lacks owns outcomes subs : Option Data) where
   abbrev pub fixture_fields : List Field
   fixture_fields =
-      (codes "sub_devices", subs) ∷ (codes "outcome", outcomes) ∷ (codes "parameter", own) ∷ (codes "without", names)
+      (codes "sub_devices", subs) ∷ (codes "outcome", outcomes) ∷ (codes "parameter", owns) ∷ (codes "without", lacks)
       ∷ (codes "status", statuses) ∷ (codes "self_test", tests) ∷ (codes "sensor", sensors) ∷ (codes "slot", slots)
       ∷ (codes "more_slots", Some (integer (pos f.profile.more_slots))) ∷ (codes "presets", Some (integer (pos f.profile.presets)))
       ∷ (codes "languages", Some languages) ∷ (codes "boot_software_version_label", text_field f.profile.boot_text)
@@ -73,8 +73,8 @@ module _ (f : Fixture) (base : Members) (uid_data languages : Data) (slots senso
       → ListAt (OfTable IsSensor) sensors f.profile.sensors.items → length f.profile.sensors.items ≤ 8
       → ListAt (OfTable IsSelfTest) tests f.profile.tests.items → length f.profile.tests.items ≤ 8
       → ListAt (OfTable IsStatus) statuses f.profile.status_texts.items → length f.profile.status_texts.items ≤ 8
-      → ListAt (λ d pid. parameter_named d ≡ Some pid) names f.profile.without.items → length f.profile.without.items ≤ 36
-      → ListAt (OfTable IsParameter) own f.profile.own → length f.profile.own ≤ 16
+      → ListAt (λ d pid. parameter_named d ≡ Some pid) lacks f.profile.without.items → length f.profile.without.items ≤ 36
+      → ListAt (OfTable IsParameter) owns f.profile.own → length f.profile.own ≤ 16
       → ListAt (OfTable IsOutcome) outcomes f.outcomes.items → length f.outcomes.items ≤ 32
       → ((n : ℕ) (t : Members) → IsUnit n t f.profile.root → SubDevices n t subs f.profile.subs f.profile.sub)
       → IsFixture (members_on base fixture_fields) f
@@ -113,9 +113,9 @@ module _ (f : Fixture) (base : Members) (uid_data languages : Data) (slots senso
           statuses_differ = good.statuses_differ;
           presets = ap (may 0 (number 0 65534)) (get_on base (codes "presets") fs) ∙ number_says 0 65534 f.profile.presets (omega arith) (omega (arith, few));
           more_slots = more;
-          without = record { items = rw (found (codes "without") names refl (absent unit_keys (codes "without") base only refl)) lacked; enough = omega arith; fit = lacked_fit };
+          without = record { items = rw (found (codes "without") lacks refl (absent unit_keys (codes "without") base only refl)) lacked; enough = omega arith; fit = lacked_fit };
           may_lack = good.without;
-          own = record { items = rw (found (codes "parameter") own refl (absent unit_keys (codes "parameter") base only refl)) added; enough = omega arith; fit = added_fit };
+          own = record { items = rw (found (codes "parameter") owns refl (absent unit_keys (codes "parameter") base only refl)) added; enough = omega arith; fit = added_fit };
           own_ascend = good.own.ascending;
         };
         outcomes = record { items = rw (found (codes "outcome") outcomes refl (absent unit_keys (codes "outcome") base only refl)) outcome; enough = omega arith; fit = outcome_fit };
@@ -123,13 +123,13 @@ module _ (f : Fixture) (base : Members) (uid_data languages : Data) (slots senso
 
   pub fixture_plain : IsPlain 4 (table base) → IsPlain 3 uid_data → IsPlain 3 languages
       → ((d : Data) → slots ≡ Some d → IsPlain 3 d) → ((d : Data) → sensors ≡ Some d → IsPlain 3 d) → ((d : Data) → tests ≡ Some d → IsPlain 3 d)
-      → ((d : Data) → statuses ≡ Some d → IsPlain 3 d) → ((d : Data) → names ≡ Some d → IsPlain 3 d) → ((d : Data) → own ≡ Some d → IsPlain 3 d)
+      → ((d : Data) → statuses ≡ Some d → IsPlain 3 d) → ((d : Data) → lacks ≡ Some d → IsPlain 3 d) → ((d : Data) → owns ≡ Some d → IsPlain 3 d)
       → ((d : Data) → outcomes ≡ Some d → IsPlain 3 d) → ((d : Data) → subs ≡ Some d → IsPlain 3 d)
       → IsPlain 4 (table (members_on base fixture_fields))
   fixture_plain rest is_uid is_languages is_slots is_sensors is_tests is_statuses is_names is_own is_outcomes is_subs =
       plain_on 3 base fixture_fields rest
       (option_plain 3 (codes "sub_devices") subs _ is_subs (option_plain 3 (codes "outcome") outcomes _ is_outcomes
-      (option_plain 3 (codes "parameter") own _ is_own (option_plain 3 (codes "without") names _ is_names
+      (option_plain 3 (codes "parameter") owns _ is_own (option_plain 3 (codes "without") lacks _ is_names
       (option_plain 3 (codes "status") statuses _ is_statuses (option_plain 3 (codes "self_test") tests _ is_tests
       (option_plain 3 (codes "sensor") sensors _ is_sensors (option_plain 3 (codes "slot") slots _ is_slots
       (number_plain 3 _, (number_plain 3 _, (is_languages, text_plain 3 (codes "boot_software_version_label") f.profile.boot_text _ (number_plain 3 _, (is_uid, tt)))))))))))))
