@@ -95,9 +95,7 @@ fn put_own_words(
     frame: &FrameView<'_>,
     known: &Known<'_>,
 ) -> Result<(), AllocError> {
-    let FrameView {
-        class, pid, body, ..
-    } = *frame;
+    let (class, pid, body) = (frame.class, frame.pid, frame.body);
     if !is_response(class) {
         return put_own_line(text, class, pid, body, &known.at(frame.dst));
     }
