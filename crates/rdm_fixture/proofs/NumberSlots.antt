@@ -15,7 +15,7 @@ use Rattle.rdm_device.specs.Columns.Forms.{has_length, value_in, value_of, has_f
 use Rattle.rdm_device.specs.Device.OwnParameters.{form_of, number_in, has_number, can_start}
 use Rattle.rdm_device.specs.Device.Values.{word_slots, long_slots}
 use Rattle.toml.specs.Data.{Data, string, integer, float, boolean, datetime, array, table}
-use Rattle.rdm_fixture.specs.Parameters.{least_of, greatest_of, integer_from, number_slots, start}
+use Rattle.rdm_fixture.specs.Parameters.{least_of, greatest_of, integer_from, number_slots}
 
 -- ---- the order of numbers
 

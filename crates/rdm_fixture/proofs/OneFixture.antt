@@ -31,7 +31,7 @@ use Rattle.rdm_fixture.specs.Format.{IsPersonality, IsSlot, IsSensor, IsSelfTest
 abbrev pub SaysOne : {S A : Type 0} → (S → A → Type 0) → Type 0
 SaysOne {S = S} {A = A} P = (s : S) (x y : A) → P s x → P s y → x ≡ y
 
-one : {A : Type 0} {o : Option A} {x y : A} → o ≡ Some x → o ≡ Some y → x ≡ y
+pub one : {A : Type 0} {o : Option A} {x y : A} → o ≡ Some x → o ≡ Some y → x ≡ y
 one p q = same_Some _ _ (sym p ∙ q)
 
 -- ---- lists

@@ -189,9 +189,17 @@ pub(crate) fn flag_or(table: &Table, key: &str, default: bool) -> Result<bool, R
     ensures wrong { IfErr result (λ e. (parts.free key.now parameters.flag wanted.Boolean).Wrong (table_view table.now) (told e)) }
 {
     match find(table, key) {
-        Some(Value::Boolean(flag)) => Ok(*flag),
-        Some(_) => Err(Refusal::at(key, Wanted::Boolean)),
+        Some(value) => flag_in(value).ok_or(Refusal::at(key, Wanted::Boolean)),
         None => Ok(default),
+    }
+}
+
+fn flag_in(value: &Value) -> Option<bool>
+    ensures { result ≡ parameters.flag (view value.now) }
+{
+    match value {
+        Value::Boolean(flag) => Some(*flag),
+        _ => None,
     }
 }
 

@@ -4,7 +4,6 @@ ghost use Rattle.std.specs.Prelude.{◌≡◌, IfOk, IsTrue, Some, option_and_th
 ghost use Rattle.std.specs.Str.Lossy.{utf8_lossy};
 ghost use Rattle.toml.specs.View.{view};
 ghost use Rattle.rdm_frame.specs.Digits.{digits};
-ghost use Rattle.rdm_device.specs.declared.profile.own.ParameterDef.{ParameterDef};
 ghost use Rattle.rdm_device.specs.Columns.Forms.{value_of};
 ghost use Rattle.rdm_device.specs.Device.OwnParameters.{form_of, number_in, can_start};
 ghost use Rattle.rdm_device.specs.Device.Profiles.{IsGoodParameter};

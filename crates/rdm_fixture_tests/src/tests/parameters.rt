@@ -124,12 +124,12 @@ fn what_parameters_start_with(rt: HostRuntime) -> Result<(), Fail> {
     ];
     for (keys, shape, start, low, high) in rows {
         let fixture = read(&rt, keys)?;
-        let [def] = fixture.profile.own.as_slice() else {
-            return Err("one parameter".into());
-        };
+        let own = fixture.profile.own.as_slice();
+        let def = own.first().ok_or("a parameter")?;
         assert_eq!(rt; def.shape, shape);
         assert_eq!(rt; def.start.as_slice(), start);
-        assert_eq!(rt; (def.low, def.high), (low, high));
+        assert_eq!(rt; def.low, low);
+        assert_eq!(rt; def.high, high);
         let text = fixture.to_toml(rt.alloc())?;
         assert!(rt; Fixture::from_toml(rt.alloc(), text.as_str())? == fixture, "{text}");
     }
@@ -343,7 +343,7 @@ fn parameters_that_a_fixture_lacks(rt: HostRuntime) -> Result<(), Fail> {
 /// What a text has no key for isn't written.
 #[test]
 fn unwritten_parameters(rt: HostRuntime) -> Result<(), Fail> {
-    let fixture = &mut Fixture::from_toml(rt.alloc(), LEAST)?;
+    let mut fixture = Fixture::from_toml(rt.alloc(), LEAST)?;
     let mut def = ParameterDef::default();
     def.pid = 0x8001;
     def.rights = Rights::Both;
@@ -351,14 +351,14 @@ fn unwritten_parameters(rt: HostRuntime) -> Result<(), Fail> {
     def.high = 1;
     fixture.profile.own.push(rt.alloc(), def)?;
     assert!(rt; fixture.to_toml(rt.alloc()).err() == Some(WriteError::Indescribable));
-    let fixture = &mut Fixture::from_toml(rt.alloc(), LEAST)?;
+    let mut fixture = Fixture::from_toml(rt.alloc(), LEAST)?;
     let mut def = ParameterDef::default();
     def.pid = 0x8001;
     def.shape = Shape::Text;
     def.start = Text::of(b"two\nlines");
     fixture.profile.own.push(rt.alloc(), def)?;
     assert!(rt; fixture.to_toml(rt.alloc()).err() == Some(WriteError::Indescribable));
-    let fixture = &mut Fixture::from_toml(rt.alloc(), LEAST)?;
+    let mut fixture = Fixture::from_toml(rt.alloc(), LEAST)?;
     fixture.profile.more_slots = 513;
     assert!(rt; fixture.to_toml(rt.alloc()).err() == Some(WriteError::Indescribable));
     assert_eq!(rt; told(rt.alloc(), LEAST)?.as_str(), "");

@@ -46,6 +46,14 @@ returns-in_err-subs-clause-read c =
     c.root_slots-count.ensures ∙ slots_counted _ _ _ _ more (c.len-count.ensures.value ∙ c.in_ok-slots.ensures.count) in
     Reads-err (λ t r. IsProfile t (with_parameters r.0 r.1.items)) _ _ c.from_residual-in_err-subs.ensures.0 (λ r h. c.in_err-subs.ensures.read (r.0.subs, r.0.sub) (rw count h.sub))
 
+pub returns-in_err-without-clause-read : goal.returns-in_err-without-clause-read
+returns-in_err-without-clause-read c =
+    Reads-err (λ t r. IsProfile t (with_parameters r.0 r.1.items)) _ _ c.from_residual-in_err-without.ensures.0 (λ r h. c.in_err-without.ensures.read r.0.without (h.without, h.may_lack))
+
+pub returns-in_err-parameters-clause-read : goal.returns-in_err-parameters-clause-read
+returns-in_err-parameters-clause-read c =
+    Reads-err (λ t r. IsProfile t (with_parameters r.0 r.1.items)) _ _ c.from_residual-in_err-parameters.ensures.0 (λ r h. c.in_err-parameters.ensures.read r.1 (h.own, h.own_ascend))
+
 pub returns-clause-read : goal.returns-clause-read
 returns-clause-read c =
     let more : Some c.in_ok-more_slots.more_slots ≡ may 0 (number 0 512) (get_member (codes "more_slots") (table_view c.args.table.now)) = c.in_ok-more_slots.ensures.value in
