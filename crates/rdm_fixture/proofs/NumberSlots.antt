@@ -26,12 +26,12 @@ pub le_same : (a : ℤ) → int_le a a ≡ true
 le_same a = grind (arith, ints)
 
 pub in_shape : (s : Shape) (z : ℤ) → int_le (least_of s) z ≡ true → int_le z (greatest_of s) ≡ true → has_number s z ≡ true
-in_shape shapes.Byte z a b = and_from _ _ a b
-in_shape shapes.SignedByte z a b = and_from _ _ a b
-in_shape shapes.Word z a b = and_from _ _ a b
-in_shape shapes.SignedWord z a b = and_from _ _ a b
-in_shape shapes.Long z a b = and_from _ _ a b
-in_shape shapes.SignedLong z a b = and_from _ _ a b
+in_shape shapes.Byte z a b = and_from (int_le (pos 0) z) (int_le z (pos 255)) a b
+in_shape shapes.SignedByte z a b = and_from (int_le (neg_ℤ (pos 128)) z) (int_le z (pos 127)) a b
+in_shape shapes.Word z a b = and_from (int_le (pos 0) z) (int_le z (pos 65535)) a b
+in_shape shapes.SignedWord z a b = and_from (int_le (neg_ℤ (pos 32768)) z) (int_le z (pos 32767)) a b
+in_shape shapes.Long z a b = and_from (int_le (pos 0) z) (int_le z (pos 4294967295)) a b
+in_shape shapes.SignedLong z a b = and_from (int_le (neg_ℤ (pos 2147483648)) z) (int_le z (pos 2147483647)) a b
 in_shape shapes.Text z a b = refl
 in_shape (shapes.Bits n) z a b = refl
 in_shape (shapes.Slots n) z a b = refl
@@ -75,8 +75,9 @@ signed_8 (pos n) a b =
     ap (cast_signed w8) same ∙ to_z_pos w8 n (omega (arith, small))
 signed_8 (negsuc n) a b =
     let small : n ≤ 127 = leb-true n 127 a in
+    let fits : n < 128 = omega (arith, small) in
     let same : (18446744073709551616 - suc n) % 256 ≡ 256 - suc n = omega (arith, small) in
-    ap (cast_signed w8) same ∙ to_z-of_z w8 (negsuc n) (record { sfits = omega (arith, small) })
+    ap (cast_signed w8) same ∙ to_z-of_z w8 (negsuc n) (record { sfits = fits })
 
 signed_16 : (z : ℤ) → int_le (neg_ℤ (pos 32768)) z ≡ true → int_le z (pos 32767) ≡ true → cast_signed w16 (cast_unsigned w64 z % 0x10000) ≡ z
 signed_16 (pos n) a b =
@@ -85,8 +86,9 @@ signed_16 (pos n) a b =
     ap (cast_signed w16) same ∙ to_z_pos w16 n (omega (arith, small))
 signed_16 (negsuc n) a b =
     let small : n ≤ 32767 = leb-true n 32767 a in
+    let fits : n < 32768 = omega (arith, small) in
     let same : (18446744073709551616 - suc n) % 65536 ≡ 65536 - suc n = omega (arith, small) in
-    ap (cast_signed w16) same ∙ to_z-of_z w16 (negsuc n) (record { sfits = omega (arith, small) })
+    ap (cast_signed w16) same ∙ to_z-of_z w16 (negsuc n) (record { sfits = fits })
 
 signed_32 : (z : ℤ) → int_le (neg_ℤ (pos 2147483648)) z ≡ true → int_le z (pos 2147483647) ≡ true → cast_signed w32 (cast_unsigned w64 z % 0x100000000) ≡ z
 signed_32 (pos n) a b =
@@ -95,8 +97,9 @@ signed_32 (pos n) a b =
     ap (cast_signed w32) same ∙ to_z_pos w32 n (omega (arith, small))
 signed_32 (negsuc n) a b =
     let small : n ≤ 2147483647 = leb-true n 2147483647 a in
+    let fits : n < 2147483648 = omega (arith, small) in
     let same : (18446744073709551616 - suc n) % 4294967296 ≡ 4294967296 - suc n = omega (arith, small) in
-    ap (cast_signed w32) same ∙ to_z-of_z w32 (negsuc n) (record { sfits = omega (arith, small) })
+    ap (cast_signed w32) same ∙ to_z-of_z w32 (negsuc n) (record { sfits = fits })
 
 unsigned_8 : (z : ℤ) → int_le (pos 0) z ≡ true → int_le z (pos 255) ≡ true → pos (cast_unsigned w64 z % 0x100) ≡ z
 unsigned_8 (pos n) a b = let small : n ≤ 255 = leb-true n 255 b in ap pos (let same : n % 256 ≡ n = omega (arith, small) in same)
@@ -124,8 +127,9 @@ back_8 m less =
       | inl small ↦ let same : m % 256 ≡ m = omega (arith, less) in ap (λ z. cast_unsigned w64 z % 0x100) (to_z_pos w8 m small) ∙ same
       | inr large ↦
           let n : ℕ = 255 - m in
+          let fits : n < 128 = omega (arith, less, large) in
           let bits : m ≡ 256 - suc n = omega (arith, less) in
-          let is : cast_signed w8 m ≡ negsuc n = ap (cast_signed w8) bits ∙ to_z-of_z w8 (negsuc n) (record { sfits = omega (arith, less, large) }) in
+          let is : cast_signed w8 m ≡ negsuc n = ap (cast_signed w8) bits ∙ to_z-of_z w8 (negsuc n) (record { sfits = fits }) in
           let same : (18446744073709551616 - suc n) % 256 ≡ m = omega (arith, less) in
           ap (λ z. cast_unsigned w64 z % 0x100) is ∙ same
     ]
@@ -136,8 +140,9 @@ back_16 m less =
       | inl small ↦ let same : m % 65536 ≡ m = omega (arith, less) in ap (λ z. cast_unsigned w64 z % 0x10000) (to_z_pos w16 m small) ∙ same
       | inr large ↦
           let n : ℕ = 65535 - m in
+          let fits : n < 32768 = omega (arith, less, large) in
           let bits : m ≡ 65536 - suc n = omega (arith, less) in
-          let is : cast_signed w16 m ≡ negsuc n = ap (cast_signed w16) bits ∙ to_z-of_z w16 (negsuc n) (record { sfits = omega (arith, less, large) }) in
+          let is : cast_signed w16 m ≡ negsuc n = ap (cast_signed w16) bits ∙ to_z-of_z w16 (negsuc n) (record { sfits = fits }) in
           let same : (18446744073709551616 - suc n) % 65536 ≡ m = omega (arith, less) in
           ap (λ z. cast_unsigned w64 z % 0x10000) is ∙ same
     ]
@@ -148,8 +153,9 @@ back_32 m less =
       | inl small ↦ let same : m % 4294967296 ≡ m = omega (arith, less) in ap (λ z. cast_unsigned w64 z % 0x100000000) (to_z_pos w32 m small) ∙ same
       | inr large ↦
           let n : ℕ = 4294967295 - m in
+          let fits : n < 2147483648 = omega (arith, less, large) in
           let bits : m ≡ 4294967296 - suc n = omega (arith, less) in
-          let is : cast_signed w32 m ≡ negsuc n = ap (cast_signed w32) bits ∙ to_z-of_z w32 (negsuc n) (record { sfits = omega (arith, less, large) }) in
+          let is : cast_signed w32 m ≡ negsuc n = ap (cast_signed w32) bits ∙ to_z-of_z w32 (negsuc n) (record { sfits = fits }) in
           let same : (18446744073709551616 - suc n) % 4294967296 ≡ m = omega (arith, less) in
           ap (λ z. cast_unsigned w64 z % 0x100000000) is ∙ same
     ]
@@ -165,7 +171,7 @@ pub can_be_of : (d : ParameterDef) (s : Shape) (xs : List ℕ) → d.shape ≡ s
 can_be_of d s xs shape start h = subst (λ ys. can_be s d.low d.high ys ≡ true) start (subst (λ r. can_be r d.low d.high d.start ≡ true) shape h)
 
 lies : (low high m z : ℤ) → m ≡ z → int_le low z ≡ true → int_le z high ≡ true → (int_le low m && int_le m high) ≡ true
-lies low high m z e a b = rw e (and_from _ _ a b)
+lies low high m z e a b = subst (λ (k : ℤ). (int_le low k && int_le k high) ≡ true) (sym e) (and_from (int_le low z) (int_le z high) a b)
 
 -- numbers in the range of the data, from the least to the greatest
 pub byte_starts : (low high z : ℤ) → int_le (pos 0) z ≡ true → int_le z (pos 255) ≡ true → int_le low z ≡ true → int_le z high ≡ true

@@ -71,6 +71,8 @@ pub sayable : (t : Members) (d : ParameterDef) → IsParameter t d → IsTrue (i
 sayable t d h =
     let low = low_fits d.shape (get_member (codes "minimum_valid_value") t) d.low h.low in
     let high = high_fits d.shape d.low (get_member (codes "maximum_valid_value") t) d.high low.1 h.high in
-    and_from _ _ (and_from _ _ low.0 (and_from _ _ high.0 high.1))
-    (and_from _ _ (start_stands d.shape d.low d.high (get_member (codes "default_value") t) d.start h.start)
+    and_from (has_limits d) (can_stand d.shape d.start && are_printable d.name)
+    (and_from (int_le (least_of d.shape) d.low) (int_le d.low d.high && int_le d.high (greatest_of d.shape)) low.0
+    (and_from (int_le d.low d.high) (int_le d.high (greatest_of d.shape)) high.0 high.1))
+    (and_from (can_stand d.shape d.start) (are_printable d.name) (start_stands d.shape d.low d.high (get_member (codes "default_value") t) d.start h.start)
     (printable_at t (codes "description") d.name h.name))
