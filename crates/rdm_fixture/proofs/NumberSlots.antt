@@ -121,43 +121,64 @@ below_32 n less = omega arith
 
 -- ---- and in more bits again
 
+negative_8 : (m n : ℕ) → m + suc n ≡ 256 → 128 ≤ m → cast_unsigned w64 (cast_signed w8 m) % 0x100 ≡ m
+negative_8 m n e large =
+    let fits : n < 128 = omega (arith, e, large) in
+    let bits : m ≡ 256 - suc n = omega (arith, e) in
+    let is : cast_signed w8 m ≡ negsuc n = ap (cast_signed w8) bits ∙ to_z-of_z w8 (negsuc n) (record { sfits = fits }) in
+    let same : (18446744073709551616 - suc n) % 256 ≡ m = omega (arith, e) in
+    ap (λ (z : ℤ). cast_unsigned w64 z % 0x100) is ∙ same
+
+positive_8 : (m : ℕ) → m < 128 → cast_unsigned w64 (cast_signed w8 m) % 0x100 ≡ m
+positive_8 m small =
+    let same : m % 256 ≡ m = omega (arith, small) in
+    ap (λ (z : ℤ). cast_unsigned w64 z % 0x100) (to_z_pos w8 m small) ∙ same
+
 back_8 : (m : ℕ) → m < 256 → cast_unsigned w64 (cast_signed w8 m) % 0x100 ≡ m
 back_8 m less =
     elim (cases_lt m 128) [
-      | inl small ↦ let same : m % 256 ≡ m = omega (arith, less) in ap (λ z. cast_unsigned w64 z % 0x100) (to_z_pos w8 m small) ∙ same
-      | inr large ↦
-          let n : ℕ = 255 - m in
-          let fits : n < 128 = omega (arith, less, large) in
-          let bits : m ≡ 256 - suc n = omega (arith, less) in
-          let is : cast_signed w8 m ≡ negsuc n = ap (cast_signed w8) bits ∙ to_z-of_z w8 (negsuc n) (record { sfits = fits }) in
-          let same : (18446744073709551616 - suc n) % 256 ≡ m = omega (arith, less) in
-          ap (λ z. cast_unsigned w64 z % 0x100) is ∙ same
+      | inl small ↦ positive_8 m small
+      | inr large ↦ negative_8 m (255 - m) (omega (arith, less)) large
     ]
+
+negative_16 : (m n : ℕ) → m + suc n ≡ 65536 → 32768 ≤ m → cast_unsigned w64 (cast_signed w16 m) % 0x10000 ≡ m
+negative_16 m n e large =
+    let fits : n < 32768 = omega (arith, e, large) in
+    let bits : m ≡ 65536 - suc n = omega (arith, e) in
+    let is : cast_signed w16 m ≡ negsuc n = ap (cast_signed w16) bits ∙ to_z-of_z w16 (negsuc n) (record { sfits = fits }) in
+    let same : (18446744073709551616 - suc n) % 65536 ≡ m = omega (arith, e) in
+    ap (λ (z : ℤ). cast_unsigned w64 z % 0x10000) is ∙ same
+
+positive_16 : (m : ℕ) → m < 32768 → cast_unsigned w64 (cast_signed w16 m) % 0x10000 ≡ m
+positive_16 m small =
+    let same : m % 65536 ≡ m = omega (arith, small) in
+    ap (λ (z : ℤ). cast_unsigned w64 z % 0x10000) (to_z_pos w16 m small) ∙ same
 
 back_16 : (m : ℕ) → m < 65536 → cast_unsigned w64 (cast_signed w16 m) % 0x10000 ≡ m
 back_16 m less =
     elim (cases_lt m 32768) [
-      | inl small ↦ let same : m % 65536 ≡ m = omega (arith, less) in ap (λ z. cast_unsigned w64 z % 0x10000) (to_z_pos w16 m small) ∙ same
-      | inr large ↦
-          let n : ℕ = 65535 - m in
-          let fits : n < 32768 = omega (arith, less, large) in
-          let bits : m ≡ 65536 - suc n = omega (arith, less) in
-          let is : cast_signed w16 m ≡ negsuc n = ap (cast_signed w16) bits ∙ to_z-of_z w16 (negsuc n) (record { sfits = fits }) in
-          let same : (18446744073709551616 - suc n) % 65536 ≡ m = omega (arith, less) in
-          ap (λ z. cast_unsigned w64 z % 0x10000) is ∙ same
+      | inl small ↦ positive_16 m small
+      | inr large ↦ negative_16 m (65535 - m) (omega (arith, less)) large
     ]
+
+negative_32 : (m n : ℕ) → m + suc n ≡ 4294967296 → 2147483648 ≤ m → cast_unsigned w64 (cast_signed w32 m) % 0x100000000 ≡ m
+negative_32 m n e large =
+    let fits : n < 2147483648 = omega (arith, e, large) in
+    let bits : m ≡ 4294967296 - suc n = omega (arith, e) in
+    let is : cast_signed w32 m ≡ negsuc n = ap (cast_signed w32) bits ∙ to_z-of_z w32 (negsuc n) (record { sfits = fits }) in
+    let same : (18446744073709551616 - suc n) % 4294967296 ≡ m = omega (arith, e) in
+    ap (λ (z : ℤ). cast_unsigned w64 z % 0x100000000) is ∙ same
+
+positive_32 : (m : ℕ) → m < 2147483648 → cast_unsigned w64 (cast_signed w32 m) % 0x100000000 ≡ m
+positive_32 m small =
+    let same : m % 4294967296 ≡ m = omega (arith, small) in
+    ap (λ (z : ℤ). cast_unsigned w64 z % 0x100000000) (to_z_pos w32 m small) ∙ same
 
 back_32 : (m : ℕ) → m < 4294967296 → cast_unsigned w64 (cast_signed w32 m) % 0x100000000 ≡ m
 back_32 m less =
     elim (cases_lt m 2147483648) [
-      | inl small ↦ let same : m % 4294967296 ≡ m = omega (arith, less) in ap (λ z. cast_unsigned w64 z % 0x100000000) (to_z_pos w32 m small) ∙ same
-      | inr large ↦
-          let n : ℕ = 4294967295 - m in
-          let fits : n < 2147483648 = omega (arith, less, large) in
-          let bits : m ≡ 4294967296 - suc n = omega (arith, less) in
-          let is : cast_signed w32 m ≡ negsuc n = ap (cast_signed w32) bits ∙ to_z-of_z w32 (negsuc n) (record { sfits = fits }) in
-          let same : (18446744073709551616 - suc n) % 4294967296 ≡ m = omega (arith, less) in
-          ap (λ z. cast_unsigned w64 z % 0x100000000) is ∙ same
+      | inl small ↦ positive_32 m small
+      | inr large ↦ negative_32 m (4294967295 - m) (omega (arith, less)) large
     ]
 
 -- ---- data that start so
