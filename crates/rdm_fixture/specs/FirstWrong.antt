@@ -47,7 +47,10 @@ status_parts = only status_keys ∷ needed_number (codes "id") 0 0xFFFF ∷ free
 
 -- the type of its data
 abbrev pub type_part : Part
-type_part = given (λ t. Some (slots_of (get_member (codes "default_value") t))) (λ slots. needed (codes "data_type") (data_type slots) wanted.DataType)
+type_part = record {
+  Right = λ t. IsSome (shape_in t);
+  Wrong = λ t f. (needed (codes "data_type") (data_type (slots_of (get_member (codes "default_value") t))) wanted.DataType).Wrong t f;
+}
 
 -- the least and the greatest value
 abbrev pub least_part : Shape → Part

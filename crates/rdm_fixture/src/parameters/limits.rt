@@ -17,8 +17,14 @@ pub(super) fn least(table: &Table, shape: Shape) -> Result<i64, Refusal>
     ensures value { result_ok result ≡ says.low_in shape (table_view table.now) }
     ensures wrong { IfErr result (λ e. (least_part shape).Wrong (table_view table.now) (told e)) }
 {
-    let (least, greatest) = (least_of(shape), greatest_of(shape));
-    integer_or(table, "minimum_valid_value", least, least, greatest)
+    let least = least_of(shape);
+    integer_or(
+        table,
+        "minimum_valid_value",
+        least,
+        least,
+        greatest_of(shape),
+    )
 }
 
 /// The greatest value, which isn't below the least: where nothing is said of it, the greatest that the data can say.

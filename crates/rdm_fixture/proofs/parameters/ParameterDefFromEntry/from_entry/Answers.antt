@@ -32,13 +32,13 @@ returns-in_err-shape-clause-wrong c =
 pub returns-in_err-low-clause-wrong : goal.returns-in_err-low-clause-wrong
 returns-in_err-low-clause-wrong c =
     exit (FirstWrong parameter_parts (table_view c.args.table.now)) _ _ c.from_residual-in_err-low.ensures.1
-    (inr (c.in_ok-only.ensures.variant.0 refl, inr (some _ c.in_ok-pid.ensures.value, inr (some _ c.in_ok-rights.ensures.value, inr ((_, (refl, some _ c.in_ok-shape.ensures.value)), inl (c.in_ok-shape.shape, (sym c.in_ok-shape.ensures.value, c.in_err-low.ensures.wrong)))))))
+    (inr (c.in_ok-only.ensures.variant.0 refl, inr (some _ c.in_ok-pid.ensures.value, inr (some _ c.in_ok-rights.ensures.value, inr (some _ c.in_ok-shape.ensures.value, inl (c.in_ok-shape.shape, (sym c.in_ok-shape.ensures.value, c.in_err-low.ensures.wrong)))))))
 
 pub returns-in_err-high-clause-wrong : goal.returns-in_err-high-clause-wrong
 returns-in_err-high-clause-wrong c =
     let low = to_z-of_z w64 c.in_ok-low.low (search rules) in
     exit (FirstWrong parameter_parts (table_view c.args.table.now)) _ _ c.from_residual-in_err-high.ensures.1
-    (inr (c.in_ok-only.ensures.variant.0 refl, inr (some _ c.in_ok-pid.ensures.value, inr (some _ c.in_ok-rights.ensures.value, inr ((_, (refl, some _ c.in_ok-shape.ensures.value)), inr ((c.in_ok-shape.shape, (sym c.in_ok-shape.ensures.value, free_right (least_of c.in_ok-shape.shape) (limit c.in_ok-shape.shape) (get_member (codes "minimum_valid_value") (table_view c.args.table.now)) _ c.in_ok-low.ensures.value)), inl (c.in_ok-shape.shape, (sym c.in_ok-shape.ensures.value, (c.in_ok-low.low, (sym c.in_ok-low.ensures.value, rw low at c.in_err-high.ensures.wrong))))))))))
+    (inr (c.in_ok-only.ensures.variant.0 refl, inr (some _ c.in_ok-pid.ensures.value, inr (some _ c.in_ok-rights.ensures.value, inr (some _ c.in_ok-shape.ensures.value, inr ((c.in_ok-shape.shape, (sym c.in_ok-shape.ensures.value, free_right (least_of c.in_ok-shape.shape) (limit c.in_ok-shape.shape) (get_member (codes "minimum_valid_value") (table_view c.args.table.now)) _ c.in_ok-low.ensures.value)), inl (c.in_ok-shape.shape, (sym c.in_ok-shape.ensures.value, (c.in_ok-low.low, (sym c.in_ok-low.ensures.value, rw low at c.in_err-high.ensures.wrong))))))))))
 
 pub returns-in_err-start-clause-wrong : goal.returns-in_err-start-clause-wrong
 returns-in_err-start-clause-wrong c =
@@ -46,7 +46,7 @@ returns-in_err-start-clause-wrong c =
     let high_value : Some c.in_ok-high.high ≡ high_in c.in_ok-shape.shape c.in_ok-low.low (table_view c.args.table.now) = rw low at c.in_ok-high.ensures.value in
     let high = to_z-of_z w64 c.in_ok-high.high (search rules) in
     exit (FirstWrong parameter_parts (table_view c.args.table.now)) _ _ c.from_residual-in_err-start.ensures.1
-    (inr (c.in_ok-only.ensures.variant.0 refl, inr (some _ c.in_ok-pid.ensures.value, inr (some _ c.in_ok-rights.ensures.value, inr ((_, (refl, some _ c.in_ok-shape.ensures.value)), inr ((c.in_ok-shape.shape, (sym c.in_ok-shape.ensures.value, free_right (least_of c.in_ok-shape.shape) (limit c.in_ok-shape.shape) (get_member (codes "minimum_valid_value") (table_view c.args.table.now)) _ c.in_ok-low.ensures.value)), inr ((c.in_ok-shape.shape, (sym c.in_ok-shape.ensures.value, (c.in_ok-low.low, (sym c.in_ok-low.ensures.value, free_right (greatest_of c.in_ok-shape.shape) (integer_from c.in_ok-low.low (greatest_of c.in_ok-shape.shape)) (get_member (codes "maximum_valid_value") (table_view c.args.table.now)) _ high_value)))), inl (c.in_ok-shape.shape, (sym c.in_ok-shape.ensures.value, (c.in_ok-low.low, (sym c.in_ok-low.ensures.value, (c.in_ok-high.high, (sym high_value, rw (low, high) at c.in_err-start.ensures.wrong)))))))))))))
+    (inr (c.in_ok-only.ensures.variant.0 refl, inr (some _ c.in_ok-pid.ensures.value, inr (some _ c.in_ok-rights.ensures.value, inr (some _ c.in_ok-shape.ensures.value, inr ((c.in_ok-shape.shape, (sym c.in_ok-shape.ensures.value, free_right (least_of c.in_ok-shape.shape) (limit c.in_ok-shape.shape) (get_member (codes "minimum_valid_value") (table_view c.args.table.now)) _ c.in_ok-low.ensures.value)), inr ((c.in_ok-shape.shape, (sym c.in_ok-shape.ensures.value, (c.in_ok-low.low, (sym c.in_ok-low.ensures.value, free_right (greatest_of c.in_ok-shape.shape) (integer_from c.in_ok-low.low (greatest_of c.in_ok-shape.shape)) (get_member (codes "maximum_valid_value") (table_view c.args.table.now)) _ high_value)))), inl (c.in_ok-shape.shape, (sym c.in_ok-shape.ensures.value, (c.in_ok-low.low, (sym c.in_ok-low.ensures.value, (c.in_ok-high.high, (sym high_value, rw (low, high) at c.in_err-start.ensures.wrong)))))))))))))
 
 pub returns-in_err-unit-clause-wrong : goal.returns-in_err-unit-clause-wrong
 returns-in_err-unit-clause-wrong c =
@@ -55,7 +55,7 @@ returns-in_err-unit-clause-wrong c =
     let high = to_z-of_z w64 c.in_ok-high.high (search rules) in
     let start_value : Some c.in_ok-start.start ≡ must (start c.in_ok-shape.shape c.in_ok-low.low c.in_ok-high.high) (get_member (codes "default_value") (table_view c.args.table.now)) = rw (low, high) at c.in_ok-start.ensures.value in
     exit (FirstWrong parameter_parts (table_view c.args.table.now)) _ _ c.from_residual-in_err-unit.ensures.1
-    (inr (c.in_ok-only.ensures.variant.0 refl, inr (some _ c.in_ok-pid.ensures.value, inr (some _ c.in_ok-rights.ensures.value, inr ((_, (refl, some _ c.in_ok-shape.ensures.value)), inr ((c.in_ok-shape.shape, (sym c.in_ok-shape.ensures.value, free_right (least_of c.in_ok-shape.shape) (limit c.in_ok-shape.shape) (get_member (codes "minimum_valid_value") (table_view c.args.table.now)) _ c.in_ok-low.ensures.value)), inr ((c.in_ok-shape.shape, (sym c.in_ok-shape.ensures.value, (c.in_ok-low.low, (sym c.in_ok-low.ensures.value, free_right (greatest_of c.in_ok-shape.shape) (integer_from c.in_ok-low.low (greatest_of c.in_ok-shape.shape)) (get_member (codes "maximum_valid_value") (table_view c.args.table.now)) _ high_value)))), inr ((c.in_ok-shape.shape, (sym c.in_ok-shape.ensures.value, (c.in_ok-low.low, (sym c.in_ok-low.ensures.value, (c.in_ok-high.high, (sym high_value, some _ start_value)))))), inl c.in_err-unit.ensures.wrong))))))))
+    (inr (c.in_ok-only.ensures.variant.0 refl, inr (some _ c.in_ok-pid.ensures.value, inr (some _ c.in_ok-rights.ensures.value, inr (some _ c.in_ok-shape.ensures.value, inr ((c.in_ok-shape.shape, (sym c.in_ok-shape.ensures.value, free_right (least_of c.in_ok-shape.shape) (limit c.in_ok-shape.shape) (get_member (codes "minimum_valid_value") (table_view c.args.table.now)) _ c.in_ok-low.ensures.value)), inr ((c.in_ok-shape.shape, (sym c.in_ok-shape.ensures.value, (c.in_ok-low.low, (sym c.in_ok-low.ensures.value, free_right (greatest_of c.in_ok-shape.shape) (integer_from c.in_ok-low.low (greatest_of c.in_ok-shape.shape)) (get_member (codes "maximum_valid_value") (table_view c.args.table.now)) _ high_value)))), inr ((c.in_ok-shape.shape, (sym c.in_ok-shape.ensures.value, (c.in_ok-low.low, (sym c.in_ok-low.ensures.value, (c.in_ok-high.high, (sym high_value, some _ start_value)))))), inl c.in_err-unit.ensures.wrong))))))))
 
 pub returns-in_err-prefix-clause-wrong : goal.returns-in_err-prefix-clause-wrong
 returns-in_err-prefix-clause-wrong c =
@@ -64,7 +64,7 @@ returns-in_err-prefix-clause-wrong c =
     let high = to_z-of_z w64 c.in_ok-high.high (search rules) in
     let start_value : Some c.in_ok-start.start ≡ must (start c.in_ok-shape.shape c.in_ok-low.low c.in_ok-high.high) (get_member (codes "default_value") (table_view c.args.table.now)) = rw (low, high) at c.in_ok-start.ensures.value in
     exit (FirstWrong parameter_parts (table_view c.args.table.now)) _ _ c.from_residual-in_err-prefix.ensures.1
-    (inr (c.in_ok-only.ensures.variant.0 refl, inr (some _ c.in_ok-pid.ensures.value, inr (some _ c.in_ok-rights.ensures.value, inr ((_, (refl, some _ c.in_ok-shape.ensures.value)), inr ((c.in_ok-shape.shape, (sym c.in_ok-shape.ensures.value, free_right (least_of c.in_ok-shape.shape) (limit c.in_ok-shape.shape) (get_member (codes "minimum_valid_value") (table_view c.args.table.now)) _ c.in_ok-low.ensures.value)), inr ((c.in_ok-shape.shape, (sym c.in_ok-shape.ensures.value, (c.in_ok-low.low, (sym c.in_ok-low.ensures.value, free_right (greatest_of c.in_ok-shape.shape) (integer_from c.in_ok-low.low (greatest_of c.in_ok-shape.shape)) (get_member (codes "maximum_valid_value") (table_view c.args.table.now)) _ high_value)))), inr ((c.in_ok-shape.shape, (sym c.in_ok-shape.ensures.value, (c.in_ok-low.low, (sym c.in_ok-low.ensures.value, (c.in_ok-high.high, (sym high_value, some _ start_value)))))), inr (free_right 0 (number 0 0xFF) (get_member (codes "unit") (table_view c.args.table.now)) _ c.in_ok-unit.ensures.value, inl c.in_err-prefix.ensures.wrong)))))))))
+    (inr (c.in_ok-only.ensures.variant.0 refl, inr (some _ c.in_ok-pid.ensures.value, inr (some _ c.in_ok-rights.ensures.value, inr (some _ c.in_ok-shape.ensures.value, inr ((c.in_ok-shape.shape, (sym c.in_ok-shape.ensures.value, free_right (least_of c.in_ok-shape.shape) (limit c.in_ok-shape.shape) (get_member (codes "minimum_valid_value") (table_view c.args.table.now)) _ c.in_ok-low.ensures.value)), inr ((c.in_ok-shape.shape, (sym c.in_ok-shape.ensures.value, (c.in_ok-low.low, (sym c.in_ok-low.ensures.value, free_right (greatest_of c.in_ok-shape.shape) (integer_from c.in_ok-low.low (greatest_of c.in_ok-shape.shape)) (get_member (codes "maximum_valid_value") (table_view c.args.table.now)) _ high_value)))), inr ((c.in_ok-shape.shape, (sym c.in_ok-shape.ensures.value, (c.in_ok-low.low, (sym c.in_ok-low.ensures.value, (c.in_ok-high.high, (sym high_value, some _ start_value)))))), inr (free_right 0 (number 0 0xFF) (get_member (codes "unit") (table_view c.args.table.now)) _ c.in_ok-unit.ensures.value, inl c.in_err-prefix.ensures.wrong)))))))))
 
 pub returns-in_err-resets-clause-wrong : goal.returns-in_err-resets-clause-wrong
 returns-in_err-resets-clause-wrong c =
@@ -73,7 +73,7 @@ returns-in_err-resets-clause-wrong c =
     let high = to_z-of_z w64 c.in_ok-high.high (search rules) in
     let start_value : Some c.in_ok-start.start ≡ must (start c.in_ok-shape.shape c.in_ok-low.low c.in_ok-high.high) (get_member (codes "default_value") (table_view c.args.table.now)) = rw (low, high) at c.in_ok-start.ensures.value in
     exit (FirstWrong parameter_parts (table_view c.args.table.now)) _ _ c.from_residual-in_err-resets.ensures.1
-    (inr (c.in_ok-only.ensures.variant.0 refl, inr (some _ c.in_ok-pid.ensures.value, inr (some _ c.in_ok-rights.ensures.value, inr ((_, (refl, some _ c.in_ok-shape.ensures.value)), inr ((c.in_ok-shape.shape, (sym c.in_ok-shape.ensures.value, free_right (least_of c.in_ok-shape.shape) (limit c.in_ok-shape.shape) (get_member (codes "minimum_valid_value") (table_view c.args.table.now)) _ c.in_ok-low.ensures.value)), inr ((c.in_ok-shape.shape, (sym c.in_ok-shape.ensures.value, (c.in_ok-low.low, (sym c.in_ok-low.ensures.value, free_right (greatest_of c.in_ok-shape.shape) (integer_from c.in_ok-low.low (greatest_of c.in_ok-shape.shape)) (get_member (codes "maximum_valid_value") (table_view c.args.table.now)) _ high_value)))), inr ((c.in_ok-shape.shape, (sym c.in_ok-shape.ensures.value, (c.in_ok-low.low, (sym c.in_ok-low.ensures.value, (c.in_ok-high.high, (sym high_value, some _ start_value)))))), inr (free_right 0 (number 0 0xFF) (get_member (codes "unit") (table_view c.args.table.now)) _ c.in_ok-unit.ensures.value, inr (free_right 0 (number 0 0xFF) (get_member (codes "prefix") (table_view c.args.table.now)) _ c.in_ok-prefix.ensures.value, inl c.in_err-resets.ensures.wrong))))))))))
+    (inr (c.in_ok-only.ensures.variant.0 refl, inr (some _ c.in_ok-pid.ensures.value, inr (some _ c.in_ok-rights.ensures.value, inr (some _ c.in_ok-shape.ensures.value, inr ((c.in_ok-shape.shape, (sym c.in_ok-shape.ensures.value, free_right (least_of c.in_ok-shape.shape) (limit c.in_ok-shape.shape) (get_member (codes "minimum_valid_value") (table_view c.args.table.now)) _ c.in_ok-low.ensures.value)), inr ((c.in_ok-shape.shape, (sym c.in_ok-shape.ensures.value, (c.in_ok-low.low, (sym c.in_ok-low.ensures.value, free_right (greatest_of c.in_ok-shape.shape) (integer_from c.in_ok-low.low (greatest_of c.in_ok-shape.shape)) (get_member (codes "maximum_valid_value") (table_view c.args.table.now)) _ high_value)))), inr ((c.in_ok-shape.shape, (sym c.in_ok-shape.ensures.value, (c.in_ok-low.low, (sym c.in_ok-low.ensures.value, (c.in_ok-high.high, (sym high_value, some _ start_value)))))), inr (free_right 0 (number 0 0xFF) (get_member (codes "unit") (table_view c.args.table.now)) _ c.in_ok-unit.ensures.value, inr (free_right 0 (number 0 0xFF) (get_member (codes "prefix") (table_view c.args.table.now)) _ c.in_ok-prefix.ensures.value, inl c.in_err-resets.ensures.wrong))))))))))
 
 pub returns-in_err-name-clause-wrong : goal.returns-in_err-name-clause-wrong
 returns-in_err-name-clause-wrong c =
@@ -82,7 +82,7 @@ returns-in_err-name-clause-wrong c =
     let high = to_z-of_z w64 c.in_ok-high.high (search rules) in
     let start_value : Some c.in_ok-start.start ≡ must (start c.in_ok-shape.shape c.in_ok-low.low c.in_ok-high.high) (get_member (codes "default_value") (table_view c.args.table.now)) = rw (low, high) at c.in_ok-start.ensures.value in
     exit (FirstWrong parameter_parts (table_view c.args.table.now)) _ _ c.from_residual-in_err-name.ensures.1
-    (inr (c.in_ok-only.ensures.variant.0 refl, inr (some _ c.in_ok-pid.ensures.value, inr (some _ c.in_ok-rights.ensures.value, inr ((_, (refl, some _ c.in_ok-shape.ensures.value)), inr ((c.in_ok-shape.shape, (sym c.in_ok-shape.ensures.value, free_right (least_of c.in_ok-shape.shape) (limit c.in_ok-shape.shape) (get_member (codes "minimum_valid_value") (table_view c.args.table.now)) _ c.in_ok-low.ensures.value)), inr ((c.in_ok-shape.shape, (sym c.in_ok-shape.ensures.value, (c.in_ok-low.low, (sym c.in_ok-low.ensures.value, free_right (greatest_of c.in_ok-shape.shape) (integer_from c.in_ok-low.low (greatest_of c.in_ok-shape.shape)) (get_member (codes "maximum_valid_value") (table_view c.args.table.now)) _ high_value)))), inr ((c.in_ok-shape.shape, (sym c.in_ok-shape.ensures.value, (c.in_ok-low.low, (sym c.in_ok-low.ensures.value, (c.in_ok-high.high, (sym high_value, some _ start_value)))))), inr (free_right 0 (number 0 0xFF) (get_member (codes "unit") (table_view c.args.table.now)) _ c.in_ok-unit.ensures.value, inr (free_right 0 (number 0 0xFF) (get_member (codes "prefix") (table_view c.args.table.now)) _ c.in_ok-prefix.ensures.value, inr (free_right _ flag (get_member (codes "factory_defaults") (table_view c.args.table.now)) _ c.in_ok-resets.ensures.value, inl c.in_err-name.ensures.wrong)))))))))))
+    (inr (c.in_ok-only.ensures.variant.0 refl, inr (some _ c.in_ok-pid.ensures.value, inr (some _ c.in_ok-rights.ensures.value, inr (some _ c.in_ok-shape.ensures.value, inr ((c.in_ok-shape.shape, (sym c.in_ok-shape.ensures.value, free_right (least_of c.in_ok-shape.shape) (limit c.in_ok-shape.shape) (get_member (codes "minimum_valid_value") (table_view c.args.table.now)) _ c.in_ok-low.ensures.value)), inr ((c.in_ok-shape.shape, (sym c.in_ok-shape.ensures.value, (c.in_ok-low.low, (sym c.in_ok-low.ensures.value, free_right (greatest_of c.in_ok-shape.shape) (integer_from c.in_ok-low.low (greatest_of c.in_ok-shape.shape)) (get_member (codes "maximum_valid_value") (table_view c.args.table.now)) _ high_value)))), inr ((c.in_ok-shape.shape, (sym c.in_ok-shape.ensures.value, (c.in_ok-low.low, (sym c.in_ok-low.ensures.value, (c.in_ok-high.high, (sym high_value, some _ start_value)))))), inr (free_right 0 (number 0 0xFF) (get_member (codes "unit") (table_view c.args.table.now)) _ c.in_ok-unit.ensures.value, inr (free_right 0 (number 0 0xFF) (get_member (codes "prefix") (table_view c.args.table.now)) _ c.in_ok-prefix.ensures.value, inr (free_right _ flag (get_member (codes "factory_defaults") (table_view c.args.table.now)) _ c.in_ok-resets.ensures.value, inl c.in_err-name.ensures.wrong)))))))))))
 
 pub returns-in_err-low-clause-read : goal.returns-in_err-low-clause-read
 returns-in_err-low-clause-read c =
