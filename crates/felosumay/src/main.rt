@@ -8,6 +8,7 @@ mod chart;
 mod fault;
 mod fixture;
 mod host;
+mod names;
 mod parameters;
 mod play;
 mod rig;

@@ -11,6 +11,7 @@ use crate::chart::draw;
 use crate::fault::Fault;
 use crate::fixture::{FixtureFile, demonstration};
 use crate::host::Host;
+use crate::names::with_digits;
 use crate::source::{OUTPUT, Source, print, refuse_clashes, save, without_mark};
 use crate::usage;
 use crate::words::words_of;
@@ -31,9 +32,11 @@ pub fn run<'a, H: Host>(rt: H, asked: &ArgMatches<'a>) -> Result<(), Fault<'a>> 
     let source = Source::named(asked.get_str(usage::INPUT));
     let bytes = source.read(rt, MOST_BYTES as u64)?;
     let setting = Setting::asked_for(rt, asked)?;
+    let own = setting.fixture.profile.own.as_slice();
+    let text = with_digits(rt.alloc(), without_mark(bytes.as_slice()), own)?;
     let script = Script {
         name: source.name(),
-        text: without_mark(bytes.as_slice()),
+        text: text.as_slice(),
     };
     if asked.contains_id(usage::CHART) || asked.get_flag(usage::WORDS) {
         let lines = setting.lines(rt, script)?;
