@@ -55,7 +55,7 @@ pub within_from : (low high : ℤ) (d : Data) (z : ℤ) → integer_from low hig
 within_from low high (integer k) z h =
     let (within, same) = from_if (int_le low k && int_le k high) k z h in
     let (a, b) = and_parts _ _ within in
-    subst (λ m. (int_le low m ≡ true) × (int_le m high ≡ true)) same (a, b)
+    subst (λ (m : ℤ). (int_le low m ≡ true) × (int_le m high ≡ true)) same (a, b)
 within_from low high (string s) z h = absurd (cc)
 within_from low high (float f) z h = absurd (cc)
 within_from low high (boolean b) z h = absurd (cc)
@@ -189,7 +189,7 @@ can_be s low high xs =
     option_map_or (λ v. option_map_or (λ n. int_le low n && int_le n high) (number_in s v) (has_form (form_of s) v)) (value_of (form_of s) xs) false
 
 pub can_be_of : (d : ParameterDef) (s : Shape) (xs : List ℕ) → d.shape ≡ s → d.start ≡ xs → can_start d ≡ true → can_be s d.low d.high xs ≡ true
-can_be_of d s xs shape start h = subst (λ ys. can_be s d.low d.high ys ≡ true) start (subst (λ r. can_be r d.low d.high d.start ≡ true) shape h)
+can_be_of d s xs shape start h = subst (λ (ys : List ℕ). can_be s d.low d.high ys ≡ true) start (subst (λ (r : Shape). can_be r d.low d.high d.start ≡ true) shape h)
 
 lies : (low high m z : ℤ) → m ≡ z → int_le low z ≡ true → int_le z high ≡ true → (int_le low m && int_le m high) ≡ true
 lies low high m z e a b = subst (λ (k : ℤ). (int_le low k && int_le k high) ≡ true) (sym e) (and_from (int_le low z) (int_le z high) a b)
@@ -280,7 +280,7 @@ byte_again : (xs : List ℕ) → length xs ≡ 1 → IsBytes xs → slice_index 
 byte_again xs one fits =
     let small = fits 0 in
     let same : slice_index xs 0 % 256 ≡ slice_index xs 0 = omega (arith, small) in
-    ap (λ n. n ∷ []) same ∙ single xs one
+    ap (λ (n : ℕ). n ∷ []) same ∙ single xs one
 
 word_small : (xs : List ℕ) → length xs ≡ 2 → IsBytes xs → from_be_bytes w16 xs < 65536
 word_small xs two fits = omega (arith, fits 0, fits 1)
@@ -297,7 +297,7 @@ slots_again shapes.SignedByte z xs fits said =
     let (long, value) = parts_of shapes.SignedByte xs z said in
     let one : length xs ≡ 1 = eqb-true (length xs) 1 long in
     subst (λ (k : ℤ). number_slots shapes.SignedByte k ≡ xs) (same_Some (cast_signed w8 (slice_index xs 0)) z value)
-    (ap (λ n. n ∷ []) (back_8 (slice_index xs 0) (fits 0)) ∙ single xs one)
+    (ap (λ (n : ℕ). n ∷ []) (back_8 (slice_index xs 0) (fits 0)) ∙ single xs one)
 slots_again shapes.Word z xs fits said =
     let (long, value) = parts_of shapes.Word xs z said in
     let two : length xs ≡ 2 = eqb-true (length xs) 2 long in

@@ -147,18 +147,18 @@ same_parameter e0 e1 e2 e3 e4 e5 e6 e7 e8 e9 = rw (e0, e1, e2, e3, e4, e5, e6, e
 
 -- what is said where the shape, the least and the greatest value are the same
 one_low : (t : Members) (s r : Shape) (x y : ℤ) → s ≡ r → low_in s t ≡ Some x → low_in r t ≡ Some y → x ≡ y
-one_low t s r x y e p q = one (subst (λ k. low_in k t ≡ Some x) e p) q
+one_low t s r x y e p q = one (subst (λ (k : Shape). low_in k t ≡ Some x) e p) q
 
 one_high : (t : Members) (s r : Shape) (l m x y : ℤ) → s ≡ r → l ≡ m → high_in s l t ≡ Some x → high_in r m t ≡ Some y → x ≡ y
-one_high t s r l m x y e f p q = one (subst (λ k. high_in r k t ≡ Some x) f (subst (λ k. high_in k l t ≡ Some x) e p)) q
+one_high t s r l m x y e f p q = one (subst (λ (k : ℤ). high_in r k t ≡ Some x) f (subst (λ (k : Shape). high_in k l t ≡ Some x) e p)) q
 
 one_start : (found : Option Data) (s r : Shape) (l m h i : ℤ) (x y : List ℕ) → s ≡ r → l ≡ m → h ≡ i
     → must (start s l h) found ≡ Some x → must (start r m i) found ≡ Some y → x ≡ y
 one_start found s r l m h i x y e f g p q =
-    one (subst (λ k. must (start r m k) found ≡ Some x) g (subst (λ k. must (start r k h) found ≡ Some x) f (subst (λ k. must (start k l h) found ≡ Some x) e p))) q
+    one (subst (λ (k : ℤ). must (start r m k) found ≡ Some x) g (subst (λ (k : ℤ). must (start r k h) found ≡ Some x) f (subst (λ (k : Shape). must (start k l h) found ≡ Some x) e p))) q
 
 one_flag : (found : Option Data) (a b : Rights) (x y : Bool) → a ≡ b → may (has_set a) flag found ≡ Some x → may (has_set b) flag found ≡ Some y → x ≡ y
-one_flag found a b x y e p q = one (subst (λ k. may (has_set k) flag found ≡ Some x) e p) q
+one_flag found a b x y e p q = one (subst (λ (k : Rights). may (has_set k) flag found ≡ Some x) e p) q
 
 pub one_parameter : SaysOne IsParameter
 one_parameter t x y p q =

@@ -23,7 +23,7 @@ addable_if false k n h = absurd (cc)
 
 addable_in : (o : Option ℕ) (n : ℕ) → option_and_then (λ pid. if is_addable pid then Some pid else None) o ≡ Some n → is_addable n ≡ true
 addable_in None n h = absurd (cc)
-addable_in (Some k) n h = let (is, same) = addable_if (is_addable k) k n h in subst (λ m. is_addable m ≡ true) same is
+addable_in (Some k) n h = let (is, same) = addable_if (is_addable k) k n h in subst (λ (m : ℕ). is_addable m ≡ true) same is
 
 addable : (found : Option Data) (n : ℕ) → must own_pid found ≡ Some n → is_addable n ≡ true
 addable None n h = absurd (cc)

@@ -1,9 +1,10 @@
-use Rattle.std.proofs.Common.{◌≡◌, [], Some, None, refl, sym, ap, subst, ◌∙◌, inl, inr, codes, rules}
+use Rattle.std.proofs.Common.{◌≡◌, ℤ, Bool, [], Some, None, refl, sym, ap, subst, ◌∙◌, inl, inr, codes, rules}
 use Rattle.std.specs.Int.{w64}
 use Rattle.std.proofs.lemmas.Int.{to_z-of_z}
 use Rattle.toml.specs.Data.{get_member}
 use Rattle.toml.specs.View.{table_view}
 use Rattle.rdm_fixture.specs.FirstWrong.{parameter_parts}
+use Rattle.rdm_device.specs.declared.profile.own.Shape.{Shape}
 use Rattle.rdm_device.specs.Device.OwnParameters.{has_set}
 use Rattle.rdm_fixture.specs.Keys.{may, must}
 use Rattle.rdm_fixture.specs.Parameters.{IsParameter, least_of, greatest_of, limit, integer_from, low_in, high_in, start, flag}
@@ -88,7 +89,7 @@ pub returns-in_err-low-clause-read : goal.returns-in_err-low-clause-read
 returns-in_err-low-clause-read c =
     Reads-err IsParameter _ _ c.from_residual-in_err-low.ensures.0 (λ d h.
     let shape : d.shape ≡ c.in_ok-shape.shape = one h.shape (sym c.in_ok-shape.ensures.value) in
-    let said_low : low_in c.in_ok-shape.shape (table_view c.args.table.now) ≡ Some d.low = subst (λ s. low_in s (table_view c.args.table.now) ≡ Some d.low) shape h.low in
+    let said_low : low_in c.in_ok-shape.shape (table_view c.args.table.now) ≡ Some d.low = subst (λ (s : Shape). low_in s (table_view c.args.table.now) ≡ Some d.low) shape h.low in
     none_said d.low c.in_err-low.ensures.value said_low)
 
 pub returns-in_err-high-clause-read : goal.returns-in_err-high-clause-read
@@ -97,10 +98,10 @@ returns-in_err-high-clause-read c =
     let none : None ≡ high_in c.in_ok-shape.shape c.in_ok-low.low (table_view c.args.table.now) = rw low at c.in_err-high.ensures.value in
     Reads-err IsParameter _ _ c.from_residual-in_err-high.ensures.0 (λ d h.
     let shape : d.shape ≡ c.in_ok-shape.shape = one h.shape (sym c.in_ok-shape.ensures.value) in
-    let said_low : low_in c.in_ok-shape.shape (table_view c.args.table.now) ≡ Some d.low = subst (λ s. low_in s (table_view c.args.table.now) ≡ Some d.low) shape h.low in
+    let said_low : low_in c.in_ok-shape.shape (table_view c.args.table.now) ≡ Some d.low = subst (λ (s : Shape). low_in s (table_view c.args.table.now) ≡ Some d.low) shape h.low in
     let same_low : d.low ≡ c.in_ok-low.low = one said_low (sym c.in_ok-low.ensures.value) in
     let said_high : high_in c.in_ok-shape.shape c.in_ok-low.low (table_view c.args.table.now) ≡ Some d.high =
-    subst (λ l. high_in c.in_ok-shape.shape l (table_view c.args.table.now) ≡ Some d.high) same_low (subst (λ s. high_in s d.low (table_view c.args.table.now) ≡ Some d.high) shape h.high) in
+    subst (λ (l : ℤ). high_in c.in_ok-shape.shape l (table_view c.args.table.now) ≡ Some d.high) same_low (subst (λ (s : Shape). high_in s d.low (table_view c.args.table.now) ≡ Some d.high) shape h.high) in
     none_said d.high none said_high)
 
 pub returns-in_err-start-clause-read : goal.returns-in_err-start-clause-read
@@ -111,15 +112,15 @@ returns-in_err-start-clause-read c =
     let none : None ≡ must (start c.in_ok-shape.shape c.in_ok-low.low c.in_ok-high.high) (get_member (codes "default_value") (table_view c.args.table.now)) = rw (low, high) at c.in_err-start.ensures.value in
     Reads-err IsParameter _ _ c.from_residual-in_err-start.ensures.0 (λ d h.
     let shape : d.shape ≡ c.in_ok-shape.shape = one h.shape (sym c.in_ok-shape.ensures.value) in
-    let said_low : low_in c.in_ok-shape.shape (table_view c.args.table.now) ≡ Some d.low = subst (λ s. low_in s (table_view c.args.table.now) ≡ Some d.low) shape h.low in
+    let said_low : low_in c.in_ok-shape.shape (table_view c.args.table.now) ≡ Some d.low = subst (λ (s : Shape). low_in s (table_view c.args.table.now) ≡ Some d.low) shape h.low in
     let same_low : d.low ≡ c.in_ok-low.low = one said_low (sym c.in_ok-low.ensures.value) in
     let said_high : high_in c.in_ok-shape.shape c.in_ok-low.low (table_view c.args.table.now) ≡ Some d.high =
-    subst (λ l. high_in c.in_ok-shape.shape l (table_view c.args.table.now) ≡ Some d.high) same_low (subst (λ s. high_in s d.low (table_view c.args.table.now) ≡ Some d.high) shape h.high) in
+    subst (λ (l : ℤ). high_in c.in_ok-shape.shape l (table_view c.args.table.now) ≡ Some d.high) same_low (subst (λ (s : Shape). high_in s d.low (table_view c.args.table.now) ≡ Some d.high) shape h.high) in
     let same_high : d.high ≡ c.in_ok-high.high = one said_high (sym high_value) in
     let found = get_member (codes "default_value") (table_view c.args.table.now) in
     let said_start : must (start c.in_ok-shape.shape c.in_ok-low.low c.in_ok-high.high) found ≡ Some d.start =
-    subst (λ k. must (start c.in_ok-shape.shape c.in_ok-low.low k) found ≡ Some d.start) same_high
-    (subst (λ l. must (start c.in_ok-shape.shape l d.high) found ≡ Some d.start) same_low (subst (λ s. must (start s d.low d.high) found ≡ Some d.start) shape h.start)) in
+    subst (λ (k : ℤ). must (start c.in_ok-shape.shape c.in_ok-low.low k) found ≡ Some d.start) same_high
+    (subst (λ (l : ℤ). must (start c.in_ok-shape.shape l d.high) found ≡ Some d.start) same_low (subst (λ (s : Shape). must (start s d.low d.high) found ≡ Some d.start) shape h.start)) in
     none_said d.start none said_start)
 
 pub returns-in_err-resets-clause-read : goal.returns-in_err-resets-clause-read
@@ -128,7 +129,7 @@ returns-in_err-resets-clause-read c =
     let rights : d.rights ≡ c.in_ok-rights.rights = one h.rights (sym c.in_ok-rights.ensures.value) in
     let found = get_member (codes "factory_defaults") (table_view c.args.table.now) in
     none_said d.resets c.in_err-resets.ensures.value
-    (subst (λ b. may b flag found ≡ Some d.resets) (ap has_set rights ∙ sym c.has_set.ensures) h.resets))
+    (subst (λ (b : Bool). may b flag found ≡ Some d.resets) (ap has_set rights ∙ sym c.has_set.ensures) h.resets))
 
 pub returns-clause-read : goal.returns-clause-read
 returns-clause-read c =
@@ -147,6 +148,6 @@ returns-clause-read c =
       start = sym start_value;
       unit = search rules;
       prefix = search rules;
-      resets = subst (λ b. may b flag found ≡ Some c.in_ok-resets.resets) c.has_set.ensures (sym c.in_ok-resets.ensures.value);
+      resets = subst (λ (b : Bool). may b flag found ≡ Some c.in_ok-resets.resets) c.has_set.ensures (sym c.in_ok-resets.ensures.value);
       name = search rules;
     }
