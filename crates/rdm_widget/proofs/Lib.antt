@@ -1,5 +1,3 @@
-pub mod Frames
-pub mod Pieces
 pub mod Turns
 pub mod Reports
 pub mod Ready

@@ -1,6 +1,6 @@
 use Rattle.std.proofs.Common.{◌-◌, length, take, drop, arith}
-use Rattle.rdm_widget.proofs.Frames.{tail_of, front_unfinished, front_stray, front_whole}
-use Rattle.rdm_widget.proofs.framing.front_with_head.Goals as goal
+use Rattle.rdm_messages.proofs.Frames.{tail_of, front_unfinished, front_stray, front_whole}
+use Rattle.rdm_messages.proofs.framing.front_with_head.Goals as goal
 
 pub returns-then-tail-size : goal.returns-then-tail-size
 returns-then-tail-size c =

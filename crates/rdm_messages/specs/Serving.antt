@@ -1,9 +1,9 @@
 -- What serving a stream comes to.
 use Rattle.std.specs.Prelude.{◌≡◌, ◌<◌, ℕ, List, [], ◌∷◌, ◌++◌, length, map, take, Option}
 use Rattle.std.specs.Io.KnownBytes.{Consumes, Appends}
-use Rattle.rdm_widget.specs.Framing.{Message, Piece, IsUnfinished, stream_of, messages_of, AreCut, Holds, bytes_of}
-use Rattle.rdm_widget.specs.Hearing.{Hearing}
-use Rattle.rdm_widget.specs.Protocol.{answer_to, after_message}
+use Rattle.rdm_messages.specs.Framing.{Message, IsUnfinished, Begins, Holds, bytes_of}
+use Rattle.rdm_messages.specs.Hearing.{Hearing}
+use Rattle.rdm_messages.specs.Protocol.{answer_to, after_message}
 
 -- A message, and when it came.
 pub record Turn : Type 0 where
@@ -45,13 +45,10 @@ pub record IsServed {C D S : Type 0} (tells : C → ℕ → C → Type 0) (line 
   pub written : Appends old new (answers line s turns)
   pub situation : line.is_in d (after_turns line s turns)
 
--- These pieces of what was read are done with, each message of them in its turn, and so much was written.
+-- Of these bytes all but the rest are done with, each message of them in its turn, and so much was written.
 pub record AreDone {C D S : Type 0} (tells : C → ℕ → C → Type 0) (line : Hearing D S) (before after : C) (bytes rest : List ℕ) (s : S) (d : D) (AreWritten : S → List Turn → Type 0) : Type 0 where
-  pub pieces : List Piece
   pub turns : List Turn
-  pub whole : bytes ≡ stream_of pieces ++ rest
-  pub cut : AreCut pieces rest
-  pub said : messages_in turns ≡ messages_of pieces
+  pub begins : Begins bytes (messages_in turns) rest
   pub times : Tells tells before (times_of turns) after
   pub written : AreWritten s turns
   pub situation : line.is_in d (after_turns line s turns)

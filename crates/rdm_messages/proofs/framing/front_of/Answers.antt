@@ -1,7 +1,7 @@
 use Rattle.std.proofs.Common.{◌≡◌, length, subst, sym, arith, rules}
-use Rattle.rdm_widget.specs.Framing.{IsUnfinished}
-use Rattle.rdm_widget.proofs.Frames.{unfinished_none, unfinished_head, none_of}
-use Rattle.rdm_widget.proofs.framing.front_of.Goals as goal
+use Rattle.rdm_messages.specs.Framing.{IsUnfinished}
+use Rattle.rdm_messages.proofs.Frames.{unfinished_none, unfinished_head, none_of}
+use Rattle.rdm_messages.proofs.framing.front_of.Goals as goal
 
 pub returns-then-is_empty : goal.returns-then-is_empty
 returns-then-is_empty c =

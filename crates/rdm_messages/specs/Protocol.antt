@@ -1,7 +1,7 @@
 -- What is answered to each message, whatever is on the line. Labels are those of the ENTTEC DMX USB Pro.
 use Rattle.std.specs.Prelude.{ℕ, ◌==◌, ◌||◌, List, [], ◌∷◌, Option, Some, None, if◌then◌else◌}
-use Rattle.rdm_widget.specs.Framing.{Message}
-use Rattle.rdm_widget.specs.Hearing.{Hearing}
+use Rattle.rdm_messages.specs.Framing.{Message}
+use Rattle.rdm_messages.specs.Hearing.{Hearing}
 
 -- ---- to the host
 

@@ -2,8 +2,8 @@
 use Rattle.std.proofs.Common.{◌≡◌, ℕ, suc, ◌+◌, ◌/◌, ◌%◌, List, [], ◌∷◌, ◌++◌, length, take, drop, get_or, refl, sym, ap, subst, ◌∙◌, arith, append_assoc, append-nil, length-append}
 use Rattle.std.specs.List.{All}
 use Rattle.std.proofs.Math.Seq.{take-append_seam, drop-append_seam}
-use Rattle.rdm_widget.specs.Framing.{Message, IsMessage, message_bytes, bytes_of, IsUnfinished, IsStray, Piece, Rubbish, Said, stream_of, messages_of, AreCut, Holds}
-use Rattle.rdm_widget.proofs.Frames.{unfinished_none}
+use Rattle.rdm_messages.specs.Framing.{Message, IsMessage, message_bytes, bytes_of, IsUnfinished, IsStray, Piece, Rubbish, Said, stream_of, messages_of, AreCut, Begins, Holds}
+use Rattle.rdm_messages.proofs.Frames.{unfinished_none}
 
 -- ---- one message at the front
 
@@ -68,7 +68,10 @@ cut_once (Said m ∷ ps) (Said n ∷ qs) rest other e cut cut' un un' =
     ap (λ x. x ∷ messages_of ps) front.message ∙ ap (λ (l : List Message). n ∷ l) later
 
 pub one_list : (stream : List ℕ) (messages others : List Message) → Holds stream messages → Holds stream others → messages ≡ others
-one_list stream messages others h k = h.said ∙ cut_once h.pieces k.pieces h.rest k.rest (sym h.whole ∙ k.whole) h.cut k.cut h.unfinished k.unfinished ∙ sym k.said
+one_list stream messages others h k =
+    h.begins.said
+    ∙ cut_once h.begins.pieces k.begins.pieces h.rest k.rest (sym h.begins.whole ∙ k.begins.whole) h.begins.cut k.begins.cut h.unfinished k.unfinished
+    ∙ sym k.begins.said
 
 -- ---- written messages are read back
 
@@ -93,10 +96,12 @@ AreCut-said_all (m ∷ ms) all = (all 0 m (omega arith), AreCut-said_all ms (λ 
 
 pub read_back : (ms : List Message) → All IsMessage ms → Holds (bytes_of ms) ms
 read_back ms all = record {
-  pieces = said_all ms;
   rest = [];
-  whole = sym (stream_of-said_all ms) ∙ sym (append-nil (stream_of (said_all ms)));
-  cut = AreCut-said_all ms all;
+  begins = record {
+    pieces = said_all ms;
+    whole = sym (stream_of-said_all ms) ∙ sym (append-nil (stream_of (said_all ms)));
+    cut = AreCut-said_all ms all;
+    said = messages_of-said_all ms;
+  };
   unfinished = unfinished_none;
-  said = messages_of-said_all ms;
 }

@@ -2,7 +2,7 @@
 use Rattle.std.proofs.Common.{◌≡◌, ◌≢◌, ℕ, zero, suc, ◌+◌, ◌-◌, ◌*◌, ◌/◌, ◌%◌, ◌<◌, ◌≤◌, List, [], ◌∷◌, ◌++◌, length, take, drop, get_or, refl, sym, ap, subst, ◌∙◌, arith, append_assoc, length-append}
 use Rattle.std.proofs.lemmas.Grind.{common_steps}
 use Rattle.std.proofs.lemmas.List.{take_all, length-drop}
-use Rattle.rdm_widget.specs.Framing.{Message, message_bytes, IsUnfinished, IsStray, IsWhole}
+use Rattle.rdm_messages.specs.Framing.{Message, message_bytes, IsUnfinished, IsStray, IsWhole}
 
 zeros : ℕ → List ℕ
 zeros zero = []

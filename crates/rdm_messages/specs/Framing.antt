@@ -1,9 +1,9 @@
 -- The messages of the interface, and which messages a stream of bytes holds.
 use Rattle.std.specs.Prelude.{◌≡◌, ℕ, ◌<◌, ◌≤◌, ◌%◌, ◌/◌, List, [], ◌∷◌, ◌++◌, length}
 use Rattle.std.specs.List.{flat_map}
-use Rattle.rdm_widget.specs.declared.framing.Front.{Front}
-use Rattle.rdm_widget.specs.declared.framing.Front.TheVariants.{Unfinished, Stray, Whole}
-use Rattle.rdm_widget.specs.declared.framing.MessageView.{MessageView}
+use Rattle.rdm_messages.specs.declared.framing.Front.{Front}
+use Rattle.rdm_messages.specs.declared.framing.Front.TheVariants.{Unfinished, Stray, Whole}
+use Rattle.rdm_messages.specs.declared.framing.MessageView.{MessageView}
 
 -- What a message is about, and what it says.
 pub record Message : Type 0 where
@@ -77,11 +77,15 @@ AreCut [] rest = Unit {0}
 AreCut (Rubbish byte ∷ pieces) rest = IsStray (byte ∷ stream_of pieces ++ rest) × AreCut pieces rest
 AreCut (Said m ∷ pieces) rest = IsMessage m × AreCut pieces rest
 
--- A stream holds these messages: it is cut into pieces, and no whole message is left.
-pub record Holds (stream : List ℕ) (messages : List Message) : Type 0 where
+-- A stream begins with these messages, and goes on with the rest: it is cut into pieces, which have no other message.
+pub record Begins (stream : List ℕ) (messages : List Message) (rest : List ℕ) : Type 0 where
   pub pieces : List Piece
-  pub rest : List ℕ
   pub whole : stream ≡ stream_of pieces ++ rest
   pub cut : AreCut pieces rest
-  pub unfinished : IsUnfinished rest
   pub said : messages ≡ messages_of pieces
+
+-- A stream holds these messages: it begins with them, and no whole message is left.
+pub record Holds (stream : List ℕ) (messages : List Message) : Type 0 where
+  pub rest : List ℕ
+  pub begins : Begins stream messages rest
+  pub unfinished : IsUnfinished rest

@@ -1,7 +1,7 @@
 //! Messages of the interface, and their bytes: 0x7E, the label, the length of the body (low byte first), the body, and 0xE7.
 
 ghost use Rattle.std.specs.Prelude.{◌≡◌, ◌≤◌, length, slice_index};
-ghost use Rattle.rdm_widget.specs.Framing.{IsFront, message_bytes};
+ghost use Rattle.rdm_messages.specs.Framing.{IsFront, message_bytes};
 
 use rdm_frame::Bytes;
 
@@ -9,10 +9,10 @@ use rdm_frame::Bytes;
 pub const MOST_BODY: usize = 600;
 
 /// How many bytes a message has at most.
-pub(crate) const MOST_BYTES: usize = 605;
+pub const MOST_BYTES: usize = 605;
 
 /// How many bytes of a message aren't its body.
-pub(crate) const FRAME_BYTES: usize = 5;
+pub const FRAME_BYTES: usize = 5;
 
 /// How many bytes of a message come before its body.
 const HEAD_BYTES: usize = 4;
