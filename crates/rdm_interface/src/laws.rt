@@ -1,0 +1,23 @@
+//! Laws of what is heard, and of `==`. Each is the contract of a call that does nothing.
+
+ghost use Rattle.std.specs.Prelude.{◌≡◌, ◌↔◌, IsTrue};
+ghost use Rattle.rdm_interface.specs.Sessions.{LateAnswersArePassedOver, RepliesAreHeard};
+
+use crate::Parameters;
+
+/// Of requests that are answered in time, one after another, what came from the line for each is what is heard of it, with
+/// nothing left over: whatever the line replies, as long as it is bytes that answer the request, or nothing.
+pub fn replies_are_heard()
+    ensures { RepliesAreHeard }
+{}
+
+/// A response answers no two requests that differ in their transaction number, their device or their controller, or, but for
+/// polls, in their command class, sub-device or parameter (E1.20 section 6.2).
+pub fn late_answers_are_passed_over()
+    ensures { LateAnswersArePassedOver }
+{}
+
+/// The parameters of two interfaces are equal by `==` exactly when each field is.
+pub fn parameters_are_equal_by_value()
+    ensures { (a b : Parameters) → IsTrue (⟦<Parameters as PartialEq>⟧.eq a b) ↔ (a ≡ b) }
+{}
