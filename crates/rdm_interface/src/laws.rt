@@ -3,7 +3,7 @@
 ghost use Rattle.std.specs.Prelude.{◌≡◌, ◌↔◌, IsTrue};
 ghost use Rattle.rdm_interface.specs.Sessions.{LateAnswersArePassedOver, RepliesAreHeard};
 
-use crate::Parameters;
+use crate::{Parameters, SearchFault};
 
 /// Of requests that are answered in time, one after another, what came from the line for each is what is heard of it, with
 /// nothing left over: whatever the line replies, as long as it is bytes that answer the request, or nothing.
@@ -20,4 +20,9 @@ pub fn late_answers_are_passed_over()
 /// The parameters of two interfaces are equal by `==` exactly when each field is.
 pub fn parameters_are_equal_by_value()
     ensures { (a b : Parameters) → IsTrue (⟦<Parameters as PartialEq>⟧.eq a b) ↔ (a ≡ b) }
+{}
+
+/// Two reasons why a search ended early are equal by `==` exactly when they are the same.
+pub fn search_faults_are_equal_by_value()
+    ensures { (a b : SearchFault) → IsTrue (⟦<SearchFault as PartialEq>⟧.eq a b) ↔ (a ≡ b) }
 {}

@@ -15,7 +15,10 @@ mod waiting;
 mod wanted;
 
 pub use interface::Interface;
-pub use laws::{late_answers_are_passed_over, parameters_are_equal_by_value, replies_are_heard};
+pub use laws::{
+    late_answers_are_passed_over, parameters_are_equal_by_value, replies_are_heard,
+    search_faults_are_equal_by_value,
+};
 pub use parameters::Parameters;
 pub use rdm_messages::{Clock, RealClock};
-pub use searching::{SearchFault, discover_through};
+pub use searching::{SearchFault, discover_through, run_through};
