@@ -59,6 +59,22 @@ impl<R: Read, W: Write, C: Clock> Interface<R, W, C> {
         }
     }
 
+    /// The reader, the writer and the clock. What was read and isn't done with is dropped.
+    pub fn into_parts(self) -> (R, W, C)
+        ensures reader { result.0 ≡ self.reader }
+        ensures writer { result.1 ≡ self.writer }
+        ensures clock { result.2 ≡ self.clock }
+    {
+        let Interface {
+            reader,
+            writer,
+            clock,
+            span: _,
+            held: _,
+        } = self;
+        (reader, writer, clock)
+    }
+
     /// Sends the bytes of a request on the line: DISC_UNIQUE_BRANCH with label 11, and any other with label 7. Says what is heard,
     /// or `None` if nobody answers, or nothing that belongs to the request comes within the limit.
     ///
