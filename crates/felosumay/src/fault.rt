@@ -1,5 +1,6 @@
 //! Why the program couldn't do its work.
 
+use crate::line::fault::LineFault;
 use crate::source::OUTPUT;
 use crate::usage::MOST_FIXTURES;
 use rdm_crew::RunError;
@@ -69,6 +70,8 @@ pub enum Fault<'a> {
     NotSaved(&'a str),
     /// A file has the saved values of a fixture of another profile.
     OtherProfile(&'a str),
+    /// A console couldn't do its work on a line.
+    Line(LineFault<'a>),
 }
 
 impl<'a> Fault<'a> {
@@ -146,6 +149,7 @@ impl<'a> Fault<'a> {
             | Fault::TwoOfOneUid(_)
             | Fault::SavedOfMany(_)
             | Fault::NoParameter(_) => BAD_USAGE,
+            Fault::Line(fault) => fault.status(),
         }
     }
 
@@ -215,6 +219,7 @@ impl fmt::Display for Fault<'_> {
     fn fmt<W: fmt::Write>(&self, f: &mut fmt::Formatter<W>) -> fmt::Result {
         match self {
             Fault::Memory => f.write_str("error: out of memory"),
+            Fault::Line(fault) => write!(f, "{fault}"),
             Fault::Clock(error) => write!(f, "error: clock: {error}"),
             Fault::Io(name, error) => write!(f, "error: {name}: {error}"),
             Fault::TooLong(name, most) => write!(f, "{name}: more than {most} bytes"),

@@ -1,5 +1,5 @@
-//! The program for people: it plays a script, says what frames say, draws them, checks a fixture file, and is a virtual
-//! fixture on a line, or a rig of them.
+//! The program for people: it plays a script, says what frames say, draws them, checks a fixture file, is a virtual fixture on
+//! a line, or a rig of them, and a console on a real line.
 //!
 //! What it prints, unless something else is asked for, is exactly what rdm_play prints.
 #![tactic(auto)]
@@ -8,6 +8,7 @@ mod chart;
 mod fault;
 mod fixture;
 mod host;
+mod line;
 mod parameters;
 mod play;
 mod rig;
@@ -60,6 +61,7 @@ fn run<'a, H: Host>(rt: H, matches: &ArgMatches<'a>) -> Result<(), Fault<'a>> {
         Some(("fixture", asked)) => fixture::run(rt, asked),
         Some(("parameters", asked)) => parameters::run(rt, asked),
         Some(("widget", asked)) => widget::run(rt, asked),
+        Some(("line", asked)) => line::run(rt, asked),
         _ => Ok(()),
     }
 }

@@ -1,0 +1,103 @@
+//! What is asked for on a line.
+
+use super::fault::LineFault;
+use super::{asking, collecting, finding};
+use crate::fault::Fault;
+use crate::host::Host;
+use crate::usage;
+use clap::ArgMatches;
+use rdm_collector::{Action, Command, Port, is_reserved};
+use rdm_crew::CrewStep;
+use rdm_frame::Uid;
+use rdm_frame::standard::MOST_DATA;
+use rdm_script::{ScriptError, Spelling, parse_as, refusal_at};
+
+/// What is done on a line.
+#[derive(Drop)]
+pub enum Errand {
+    /// All devices are looked for.
+    Find,
+    /// A command is sent.
+    Ask(Command),
+    /// The messages of a device are fetched.
+    Collect(Uid),
+}
+
+impl Errand {
+    /// What the words of the command line ask for. What they can't ask for is refused.
+    pub fn asked_for<'a, H: Host>(rt: H, asked: &ArgMatches<'a>) -> Result<Errand, Fault<'a>> {
+        match asked.subcommand() {
+            Some(("get", asked)) => command(rt, "get", asked),
+            Some(("set", asked)) => command(rt, "set", asked),
+            Some(("collect", asked)) => Ok(Errand::Collect(single(asked)?)),
+            _ => Ok(Errand::Find),
+        }
+    }
+
+    /// Does it.
+    pub fn run<'a, H: Host, P: Port>(self, rt: H, port: &mut P) -> Result<(), Fault<'a>> {
+        match self {
+            Errand::Find => finding::find(rt, port),
+            Errand::Ask(command) => asking::ask(rt, port, &command),
+            Errand::Collect(uid) => collecting::collect(rt, port, uid),
+        }
+    }
+}
+
+/// The UID that is named.
+fn uid<'a>(asked: &ArgMatches<'a>) -> Result<Uid, Fault<'a>> {
+    let word = asked.get_str(usage::UID).unwrap_or("");
+    match Uid::from_text(word.as_bytes()) {
+        Some(uid) => Ok(uid),
+        None => Err(Fault::Line(LineFault::NoUid(word))),
+    }
+}
+
+/// The UID that is named, which is that of one device.
+fn single<'a>(asked: &ArgMatches<'a>) -> Result<Uid, Fault<'a>> {
+    let uid = uid(asked)?;
+    if uid.is_broadcast() {
+        return Err(Fault::Line(LineFault::Several(uid)));
+    }
+    Ok(uid)
+}
+
+/// The command that is asked for, in the words of a script. A GET to several devices is refused, since nobody answers it.
+fn command<'a, H: Host>(rt: H, verb: &str, asked: &ArgMatches<'a>) -> Result<Errand, Fault<'a>> {
+    let uid = uid(asked)?;
+    let sub = asked.get_str(usage::SUB).unwrap_or("root");
+    let parameter = asked.get_str(usage::PARAMETER).unwrap_or("");
+    let data = asked.get_str(usage::DATA).unwrap_or("-");
+    let text = format!(in rt.alloc(); "{verb} {uid} {sub} {parameter} {data}")?;
+    let command = command_in(rt, uid, text.as_bytes())?;
+    if command.action == Action::Get && uid.is_broadcast() {
+        return Err(Fault::Line(LineFault::Several(uid)));
+    }
+    if is_reserved(command.pid) {
+        return Err(Fault::Line(LineFault::Reserved));
+    }
+    if command.load.as_slice().len() > MOST_DATA {
+        return Err(Fault::Line(LineFault::TooLong));
+    }
+    Ok(Errand::Ask(command))
+}
+
+/// The one command that a line of a script says.
+fn command_in<'a, H: Host>(rt: H, uid: Uid, text: &[u8]) -> Result<Command, Fault<'a>> {
+    let mut script = match parse_as(rt.alloc(), Spelling::Friendly, uid, text) {
+        Ok(script) => script,
+        Err(ScriptError::OutOfMemory) => return Err(Fault::Memory),
+        Err(ScriptError::TooLong) => return Err(Fault::Line(LineFault::TooLong)),
+        Err(ScriptError::Line(number)) => {
+            let refusal = refusal_at(Spelling::Friendly, uid, text, number);
+            return Err(Fault::Line(LineFault::Word(refusal)));
+        }
+    };
+    if script.steps.len() != 1 {
+        return Err(Fault::Line(LineFault::NoCommand));
+    }
+    match script.steps.pop() {
+        Some(CrewStep::Ask(command, _fault)) => Ok(command),
+        _ => Err(Fault::Line(LineFault::NoCommand)),
+    }
+}
