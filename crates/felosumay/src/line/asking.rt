@@ -51,10 +51,10 @@ pub fn answer<'a, P: Port>(
     for _turn in 0..TRIES {
         let request = request_of(collector, command)?;
         let heard = port.exchange(&request)?;
-        if let Some(reply) = heard
-            && collector.hear(reply.as_slice()) == Heard::Reply
-        {
-            return Ok(reply);
+        if let Some(reply) = heard {
+            if collector.hear(reply.as_slice()) == Heard::Reply {
+                return Ok(reply);
+            }
         }
         collector.over();
     }
