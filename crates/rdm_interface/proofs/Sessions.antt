@@ -1,18 +1,18 @@
 -- What an interface writes for requests is heard of them.
-use Rattle.std.proofs.Common.{◌≡◌, ℕ, ◌+◌, ◌<◌, ◌≤◌, Bool, true, false, ◌||◌, ◌&&◌, ◌==◌, List, [], ◌∷◌, ◌++◌, length, take, drop, Option, Some, None, refl, sym, ap, subst, ◌∙◌, arith, append_assoc, append-nil, true≢false}
-use Rattle.std.specs.Prelude.{cond}
+use Rattle.std.proofs.Common.{◌≡◌, ℕ, ◌+◌, ◌<◌, ◌≤◌, Bool, true, false, ◌||◌, ◌&&◌, ◌==◌, List, [], ◌∷◌, ◌++◌, length, take, drop, map, cond, Option, Some, None, refl, sym, ap, subst, ◌∙◌, arith, append_assoc, append-nil, true≢false}
 use Rattle.std.specs.List.{list_any}
 use Rattle.std.proofs.lemmas.List.{take_all}
 use Rattle.rdm_frame.specs.declared.frame.Frame.{Frame}
 use Rattle.rdm_frame.specs.Reading.{frame_in}
 use Rattle.rdm_messages.specs.Framing.{Message, IsMessage, message_bytes, bytes_of, IsStray, Piece, Rubbish, Said, stream_of, messages_of, AreCut, Begins}
 use Rattle.rdm_messages.specs.Protocol.{from_line, timeout, answer_of_line, answer_of_discovery}
+use Rattle.rdm_messages.specs.Serving.{answer_with, answers_with}
 use Rattle.rdm_messages.proofs.Pieces.{SameFront, one_message}
 use Rattle.rdm_interface.specs.declared.wanted.Wanted.{Wanted}
 use Rattle.rdm_interface.specs.declared.wanted.Wanted.TheVariants.{Labelled, Branch, Response}
-use Rattle.rdm_interface.specs.Answers.{is_branch, wanted_for, wanted_by, label_for, belongs, has_end, heard_in}
+use Rattle.rdm_interface.specs.Answers.{is_branch, wanted_for, wanted_by, label_for, request_message, belongs, has_end, heard_in}
 use Rattle.rdm_interface.specs.Exchanges.{IsTaken, IsNext}
-use Rattle.rdm_interface.specs.Sessions.{EndCame, IsInTime, AreInTime, IsReplyTo, AreRepliesTo, answer_with, answers_with, RepliesAreHeard}
+use Rattle.rdm_interface.specs.Sessions.{EndCame, IsInTime, AreInTime, IsReplyTo, AreRepliesTo, RepliesAreHeard}
 
 -- ---- the message at the front, if it belongs, is the next one
 
@@ -163,9 +163,9 @@ replies_are_heard [] (reply ∷ replies) heard later rest are inTime = absurd ar
 replies_are_heard (r ∷ requests) [] heard later rest are inTime = absurd are
 replies_are_heard (r ∷ requests) (reply ∷ replies) [] later rest are inTime = absurd inTime
 replies_are_heard (r ∷ requests) (reply ∷ replies) (h ∷ heard) later rest are inTime =
-    let one : IsInTime r ((bytes_of (answer_with r reply) ++ answers_with requests replies) ++ later) h inTime.0 = inTime.1 in
-    let right : IsHeardRight reply (heard_in (Some one.answer)) (answers_with requests replies ++ later) inTime.0 =
-    one_heard (wanted_by r) reply one.answer ((bytes_of (answer_with r reply) ++ answers_with requests replies) ++ later) (answers_with requests replies ++ later) one.behind inTime.0
-    (asking (frame_in r)) (reply_for r reply are.0) (append_assoc (bytes_of (answer_with r reply)) (answers_with requests replies) later) one.next one.end in
+    let one : IsInTime r ((bytes_of (answer_with (request_message r) reply) ++ answers_with (map request_message requests) replies) ++ later) h inTime.0 = inTime.1 in
+    let right : IsHeardRight reply (heard_in (Some one.answer)) (answers_with (map request_message requests) replies ++ later) inTime.0 =
+    one_heard (wanted_by r) reply one.answer ((bytes_of (answer_with (request_message r) reply) ++ answers_with (map request_message requests) replies) ++ later) (answers_with (map request_message requests) replies ++ later) one.behind inTime.0
+    (asking (frame_in r)) (reply_for r reply are.0) (append_assoc (bytes_of (answer_with (request_message r) reply)) (answers_with (map request_message requests) replies) later) one.next one.end in
     let others = replies_are_heard requests replies heard later rest are.1 (subst (λ (l : List ℕ). AreInTime requests l heard rest) right.left inTime.2) in
     (cons_same h reply heard replies (one.heard_is ∙ right.same) others.0, others.1)

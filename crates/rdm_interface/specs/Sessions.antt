@@ -1,10 +1,11 @@
 -- Requests that are sent one after another, with an interface at the other end of the line that answers each in time.
-use Rattle.std.specs.Prelude.{◌≡◌, ℕ, ◌+◌, ◌≤◌, Bool, true, false, ◌==◌, List, [], ◌∷◌, ◌++◌, length, Option, Some, None, if◌then◌else◌}
+use Rattle.std.specs.Prelude.{◌≡◌, ℕ, ◌≤◌, Bool, true, false, List, [], ◌∷◌, ◌++◌, length, map, Option, Some, None}
 use Rattle.rdm_frame.specs.declared.frame.Frame.{Frame}
-use Rattle.rdm_messages.specs.Framing.{Message, bytes_of}
-use Rattle.rdm_messages.specs.Protocol.{from_line, answer_of_line, answer_of_discovery}
+use Rattle.rdm_messages.specs.Framing.{Message}
+use Rattle.rdm_messages.specs.Protocol.{from_line}
+use Rattle.rdm_messages.specs.Serving.{answers_with}
 use Rattle.rdm_interface.specs.declared.wanted.Wanted.TheVariants.{Labelled}
-use Rattle.rdm_interface.specs.Answers.{is_poll, is_response, wanted_by, label_for, belongs, has_end, heard_in}
+use Rattle.rdm_interface.specs.Answers.{is_poll, is_response, wanted_by, request_message, belongs, has_end, heard_in}
 use Rattle.rdm_interface.specs.Exchanges.{IsNext}
 
 -- ---- this end
@@ -42,24 +43,14 @@ AreRepliesTo [] (reply ∷ replies) = ⊥
 AreRepliesTo (r ∷ requests) [] = ⊥
 AreRepliesTo (r ∷ requests) (reply ∷ replies) = IsReplyTo r reply × AreRepliesTo requests replies
 
--- the messages by which an interface answers a request to which this comes from the line
-abbrev pub answer_with : List ℕ → Option (List ℕ) → List Message
-answer_with request reply = if label_for (wanted_by request) == 11 then answer_of_discovery reply else answer_of_line reply
-
--- their bytes, of each request in turn
-abbrev pub answers_with : List (List ℕ) → List (Option (List ℕ)) → List ℕ
-answers_with [] replies = []
-answers_with (r ∷ requests) [] = []
-answers_with (r ∷ requests) (reply ∷ replies) = bytes_of (answer_with r reply) ++ answers_with requests replies
-
 -- ---- laws
 
--- Each reply that comes from the line is heard as the answer to its request, and nothing else is; and all that was written for
--- these requests is done with.
+-- The stream has what an interface writes for these requests if this comes from the line for each, as `serve` does, and then
+-- more. Each reply is heard as the answer to its request, and nothing else is; and just what was written for them is done with.
 abbrev pub RepliesAreHeard : Type 0
 RepliesAreHeard =
     (requests : List (List ℕ)) (replies heard : List (Option (List ℕ))) (later rest : List ℕ)
-    → AreRepliesTo requests replies → AreInTime requests (answers_with requests replies ++ later) heard rest
+    → AreRepliesTo requests replies → AreInTime requests (answers_with (map request_message requests) replies ++ later) heard rest
     → (heard ≡ replies) × (rest ≡ later)
 
 -- two requests that one response could answer

@@ -1,9 +1,9 @@
 -- What serving a stream comes to.
-use Rattle.std.specs.Prelude.{◌≡◌, ◌<◌, ℕ, List, [], ◌∷◌, ◌++◌, length, map, take, Option}
+use Rattle.std.specs.Prelude.{◌≡◌, ◌<◌, ℕ, Bool, ◌==◌, ◌||◌, List, [], ◌∷◌, ◌++◌, length, map, take, Option, if◌then◌else◌}
 use Rattle.std.specs.Io.KnownBytes.{Consumes, Appends}
 use Rattle.rdm_messages.specs.Framing.{Message, IsUnfinished, Begins, Holds, bytes_of}
 use Rattle.rdm_messages.specs.Hearing.{Hearing}
-use Rattle.rdm_messages.specs.Protocol.{answer_to, after_message}
+use Rattle.rdm_messages.specs.Protocol.{answer_to, answer_of_line, answer_of_discovery, after_message}
 
 -- A message, and when it came.
 pub record Turn : Type 0 where
@@ -29,6 +29,29 @@ answer_in line s turn = bytes_of (answer_to line turn.at s turn.message)
 abbrev pub answers : {D S : Type 0} → Hearing D S → S → List Turn → List ℕ
 answers line s [] = []
 answers line s (turn ∷ turns) = answer_in line s turn ++ answers line (after_message line turn.at s turn.message) turns
+
+-- ---- requests and replies
+
+-- it sends a request on the line
+abbrev pub is_request : Message → Bool
+is_request m = (m.label == 7) || (m.label == 11)
+
+-- what comes from the line in each of these turns
+abbrev pub replies_in : {D S : Type 0} → Hearing D S → S → List Turn → List (Option (List ℕ))
+replies_in line s [] = []
+replies_in line s (turn ∷ turns) = line.reply turn.at s turn.message.body ∷ replies_in line (after_message line turn.at s turn.message) turns
+
+-- what is answered to a request if this comes from the line
+abbrev pub answer_with : Message → Option (List ℕ) → List Message
+answer_with m reply = if m.label == 11 then answer_of_discovery reply else answer_of_line reply
+
+-- the bytes of what is answered to these requests, if this comes from the line for each
+abbrev pub answers_with : List Message → List (Option (List ℕ)) → List ℕ
+answers_with [] replies = []
+answers_with (m ∷ ms) [] = []
+answers_with (m ∷ ms) (reply ∷ replies) = bytes_of (answer_with m reply) ++ answers_with ms replies
+
+-- ---- serving
 
 -- A clock tells these times, one after another.
 abbrev pub Tells : {C : Type 0} → (C → ℕ → C → Type 0) → C → List ℕ → C → Type 0

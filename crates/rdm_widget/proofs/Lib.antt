@@ -1,4 +1,5 @@
 pub mod Turns
+pub mod Requests
 pub mod Reports
 pub mod Ready
 pub mod Ends

@@ -13,7 +13,8 @@ mod rig;
 mod serving;
 
 pub use laws::{
-    no_job_is_overdue, rig_of_one_replies_as_its_fixture, serve_errors_are_equal_by_value,
+    no_job_is_overdue, requests_are_answered, rig_of_one_replies_as_its_fixture,
+    serve_errors_are_equal_by_value,
 };
 pub use live_fixture::LiveFixture;
 pub use on_line::OnLine;
