@@ -12,11 +12,14 @@ abbrev to_label : List Message → List Message → ℕ → List Message
 to_label line discovery n =
     cond (n == 3) (parameters ∷ []) (cond (n == 10) (serial_number ∷ []) (cond (n == 7) line (cond (n == 11) discovery [])))
 
+by_label : (n : ℕ) (line discovery : List Message) (t : Bool) → (n == 7) ≡ t → (t || (n == 11)) ≡ true → to_label line discovery n ≡ cond (n == 11) discovery line
+by_label n line discovery true e is =
+    let seven : n ≡ 7 = eqb-true n 7 e in ap (to_label line discovery) seven ∙ ap (λ k. cond (k == 11) discovery line) (sym seven)
+by_label n line discovery false e is =
+    let eleven : n ≡ 11 = eqb-true n 11 is in ap (to_label line discovery) eleven ∙ ap (λ k. cond (k == 11) discovery line) (sym eleven)
+
 to_request : (n : ℕ) (line discovery : List Message) → ((n == 7) || (n == 11)) ≡ true → to_label line discovery n ≡ cond (n == 11) discovery line
-to_request n line discovery is = by_label (n == 7) refl is where
-  by_label : (t : Bool) → (n == 7) ≡ t → (t || (n == 11)) ≡ true → to_label line discovery n ≡ cond (n == 11) discovery line
-  by_label true e is' = let seven = eqb-true n 7 e in ap (to_label line discovery) seven ∙ ap (λ k. cond (k == 11) discovery line) (sym seven)
-  by_label false e is' = let eleven = eqb-true n 11 is' in ap (to_label line discovery) eleven ∙ ap (λ k. cond (k == 11) discovery line) (sym eleven)
+to_request n line discovery is = by_label n line discovery (n == 7) refl is
 
 one_answer : {D S : Type 0} (line : Hearing D S) (now : ℕ) (s : S) (m : Message) → is_request m ≡ true → answer_to line now s m ≡ answer_with m (line.reply now s m.body)
 one_answer line now s m is = to_request m.label (answer_of_line (line.reply now s m.body)) (answer_of_discovery (line.reply now s m.body)) is
