@@ -1,13 +1,13 @@
 //! What is asked of the interface, and what it answers.
 
-ghost use Rattle.std.specs.Prelude.{◌≡◌, ◌≢◌, ◌<◌, ◌≤◌, ◌++◌, ℕ, List, length, Some, None, IfOk, OnErr};
-ghost use Rattle.std.specs.Io.KnownBytes.{Appends, Consumes, IsAtEnd};
+ghost use Rattle.std.specs.Prelude.{◌≡◌, ◌≢◌, ◌<◌, ◌≤◌, length, true, Some, None, IfOk, OnOk, OnErr};
+ghost use Rattle.std.specs.Io.KnownBytes.{Appends, IsAtEnd};
 ghost use Rattle.rdm_messages.specs.Framing.{message_bytes, message_in};
-ghost use Rattle.rdm_interface.specs.Answers.{belongs, has_end, request_message, wanted_by};
-ghost use Rattle.rdm_interface.specs.Exchanges.{IsAsked, IsCutOff, IsEnd, IsExchanged, IsNext, IsReadOn};
+ghost use Rattle.rdm_interface.specs.Answers.{belongs, has_end, label_for, request_message, wanted_by};
+ghost use Rattle.rdm_interface.specs.Exchanges.{IsAsked, IsCutOff, IsEnded, IsExchanged, IsReadOn};
 
 use crate::answer::Answer;
-use crate::waiting::{Limit, await_answer};
+use crate::waiting::await_answer;
 use crate::wanted::{Wanted, wanted_by};
 use rdm_collector::PortError;
 use rdm_frame::Wire;
@@ -29,7 +29,7 @@ pub(crate) fn exchange<R: Read, W: Write, C: Clock>(
     requires fits { length request.now ≤ 600 }
     ensures exchanged { IfOk result (IsExchanged C.tells span clock.old clock.new (R.remaining reader.old) (R.remaining reader.new)
         (W.contents writer.old) (W.contents writer.new) held.old held.new request.now) }
-    ensures passed { OnErr result (IsReadOn (belongs (wanted_by request.now))
+    ensures passed { OnErr result (label_for (wanted_by request.now) ≡ 7 → IsReadOn (belongs (wanted_by request.now))
         (R.remaining reader.old) (R.remaining reader.new) held.old held.new None) }
     ensures closed { result ≡ Err PortError.Closed → IsAtEnd (R.remaining reader.new) }
     ensures written { result ≢ Err PortError.Write
@@ -44,10 +44,10 @@ pub(crate) fn exchange<R: Read, W: Write, C: Clock>(
         body: request,
     };
     match ask(reader, writer, clock, held, span, &asked, &wanted) {
-        Ok(Some(answer)) => {
-            await_end(reader, clock, held, span, &wanted, &answer);
-            Ok(answer.heard())
-        }
+        Ok(Some(answer)) => match await_end(reader, clock, held, span, &wanted, &answer) {
+            Ok(()) => Ok(answer.heard()),
+            Err(error) => Err(error),
+        },
         Ok(None) => Ok(None),
         Err(error) => Err(error),
     }
@@ -66,8 +66,7 @@ pub(crate) fn ask<R: Read, W: Write, C: Clock>(
     requires held { length held.old < 605 }
     requires fits { length asked.now.body.now ≤ 600 }
     ensures asked { IfOk result (IsAsked C.tells span clock.old clock.new (R.remaining reader.old) (R.remaining reader.new)
-        (W.contents writer.old) (W.contents writer.new) held.old held.new
-        (message_in asked.now) (IsNext (belongs wanted.now))) }
+        (W.contents writer.old) (W.contents writer.new) held.old held.new (message_in asked.now) (belongs wanted.now)) }
     ensures passed { OnErr result
         (IsReadOn (belongs wanted.now) (R.remaining reader.old) (R.remaining reader.new) held.old held.new None) }
     ensures closed { result ≡ Err PortError.Closed → IsAtEnd (R.remaining reader.new) }
@@ -77,16 +76,14 @@ pub(crate) fn ask<R: Read, W: Write, C: Clock>(
         → IsCutOff (W.contents writer.old) (W.contents writer.new) (message_bytes (message_in asked.now)) }
     ensures room { length held.new < 605 }
 {
-    let start = clock.now();
     let packet = packet_of(asked.label, asked.body);
     match write_all(writer, packet.as_slice()) {
-        Ok(()) => await_answer(reader, clock, held, wanted, Limit { start, span }),
+        Ok(()) => await_answer(reader, clock, held, wanted, span),
         Err(_) => Err(PortError::Write),
     }
 }
 
-/// Waits until the interface says that the bytes which answer DISC_UNIQUE_BRANCH were all. If the line fails meanwhile, whoever
-/// asks next is told.
+/// Waits until the interface says that the bytes which answer DISC_UNIQUE_BRANCH were all, or the limit is over.
 fn await_end<R: Read, C: Clock>(
     reader: &mut R,
     clock: &mut C,
@@ -94,16 +91,22 @@ fn await_end<R: Read, C: Clock>(
     span: u16,
     wanted: &Wanted<'_>,
     answer: &Answer,
-)
+) -> Result<(), PortError>
     requires { length held.old < 605 }
-    ensures end { (input : List ℕ) × Consumes (R.remaining reader.old) (R.remaining reader.new) input
-        × IsEnd (has_end wanted.now (Some answer.now)) (held.old ++ input) held.new }
+    ensures ended { OnOk result (IsEnded C.tells span clock.old clock.new (R.remaining reader.old) (R.remaining reader.new)
+        held.old held.new (has_end wanted.now (Some answer.now))) }
+    ensures failed { OnErr result (has_end wanted.now (Some answer.now) ≡ true) }
+    ensures closed { result ≡ Err PortError.Closed → IsAtEnd (R.remaining reader.new) }
+    ensures read { result ≢ Err PortError.Write }
     ensures room { length held.new < 605 }
 {
-    if has_end(wanted, answer) {
-        let start = clock.now();
-        let end = Wanted::Labelled(TIMEOUT);
-        let _ = await_answer(reader, clock, held, &end, Limit { start, span });
+    if !has_end(wanted, answer) {
+        return Ok(());
+    }
+    let end = Wanted::Labelled(TIMEOUT);
+    match await_answer(reader, clock, held, &end, span) {
+        Ok(_end) => Ok(()),
+        Err(error) => Err(error),
     }
 }
 

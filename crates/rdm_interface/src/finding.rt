@@ -22,6 +22,7 @@ pub(crate) struct Found {
 /// of a message.
 pub(crate) fn take_answer(held: &mut Packet, wanted: &Wanted<'_>) -> Option<Answer>
     ensures next { IsNext (belongs wanted.now) held.old result held.new }
+    ensures searched { result ≡ None → IsUnfinished held.new }
     ensures room { length held.new < 605 }
 {
     let Found { done, answer } = find_answer(held.as_slice(), wanted);

@@ -5,8 +5,8 @@ ghost use Rattle.std.specs.Option.{option_and_then};
 ghost use Rattle.std.specs.Io.KnownBytes.{Appends, IsAtEnd};
 ghost use Rattle.rdm_messages.specs.Framing.{Message, message_bytes};
 ghost use Rattle.rdm_interface.specs.declared.wanted.Wanted.TheVariants.{Labelled};
-ghost use Rattle.rdm_interface.specs.Answers.{ask_parameters, ask_serial_number, belongs, parameters_in, request_message, serial_number_in, wanted_by};
-ghost use Rattle.rdm_interface.specs.Exchanges.{IsAsked, IsCutOff, IsExchanged, IsNext, IsReadOn, IsWaited};
+ghost use Rattle.rdm_interface.specs.Answers.{ask_parameters, ask_serial_number, belongs, label_for, parameters_in, request_message, serial_number_in, wanted_by};
+ghost use Rattle.rdm_interface.specs.Exchanges.{IsAsked, IsCutOff, IsExchanged, IsOver, IsReadOn};
 
 use crate::exchanging::{ask, exchange};
 use crate::parameters::{Parameters, parameters_in, serial_number_in};
@@ -84,8 +84,8 @@ impl<R: Read, W: Write, C: Clock> Interface<R, W, C> {
         ensures exchanged { IfOk result (IsExchanged C.tells self.old.span self.old.clock self.new.clock
             (R.remaining self.old.reader) (R.remaining self.new.reader) (W.contents self.old.writer) (W.contents self.new.writer)
             self.old.held self.new.held request.now) }
-        // Where it fails, nothing was passed over that belongs to the request.
-        ensures passed { OnErr result (IsReadOn (belongs (wanted_by request.now))
+        // Where it fails, no response to the request was passed over.
+        ensures passed { OnErr result (label_for (wanted_by request.now) ≡ 7 → IsReadOn (belongs (wanted_by request.now))
             (R.remaining self.old.reader) (R.remaining self.new.reader) self.old.held self.new.held None) }
         // A line that still gives bytes isn't closed.
         ensures closed { result ≡ Err PortError.Closed → IsAtEnd (R.remaining self.new.reader) }
@@ -110,7 +110,7 @@ impl<R: Read, W: Write, C: Clock> Interface<R, W, C> {
     /// until a read gives no byte.
     pub fn clear(&mut self) -> Result<bool, PortError>
         ensures quiet { result ≡ Ok true → IsAtEnd (R.remaining self.new.reader) }
-        ensures loud { result ≡ Ok false → IsWaited C.tells self.old.span self.old.clock self.new.clock }
+        ensures loud { result ≡ Ok false → IsOver C.tells self.old.span self.old.clock self.new.clock }
         ensures held { self.new.held ≡ [] }
         ensures read { OnErr result (result ≡ Err PortError.Read) }
         ensures written { self.new.writer ≡ self.old.writer }
@@ -124,7 +124,7 @@ impl<R: Read, W: Write, C: Clock> Interface<R, W, C> {
     pub fn parameters(&mut self) -> Result<Option<Parameters>, PortError>
         ensures asked { IfOk result (λ parameters. (answer : Option Message) × IsAsked C.tells self.old.span self.old.clock self.new.clock
             (R.remaining self.old.reader) (R.remaining self.new.reader) (W.contents self.old.writer) (W.contents self.new.writer)
-            self.old.held self.new.held ask_parameters (IsNext (belongs (Labelled 3))) answer
+            self.old.held self.new.held ask_parameters (belongs (Labelled 3)) answer
             × (parameters ≡ option_and_then parameters_in answer)) }
         ensures closed { result ≡ Err PortError.Closed → IsAtEnd (R.remaining self.new.reader) }
         ensures limit { self.new.span ≡ self.old.span }
@@ -154,7 +154,7 @@ impl<R: Read, W: Write, C: Clock> Interface<R, W, C> {
     pub fn serial_number(&mut self) -> Result<Option<u32>, PortError>
         ensures asked { IfOk result (λ number. (answer : Option Message) × IsAsked C.tells self.old.span self.old.clock self.new.clock
             (R.remaining self.old.reader) (R.remaining self.new.reader) (W.contents self.old.writer) (W.contents self.new.writer)
-            self.old.held self.new.held ask_serial_number (IsNext (belongs (Labelled 10))) answer
+            self.old.held self.new.held ask_serial_number (belongs (Labelled 10)) answer
             × (number ≡ option_and_then serial_number_in answer)) }
         ensures closed { result ≡ Err PortError.Closed → IsAtEnd (R.remaining self.new.reader) }
         ensures limit { self.new.span ≡ self.old.span }

@@ -2,8 +2,9 @@
 
 ghost use Rattle.std.specs.Prelude.{◌≡◌, ◌≢◌, ◌<◌, ◌++◌, ℕ, List, length, true, false, None, IfOk, OnErr};
 ghost use Rattle.std.specs.Io.KnownBytes.{Consumes, IsAtEnd};
+ghost use Rattle.rdm_messages.specs.Framing.{IsUnfinished};
 ghost use Rattle.rdm_interface.specs.Answers.{belongs};
-ghost use Rattle.rdm_interface.specs.Exchanges.{IsOver, IsReadOn, IsWaited};
+ghost use Rattle.rdm_interface.specs.Exchanges.{IsAwaited, IsOver, IsPast, IsReadOn};
 
 use crate::answer::Answer;
 use crate::finding::take_answer;
@@ -14,28 +15,20 @@ use std::io::Read;
 
 /// How many reads in a row give no byte, while the limit isn't over, until the line is taken for closed. The longest limit has
 /// fewer tenths of a second, so that a reader which waits a tenth of a second before it gives none is never taken for closed.
-const EMPTY_READS: u16 = 1000;
+const EMPTY_READS: u32 = 1000;
 
-/// How long an answer is waited for: from a time on that the clock told, and so many milliseconds.
-#[derive(Clone, Copy, Debug)]
-pub(crate) struct Limit {
-    pub(crate) start: u64,
-    pub(crate) span: u16,
-}
-
-/// Waits for the next message that is the one, and passes over all before it. `Ok(None)` when the limit is over: what was read by
-/// then has none.
+/// Waits for the next message that is the one, so many milliseconds, and passes over all before it. `Ok(None)` when they are over:
+/// what was read by then has none.
 pub(crate) fn await_answer<R: Read, C: Clock>(
     reader: &mut R,
     clock: &mut C,
     held: &mut Packet,
     wanted: &Wanted<'_>,
-    limit: Limit,
+    span: u16,
 ) -> Result<Option<Answer>, PortError>
     requires { length held.old < 605 }
-    ensures next { IfOk result
-        (IsReadOn (belongs wanted.now) (R.remaining reader.old) (R.remaining reader.new) held.old held.new) }
-    ensures over { result ≡ Ok None → IsOver C.tells limit.span limit.start clock.new }
+    ensures awaited { IfOk result (IsAwaited C.tells span clock.old clock.new (R.remaining reader.old) (R.remaining reader.new)
+        held.old held.new (belongs wanted.now)) }
     // Where it fails, nothing was passed over that is the one.
     ensures passed { OnErr result
         (IsReadOn (belongs wanted.now) (R.remaining reader.old) (R.remaining reader.new) held.old held.new None) }
@@ -43,16 +36,39 @@ pub(crate) fn await_answer<R: Read, C: Clock>(
     ensures read { result ≢ Err PortError.Write }
     ensures room { length held.new < 605 }
 {
-    let found = take_answer(held, wanted);
-    if found.is_some() {
-        return Ok(found);
+    let start = clock.now();
+    match take_answer(held, wanted) {
+        Some(answer) => Ok(Some(answer)),
+        None => read_answer(reader, clock, held, wanted, start, span),
     }
+}
+
+/// Reads until the message that is waited for is there, or so many milliseconds have passed since the clock told the start.
+fn read_answer<R: Read, C: Clock>(
+    reader: &mut R,
+    clock: &mut C,
+    held: &mut Packet,
+    wanted: &Wanted<'_>,
+    start: u64,
+    span: u16,
+) -> Result<Option<Answer>, PortError>
+    requires { IsUnfinished held.old }
+    ensures next { IfOk result
+        (IsReadOn (belongs wanted.now) (R.remaining reader.old) (R.remaining reader.new) held.old held.new) }
+    ensures past { result ≡ Ok None → IsPast C.tells span start clock.new }
+    ensures searched { result ≡ Ok None → IsUnfinished held.new }
+    ensures passed { OnErr result
+        (IsReadOn (belongs wanted.now) (R.remaining reader.old) (R.remaining reader.new) held.old held.new None) }
+    ensures closed { result ≡ Err PortError.Closed → IsAtEnd (R.remaining reader.new) }
+    ensures read { result ≢ Err PortError.Write }
+    ensures room { length held.new < 605 }
+{
     let mut empty = 0;
     for _turn in 0..u64::MAX {
-        if clock.now().saturating_sub(limit.start) >= u64::from(limit.span) {
+        if clock.now().saturating_sub(start) >= u64::from(span) {
             return Ok(None);
         }
-        match read_answer(reader, held, wanted, &mut empty) {
+        match read_once(reader, held, wanted, &mut empty) {
             Ok(Some(answer)) => return Ok(Some(answer)),
             Ok(None) => {}
             Err(error) => return Err(error),
@@ -62,29 +78,30 @@ pub(crate) fn await_answer<R: Read, C: Clock>(
 }
 
 /// Reads once, and looks for the message that is waited for in all that is held then.
-fn read_answer<R: Read>(
+fn read_once<R: Read>(
     reader: &mut R,
     held: &mut Packet,
     wanted: &Wanted<'_>,
-    empty: &mut u16,
+    empty: &mut u32,
 ) -> Result<Option<Answer>, PortError>
     requires { length held.old < 605 }
     ensures next { IfOk result
         (IsReadOn (belongs wanted.now) (R.remaining reader.old) (R.remaining reader.new) held.old held.new) }
+    ensures searched { result ≡ Ok None → IsUnfinished held.new }
     ensures passed { OnErr result
         (IsReadOn (belongs wanted.now) (R.remaining reader.old) (R.remaining reader.new) held.old held.new None) }
     ensures closed { result ≡ Err PortError.Closed → IsAtEnd (R.remaining reader.new) }
     ensures read { result ≢ Err PortError.Write }
     ensures room { length held.new < 605 }
 {
-    match read_once(reader, held, empty) {
+    match read_bytes(reader, held, empty) {
         Ok(()) => Ok(take_answer(held, wanted)),
         Err(error) => Err(error),
     }
 }
 
 /// Reads once, behind what is held. The line is closed if too many reads in a row, which are counted, gave no byte.
-fn read_once<R: Read>(reader: &mut R, held: &mut Packet, empty: &mut u16) -> Result<(), PortError>
+fn read_bytes<R: Read>(reader: &mut R, held: &mut Packet, empty: &mut u32) -> Result<(), PortError>
     requires { length held.old < 605 }
     ensures bytes { (bytes : List ℕ) × (held.new ≡ held.old ++ bytes)
         × Consumes (R.remaining reader.old) (R.remaining reader.new) bytes }
@@ -114,7 +131,7 @@ pub(crate) fn pass_over<R: Read, C: Clock>(
     span: u16,
 ) -> Result<bool, PortError>
     ensures quiet { result ≡ Ok true → IsAtEnd (R.remaining reader.new) }
-    ensures loud { result ≡ Ok false → IsWaited C.tells span clock.old clock.new }
+    ensures loud { result ≡ Ok false → IsOver C.tells span clock.old clock.new }
     ensures read { OnErr result (result ≡ Err PortError.Read) }
 {
     let start = clock.now();
@@ -126,7 +143,8 @@ pub(crate) fn pass_over<R: Read, C: Clock>(
         if count == 0 {
             return Ok(true);
         }
-        if clock.now().saturating_sub(start) >= u64::from(span) {
+        let passed = clock.now().saturating_sub(start);
+        if passed >= u64::from(span) {
             return Ok(false);
         }
     }
