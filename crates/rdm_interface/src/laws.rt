@@ -1,14 +1,19 @@
 //! Laws of what is heard, and of `==`. Each is the contract of a call that does nothing.
 
 ghost use Rattle.std.specs.Prelude.{◌≡◌, ◌↔◌, IsTrue};
-ghost use Rattle.rdm_interface.specs.Sessions.{LateAnswersArePassedOver, RepliesAreHeard};
+ghost use Rattle.rdm_interface.specs.Sessions.{AnsweredIsInTime, LateAnswersArePassedOver, RepliesAreHeard};
 
-use crate::{Parameters, SearchFault};
+use crate::{Clock, Parameters, SearchFault};
 
-/// Of requests that are answered in time, one after another, what came from the line for each is what is heard of it, with
-/// nothing left over: whatever the line replies, as long as it is bytes that answer the request, or nothing.
+/// Of requests that are answered in time, one after another, what came from the line for each is what is heard of it, and nothing
+/// is left over: whatever the line replies, as long as it is bytes that answer the request, or nothing.
 pub fn replies_are_heard()
     ensures { RepliesAreHeard }
+{}
+
+/// An exchange in which the answer came, and its end if it has one, is one in time, of what was held and what was read.
+pub fn answered_is_in_time<C: Clock>()
+    ensures { AnsweredIsInTime C.tells }
 {}
 
 /// A response answers no two requests that differ in their transaction number, their device or their controller, or, but for

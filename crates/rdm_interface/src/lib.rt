@@ -16,8 +16,8 @@ mod wanted;
 
 pub use interface::Interface;
 pub use laws::{
-    late_answers_are_passed_over, parameters_are_equal_by_value, replies_are_heard,
-    search_faults_are_equal_by_value,
+    answered_is_in_time, late_answers_are_passed_over, parameters_are_equal_by_value,
+    replies_are_heard, search_faults_are_equal_by_value,
 };
 pub use parameters::Parameters;
 pub use rdm_messages::{Clock, RealClock};
