@@ -3,7 +3,8 @@
 ghost use Rattle.std.specs.Prelude.{◌≡◌, ◌↔◌, IsTrue};
 ghost use Rattle.rdm_interface.specs.Sessions.{AnsweredIsInTime, LateAnswersArePassedOver, RepliesAreHeard};
 
-use crate::{Clock, Parameters, SearchFault};
+use crate::{Parameters, SearchFault};
+use rdm_messages::Clock;
 
 /// Of requests that are answered in time, one after another, what came from the line for each is what is heard of it, and nothing
 /// is left over: whatever the line replies, as long as it is bytes that answer the request, or nothing.

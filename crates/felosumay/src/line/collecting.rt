@@ -68,7 +68,8 @@ fn taken<'a, H: Host>(
         Some(message) => message.copy(),
         None => return Ok(None),
     };
-    collector.forget(collector.recorded().len());
+    let count = collector.recorded().len();
+    collector.forget(count);
     if message.pid == Kind::StatusMessages.pid() && message.body.as_slice().is_empty() {
         return Ok(None);
     }

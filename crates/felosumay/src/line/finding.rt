@@ -67,13 +67,14 @@ fn put_text<'a, H: Host, P: Port>(
 fn put_quoted<'a>(line: &mut String, bytes: &[u8]) -> Result<(), Fault<'a>> {
     line.push_str(" \"")?;
     for byte in bytes {
-        match *byte {
-            b'"' | b'\\' => {
-                line.push_str("\\")?;
-                line.push(char::from(*byte))?;
-            }
-            0x20..=0x7E => line.push(char::from(*byte))?,
-            byte => write!(line, "\\x{byte:02X}")?,
+        let byte = *byte;
+        if byte == b'"' || byte == b'\\' {
+            line.push_str("\\")?;
+        }
+        if (0x20..0x7F).contains(&byte) {
+            line.push(char::from(byte))?;
+        } else {
+            write!(line, "\\x{byte:02X}")?;
         }
     }
     line.push_str("\"")?;
