@@ -2,14 +2,13 @@
 
 use super::collecting::{TRIES, fetch};
 use super::fault::LineFault;
-use super::telling::print_reply;
+use super::telling::{CONSOLE, print_reply};
 use crate::fault::Fault;
 use crate::host::Host;
 use rdm_collector::{
     Action, AskError, Collector, Command, Heard, Message, Port, Response, Want, Wire, read_reply,
 };
 use rdm_frame::standard::{GET_COMMAND_RESPONSE, SET_COMMAND_RESPONSE};
-use rdm_script::CONTROLLER;
 use std::thread;
 use std::time::Duration;
 
@@ -25,7 +24,7 @@ pub fn ask<'a, H: Host, P: Port>(
     port: &mut P,
     command: &Command,
 ) -> Result<(), Fault<'a>> {
-    let mut collector = Collector::new(rt.alloc(), CONTROLLER, command.dst, Want::Advisory);
+    let mut collector = Collector::new(rt.alloc(), CONSOLE, command.dst, Want::Advisory);
     if command.dst.is_broadcast() {
         let request = request_of(&mut collector, command)?;
         port.exchange(&request)?;
@@ -71,7 +70,7 @@ fn request_of<'a>(collector: &mut Collector, command: &Command) -> Result<Wire, 
 }
 
 /// How a reply answers.
-pub fn response_of(reply: &Wire) -> Option<Response> {
+fn response_of(reply: &Wire) -> Option<Response> {
     let reply = read_reply(reply.as_slice())?;
     Some(reply.response)
 }

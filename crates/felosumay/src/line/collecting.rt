@@ -1,7 +1,7 @@
 //! The messages of a device are fetched.
 
 use super::fault::LineFault;
-use super::telling::print_reply;
+use super::telling::{CONSOLE, print_reply};
 use crate::fault::Fault;
 use crate::host::Host;
 use rdm_collector::{
@@ -9,7 +9,6 @@ use rdm_collector::{
 };
 use rdm_frame::Uid;
 use rdm_params::Kind;
-use rdm_script::CONTROLLER;
 
 /// How many times in a row a device is asked that doesn't answer.
 pub const TRIES: u8 = 3;
@@ -19,7 +18,7 @@ const MOST_MESSAGES: u32 = 65536;
 
 /// Fetches all messages that wait in a device, and prints each.
 pub fn collect<'a, H: Host, P: Port>(rt: H, port: &mut P, uid: Uid) -> Result<(), Fault<'a>> {
-    let mut collector = Collector::new(rt.alloc(), CONTROLLER, uid, Want::Advisory);
+    let mut collector = Collector::new(rt.alloc(), CONSOLE, uid, Want::Advisory);
     for _turn in 0..MOST_MESSAGES {
         let Some(message) = fetch(rt, port, &mut collector, uid)? else {
             return Ok(());

@@ -1,6 +1,8 @@
 //! All devices of a line are looked for.
 
-use super::asking::{answer, response_of};
+use super::asking::answer;
+use super::fault::LineFault;
+use super::telling::CONSOLE;
 use crate::fault::Fault;
 use crate::host::Host;
 use crate::source::print;
@@ -9,7 +11,6 @@ use rdm_collector::{Action, Collector, Command, Load, Port, Response, Want, read
 use rdm_frame::Uid;
 use rdm_interface::discover_through;
 use rdm_params::Kind;
-use rdm_script::CONTROLLER;
 use std::fmt::Write;
 
 /// How many transactions a search of the greatest line takes at most.
@@ -17,7 +18,7 @@ const LIMIT: u32 = 74 * MOST_FIXTURES as u32 + 2;
 
 /// Finds all devices, and prints the UID of each, its model and its label.
 pub fn find<'a, H: Host, P: Port>(rt: H, port: &mut P) -> Result<(), Fault<'a>> {
-    let found = discover_through(rt.alloc(), port, CONTROLLER, LIMIT)?;
+    let found = discover_through(rt.alloc(), port, CONSOLE, LIMIT)?;
     for one in &found {
         let uid = one.uid;
         let mut line = String::new(rt.alloc());
@@ -38,7 +39,7 @@ fn put_text<'a, H: Host, P: Port>(
     uid: Uid,
     kind: Kind,
 ) -> Result<(), Fault<'a>> {
-    let mut collector = Collector::new(rt.alloc(), CONTROLLER, uid, Want::Advisory);
+    let mut collector = Collector::new(rt.alloc(), CONSOLE, uid, Want::Advisory);
     let command = Command {
         dst: uid,
         action: Action::Get,
@@ -48,7 +49,7 @@ fn put_text<'a, H: Host, P: Port>(
     };
     let reply = match answer(port, &mut collector, &command) {
         Ok(reply) => reply,
-        Err(Fault::Line(super::fault::LineFault::Silent(_))) => {
+        Err(Fault::Line(LineFault::Silent(_))) => {
             line.push_str(" -")?;
             return Ok(());
         }
