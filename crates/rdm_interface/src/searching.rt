@@ -1,11 +1,11 @@
 //! A search of a line through a controller's port.
 
-ghost use Rattle.std.specs.Prelude.{◌≡◌, ◌+◌, ℕ, [], List, Option, Ok, true, false, unwrap_or, All, IfOk, OnOk};
+ghost use Rattle.std.specs.Prelude.{◌≡◌, ◌+◌, ℕ, List, Ok, true, false, All, IfOk, OnOk};
 ghost use Rattle.rdm_frame.specs.FrameText.{frame_text};
 ghost use Rattle.rdm_search.specs.Answers.{found_uids};
 ghost use Rattle.rdm_search.specs.Line.{Fixture, IsDevice, IsFound};
-ghost use Rattle.rdm_search.specs.Stages.{Stands};
-ghost use Rattle.rdm_interface.specs.Lines.{IsLineOf};
+ghost use Rattle.rdm_search.specs.Stages.{IsReal, Stands};
+ghost use Rattle.rdm_interface.specs.Lines.{IsAskedAgain, IsLineOf, IsLossyLineOf};
 
 use rdm_collector::{Port, PortError};
 use rdm_frame::{Frame, Uid, Wire, encode};
@@ -25,49 +25,64 @@ pub enum SearchFault {
 }
 
 /// Finds all fixtures of the line behind a port, and mutes them, in at most this many transactions: 74 for each fixture and 2 more
-/// are enough (E1.20 sections 7.5 and 7.6). Memory is taken from `alloc` for what is found.
+/// are enough (E1.20 sections 7.5 and 7.6). Each request is asked up to `retries` times again while nothing is heard. Memory is taken
+/// from `alloc` for what is found.
 ///
-/// What is lost on the line is taken for silence, so a fixture whose answer was lost is missed.
+/// A fixture is missed where all askings of a request in a row are lost, or their answers.
 pub fn discover_through<P: Port>(
     alloc: Global,
     port: &mut P,
     source: Uid,
+    retries: u8,
     limit: u32,
 ) -> Result<Vec<Found>, SearchFault>
     // On the line of any fixtures what is found is these, each once.
     ensures found { IfOk result (λ found. (fixtures : P → List Fixture) → IsLineOf P.hears fixtures
         → All (λ f. IsDevice f.uid) (fixtures port.old) → IsFound (found_uids found.items) (fixtures port.new)) }
+    // Where requests or answers are lost, what is found is on the line, each once.
+    ensures real { IfOk result (λ found. (fixtures : P → List Fixture) → IsLossyLineOf P.hears fixtures
+        → All (λ f. IsDevice f.uid) (fixtures port.old) → IsReal (found_uids found.items) (fixtures port.new)) }
 {
     let mut search = Search::new(alloc, source, limit);
-    match run_through(&mut search, port) {
+    match run_through(&mut search, port, retries) {
         Ok(()) => Ok(search.into_found()),
         Err(fault) => Err(fault),
     }
 }
 
 /// Runs a search to its end through a port, from wherever it stands. If it fails, it can go on later: `search` has what was found.
-pub fn run_through<P: Port>(search: &mut Search, port: &mut P) -> Result<(), SearchFault>
+pub fn run_through<P: Port>(
+    search: &mut Search,
+    port: &mut P,
+    retries: u8,
+) -> Result<(), SearchFault>
     ensures found { OnOk result ((fixtures : P → List Fixture) → IsLineOf P.hears fixtures
         → Stands search.old.stage (found_uids search.old.found.items) (fixtures port.old)
         → IsFound (found_uids search.new.found.items) (fixtures port.new)) }
+    ensures real { OnOk result ((fixtures : P → List Fixture) → IsLossyLineOf P.hears fixtures
+        → IsReal (found_uids search.old.found.items) (fixtures port.old)
+        → IsReal (found_uids search.new.found.items) (fixtures port.new)) }
 {
-    while turn(search, port)? {}
+    while turn(search, port, retries)? {}
     Ok(())
 }
 
 /// Makes one transaction, if the search hasn't ended. Tells whether it did.
-fn turn<P: Port>(search: &mut Search, port: &mut P) -> Result<bool, SearchFault>
+fn turn<P: Port>(search: &mut Search, port: &mut P, retries: u8) -> Result<bool, SearchFault>
     ensures ended { result ≡ Ok false → (fixtures : P → List Fixture) → IsLineOf P.hears fixtures
         → Stands search.old.stage (found_uids search.old.found.items) (fixtures port.old)
         → IsFound (found_uids search.new.found.items) (fixtures port.new) }
     ensures stands { result ≡ Ok true → (fixtures : P → List Fixture) → IsLineOf P.hears fixtures
         → Stands search.old.stage (found_uids search.old.found.items) (fixtures port.old)
         → Stands search.new.stage (found_uids search.new.found.items) (fixtures port.new) }
+    ensures real { OnOk result ((fixtures : P → List Fixture) → IsLossyLineOf P.hears fixtures
+        → IsReal (found_uids search.old.found.items) (fixtures port.old)
+        → IsReal (found_uids search.new.found.items) (fixtures port.new)) }
     ensures left { result ≡ Ok true → search.new.left + 1 ≡ search.old.left }
 {
     match search.next() {
         Ok(None) => Ok(false),
-        Ok(Some(frame)) => match heard_of(port, &frame) {
+        Ok(Some(frame)) => match heard_of(port, &frame, retries) {
             Ok(heard) => match search.hear(heard.as_slice()) {
                 Ok(()) => Ok(true),
                 Err(error) => Err(SearchFault::Search(error)),
@@ -78,12 +93,19 @@ fn turn<P: Port>(search: &mut Search, port: &mut P) -> Result<bool, SearchFault>
     }
 }
 
-/// What is heard of a frame: no bytes if nothing is.
-fn heard_of<P: Port>(port: &mut P, frame: &Frame) -> Result<Wire, PortError>
-    ensures heard { IfOk result (λ heard. (came : Option (List ℕ)) × P.hears port.old (frame_text frame.now) came port.new
-        × (heard ≡ unwrap_or came [])) }
+/// What is heard of a frame, which is sent up to `retries` times again while nothing is: no bytes if nothing is at last.
+fn heard_of<P: Port>(port: &mut P, frame: &Frame, retries: u8) -> Result<Wire, PortError>
+    ensures heard { IfOk result (IsAskedAgain P.hears port.old port.new (frame_text frame.now)) }
 {
-    match port.exchange(&encode(frame)) {
+    let request = encode(frame);
+    for _turn in 0..retries {
+        match port.exchange(&request) {
+            Ok(Some(wire)) => return Ok(wire),
+            Ok(None) => {}
+            Err(error) => return Err(error),
+        }
+    }
+    match port.exchange(&request) {
         Ok(Some(wire)) => Ok(wire),
         Ok(None) => Ok(Wire::new()),
         Err(error) => Err(error),

@@ -13,12 +13,15 @@ use rdm_interface::discover_through;
 use rdm_params::Kind;
 use std::fmt::Write;
 
+/// How many times a request is asked again that nothing answers: as many as lines lose in a row at times.
+const RETRIES: u8 = 2;
+
 /// How many transactions a search of the greatest line takes at most.
 const LIMIT: u32 = 74 * MOST_FIXTURES as u32 + 2;
 
 /// Finds all devices, and prints the UID of each, its model and its label.
 pub fn find<'a, H: Host, P: Port>(rt: H, port: &mut P) -> Result<(), Fault<'a>> {
-    let found = discover_through(rt.alloc(), port, CONSOLE, LIMIT)?;
+    let found = discover_through(rt.alloc(), port, CONSOLE, RETRIES, LIMIT)?;
     for one in &found {
         let uid = one.uid;
         let mut line = String::new(rt.alloc());
