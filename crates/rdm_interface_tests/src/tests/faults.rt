@@ -114,11 +114,20 @@ fn a_message_that_is_cut_by_the_limit_is_passed_over_later(rt: HostRuntime) {
     let late = "00CC011A7FF0000000027FF000000001040000000021008202434404F8";
     let came = "00CC011A7FF0000000027FF000000001050000000021008202414204F5";
     let bytes = stream(&rt, &[(5, late), (5, came)]);
-    let none: [&[u8]; 1] = [&bytes[..20]];
-    let mut line = interface(&rt, &none);
-    hears(&rt, &mut line, GET_LABEL, None);
+    let cut = bytes.len().min(20);
     let pieces: [&[u8]; 12] = [
-        &bytes[..20], &[], &[], &[], &[], &[], &[], &[], &[], &[], &[], &bytes[20..],
+        &bytes[..cut],
+        &[],
+        &[],
+        &[],
+        &[],
+        &[],
+        &[],
+        &[],
+        &[],
+        &[],
+        &[],
+        &bytes[cut..],
     ];
     let mut line = interface(&rt, &pieces);
     hears(&rt, &mut line, GET_LABEL, None);
