@@ -1,5 +1,5 @@
 -- The next message that belongs, of one part of a stream after another.
-use Rattle.std.proofs.Common.{◌≡◌, ℕ, ◌+◌, ◌-◌, ◌<◌, ◌≤◌, Bool, true, false, ◌||◌, List, [], ◌∷◌, ◌++◌, length, take, drop, Option, Some, None, refl, sym, ap, subst, ◌∙◌, arith, append_assoc, append-nil, length-append, length-drop}
+use Rattle.std.proofs.Common.{◌≡◌, ℕ, ◌+◌, ◌-◌, ◌<◌, ◌≤◌, Bool, true, false, cond, ◌||◌, List, [], ◌∷◌, ◌++◌, length, take, drop, Option, Some, None, refl, sym, ap, subst, ◌∙◌, arith, append_assoc, append-nil, length-append, length-drop}
 use Rattle.std.specs.List.{list_any}
 use Rattle.std.proofs.lemmas.List.{take_all, drop-drop}
 use Rattle.std.proofs.lemmas.List.Folds.{list_any-append}
@@ -29,8 +29,7 @@ next_own b stream rest m is whole own = record { passed = []; behind = stream; b
 
 -- the message at the front, if it belongs
 abbrev pub claimed_by : Bool → Message → Option Message
-claimed_by true m = Some m
-claimed_by false m = None
+claimed_by t m = cond t (Some m) None
 
 next_by : (b : Message → Bool) (stream rest : List ℕ) (m : Message) (t : Bool) → IsMessage m → stream ≡ message_bytes m ++ rest → b m ≡ t → IsNext b stream (claimed_by t m) rest
 next_by b stream rest m true is whole e = next_own b stream rest m is whole e

@@ -29,8 +29,9 @@ use std::io::{Read, Write};
 /// **Late answers.** What comes behind the answer is kept for the next call, which passes over what doesn't belong to it. A
 /// response belongs by its transaction number, its UIDs and its parameter (E1.20 section 6.2). The transaction numbers of a
 /// collector wrap after 256 requests, so a response that is as late as that would be taken for the answer to the same question. Of
-/// bytes that answer DISC_UNIQUE_BRANCH nothing says to which request they belong, nor does a message that nobody answered. So
-/// after a request that nothing answered within the limit, and before the first one, `clear` passes over what may still come.
+/// bytes that answer DISC_UNIQUE_BRANCH nothing says to which request they belong, nor does a message that nobody answered. So call
+/// `clear` before the first request, when answers to those of another program may still come, and give a limit that is longer than
+/// the interface ever takes.
 #[derive(Drop)]
 pub struct Interface<R: Read, W: Write, C: Clock> {
     reader: R,
