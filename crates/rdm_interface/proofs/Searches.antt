@@ -111,3 +111,17 @@ one_less source tn left left' stage frame e fewer =
 pub asked_first : {P : Type 0} (hears : P → List ℕ → Option (List ℕ) → P → Type 0) (before after : P) (bytes heard : List ℕ) (n : ℕ) (mid : P) (came : Option (List ℕ))
     → AreSilent hears n before bytes mid → hears mid bytes came after → heard ≡ unwrap_or came [] → IsAskedAgain hears before after bytes heard
 asked_first hears before after bytes heard n mid came silent last is = record { times = n; mid = mid; came = came; silent = silent; last = last; heard_is = is }
+
+pub asked_next : {P : Type 0} (hears : P → List ℕ → Option (List ℕ) → P → Type 0) (before mid after : P) (bytes : List ℕ)
+    → (n : ℕ) × AreSilent hears n before bytes mid → hears mid bytes None after → (n : ℕ) × AreSilent hears n before bytes after
+asked_next hears before mid after bytes silent last = (suc silent.0, (mid, silent.1, last))
+
+-- ---- one transaction after another
+
+-- what a search has come to through a port
+pub record Through {P : Type 0} (hears : P → List ℕ → Option (List ℕ) → P → Type 0) (stage : Stage) (found : List Found) (port : P) (stage' : Stage) (found' : List Found) (port' : P) : Type 0 where
+  pub stands : (fixtures : P → List Fixture) → IsLineOf hears fixtures → Stands stage (found_uids found) (fixtures port) → Stands stage' (found_uids found') (fixtures port')
+  pub real : (fixtures : P → List Fixture) → IsLossyLineOf hears fixtures → IsReal (found_uids found) (fixtures port) → IsReal (found_uids found') (fixtures port')
+
+pub through_none : {P : Type 0} (hears : P → List ℕ → Option (List ℕ) → P → Type 0) (stage : Stage) (found : List Found) (port : P) → Through hears stage found port stage found port
+through_none hears stage found port = record { stands = λ fixtures line stands. stands; real = λ fixtures line real. real }
