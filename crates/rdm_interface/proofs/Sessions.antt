@@ -181,8 +181,7 @@ unfolding AreInTime
 one_stream held [] kept more session = ap (λ (l : List ℕ). l ++ more) session
 one_stream held (x ∷ xs) kept more session =
     let joined : (held ++ x.input) ++ (inputs_of xs ++ more) ≡ held ++ ((x.input ++ inputs_of xs) ++ more) =
-    append_assoc held x.input (inputs_of xs ++ more) ∙ ap (λ (l : List ℕ). held ++ l) (sym (append_assoc x.input (inputs_of xs) more)) in
-    (
+    append_assoc held x.input (inputs_of xs ++ more) ∙ ap (λ (l : List ℕ). held ++ l) (sym (append_assoc x.input (inputs_of xs) more)) in (
       session.0 ++ (inputs_of xs ++ more),
       subst (λ (l : List ℕ). IsInTime x.request l x.heard (session.0 ++ (inputs_of xs ++ more))) joined
           (in_time_more x.request (held ++ x.input) session.0 (inputs_of xs ++ more) x.heard session.1),
@@ -230,8 +229,7 @@ in_time : {C : Type 0} (tells : C → ℕ → C → Type 0) (limit : ℕ) (befor
 in_time tells limit before between after unread mid left old new held rest kept request heard None asked ended is some came = absurd (true≢false (sym some))
 in_time tells limit before between after unread mid left old new held rest kept request heard (Some m) asked ended is some came =
     let end = end_came tells limit between after mid left rest kept (has_end (wanted_by request) (Some m)) ended came in
-    let read = asked.awaited.read in
-    (
+    let read = asked.awaited.read in (
       read.input ++ end.0,
       Consumes-trans unread mid left read.input end.0 read.read end.1,
       record {
