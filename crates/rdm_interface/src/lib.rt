@@ -6,6 +6,7 @@
 #![tactic(auto)]
 
 mod answer;
+mod exchanging;
 mod finding;
 mod interface;
 mod laws;
