@@ -1,5 +1,5 @@
 -- The next message that belongs, of one part of a stream after another.
-use Rattle.std.proofs.Common.{◌≡◌, ℕ, ◌+◌, ◌-◌, ◌<◌, ◌≤◌, Bool, true, false, cond, ◌||◌, List, [], ◌∷◌, ◌++◌, length, take, drop, Option, Some, None, refl, sym, ap, subst, ◌∙◌, arith, append_assoc, append-nil, length-append, length-drop}
+use Rattle.std.proofs.Common.{◌≡◌, ℕ, zero, suc, ◌+◌, ◌-◌, ◌<◌, ◌≤◌, Bool, true, false, cond, ◌||◌, List, [], ◌∷◌, ◌++◌, length, take, drop, Option, Some, None, refl, sym, ap, subst, ◌∙◌, arith, append_assoc, append-nil, length-append, length-drop}
 use Rattle.std.specs.List.{list_any}
 use Rattle.std.proofs.lemmas.List.{take_all, drop-drop}
 use Rattle.std.proofs.lemmas.List.Folds.{list_any-append}
@@ -102,3 +102,10 @@ room_left b held kept None most next unfinished = unfinished_short kept (unfinis
 room_left b held kept (Some m) most next unfinished =
     let size : length next.behind ≡ length (message_bytes m) + length kept = ap (λ (l : List ℕ). length l) next.taken.2 ∙ length-append (message_bytes m) kept in
     omega (arith, most, size, length-message_bytes m, behind_short held next.behind next.passed next.begins)
+
+-- ---- as many bytes as a frame has
+
+pub front_size : (n : ℕ) (xs : List ℕ) → n < length xs → n ≡ length (take n xs)
+front_size zero xs h = refl
+front_size (suc n) [] h = absurd (omega (arith, h))
+front_size (suc n) (x ∷ xs) h = ap suc (front_size n xs (omega (arith, h)))
