@@ -29,14 +29,14 @@ record IsOf (request f : Frame) : Type 0 where
 
 is_of : (request f : Frame) → is_response request f ≡ true → IsOf request f
 is_of request f e =
-    let one = both (f.tn == request.tn) (same_uid f.src request.dst && same_uid f.dst request.src && responds_to request f) e in
-    let two = both (same_uid f.src request.dst) (same_uid f.dst request.src && responds_to request f) one.1 in
-    let three = both (same_uid f.dst request.src) (responds_to request f) two.1 in
+    let one = both ((f.tn == request.tn) && same_uid f.src request.dst && same_uid f.dst request.src) (responds_to request f) e in
+    let two = both ((f.tn == request.tn) && same_uid f.src request.dst) (same_uid f.dst request.src) one.0 in
+    let three = both (f.tn == request.tn) (same_uid f.src request.dst) two.0 in
     record {
-      number = eqb-true f.tn request.tn one.0;
-      device = one_uid f.src request.dst two.0;
-      controller = one_uid f.dst request.src three.0;
-      command = three.1;
+      number = eqb-true f.tn request.tn three.0;
+      device = one_uid f.src request.dst three.1;
+      controller = one_uid f.dst request.src two.1;
+      command = one.1;
     }
 
 -- the command of a response that answers no poll
@@ -49,12 +49,12 @@ same_command : (request f : Frame) → is_poll request ≡ false → responds_to
 same_command request f no_poll e =
     let tested : ((f.class == request.class + 1) && (f.sub == request.sub) && (f.pid == request.pid)) ≡ true =
     sym (ap (λ t. cond t ((f.class == 0x21) || (f.class == 0x31)) ((f.class == request.class + 1) && (f.sub == request.sub) && (f.pid == request.pid))) no_poll) ∙ e in
-    let one = both (f.class == request.class + 1) ((f.sub == request.sub) && (f.pid == request.pid)) tested in
-    let two = both (f.sub == request.sub) (f.pid == request.pid) one.1 in
+    let one = both ((f.class == request.class + 1) && (f.sub == request.sub)) (f.pid == request.pid) tested in
+    let two = both (f.class == request.class + 1) (f.sub == request.sub) one.0 in
     record {
-      class = eqb-true f.class (request.class + 1) one.0;
-      sub = eqb-true f.sub request.sub two.0;
-      pid = eqb-true f.pid request.pid two.1;
+      class = eqb-true f.class (request.class + 1) two.0;
+      sub = eqb-true f.sub request.sub two.1;
+      pid = eqb-true f.pid request.pid one.1;
     }
 
 pub late_answers : LateAnswersArePassedOver

@@ -1,11 +1,10 @@
 //! Which message answers what is asked.
 
-ghost use Rattle.std.specs.Prelude.{◌≡◌, ◌&&◌, nat_lt, false, length, drop, if◌then◌else◌};
+ghost use Rattle.std.specs.Prelude.{◌≡◌, ◌&&◌, nat_lt, false, length, drop};
 ghost use Rattle.std.specs.Option.{option_map_or};
 ghost use Rattle.rdm_frame.specs.Reading.{frame_in};
 ghost use Rattle.rdm_messages.specs.Framing.{message_in};
 ghost use Rattle.rdm_interface.specs.Answers.{belongs, is_branch, is_from_line, is_poll, is_response, label_for, line_bytes, responds_to, wanted_by};
-ghost use Rattle.rdm_interface.specs.declared.wanted.Wanted.TheVariants.{Branch, Response};
 
 use rdm_frame::standard::{
     DISC_UNIQUE_BRANCH, DISCOVERY_COMMAND, GET_COMMAND, GET_COMMAND_RESPONSE, SET_COMMAND_RESPONSE,
@@ -56,20 +55,22 @@ pub(crate) fn wanted_by(request: &[u8]) -> Wanted<'_>
     ensures { result ≡ wanted_by request.now }
 {
     match decode_view(request) {
-        Ok(frame) => wanted_for(frame),
+        Ok(frame) => {
+            if is_branch(&frame) {
+                Wanted::Branch
+            } else {
+                Wanted::Response(frame)
+            }
+        }
         Err(_) => Wanted::Labelled(TIMEOUT),
     }
 }
 
-/// What is waited for when a request is sent.
-fn wanted_for(request: FrameView<'_>) -> Wanted<'_>
-    ensures { result ≡ (if is_branch request then Branch else Response request) }
+/// Whether a request is DISC_UNIQUE_BRANCH.
+fn is_branch(request: &FrameView<'_>) -> bool
+    ensures { result ≡ is_branch request.now }
 {
-    if request.class == DISCOVERY_COMMAND && request.pid == DISC_UNIQUE_BRANCH {
-        Wanted::Branch
-    } else {
-        Wanted::Response(request)
-    }
+    request.class == DISCOVERY_COMMAND && request.pid == DISC_UNIQUE_BRANCH
 }
 
 /// Whether a message says that bytes came from the line.
