@@ -33,7 +33,7 @@ use std::alloc::Global;
 use std::marker::Model;
 use thiserror::Error;
 
-/// How many jobs each worker can be given: their numbers have 32 bits.
+/// How many jobs each worker can be given: their numbers have 32 bits, so that no two are alike.
 const MOST_JOBS: u32 = u32::MAX;
 
 /// Why a responder can't be made, tested from the last to the first.
@@ -80,7 +80,7 @@ impl Responder {
     /// that breaks a rule or has too many sub-devices, and last comes out of memory.
     pub fn new(alloc: Global, uid: Uid, profile: Profile, queue_size: u16) -> Result<Self, NewError>
         ensures stands { IfOk result (λ r.
-            StandsFor r (empty_history (record { uid = uid; profile = profile; queue_size = queue_size; entries = most_entries }))) }
+            StandsFor r (empty_history (record { uid = uid; profile = profile; queue_size = queue_size; entries = most_entries; first_job = 0 }))) }
         ensures bad_uid { IsErrOf result NewError.BadUid ↔ (uid.device ≡ 0xFFFFFFFF) }
         ensures bad_size { IsErrOf result NewError.BadSize ↔ ((uid.device ≢ 0xFFFFFFFF) × ¬ IsQueueSize queue_size) }
         ensures bad_profile { IsErrOf result NewError.BadProfile
@@ -103,7 +103,34 @@ impl Responder {
         entries: u16,
     ) -> Result<Self, NewError>
         ensures stands { IfOk result (λ r.
-            StandsFor r (empty_history (record { uid = uid; profile = profile; queue_size = queue_size; entries = entries }))) }
+            StandsFor r (empty_history (record { uid = uid; profile = profile; queue_size = queue_size; entries = entries; first_job = 0 }))) }
+        ensures bad_uid { IsErrOf result NewError.BadUid ↔ (uid.device ≡ 0xFFFFFFFF) }
+        ensures bad_size { IsErrOf result NewError.BadSize
+            ↔ ((uid.device ≢ 0xFFFFFFFF) × ¬ (IsQueueSize queue_size × IsListSize entries)) }
+        ensures bad_profile { IsErrOf result NewError.BadProfile
+            ↔ ((uid.device ≢ 0xFFFFFFFF) × (IsQueueSize queue_size × IsListSize entries) × ¬ CanBeMade profile) }
+    {
+        Responder::new_numbered(alloc, uid, profile, queue_size, entries, 0)
+    }
+
+    /// A responder as of `with_entries`, in which the first job of each worker has the number `first_job`, and each later one
+    /// the next; after 4,294,967,295 comes 0. A report is known by the number of its job: a firmware that begins a second
+    /// responder at other numbers than the first has each report of the first rejected by the second. Those of `new` and
+    /// `with_entries` begin at 0.
+    ///
+    /// The order of the refusals is that of `with_entries`, and no number is refused.
+    // Inlined, as `with_entries`.
+    #[inline(always)]
+    pub fn new_numbered(
+        alloc: Global,
+        uid: Uid,
+        profile: Profile,
+        queue_size: u16,
+        entries: u16,
+        first_job: u32,
+    ) -> Result<Self, NewError>
+        ensures stands { IfOk result (λ r.
+            StandsFor r (empty_history (record { uid = uid; profile = profile; queue_size = queue_size; entries = entries; first_job = first_job }))) }
         ensures bad_uid { IsErrOf result NewError.BadUid ↔ (uid.device ≡ 0xFFFFFFFF) }
         ensures bad_size { IsErrOf result NewError.BadSize
             ↔ ((uid.device ≢ 0xFFFFFFFF) × ¬ (IsQueueSize queue_size × IsListSize entries)) }
@@ -124,7 +151,9 @@ impl Responder {
                 return Err(NewError::BadProfile);
             }
         };
-        let Ok(outbox) = Outbox::with_entries(alloc, queue_size, MOST_JOBS, entries) else {
+        let Ok(outbox) =
+            Outbox::new_numbered(alloc, queue_size, MOST_JOBS, entries, first_job)
+        else {
             return Err(NewError::OutOfMemory);
         };
         Ok(Responder {
