@@ -18,7 +18,7 @@ use Rattle.rdm_bench.specs.Tally.{tally_of}
 -- The device that hears them: its UID is 7FF0:00000001, it is the demo fixture with so many sub-devices, and it has room
 -- for 1,024 results of slow commands and the most status entries.
 abbrev pub bench_setup : ℕ → Setup
-bench_setup subs = record { uid = record { maker = 0x7FF0; device = 1 }; profile = demo subs; queue_size = 1024; entries = most_entries }
+bench_setup subs = record { uid = record { maker = 0x7FF0; device = 1 }; profile = demo subs; queue_size = 1024; entries = most_entries; first_job = 0 }
 
 -- these, that many times over
 abbrev pub repeated : ℕ → List (List ℕ) → List (List ℕ)
