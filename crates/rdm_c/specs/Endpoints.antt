@@ -78,10 +78,16 @@ abbrev pub found : Bool → Status
 found true = status.Done
 found false = status.Absent
 
--- what a responder is set up with: its UID, its profile, the size of its queue, and how many status entries can wait
-abbrev pub setup_of : ℕ → ℕ → Profile → ℕ → ℕ → Setup
-setup_of maker device profile queue_size entries =
-    record { uid = record { maker = maker; device = device }; profile = profile; queue_size = queue_size; entries = entries }
+-- what a responder is set up with: its UID, its profile, the size of its queue, how many status entries can wait, and the number
+-- of each worker's first job
+abbrev pub setup_of : ℕ → ℕ → Profile → ℕ → ℕ → ℕ → Setup
+setup_of maker device profile queue_size entries first_job = record {
+  uid = record { maker = maker; device = device };
+  profile = profile;
+  queue_size = queue_size;
+  entries = entries;
+  first_job = first_job;
+}
 
 -- what C is told of whether something is so: 1 or 0
 abbrev pub flag : Bool → ℕ

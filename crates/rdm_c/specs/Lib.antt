@@ -5,6 +5,7 @@ pub mod Jobs
 pub mod Outcomes
 pub mod Profiles
 pub mod Endpoints
+pub mod Memory
 pub mod Messages
 pub mod SearchStates
 pub mod Searches

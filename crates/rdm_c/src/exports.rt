@@ -3,6 +3,7 @@
 pub(crate) mod change;
 pub(crate) mod collector;
 pub(crate) mod firmware;
+pub(crate) mod memory;
 pub(crate) mod names;
 pub(crate) mod profile;
 pub(crate) mod reading;

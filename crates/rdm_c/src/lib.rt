@@ -13,6 +13,7 @@ mod front;
 mod handle;
 mod job;
 mod keeping;
+mod memory;
 mod message;
 mod names;
 mod outcome;
@@ -33,6 +34,7 @@ pub use exports::collector::{
     felosumay_collector_release,
 };
 pub use exports::firmware::{felosumay_responder_note, felosumay_responder_place};
+pub use exports::memory::{felosumay_responder_fits, felosumay_responder_size};
 pub use exports::names::{
     felosumay_tell_parameter, felosumay_tell_reason, felosumay_tell_status, felosumay_tell_version,
 };
@@ -44,7 +46,7 @@ pub use exports::reading::{
 pub use exports::reply::felosumay_reply_read;
 pub use exports::responder::{
     felosumay_responder_arrive, felosumay_responder_demo, felosumay_responder_new,
-    felosumay_responder_new_with_entries, felosumay_responder_release, felosumay_responder_step,
+    felosumay_responder_new_with, felosumay_responder_release, felosumay_responder_step,
 };
 pub use exports::saving::{
     felosumay_responder_restore, felosumay_responder_save, felosumay_responder_saved_size,

@@ -48,7 +48,7 @@ pub extern "C" fn felosumay_responder_new(
     queue_size: u16,
 ) -> u8
     ensures made { result ≡ code_of Status.Done →
-        HeldFor responder.new.held (empty_history (setup_of maker device (profile_in profile.now) queue_size most_entries)) }
+        HeldFor responder.new.held (empty_history (setup_of maker device (profile_in profile.now) queue_size most_entries 0)) }
     ensures bad_uid { (result ≡ code_of Status.BadUid) ↔ (device ≡ 0xFFFFFFFF) }
     ensures bad_size { (result ≡ code_of Status.BadSize) ↔ ((device ≢ 0xFFFFFFFF) × ¬ IsQueueSize queue_size) }
     ensures bad_profile { (result ≡ code_of Status.BadProfile)
@@ -56,7 +56,7 @@ pub extern "C" fn felosumay_responder_new(
     ensures codes { result ≤ 4 }
     ensures refused { result ≢ code_of Status.Done → responder.new ≡ responder.old }
 {
-    felosumay_responder_new_with_entries(
+    felosumay_responder_new_with(
         alloc,
         responder,
         maker,
@@ -64,15 +64,19 @@ pub extern "C" fn felosumay_responder_new(
         profile,
         queue_size,
         MOST_ENTRIES,
+        0,
     )
 }
 
 /// Makes a responder as `felosumay_responder_new` does, with room for `entries` status entries that weren't shown (E1.20
-/// section 10.3.2), at 10 bytes each: for a controller with little memory. While that many wait, a further one is dropped.
+/// section 10.3.2), at 10 bytes each: for a controller with little memory. While that many wait, a further one is dropped. The
+/// first job of each worker has the number `first_job`, and each later one the next; after 4,294,967,295 comes 0. So firmware
+/// that begins at another number than before has each report of a former responder rejected.
 ///
-/// It is rejected as `felosumay_responder_new` says, and a number of entries that isn't 1 to 1,024 is a bad size too.
+/// It is rejected as `felosumay_responder_new` says, and a number of entries that isn't 1 to 1,024 is a bad size too. No
+/// `first_job` is rejected.
 #[unsafe(no_mangle)]
-pub extern "C" fn felosumay_responder_new_with_entries(
+pub extern "C" fn felosumay_responder_new_with(
     alloc: Global,
     responder: &mut Handle,
     maker: u16,
@@ -80,9 +84,10 @@ pub extern "C" fn felosumay_responder_new_with_entries(
     profile: &ProfileNumbers,
     queue_size: u16,
     entries: u16,
+    first_job: u32,
 ) -> u8
     ensures made { result ≡ code_of Status.Done →
-        HeldFor responder.new.held (empty_history (setup_of maker device (profile_in profile.now) queue_size entries)) }
+        HeldFor responder.new.held (empty_history (setup_of maker device (profile_in profile.now) queue_size entries first_job)) }
     ensures bad_uid { (result ≡ code_of Status.BadUid) ↔ (device ≡ 0xFFFFFFFF) }
     ensures bad_size { (result ≡ code_of Status.BadSize)
         ↔ ((device ≢ 0xFFFFFFFF) × ¬ (IsQueueSize queue_size × IsListSize entries)) }
@@ -93,7 +98,10 @@ pub extern "C" fn felosumay_responder_new_with_entries(
 {
     let uid = Uid { maker, device };
     let profile = profile.profile();
-    start(alloc, responder, uid, profile, queue_size, entries).code()
+    start(
+        alloc, responder, uid, profile, queue_size, entries, first_job,
+    )
+    .code()
 }
 
 /// Makes a responder that is the demonstration fixture with N sub-devices, and replaces what the handle held.
@@ -109,7 +117,7 @@ pub extern "C" fn felosumay_responder_demo(
     queue_size: u16,
 ) -> u8
     ensures made { result ≡ code_of Status.Done →
-        HeldFor responder.new.held (empty_history (setup_of maker device (demo subs) queue_size most_entries)) }
+        HeldFor responder.new.held (empty_history (setup_of maker device (demo subs) queue_size most_entries 0)) }
     ensures bad_uid { (result ≡ code_of Status.BadUid) ↔ (device ≡ 0xFFFFFFFF) }
     ensures bad_size { (result ≡ code_of Status.BadSize) ↔ ((device ≢ 0xFFFFFFFF) × ¬ IsQueueSize queue_size) }
     ensures bad_profile { (result ≡ code_of Status.BadProfile)
@@ -119,7 +127,16 @@ pub extern "C" fn felosumay_responder_demo(
 {
     let uid = Uid { maker, device };
     let profile = Profile::demo(subs);
-    start(alloc, responder, uid, profile, queue_size, MOST_ENTRIES).code()
+    start(
+        alloc,
+        responder,
+        uid,
+        profile,
+        queue_size,
+        MOST_ENTRIES,
+        0,
+    )
+    .code()
 }
 
 /// Hears bytes, and tells of the reply, whose bytes stand at the front of `reply` then, of the job that started, and of what
@@ -201,6 +218,8 @@ pub extern "C" fn felosumay_responder_release(alloc: Global, responder: &mut Han
 }
 
 /// Makes a responder, in the place of what the handle held.
+// Inlined, since a call would have a copy of the profile on the stack.
+#[inline(always)]
 fn start(
     alloc: Global,
     responder: &mut Handle,
@@ -208,9 +227,10 @@ fn start(
     profile: Profile,
     queue_size: u16,
     entries: u16,
+    first_job: u32,
 ) -> Status
     ensures made { result ≡ Status.Done →
-        HeldFor responder.new.held (empty_history (setup_of uid.maker uid.device profile queue_size entries)) }
+        HeldFor responder.new.held (empty_history (setup_of uid.maker uid.device profile queue_size entries first_job)) }
     ensures bad_uid { (result ≡ Status.BadUid) ↔ (uid.device ≡ 0xFFFFFFFF) }
     ensures bad_size { (result ≡ Status.BadSize) ↔ ((uid.device ≢ 0xFFFFFFFF) × ¬ (IsQueueSize queue_size × IsListSize entries)) }
     ensures bad_profile { (result ≡ Status.BadProfile)
@@ -218,21 +238,25 @@ fn start(
     ensures codes { code_of result ≤ 4 }
     ensures refused { result ≢ Status.Done → responder.new ≡ responder.old }
 {
-    match running_responder(alloc, uid, profile, queue_size, entries) {
+    match running_responder(alloc, uid, profile, queue_size, entries, first_job) {
         Ok(made) => replace(alloc, responder, Endpoint::Responder(made)),
         Err(status) => status,
     }
 }
 
 /// A responder with the room for its replies.
+// Inlined, as `start`.
+#[inline(always)]
 fn running_responder(
     alloc: Global,
     uid: Uid,
     profile: Profile,
     queue_size: u16,
     entries: u16,
+    first_job: u32,
 ) -> Result<RunningResponder, Status>
-    ensures made { IfOk result (λ s. StandsFor s.responder (empty_history (setup_of uid.maker uid.device profile queue_size entries))) }
+    ensures made { IfOk result (λ s.
+        StandsFor s.responder (empty_history (setup_of uid.maker uid.device profile queue_size entries first_job))) }
     ensures bad_uid { (result ≡ Err Status.BadUid) ↔ (uid.device ≡ 0xFFFFFFFF) }
     ensures bad_size { (result ≡ Err Status.BadSize)
         ↔ ((uid.device ≢ 0xFFFFFFFF) × ¬ (IsQueueSize queue_size × IsListSize entries)) }
@@ -240,7 +264,7 @@ fn running_responder(
         ↔ ((uid.device ≢ 0xFFFFFFFF) × (IsQueueSize queue_size × IsListSize entries) × ¬ CanBeMade profile) }
     ensures codes { IfErr result (λ status. (code_of status ≤ 4) × (status ≢ Status.Done)) }
 {
-    match Responder::with_entries(alloc, uid, profile, queue_size, entries) {
+    match Responder::new_numbered(alloc, uid, profile, queue_size, entries, first_job) {
         Ok(made) => Ok(RunningResponder {
             responder: made,
             wire: Wire::new(),
