@@ -5,8 +5,8 @@
 #include <string.h>
 
 static void names(void) {
-    printf("%s, %s, %s\n", felosumay_status_name(FELOSUMAY_DONE), felosumay_status_name(FELOSUMAY_NO_REPLY),
-           felosumay_status_name(FELOSUMAY_NO_REPLY + 1));
+    printf("%s, %s, %s\n", felosumay_status_name(FELOSUMAY_DONE), felosumay_status_name(FELOSUMAY_SHORT_MEMORY),
+           felosumay_status_name(FELOSUMAY_SHORT_MEMORY + 1));
     printf("%s, %s, %s\n", felosumay_parameter_name(FELOSUMAY_PID_DISC_UNIQUE_BRANCH),
            felosumay_parameter_name(FELOSUMAY_PID_SUB_DEVICE_STATUS_REPORT_THRESHOLD), felosumay_parameter_name(0x8001));
     printf("%s, %s, %s\n", felosumay_reason_name(FELOSUMAY_NR_UNKNOWN_PID), felosumay_reason_name(FELOSUMAY_NR_PROXY_BUFFER_FULL),

@@ -58,7 +58,10 @@ enum {
     FELOSUMAY_IMAGE_LENGTH = 21, /* the image has another length than one of these values: it is cut, or of other devices */
     FELOSUMAY_ALTERED_IMAGE = 22, /* the image is altered, or it is none */
     FELOSUMAY_FOREIGN_IMAGE = 23, /* the image is of another profile */
-    FELOSUMAY_NO_REPLY = 24       /* the bytes aren't a response */
+    FELOSUMAY_NO_REPLY = 24,      /* the bytes aren't a response */
+    FELOSUMAY_IN_USE = 25,        /* another responder lies in the memory */
+    FELOSUMAY_UNALIGNED = 26,     /* the memory doesn't begin at a multiple of 16 */
+    FELOSUMAY_SHORT_MEMORY = 27   /* there is too little memory for the responder */
 };
 
 enum {
@@ -169,7 +172,7 @@ uint8_t felosumay_profile_fault(const felosumay_profile *profile);
 
 /* A slow command that was accepted. Keep it until it has ended, and hand it back with the outcome. */
 typedef struct {
-    uint32_t number;   /* counts the jobs of its worker, from 0 in each new responder */
+    uint32_t number;   /* counts the jobs of its worker, from the first number of the responder; 0 comes after the greatest */
     uint16_t estimate; /* tenths of a second, as the controller was told */
     uint16_t sub;      /* the sub-device, 1 to 512, or 0 for the root */
     uint16_t pid;
@@ -214,15 +217,31 @@ enum {
 /* Makes a responder of this profile, or the demonstration fixture with N sub-devices (`subs`), and replaces what the handle
  * held. `queue_size` is how many messages and jobs it has room for, 1 to 1,024, at 272 bytes each; `entries` how many status
  * entries wait at most to be shown, 1 to 1,024, at 10 bytes each: 1,024 if no number is passed. If it isn't DONE, the handle
- * stays as it was. BAD_UID, BAD_SIZE, BAD_PROFILE, OUT_OF_MEMORY, in this order. The new responder counts its jobs from 0
- * again: end the jobs of the old one first, or drop their reports. */
+ * stays as it was. BAD_UID, BAD_SIZE, BAD_PROFILE, OUT_OF_MEMORY, in this order.
+ *
+ * `first_job` is the number of each worker's first job: 0 if no number is passed. A report is known by the numbers of its job,
+ * so pass a number that no responder before had, if a worker may still report a job of that one: one more than the greatest
+ * `number` that came, or the time of the start in seconds. Each responder takes at most 4,294,967,295 jobs of a worker. */
 felosumay_result felosumay_responder_new(felosumay_responder *responder, uint16_t maker, uint32_t device,
                                          const felosumay_profile *profile, uint16_t queue_size);
-felosumay_result felosumay_responder_new_with_entries(felosumay_responder *responder, uint16_t maker, uint32_t device,
-                                                      const felosumay_profile *profile, uint16_t queue_size,
-                                                      uint16_t entries);
+felosumay_result felosumay_responder_new_with(felosumay_responder *responder, uint16_t maker, uint32_t device,
+                                              const felosumay_profile *profile, uint16_t queue_size, uint16_t entries,
+                                              uint32_t first_job);
 felosumay_result felosumay_responder_demo(felosumay_responder *responder, uint16_t maker, uint32_t device, uint16_t subs,
                                           uint16_t queue_size);
+
+/* How many bytes of memory a responder takes with room for so many messages and jobs and status entries, and with so many
+ * sub-devices, each block rounded up to 16 bytes: `new` asks the heap for no more, and no later call asks it for any.
+ * FELOSUMAY_RESPONDER_BYTES is the same as a constant, for the size of an array. `fits` says whether a responder of this size has
+ * room in so many bytes of memory from this address on, as felosumay_memory.h makes one: UNALIGNED, SHORT_MEMORY, in this order.
+ * Any sizes are reckoned with, and it is `new` that calls one a BAD_SIZE. */
+size_t felosumay_responder_size(uint16_t queue_size, uint16_t entries, uint16_t sub_devices);
+felosumay_result felosumay_responder_fits(uintptr_t address, size_t bytes, uint16_t queue_size, uint16_t entries,
+                                          uint16_t sub_devices);
+#define FELOSUMAY_ROUNDED(bytes) (((size_t)(bytes) + 15) / 16 * 16)
+#define FELOSUMAY_RESPONDER_BYTES(queue_size, entries, sub_devices)                                                             \
+    (FELOSUMAY_ROUNDED(5824) + FELOSUMAY_ROUNDED(64 * (size_t)(sub_devices)) + 2 * FELOSUMAY_ROUNDED(12 * (size_t)(queue_size)) + \
+     FELOSUMAY_ROUNDED(248 * (size_t)(queue_size)) + FELOSUMAY_ROUNDED(10 * (size_t)(entries)))
 
 /* Hears bytes. If there is a reply, it stands at the front of `reply`; the answer to discovery is a reply like any other,
  * and has no break before it. What stands behind the reply has no meaning. ABSENT: `replied`, `started` and
@@ -232,7 +251,7 @@ felosumay_result felosumay_responder_step(felosumay_responder *responder, const 
 
 /* Takes the report of a job. `kept` is 1 if it left a status entry that is kept, else 0. UNKNOWN, ABSENT, ASTRAY, in this
  * order; nothing changes then. A job is known by its numbers alone: that of another responder, or of the one that the handle
- * held before, isn't told from one of this responder that has the same numbers. */
+ * held before, isn't told from one of this responder that has the same numbers (`first_job`). */
 felosumay_result felosumay_responder_arrive(felosumay_responder *responder, const felosumay_job *job,
                                             const felosumay_outcome *outcome, uint8_t *kept);
 

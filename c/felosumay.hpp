@@ -88,8 +88,8 @@ private:
 class responder : public owner<felosumay_responder, felosumay_responder_release> {
 public:
     [[nodiscard]] result make(uid own, const felosumay_profile &profile, std::uint16_t queue_size,
-                              std::uint16_t entries = 1024) noexcept {
-        return felosumay_responder_new_with_entries(get(), own.maker, own.device, &profile, queue_size, entries);
+                              std::uint16_t entries = 1024, std::uint32_t first_job = 0) noexcept {
+        return felosumay_responder_new_with(get(), own.maker, own.device, &profile, queue_size, entries, first_job);
     }
     [[nodiscard]] result demo(uid own, std::uint16_t subs, std::uint16_t queue_size) noexcept {
         return felosumay_responder_demo(get(), own.maker, own.device, subs, queue_size);

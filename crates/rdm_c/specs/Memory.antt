@@ -11,7 +11,7 @@ blocks queue_size entries sub_devices =
 
 -- the next multiple of 16, where a block can begin
 abbrev pub rounded : ℕ → ℕ
-rounded bytes = (bytes + 15) / 16 * 16
+rounded bytes = ((bytes + 15) / 16) * 16
 
 -- the memory for all of them, one behind the other, and for the 32 bytes that say where they lie
 abbrev pub memory_size : ℕ → ℕ → ℕ → ℕ

@@ -65,9 +65,9 @@ pub(crate) fn memory_status(
 
 /// The next multiple of `ALIGNMENT`.
 fn rounded(bytes: usize) -> usize
-    requires { bytes < 2 ^ 32 }
+    requires { bytes < 4294967296 }
     ensures value { result ≡ rounded bytes }
-    ensures few { result < 2 ^ 33 }
+    ensures few { result < 4294967312 }
 {
     (bytes + ALIGNMENT - 1) / ALIGNMENT * ALIGNMENT
 }

@@ -195,7 +195,13 @@ impl Outbox {
             return Err(Full::NoRoom);
         }
         if worker == 0 {
-            give(&mut self.first, &mut self.first_given, self.jobs, self.first_job, work)
+            give(
+                &mut self.first,
+                &mut self.first_given,
+                self.jobs,
+                self.first_job,
+                work,
+            )
         } else {
             give(
                 &mut self.second,

@@ -99,7 +99,13 @@ pub extern "C" fn felosumay_responder_new_with(
     let uid = Uid { maker, device };
     let profile = profile.profile();
     start(
-        alloc, responder, uid, profile, queue_size, entries, first_job,
+        alloc,
+        responder,
+        uid,
+        profile,
+        queue_size,
+        entries,
+        first_job,
     )
     .code()
 }
