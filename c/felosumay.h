@@ -329,6 +329,7 @@ typedef struct {
     uint16_t pid;
     uint16_t sub;          /* the sub-device, 1 to 512, or 0 for the root */
     uint8_t command_class; /* that of the response: 0x21 of a GET, 0x31 of a SET */
+    uint8_t may_repeat;    /* 1 if it was asked for again, so that it may be the message before it once more; else 0 */
     uint8_t bytes[FELOSUMAY_VALUE_BYTES];
 } felosumay_message;
 
@@ -388,8 +389,8 @@ felosumay_result felosumay_collector_hear(felosumay_collector *collector, const 
 felosumay_result felosumay_collector_over(felosumay_collector *collector);
 
 /* Takes the first message that was recorded and not taken yet, and lets go of it. A message may come twice in a row: if the
- * request of a poll was lost, the next poll asks for the last message, which may have been recorded already. ABSENT, NO_MORE,
- * in this order. */
+ * request of a poll was lost, the next poll asks for the last message, which may have been recorded already, and `may_repeat` is
+ * 1 of what answers it. ABSENT, NO_MORE, in this order; nothing changes then. */
 felosumay_result felosumay_collector_next(felosumay_collector *collector, felosumay_message *message);
 
 /* Gives up what the handle holds, if anything. The handle is {0} again. `free` takes NULL too, and does nothing then. */

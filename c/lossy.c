@@ -1,5 +1,6 @@
 /* A fixture and a console on a line that drops and alters frames at random and repeats old ones: in 100,000 transactions each message
- * is collected, in order, and whatever comes twice was asked for again. Its status is 1 if anything is lost, or comes twice unasked. */
+ * is collected, in order, and whatever comes twice is flagged, since it was asked for again. Its status is 1 if anything is lost, comes
+ * twice with no flag, or has a wrong flag. */
 #include "felosumay.h"
 #include "felosumay_names.h"
 #include <stdio.h>
@@ -8,7 +9,7 @@
 
 enum { MAKER = 0x7FF0, FIXTURE = 1, CONSOLE = 2, QUEUE_SIZE = 32, TRANSACTIONS = 100000, DIGITS = 8 };
 
-/* What was changed at the fixture, what the console took, and how much came again. */
+/* What was changed at the fixture, what the console took, and how much came again, and was flagged. */
 static unsigned long owed, taken, repeats;
 
 /* A number below `most`; each run has the same. */
@@ -30,17 +31,20 @@ static size_t carry(uint8_t *bytes, size_t count, int is_bad) {
     return count;
 }
 
-/* A message is the next of those that the fixture owes, or that before it if the console asked for the last message again. */
+/* A message is the next of those that the fixture owes, or that before it if its flag says that it may be. The flag is there exactly if
+ * the console asked for the last message again. */
 static int is_right(const felosumay_message *message, int asked_again) {
     char label[DIGITS + 1] = "";
     unsigned long number;
+    if (message->may_repeat != asked_again)
+        return 0;
     if (message->pid != FELOSUMAY_PID_DEVICE_LABEL)
         return 1;
     if (message->count != DIGITS)
         return 0;
     memcpy(label, message->bytes, DIGITS);
     number = strtoul(label, NULL, 10);
-    if (asked_again && number + 1 == taken) {
+    if (message->may_repeat && number + 1 == taken) {
         repeats++;
         return 1;
     }
@@ -98,6 +102,6 @@ int main(void) {
         is_well = poll(&console, &fixture, 0);
     felosumay_collector_free(&console);
     felosumay_responder_free(&fixture);
-    printf("%s: %lu of %lu messages, %lu asked for again\n", is_well && taken == owed ? "nothing lost" : "lost", taken, owed, repeats);
+    printf("%s: %lu of %lu messages, %lu repeats, each flagged\n", is_well && taken == owed ? "nothing lost" : "lost", taken, owed, repeats);
     return !is_well || taken != owed;
 }

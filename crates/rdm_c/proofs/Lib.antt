@@ -1,1 +1,2 @@
+pub mod Polls
 pub mod Values

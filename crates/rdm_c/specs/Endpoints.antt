@@ -12,12 +12,12 @@ use Rattle.rdm_outbox.specs.Jobs.{has_place}
 use Rattle.rdm_responder.specs.Runs.{outbox_of}
 use Rattle.rdm_responder.specs.Rules.{account_of, answered}
 use Rattle.rdm_responder.specs.StandsFor.{StandsFor}
-use Rattle.rdm_collector.specs.Collecting.{State}
 use Rattle.rdm_c.specs.declared.endpoint.Endpoint.{Endpoint}
 use Rattle.rdm_c.specs.declared.endpoint.Endpoint.TheVariants.{Responder, Collector, Searcher}
 use Rattle.rdm_c.specs.declared.status.Status.{Status}
 use Rattle.rdm_c.specs.declared.status.Status.TheVariants as status
 use Rattle.rdm_c.specs.Statuses.{code_of}
+use Rattle.rdm_c.specs.CollectorStates.{CollectorState}
 use Rattle.rdm_c.specs.SearchStates.{SearchState}
 
 -- It is a responder, and stands for this history.
@@ -32,13 +32,13 @@ HeldFor None h = ⊥
 HeldFor (Some endpoint) h = IsFor endpoint h
 
 -- It is a collector in this state.
-abbrev pub IsIn : Endpoint → State → Type 0
+abbrev pub IsIn : Endpoint → CollectorState → Type 0
 IsIn (Responder running) s = ⊥
 IsIn (Collector collector) s = collector ≡ s
 IsIn (Searcher search) s = ⊥
 
 -- the handle holds a collector in this state
-abbrev pub HeldIn : Option Endpoint → State → Type 0
+abbrev pub HeldIn : Option Endpoint → CollectorState → Type 0
 HeldIn None s = ⊥
 HeldIn (Some endpoint) s = IsIn endpoint s
 

@@ -4,6 +4,7 @@ pub mod Changes
 pub mod Jobs
 pub mod Outcomes
 pub mod Profiles
+pub mod CollectorStates
 pub mod Endpoints
 pub mod Memory
 pub mod Messages

@@ -6,8 +6,8 @@ pub(crate) mod responder;
 pub(crate) mod saving;
 pub(crate) mod search;
 
+use crate::running_collector::RunningCollector;
 use crate::running_search::RunningSearch;
-use rdm_collector::Collector;
 use rdm_frame::Wire;
 use rdm_responder::Responder;
 
@@ -26,7 +26,7 @@ pub enum Endpoint {
     /// A device on the bus.
     Responder(RunningResponder),
     /// A controller that collects the messages of a device.
-    Collector(Collector),
+    Collector(RunningCollector),
     /// A controller that finds the fixtures of its line.
     Searcher(RunningSearch),
 }

@@ -20,6 +20,7 @@ mod outcome;
 mod profile;
 mod raw_box;
 mod reply;
+mod running_collector;
 mod running_search;
 mod sizes;
 mod status;
