@@ -219,9 +219,9 @@ enum {
  * entries wait at most to be shown, 1 to 1,024, at 10 bytes each: 1,024 if no number is passed. If it isn't DONE, the handle
  * stays as it was. BAD_UID, BAD_SIZE, BAD_PROFILE, OUT_OF_MEMORY, in this order.
  *
- * `first_job` is the number of each worker's first job: 0 if no number is passed. A report is known by the numbers of its job,
- * so pass a number that no responder before had, if a worker may still report a job of that one: one more than the greatest
- * `number` that came, or the time of the start in seconds. Each responder takes at most 4,294,967,295 jobs of a worker. */
+ * `first_job` is the number of each worker's first job: 0 if no number is passed. A report is known by the numbers of its job, so
+ * if a worker may still report a job of the responder before, pass a number that no job of it had: the greatest `number` that
+ * came, plus 1. A responder accepts at most 4,294,967,295 jobs for each worker, so that no two have the same number. */
 felosumay_result felosumay_responder_new(felosumay_responder *responder, uint16_t maker, uint32_t device,
                                          const felosumay_profile *profile, uint16_t queue_size);
 felosumay_result felosumay_responder_new_with(felosumay_responder *responder, uint16_t maker, uint32_t device,
