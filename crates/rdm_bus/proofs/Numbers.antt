@@ -118,11 +118,11 @@ event_next a (history.Restored image) = tt
 -- ---- every history
 
 -- The jobs of each worker are numbered from the first number on, and are no more than it may be given.
-record HasNumbers (first most : ℕ) (b : outbox.Account) : Type 0 where
+record HasNumbers (first limit : ℕ) (b : outbox.Account) : Type 0 where
   pub first_job : b.first_job ≡ first
-  pub most : b.jobs ≡ most
+  pub most : b.jobs ≡ limit
   pub numbered : (w : ℕ) → NumberedFrom first 0 (jobs_of w b.accepted)
-  pub within : (w : ℕ) → given_to w b ≤ most
+  pub within : (w : ℕ) → given_to w b ≤ limit
 
 one_accepted : (w : ℕ) (b b' : outbox.Account) (j : Job) → b'.accepted ≡ b.accepted ++ j ∷ [] → jobs_of w b'.accepted ≡ jobs_of w b.accepted ++ cond (worker_of j.work == w) (j ∷ []) []
 one_accepted w b b' j e = ap (jobs_of w) e ∙ filter-append (λ (i : Job). worker_of i.work == w) b.accepted (j ∷ [])
