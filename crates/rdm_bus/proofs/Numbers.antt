@@ -121,7 +121,7 @@ event_next a (history.Restored image) = tt
 record HasNumbers (first limit : ℕ) (b : outbox.Account) : Type 0 where
   pub first_job : b.first_job ≡ first
   pub most : b.jobs ≡ limit
-  pub numbered : (w : ℕ) → NumberedFrom first 0 (jobs_of w b.accepted)
+  pub numbers : (w : ℕ) → NumberedFrom first 0 (jobs_of w b.accepted)
   pub within : (w : ℕ) → given_to w b ≤ limit
 
 one_accepted : (w : ℕ) (b b' : outbox.Account) (j : Job) → b'.accepted ≡ b.accepted ++ j ∷ [] → jobs_of w b'.accepted ≡ jobs_of w b.accepted ++ cond (worker_of j.work == w) (j ∷ []) []
@@ -145,7 +145,7 @@ numbered_more first most b b' None ws g next has =
     record {
       first_job = g.first_job ∙ has.first_job;
       most = g.most ∙ has.most;
-      numbered = λ w. subst (λ (js : List Job). NumberedFrom first 0 (jobs_of w js)) (sym same) (has.numbered w);
+      numbers = λ w. subst (λ (js : List Job). NumberedFrom first 0 (jobs_of w js)) (sym same) (has.numbers w);
       within = λ w. subst (λ (js : List Job). length (jobs_of w js) ≤ most) (sym same) (has.within w);
     }
 numbered_more first most b b' (Some j) ws g next has =
@@ -155,8 +155,8 @@ numbered_more first most b b' (Some j) ws g next has =
     record {
       first_job = g.first_job ∙ has.first_job;
       most = g.most ∙ has.most;
-      numbered = λ w.
-          subst (NumberedFrom first 0) (sym (one_accepted w b b' j g.accepted)) (push_if first w b j (worker_of j.work == w) refl number (has.numbered w));
+      numbers = λ w.
+          subst (NumberedFrom first 0) (sym (one_accepted w b b' j g.accepted)) (push_if first w b j (worker_of j.work == w) refl number (has.numbers w));
       within = λ w.
           subst (λ (js : List Job). length js ≤ most) (sym (one_accepted w b b' j g.accepted)) (few_if most w b j (worker_of j.work == w) refl below (has.within w));
     }
@@ -169,10 +169,10 @@ numbered_events first most a (e ∷ es) has =
 has_numbers : (h : History) → HasNumbers h.setup.first_job most_jobs (outbox_of h)
 unfolding account_of
 has_numbers h =
-    numbered_events h.setup.first_job most_jobs (account_before h.setup) h.events (record { first_job = refl; most = refl; numbered = λ w. tt; within = λ w. omega arith })
+    numbered_events h.setup.first_job most_jobs (account_before h.setup) h.events (record { first_job = refl; most = refl; numbers = λ w. tt; within = λ w. omega arith })
 
 pub numbered : (h : History) (w : ℕ) → NumberedFrom h.setup.first_job 0 (jobs_of w (outbox_of h).accepted)
-numbered h w = (has_numbers h).numbered w
+numbered h w = (has_numbers h).numbers w
 
 pub few_jobs : (h : History) (w : ℕ) → length (jobs_of w (outbox_of h).accepted) ≤ 4294967295
 few_jobs h w = (has_numbers h).within w
