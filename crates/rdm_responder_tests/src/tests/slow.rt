@@ -218,9 +218,10 @@ fn a_report_for_the_responder_before_is_astray(rt: HostRuntime) -> Result<(), Fa
     let outcome = Outcome::Done;
     let made =
         |first| Responder::new_numbered(rt.alloc(), DEVICE, Profile::demo(0), 8, 64, first);
-    let before = started(&mut made(7)?, &set)?;
+    let mut former = made(7)?;
+    let before = started(&mut former, &set)?;
     assert_eq!(rt; before.number, 7);
-    // The first number of the next responder, and of its second job. One that begins at 7 again can't tell the two apart.
+    // The first number of the next responder, and that of its second job.
     for (first, second) in [(8, 9), (0, 1), (0xFFFF_FFFF, 0)] {
         let mut responder = made(first)?;
         let job = started(&mut responder, &set)?;
@@ -233,6 +234,7 @@ fn a_report_for_the_responder_before_is_astray(rt: HostRuntime) -> Result<(), Fa
         ends(&mut responder, job, outcome)?;
         assert_eq!(rt; started(&mut responder, &set)?.number, second, "{first}");
     }
+    // One that begins at the same number can't tell the two apart.
     let mut again = made(7)?;
     assert_eq!(rt; started(&mut again, &set)?, before);
     Ok(())
