@@ -32,7 +32,7 @@ static void *hear(void *unused) {
     return unused;
 }
 
-static void *read(void *unused) {
+static void *ask(void *unused) {
     static uint8_t value[FELOSUMAY_VALUE_BYTES];
     static size_t count;
     static uint16_t reason;
@@ -75,7 +75,7 @@ int main(void) {
     profile.language_count = 1;
     failed = is_over("new_in", make, MOST_TO_MAKE);
     failed |= is_over("step", hear, MOST);
-    failed |= is_over("get", read, MOST);
+    failed |= is_over("get", ask, MOST);
     failed |= is_over("free", give_up, MOST);
     return failed;
 }
