@@ -1,5 +1,5 @@
 -- The requests of a run are numbered, and its polls ask for the wanted type or for the last message again.
-use Rattle.std.proofs.Common.{◌≡◌, ℕ, zero, suc, ◌+◌, ◌%◌, ◌<◌, ◌≤◌, Bool, true, false, not, cond, List, [], ◌∷◌, ◌++◌, length, Option, Some, refl, sym, ap, subst, ◌∙◌, arith}
+use Rattle.std.proofs.Common.{◌≡◌, ℕ, zero, suc, ◌+◌, ◌%◌, ◌^◌, ◌<◌, ◌≤◌, Bool, true, false, not, cond, List, [], ◌∷◌, ◌++◌, length, Option, Some, refl, sym, ap, subst, ◌∙◌, arith}
 use Rattle.std.specs.Prelude.{slice_get}
 use Rattle.std.specs.List.{flat_map}
 use Rattle.rdm_frame.specs.declared.uid.Uid.{Uid}
@@ -133,7 +133,7 @@ jobs h worker k job at =
     number_at h.setup.first_job 0 k (jobs_of worker (outbox_of h).accepted) job (numbered h worker) at
     ∙ ap (number_after h.setup.first_job) (sym (from_none k))
 
-below : (js : List Job) (i : ℕ) (j : Job) → length js ≤ 4294967295 → slice_get js i ≡ Some j → i < 4294967296
+below : (js : List Job) (i : ℕ) (j : Job) → length js ≤ 4294967295 → slice_get js i ≡ Some j → i < 2 ^ 32
 below js i j few at = omega (arith, stands_below 0 js i j (omega (arith, few)) at)
 
 pub differ : NumbersDiffer

@@ -1,6 +1,6 @@
 -- The jobs of a worker are numbered in the order in which they were accepted, no two alike, and no more of them have ended than
 -- were accepted.
-use Rattle.std.proofs.Common.{◌≡◌, ℕ, zero, suc, ◌+◌, ◌<◌, ◌≤◌, ◌==◌, Bool, true, false, cond, List, [], ◌∷◌, ◌++◌, length, drop, Option, Some, None, refl, sym, ap, subst, ◌∙◌, arith, append-nil, length-append}
+use Rattle.std.proofs.Common.{◌≡◌, ℕ, zero, suc, ◌+◌, ◌^◌, ◌<◌, ◌≤◌, ◌==◌, Bool, true, false, cond, List, [], ◌∷◌, ◌++◌, length, drop, Option, Some, None, refl, sym, ap, subst, ◌∙◌, arith, append-nil, length-append}
 use Rattle.std.specs.Prelude.{slice_get, Ok, Err}
 use Rattle.std.specs.Option.{option_to_list}
 use Rattle.std.specs.Result.{result_ok}
@@ -71,13 +71,13 @@ pub front_number : (first n : ℕ) (xs ys : List Job) → NumberedFrom first n (
 front_number first n [] ys all = tt
 front_number first n (x ∷ xs) ys all = (all.0, front_number first (suc n) xs ys all.1)
 
--- Of 4,294,967,296 numbers in a row no two are alike.
-pub same_number : (first m n : ℕ) → m < 4294967296 → n < 4294967296 → number_after first m ≡ number_after first n → m ≡ n
+-- Of 2 ^ 32 numbers in a row no two are alike.
+pub same_number : (first m n : ℕ) → m < 2 ^ 32 → n < 2 ^ 32 → number_after first m ≡ number_after first n → m ≡ n
 unfolding number_after
 same_number first m n one other e = omega (arith, one, other, e)
 
 -- where a job stands among so many
-pub stands_below : (n : ℕ) (js : List Job) (i : ℕ) (j : Job) → n + length js ≤ 4294967295 → slice_get js i ≡ Some j → n + i < 4294967296
+pub stands_below : (n : ℕ) (js : List Job) (i : ℕ) (j : Job) → n + length js ≤ 4294967295 → slice_get js i ≡ Some j → n + i < 2 ^ 32
 stands_below n js i j few at = omega (arith, few, slice_get_within js i j at)
 
 -- ---- the number of a job that starts

@@ -1,5 +1,5 @@
 -- Jobs that are outstanding, messages that wait, and the room for a further job.
-use Rattle.std.specs.Prelude.{ℕ, ◌+◌, ◌%◌, ◌==◌, ◌&&◌, Bool, List, [], ◌∷◌, ◌++◌, length, drop, filter, count_by, nat_lt, Result, Ok, Err, if◌then◌else◌}
+use Rattle.std.specs.Prelude.{ℕ, ◌+◌, ◌%◌, ◌^◌, ◌==◌, ◌&&◌, Bool, List, [], ◌∷◌, ◌++◌, length, drop, filter, count_by, nat_lt, Result, Ok, Err, if◌then◌else◌}
 use Rattle.rdm_params.specs.declared.jobs.message.Message.{Message}
 use Rattle.rdm_params.specs.declared.jobs.work.Work.{Work}
 use Rattle.rdm_params.specs.Jobs.Work.{worker_of}
@@ -35,7 +35,7 @@ given_to worker a = length (jobs_of worker a.accepted)
 -- The number of a worker's next job, from that of its first and how many it was given. Numbers have 32 bits: after the
 -- greatest comes 0.
 unfoldable pub number_after : ℕ → ℕ → ℕ
-number_after first_job given = (first_job + given) % 4294967296
+number_after first_job given = (first_job + given) % 2 ^ 32
 
 -- the job of this number
 abbrev pub numbered : ℕ → Work → Job
