@@ -23,7 +23,7 @@ extern "C" {
 /* Makes a responder as `felosumay_responder_new_with`, in `bytes` bytes of memory that begin at a multiple of 16. The memory is the
  * library's until the handle is freed, or holds another responder, and may hold anything before.
  *
- *     static FELOSUMAY_ALIGNED uint8_t memory[FELOSUMAY_RESPONDER_BYTES(8, 64, 0)];
+ *     FELOSUMAY_ALIGNED static uint8_t memory[FELOSUMAY_RESPONDER_BYTES(8, 64, 0)];
  *
  * UNALIGNED; SHORT_MEMORY, if there are fewer bytes than FELOSUMAY_RESPONDER_BYTES of these sizes and the profile's sub-devices;
  * IN_USE, if a responder lies in some of it; and then as `new_with`, in this order. If it isn't DONE, the handle stays as it was, and

@@ -4,7 +4,7 @@
 
 enum { QUEUE_SIZE = 4, ENTRIES = 8 };
 
-static FELOSUMAY_ALIGNED uint8_t memory[FELOSUMAY_RESPONDER_BYTES(QUEUE_SIZE, ENTRIES, 0)];
+FELOSUMAY_ALIGNED static uint8_t memory[FELOSUMAY_RESPONDER_BYTES(QUEUE_SIZE, ENTRIES, 0)];
 
 /* What the fixture is. It may lie in flash. */
 static const felosumay_profile PROFILE = {

@@ -8,7 +8,7 @@
 
 enum { STACK = 1 << 18, PAINT = 0xA5, MOST_TO_MAKE = 12 * 1024, MOST = 2 * 1024 };
 
-static FELOSUMAY_ALIGNED uint8_t memory[FELOSUMAY_RESPONDER_BYTES(8, 64, 512)], stack[STACK];
+FELOSUMAY_ALIGNED static uint8_t memory[FELOSUMAY_RESPONDER_BYTES(8, 64, 512)], stack[STACK];
 static felosumay_profile profile;
 static felosumay_responder fixture;
 static felosumay_result result;
