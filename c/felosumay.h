@@ -389,8 +389,8 @@ felosumay_result felosumay_collector_hear(felosumay_collector *collector, const 
 felosumay_result felosumay_collector_over(felosumay_collector *collector);
 
 /* Takes the first message that was recorded and not taken yet, and lets go of it. A message may come twice in a row: if the
- * request of a poll was lost, the next poll asks for the last message, which may have been recorded already, and `may_repeat` is
- * 1 of what answers it. ABSENT, NO_MORE, in this order; nothing changes then. */
+ * request of a poll was lost, the next poll asks for the last message, which may have been recorded already. `may_repeat` of what
+ * answers such a poll is 1. ABSENT, NO_MORE, in this order; nothing changes then. */
 felosumay_result felosumay_collector_next(felosumay_collector *collector, felosumay_message *message);
 
 /* Gives up what the handle holds, if anything. The handle is {0} again. `free` takes NULL too, and does nothing then. */

@@ -114,9 +114,8 @@ impl Responder {
     }
 
     /// A responder as of `with_entries`, in which the first job of each worker has the number `first_job`, and each later one
-    /// the next; after 4,294,967,295 comes 0. A report is known by the number of its job: a firmware that begins a second
-    /// responder at other numbers than the first has each report of the first rejected by the second. Those of `new` and
-    /// `with_entries` begin at 0.
+    /// the next; after 4,294,967,295 comes 0. A report is known by its job: if the first number is greater than that of each
+    /// job of the responder before, each report of such a job is astray. Those of `new` and `with_entries` begin at 0.
     ///
     /// The order of the refusals is that of `with_entries`, and no number is refused.
     // Inlined, as `with_entries`.

@@ -70,8 +70,8 @@ pub extern "C" fn felosumay_responder_new(
 
 /// Makes a responder as `felosumay_responder_new` does, with room for `entries` status entries that weren't shown (E1.20
 /// section 10.3.2), at 10 bytes each: for a controller with little memory. While that many wait, a further one is dropped. The
-/// first job of each worker has the number `first_job`, and each later one the next; after 4,294,967,295 comes 0. So firmware
-/// that begins at another number than before has each report of a former responder rejected.
+/// first job of each worker has the number `first_job`, and each later one the next; after 4,294,967,295 comes 0. So if it is
+/// greater than the number of each job of the responder before, each report of such a job is astray.
 ///
 /// It is rejected as `felosumay_responder_new` says, and a number of entries that isn't 1 to 1,024 is a bad size too. No
 /// `first_job` is rejected.
