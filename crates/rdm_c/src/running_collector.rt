@@ -85,9 +85,10 @@ impl RunningCollector {
         ensures heard { result ≡ heard_in self.old.collector bytes.now }
         ensures after { self.new ≡ listened self.old bytes.now }
     {
+        let again = self.asked_again;
         let heard = self.collector.hear(bytes);
         match heard {
-            Heard::Message => self.repeats.push_reserved(self.asked_again),
+            Heard::Message => self.repeats.push_reserved(again),
             Heard::Reply | Heard::Ignored => {}
         }
         heard
