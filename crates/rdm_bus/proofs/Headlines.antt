@@ -54,7 +54,7 @@ once first n rs all few i k r s one two same =
     let at_i = job_of rs i r one in
     let at_k = job_of rs k s two in
     let alike : number_after first (n + i) ≡ number_after first (n + k) =
-        sym (number_at first n i (done_by rs) r.job all at_i) ∙ ap (λ (j : Job). j.number) same ∙ number_at first n k (done_by rs) s.job all at_k in
+    sym (number_at first n i (done_by rs) r.job all at_i) ∙ ap (λ (j : Job). j.number) same ∙ number_at first n k (done_by rs) s.job all at_k in
     omega (
       arith,
       same_number first (n + i) (n + k) (stands_below n (done_by rs) i r.job few at_i) (stands_below n (done_by rs) k s.job few at_k) alike,

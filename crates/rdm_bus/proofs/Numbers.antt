@@ -150,7 +150,7 @@ numbered_more first most b b' None ws g next has =
     }
 numbered_more first most b b' (Some j) ws g next has =
     let number : j.number ≡ number_after first (given_to (worker_of j.work) b) =
-        next.0 ∙ ap (λ n. number_after n (given_to (worker_of j.work) b)) has.first_job in
+    next.0 ∙ ap (λ n. number_after n (given_to (worker_of j.work) b)) has.first_job in
     let below : given_to (worker_of j.work) b < most = subst (λ n. given_to (worker_of j.work) b < n) has.most next.1 in
     record {
       first_job = g.first_job ∙ has.first_job;

@@ -135,10 +135,16 @@ fn numbers_begin_where_they_are_told_to(rt: HostRuntime) -> Result<(), Fail> {
         }
         // Each worker was given as many as it may be, whatever their numbers.
         assert_eq!(rt; number(&mut outbox, LAMP), None, "{first}");
-        assert!(rt; matches!(outbox.oldest(1), Some(job) if job.number == first), "{first}");
+        assert!(rt;
+            matches!(outbox.oldest(1), Some(job) if job.number == first),
+            "{first}"
+        );
         finish(&rt, &mut outbox, 1, 0x1020);
         let next = numbers[1];
-        assert!(rt; matches!(outbox.oldest(1), Some(job) if job.number == next), "{first}");
+        assert!(rt;
+            matches!(outbox.oldest(1), Some(job) if job.number == next),
+            "{first}"
+        );
         assert_eq!(rt; number(&mut outbox, SELF_TEST), None, "{first}");
     }
     Ok(())

@@ -150,8 +150,7 @@ impl Responder {
                 return Err(NewError::BadProfile);
             }
         };
-        let Ok(outbox) =
-            Outbox::new_numbered(alloc, queue_size, MOST_JOBS, entries, first_job)
+        let Ok(outbox) = Outbox::new_numbered(alloc, queue_size, MOST_JOBS, entries, first_job)
         else {
             return Err(NewError::OutOfMemory);
         };

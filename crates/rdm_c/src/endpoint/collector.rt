@@ -88,7 +88,11 @@ pub(crate) fn poll(
 }
 
 /// Sends a poll, as `poll`.
-fn send_poll(collector: &mut RunningCollector, request: &mut [u8; MOST_SLOTS], count: &mut usize) -> Status
+fn send_poll(
+    collector: &mut RunningCollector,
+    request: &mut [u8; MOST_SLOTS],
+    count: &mut usize,
+) -> Status
     ensures busy { (result ≡ Status.Busy) ↔ IsSome collector.old.collector.transaction }
     ensures sent { result ≡ Status.Done → take count.new request.new ≡ frame_text (poll_request collector.old.collector) }
     ensures count { result ≡ Status.Done → count.new ≡ length (frame_text (poll_request collector.old.collector)) }

@@ -10,11 +10,7 @@ use crate::memory::{memory_size, memory_status};
 /// entries, and with so many sub-devices: all its blocks, each rounded up to 16 bytes, and 32 bytes of `felosumay_memory.h`. It
 /// asks a heap for no more.
 #[unsafe(no_mangle)]
-pub extern "C" fn felosumay_responder_size(
-    queue_size: u16,
-    entries: u16,
-    sub_devices: u16,
-) -> usize
+pub extern "C" fn felosumay_responder_size(queue_size: u16, entries: u16, sub_devices: u16) -> usize
     ensures { result ≡ memory_size queue_size entries sub_devices }
 {
     memory_size(queue_size, entries, sub_devices)

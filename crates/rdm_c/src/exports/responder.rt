@@ -99,13 +99,7 @@ pub extern "C" fn felosumay_responder_new_with(
     let uid = Uid { maker, device };
     let profile = profile.profile();
     start(
-        alloc,
-        responder,
-        uid,
-        profile,
-        queue_size,
-        entries,
-        first_job,
+        alloc, responder, uid, profile, queue_size, entries, first_job,
     )
     .code()
 }
@@ -133,16 +127,7 @@ pub extern "C" fn felosumay_responder_demo(
 {
     let uid = Uid { maker, device };
     let profile = Profile::demo(subs);
-    start(
-        alloc,
-        responder,
-        uid,
-        profile,
-        queue_size,
-        MOST_ENTRIES,
-        0,
-    )
-    .code()
+    start(alloc, responder, uid, profile, queue_size, MOST_ENTRIES, 0).code()
 }
 
 /// Hears bytes, and tells of the reply, whose bytes stand at the front of `reply` then, of the job that started, and of what

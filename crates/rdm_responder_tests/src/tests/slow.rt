@@ -216,8 +216,7 @@ fn a_queue_of_255_is_used_up_to_its_end(rt: HostRuntime) -> Result<(), Fail> {
 fn a_report_for_the_responder_before_is_astray(rt: HostRuntime) -> Result<(), Fail> {
     let set = lamp(0)?;
     let outcome = Outcome::Done;
-    let made =
-        |first| Responder::new_numbered(rt.alloc(), DEVICE, Profile::demo(0), 8, 64, first);
+    let made = |first| Responder::new_numbered(rt.alloc(), DEVICE, Profile::demo(0), 8, 64, first);
     let mut former = made(7)?;
     let before = started(&mut former, &set)?;
     assert_eq!(rt; before.number, 7);
