@@ -7,9 +7,9 @@ mod readme;
 mod replies;
 mod words;
 
-use rdm_collector::{Action, Collector, Command, Load, Uid, Want};
+use rdm_collector::{Action, Collector, Command, Load, Uid, Want, Wire};
 use std::alloc::Global;
-use std::fmt::Display;
+use std::fmt::{Debug, Display};
 use std::process::Abort;
 
 const DEVICE: Uid = Uid {
@@ -59,21 +59,27 @@ fn words_for(rt: &impl Abort, alloc: Global, it: &impl Display) -> String {
     format!(in alloc; "{it}").expect(rt, "memory")
 }
 
+/// The bytes that are sent, or why none are.
+fn sent_or_why(rt: &impl Abort, alloc: Global, sent: Result<Wire, impl Display + Drop>) -> String {
+    match sent {
+        Ok(wire) => printed(rt, alloc, wire.as_slice()),
+        Err(refusal) => words_for(rt, alloc, &refusal),
+    }
+}
+
+/// The name of what bytes are taken for.
+fn name_of(rt: &impl Abort, alloc: Global, heard: &impl Debug) -> String {
+    format!(in alloc; "{heard:?}").expect(rt, "memory")
+}
+
 /// What comes of a turn: the bytes that are sent, why none are, or what bytes are taken for.
 fn outcome(rt: &impl Abort, alloc: Global, collector: &mut Collector, turn: &Turn) -> String {
     match *turn {
-        Turn::Ask(action, pid, bytes) => match collector.ask(&command(rt, action, pid, bytes)) {
-            Ok(sent) => printed(rt, alloc, sent.as_slice()),
-            Err(refusal) => words_for(rt, alloc, &refusal),
-        },
-        Turn::Poll => match collector.poll() {
-            Ok(sent) => printed(rt, alloc, sent.as_slice()),
-            Err(refusal) => words_for(rt, alloc, &refusal),
-        },
-        Turn::Hear(text) => {
-            let heard = collector.hear(&bytes_of(rt, alloc, text));
-            format!(in alloc; "{heard:?}").expect(rt, "memory")
+        Turn::Ask(action, pid, bytes) => {
+            sent_or_why(rt, alloc, collector.ask(&command(rt, action, pid, bytes)))
         }
+        Turn::Poll => sent_or_why(rt, alloc, collector.poll()),
+        Turn::Hear(text) => name_of(rt, alloc, &collector.hear(&bytes_of(rt, alloc, text))),
         Turn::Over => {
             collector.over();
             String::new(alloc)

@@ -10,6 +10,7 @@ use Rattle.rdm_collector.specs.AnyDevice.Items.{item_of, same_item, type_code}
 abbrev pub is_part : Response → Bool
 is_part r = type_code r == 0x03
 
+-- The two are of one command class, parameter and sub-device.
 abbrev pub same_parameter : Message → Message → Bool
 same_parameter m n = (m.class == n.class) && (m.pid == n.pid) && (m.sub == n.sub)
 

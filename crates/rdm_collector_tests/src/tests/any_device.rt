@@ -1,6 +1,6 @@
 //! What a collector for any device sends, hears and records, worked out by hand, byte for byte.
 
-use super::{CONTROLLER, DEVICE, Turn, bytes_of, command, printed, words_for};
+use super::{CONTROLLER, DEVICE, Turn, bytes_of, command, name_of, sent_or_why};
 use rdm_collector::{Action, Collected, DeviceCollector, Response, Want, first_message, join_data};
 use std::alloc::Global;
 use std::process::Abort;
@@ -12,18 +12,11 @@ type Told = (Response, u8, u16, &'static [u8], bool);
 /// What comes of a turn: the bytes that are sent, why none are, or what bytes are taken for.
 fn outcome(rt: &impl Abort, alloc: Global, collector: &mut DeviceCollector, turn: &Turn) -> String {
     match *turn {
-        Turn::Ask(action, pid, bytes) => match collector.ask(&command(rt, action, pid, bytes)) {
-            Ok(sent) => printed(rt, alloc, sent.as_slice()),
-            Err(refusal) => words_for(rt, alloc, &refusal),
-        },
-        Turn::Poll => match collector.poll() {
-            Ok(sent) => printed(rt, alloc, sent.as_slice()),
-            Err(refusal) => words_for(rt, alloc, &refusal),
-        },
-        Turn::Hear(text) => {
-            let heard = collector.hear(&bytes_of(rt, alloc, text));
-            format!(in alloc; "{heard:?}").expect(rt, "memory")
+        Turn::Ask(action, pid, bytes) => {
+            sent_or_why(rt, alloc, collector.ask(&command(rt, action, pid, bytes)))
         }
+        Turn::Poll => sent_or_why(rt, alloc, collector.poll()),
+        Turn::Hear(text) => name_of(rt, alloc, &collector.hear(&bytes_of(rt, alloc, text))),
         Turn::Over => {
             collector.over();
             String::new(alloc)
