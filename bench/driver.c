@@ -29,6 +29,7 @@ struct frames {
 
 struct row {
     char name[NAME_BYTES];
+    bool own; /* whether it has parameters of its maker's own */
     uint16_t subs;
     uint8_t reports;
     uint32_t most_rounds; /* 0 where the responder can hear any number of rounds */
@@ -52,7 +53,7 @@ struct tally {
     uint64_t total;
 };
 
-uint8_t rdm_bench_run(uint16_t subs, const uint8_t *preface, size_t preface_length, const uint8_t *packed,
+uint8_t rdm_bench_run(bool own, uint16_t subs, const uint8_t *preface, size_t preface_length, const uint8_t *packed,
                       size_t length, uint32_t rounds, uint8_t reports, struct tally *tally);
 
 /* Hears the preface of a row, and so many rounds of the first bytes of its frames. */
@@ -60,8 +61,8 @@ static struct tally hear(const struct row *row, size_t length, uint32_t rounds)
 {
     static const char *const faults[] = {"", "out of memory", "too many sub-devices", "unknown reports"};
     struct tally tally = {0, 0};
-    uint8_t fault = rdm_bench_run(row->subs, row->preface.packed, row->preface.length, row->round.packed, length,
-                                  rounds, row->reports, &tally);
+    uint8_t fault = rdm_bench_run(row->own, row->subs, row->preface.packed, row->preface.length, row->round.packed,
+                                  length, rounds, row->reports, &tally);
     if (fault != 0) {
         fprintf(stderr, "%s: %s\n", row->name, faults[fault]);
         exit(1);
@@ -347,7 +348,8 @@ enum { NAME, SUBS, REPORTS, ROUNDS, PREFACE, ROUND, COLUMNS };
 static void read_row(struct row *row, char *const *columns, size_t line)
 {
     snprintf(row->name, sizeof row->name, "%s", columns[NAME]);
-    row->subs = (uint16_t)strtoul(columns[SUBS], NULL, 10);
+    row->own = strcmp(columns[SUBS], "own") == 0;
+    row->subs = row->own ? 0 : (uint16_t)strtoul(columns[SUBS], NULL, 10);
     row->reports = reports_code(columns[REPORTS], line);
     row->most_rounds = (uint32_t)strtoul(columns[ROUNDS], NULL, 10);
     row->divided_by = 1;

@@ -5,6 +5,7 @@
  * there the stack below is painted again, so that what is no paint afterwards was touched by hearing frames.
  */
 #include <pthread.h>
+#include <stdbool.h>
 #include <stdint.h>
 #include <stdio.h>
 #include <stdlib.h>
@@ -80,7 +81,7 @@ struct tally {
     uint64_t total;
 };
 
-uint8_t rdm_bench_run(uint16_t subs, const uint8_t *preface, size_t preface_length, const uint8_t *packed,
+uint8_t rdm_bench_run(bool own, uint16_t subs, const uint8_t *preface, size_t preface_length, const uint8_t *packed,
                       size_t length, uint32_t rounds, uint8_t reports, struct tally *tally);
 
 uint8_t rdm_bench_make(uint16_t queue_size, uint16_t entries);
@@ -126,7 +127,7 @@ static void *play(void *unused)
     struct tally tally;
     caller = __builtin_frame_address(0);
     is_counted = 1;
-    uint8_t fault = rdm_bench_run(run.subs, run.packed, 0, run.packed, run.length, run.rounds, 1, &tally);
+    uint8_t fault = rdm_bench_run(false, run.subs, run.packed, 0, run.packed, run.length, run.rounds, 1, &tally);
     is_counted = 0;
     if (fault != 0)
         exit(1);

@@ -68,13 +68,12 @@ static int is_same(const felosumay_message *one, const felosumay_message *other)
            one->count == other->count && memcmp(one->bytes, other->bytes, one->count) == 0;
 }
 
-/* The request of the second poll is lost, though the first was answered. The third asks for the last message again, by slot 24,
- * and gets the one that the console has: if a message is equal to the one before it, and was asked for again, it is most
- * likely the same. */
+/* The request of the second poll is lost, though the first was answered. The third asks for the last message again, and gets the one
+ * that the console has: if a message is equal to the one before it, and has the flag, it is most likely the same. */
 static felosumay_result repeat(felosumay_collector *console, felosumay_responder *device) {
     uint8_t request[FELOSUMAY_FRAME_BYTES];
     felosumay_job job = {0, 0, 0, 0, 0, 0, 0};
-    felosumay_message message, last = {0, 0, 0, 0, {0}};
+    felosumay_message message, last = {0, 0, 0, 0, 0, {0}};
     size_t count = 0;
     printf("start 7: %u\n", felosumay_responder_change_start(device, 7));
     for (int round = 0; round < 3; round++) {
@@ -87,7 +86,7 @@ static felosumay_result repeat(felosumay_collector *console, felosumay_responder
             exchange(console, device, request, count, 0, &job);
         if (felosumay_collector_next(console, &message) != FELOSUMAY_DONE)
             continue;
-        printf("PID %04X%s\n", message.pid, request[24] == 0x01 && is_same(&message, &last) ? ", again" : "");
+        printf("PID %04X%s\n", message.pid, message.may_repeat && is_same(&message, &last) ? ", again" : "");
         last = message;
     }
     return FELOSUMAY_DONE;

@@ -1,12 +1,13 @@
-/* The edges of the calls: names of what is defined and what isn't, responses of each type, and NULL where no byte is read. */
+/* The edges of the calls: names of what is defined and what isn't, responses of each type, NULL where no byte is read, and
+ * parameters of the maker's own that are none. */
 #include "felosumay.h"
 #include "felosumay_names.h"
 #include <stdio.h>
 #include <string.h>
 
 static void names(void) {
-    printf("%s, %s, %s\n", felosumay_status_name(FELOSUMAY_DONE), felosumay_status_name(FELOSUMAY_NO_REPLY),
-           felosumay_status_name(FELOSUMAY_NO_REPLY + 1));
+    printf("%s, %s, %s\n", felosumay_status_name(FELOSUMAY_DONE), felosumay_status_name(FELOSUMAY_SHORT_MEMORY),
+           felosumay_status_name(FELOSUMAY_SHORT_MEMORY + 1));
     printf("%s, %s, %s\n", felosumay_parameter_name(FELOSUMAY_PID_DISC_UNIQUE_BRANCH),
            felosumay_parameter_name(FELOSUMAY_PID_SUB_DEVICE_STATUS_REPORT_THRESHOLD), felosumay_parameter_name(0x8001));
     printf("%s, %s, %s\n", felosumay_reason_name(FELOSUMAY_NR_UNKNOWN_PID), felosumay_reason_name(FELOSUMAY_NR_PROXY_BUFFER_FULL),
@@ -62,17 +63,22 @@ static felosumay_result nothing(void) {
     const felosumay_command identify = {1, 0x7FF0, 0, FELOSUMAY_PID_IDENTIFY_DEVICE, FELOSUMAY_GET};
     felosumay_responder fixture = {0};
     felosumay_collector console = {0};
+    felosumay_device_collector any = {0};
     felosumay_search search = {0};
     felosumay_stepped stepped;
+    felosumay_heard taken;
     uint8_t frame[FELOSUMAY_FRAME_BYTES], value[FELOSUMAY_VALUE_BYTES], heard = 9;
     size_t count = 0;
     uint16_t reason = 0;
     felosumay_responder_free(NULL);
     felosumay_collector_free(NULL);
+    felosumay_device_collector_free(NULL);
     felosumay_search_free(NULL);
     felosumay_result result = felosumay_responder_demo(&fixture, 0x7FF0, 1, 0, 8);
     if (result == FELOSUMAY_DONE)
         result = felosumay_collector_new(&console, 0x7FF0, 2, 0x7FF0, 1, FELOSUMAY_STATUS_ADVISORY);
+    if (result == FELOSUMAY_DONE)
+        result = felosumay_device_collector_new(&any, 0x7FF0, 2, 0x7FF0, 1, FELOSUMAY_STATUS_ADVISORY);
     if (result == FELOSUMAY_DONE)
         result = felosumay_search_new(&search, 0x7FF0, 2, 76);
     if (result == FELOSUMAY_DONE) {
@@ -84,18 +90,112 @@ static felosumay_result nothing(void) {
         printf(", restore %u", felosumay_responder_restore(&fixture, NULL, 0));
         printf(", ask %u", felosumay_collector_ask(&console, &identify, NULL, 0, frame, &count));
         printf(", hear %u", felosumay_collector_hear(&console, NULL, 0, &heard));
+        printf(", any device's ask %u", felosumay_device_collector_ask(&any, &identify, NULL, 0, frame, &count));
+        printf(", hear %u", felosumay_device_collector_hear(&any, NULL, 0, &taken));
         printf(", search hears %u\n", felosumay_search_hear(&search, NULL, 0));
     }
     felosumay_search_free(&search);
+    felosumay_device_collector_free(&any);
     felosumay_collector_free(&console);
     felosumay_responder_free(&fixture);
     return result;
+}
+
+static felosumay_parameter parameters[17];
+static felosumay_profile profile;
+
+/* A good profile, with two bytes of 1 to 9 as its own parameters, and 15 more that it doesn't count. */
+static void begin(void) {
+    const felosumay_parameter number = {1, 9, 0x8000, FELOSUMAY_DS_UNSIGNED_BYTE, FELOSUMAY_CC_GET_SET, 0, 0, 0, 1,
+                                        {1, {5}}, FELOSUMAY_TEXT("Number")};
+    memset(&profile, 0, sizeof profile);
+    profile.root.personality_count = profile.sub.personality_count = 1;
+    profile.root.start = profile.sub.start = 1;
+    profile.language_count = 1;
+    for (uint16_t i = 0; i < 17; i++) {
+        parameters[i] = number;
+        parameters[i].pid = (uint16_t)(0x8000 + i);
+    }
+    profile.parameters = parameters;
+    profile.parameter_count = 2;
+}
+
+/* Which rule is broken, and what `new` says of it; then all is good again. */
+static void judge(const char *what) {
+    felosumay_responder fixture = {0};
+    uint8_t fault = felosumay_profile_fault(&profile);
+    printf("%s: fault %u", what, fault);
+    if (fault != FELOSUMAY_NO_FAULT)
+        printf(", %s", felosumay_status_name(felosumay_responder_new(&fixture, 0x7FF0, 1, &profile, 8)));
+    printf("\n");
+    felosumay_responder_free(&fixture);
+    begin();
+}
+
+static void own_parameters(void) {
+    begin();
+    judge("two numbers");
+    profile.parameters = NULL;
+    profile.parameter_count = 0;
+    judge("NULL");
+    profile.parameter_count = 17;
+    judge("17 of them");
+    parameters[1].pid = 0xFFE0;
+    judge("PID FFE0");
+    parameters[1].pid = FELOSUMAY_PID_DEVICE_LABEL;
+    judge("a PID of the table");
+    parameters[1].pid = 0x8000;
+    judge("a PID twice");
+    parameters[1].high = 0;
+    judge("upside down");
+    parameters[1].high = 256;
+    judge("256 in a byte");
+    parameters[1].low = -1;
+    judge("-1 in a byte without sign");
+    parameters[1].kind = 0x09;
+    judge("no type");
+    parameters[1].commands = 0;
+    judge("no commands");
+    parameters[1].kind = FELOSUMAY_DS_BIT_FIELD;
+    parameters[1].size = 33;
+    judge("33 slots of bits");
+    parameters[1].start.bytes[0] = 10;
+    judge("10 to start with, of 1 to 9");
+    parameters[1].start.count = 2;
+    judge("two bytes to start with, of one");
+    parameters[0].pid = 0x8002;
+    judge("a greater PID first");
+}
+
+/* Parameters of the standard that are left out. */
+static void left_out(void) {
+    static const uint16_t required[1] = {FELOSUMAY_PID_DEVICE_INFO}, needed[1] = {FELOSUMAY_PID_LANGUAGE_CAPABILITIES};
+    static uint16_t many[37];
+    for (size_t i = 0; i < 37; i++)
+        many[i] = FELOSUMAY_PID_LAMP_STATE;
+    profile.without = required;
+    profile.without_count = 1;
+    judge("without DEVICE_INFO");
+    profile.without = needed;
+    profile.without_count = 1;
+    judge("without the languages of LANGUAGE");
+    profile.without = many;
+    profile.without_count = 36;
+    judge("36 left out");
+    profile.without = many;
+    profile.without_count = 37;
+    judge("37 left out");
+    profile.without = NULL;
+    profile.without_count = 0;
+    judge("NULL");
 }
 
 int main(void) {
     felosumay_result result = nothing();
     names();
     replies();
+    own_parameters();
+    left_out();
     if (result != FELOSUMAY_DONE)
         printf("status %u\n", result);
     return result;

@@ -29,6 +29,7 @@ extern "C" {
 
 typedef struct { void *at; } felosumay_responder;
 typedef struct { void *at; } felosumay_collector;
+typedef struct { void *at; } felosumay_device_collector;
 typedef struct { void *at; } felosumay_search;
 
 /* What became of a call. */
@@ -58,7 +59,10 @@ enum {
     FELOSUMAY_IMAGE_LENGTH = 21, /* the image has another length than one of these values: it is cut, or of other devices */
     FELOSUMAY_ALTERED_IMAGE = 22, /* the image is altered, or it is none */
     FELOSUMAY_FOREIGN_IMAGE = 23, /* the image is of another profile */
-    FELOSUMAY_NO_REPLY = 24       /* the bytes aren't a response */
+    FELOSUMAY_NO_REPLY = 24,      /* the bytes aren't a response */
+    FELOSUMAY_IN_USE = 25,        /* another responder lies in the memory */
+    FELOSUMAY_UNALIGNED = 26,     /* the memory doesn't begin at a multiple of 16 */
+    FELOSUMAY_SHORT_MEMORY = 27   /* there is too little memory for the responder */
 };
 
 enum {
@@ -80,7 +84,7 @@ typedef struct {
 #define FELOSUMAY_TEXT(letters) { sizeof(letters) - 1, letters }
 
 typedef struct {
-    uint16_t footprint; /* how many DMX512 slots it takes: of the root at most slot_count, of sub-devices at most 512 */
+    uint16_t footprint; /* how many DMX512 slots it takes: of the root at most slot_count and more_slots together; at most 512 */
     felosumay_text name;
 } felosumay_personality;
 
@@ -115,6 +119,36 @@ typedef struct {
     felosumay_text text;
 } felosumay_status_text;
 
+/* Data types (table A-15), and the commands of a parameter (table A-16). */
+enum {
+    FELOSUMAY_DS_NOT_DEFINED = 0x00, /* slots of a form that is told elsewhere */
+    FELOSUMAY_DS_BIT_FIELD = 0x01,
+    FELOSUMAY_DS_ASCII = 0x02, /* a text of at most 32 bytes */
+    FELOSUMAY_DS_UNSIGNED_BYTE = 0x03,
+    FELOSUMAY_DS_SIGNED_BYTE = 0x04,
+    FELOSUMAY_DS_UNSIGNED_WORD = 0x05,
+    FELOSUMAY_DS_SIGNED_WORD = 0x06,
+    FELOSUMAY_DS_UNSIGNED_DWORD = 0x07,
+    FELOSUMAY_DS_SIGNED_DWORD = 0x08
+};
+enum { FELOSUMAY_CC_GET = 0x01, FELOSUMAY_CC_SET = 0x02, FELOSUMAY_CC_GET_SET = 0x03 };
+
+/* A parameter of the maker's own, which the root has (section 10.4.2). PARAMETER_DESCRIPTION tells all but `resets` of those of
+ * 0x8000 to 0xFFDF. Its values are in `unit`, times what `prefix` stands for. */
+typedef struct {
+    int64_t low; /* the least and the greatest number that it takes: numbers of its type, or of other data without meaning */
+    int64_t high;
+    uint16_t pid;     /* 0x8000 to 0xFFDF, or 0x0070, 0x0340, 0x0341, 0x0342 or 0x1040 of the standards; no two alike */
+    uint8_t kind;     /* the type of its data, FELOSUMAY_DS_.. */
+    uint8_t commands; /* FELOSUMAY_CC_.. */
+    uint8_t size;     /* how many slots a bit field or data of no defined type have: 0 to 32; of other types without meaning */
+    uint8_t unit;     /* FELOSUMAY_UNITS_.. */
+    uint8_t prefix;   /* FELOSUMAY_PREFIX_.. */
+    uint8_t resets;   /* 1 if FACTORY_DEFAULTS sets it back, as a setting; 0 if it doesn't, as of a counter */
+    felosumay_text start; /* what it starts with: the data of a SET, in its range, the most significant byte first */
+    felosumay_text name;
+} felosumay_parameter;
+
 typedef struct {
     uint32_t software; /* the software version ID: any number */
     uint16_t model;    /* the model ID: any number of the maker's */
@@ -145,6 +179,12 @@ typedef struct {
     felosumay_sensor sensors[8];
     felosumay_self_test tests[8];
     felosumay_status_text status_texts[8];
+    uint16_t more_slots; /* how many DMX512 slots the root has beside those of `slots`, which nothing describes: 0 to 512 */
+    /* What lies outside: `new` reads it once, and it may be NULL if there is none. */
+    const felosumay_parameter *parameters; /* the maker's own, by ascending PID */
+    size_t parameter_count;                /* 0 to 16 */
+    const uint16_t *without;               /* the PIDs of those of docs/PARAMETERS.md that the fixture hasn't, in any order */
+    size_t without_count;                  /* 0 to 36 */
 } felosumay_profile;
 
 /* The rules of a profile, in the order in which they are tested. BAD_PROFILE says that one of them is broken. */
@@ -154,12 +194,19 @@ enum {
     FELOSUMAY_FAULT_PRESETS = 2,       /* presets is below 65535 */
     FELOSUMAY_FAULT_PERSONALITIES = 3, /* root and sub have at least one personality each, even if there are no sub-devices */
     FELOSUMAY_FAULT_START = 4,         /* the start address of root and of sub is 1 to 512, even if there are no sub-devices */
-    FELOSUMAY_FAULT_FOOTPRINT = 5,     /* the footprint of each personality of root is at most slot_count, and so at most 46 */
+    FELOSUMAY_FAULT_FOOTPRINT = 5,     /* that of each personality of root is at most slot_count + more_slots, and at most 512 */
     FELOSUMAY_FAULT_SUB_FOOTPRINT = 6, /* the footprint of each personality of sub is at most 512 */
     FELOSUMAY_FAULT_LANGUAGES = 7,     /* there is a language */
     FELOSUMAY_FAULT_TEST_NUMBER = 8,   /* the number of each self test is 1 to 254 */
     FELOSUMAY_FAULT_TWIN_TESTS = 9,    /* no two self tests have the same number */
-    FELOSUMAY_FAULT_TWIN_TEXTS = 10    /* no two status texts have the same ID */
+    FELOSUMAY_FAULT_TWIN_TEXTS = 10,   /* no two status texts have the same ID */
+    FELOSUMAY_FAULT_LEFT_OUT = 11, /* without_count is at most 36, and each of `without` is a parameter that a device may lack */
+    FELOSUMAY_FAULT_LEFT_OUT_NEEDED = 12,   /* whoever leaves out a parameter leaves out those that need it */
+    FELOSUMAY_FAULT_PARAMETER_COUNT = 13,   /* parameter_count is at most 16 */
+    FELOSUMAY_FAULT_PARAMETER_PID = 14,     /* each has a PID that is free for it, and no two the same */
+    FELOSUMAY_FAULT_PARAMETER_LIMITS = 15,  /* kind and commands are of those above; size is at most 32; low and high fit, in order */
+    FELOSUMAY_FAULT_PARAMETER_START = 16,   /* start has as many bytes as the data, and is in range */
+    FELOSUMAY_FAULT_PARAMETER_ORDER = 17    /* their PIDs ascend */
 };
 
 /* Which rule the profile breaks: the first of them, or NO_FAULT, and then `new` doesn't call it a BAD_PROFILE. */
@@ -169,7 +216,7 @@ uint8_t felosumay_profile_fault(const felosumay_profile *profile);
 
 /* A slow command that was accepted. Keep it until it has ended, and hand it back with the outcome. */
 typedef struct {
-    uint32_t number;   /* counts the jobs of its worker, from 0 in each new responder */
+    uint32_t number;   /* counts the jobs of its worker, from the first number of the responder; 0 comes after the greatest */
     uint16_t estimate; /* tenths of a second, as the controller was told */
     uint16_t sub;      /* the sub-device, 1 to 512, or 0 for the root */
     uint16_t pid;
@@ -214,15 +261,33 @@ enum {
 /* Makes a responder of this profile, or the demonstration fixture with N sub-devices (`subs`), and replaces what the handle
  * held. `queue_size` is how many messages and jobs it has room for, 1 to 1,024, at 272 bytes each; `entries` how many status
  * entries wait at most to be shown, 1 to 1,024, at 10 bytes each: 1,024 if no number is passed. If it isn't DONE, the handle
- * stays as it was. BAD_UID, BAD_SIZE, BAD_PROFILE, OUT_OF_MEMORY, in this order. The new responder counts its jobs from 0
- * again: end the jobs of the old one first, or drop their reports. */
+ * stays as it was. BAD_UID, BAD_SIZE, BAD_PROFILE, OUT_OF_MEMORY, in this order.
+ *
+ * `first_job` is the number of each worker's first job: 0 if no number is passed. A report is known by the numbers of its job, so
+ * if a worker may still report a job of the responder before, pass a number that no job of it had: the greatest `number` that
+ * came, plus 1. A responder accepts at most 4,294,967,295 jobs for each worker, so that no two have the same number. */
 felosumay_result felosumay_responder_new(felosumay_responder *responder, uint16_t maker, uint32_t device,
                                          const felosumay_profile *profile, uint16_t queue_size);
-felosumay_result felosumay_responder_new_with_entries(felosumay_responder *responder, uint16_t maker, uint32_t device,
-                                                      const felosumay_profile *profile, uint16_t queue_size,
-                                                      uint16_t entries);
+felosumay_result felosumay_responder_new_with(felosumay_responder *responder, uint16_t maker, uint32_t device,
+                                              const felosumay_profile *profile, uint16_t queue_size, uint16_t entries,
+                                              uint32_t first_job);
 felosumay_result felosumay_responder_demo(felosumay_responder *responder, uint16_t maker, uint32_t device, uint16_t subs,
                                           uint16_t queue_size);
+
+/* How many bytes of memory a responder takes with room for so many messages and jobs and status entries, and with so many
+ * sub-devices, each block rounded up to 16 bytes: `new` asks the heap for no more, and no later call asks it for any.
+ * FELOSUMAY_RESPONDER_BYTES is the same as a constant, for the size of an array. A profile with parameters of the maker's own takes
+ * up to FELOSUMAY_OWN_PARAMETERS_BYTES more. `fits` says whether a responder of this size has
+ * room in so many bytes of memory from this address on, as felosumay_memory.h makes one: UNALIGNED, SHORT_MEMORY, in this order.
+ * Any sizes are reckoned with, and it is `new` that calls one a BAD_SIZE. */
+size_t felosumay_responder_size(uint16_t queue_size, uint16_t entries, uint16_t sub_devices);
+felosumay_result felosumay_responder_fits(uintptr_t address, size_t bytes, uint16_t queue_size, uint16_t entries,
+                                          uint16_t sub_devices);
+#define FELOSUMAY_ROUNDED(bytes) (((size_t)(bytes) + 15) / 16 * 16)
+#define FELOSUMAY_OWN_PARAMETERS_BYTES ((size_t)3280)
+#define FELOSUMAY_RESPONDER_BYTES(queue_size, entries, sub_devices)                                                             \
+    (FELOSUMAY_ROUNDED(5968) + FELOSUMAY_ROUNDED(64 * (size_t)(sub_devices)) + 2 * FELOSUMAY_ROUNDED(12 * (size_t)(queue_size)) + \
+     FELOSUMAY_ROUNDED(248 * (size_t)(queue_size)) + FELOSUMAY_ROUNDED(10 * (size_t)(entries)))
 
 /* Hears bytes. If there is a reply, it stands at the front of `reply`; the answer to discovery is a reply like any other,
  * and has no break before it. What stands behind the reply has no meaning. ABSENT: `replied`, `started` and
@@ -232,7 +297,7 @@ felosumay_result felosumay_responder_step(felosumay_responder *responder, const 
 
 /* Takes the report of a job. `kept` is 1 if it left a status entry that is kept, else 0. UNKNOWN, ABSENT, ASTRAY, in this
  * order; nothing changes then. A job is known by its numbers alone: that of another responder, or of the one that the handle
- * held before, isn't told from one of this responder that has the same numbers. */
+ * held before, isn't told from one of this responder that has the same numbers (`first_job`). */
 felosumay_result felosumay_responder_arrive(felosumay_responder *responder, const felosumay_job *job,
                                             const felosumay_outcome *outcome, uint8_t *kept);
 
@@ -310,6 +375,7 @@ typedef struct {
     uint16_t pid;
     uint16_t sub;          /* the sub-device, 1 to 512, or 0 for the root */
     uint8_t command_class; /* that of the response: 0x21 of a GET, 0x31 of a SET */
+    uint8_t may_repeat;    /* 1 if it was asked for again, so that it may be the message before it once more; else 0 */
     uint8_t bytes[FELOSUMAY_VALUE_BYTES];
 } felosumay_message;
 
@@ -360,7 +426,7 @@ felosumay_result felosumay_collector_poll(felosumay_collector *collector, uint8_
                                           size_t *count);
 
 /* Hears bytes, and says what they are taken for. Discovery's answers aren't frames, and are ignored; so is an answer to a poll
- * that isn't ACK. ABSENT. */
+ * that isn't ACK, which a `felosumay_device_collector` takes. ABSENT. */
 felosumay_result felosumay_collector_hear(felosumay_collector *collector, const uint8_t *bytes, size_t length,
                                           uint8_t *heard);
 
@@ -369,8 +435,8 @@ felosumay_result felosumay_collector_hear(felosumay_collector *collector, const 
 felosumay_result felosumay_collector_over(felosumay_collector *collector);
 
 /* Takes the first message that was recorded and not taken yet, and lets go of it. A message may come twice in a row: if the
- * request of a poll was lost, the next poll asks for the last message, which may have been recorded already. ABSENT, NO_MORE,
- * in this order. */
+ * request of a poll was lost, the next poll asks for the last message, which may have been recorded already. `may_repeat` of what
+ * answers such a poll is 1. ABSENT, NO_MORE, in this order; nothing changes then. */
 felosumay_result felosumay_collector_next(felosumay_collector *collector, felosumay_message *message);
 
 /* Gives up what the handle holds, if anything. The handle is {0} again. `free` takes NULL too, and does nothing then. */
@@ -378,6 +444,63 @@ void felosumay_collector_release(felosumay_collector *collector);
 static inline void felosumay_collector_free(felosumay_collector *collector) {
     if (collector != NULL)
         felosumay_collector_release(collector);
+}
+
+/* ---- the collector for any device: it takes whatever a device answers a poll by, where a `felosumay_collector` takes ACK alone */
+
+/* A message, or a part of one (E1.20 section 10.3.1). */
+typedef struct {
+    size_t count; /* how many bytes of data it has: 0 to 231 */
+    uint16_t pid;
+    uint16_t sub;    /* the sub-device, 1 to 512, or 0 for the root */
+    uint16_t reason; /* of a NACK_REASON why an earlier command was rejected, FELOSUMAY_NR_..; else 0 */
+    uint16_t tenths; /* of an ACK_TIMER in how many tenths of a second a result is there; else 0 */
+    uint8_t type;    /* FELOSUMAY_ACK and so on; FELOSUMAY_ACK_OVERFLOW says that it is a part, and that more of it follows */
+    uint8_t command_class; /* that of the response: 0x21 of a GET, 0x31 of a SET */
+    uint8_t may_repeat;    /* 1 if it was asked for again, so that it may be what came before it once more; else 0 */
+    uint8_t bytes[FELOSUMAY_VALUE_BYTES];
+} felosumay_collected;
+
+/* What such a collector takes bytes for: IGNORED, MESSAGE and REPLY as a `felosumay_collector` does, and besides these: */
+enum {
+    FELOSUMAY_PART = 3,         /* a part of a message (ACK_OVERFLOW): the next polls fetch the others (section 6.3.2) */
+    FELOSUMAY_UNSUPPORTED = 4,  /* the device has no queue: it knows no QUEUED_MESSAGE (section 6.3.4) */
+    FELOSUMAY_POLL_REFUSED = 5, /* the device rejects the poll for another reason; the next poll goes on */
+    FELOSUMAY_NOT_YET = 6       /* the device needs time to answer the poll (section 6.3.3); the next one asks for the same */
+};
+
+typedef struct {
+    uint16_t reason; /* of POLL_REFUSED, FELOSUMAY_NR_..; else 0 */
+    uint16_t tenths; /* of NOT_YET, in how many tenths of a second to poll again; else 0 */
+    uint8_t kind;    /* FELOSUMAY_IGNORED and so on */
+} felosumay_heard;
+
+/* `new`, `ask`, `poll` and `over` are those of a `felosumay_collector`: they take and answer the same. After NOT_YET, too, the next
+ * poll asks for the last message again if this one did. */
+felosumay_result felosumay_device_collector_new(felosumay_device_collector *collector, uint16_t maker, uint32_t device,
+                                                uint16_t target_maker, uint32_t target_device, uint8_t wants);
+felosumay_result felosumay_device_collector_ask(felosumay_device_collector *collector, const felosumay_command *command,
+                                                const uint8_t *load, size_t length, uint8_t request[FELOSUMAY_FRAME_BYTES],
+                                                size_t *count);
+felosumay_result felosumay_device_collector_poll(felosumay_device_collector *collector, uint8_t request[FELOSUMAY_FRAME_BYTES],
+                                                 size_t *count);
+felosumay_result felosumay_device_collector_over(felosumay_device_collector *collector);
+
+/* Hears bytes, and says what they are taken for: any response in the open transaction answers it. ABSENT. */
+felosumay_result felosumay_device_collector_hear(felosumay_device_collector *collector, const uint8_t *bytes, size_t length,
+                                                 felosumay_heard *heard);
+
+/* Takes the first message, or part of one, that was recorded and not taken yet, and lets go of it. The data of a message in parts
+ * are those of its parts, one behind the other: each of type ACK_OVERFLOW but the last, and all of one command class, PID and
+ * sub-device. One whose `may_repeat` is 1 and that is equal to the one before it is that one again, and left out. ABSENT, NO_MORE,
+ * in this order; nothing changes then. */
+felosumay_result felosumay_device_collector_next(felosumay_device_collector *collector, felosumay_collected *collected);
+
+/* Gives up what the handle holds, if anything. The handle is {0} again. `free` takes NULL too, and does nothing then. */
+void felosumay_device_collector_release(felosumay_device_collector *collector);
+static inline void felosumay_device_collector_free(felosumay_device_collector *collector) {
+    if (collector != NULL)
+        felosumay_device_collector_release(collector);
 }
 
 /* ---- the search for the fixtures of a line */

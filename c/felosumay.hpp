@@ -7,6 +7,7 @@
 #include <array>
 #include <cstddef>
 #include <cstdint>
+#include <iterator>
 #include <string_view>
 #include <type_traits>
 #include <utility>
@@ -61,6 +62,20 @@ inline result read_reply(bytes heard, felosumay_reply &reply) noexcept {
     return felosumay_reply_read(heard.data(), heard.size(), &reply);
 }
 
+// Which rule a profile breaks, FELOSUMAY_FAULT_..: the first of them, or FELOSUMAY_NO_FAULT.
+inline std::uint8_t profile_fault(const felosumay_profile &profile) noexcept { return felosumay_profile_fault(&profile); }
+
+// Lend a profile the parameters of the maker's own, and the PIDs of those that the fixture hasn't: of an array, a std::vector or any
+// other range with data and size, which has to stay as it is until the responder is made.
+template <class Parameters> void lend_parameters(felosumay_profile &profile, const Parameters &parameters) noexcept {
+    profile.parameters = std::data(parameters);
+    profile.parameter_count = std::size(parameters);
+}
+template <class Pids> void lend_without(felosumay_profile &profile, const Pids &without) noexcept {
+    profile.without = std::data(without);
+    profile.without_count = std::size(without);
+}
+
 // A handle of C's that frees what it holds.
 template <class Handle, void (*Release)(Handle *)> class owner {
 public:
@@ -88,8 +103,8 @@ private:
 class responder : public owner<felosumay_responder, felosumay_responder_release> {
 public:
     [[nodiscard]] result make(uid own, const felosumay_profile &profile, std::uint16_t queue_size,
-                              std::uint16_t entries = 1024) noexcept {
-        return felosumay_responder_new_with_entries(get(), own.maker, own.device, &profile, queue_size, entries);
+                              std::uint16_t entries = 1024, std::uint32_t first_job = 0) noexcept {
+        return felosumay_responder_new_with(get(), own.maker, own.device, &profile, queue_size, entries, first_job);
     }
     [[nodiscard]] result demo(uid own, std::uint16_t subs, std::uint16_t queue_size) noexcept {
         return felosumay_responder_demo(get(), own.maker, own.device, subs, queue_size);
@@ -159,6 +174,24 @@ public:
     }
     [[nodiscard]] result over() noexcept { return felosumay_collector_over(get()); }
     [[nodiscard]] result next(felosumay_message &message) noexcept { return felosumay_collector_next(get(), &message); }
+};
+
+class device_collector : public owner<felosumay_device_collector, felosumay_device_collector_release> {
+public:
+    [[nodiscard]] result make(uid own, uid target, std::uint8_t wants) noexcept {
+        return felosumay_device_collector_new(get(), own.maker, own.device, target.maker, target.device, wants);
+    }
+    [[nodiscard]] result ask(const felosumay_command &command, bytes load, frame &request) noexcept {
+        return felosumay_device_collector_ask(get(), &command, load.data(), load.size(), request.room.data(), &request.count);
+    }
+    [[nodiscard]] result poll(frame &request) noexcept {
+        return felosumay_device_collector_poll(get(), request.room.data(), &request.count);
+    }
+    [[nodiscard]] result hear(bytes heard, felosumay_heard &as) noexcept {
+        return felosumay_device_collector_hear(get(), heard.data(), heard.size(), &as);
+    }
+    [[nodiscard]] result over() noexcept { return felosumay_device_collector_over(get()); }
+    [[nodiscard]] result next(felosumay_collected &collected) noexcept { return felosumay_device_collector_next(get(), &collected); }
 };
 
 class search : public owner<felosumay_search, felosumay_search_release> {

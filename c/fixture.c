@@ -26,6 +26,8 @@ static const felosumay_profile PROFILE = {
     {{0x8001, FELOSUMAY_TEXT("Lamp failed to strike")},
      {0x8002, FELOSUMAY_TEXT("Fan %d stands still")},
      {0x8003, FELOSUMAY_TEXT("Overheated: %d degrees C")}},
+    /* no more slots, no parameters of the maker's own, and none that are left out: c/own.c has some */
+    0, NULL, 0, NULL, 0,
 };
 
 static void print_bytes(const char *what, const uint8_t *bytes, size_t count) {
@@ -207,8 +209,8 @@ static void identify(felosumay_collector *bus, felosumay_responder *fixture) {
 static void refuse(felosumay_responder *fixture) {
     printf("a UID of all: %u\n", felosumay_responder_new(fixture, MAKER, 0xFFFFFFFF, &PROFILE, QUEUE_SIZE));
     printf("no queue: %u\n", felosumay_responder_new(fixture, MAKER, FIXTURE, &PROFILE, 0));
-    printf("no entries: %u\n", felosumay_responder_new_with_entries(fixture, MAKER, FIXTURE, &PROFILE, QUEUE_SIZE, 0));
-    printf("1,025 entries: %u\n", felosumay_responder_new_with_entries(fixture, MAKER, FIXTURE, &PROFILE, QUEUE_SIZE, 1025));
+    printf("no entries: %u\n", felosumay_responder_new_with(fixture, MAKER, FIXTURE, &PROFILE, QUEUE_SIZE, 0, 0));
+    printf("1,025 entries: %u\n", felosumay_responder_new_with(fixture, MAKER, FIXTURE, &PROFILE, QUEUE_SIZE, 1025, 0));
     printf("513 cells: %u\n", felosumay_responder_demo(fixture, MAKER, FIXTURE, 513, QUEUE_SIZE));
 }
 
@@ -274,7 +276,7 @@ static felosumay_result play(felosumay_collector *bus, felosumay_responder *fixt
 int main(void) {
     felosumay_responder fixture = {0};
     felosumay_collector bus = {0};
-    felosumay_result status = felosumay_responder_new_with_entries(&fixture, MAKER, FIXTURE, &PROFILE, QUEUE_SIZE, ENTRIES);
+    felosumay_result status = felosumay_responder_new_with(&fixture, MAKER, FIXTURE, &PROFILE, QUEUE_SIZE, ENTRIES, 0);
     size_t waiting = 0;
     uint8_t noted = 9;
     if (status == FELOSUMAY_DONE)

@@ -1,10 +1,11 @@
-/* The ten rules of a profile, as docs/C.md counts them: what each allows at its limit, and what it refuses beyond. It prints
+/* The rules of a profile, as docs/C.md counts them: what each allows at its limit, and what it refuses beyond. It prints
  * what differs, and then ends with status 1. */
 #include "felosumay.h"
 #include <stdio.h>
 #include <string.h>
 
 static felosumay_profile profile;
+static felosumay_parameter parameters[17];
 static int failed;
 
 /* The least profile that keeps the rules. */
@@ -64,6 +65,16 @@ static void footprints(void) {
         profile.root.personalities[0].footprint++;
         expect(5, "a footprint of one slot more", FELOSUMAY_BAD_PROFILE);
     }
+    least()->slot_count = 1;
+    profile.more_slots = 510;
+    profile.root.personalities[0].footprint = 511;
+    expect(5, "a footprint of all slots and those beside them", FELOSUMAY_DONE);
+    profile.root.personalities[0].footprint = 512;
+    expect(5, "a footprint of one slot more", FELOSUMAY_BAD_PROFILE);
+    profile.more_slots = 65535;
+    expect(5, "512 slots of the root", FELOSUMAY_DONE);
+    profile.root.personalities[0].footprint = 513;
+    expect(5, "513 slots of the root", FELOSUMAY_BAD_PROFILE);
     least()->sub.personalities[0].footprint = 512;
     expect(6, "512 slots of a sub-device", FELOSUMAY_DONE);
     profile.sub.personalities[0].footprint = 513;
@@ -88,11 +99,116 @@ static void lists(void) {
     expect(10, "two status texts of one ID", FELOSUMAY_BAD_PROFILE);
 }
 
+/* What may be left out, and what not: docs/PARAMETERS.md has the list. */
+static void left_out(void) {
+    static const uint16_t status[] = {0x0030, 0x0031, 0x0032, 0x0033}, queue[] = {0x0020}, makers[] = {0x8000};
+    least()->without = status;
+    profile.without_count = 4;
+    expect(11, "status entries and all that is told of them", FELOSUMAY_DONE);
+    profile.without_count = 3;
+    expect(12, "status entries, but not their threshold", FELOSUMAY_BAD_PROFILE);
+    profile.without = status + 1;
+    expect(12, "all that is told of status entries, but not these", FELOSUMAY_DONE);
+    profile.without = queue;
+    profile.without_count = 1;
+    expect(11, "QUEUED_MESSAGE", FELOSUMAY_BAD_PROFILE);
+    profile.without = makers;
+    expect(11, "what isn't of the table", FELOSUMAY_BAD_PROFILE);
+}
+
+/* The least profile with so many parameters of the maker's own, each of this type, with this number of slots. */
+static felosumay_parameter *own(size_t count, uint8_t kind, uint8_t slots) {
+    memset(parameters, 0, sizeof parameters);
+    for (uint16_t i = 0; i < 17; i++) {
+        parameters[i].pid = (uint16_t)(0x8000 + i);
+        parameters[i].kind = kind;
+        parameters[i].commands = FELOSUMAY_CC_GET_SET;
+        parameters[i].size = slots;
+        parameters[i].start.count = slots;
+    }
+    least()->parameters = parameters;
+    profile.parameter_count = count;
+    return parameters;
+}
+
+static void own_pids(void) {
+    static const uint16_t lent[] = {0x8000, 0xFFDF, 0x0070, 0x0340, 0x0341, 0x0342, 0x1040},
+                          taken[] = {0x0000, 0x0050, 0x0051, 0x0343, 0x7FFF, 0xFFE0};
+    own(16, FELOSUMAY_DS_UNSIGNED_BYTE, 1);
+    expect(13, "16 of them", FELOSUMAY_DONE);
+    profile.parameter_count = 17;
+    expect(13, "17 of them", FELOSUMAY_BAD_PROFILE);
+    own(1, FELOSUMAY_DS_UNSIGNED_BYTE, 1);
+    for (size_t i = 0; i < sizeof lent / sizeof *lent; i++) {
+        parameters[0].pid = lent[i];
+        expect(14, "a PID that is free", FELOSUMAY_DONE);
+    }
+    for (size_t i = 0; i < sizeof taken / sizeof *taken; i++) {
+        parameters[0].pid = taken[i];
+        expect(14, "a PID that isn't", FELOSUMAY_BAD_PROFILE);
+    }
+    own(2, FELOSUMAY_DS_UNSIGNED_BYTE, 1)[1].pid = 0x8000;
+    expect(14, "a PID twice", FELOSUMAY_BAD_PROFILE);
+    own(2, FELOSUMAY_DS_UNSIGNED_BYTE, 1)[0].pid = 0x8002;
+    expect(17, "a greater PID first", FELOSUMAY_BAD_PROFILE);
+}
+
+/* The least and the greatest number of a type, and beyond. */
+static void limits(uint8_t kind, uint8_t slots, int64_t low, int64_t high) {
+    felosumay_parameter *number = own(1, kind, slots);
+    number->low = low;
+    number->high = high;
+    expect(15, "all numbers of the type", FELOSUMAY_DONE);
+    number->high = high + 1;
+    expect(15, "a greater number", FELOSUMAY_BAD_PROFILE);
+    number->high = high;
+    number->low = low - 1;
+    expect(15, "a lesser number", FELOSUMAY_BAD_PROFILE);
+    number->low = number->high = 0;
+    expect(15, "one number", FELOSUMAY_DONE);
+    number->low = 1;
+    expect(15, "no number", FELOSUMAY_BAD_PROFILE);
+    number->high = 1;
+    expect(16, "0 to start with, of 1 to 1", FELOSUMAY_BAD_PROFILE);
+    number->start.bytes[slots - 1] = 1;
+    expect(16, "1 to start with", FELOSUMAY_DONE);
+    number->start.count = (uint8_t)(slots + 1);
+    expect(16, "a slot more to start with", FELOSUMAY_BAD_PROFILE);
+}
+
+static void own_data(void) {
+    limits(FELOSUMAY_DS_UNSIGNED_BYTE, 1, 0, 255);
+    limits(FELOSUMAY_DS_SIGNED_BYTE, 1, -128, 127);
+    limits(FELOSUMAY_DS_UNSIGNED_WORD, 2, 0, 65535);
+    limits(FELOSUMAY_DS_SIGNED_WORD, 2, -32768, 32767);
+    limits(FELOSUMAY_DS_UNSIGNED_DWORD, 4, 0, 4294967295);
+    limits(FELOSUMAY_DS_SIGNED_DWORD, 4, -2147483648LL, 2147483647);
+    for (uint8_t kind = FELOSUMAY_DS_NOT_DEFINED; kind <= FELOSUMAY_DS_ASCII; kind++) {
+        own(1, kind, 32)->low = 1;
+        expect(15, "32 slots", FELOSUMAY_DONE);
+        own(1, kind, 0);
+        expect(15, "no slots", FELOSUMAY_DONE);
+    }
+    own(1, FELOSUMAY_DS_BIT_FIELD, 33);
+    expect(15, "33 slots of bits", FELOSUMAY_BAD_PROFILE);
+    own(1, FELOSUMAY_DS_BIT_FIELD, 2)->start.count = 1;
+    expect(16, "a slot to start with, of two", FELOSUMAY_BAD_PROFILE);
+    own(1, FELOSUMAY_DS_SIGNED_DWORD + 1, 1);
+    expect(15, "no type", FELOSUMAY_BAD_PROFILE);
+    own(1, FELOSUMAY_DS_UNSIGNED_BYTE, 1)->commands = 0;
+    expect(15, "no commands", FELOSUMAY_BAD_PROFILE);
+    parameters[0].commands = 4;
+    expect(15, "other commands", FELOSUMAY_BAD_PROFILE);
+}
+
 int main(void) {
     numbers();
     unit(&profile.root, "the root");
     unit(&profile.sub, "the sub-devices");
     footprints();
     lists();
+    left_out();
+    own_pids();
+    own_data();
     return failed;
 }

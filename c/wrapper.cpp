@@ -1,4 +1,5 @@
-// A fixture and a console in C++, by felosumay.hpp: a search finds the fixture, a command is rejected, a lamp is struck, and handles move.
+// A fixture and a console in C++, by felosumay.hpp: a search finds the fixture, a command is rejected, a lamp is struck, and handles move;
+// and a fixture with a parameter of its maker's own.
 #include "felosumay.hpp"
 #include "felosumay_names.h"
 #include <cstdio>
@@ -42,6 +43,37 @@ felosumay_reply set(felosumay::collector &console, felosumay::responder &fixture
     return reply;
 }
 
+// The least fixture, of which the maker adds the mode of a fan, and which has no lamp.
+int add_parameter() {
+    std::vector<felosumay_parameter> parameters(1);
+    parameters[0].pid = 0x8000;
+    parameters[0].kind = FELOSUMAY_DS_UNSIGNED_BYTE;
+    parameters[0].commands = FELOSUMAY_CC_GET_SET;
+    parameters[0].high = 2;
+    parameters[0].start.count = 1;
+    const std::uint16_t without[] = {FELOSUMAY_PID_LAMP_STATE};
+    felosumay_profile profile{};
+    profile.root.personality_count = profile.sub.personality_count = 1;
+    profile.root.start = profile.sub.start = 1;
+    profile.language_count = 1;
+    felosumay::lend_parameters(profile, parameters);
+    felosumay::lend_without(profile, without);
+
+    felosumay::responder fixture;
+    felosumay::value value;
+    std::uint16_t reason = 0;
+    const std::uint8_t fast[] = {2};
+    if (felosumay::profile_fault(profile) != FELOSUMAY_NO_FAULT || fixture.make(FIXTURE, profile, 8) != FELOSUMAY_DONE ||
+        fixture.place(0, 0x8000, fast) != FELOSUMAY_DONE || fixture.get_value(0, 0x8000, {}, value, reason) != FELOSUMAY_DONE)
+        return 1;
+    std::printf("fan mode %u\n", value.room[0]);
+    const felosumay::result lamp = fixture.get_value(0, FELOSUMAY_PID_LAMP_STATE, {}, value, reason);
+    std::printf("no lamp: %s, %s\n", felosumay::status_name(lamp).data(), felosumay::reason_name(reason).data());
+    parameters[0].high = -1;
+    std::printf("upside down: fault %u\n", felosumay::profile_fault(profile));
+    return 0;
+}
+
 } // namespace
 
 int main() {
@@ -80,5 +112,5 @@ int main() {
     std::printf("lamp %u\n", value.room[0]);
     const felosumay::result refused = fixture.get_value(0, FELOSUMAY_PID_SENSOR_DEFINITION, far, value, reason);
     std::printf("no such sensor: %s, %s\n", felosumay::status_name(refused).data(), felosumay::reason_name(reason).data());
-    return 0;
+    return add_parameter();
 }

@@ -3,7 +3,7 @@ _felosumay() {
     local word=${COMP_WORDS[COMP_CWORD]} before=${COMP_WORDS[COMP_CWORD-1]}
     COMPREPLY=()
     if [ "$COMP_CWORD" = 1 ]; then
-        mapfile -t COMPREPLY < <(compgen -W 'play words chart fixture parameters widget help -h --help -V --version' -- "$word")
+        mapfile -t COMPREPLY < <(compgen -W 'play words chart fixture parameters widget line help -h --help -V --version' -- "$word")
         return
     fi
     case ${COMP_WORDS[1]}:$before in
@@ -19,9 +19,14 @@ _felosumay() {
         widget:--subs) :; return ;;
         widget:--speed) :; return ;;
         widget:--saved) mapfile -t COMPREPLY < <(compgen -f -- "$word"); return ;;
+        line:--port) mapfile -t COMPREPLY < <(compgen -f -- "$word"); return ;;
+        line:--limit) :; return ;;
+        line:--trace) mapfile -t COMPREPLY < <(compgen -f -- "$word"); return ;;
+        line:--sub) :; return ;;
+        line:--uid) :; return ;;
     esac
     case ${COMP_WORDS[1]} in
-        help) mapfile -t COMPREPLY < <(compgen -W 'play words chart fixture parameters widget' -- "$word") ;;
+        help) mapfile -t COMPREPLY < <(compgen -W 'play words chart fixture parameters widget line' -- "$word") ;;
         play)
             case $word in
                 -*) mapfile -t COMPREPLY < <(compgen -W '--fixture --words --chart -h --help -V --version' -- "$word") ;;
@@ -51,6 +56,20 @@ _felosumay() {
             case $word in
                 -*) mapfile -t COMPREPLY < <(compgen -W '--fixture --count --collision --subs --speed --saved -h --help -V --version' -- "$word") ;;
                 *) : ;;
+            esac ;;
+        line)
+            case $word in
+                -*) mapfile -t COMPREPLY < <(compgen -W '--port --limit --trace -h --help -V --version --sub --uid' -- "$word") ;;
+                *)
+                    case " ${COMP_WORDS[*]:2:COMP_CWORD-2} " in
+                        *" find "*) : ;;
+                        *" get "*) mapfile -t COMPREPLY < <(compgen -W "$(felosumay parameters 2>/dev/null | cut -d, -f1 | cut -d" " -f2)" -- "$word") ;;
+                        *" set "*) mapfile -t COMPREPLY < <(compgen -W "$(felosumay parameters 2>/dev/null | cut -d, -f1 | cut -d" " -f2)" -- "$word") ;;
+                        *" collect "*) : ;;
+                        *" watch "*) : ;;
+                        *" play "*) mapfile -t COMPREPLY < <(compgen -f -- "$word") ;;
+                        *) mapfile -t COMPREPLY < <(compgen -W 'find get set collect watch play' -- "$word") ;;
+                    esac ;;
             esac ;;
     esac
 }

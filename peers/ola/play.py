@@ -1,5 +1,6 @@
 #!/usr/bin/env python3
-"""Plays the session of steps/ on the virtual fixture through olad, then commands whole rigs, and then runs OLA's own device tests.
+"""Plays the session of steps/ on the virtual fixture through olad, commands whole rigs and a fixture with parameters of its maker's own,
+and then runs OLA's own device tests.
 
     python3 play.py PROGRAM            compares what comes of it with what must
     python3 play.py PROGRAM --write    writes the files of device_tests/ anew, and keeps their comments
@@ -11,6 +12,7 @@ import os
 import sys
 
 import device_tests
+import own
 import rig
 import session
 from line import Fault
@@ -32,6 +34,7 @@ def main():
     try:
         is_well = session.play(program)
         is_well = rig.play(program, session.Session) and is_well
+        is_well = own.play(program, session.Session) and is_well
         try:
             is_well = device_tests.run(program, is_writing) and is_well
         except Unfetched as why:

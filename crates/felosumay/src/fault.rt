@@ -1,5 +1,6 @@
 //! Why the program couldn't do its work.
 
+use crate::line::fault::LineFault;
 use crate::source::OUTPUT;
 use crate::usage::MOST_FIXTURES;
 use rdm_crew::RunError;
@@ -7,7 +8,7 @@ use rdm_fixture::{FixtureError, Refusal};
 use rdm_frame::Uid;
 use rdm_frame::standard::MOST_DATA;
 use rdm_responder::NewError;
-use rdm_script::{ScriptError, Spelling, refusal_at};
+use rdm_script::{Dialect, ScriptError, refusal_at};
 use std::alloc::{AllocError, AllocFailed};
 use std::{fmt, io};
 
@@ -69,17 +70,22 @@ pub enum Fault<'a> {
     NotSaved(&'a str),
     /// A file has the saved values of a fixture of another profile.
     OtherProfile(&'a str),
+    /// A console couldn't do its work on a line.
+    Line(LineFault<'a>),
 }
 
 impl<'a> Fault<'a> {
-    /// A file isn't read as a script for the device with this UID.
-    pub fn script(name: &'a str, device: Uid, text: &[u8], error: ScriptError) -> Fault<'a> {
+    /// A file isn't read as a script for a fixture.
+    pub fn script(
+        name: &'a str,
+        dialect: &Dialect<'_>,
+        text: &[u8],
+        error: ScriptError,
+    ) -> Fault<'a> {
         match error {
             ScriptError::OutOfMemory => Fault::Memory,
             ScriptError::TooLong => Fault::NoScript(name, error),
-            ScriptError::Line(number) => {
-                Fault::Script(name, refusal_at(Spelling::Friendly, device, text, number))
-            }
+            ScriptError::Line(number) => { Fault::Script(name, refusal_at(dialect, text, number)) }
         }
     }
 
@@ -146,6 +152,7 @@ impl<'a> Fault<'a> {
             | Fault::TwoOfOneUid(_)
             | Fault::SavedOfMany(_)
             | Fault::NoParameter(_) => BAD_USAGE,
+            Fault::Line(fault) => fault.status(),
         }
     }
 
@@ -215,6 +222,7 @@ impl fmt::Display for Fault<'_> {
     fn fmt<W: fmt::Write>(&self, f: &mut fmt::Formatter<W>) -> fmt::Result {
         match self {
             Fault::Memory => f.write_str("error: out of memory"),
+            Fault::Line(fault) => write!(f, "{fault}"),
             Fault::Clock(error) => write!(f, "error: clock: {error}"),
             Fault::Io(name, error) => write!(f, "error: {name}: {error}"),
             Fault::TooLong(name, most) => write!(f, "{name}: more than {most} bytes"),

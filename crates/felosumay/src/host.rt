@@ -32,3 +32,11 @@ where
         + Send
         + 'static,
 {}
+
+/// What is needed to tell something: no threads, so that a port may tell what goes through it.
+pub trait Speaker: Print + Eprint + AllocGlobal + Clock + Copy {}
+
+impl<T> Speaker for T
+where
+    T: Print + Eprint + AllocGlobal + Clock + Copy,
+{}

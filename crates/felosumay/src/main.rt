@@ -1,5 +1,5 @@
-//! The program for people: it plays a script, says what frames say, draws them, checks a fixture file, and is a virtual
-//! fixture on a line, or a rig of them.
+//! The program for people: it plays a script, says what frames say, draws them, checks a fixture file, is a virtual fixture on
+//! a line, or a rig of them, and a console on a real line.
 //!
 //! What it prints, unless something else is asked for, is exactly what rdm_play prints.
 #![tactic(auto)]
@@ -8,6 +8,7 @@ mod chart;
 mod fault;
 mod fixture;
 mod host;
+mod line;
 mod parameters;
 mod play;
 mod rig;
@@ -22,6 +23,7 @@ use clap::ArgMatches;
 use clap::error::ErrorKind;
 use fault::Fault;
 use host::Host;
+use line::telling::Terminals;
 use source::OUTPUT;
 use std::env;
 use std::io::IsTerminal;
@@ -36,7 +38,11 @@ fn main(rt: HostRuntime) -> ExitCode {
         Ok(matches) => matches,
         Err(error) => return end_of_usage(rt, &error),
     };
-    match run(rt, &matches) {
+    let terminals = Terminals {
+        input: rt.stdin().is_terminal(),
+        errors: rt.stderr().is_terminal(),
+    };
+    match run(rt, terminals, &matches) {
         Ok(()) => ExitCode::SUCCESS,
         Err(fault) => end(rt, &fault),
     }
@@ -52,7 +58,11 @@ fn command_line<'a>(rt: HostRuntime) -> Result<Vec<String>, Fault<'a>> {
 }
 
 /// Does what the command line asks for.
-fn run<'a, H: Host>(rt: H, matches: &ArgMatches<'a>) -> Result<(), Fault<'a>> {
+fn run<'a, H: Host>(
+    rt: H,
+    terminals: Terminals,
+    matches: &ArgMatches<'a>,
+) -> Result<(), Fault<'a>> {
     match matches.subcommand() {
         Some(("play", asked)) => play::run(rt, asked),
         Some(("words", asked)) => words::run(rt, asked),
@@ -60,6 +70,7 @@ fn run<'a, H: Host>(rt: H, matches: &ArgMatches<'a>) -> Result<(), Fault<'a>> {
         Some(("fixture", asked)) => fixture::run(rt, asked),
         Some(("parameters", asked)) => parameters::run(rt, asked),
         Some(("widget", asked)) => widget::run(rt, asked),
+        Some(("line", asked)) => line::run(rt, terminals, asked),
         _ => Ok(()),
     }
 }

@@ -2,6 +2,7 @@
 //! them tells.
 
 mod data;
+mod own;
 
 use crate::fault::Fault;
 use crate::host::Host;
@@ -9,10 +10,11 @@ use crate::source::print;
 use crate::{fixture, usage};
 use clap::ArgMatches;
 use data::{data_of, put_data};
+use own::put_own;
 use rdm_frame::digits::word_in;
 use rdm_frame::standard::ROOT_DEVICE;
 use rdm_params::{
-    Devices, Kind, Nack, NewError, Verb, Verdict, Work, estimate_of, kind_of, worker_of,
+    Devices, Kind, Nack, NewError, Profile, Verb, Verdict, Work, estimate_of, worker_of,
 };
 use std::alloc::{AllocError, Global};
 use std::fmt::Write;
@@ -25,31 +27,63 @@ pub fn run<'a, H: Host>(rt: H, asked: &ArgMatches<'a>) -> Result<(), Fault<'a>> 
     let mut profile = fixture::asked_for(rt, asked)?.profile;
     // Where there are none, this shows what one would have.
     profile.subs = profile.subs.max(SUB_DEVICE);
+    let name = asked.get_str(usage::PARAMETER);
+    let kinds = kinds_of(rt.alloc(), &profile, name)?;
+    let own = own_of(rt.alloc(), &profile, name)?;
+    if let Some(name) = name
+        && kinds.is_empty()
+        && own.is_empty()
+    {
+        return Err(Fault::NoParameter(name));
+    }
     let devices = match Devices::new(rt.alloc(), profile) {
         Ok(devices) => devices,
         Err(NewError::OutOfMemory) => return Err(Fault::Memory),
         Err(NewError::TooManySubs | NewError::BadProfile) => return Err(Fault::NoDevice),
     };
     let mut text = String::new(rt.alloc());
-    match asked.get_str(usage::PARAMETER) {
-        Some(name) => match kind_named(name) {
-            Some(kind) => put_parameter(&mut text, rt.alloc(), &devices, kind)?,
-            None => return Err(Fault::NoParameter(name)),
-        },
-        None => {
-            for kind in Kind::all() {
-                put_parameter(&mut text, rt.alloc(), &devices, kind)?;
-            }
-        }
+    for kind in &kinds {
+        put_parameter(&mut text, rt.alloc(), &devices, *kind)?;
     }
+    text.push_str(own.as_str())?;
     print(rt, text.as_bytes())
 }
 
-/// The parameter of this name, or of this PID in four hexadecimal digits.
-fn kind_named(name: &str) -> Option<Kind> {
-    match word_in(name.as_bytes()) {
-        Some(pid) => kind_of(pid),
-        None => Kind::named(name.as_bytes()),
+/// The parameters of the table that a fixture has: the one of this name, or of this PID in four hexadecimal digits, or all.
+fn kinds_of(alloc: Global, profile: &Profile, name: Option<&str>) -> Result<Vec<Kind>, AllocError> {
+    let mut kinds = Vec::new(alloc);
+    for kind in Kind::all() {
+        let is_asked = match name {
+            Some(name) => is_named(name, kind.pid(), kind.name().as_bytes()),
+            None => true,
+        };
+        if is_asked && !profile.lacks(kind.pid()) {
+            kinds.push(kind)?;
+        }
+    }
+    Ok(kinds)
+}
+
+/// The same of the parameters that the maker adds, in words.
+fn own_of(alloc: Global, profile: &Profile, name: Option<&str>) -> Result<String, AllocError> {
+    let mut text = String::new(alloc);
+    for def in profile.own.as_slice() {
+        let is_asked = match name {
+            Some(name) => is_named(name, def.pid, def.name.as_slice()),
+            None => true,
+        };
+        if is_asked {
+            put_own(&mut text, def)?;
+        }
+    }
+    Ok(text)
+}
+
+/// Whether a parameter has this name, or this PID in four hexadecimal digits.
+fn is_named(asked: &str, pid: u16, name: &[u8]) -> bool {
+    match word_in(asked.as_bytes()) {
+        Some(number) => number == pid,
+        None => name == asked.as_bytes(),
     }
 }
 

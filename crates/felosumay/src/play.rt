@@ -18,8 +18,8 @@ use clap::ArgMatches;
 use rdm_fixture::Fixture;
 use rdm_frame::standard::MOST_SUB_DEVICES;
 use rdm_script::{
-    CONTROLLER, DemoPanel, MOST_BYTES, RuledPart, Spelling, Stage, Unplayed, play_demonstration,
-    play_script, ruled_parts_fit,
+    CONTROLLER, DemoPanel, Dialect, MOST_BYTES, RuledPart, Spelling, Stage, Unplayed,
+    play_demonstration, play_script, ruled_parts_fit,
 };
 use rdm_trace::{Line, text_of};
 use std::io;
@@ -99,6 +99,15 @@ impl<'a> Setting<'a> {
         Ok(Setting { file, fixture })
     }
 
+    /// What the words of a script may be.
+    fn dialect(&self) -> Dialect<'_> {
+        Dialect {
+            device: self.fixture.uid,
+            spelling: Spelling::Friendly,
+            own: self.fixture.profile.own.as_slice(),
+        }
+    }
+
     /// How many sub-devices a script can ask for.
     fn subs(&self) -> u16 {
         match &self.file {
@@ -145,7 +154,7 @@ impl<'a> Setting<'a> {
         let Script { name, text } = script;
         match why {
             Unplayed::OutOfMemory => Fault::Memory,
-            Unplayed::Faulty(error) => Fault::script(name, self.fixture.uid, text, error),
+            Unplayed::Faulty(error) => Fault::script(name, &self.dialect(), text, error),
             Unplayed::Stopped(error, line) => Fault::stopped(name, line, self.subs(), error),
         }
     }

@@ -1,7 +1,7 @@
 //! Where text comes from, and where it goes.
 
 use crate::fault::Fault;
-use crate::host::Host;
+use crate::host::{Host, Speaker};
 use crate::usage;
 use clap::ArgMatches;
 use std::alloc::Global;
@@ -100,7 +100,7 @@ pub fn save<'a, H: Host>(rt: H, path: &'a str, text: &[u8]) -> Result<(), Fault<
 }
 
 /// Writes a text to standard output.
-pub fn print<'a, H: Host>(rt: H, text: &[u8]) -> Result<(), Fault<'a>> {
+pub fn print<'a, H: Speaker>(rt: H, text: &[u8]) -> Result<(), Fault<'a>> {
     match io::writer(&rt).write_all(text) {
         Ok(()) => Ok(()),
         Err(error) => Err(Fault::Io(OUTPUT, error)),

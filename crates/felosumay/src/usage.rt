@@ -30,6 +30,18 @@ pub const ALL_BITS: &str = "all-bits";
 pub const FIRST: &str = "first";
 /// Of a collision rubbish is on the line.
 pub const RUBBISH: &str = "rubbish";
+/// The option that names the port of an interface.
+pub const PORT: &str = "port";
+/// The option that names a file for the trace of a line.
+pub const TRACE: &str = "trace";
+/// The option for how long an interface is waited for.
+pub const LIMIT: &str = "limit";
+/// The argument that names a device.
+pub const UID: &str = "uid";
+/// The option for a sub-device.
+pub const SUB: &str = "sub";
+/// The argument for the data of a command.
+pub const DATA: &str = "data";
 /// The option for how fast time passes.
 pub const SPEED: &str = "speed";
 
@@ -62,7 +74,8 @@ fn command<'a>(alloc: Global) -> Result<Command<'a>, Error> {
             .subcommand(chart(alloc)?)?
             .subcommand(fixture(alloc)?)?
             .subcommand(parameters(alloc)?)?
-            .subcommand(widget(alloc)?)?,
+            .subcommand(widget(alloc)?)?
+            .subcommand(line(alloc)?)?,
     )
 }
 
@@ -191,6 +204,116 @@ fn widget<'a>(alloc: Global) -> Result<Command<'a>, Error> {
             .arg(speed)?
             .arg(saved)?,
     )
+}
+
+/// `felosumay line`.
+fn line<'a>(alloc: Global) -> Result<Command<'a>, Error> {
+    let port = Arg::new(alloc, PORT)
+        .long("port")
+        .value_name("PATH")
+        .required(true)
+        .action(ArgAction::Set)
+        .help(
+            "The serial device of the interface, set raw with min 0 time 1; standard input and output if -",
+        );
+    let limit = Arg::new(alloc, LIMIT)
+        .long("limit")
+        .value_name("MS")
+        .value_parser(value_parser!(u16).range(1..=65535))
+        .help("How many milliseconds the interface is waited for; 1000 if omitted");
+    let trace = Arg::new(alloc, TRACE)
+        .long("trace")
+        .value_name("FILE")
+        .action(ArgAction::Set)
+        .help("Also write what is sent and heard to this file, as a trace");
+    let line = Command::new(alloc, "line")
+        .about("Find, read, set and collect on a real line, through an ENTTEC DMX USB Pro")
+        .subcommand_required(true)
+        .arg_required_else_help(true)
+        .arg(port)?
+        .arg(limit)?
+        .arg(trace)?;
+    errands(alloc, line)
+}
+
+/// What `felosumay line` does.
+fn errands<'a>(alloc: Global, line: Command<'a>) -> Result<Command<'a>, Error> {
+    let get = Command::new(alloc, "get").about("Read a parameter of a device");
+    let set = Command::new(alloc, "set").about(
+        "Set a parameter of a device, and wait for the result",
+    );
+    let data = argument(
+        alloc,
+        DATA,
+        "DATA",
+        "The data, as in a script; none if omitted",
+    );
+    let value = argument(alloc, DATA, "DATA", "The data, as in a script").required(true);
+    Ok(
+        line.subcommand(Command::new(alloc, "find").about("Find all devices"))?
+            .subcommand(of_parameter(alloc, get)?.arg(data)?)?
+            .subcommand(of_parameter(alloc, set)?.arg(value)?)?
+            .subcommand(
+                Command::new(alloc, "collect")
+                    .about("Fetch all messages that wait in a device")
+                    .arg(device(alloc))?,
+            )?
+            .subcommand(Command::new(alloc, "watch").about(
+                "Poll all devices in turn, and print each message as it comes",
+            ))?
+            .subcommand(line_play(alloc)?)?,
+    )
+}
+
+/// `felosumay line play`.
+fn line_play<'a>(alloc: Global) -> Result<Command<'a>, Error> {
+    let script = input(
+        alloc,
+        "SCRIPT",
+        "The script; standard input if omitted or -",
+    );
+    let uid = Arg::new(alloc, UID)
+        .long("uid")
+        .value_name("UID")
+        .required(true)
+        .action(ArgAction::Set)
+        .help("The device to play it on, as 7FF0:00000001");
+    Ok(
+        Command::new(alloc, "play")
+            .about("Play a script on a device and print the trace, with the times")
+            .arg(script)?
+            .arg(uid)?,
+    )
+}
+
+/// What a command of a parameter takes before its data.
+fn of_parameter<'a>(alloc: Global, command: Command<'a>) -> Result<Command<'a>, Error> {
+    let sub = Arg::new(alloc, SUB)
+        .long("sub")
+        .value_name("SUB")
+        .action(ArgAction::Set)
+        .help("The sub-device, as in a script; the root if omitted");
+    let parameter = argument(
+        alloc,
+        PARAMETER,
+        "PARAMETER",
+        "The parameter, by name or PID",
+    )
+    .required(true);
+    Ok(command.arg(device(alloc))?.arg(parameter)?.arg(sub)?)
+}
+
+/// The argument that names a device.
+fn device<'a>(alloc: Global) -> Arg<'a> {
+    argument(alloc, UID, "UID", "The device, as 7FF0:00000001").required(true)
+}
+
+/// An argument by its place.
+fn argument<'a>(alloc: Global, id: &'a str, name: &'a str, help: &'a str) -> Arg<'a> {
+    Arg::new(alloc, id)
+        .value_name(name)
+        .action(ArgAction::Set)
+        .help(help)
 }
 
 /// The option for how many of each fixture there are.

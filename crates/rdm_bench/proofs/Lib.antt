@@ -1,3 +1,4 @@
+pub mod GoodProfile
 pub mod Sums
 pub mod Frames
 pub mod Runs

@@ -1,6 +1,5 @@
 -- Frames that a responder hears, the jobs that they start, and the bytes of its replies.
-use Rattle.std.specs.Prelude.{◌≡◌, ℕ, zero, suc, List, [], ◌++◌, Option, Some, None, filter_map, flat_map, unwrap_or}
-use Rattle.rdm_params.specs.Device.Demo.{demo}
+use Rattle.std.specs.Prelude.{◌≡◌, ℕ, zero, suc, Bool, List, [], ◌++◌, Option, Some, None, filter_map, flat_map, unwrap_or}
 use Rattle.rdm_outbox.specs.declared.job.Job.{Job}
 use Rattle.rdm_outbox.specs.State.{most_entries}
 use Rattle.rdm_responder.specs.declared.report.Report.{Report}
@@ -12,13 +11,15 @@ use Rattle.rdm_responder.specs.History.{Setup, History, empty_history}
 use Rattle.rdm_responder.specs.Runs.{IsRun}
 use Rattle.rdm_bench.specs.declared.reports.Reports.{Reports}
 use Rattle.rdm_bench.specs.declared.tally.Tally.{Tally}
+use Rattle.rdm_bench.specs.Device.{bench_profile}
 use Rattle.rdm_bench.specs.Reports.{reports_with, reports_of}
 use Rattle.rdm_bench.specs.Tally.{tally_of}
 
--- The device that hears them: its UID is 7FF0:00000001, it is the demo fixture with so many sub-devices, and it has room
--- for 1,024 results of slow commands and the most status entries.
-abbrev pub bench_setup : ℕ → Setup
-bench_setup subs = record { uid = record { maker = 0x7FF0; device = 1 }; profile = demo subs; queue_size = 1024; entries = most_entries }
+-- The device that hears them: its UID is 7FF0:00000001, and it has room for 1,024 results of slow commands and the most
+-- status entries.
+abbrev pub bench_setup : Bool → ℕ → Setup
+bench_setup own subs =
+    record { uid = record { maker = 0x7FF0; device = 1 }; profile = bench_profile own subs; queue_size = 1024; entries = most_entries; first_job = 0 }
 
 -- these, that many times over
 abbrev pub repeated : ℕ → List (List ℕ) → List (List ℕ)
@@ -64,8 +65,9 @@ pub record IsReplay (start : History) (reports : Reports) (frames : List (List �
   pub run : IsRunOf start end frames (reports_of reports jobs) jobs replies
   pub comes_to : tally ≡ tally_of replies
 
--- It is the tally of a replay on the device with so many sub-devices, whose jobs are reported as this code says.
-abbrev pub AnswersReplay : ℕ → ℕ → List (List ℕ) → Tally → Type 0
-AnswersReplay subs code frames tally =
+-- It is the tally of a replay on the device with so many sub-devices, and with parameters of its maker's own or without, whose
+-- jobs are reported as this code says.
+abbrev pub AnswersReplay : Bool → ℕ → ℕ → List (List ℕ) → Tally → Type 0
+AnswersReplay own subs code frames tally =
     (reports : Reports) × (end : History) × (reports_with code ≡ Some reports)
-    × IsReplay (empty_history (bench_setup subs)) reports frames tally end
+    × IsReplay (empty_history (bench_setup own subs)) reports frames tally end

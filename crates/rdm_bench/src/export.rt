@@ -3,33 +3,24 @@
 ghost use Rattle.std.specs.Prelude.{◌≡◌, ◌≢◌, ◌↔◌, ◌<◌, ◌≤◌, ◌++◌, ℕ, List, IfOk};
 ghost use Rattle.rdm_outbox.specs.State.{IsListSize};
 ghost use Rattle.rdm_responder.specs.History.{History, empty_history};
-ghost use Rattle.rdm_responder.specs.StandsFor.{IsQueueSize, StandsFor};
+ghost use Rattle.rdm_responder.specs.StandsFor.{IsQueueSize};
 ghost use Rattle.rdm_bench.specs.Packed.{packed, ArePackable};
 ghost use Rattle.rdm_bench.specs.Replay.{repeated, bench_setup, IsReplay, AnswersReplay};
 
+use crate::device::{DEVICE, responder_with};
 use crate::packed::unpack;
 use crate::replay::Replay;
 use crate::{Fault, Reports, Tally};
-use rdm_frame::Uid;
 use rdm_frame::standard::MOST_SUB_DEVICES;
 use rdm_params::Profile;
 use rdm_responder::{NewError, Responder};
 use std::alloc::{AllocError, Global};
 
-/// The UID of the device that hears the frames.
-const DEVICE: Uid = Uid {
-    maker: 0x7FF0,
-    device: 1,
-};
-
-/// How many results of slow commands it has room for.
-const QUEUE_SIZE: u16 = 1024;
-
-/// Makes a responder with that many sub-devices, lets it hear the frames of `preface` once and those of `bytes` `rounds`
-/// times over, and sets `tally` to what the bytes of all replies come to. Each job that starts is reported, before the next
-/// frame is heard, as the code `reports` says: 0 not at all, 1 as done, 2 as failed with an advisory, 3 as failed with an
-/// error. The contract says which frames are heard and which reports are handed in, each in their order, and not how the two
-/// lie among one another.
+/// Makes a responder with that many sub-devices, and with two parameters of its maker's own if `own` says so, lets it hear the
+/// frames of `preface` once and those of `bytes` `rounds` times over, and sets `tally` to what the bytes of all replies come to.
+/// Each job that starts is reported, before the next frame is heard, as the code `reports` says: 0 not at all, 1 as done, 2 as
+/// failed with an advisory, 3 as failed with an error. The contract says which frames are heard and which reports are handed
+/// in, each in their order, and not how the two lie among one another.
 ///
 /// Frames stand one after another, each behind its length in two bytes, the most significant first. The answer is 0
 /// where they were heard. Else `tally` stays as it was: it is 2 where there are more than 512 sub-devices, 3 where no
@@ -37,6 +28,7 @@ const QUEUE_SIZE: u16 = 1024;
 #[unsafe(no_mangle)]
 pub extern "C" fn rdm_bench_run(
     alloc: Global,
+    own: bool,
     subs: u16,
     preface: &[u8],
     bytes: &[u8],
@@ -46,13 +38,13 @@ pub extern "C" fn rdm_bench_run(
 ) -> u8
     ensures ran { result ≡ 0 → (before frames : List (List ℕ)) → ArePackable before → ArePackable frames →
         preface.now ≡ packed before → bytes.now ≡ packed frames →
-        AnswersReplay subs reports (before ++ repeated rounds frames) tally.new }
+        AnswersReplay own subs reports (before ++ repeated rounds frames) tally.new }
     ensures refused { result ≢ 0 → tally.new ≡ tally.old }
     ensures codes { result ≤ 3 }
     ensures too_many { (result ≡ 2) ↔ (512 < subs) }
     ensures unknown { (result ≡ 3) ↔ ((subs ≤ 512) × (3 < reports)) }
 {
-    match run(alloc, subs, preface, bytes, rounds, reports) {
+    match run(alloc, own, subs, preface, bytes, rounds, reports) {
         Ok(outcome) => {
             *tally = outcome;
             0
@@ -79,6 +71,7 @@ pub extern "C" fn rdm_bench_make(alloc: Global, queue_size: u16, entries: u16) -
 /// What the bytes of the replies come to.
 fn run(
     alloc: Global,
+    own: bool,
     subs: u16,
     preface: &[u8],
     bytes: &[u8],
@@ -87,7 +80,7 @@ fn run(
 ) -> Result<Tally, Fault>
     ensures ok { IfOk result (λ tally. (before frames : List (List ℕ)) → ArePackable before → ArePackable frames →
         preface.now ≡ packed before → bytes.now ≡ packed frames →
-        AnswersReplay subs reports (before ++ repeated rounds frames) tally) }
+        AnswersReplay own subs reports (before ++ repeated rounds frames) tally) }
     ensures too_many { (result ≡ Err Fault.TooManySubs) ↔ (512 < subs) }
     ensures unknown { (result ≡ Err Fault.UnknownReports) ↔ ((subs ≤ 512) × (3 < reports)) }
 {
@@ -97,12 +90,13 @@ fn run(
     let Some(reports) = Reports::with_code(reports) else {
         return Err(Fault::UnknownReports);
     };
-    replayed(alloc, subs, preface, bytes, rounds, reports).map_err(|_| Fault::OutOfMemory)
+    replayed(alloc, own, subs, preface, bytes, rounds, reports).map_err(|_| Fault::OutOfMemory)
 }
 
 /// What the bytes of the replies come to, unless memory is refused.
 fn replayed(
     alloc: Global,
+    own: bool,
     subs: u16,
     preface: &[u8],
     bytes: &[u8],
@@ -112,23 +106,10 @@ fn replayed(
     requires { subs ≤ 512 }
     ensures { IfOk result (λ tally. (before frames : List (List ℕ)) → ArePackable before → ArePackable frames →
         preface.now ≡ packed before → bytes.now ≡ packed frames →
-        (end : History) × IsReplay (empty_history (bench_setup subs)) reports (before ++ repeated rounds frames) tally end) }
+        (end : History) × IsReplay (empty_history (bench_setup own subs)) reports (before ++ repeated rounds frames) tally end) }
 {
-    let mut replay = Replay::new(responder_with(alloc, subs)?, reports);
+    let mut replay = Replay::new(responder_with(alloc, own, subs)?, reports);
     replay.hear_rounds(&unpack(alloc, preface)?, 1);
     replay.hear_rounds(&unpack(alloc, bytes)?, rounds);
     Ok(replay.tally())
-}
-
-/// The responder that hears the frames, just switched on.
-fn responder_with(alloc: Global, subs: u16) -> Result<Responder, AllocError>
-    requires { subs ≤ 512 }
-    ensures { IfOk result (λ responder. StandsFor responder (empty_history (bench_setup subs))) }
-{
-    match Responder::new(alloc, DEVICE, Profile::demo(subs), QUEUE_SIZE) {
-        Ok(responder) => Ok(responder),
-        Err(NewError::OutOfMemory) => Err(AllocError),
-        // The UID addresses one device, and size and profile are such as a responder takes.
-        Err(NewError::BadProfile | NewError::BadSize | NewError::BadUid) => unreachable!(),
-    }
 }

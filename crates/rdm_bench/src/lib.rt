@@ -5,6 +5,7 @@
 //! compiler can leave the work out.
 #![tactic(auto)]
 
+mod device;
 mod export;
 mod fault;
 mod packed;

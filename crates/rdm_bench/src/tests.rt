@@ -8,6 +8,13 @@ const GET_IDENTIFY: [u8; 28] = [
     0x10, 0, 0, 0x03, 0xF7,
 ];
 
+/// GET of the parameter 8001 of the maker's own, behind its length. The answer is 27 bytes, of which the first 25 have the sum
+/// 0x046A.
+const GET_OWN: [u8; 28] = [
+    0, 26, 0xCC, 0x01, 24, 0x7F, 0xF0, 0, 0, 0, 1, 0x7F, 0xF0, 0, 0, 0, 2, 0, 1, 0, 0, 0, 0x20,
+    0x80, 0x01, 0, 0x04, 0x68,
+];
+
 /// The sum of the bytes of the answer.
 const ANSWERED: u64 = 0x03F9 + 0x03 + 0xF9;
 
@@ -30,6 +37,7 @@ fn run(
     let mut tally = Tally { bytes: 1, total: 1 };
     let code = rdm_bench_run(
         rt.alloc(),
+        false,
         subs,
         preface,
         bytes,
@@ -71,4 +79,14 @@ fn a_report_leaves_a_message(rt: HostRuntime) {
 fn says_why_it_did_not_run(rt: HostRuntime) {
     assert_eq!(rt; run(&rt, 513, &[], &GET_IDENTIFY, 1, 4), (2, 1, 1));
     assert_eq!(rt; run(&rt, 512, &[], &GET_IDENTIFY, 1, 4), (3, 1, 1));
+}
+
+#[test]
+fn a_device_has_parameters_of_its_makers_own(rt: HostRuntime) {
+    let mut tally = Tally { bytes: 1, total: 1 };
+    let code = rdm_bench_run(rt.alloc(), true, 0, &[], &GET_OWN, 2, 1, &mut tally);
+    assert_eq!(rt;
+        (code, tally.bytes, tally.total),
+        (0, 2 * 27, 2 * (0x046A + 0x04 + 0x6A))
+    );
 }

@@ -1,12 +1,12 @@
 -- The headline holds of every run of the bus.
-use Rattle.std.proofs.Common.{◌≡◌, ℕ, zero, suc, ◌+◌, ◌≤◌, ◌==◌, List, [], ◌∷◌, ◌++◌, length, drop, Some, refl, sym, ap, subst, ◌∙◌, arith, length-append}
+use Rattle.std.proofs.Common.{◌≡◌, ℕ, zero, suc, ◌+◌, ◌≤◌, ◌==◌, List, [], ◌∷◌, ◌++◌, length, drop, Some, refl, sym, ap, subst, ◌∙◌, arith, length-append, length-drop}
 use Rattle.std.specs.Prelude.{slice_get}
 use Rattle.std.proofs.lemmas.List.{drop-append-le}
 use Rattle.std.proofs.lemmas.List.Elements.{filter-append}
 use Rattle.rdm_params.specs.declared.jobs.message.Message.{Message}
 use Rattle.rdm_params.specs.Jobs.Work.{worker_of}
 use Rattle.rdm_outbox.specs.declared.job.Job.{Job}
-use Rattle.rdm_outbox.specs.Jobs.{jobs_of, ended_of, outstanding_of}
+use Rattle.rdm_outbox.specs.Jobs.{jobs_of, ended_of, number_after, outstanding_of}
 use Rattle.rdm_responder.specs.declared.report.Report.{Report}
 use Rattle.rdm_responder.specs.Lawful.{IsLawful}
 use Rattle.rdm_responder.specs.Runs.{outbox_of}
@@ -21,7 +21,7 @@ use Rattle.rdm_bus.specs.Headline.{IsByTheRules, RepliesAreByTheRules, Handed, r
 use Rattle.rdm_bus.specs.Messages.{KeepingHolds}
 use Rattle.rdm_collector.specs.Recording.{join}
 use Rattle.rdm_bus.proofs.Accounts.{run_grows}
-use Rattle.rdm_bus.proofs.Numbers.{NumberedFrom, number_at, drop_numbered, front_number, numbered, ends_within}
+use Rattle.rdm_bus.proofs.Numbers.{NumberedFrom, number_at, drop_numbered, front_number, same_number, stands_below, numbered, few_jobs, ends_within}
 use Rattle.rdm_bus.proofs.Orders.{EndsWithin, done_by, run_moves}
 
 -- ---- each reply
@@ -49,28 +49,51 @@ job_of [] i r at = absurd cc
 job_of (x ∷ rs) zero r at = cc
 job_of (x ∷ rs) (suc i) r at = job_of rs i r at
 
-once : (n : ℕ) (rs : List Report) → NumberedFrom n (done_by rs) → AreOnce rs
-once n rs all i k r s first second same =
-    omega (arith, number_at n i (done_by rs) r.job all (job_of rs i r first), number_at n k (done_by rs) s.job all (job_of rs k s second), ap (λ (j : Job). j.number) same)
+once : (first n : ℕ) (rs : List Report) → NumberedFrom first n (done_by rs) → n + length (done_by rs) ≤ 4294967295 → AreOnce rs
+once first n rs all few i k r s one two same =
+    let at_i = job_of rs i r one in
+    let at_k = job_of rs k s two in
+    let alike : number_after first (n + i) ≡ number_after first (n + k) =
+    sym (number_at first n i (done_by rs) r.job all at_i) ∙ ap (λ (j : Job). j.number) same ∙ number_at first n k (done_by rs) s.job all at_k in
+    omega (
+      arith,
+      same_number first (n + i) (n + k) (stands_below n (done_by rs) i r.job few at_i) (stands_below n (done_by rs) k s.job few at_k) alike,
+    )
+
+-- what a worker was given before a run and in it
+given_since : (w : ℕ) (s : Start) (steps : List Step) (es : List Event) → IsBusRun s steps es
+    → jobs_of w (outbox_of (after_all s es).history).accepted ≡ jobs_of w (outbox_of s.history).accepted ++ jobs_of w (jobs_in es)
+given_since w s steps es run =
+    ap (jobs_of w) (run_grows s steps es run).accepted ∙ filter-append (λ (j : Job). worker_of j.work == w) (outbox_of s.history).accepted (jobs_in es)
 
 -- what was outstanding and what was accepted since, numbered
 numbered_since : (w : ℕ) (s : Start) (steps : List Step) (es : List Event) → IsBusRun s steps es → EndsWithin w (outbox_of s.history)
-    → NumberedFrom (ended_of w (outbox_of s.history).ended) (outstanding_of (outbox_of s.history) w ++ jobs_of w (jobs_in es))
+    → NumberedFrom (after_all s es).history.setup.first_job (ended_of w (outbox_of s.history).ended) (outstanding_of (outbox_of s.history) w ++ jobs_of w (jobs_in es))
 numbered_since w s steps es run within =
     let n : ℕ = ended_of w (outbox_of s.history).ended in
+    let first : ℕ = (after_all s es).history.setup.first_job in
     let xs : List Job = jobs_of w (outbox_of s.history).accepted in
     let ys : List Job = jobs_of w (jobs_in es) in
-    let all : jobs_of w (outbox_of (after_all s es).history).accepted ≡ xs ++ ys =
-    ap (jobs_of w) (run_grows s steps es run).accepted ∙ filter-append (λ (j : Job). worker_of j.work == w) (outbox_of s.history).accepted (jobs_in es) in
-    subst (NumberedFrom n) (ap (drop n) all ∙ drop-append-le n xs ys within)
-    (drop_numbered n (jobs_of w (outbox_of (after_all s es).history).accepted) (numbered (after_all s es).history w))
+    subst (NumberedFrom first n) (ap (drop n) (given_since w s steps es run) ∙ drop-append-le n xs ys within)
+    (drop_numbered first n (jobs_of w (outbox_of (after_all s es).history).accepted) (numbered (after_all s es).history w))
+
+-- those that are done since are no more than were given, less those that were done before
+few_done : (n most : ℕ) (all xs ys done left : List Job) → length all ≤ most → all ≡ xs ++ ys → done ++ left ≡ drop n xs ++ ys → n ≤ length xs → n + length done ≤ most
+few_done n most all xs ys done left few given kept within =
+    omega (arith, few, ap length given, length-append xs ys, ap length kept, length-append done left, length-append (drop n xs) ys, length-drop n xs, within)
 
 at_most_once : (w : ℕ) (s : Start) (steps : List Step) (es : List Event) → IsBusRun s steps es → EndsWithin w (outbox_of s.history) → AreOnce (entered w es)
 at_most_once w s steps es run within =
     let n : ℕ = ended_of w (outbox_of s.history).ended in
-    once n (entered w es)
-    (front_number n (done_by (entered w es)) (outstanding_of (outbox_of (after_all s es).history) w)
-    (subst (NumberedFrom n) (sym (run_moves w s steps es run within).kept) (numbered_since w s steps es run within)))
+    let first : ℕ = (after_all s es).history.setup.first_job in
+    let xs : List Job = jobs_of w (outbox_of s.history).accepted in
+    let ys : List Job = jobs_of w (jobs_in es) in
+    let given : List Job = jobs_of w (outbox_of (after_all s es).history).accepted in
+    let left : List Job = outstanding_of (outbox_of (after_all s es).history) w in
+    let kept = (run_moves w s steps es run within).kept in
+    once first n (entered w es)
+    (front_number first n (done_by (entered w es)) left (subst (NumberedFrom first n) (sym kept) (numbered_since w s steps es run within)))
+    (few_done n 4294967295 given xs ys (done_by (entered w es)) left (few_jobs (after_all s es).history w) (given_since w s steps es run) kept within)
 
 -- ---- what is handed in
 

@@ -1,11 +1,12 @@
 -- The requests of a run are numbered, and its polls ask for the wanted type or for the last message again.
-use Rattle.std.proofs.Common.{◌≡◌, ℕ, zero, suc, ◌+◌, ◌%◌, Bool, true, false, not, cond, List, [], ◌∷◌, ◌++◌, Option, Some, refl, sym, ap, subst, ◌∙◌, arith}
+use Rattle.std.proofs.Common.{◌≡◌, ℕ, zero, suc, ◌+◌, ◌%◌, ◌^◌, ◌<◌, ◌≤◌, Bool, true, false, not, cond, List, [], ◌∷◌, ◌++◌, length, Option, Some, refl, sym, ap, subst, ◌∙◌, arith}
+use Rattle.std.specs.Prelude.{slice_get}
 use Rattle.std.specs.List.{flat_map}
 use Rattle.rdm_frame.specs.declared.uid.Uid.{Uid}
 use Rattle.rdm_frame.specs.declared.frame.Frame.{Frame}
 use Rattle.rdm_frame.specs.FrameText.{frame_text, IsFrame}
 use Rattle.rdm_outbox.specs.declared.job.Job.{Job}
-use Rattle.rdm_outbox.specs.Jobs.{jobs_of}
+use Rattle.rdm_outbox.specs.Jobs.{jobs_of, number_after}
 use Rattle.rdm_responder.specs.Runs.{outbox_of}
 use Rattle.rdm_bus.specs.declared.event.Event.{Event}
 use Rattle.rdm_bus.specs.declared.event.Event.TheVariants.{Bus, Arrived, Changed}
@@ -17,8 +18,8 @@ use Rattle.rdm_collector.specs.declared.want.Want.{Want}
 use Rattle.rdm_collector.specs.Collecting.{State, after_ask, after_poll, command_request, poll_request}
 use Rattle.rdm_collector.specs.Requests.{type_of, request_of, queued_message}
 use Rattle.rdm_bus.specs.BusRun.{Start, controller_at, is_message_heard, IsTransaction, IsPlayed, after, after_all, IsBusRun}
-use Rattle.rdm_bus.specs.Numbering.{HasNumber, answered_in, last_answer, was_answered, NumberingHolds, PollingInTurnHolds, JobsAreNumbered}
-use Rattle.rdm_bus.proofs.Numbers.{number_at, numbered}
+use Rattle.rdm_bus.specs.Numbering.{HasNumber, answered_in, last_answer, was_answered, NumberingHolds, PollingInTurnHolds, JobsAreNumbered, NumbersDiffer}
+use Rattle.rdm_bus.proofs.Numbers.{number_at, from_none, same_number, stands_below, numbered, few_jobs}
 
 -- ---- numbers
 
@@ -128,4 +129,15 @@ polls s steps es run before rest sent f reply job heard parts =
 -- ---- jobs
 
 pub jobs : JobsAreNumbered
-jobs h worker k job at = omega (arith, number_at 0 k (jobs_of worker (outbox_of h).accepted) job (numbered h worker) at)
+jobs h worker k job at =
+    number_at h.setup.first_job 0 k (jobs_of worker (outbox_of h).accepted) job (numbered h worker) at
+    ∙ ap (number_after h.setup.first_job) (sym (from_none k))
+
+below : (js : List Job) (i : ℕ) (j : Job) → length js ≤ 4294967295 → slice_get js i ≡ Some j → i < 2 ^ 32
+below js i j few at = omega (arith, stands_below 0 js i j (omega (arith, few)) at)
+
+pub differ : NumbersDiffer
+differ h worker i k job other one two same =
+    let js : List Job = jobs_of worker (outbox_of h).accepted in
+    let few = few_jobs h worker in
+    same_number h.setup.first_job i k (below js i job few one) (below js k other few two) (sym (jobs h worker i job one) ∙ same ∙ jobs h worker k other two)

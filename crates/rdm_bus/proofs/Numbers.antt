@@ -1,11 +1,12 @@
--- The jobs of a worker have the numbers 0, 1, 2, .. in the order in which they were accepted, and no more of them have
--- ended than were accepted.
-use Rattle.std.proofs.Common.{◌≡◌, ℕ, zero, suc, ◌+◌, ◌==◌, Bool, true, false, cond, List, [], ◌∷◌, ◌++◌, length, drop, Option, Some, None, refl, sym, ap, subst, ◌∙◌, arith, append-nil}
+-- The jobs of a worker are numbered in the order in which they were accepted, no two alike, and no more of them have ended than
+-- were accepted.
+use Rattle.std.proofs.Common.{◌≡◌, ℕ, zero, suc, ◌+◌, ◌^◌, ◌<◌, ◌≤◌, ◌==◌, Bool, true, false, cond, List, [], ◌∷◌, ◌++◌, length, drop, Option, Some, None, refl, sym, ap, subst, ◌∙◌, arith, append-nil, length-append}
 use Rattle.std.specs.Prelude.{slice_get, Ok, Err}
 use Rattle.std.specs.Option.{option_to_list}
 use Rattle.std.specs.Result.{result_ok}
 use Rattle.std.specs.List.{fold}
-use Rattle.std.proofs.lemmas.Bool.{eqb-true}
+use Rattle.std.proofs.lemmas.Bool.{and_parts, eqb-true, ltb-true}
+use Rattle.std.proofs.lemmas.Option.{slice_get_within}
 use Rattle.std.proofs.lemmas.List.Elements.{filter-append}
 use Rattle.rdm_params.specs.declared.jobs.work.Work.{Work}
 use Rattle.rdm_params.specs.declared.verdict.Verdict.{Verdict}
@@ -15,61 +16,84 @@ use Rattle.rdm_params.specs.Jobs.Work.{worker_of}
 use Rattle.rdm_outbox.specs.declared.job.Job.{Job}
 use Rattle.rdm_outbox.specs.declared.job.Full.TheVariants.{NoRoom}
 use Rattle.rdm_outbox.specs.Account as outbox
-use Rattle.rdm_outbox.specs.Jobs.{jobs_of, next_job, has_room}
+use Rattle.rdm_outbox.specs.Jobs.{jobs_of, given_to, number_after, next_job, has_room}
 use Rattle.rdm_frame.specs.Reading.{frame_in}
 use Rattle.rdm_responder.specs.History as history
 use Rattle.rdm_responder.specs.History.{History, Event}
 use Rattle.rdm_responder.specs.Lawful.{AreLawful, IsLawful}
 use Rattle.rdm_responder.specs.Requests.{Request, Ignored, Branch, Muting, Get, Set, request_in}
-use Rattle.rdm_responder.specs.Rules.{Account, account_of, account_before, account_after, job_with, started_by}
+use Rattle.rdm_responder.specs.Rules.{Account, account_of, account_before, account_after, job_with, most_jobs, started_by}
 use Rattle.rdm_responder.specs.Runs.{outbox_of}
 use Rattle.rdm_responder.proofs.Growth.{Grows, job_at, workers_at, event_grows}
 use Rattle.rdm_bus.proofs.Orders.{EndsWithin, accepts, comes}
 
 -- ---- numbers
 
--- numbered from this number on
-abbrev pub NumberedFrom : ℕ → List Job → Type 0
-NumberedFrom n [] = Unit {0}
-NumberedFrom n (j ∷ js) = (j.number ≡ n) × NumberedFrom (suc n) js
+-- numbered from the one on that comes after so many
+abbrev pub NumberedFrom : ℕ → ℕ → List Job → Type 0
+NumberedFrom first n [] = Unit {0}
+NumberedFrom first n (j ∷ js) = (j.number ≡ number_after first n) × NumberedFrom first (suc n) js
 
 some_is : (x j : Job) → Some x ≡ Some j → x ≡ j
 some_is x j e = cc
 
-pub number_at : (n k : ℕ) (js : List Job) (j : Job) → NumberedFrom n js → slice_get js k ≡ Some j → j.number ≡ n + k
-number_at n k [] j all at = absurd cc
-number_at n zero (x ∷ xs) j all at = omega (arith, ap (λ (y : Job). y.number) (some_is x j at), all.0)
-number_at n (suc k) (x ∷ xs) j all at = omega (arith, number_at (suc n) k xs j all.1 at)
+none_later : (n : ℕ) → n ≡ n + 0
+none_later n = omega arith
 
-pub push_number : (n : ℕ) (xs : List Job) (j : Job) → NumberedFrom n xs → j.number ≡ n + length xs → NumberedFrom n (xs ++ j ∷ [])
-push_number n [] j all e = (omega (arith, e), tt)
-push_number n (x ∷ xs) j all e = (all.0, push_number (suc n) xs j all.1 (omega (arith, e)))
+one_later : (n k : ℕ) → suc n + k ≡ n + suc k
+one_later n k = omega arith
 
-drop_number : (k n : ℕ) (js : List Job) → NumberedFrom n js → NumberedFrom (n + k) (drop k js)
-drop_number zero n js all = subst (λ m. NumberedFrom m js) (omega arith) all
-drop_number (suc k) n [] all = tt
-drop_number (suc k) n (x ∷ xs) all = subst (λ m. NumberedFrom m (drop k xs)) (omega arith) (drop_number k (suc n) xs all.1)
+pub from_none : (n : ℕ) → n ≡ 0 + n
+from_none n = omega arith
 
-pub drop_numbered : (k : ℕ) (js : List Job) → NumberedFrom 0 js → NumberedFrom k (drop k js)
-drop_numbered k js all = subst (λ m. NumberedFrom m (drop k js)) (omega arith) (drop_number k 0 js all)
+pub number_at : (first n k : ℕ) (js : List Job) (j : Job) → NumberedFrom first n js → slice_get js k ≡ Some j → j.number ≡ number_after first (n + k)
+number_at first n k [] j all at = absurd cc
+number_at first n zero (x ∷ xs) j all at =
+    sym (ap (λ (y : Job). y.number) (some_is x j at)) ∙ all.0 ∙ ap (number_after first) (none_later n)
+number_at first n (suc k) (x ∷ xs) j all at =
+    number_at first (suc n) k xs j all.1 at ∙ ap (number_after first) (one_later n k)
 
-pub front_number : (n : ℕ) (xs ys : List Job) → NumberedFrom n (xs ++ ys) → NumberedFrom n xs
-front_number n [] ys all = tt
-front_number n (x ∷ xs) ys all = (all.0, front_number (suc n) xs ys all.1)
+pub push_number : (first n : ℕ) (xs : List Job) (j : Job) → NumberedFrom first n xs → j.number ≡ number_after first (n + length xs) → NumberedFrom first n (xs ++ j ∷ [])
+push_number first n [] j all e = (e ∙ ap (number_after first) (sym (none_later n)), tt)
+push_number first n (x ∷ xs) j all e =
+    (all.0, push_number first (suc n) xs j all.1 (e ∙ ap (number_after first) (sym (one_later n (length xs)))))
+
+drop_number : (first k n : ℕ) (js : List Job) → NumberedFrom first n js → NumberedFrom first (n + k) (drop k js)
+drop_number first zero n js all = subst (λ m. NumberedFrom first m js) (omega arith) all
+drop_number first (suc k) n [] all = tt
+drop_number first (suc k) n (x ∷ xs) all =
+    subst (λ m. NumberedFrom first m (drop k xs)) (omega arith) (drop_number first k (suc n) xs all.1)
+
+pub drop_numbered : (first k : ℕ) (js : List Job) → NumberedFrom first 0 js → NumberedFrom first k (drop k js)
+drop_numbered first k js all = subst (λ m. NumberedFrom first m (drop k js)) (omega arith) (drop_number first k 0 js all)
+
+pub front_number : (first n : ℕ) (xs ys : List Job) → NumberedFrom first n (xs ++ ys) → NumberedFrom first n xs
+front_number first n [] ys all = tt
+front_number first n (x ∷ xs) ys all = (all.0, front_number first (suc n) xs ys all.1)
+
+-- Of 2 ^ 32 numbers in a row no two are alike.
+pub same_number : (first m n : ℕ) → m < 2 ^ 32 → n < 2 ^ 32 → number_after first m ≡ number_after first n → m ≡ n
+unfolding number_after
+same_number first m n one other e = omega (arith, one, other, e)
+
+-- where a job stands among so many
+pub stands_below : (n : ℕ) (js : List Job) (i : ℕ) (j : Job) → n + length js ≤ 4294967295 → slice_get js i ≡ Some j → n + i < 2 ^ 32
+stands_below n js i j few at = omega (arith, few, slice_get_within js i j at)
 
 -- ---- the number of a job that starts
 
--- its number is how many jobs its worker was given before
+-- its number is the next of its worker, which may be given one more
 abbrev pub HasNextNumber : outbox.Account → Option Job → Type 0
 HasNextNumber b None = Unit {0}
-HasNextNumber b (Some j) = j.number ≡ length (jobs_of (worker_of j.work) b.accepted)
+HasNextNumber b (Some j) =
+    (j.number ≡ number_after b.first_job (given_to (worker_of j.work) b)) × (given_to (worker_of j.work) b < b.jobs)
 
-reserves_next : (b : outbox.Account) (work : Work) (room : Bool) → HasNextNumber b (result_ok (cond room (Ok (next_job b work)) (Err NoRoom)))
-reserves_next b work true = refl
-reserves_next b work false = tt
+reserves_next : (b : outbox.Account) (work : Work) (room : Bool) → has_room b work ≡ room → HasNextNumber b (result_ok (cond room (Ok (next_job b work)) (Err NoRoom)))
+reserves_next b work true e = (refl, ltb-true _ _ (and_parts _ _ e).1)
+reserves_next b work false e = tt
 
 starts_next : (b : outbox.Account) (v : Verdict) → HasNextNumber b (started_by b v)
-starts_next b (verdict.Start work) = reserves_next b work (has_room b work)
+starts_next b (verdict.Start work) = reserves_next b work (has_room b work) refl
 starts_next b (verdict.Queue ask) = tt
 starts_next b (verdict.Status ask) = tt
 starts_next b (verdict.Reply bytes) = tt
@@ -93,26 +117,65 @@ event_next a (history.Restored image) = tt
 
 -- ---- every history
 
-abbrev AllNumbered : outbox.Account → Type 0
-AllNumbered b = (w : ℕ) → NumberedFrom 0 (jobs_of w b.accepted)
+-- The jobs of each worker are numbered from the first number on, and are no more than it may be given.
+record HasNumbers (first limit : ℕ) (b : outbox.Account) : Type 0 where
+  pub first_job : b.first_job ≡ first
+  pub most : b.jobs ≡ limit
+  pub numbers : (w : ℕ) → NumberedFrom first 0 (jobs_of w b.accepted)
+  pub within : (w : ℕ) → given_to w b ≤ limit
 
-push_if : (w : ℕ) (b : outbox.Account) (j : Job) (own? : Bool) → (worker_of j.work == w) ≡ own? → HasNextNumber b (Some j) → AllNumbered b → NumberedFrom 0 (jobs_of w b.accepted ++ cond own? (j ∷ []) [])
-push_if w b j true own next all = push_number 0 (jobs_of w b.accepted) j (all w) (omega (arith, next, ap (λ v. length (jobs_of v b.accepted)) (eqb-true _ _ own)))
-push_if w b j false own next all = subst (NumberedFrom 0) (sym (append-nil (jobs_of w b.accepted))) (all w)
+one_accepted : (w : ℕ) (b b' : outbox.Account) (j : Job) → b'.accepted ≡ b.accepted ++ j ∷ [] → jobs_of w b'.accepted ≡ jobs_of w b.accepted ++ cond (worker_of j.work == w) (j ∷ []) []
+one_accepted w b b' j e = ap (jobs_of w) e ∙ filter-append (λ (i : Job). worker_of i.work == w) b.accepted (j ∷ [])
 
-numbered_more : (b b' : outbox.Account) (o : Option Job) (ws : List ℕ) → Grows b b' (option_to_list o) ws → HasNextNumber b o → AllNumbered b → AllNumbered b'
-numbered_more b b' None ws g next all w = subst (λ (js : List Job). NumberedFrom 0 (jobs_of w js)) (sym (g.accepted ∙ append-nil b.accepted)) (all w)
-numbered_more b b' (Some j) ws g next all w =
-    subst (NumberedFrom 0) (sym (ap (jobs_of w) g.accepted ∙ filter-append (λ (i : Job). worker_of i.work == w) b.accepted (j ∷ [])))
-    (push_if w b j (worker_of j.work == w) refl next all)
+push_if : (first w : ℕ) (b : outbox.Account) (j : Job) (own? : Bool) → (worker_of j.work == w) ≡ own? → j.number ≡ number_after first (given_to (worker_of j.work) b) → NumberedFrom first 0 (jobs_of w b.accepted)
+    → NumberedFrom first 0 (jobs_of w b.accepted ++ cond own? (j ∷ []) [])
+push_if first w b j true own next all =
+    push_number first 0 (jobs_of w b.accepted) j all
+    (next ∙ ap (λ v. number_after first (given_to v b)) (eqb-true _ _ own) ∙ ap (number_after first) (from_none (given_to w b)))
+push_if first w b j false own next all = subst (NumberedFrom first 0) (sym (append-nil (jobs_of w b.accepted))) all
 
-numbered_events : (a : Account) (es : List Event) → AllNumbered a.outbox → AllNumbered (fold account_after a es).outbox
-numbered_events a [] all = all
-numbered_events a (e ∷ es) all = numbered_events (account_after a e) es (numbered_more _ _ (job_at a e) (workers_at e) (event_grows a e) (event_next a e) all)
+few_if : (most w : ℕ) (b : outbox.Account) (j : Job) (own? : Bool) → (worker_of j.work == w) ≡ own? → given_to (worker_of j.work) b < most → given_to w b ≤ most → length (jobs_of w b.accepted ++ cond own? (j ∷ []) []) ≤ most
+few_if most w b j true own below few =
+    omega (arith, length-append (jobs_of w b.accepted) (j ∷ []), below, ap (λ v. given_to v b) (eqb-true _ _ own))
+few_if most w b j false own below few = subst (λ (js : List Job). length js ≤ most) (sym (append-nil (jobs_of w b.accepted))) few
 
-pub numbered : (h : History) (w : ℕ) → NumberedFrom 0 (jobs_of w (outbox_of h).accepted)
+numbered_more : (first most : ℕ) (b b' : outbox.Account) (o : Option Job) (ws : List ℕ) → Grows b b' (option_to_list o) ws → HasNextNumber b o → HasNumbers first most b → HasNumbers first most b'
+numbered_more first most b b' None ws g next has =
+    let same : b'.accepted ≡ b.accepted = g.accepted ∙ append-nil b.accepted in
+    record {
+      first_job = g.first_job ∙ has.first_job;
+      most = g.most ∙ has.most;
+      numbers = λ w. subst (λ (js : List Job). NumberedFrom first 0 (jobs_of w js)) (sym same) (has.numbers w);
+      within = λ w. subst (λ (js : List Job). length (jobs_of w js) ≤ most) (sym same) (has.within w);
+    }
+numbered_more first most b b' (Some j) ws g next has =
+    let number : j.number ≡ number_after first (given_to (worker_of j.work) b) =
+    next.0 ∙ ap (λ n. number_after n (given_to (worker_of j.work) b)) has.first_job in
+    let below : given_to (worker_of j.work) b < most = subst (λ n. given_to (worker_of j.work) b < n) has.most next.1 in
+    record {
+      first_job = g.first_job ∙ has.first_job;
+      most = g.most ∙ has.most;
+      numbers = λ w.
+          subst (NumberedFrom first 0) (sym (one_accepted w b b' j g.accepted)) (push_if first w b j (worker_of j.work == w) refl number (has.numbers w));
+      within = λ w.
+          subst (λ (js : List Job). length js ≤ most) (sym (one_accepted w b b' j g.accepted)) (few_if most w b j (worker_of j.work == w) refl below (has.within w));
+    }
+
+numbered_events : (first most : ℕ) (a : Account) (es : List Event) → HasNumbers first most a.outbox → HasNumbers first most (fold account_after a es).outbox
+numbered_events first most a [] has = has
+numbered_events first most a (e ∷ es) has =
+    numbered_events first most (account_after a e) es (numbered_more first most _ _ (job_at a e) (workers_at e) (event_grows a e) (event_next a e) has)
+
+has_numbers : (h : History) → HasNumbers h.setup.first_job most_jobs (outbox_of h)
 unfolding account_of
-numbered h w = numbered_events (account_before h.setup) h.events (λ w. tt) w
+has_numbers h =
+    numbered_events h.setup.first_job most_jobs (account_before h.setup) h.events (record { first_job = refl; most = refl; numbers = λ w. tt; within = λ w. omega arith })
+
+pub numbered : (h : History) (w : ℕ) → NumberedFrom h.setup.first_job 0 (jobs_of w (outbox_of h).accepted)
+numbered h w = (has_numbers h).numbers w
+
+pub few_jobs : (h : History) (w : ℕ) → length (jobs_of w (outbox_of h).accepted) ≤ 4294967295
+few_jobs h w = (has_numbers h).within w
 
 -- ---- every lawful history
 

@@ -5,7 +5,7 @@ use Rattle.std.specs.List.{flat_map}
 use Rattle.rdm_frame.specs.declared.frame.Frame.{Frame}
 use Rattle.rdm_frame.specs.FrameText.{frame_text, IsFrame}
 use Rattle.rdm_outbox.specs.declared.job.Job.{Job}
-use Rattle.rdm_outbox.specs.Jobs.{jobs_of}
+use Rattle.rdm_outbox.specs.Jobs.{jobs_of, number_after}
 use Rattle.rdm_responder.specs.History.{History}
 use Rattle.rdm_responder.specs.Runs.{outbox_of}
 use Rattle.rdm_bus.specs.declared.event.Event.{Event}
@@ -72,6 +72,15 @@ NumberingHolds = (start : Start) (steps : List Step) (events : List Event) → I
 abbrev pub PollingInTurnHolds : Type 0
 PollingInTurnHolds = (start : Start) (steps : List Step) (events : List Event) → IsBusRun start steps events → PollsAskInTurn start events
 
--- The k-th job of a worker that a device has accepted has the number k, after whatever has happened to it.
+-- The number of the k-th job of a worker that a device has accepted, from 0, comes k after the first number of its setup,
+-- whatever has happened to the device.
 abbrev pub JobsAreNumbered : Type 0
-JobsAreNumbered = (h : History) (worker k : ℕ) (job : Job) → slice_get (jobs_of worker (outbox_of h).accepted) k ≡ Some job → job.number ≡ k
+JobsAreNumbered =
+    (h : History) (worker k : ℕ) (job : Job) → slice_get (jobs_of worker (outbox_of h).accepted) k ≡ Some job
+    → job.number ≡ number_after h.setup.first_job k
+
+-- So no two jobs of a worker have the same number.
+abbrev pub NumbersDiffer : Type 0
+NumbersDiffer =
+    (h : History) (worker i k : ℕ) (job other : Job) → slice_get (jobs_of worker (outbox_of h).accepted) i ≡ Some job
+    → slice_get (jobs_of worker (outbox_of h).accepted) k ≡ Some other → job.number ≡ other.number → i ≡ k

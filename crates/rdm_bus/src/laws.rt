@@ -7,7 +7,7 @@ ghost use Rattle.rdm_bus.specs.BusLaws.{BusLawsHold};
 ghost use Rattle.rdm_bus.specs.Headline.{HeadlineHolds, TwiceIsRuledOut, LaterFirstIsRuledOut, AnsweringTheUnheardIsRuledOut, AfterTheCloseIsRuledOut, SkippingIsRuledOut, RecordingNothingIsRuledOut, RecordingTwiceIsRuledOut, DroppingAnEqualOneIsRuledOut, BookingNoPollIsRuledOut, AnotherMessageIsRuledOut};
 ghost use Rattle.rdm_bus.specs.Hearing.{CommandSendingHolds, HearingHolds};
 ghost use Rattle.rdm_bus.specs.Messages.{KeepingHolds};
-ghost use Rattle.rdm_bus.specs.Numbering.{NumberingHolds, PollingInTurnHolds, JobsAreNumbered};
+ghost use Rattle.rdm_bus.specs.Numbering.{NumberingHolds, PollingInTurnHolds, JobsAreNumbered, NumbersDiffer};
 
 use crate::{Fault, PlayError};
 use rdm_params::two_commands_fetch;
@@ -63,10 +63,12 @@ pub fn answers_are_heard()
     ensures { HearingHolds }
 {}
 
-/// The k-th job of a worker that a device accepts has the number k, after whatever has happened to it.
-#[tactic(auto, using(crate::proofs::Numbering::jobs))]
+/// The jobs of a worker that a device accepts are counted up from the first number of its setup, after whatever has happened to
+/// it, and 0 comes after 4,294,967,295. No two of them have the same number.
+#[tactic(auto, using(crate::proofs::Numbering::jobs, crate::proofs::Numbering::differ))]
 pub fn jobs_are_numbered()
-    ensures { JobsAreNumbered }
+    ensures numbers { JobsAreNumbered }
+    ensures differ { NumbersDiffer }
 {}
 
 /// In every run what a device gave from its queue, followed by what waits, is what waited at first, followed by what entered

@@ -1,7 +1,7 @@
 //! A device and a controller on one bus.
 
 ghost use Rattle.std.specs.Prelude.{◌≡◌, ◌≢◌, ◌↔◌, ◌<◌, ◌++◌, ◌∷◌, [], ℕ, List, Some, None, length, IfOk, OnOk, OnErr, IfSome, IfErr, IsErrOf, slice_index};
-ghost use Rattle.std.specs.Option.{option_map, option_map_or, option_to_list};
+ghost use Rattle.std.specs.Option.{option_and_then, option_map, option_map_or, option_to_list};
 ghost use Rattle.rdm_params.specs.declared.jobs.message.Message.{Message};
 ghost use Rattle.rdm_responder.specs.History.{History, Heard as HeardBytes, then_event};
 ghost use Rattle.rdm_responder.specs.Lawful.{IsLawful, MayArrive};
@@ -279,10 +279,7 @@ fn carry(
 {
     // A slot is raised by less than 256.
     let _ = fault.raise();
-    let (reply, started) = match fault.request_heard(&sent) {
-        Some(bytes) => answer(responder, &bytes),
-        None => (None, None),
-    };
+    let (reply, started) = answer_heard(responder, fault.request_heard(&sent));
     let heard = match &reply {
         Some(bytes) => {
             bytes_fit(bytes.as_slice());
@@ -301,6 +298,20 @@ fn carry(
         heard,
     };
     Made { event, started }
+}
+
+/// Has the device hear what is left of a request, if anything: its reply, and the job that started.
+fn answer_heard(responder: &mut Responder, heard: Option<Wire>) -> (Option<Wire>, Option<Started>)
+    ensures reply { (h : History) → StandsFor responder.old h → result.0 ≡ option_and_then (reply_of h) heard }
+    ensures job { (h : History) → StandsFor responder.old h → job_in result.1 ≡ option_and_then (job_of h) heard }
+    ensures table { IfSome result.1 IsAsInTable }
+    ensures stands { (h : History) → StandsFor responder.old h →
+        StandsFor responder.new (option_map_or (λ bytes. then_event h (HeardBytes bytes)) heard h) }
+{
+    match heard {
+        Some(bytes) => answer(responder, &bytes),
+        None => (None, None),
+    }
 }
 
 /// Has the device hear bytes: its reply, and the job that started.

@@ -1,1 +1,3 @@
+pub mod Many
+pub mod Polls
 pub mod Values

@@ -12,18 +12,20 @@ use Rattle.rdm_outbox.specs.Jobs.{has_place}
 use Rattle.rdm_responder.specs.Runs.{outbox_of}
 use Rattle.rdm_responder.specs.Rules.{account_of, answered}
 use Rattle.rdm_responder.specs.StandsFor.{StandsFor}
-use Rattle.rdm_collector.specs.Collecting.{State}
 use Rattle.rdm_c.specs.declared.endpoint.Endpoint.{Endpoint}
-use Rattle.rdm_c.specs.declared.endpoint.Endpoint.TheVariants.{Responder, Collector, Searcher}
+use Rattle.rdm_c.specs.declared.endpoint.Endpoint.TheVariants.{Responder, Collector, DeviceCollector, Searcher}
 use Rattle.rdm_c.specs.declared.status.Status.{Status}
 use Rattle.rdm_c.specs.declared.status.Status.TheVariants as status
 use Rattle.rdm_c.specs.Statuses.{code_of}
+use Rattle.rdm_collector.specs.AnyDevice.Collecting.{DeviceState}
+use Rattle.rdm_c.specs.CollectorStates.{CollectorState}
 use Rattle.rdm_c.specs.SearchStates.{SearchState}
 
 -- It is a responder, and stands for this history.
 abbrev pub IsFor : Endpoint → History → Type 0
 IsFor (Responder running) h = StandsFor running.responder h
 IsFor (Collector collector) h = ⊥
+IsFor (DeviceCollector collector) h = ⊥
 IsFor (Searcher search) h = ⊥
 
 -- the handle holds a responder that stands for this history
@@ -32,19 +34,21 @@ HeldFor None h = ⊥
 HeldFor (Some endpoint) h = IsFor endpoint h
 
 -- It is a collector in this state.
-abbrev pub IsIn : Endpoint → State → Type 0
+abbrev pub IsIn : Endpoint → CollectorState → Type 0
 IsIn (Responder running) s = ⊥
 IsIn (Collector collector) s = collector ≡ s
+IsIn (DeviceCollector collector) s = ⊥
 IsIn (Searcher search) s = ⊥
 
 -- the handle holds a collector in this state
-abbrev pub HeldIn : Option Endpoint → State → Type 0
+abbrev pub HeldIn : Option Endpoint → CollectorState → Type 0
 HeldIn None s = ⊥
 HeldIn (Some endpoint) s = IsIn endpoint s
 
 abbrev pub is_responder : Endpoint → Bool
 is_responder (Responder running) = true
 is_responder (Collector collector) = false
+is_responder (DeviceCollector collector) = false
 is_responder (Searcher search) = false
 
 -- whether the handle holds a responder
@@ -55,6 +59,7 @@ holds_responder (Some endpoint) = is_responder endpoint
 abbrev pub is_collector : Endpoint → Bool
 is_collector (Responder running) = false
 is_collector (Collector collector) = true
+is_collector (DeviceCollector collector) = false
 is_collector (Searcher search) = false
 
 -- whether the handle holds a collector
@@ -62,10 +67,23 @@ abbrev pub holds_collector : Option Endpoint → Bool
 holds_collector None = false
 holds_collector (Some endpoint) = is_collector endpoint
 
+-- the collector for any device, if it is one
+abbrev pub device_collector_of : Endpoint → Option DeviceState
+device_collector_of (Responder running) = None
+device_collector_of (Collector collector) = None
+device_collector_of (DeviceCollector collector) = Some collector
+device_collector_of (Searcher search) = None
+
+-- the collector for any device that the handle holds, if it holds one
+abbrev pub held_device_collector : Option Endpoint → Option DeviceState
+held_device_collector None = None
+held_device_collector (Some endpoint) = device_collector_of endpoint
+
 -- the search, if it is one
 abbrev pub search_of : Endpoint → Option SearchState
 search_of (Responder running) = None
 search_of (Collector collector) = None
+search_of (DeviceCollector collector) = None
 search_of (Searcher search) = Some search
 
 -- the search that the handle holds, if it holds one
@@ -78,10 +96,16 @@ abbrev pub found : Bool → Status
 found true = status.Done
 found false = status.Absent
 
--- what a responder is set up with: its UID, its profile, the size of its queue, and how many status entries can wait
-abbrev pub setup_of : ℕ → ℕ → Profile → ℕ → ℕ → Setup
-setup_of maker device profile queue_size entries =
-    record { uid = record { maker = maker; device = device }; profile = profile; queue_size = queue_size; entries = entries }
+-- what a responder is set up with: its UID, its profile, the size of its queue, how many status entries can wait, and the number
+-- of each worker's first job
+abbrev pub setup_of : ℕ → ℕ → Profile → ℕ → ℕ → ℕ → Setup
+setup_of maker device profile queue_size entries first_job = record {
+  uid = record { maker = maker; device = device };
+  profile = profile;
+  queue_size = queue_size;
+  entries = entries;
+  first_job = first_job;
+}
 
 -- what C is told of whether something is so: 1 or 0
 abbrev pub flag : Bool → ℕ

@@ -1,7 +1,7 @@
 -- Which rule of profiles is broken, as the header numbers the rules.
 use Rattle.std.specs.Prelude.{ℕ, ◌==◌, if◌then◌else◌, Option, Some, None}
 use Rattle.rdm_device.specs.declared.profile.faults.ProfileFault.{ProfileFault}
-use Rattle.rdm_device.specs.declared.profile.faults.ProfileFault.TheVariants.{SubDevices, Presets, Personalities, Start, RootFootprint, SubFootprint, Languages, TestNumber, TwinTests, TwinStatusTexts}
+use Rattle.rdm_device.specs.declared.profile.faults.ProfileFault.TheVariants.{SubDevices, Presets, Personalities, Start, RootFootprint, SubFootprint, Languages, TestNumber, TwinTests, TwinStatusTexts, LeftOut, LeftOutNeeded, ParameterCount, ParameterPid, ParameterLimits, ParameterStart, ParameterOrder}
 
 -- the rule of a number; 0 stands for none
 abbrev pub fault_in : ℕ → Option ProfileFault
@@ -15,4 +15,11 @@ fault_in number =
     else if number == 7 then Some Languages
     else if number == 8 then Some TestNumber
     else if number == 9 then Some TwinTests
-    else if number == 10 then Some TwinStatusTexts else None
+    else if number == 10 then Some TwinStatusTexts
+    else if number == 11 then Some LeftOut
+    else if number == 12 then Some LeftOutNeeded
+    else if number == 13 then Some ParameterCount
+    else if number == 14 then Some ParameterPid
+    else if number == 15 then Some ParameterLimits
+    else if number == 16 then Some ParameterStart
+    else if number == 17 then Some ParameterOrder else None

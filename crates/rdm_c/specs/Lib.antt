@@ -3,8 +3,13 @@ pub mod Statuses
 pub mod Changes
 pub mod Jobs
 pub mod Outcomes
+pub mod Texts
+pub mod Parameters
 pub mod Profiles
+pub mod CollectorStates
+pub mod Collecteds
 pub mod Endpoints
+pub mod Memory
 pub mod Messages
 pub mod SearchStates
 pub mod Searches

@@ -29,7 +29,10 @@ results =
     (21, codes "IMAGE_LENGTH") ∷
     (22, codes "ALTERED_IMAGE") ∷
     (23, codes "FOREIGN_IMAGE") ∷
-    (24, codes "NO_REPLY") ∷ []
+    (24, codes "NO_REPLY") ∷
+    (25, codes "IN_USE") ∷
+    (26, codes "UNALIGNED") ∷
+    (27, codes "SHORT_MEMORY") ∷ []
 
 -- a name, or that there is none
 abbrev pub named : Option (List ℕ) → List ℕ

@@ -1,5 +1,6 @@
--- The profile that a plain struct of C's stands for. A count that is greater than its array stands for the whole array.
-use Rattle.std.specs.Prelude.{ℕ, List, map, take}
+-- The profile that a plain struct of C's stands for. A count that is greater than its array stands for the whole array. The parameters
+-- of the maker's own and the PIDs of those that are left out lie outside of it, as many as it says.
+use Rattle.std.specs.Prelude.{map, take}
 use Rattle.rdm_device.specs.declared.profile.Personality.{Personality}
 use Rattle.rdm_device.specs.declared.profile.Profile.{Profile}
 use Rattle.rdm_device.specs.declared.profile.SelfTest.{SelfTest}
@@ -7,7 +8,6 @@ use Rattle.rdm_device.specs.declared.profile.SensorDef.{SensorDef}
 use Rattle.rdm_device.specs.declared.profile.Slot.{Slot}
 use Rattle.rdm_device.specs.declared.profile.StatusText.{StatusText}
 use Rattle.rdm_device.specs.declared.profile.Unit.{Unit as DeviceUnit}
-use Rattle.rdm_c.specs.declared.profile.TextNumbers.{TextNumbers}
 use Rattle.rdm_c.specs.declared.profile.PersonalityNumbers.{PersonalityNumbers}
 use Rattle.rdm_c.specs.declared.profile.SlotNumbers.{SlotNumbers}
 use Rattle.rdm_c.specs.declared.profile.SensorNumbers.{SensorNumbers}
@@ -15,9 +15,8 @@ use Rattle.rdm_c.specs.declared.profile.SelfTestNumbers.{SelfTestNumbers}
 use Rattle.rdm_c.specs.declared.profile.StatusTextNumbers.{StatusTextNumbers}
 use Rattle.rdm_c.specs.declared.profile.UnitNumbers.{UnitNumbers}
 use Rattle.rdm_c.specs.declared.profile.ProfileNumbers.{ProfileNumbers}
-
-abbrev pub text_in : TextNumbers → List ℕ
-text_in t = take t.count t.bytes
+use Rattle.rdm_c.specs.Parameters.{parameter_in}
+use Rattle.rdm_c.specs.Texts.{text_in}
 
 abbrev pub personality_in : PersonalityNumbers → Personality
 personality_in p = record { footprint = p.footprint; name = text_in p.name }
@@ -70,4 +69,7 @@ profile_in p = record {
   tests = record { items = map test_in (take p.test_count p.tests) };
   status_texts = record { items = map status_text_in (take p.status_text_count p.status_texts) };
   presets = p.presets;
+  own = map parameter_in p.parameters.now;
+  without = record { items = p.without.now };
+  more_slots = p.more_slots;
 }

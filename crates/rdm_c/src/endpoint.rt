@@ -1,13 +1,15 @@
 //! What stands behind a handle, and what it does for C.
 
 pub(crate) mod collector;
+pub(crate) mod device_collector;
 pub(crate) mod firmware;
 pub(crate) mod responder;
 pub(crate) mod saving;
 pub(crate) mod search;
 
+use crate::running_collector::RunningCollector;
 use crate::running_search::RunningSearch;
-use rdm_collector::Collector;
+use rdm_collector::DeviceCollector;
 use rdm_frame::Wire;
 use rdm_responder::Responder;
 
@@ -26,7 +28,9 @@ pub enum Endpoint {
     /// A device on the bus.
     Responder(RunningResponder),
     /// A controller that collects the messages of a device.
-    Collector(Collector),
+    Collector(RunningCollector),
+    /// A controller that collects the messages of a device, whatever response types its answers have.
+    DeviceCollector(DeviceCollector),
     /// A controller that finds the fixtures of its line.
     Searcher(RunningSearch),
 }

@@ -2,7 +2,9 @@
 
 pub(crate) mod change;
 pub(crate) mod collector;
+pub(crate) mod device_collector;
 pub(crate) mod firmware;
+pub(crate) mod memory;
 pub(crate) mod names;
 pub(crate) mod profile;
 pub(crate) mod reading;

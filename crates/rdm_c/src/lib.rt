@@ -6,6 +6,7 @@
 //! The calls of C stand in `exports/`; what each does to what the handle holds, in the file of the same name in `endpoint/`.
 #![tactic(auto)]
 
+mod collected;
 mod endpoint;
 mod exports;
 mod found;
@@ -13,16 +14,19 @@ mod front;
 mod handle;
 mod job;
 mod keeping;
+mod memory;
 mod message;
 mod names;
 mod outcome;
 mod profile;
 mod raw_box;
 mod reply;
+mod running_collector;
 mod running_search;
 mod sizes;
 mod status;
 
+pub use collected::{CollectedNumbers, HeardNumbers};
 pub use exports::change::{
     felosumay_responder_change_label, felosumay_responder_change_personality,
     felosumay_responder_change_start,
@@ -32,7 +36,14 @@ pub use exports::collector::{
     felosumay_collector_next, felosumay_collector_over, felosumay_collector_poll,
     felosumay_collector_release,
 };
+pub use exports::device_collector::{
+    felosumay_device_collector_ask, felosumay_device_collector_hear,
+    felosumay_device_collector_new, felosumay_device_collector_next,
+    felosumay_device_collector_over, felosumay_device_collector_poll,
+    felosumay_device_collector_release,
+};
 pub use exports::firmware::{felosumay_responder_note, felosumay_responder_place};
+pub use exports::memory::{felosumay_responder_fits, felosumay_responder_size};
 pub use exports::names::{
     felosumay_tell_parameter, felosumay_tell_reason, felosumay_tell_status, felosumay_tell_version,
 };
@@ -44,7 +55,7 @@ pub use exports::reading::{
 pub use exports::reply::felosumay_reply_read;
 pub use exports::responder::{
     felosumay_responder_arrive, felosumay_responder_demo, felosumay_responder_new,
-    felosumay_responder_new_with_entries, felosumay_responder_release, felosumay_responder_step,
+    felosumay_responder_new_with, felosumay_responder_release, felosumay_responder_step,
 };
 pub use exports::saving::{
     felosumay_responder_restore, felosumay_responder_save, felosumay_responder_saved_size,
@@ -59,6 +70,7 @@ pub use job::{JobNumbers, SteppedNumbers};
 pub use message::{CommandNumbers, MessageNumbers};
 pub use names::NameNumbers;
 pub use outcome::OutcomeNumbers;
+pub use profile::parameters::ParameterNumbers;
 pub use profile::{
     PersonalityNumbers, ProfileNumbers, SelfTestNumbers, SensorNumbers, SlotNumbers,
     StatusTextNumbers, TextNumbers, UnitNumbers,

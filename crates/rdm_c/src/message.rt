@@ -1,6 +1,7 @@
 //! What a collector takes and gives, as numbers.
 
 ghost use Rattle.std.specs.Prelude.{◌≡◌, ◌≤◌, length, take};
+ghost use Rattle.rdm_c.specs.Endpoints.{flag};
 ghost use Rattle.rdm_c.specs.Messages.{want_in, action_in, command_in, heard_code, message_in};
 
 use crate::front::write_front;
@@ -42,6 +43,9 @@ pub struct MessageNumbers {
     pub sub: u16,
     /// The command class of the response (table A-1).
     pub command_class: u8,
+    /// 1 if it was asked for again (STATUS_GET_LAST_MESSAGE, table A-4), so that it may be the message before it once more; else
+    /// 0.
+    pub may_repeat: u8,
     /// The parameter data at the front.
     pub bytes: [u8; MOST_DATA],
 }
@@ -66,15 +70,17 @@ impl CommandNumbers {
 }
 
 impl MessageNumbers {
-    /// Tells of a message.
-    pub(crate) fn tell(&mut self, message: &Message)
+    /// Tells of a message, and whether it was asked for again.
+    pub(crate) fn tell(&mut self, message: &Message, again: bool)
         ensures message { message_in self.new ≡ message.now }
         ensures count { self.new.count ≡ length message.now.body }
+        ensures repeat { self.new.may_repeat ≡ flag again }
     {
         self.count = write_front(message.body.as_slice(), &mut self.bytes);
         self.pid = message.pid;
         self.sub = message.sub;
         self.command_class = message.class;
+        self.may_repeat = if again { 1 } else { 0 };
     }
 }
 

@@ -55,6 +55,9 @@ macro_rules! result_rows {
             (22 "ALTERED_IMAGE")
             (23 "FOREIGN_IMAGE")
             (24 "NO_REPLY")
+            (25 "IN_USE")
+            (26 "UNALIGNED")
+            (27 "SHORT_MEMORY")
         }
     };
 }

@@ -1,10 +1,15 @@
 //! A profile as a plain struct of C's. A count that is greater than its array stands for the whole array.
 
 mod lists;
+pub(crate) mod making;
+pub(crate) mod parameters;
 
 ghost use Rattle.std.specs.Prelude.{◌≡◌};
-ghost use Rattle.rdm_c.specs.Profiles.{text_in, personality_in, slot_in, sensor_in, test_in, status_text_in, unit_in, profile_in};
+ghost use Rattle.rdm_device.specs.Device.Faults.{with_parameters};
+ghost use Rattle.rdm_c.specs.Profiles.{personality_in, slot_in, sensor_in, test_in, status_text_in, unit_in, profile_in};
+ghost use Rattle.rdm_c.specs.Texts.{text_in};
 
+use crate::profile::parameters::ParameterNumbers;
 use rdm_frame::Text;
 use rdm_params::{Personality, Profile, SelfTest, SensorDef, Slot, StatusText, Unit};
 
@@ -115,7 +120,7 @@ pub struct UnitNumbers {
 /// What a root device and its sub-devices are made with. The header calls it `felosumay_profile`.
 #[repr(C)]
 #[derive(Clone, Copy)]
-pub struct ProfileNumbers {
+pub struct ProfileNumbers<'a> {
     /// The root device.
     pub root: UnitNumbers,
     /// What each sub-device starts as.
@@ -148,6 +153,12 @@ pub struct ProfileNumbers {
     pub tests: [SelfTestNumbers; 8],
     /// The status IDs of the device (section 10.3.3).
     pub status_texts: [StatusTextNumbers; 8],
+    /// How many DMX512 slots the root device uses beside those that `slots` describes.
+    pub more_slots: u16,
+    /// The parameters of the maker's own, in the order of their PIDs. In C a pointer, and how many there are.
+    pub parameters: &'a [ParameterNumbers],
+    /// The PIDs of the standard's parameters that the device doesn't have. In C a pointer, and how many there are.
+    pub without: &'a [u16],
 }
 
 impl TextNumbers {
@@ -229,45 +240,57 @@ impl StatusTextNumbers {
 }
 
 impl UnitNumbers {
-    /// The unit.
-    pub(crate) fn unit(&self) -> Unit
-        ensures { result ≡ unit_in self.now }
+    /// Makes a unit this one.
+    fn write(&self, unit: &mut Unit)
+        ensures { unit.new ≡ unit_in self.now }
     {
-        Unit {
-            model: self.model,
-            category: self.category,
-            software: self.software,
-            model_text: self.model_text.text(),
-            maker_text: self.maker_text.text(),
-            label: self.label.text(),
-            software_text: self.software_text.text(),
-            personalities: lists::personalities(
-                &self.personalities[..usize::from(self.personality_count).min(8)],
-            ),
-            start: self.start,
-        }
+        unit.model = self.model;
+        unit.category = self.category;
+        unit.software = self.software;
+        unit.model_text = self.model_text.text();
+        unit.maker_text = self.maker_text.text();
+        unit.label = self.label.text();
+        unit.software_text = self.software_text.text();
+        let count = usize::from(self.personality_count).min(8);
+        lists::personalities(&self.personalities[..count], &mut unit.personalities);
+        unit.start = self.start;
     }
 }
 
-impl ProfileNumbers {
-    /// The profile.
-    pub(crate) fn profile(&self) -> Profile
-        ensures { result ≡ profile_in self.now }
+impl ProfileNumbers<'_> {
+    /// Makes a profile this one, but for the parameters that are left out and those of the maker's own.
+    pub(crate) fn write(&self, profile: &mut Profile)
+        ensures { profile.new ≡ with_parameters (profile_in self.now) profile.old.without.items profile.old.own }
     {
-        Profile {
-            root: self.root.unit(),
-            sub: self.sub.unit(),
-            subs: self.subs,
-            boot: self.boot,
-            boot_text: self.boot_text.text(),
-            languages: lists::languages(&self.languages[..usize::from(self.language_count).min(8)]),
-            slots: lists::slots(&self.slots[..usize::from(self.slot_count).min(46)]),
-            sensors: lists::sensors(&self.sensors[..usize::from(self.sensor_count).min(8)]),
-            tests: lists::tests(&self.tests[..usize::from(self.test_count).min(8)]),
-            status_texts: lists::status_texts(
-                &self.status_texts[..usize::from(self.status_text_count).min(8)],
-            ),
-            presets: self.presets,
-        }
+        self.root.write(&mut profile.root);
+        self.sub.write(&mut profile.sub);
+        profile.subs = self.subs;
+        profile.boot = self.boot;
+        profile.boot_text = self.boot_text.text();
+        self.write_lists(profile);
+        profile.presets = self.presets;
+        profile.more_slots = self.more_slots;
+    }
+
+    /// Makes the lists of a profile those of this one.
+    fn write_lists(&self, profile: &mut Profile)
+        ensures { profile.new ≡ record profile.old {
+          languages = (profile_in self.now).languages;
+          slots = (profile_in self.now).slots;
+          sensors = (profile_in self.now).sensors;
+          tests = (profile_in self.now).tests;
+          status_texts = (profile_in self.now).status_texts;
+        } }
+    {
+        let count = usize::from(self.language_count).min(8);
+        lists::languages(&self.languages[..count], &mut profile.languages);
+        let count = usize::from(self.slot_count).min(46);
+        lists::slots(&self.slots[..count], &mut profile.slots);
+        let count = usize::from(self.sensor_count).min(8);
+        lists::sensors(&self.sensors[..count], &mut profile.sensors);
+        let count = usize::from(self.test_count).min(8);
+        lists::tests(&self.tests[..count], &mut profile.tests);
+        let count = usize::from(self.status_text_count).min(8);
+        lists::status_texts(&self.status_texts[..count], &mut profile.status_texts);
     }
 }

@@ -55,7 +55,7 @@ impl ReplyNumbers {
 }
 
 /// The response type, the reason and the estimate.
-fn numbers_of(response: Response) -> (u8, u16, u16)
+pub(crate) fn numbers_of(response: Response) -> (u8, u16, u16)
     ensures { (result.0 ≡ type_of response) × (result.1 ≡ reason_of response) × (result.2 ≡ tenths_of response) }
 {
     match response {

@@ -1,11 +1,13 @@
 //! How many bytes the structs have that C hands in and out. `c/sizes.c` says the same of those in the header.
 
+use crate::collected::{CollectedNumbers, HeardNumbers};
 use crate::found::FoundNumbers;
 use crate::handle::Handle;
 use crate::job::{JobNumbers, SteppedNumbers};
 use crate::message::{CommandNumbers, MessageNumbers};
 use crate::names::NameNumbers;
 use crate::outcome::OutcomeNumbers;
+use crate::profile::parameters::ParameterNumbers;
 use crate::profile::{
     PersonalityNumbers, ProfileNumbers, SelfTestNumbers, SensorNumbers, SlotNumbers,
     StatusTextNumbers, TextNumbers, UnitNumbers,
@@ -29,7 +31,9 @@ const _: () = prove!(size_of::<StatusTextNumbers>() == 36);
 
 const _: () = prove!(size_of::<UnitNumbers>() == 432);
 
-const _: () = prove!(size_of::<ProfileNumbers>() == 3604);
+const _: () = prove!(size_of::<ParameterNumbers>() == 96);
+
+const _: () = prove!(size_of::<ProfileNumbers<'static>>() == 3640);
 
 const _: () = prove!(size_of::<JobNumbers>() == 16);
 
@@ -40,6 +44,10 @@ const _: () = prove!(size_of::<OutcomeNumbers>() == 10);
 const _: () = prove!(size_of::<CommandNumbers>() == 12);
 
 const _: () = prove!(size_of::<MessageNumbers>() == 248);
+
+const _: () = prove!(size_of::<HeardNumbers>() == 6);
+
+const _: () = prove!(size_of::<CollectedNumbers>() == 256);
 
 const _: () = prove!(size_of::<FoundNumbers>() == 16);
 

@@ -56,6 +56,12 @@ pub enum Status {
     ForeignImage,
     /// The bytes aren't a response.
     NoReply,
+    /// Another responder lies in the memory. `felosumay_memory.h` says so.
+    InUse,
+    /// The memory doesn't begin at a multiple of 16.
+    Unaligned,
+    /// There is too little memory for the responder.
+    ShortMemory,
 }
 
 impl Status {
@@ -89,6 +95,9 @@ impl Status {
             Status::AlteredImage => 22,
             Status::ForeignImage => 23,
             Status::NoReply => 24,
+            Status::InUse => 25,
+            Status::Unaligned => 26,
+            Status::ShortMemory => 27,
         }
     }
 }

@@ -1,6 +1,6 @@
 //! The collector.
 
-ghost use Rattle.std.specs.Prelude.{◌≡◌, ◌↔◌, ◌≤◌, length, drop, IsSome, IfOk, OnOk, OnErr, IsErrOf};
+ghost use Rattle.std.specs.Prelude.{◌≡◌, ◌↔◌, ◌≤◌, length, drop, is_some, IsSome, IfOk, OnOk, OnErr, IsErrOf};
 ghost use Rattle.std.specs.Result.{result_err};
 ghost use Rattle.rdm_frame.specs.FrameText.{frame_text, IsFrame};
 ghost use Rattle.rdm_collector.specs.Collecting.{new_collector, refusal_of, poll_request, command_request, after_ask, after_poll, heard_in, after_hearing, without_transaction};
@@ -183,6 +183,21 @@ impl Collector {
         ensures { self.new ≡ without_transaction self.old }
     {
         self.transaction = None;
+    }
+
+    /// Whether a transaction is open: its answer wasn't heard, and it isn't over.
+    pub fn is_open(&self) -> bool
+        ensures { result ≡ is_some self.now.transaction }
+    {
+        self.transaction.is_some()
+    }
+
+    /// Whether the last poll has no answer, so that the next one asks for the last message again (E1.20 table A-4). Its answer
+    /// may be the message that was recorded last.
+    pub fn is_unanswered(&self) -> bool
+        ensures { result ≡ self.now.unanswered }
+    {
+        self.unanswered
     }
 
     /// The messages that were recorded and not forgotten, in order.

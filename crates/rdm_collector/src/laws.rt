@@ -5,7 +5,7 @@ ghost use Rattle.rdm_collector.specs.Hearing.{PollsAreAnswered, CommandsAreAnswe
 ghost use Rattle.rdm_collector.specs.Polling.{LawsHold};
 ghost use Rattle.rdm_collector.specs.Recording.{JoinsFromTheFront, SkippingIsRefused, RecordingNothingIsRefused, RepeatingAnOlderOneIsRefused};
 
-use crate::{Action, AskError, Command, Heard, PollError, Response, Want};
+use crate::{Action, AskError, Command, Heard, PollError, PortError, Response, Want};
 
 /// After a poll, bytes are taken for a message exactly when they are the text of a frame from the target to this collector,
 /// with the poll's number, of class 21 or 31 and response type ACK. After a command they are taken for its reply exactly when
@@ -66,6 +66,11 @@ pub fn ask_errors_are_equal_by_value()
 /// Two refusals of a poll are equal by `==` exactly when they are the same.
 pub fn poll_errors_are_equal_by_value()
     ensures { (a b : PollError) → IsTrue (⟦<PollError as PartialEq>⟧.eq a b) ↔ (a ≡ b) }
+{}
+
+/// Two errors of a port are equal by `==` exactly when they are the same.
+pub fn port_errors_are_equal_by_value()
+    ensures { (a b : PortError) → IsTrue (⟦<PortError as PartialEq>⟧.eq a b) ↔ (a ≡ b) }
 {}
 
 /// Two ways in which a request is answered are equal by `==` exactly when they are the same, with the same number.

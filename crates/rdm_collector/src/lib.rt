@@ -17,6 +17,7 @@ mod collector;
 mod command;
 mod laws;
 mod message;
+mod port;
 mod ranges;
 mod reply;
 mod transaction;
@@ -32,9 +33,10 @@ pub use command::{Action, Command, is_reserved};
 pub use laws::{
     actions_are_equal_by_value, answers_are_taken, ask_errors_are_equal_by_value,
     commands_are_equal_by_value, heards_are_equal_by_value, joining_goes_from_the_front,
-    poll_errors_are_equal_by_value, recording_laws_hold, recording_laws_rule_out,
-    responses_are_equal_by_value, wants_are_equal_by_value,
+    poll_errors_are_equal_by_value, port_errors_are_equal_by_value, recording_laws_hold,
+    recording_laws_rule_out, responses_are_equal_by_value, wants_are_equal_by_value,
 };
+pub use port::{Port, PortError};
 pub use rdm_frame::standard::MOST_DATA;
 pub use rdm_frame::{Body, Load, Uid, Wire};
 pub use rdm_params::Message;

@@ -197,11 +197,13 @@ const RECORDED: [(u8, u16, &[u8]); 3] = [
 
 #[test]
 fn messages_are_recorded_as_they_are_heard(rt: HostRuntime) {
-    let collector = played(&rt, rt.alloc(), &HEARD);
+    let mut collector = played(&rt, rt.alloc(), &HEARD);
     assert_eq!(rt; collector.recorded().len(), RECORDED.len());
     for (message, (class, pid, bytes)) in collector.recorded().iter().zip(RECORDED) {
         let said = (message.class, message.pid, message.sub);
         assert_eq!(rt; said, (class, pid, 0));
         assert_eq!(rt; message.body.as_slice(), bytes, "{pid:04X}");
     }
+    collector.forget(2);
+    assert_eq!(rt; collector.recorded().len(), 1);
 }

@@ -93,6 +93,19 @@ same_error e x is = ap Err (ap (error_in e) is)
 pub told_also : {A B : Type 0} (e x : Stopped) (S : Type 0) → (IsErrOf {T = A} (Err e) x ↔ S) → (IsErrOf {T = B} (Err e) x ↔ S)
 told_also {A} {B} e x S both = (λ is. both.0 (same_error {A = B} {B = A} e x is), λ s. same_error {A = A} {B = B} e x (both.1 s))
 
+no_error : {A : Type 0} (a : A) (x : Stopped) → IsErrOf {T = A} (Ok a) x → ⊥
+no_error a x is = cc
+
+no_twin : OutOfMemory ≡ BadSetup → ⊥
+no_twin is = cc
+
+no_memory : {B : Type 0} → IsErrOf {T = B} (Err OutOfMemory) BadSetup → ⊥
+no_memory {B} is = absurd (no_twin (ap (error_in BadSetup) is))
+
+-- where the setup can be run, and memory is wanted later, it isn't bad
+pub good_setup : {A B : Type 0} (a : A) (S : Type 0) → (IsErrOf {T = A} (Ok a) BadSetup ↔ S) → (IsErrOf {T = B} (Err OutOfMemory) BadSetup ↔ S)
+good_setup {A} {B} a S both = (λ is. absurd (no_memory {B = B} is), λ s. absurd (no_error a BadSetup (both.1 s)))
+
 bad_only : (s : Stopped) → error_of s ≡ run.BadSetup → s ≡ BadSetup
 bad_only OutOfMemory e = absurd cc
 bad_only BadSetup e = refl

@@ -8,11 +8,11 @@ use Rattle.rdm_responder.specs.StandsFor.{IsQueueSize}
 use Rattle.rdm_bus.specs.BusRun.{Start}
 use Rattle.rdm_crew.specs.declared.setup.Setup.{Setup}
 
--- The device was just switched on, with room for the most status entries. The first transaction has the number 0, and no
--- poll is unanswered.
+-- The device was just switched on, with room for the most status entries. The first transaction and the first jobs have the
+-- number 0, and no poll is unanswered.
 abbrev pub switched_on : Setup → Start
 switched_on s = record {
-  history = empty_history (record { uid = s.device; profile = s.profile; queue_size = s.queue_size; entries = most_entries });
+  history = empty_history (record { uid = s.device; profile = s.profile; queue_size = s.queue_size; entries = most_entries; first_job = 0 });
   uid = s.controller;
   target = s.device;
   want = s.want;

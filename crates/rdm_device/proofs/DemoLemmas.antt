@@ -1,5 +1,5 @@
 -- The demo profile keeps the rules of a profile.
-use Rattle.std.proofs.Common.{◌≢◌, ℕ, ◌<◌, ◌≤◌, [], ◌∷◌, length, arith, lit<, lit≤}
+use Rattle.std.proofs.Common.{◌≢◌, ℕ, ◌<◌, ◌≤◌, [], ◌∷◌, refl, IsTrue, arith, lit<, lit≤}
 use Rattle.std.specs.List.{AllPairs}
 use Rattle.std.proofs.lemmas.List.Elements.{All-from_recursion}
 use Rattle.std.proofs.lemmas.List.Kept.{AllPairs-cons}
@@ -7,26 +7,44 @@ use Rattle.rdm_device.specs.declared.profile.Personality.{Personality}
 use Rattle.rdm_device.specs.declared.profile.SelfTest.{SelfTest}
 use Rattle.rdm_device.specs.declared.profile.StatusText.{StatusText}
 use Rattle.rdm_device.specs.Device.Demo.{demo, demo_root, demo_sub, demo_slots, demo_tests, demo_statuses}
-use Rattle.rdm_device.specs.Device.Profiles.{CanBeMade}
+use Rattle.rdm_device.specs.declared.profile.own.ParameterDef.{ParameterDef}
+use Rattle.rdm_device.specs.Device.LeftOut.{is_optional}
+use Rattle.rdm_device.specs.Device.OwnParameters.{is_addable, has_limits, can_start}
+use Rattle.rdm_device.specs.Device.Profiles.{CanBeMade, AreGoodParameters, MayBeLeftOut, root_slots}
 
 none_differ : {X : Type 0} (R : X → X → Type 0) → AllPairs R []
 none_differ R i j d lt within = absurd (omega arith)
 
-two_differ : {X : Type 0} (R : X → X → Type 0) (a b : X) → R a b → AllPairs R (a ∷ b ∷ [])
+pub two_differ : {X : Type 0} (R : X → X → Type 0) (a b : X) → R a b → AllPairs R (a ∷ b ∷ [])
 two_differ R a b differ =
     AllPairs-cons R a (b ∷ []) (All-from_recursion (R a) (b ∷ []) (differ, tt)) (AllPairs-cons R b [] (All-from_recursion (R b) [] tt) (none_differ R))
+
+-- no parameters of the maker's own are good, and none can be left out
+pub none_good : AreGoodParameters []
+none_good = record {
+  count = lit≤ tt;
+  pids = (All-from_recursion (λ (d : ParameterDef). IsTrue (is_addable d.pid)) [] tt, none_differ (λ (s t : ParameterDef). s.pid ≢ t.pid));
+  limits = All-from_recursion (λ (d : ParameterDef). IsTrue (has_limits d.shape d.low d.high)) [] tt;
+  starts = All-from_recursion (λ (d : ParameterDef). IsTrue (can_start d)) [] tt;
+  ascending = none_differ (λ (s t : ParameterDef). s.pid < t.pid);
+}
+
+pub none_left_out : MayBeLeftOut []
+none_left_out = record { optional = (lit≤ tt, All-from_recursion (λ (pid : ℕ). IsTrue (is_optional pid)) [] tt); needs = refl }
 
 pub demo_can_be_made : (subs : ℕ) → subs ≤ 512 → CanBeMade (demo subs)
 unfolding demo demo_root demo_sub demo_slots demo_tests demo_statuses
 demo_can_be_made subs few = (
   few,
   record {
-    root = record { personality = lit< tt; start_least = lit≤ tt; start_greatest = lit≤ tt; footprints = All-from_recursion (λ (m : Personality). m.footprint ≤ length demo_slots) demo_root.personalities.items (lit≤ tt, (lit≤ tt, tt)) };
+    root = record { personality = lit< tt; start_least = lit≤ tt; start_greatest = lit≤ tt; footprints = All-from_recursion (λ (m : Personality). m.footprint ≤ root_slots (demo subs)) demo_root.personalities.items (lit≤ tt, (lit≤ tt, tt)) };
     sub = record { personality = lit< tt; start_least = lit≤ tt; start_greatest = lit≤ tt; footprints = All-from_recursion (λ (m : Personality). m.footprint ≤ 512) demo_sub.personalities.items (lit≤ tt, tt) };
     language = lit< tt;
     test_numbers = All-from_recursion (λ (t : SelfTest). (0 < t.number) × (t.number < 255)) demo_tests ((lit< tt, lit< tt), ((lit< tt, lit< tt), tt));
     tests_differ = two_differ (λ (s t : SelfTest). s.number ≢ t.number) _ _ (λ e. absurd (omega (arith, e)));
     statuses_differ = two_differ (λ (s t : StatusText). s.id ≢ t.id) _ _ (λ e. absurd (omega (arith, e)));
     presets = lit< tt;
+    own = none_good;
+    without = none_left_out;
   },
 )

@@ -1,6 +1,6 @@
 -- `==` of profiles and of their parts.
-use Rattle.std.proofs.Common.{◌≡◌, ℕ, ℤ, Bool, ◌&&◌, List, refl, ap}
-use Rattle.std.specs.Bool.{Decides}
+use Rattle.std.proofs.Common.{◌≡◌, ℕ, ℤ, Bool, true, false, ◌&&◌, List, refl, ap}
+use Rattle.std.specs.Bool.{Decides, beq}
 use Rattle.std.specs.Ordering.{int_eq}
 use Rattle.std.specs.Prelude.{nat_eq}
 use Rattle.std.proofs.lemmas.Bool.Decides.{Decides-and, Decides-like, Decides-eqb, Decides-int_eq}
@@ -13,6 +13,9 @@ use Rattle.rdm_device.specs.declared.profile.SensorDef.{SensorDef}
 use Rattle.rdm_device.specs.declared.profile.Slot.{Slot}
 use Rattle.rdm_device.specs.declared.profile.StatusText.{StatusText}
 use Rattle.rdm_device.specs.declared.profile.Unit.{Unit as DeviceUnit}
+use Rattle.rdm_device.specs.declared.profile.own.ParameterDef.{ParameterDef}
+use Rattle.rdm_device.specs.declared.profile.own.Rights.{Rights}
+use Rattle.rdm_device.specs.declared.profile.own.Shape.{Shape}
 use Rattle.rdm_device.specs.contracts.profile.PersonalityPartialEq.TheImpl as personalities
 use Rattle.rdm_device.specs.contracts.profile.ProfilePartialEq.TheImpl as profiles
 use Rattle.rdm_device.specs.contracts.profile.SelfTestPartialEq.TheImpl as self_tests
@@ -20,6 +23,9 @@ use Rattle.rdm_device.specs.contracts.profile.SensorDefPartialEq.TheImpl as sens
 use Rattle.rdm_device.specs.contracts.profile.SlotPartialEq.TheImpl as slots
 use Rattle.rdm_device.specs.contracts.profile.StatusTextPartialEq.TheImpl as status_texts
 use Rattle.rdm_device.specs.contracts.profile.UnitPartialEq.TheImpl as units
+use Rattle.rdm_device.specs.contracts.profile.own.ParameterDefPartialEq.TheImpl as parameter_defs
+use Rattle.rdm_device.specs.contracts.profile.own.RightsPartialEq.TheImpl as rights
+use Rattle.rdm_device.specs.contracts.profile.own.ShapePartialEq.TheImpl as shapes
 use lib.Pointwise.{pointwise}
 
 -- `==` is true exactly where the values are equal
@@ -79,19 +85,42 @@ unit_decides personality a b =
     (λ e. (ap (λ (u : DeviceUnit). u.model) e, (ap (λ (u : DeviceUnit). u.category) e, (ap (λ (u : DeviceUnit). u.software) e, (ap (λ (u : DeviceUnit). u.model_text) e, (ap (λ (u : DeviceUnit). u.maker_text) e, (ap (λ (u : DeviceUnit). u.label) e, (ap (λ (u : DeviceUnit). u.software_text) e, (ap (λ (u : DeviceUnit). u.personalities) e, ap (λ (u : DeviceUnit). u.start) e)))))))))
     (number a.model b.model (number a.category b.category (number a.software b.software (text a.model_text b.model_text (text a.maker_text b.maker_text (text a.label b.label (text a.software_text b.software_text (Decides-and _ _ (list_decides 8 personality a.personalities b.personalities) (Decides-eqb a.start b.start)))))))))
 
+-- ---- parameters of the maker's own
+
+bools : IsByValue beq
+bools true true = (λ e. refl, λ e. refl)
+bools true false = (λ e. absurd cc, λ e. absurd cc)
+bools false true = (λ e. absurd cc, λ e. absurd cc)
+bools false false = (λ e. refl, λ e. refl)
+
+abbrev parameter_of : ℕ → Rights → Shape → ℤ → ℤ → List ℕ → ℕ → ℕ → List ℕ → Bool → ParameterDef
+parameter_of a0 a1 a2 a3 a4 a5 a6 a7 a8 a9 =
+    record { pid = a0; rights = a1; shape = a2; low = a3; high = a4; start = a5; unit = a6; prefix = a7; name = a8; resets = a9 }
+
+same_parameter : {a0 b0 : ℕ} {a1 b1 : Rights} {a2 b2 : Shape} {a3 b3 : ℤ} {a4 b4 : ℤ} {a5 b5 : List ℕ} {a6 b6 : ℕ} {a7 b7 : ℕ} {a8 b8 : List ℕ} {a9 b9 : Bool}
+    → (a0 ≡ b0) × ((a1 ≡ b1) × ((a2 ≡ b2) × ((a3 ≡ b3) × ((a4 ≡ b4) × ((a5 ≡ b5) × ((a6 ≡ b6) × ((a7 ≡ b7) × ((a8 ≡ b8) × (a9 ≡ b9)))))))))
+    → parameter_of a0 a1 a2 a3 a4 a5 a6 a7 a8 a9 ≡ parameter_of b0 b1 b2 b3 b4 b5 b6 b7 b8 b9
+same_parameter e = rw (e.0, e.1.0, e.1.1.0, e.1.1.1.0, e.1.1.1.1.0, e.1.1.1.1.1.0, e.1.1.1.1.1.1.0, e.1.1.1.1.1.1.1.0, e.1.1.1.1.1.1.1.1.0, e.1.1.1.1.1.1.1.1.1) refl
+
+pub parameter_decides : IsByValue rights.ghosts.eq → IsByValue shapes.ghosts.eq → IsByValue parameter_defs.ghosts.eq
+parameter_decides rights shape a b =
+    Decides-like _ same_parameter
+    (λ e. (ap (λ (d : ParameterDef). d.pid) e, (ap (λ (d : ParameterDef). d.rights) e, (ap (λ (d : ParameterDef). d.shape) e, (ap (λ (d : ParameterDef). d.low) e, (ap (λ (d : ParameterDef). d.high) e, (ap (λ (d : ParameterDef). d.start) e, (ap (λ (d : ParameterDef). d.unit) e, (ap (λ (d : ParameterDef). d.prefix) e, (ap (λ (d : ParameterDef). d.name) e, ap (λ (d : ParameterDef). d.resets) e))))))))))
+    (number a.pid b.pid (Decides-and _ _ (rights a.rights b.rights) (Decides-and _ _ (shape a.shape b.shape) (integer a.low b.low (integer a.high b.high (text a.start b.start (number a.unit b.unit (number a.prefix b.prefix (text a.name b.name (bools a.resets b.resets))))))))))
+
 -- ---- profiles
 
-abbrev profile_of : DeviceUnit → DeviceUnit → ℕ → ℕ → List ℕ → ArrayVec ℕ 8 (Unit {0}) → ArrayVec Slot 46 (Unit {0}) → ArrayVec SensorDef 8 (Unit {0}) → ArrayVec SelfTest 8 (Unit {0}) → ArrayVec StatusText 8 (Unit {0}) → ℕ → Profile
-profile_of a0 a1 a2 a3 a4 a5 a6 a7 a8 a9 a10 =
-    record { root = a0; sub = a1; subs = a2; boot = a3; boot_text = a4; languages = a5; slots = a6; sensors = a7; tests = a8; status_texts = a9; presets = a10 }
+abbrev profile_of : DeviceUnit → DeviceUnit → ℕ → ℕ → List ℕ → ArrayVec ℕ 8 (Unit {0}) → ArrayVec Slot 46 (Unit {0}) → ArrayVec SensorDef 8 (Unit {0}) → ArrayVec SelfTest 8 (Unit {0}) → ArrayVec StatusText 8 (Unit {0}) → ℕ → List ParameterDef → ArrayVec ℕ 36 (Unit {0}) → ℕ → Profile
+profile_of a0 a1 a2 a3 a4 a5 a6 a7 a8 a9 a10 a11 a12 a13 =
+    record { root = a0; sub = a1; subs = a2; boot = a3; boot_text = a4; languages = a5; slots = a6; sensors = a7; tests = a8; status_texts = a9; presets = a10; own = a11; without = a12; more_slots = a13 }
 
-same_profile : {a0 b0 a1 b1 : DeviceUnit} {a2 b2 a3 b3 : ℕ} {a4 b4 : List ℕ} {a5 b5 : ArrayVec ℕ 8 (Unit {0})} {a6 b6 : ArrayVec Slot 46 (Unit {0})} {a7 b7 : ArrayVec SensorDef 8 (Unit {0})} {a8 b8 : ArrayVec SelfTest 8 (Unit {0})} {a9 b9 : ArrayVec StatusText 8 (Unit {0})} {a10 b10 : ℕ}
-    → (a0 ≡ b0) × ((a1 ≡ b1) × ((a2 ≡ b2) × ((a3 ≡ b3) × ((a4 ≡ b4) × ((a5 ≡ b5) × ((a6 ≡ b6) × ((a7 ≡ b7) × ((a8 ≡ b8) × ((a9 ≡ b9) × (a10 ≡ b10))))))))))
-    → profile_of a0 a1 a2 a3 a4 a5 a6 a7 a8 a9 a10 ≡ profile_of b0 b1 b2 b3 b4 b5 b6 b7 b8 b9 b10
-same_profile e = rw (e.0, e.1.0, e.1.1.0, e.1.1.1.0, e.1.1.1.1.0, e.1.1.1.1.1.0, e.1.1.1.1.1.1.0, e.1.1.1.1.1.1.1.0, e.1.1.1.1.1.1.1.1.0, e.1.1.1.1.1.1.1.1.1.0, e.1.1.1.1.1.1.1.1.1.1) refl
+same_profile : {a0 b0 : DeviceUnit} {a1 b1 : DeviceUnit} {a2 b2 : ℕ} {a3 b3 : ℕ} {a4 b4 : List ℕ} {a5 b5 : ArrayVec ℕ 8 (Unit {0})} {a6 b6 : ArrayVec Slot 46 (Unit {0})} {a7 b7 : ArrayVec SensorDef 8 (Unit {0})} {a8 b8 : ArrayVec SelfTest 8 (Unit {0})} {a9 b9 : ArrayVec StatusText 8 (Unit {0})} {a10 b10 : ℕ} {a11 b11 : List ParameterDef} {a12 b12 : ArrayVec ℕ 36 (Unit {0})} {a13 b13 : ℕ}
+    → (a0 ≡ b0) × ((a1 ≡ b1) × ((a2 ≡ b2) × ((a3 ≡ b3) × ((a4 ≡ b4) × ((a5 ≡ b5) × ((a6 ≡ b6) × ((a7 ≡ b7) × ((a8 ≡ b8) × ((a9 ≡ b9) × ((a10 ≡ b10) × ((a11 ≡ b11) × ((a12 ≡ b12) × (a13 ≡ b13)))))))))))))
+    → profile_of a0 a1 a2 a3 a4 a5 a6 a7 a8 a9 a10 a11 a12 a13 ≡ profile_of b0 b1 b2 b3 b4 b5 b6 b7 b8 b9 b10 b11 b12 b13
+same_profile e = rw (e.0, e.1.0, e.1.1.0, e.1.1.1.0, e.1.1.1.1.0, e.1.1.1.1.1.0, e.1.1.1.1.1.1.0, e.1.1.1.1.1.1.1.0, e.1.1.1.1.1.1.1.1.0, e.1.1.1.1.1.1.1.1.1.0, e.1.1.1.1.1.1.1.1.1.1.0, e.1.1.1.1.1.1.1.1.1.1.1.0, e.1.1.1.1.1.1.1.1.1.1.1.1.0, e.1.1.1.1.1.1.1.1.1.1.1.1.1) refl
 
-pub profile_decides : IsByValue units.ghosts.eq → IsByValue slots.ghosts.eq → IsByValue sensor_defs.ghosts.eq → IsByValue self_tests.ghosts.eq → IsByValue status_texts.ghosts.eq → IsByValue profiles.ghosts.eq
-profile_decides unit slot sensor self_test status a b =
+pub profile_decides : IsByValue units.ghosts.eq → IsByValue slots.ghosts.eq → IsByValue sensor_defs.ghosts.eq → IsByValue self_tests.ghosts.eq → IsByValue status_texts.ghosts.eq → IsByValue parameter_defs.ghosts.eq → IsByValue profiles.ghosts.eq
+profile_decides unit slot sensor self_test status parameter a b =
     Decides-like _ same_profile
-    (λ e. (ap (λ (p : Profile). p.root) e, (ap (λ (p : Profile). p.sub) e, (ap (λ (p : Profile). p.subs) e, (ap (λ (p : Profile). p.boot) e, (ap (λ (p : Profile). p.boot_text) e, (ap (λ (p : Profile). p.languages) e, (ap (λ (p : Profile). p.slots) e, (ap (λ (p : Profile). p.sensors) e, (ap (λ (p : Profile). p.tests) e, (ap (λ (p : Profile). p.status_texts) e, ap (λ (p : Profile). p.presets) e)))))))))))
-    (Decides-and _ _ (unit a.root b.root) (Decides-and _ _ (unit a.sub b.sub) (number a.subs b.subs (number a.boot b.boot (text a.boot_text b.boot_text (Decides-and _ _ (list_decides 8 Decides-eqb a.languages b.languages) (Decides-and _ _ (list_decides 46 slot a.slots b.slots) (Decides-and _ _ (list_decides 8 sensor a.sensors b.sensors) (Decides-and _ _ (list_decides 8 self_test a.tests b.tests) (Decides-and _ _ (list_decides 8 status a.status_texts b.status_texts) (Decides-eqb a.presets b.presets)))))))))))
+    (λ e. (ap (λ (p : Profile). p.root) e, (ap (λ (p : Profile). p.sub) e, (ap (λ (p : Profile). p.subs) e, (ap (λ (p : Profile). p.boot) e, (ap (λ (p : Profile). p.boot_text) e, (ap (λ (p : Profile). p.languages) e, (ap (λ (p : Profile). p.slots) e, (ap (λ (p : Profile). p.sensors) e, (ap (λ (p : Profile). p.tests) e, (ap (λ (p : Profile). p.status_texts) e, (ap (λ (p : Profile). p.presets) e, (ap (λ (p : Profile). p.own) e, (ap (λ (p : Profile). p.without) e, ap (λ (p : Profile). p.more_slots) e))))))))))))))
+    (Decides-and _ _ (unit a.root b.root) (Decides-and _ _ (unit a.sub b.sub) (number a.subs b.subs (number a.boot b.boot (text a.boot_text b.boot_text (Decides-and _ _ (list_decides 8 Decides-eqb a.languages b.languages) (Decides-and _ _ (list_decides 46 slot a.slots b.slots) (Decides-and _ _ (list_decides 8 sensor a.sensors b.sensors) (Decides-and _ _ (list_decides 8 self_test a.tests b.tests) (Decides-and _ _ (list_decides 8 status a.status_texts b.status_texts) (number a.presets b.presets (Decides-and _ _ (slice_eq-Decides parameter a.own b.own _ refl) (Decides-and _ _ (list_decides 36 Decides-eqb a.without b.without) (Decides-eqb a.more_slots b.more_slots))))))))))))))

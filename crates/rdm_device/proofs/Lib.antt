@@ -1,4 +1,6 @@
+pub mod Added
 pub mod DemoLemmas
+pub mod Faults
 pub mod ListSteps
 pub mod Maps
 pub mod SensorReads

@@ -1,7 +1,9 @@
 pub mod Demo
 pub mod Faults
+pub mod LeftOut
 pub mod Map
 pub mod Measuring
+pub mod OwnParameters
 pub mod Parameters
 pub mod Plain
 pub mod Profiles

@@ -1,3 +1,4 @@
 pub mod ValueRef
+pub mod Own
 pub mod Plain
 pub mod State

@@ -4,8 +4,8 @@ pub(crate) mod footprint;
 pub(crate) mod measuring;
 pub(crate) mod state;
 
-ghost use Rattle.std.specs.Prelude.{◌≡◌, ◌++◌, true, false};
-ghost use Rattle.rdm_device.specs.Views.State.{common_entries, own_entries};
+ghost use Rattle.std.specs.Prelude.{◌≡◌, ◌++◌, [], true, false};
+ghost use Rattle.rdm_device.specs.Views.State.{common_entries, own_entries, added_entries};
 
 use crate::device::state::{CommonValues, RootValues};
 use crate::{Profile, Unit};
@@ -28,11 +28,11 @@ impl<'a> Model for Place<'a> {
     ghost use Rattle.std.specs.Prelude.{is_some, ◌++◌};
     ghost use Rattle.std.specs.Option.{option_copied};
     ghost use Rattle.rdm_device.specs.Device.Spot.{Spot};
-    ghost use Rattle.rdm_device.specs.Views.State.{common_entries, own_if};
+    ghost use Rattle.rdm_device.specs.Views.State.{common_entries, own_if, added_if};
 
     ghost Value = { Spot };
 
-    ghost view = { λ p. record { profile = p.profile.now; unit = p.unit.now; is_root = is_some p.own; entries = common_entries p.common.now ++ own_if (option_copied p.own) } };
+    ghost view = { λ p. record { profile = p.profile.now; unit = p.unit.now; is_root = is_some p.own; entries = common_entries p.common.now ++ own_if (option_copied p.own); added = added_if (option_copied p.own) } };
 }
 
 impl<'a> Place<'a> {
@@ -40,7 +40,7 @@ impl<'a> Place<'a> {
     #[inline(always)]
     #[tactic(auto, unfolding(crate::specs::Views::State::common_entries))]
     pub fn of_root(profile: &'a Profile, common: &'a CommonValues, own: &'a RootValues) -> Self
-        ensures { result ≡ record { profile = profile.now; unit = profile.now.root; is_root = true; entries = common_entries common.now ++ own_entries own.now } }
+        ensures { result ≡ record { profile = profile.now; unit = profile.now.root; is_root = true; entries = common_entries common.now ++ own_entries own.now; added = added_entries own.now.added.items } }
     {
         Place {
             profile,
@@ -54,7 +54,7 @@ impl<'a> Place<'a> {
     #[inline(always)]
     #[tactic(auto, unfolding(crate::specs::Views::State::common_entries))]
     pub fn of_sub(profile: &'a Profile, common: &'a CommonValues) -> Self
-        ensures { result ≡ record { profile = profile.now; unit = profile.now.sub; is_root = false; entries = common_entries common.now } }
+        ensures { result ≡ record { profile = profile.now; unit = profile.now.sub; is_root = false; entries = common_entries common.now; added = [] } }
     {
         Place {
             profile,

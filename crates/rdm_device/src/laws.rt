@@ -3,7 +3,8 @@
 ghost use Rattle.std.specs.Prelude.{◌≡◌, ◌↔◌, IsTrue};
 
 use crate::{
-    Personality, Profile, ProfileFault, SelfTest, SensorDef, Slot, StatusText, Unit, Value,
+    ParameterDef, Personality, Profile, ProfileFault, Rights, SelfTest, SensorDef, Shape, Slot,
+    StatusText, Unit, Value,
 };
 
 /// Two personalities are equal by `==` exactly when their footprints and their names are.
@@ -38,6 +39,24 @@ pub fn units_are_equal_by_value()
     personalities_are_equal_by_value();
 }
 
+/// Two values of `Rights` are equal by `==` exactly when they are the same.
+pub fn rights_are_equal_by_value()
+    ensures { (a b : Rights) → IsTrue (⟦<Rights as PartialEq>⟧.eq a b) ↔ (a ≡ b) }
+{}
+
+/// Two shapes are equal by `==` exactly when they are the same.
+pub fn shapes_are_equal_by_value()
+    ensures { (a b : Shape) → IsTrue (⟦<Shape as PartialEq>⟧.eq a b) ↔ (a ≡ b) }
+{}
+
+/// Two parameters of the maker's own are equal by `==` exactly when each of their fields is.
+pub fn parameter_defs_are_equal_by_value()
+    ensures { (a b : ParameterDef) → IsTrue (⟦<ParameterDef as PartialEq>⟧.eq a b) ↔ (a ≡ b) }
+{
+    rights_are_equal_by_value();
+    shapes_are_equal_by_value();
+}
+
 /// Two profiles are equal by `==` exactly when each of their fields is.
 pub fn profiles_are_equal_by_value()
     ensures { (p q : Profile) → IsTrue (⟦<Profile as PartialEq>⟧.eq p q) ↔ (p ≡ q) }
@@ -47,6 +66,7 @@ pub fn profiles_are_equal_by_value()
     sensor_defs_are_equal_by_value();
     self_tests_are_equal_by_value();
     status_texts_are_equal_by_value();
+    parameter_defs_are_equal_by_value();
 }
 
 /// Two values are equal by `==` exactly when they have the same form and all that they hold is equal.

@@ -4,10 +4,14 @@ mod blank;
 pub(crate) mod checks;
 mod demo;
 pub(crate) mod faults;
+pub(crate) mod left_out;
 mod making;
+pub(crate) mod own;
+pub(crate) mod own_checks;
 
 ghost use Rattle.std.specs.Prelude.{◌≡◌};
 
+use crate::OwnParameters;
 use arrayvec::ArrayVec;
 use rdm_frame::Text;
 
@@ -141,4 +145,10 @@ pub struct Profile {
     pub status_texts: ArrayVec<StatusText, 8>,
     /// How many presets there are (section 10.11).
     pub presets: u16,
+    /// The parameters that the maker adds, in the order of their PIDs.
+    pub own: OwnParameters,
+    /// The PIDs of the standard's parameters that the device doesn't have. Most devices need not have them (table A-3).
+    pub without: ArrayVec<u16, 36>,
+    /// How many DMX512 slots the root device uses beside those that `slots` describes.
+    pub more_slots: u16,
 }

@@ -15,17 +15,16 @@ use Rattle.rdm_params.specs.declared.jobs.status.Severity.TheVariants.{Advisory,
 use Rattle.rdm_outcomes.specs.declared.rule.Rule.{Rule}
 use Rattle.toml.specs.Data.{Data, string, integer, float, boolean, datetime, array, table, Members, get_member}
 use Rattle.rdm_fixture.specs.declared.fixture.Fixture.{Fixture}
-use Rattle.rdm_fixture.specs.Values.{number, signed, text, is_text, uid, own_uid, language, language_in, is_letter}
+use Rattle.rdm_fixture.specs.Values.{number, signed, uid, own_uid, language, language_in, is_letter}
 use Rattle.rdm_fixture.specs.Keys.{may, must, OfTable, Lists}
 use Rattle.rdm_fixture.specs.Outcomes.{IsOutcome, severity, only_number, done, failed, failed_in, outcome_at}
+use Rattle.rdm_fixture.specs.Parameters.{IsParameter}
 use Rattle.rdm_fixture.specs.Format.{IsPersonality, IsSlot, IsSensor, IsSelfTest, IsStatus, IsUnit, SubDevices, LanguagesAt, IsProfile}
 use Rattle.rdm_fixture.specs.Describes.{Describes}
-use Rattle.rdm_fixture.specs.Describable.{are_printable, HasPrintableUnit, HasPrintableTexts, is_coded, is_counted, is_base_form, is_told, is_ruled, CanBeDescribed}
-use Rattle.rdm_fixture.proofs.Made.{made, number_range, all_said, all_at, of_table}
-
-when : {A : Type 0} (b : Bool) (k n : A) → (if b then Some k else None) ≡ Some n → (b ≡ true) × (k ≡ n)
-when true k n h = (refl, same_Some _ _ h)
-when false k n h = absurd (cc)
+use Rattle.rdm_fixture.specs.Describable.{are_printable, HasPrintableUnit, HasPrintableTexts, is_coded, is_counted, is_base_form, is_told, is_ruled, is_sayable, CanBeDescribed}
+use Rattle.rdm_fixture.proofs.Made.{made, number_range, may_most, all_said, all_at, of_table}
+use Rattle.rdm_fixture.proofs.Printables.{when, printable_at}
+use Rattle.rdm_fixture.proofs.SaidParameters.{sayable}
 
 -- ---- the UID
 
@@ -48,20 +47,6 @@ own (Some (array ds)) u h = absurd (cc)
 own (Some (table t)) u h = absurd (cc)
 
 -- ---- the texts
-
-printable : (found : Option Data) (x : List ℕ) → may [] text found ≡ Some x → IsTrue (are_printable x)
-printable None x h = ap are_printable (sym (same_Some _ _ h))
-printable (Some (string s)) x h =
-    let (is, same) = when (is_text s) s x h in ap are_printable (sym same) ∙ (and_parts _ _ is).1
-printable (Some (integer z)) x h = absurd (cc)
-printable (Some (float f)) x h = absurd (cc)
-printable (Some (boolean b)) x h = absurd (cc)
-printable (Some (datetime dt)) x h = absurd (cc)
-printable (Some (array ds)) x h = absurd (cc)
-printable (Some (table t)) x h = absurd (cc)
-
-printable_at : (t : Members) (key x : List ℕ) → may [] text (get_member key t) ≡ Some x → IsTrue (are_printable x)
-printable_at t key x h = printable (get_member key t) x h
 
 printable_unit : (slots : ℕ) (t : Members) (u : DeviceUnit) → IsUnit slots t u → HasPrintableUnit u
 printable_unit slots t u h = record {
@@ -211,6 +196,8 @@ pub describable : (t : Members) (f : Fixture) → must uid (get_member (codes "u
 describable t f h profile outcomes = record {
   own = own (get_member (codes "uid") t) f.uid h;
   made = made t f.profile profile;
+  slots = may_most 0 512 (get_member (codes "more_slots") t) _ (omega arith) profile.more_slots;
+  parameters = all_at _ (λ d. IsTrue (is_sayable d)) (of_table IsParameter (λ d. IsTrue (is_sayable d)) sayable) (get_member (codes "parameter") t) _ profile.own.items;
   texts = printable_texts t f.profile profile;
   languages = all_coded (get_member (codes "languages") t) _ profile.languages;
   outcomes = all_at _ (λ r. IsTrue (is_ruled r)) (of_table IsOutcome (λ r. IsTrue (is_ruled r)) ruled) (get_member (codes "outcome") t) _ outcomes.items;

@@ -2,6 +2,10 @@ pub mod OnlyKeys
 pub mod ListEntries
 pub mod Readings
 pub mod OneFixture
+pub mod NumberSlots
+pub mod Starts
+pub mod Printables
+pub mod SaidParameters
 pub mod Made
 pub mod Described
 pub mod Equality
@@ -17,4 +21,5 @@ pub mod Said
 pub mod WrittenEntries
 pub mod WrittenUnits
 pub mod WrittenRules
+pub mod WrittenParameters
 pub mod WrittenFixtures

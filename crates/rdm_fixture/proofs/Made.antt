@@ -1,18 +1,23 @@
 -- A device can be made with each profile that a table says.
-use Rattle.std.proofs.Common.{◌≡◌, ℕ, ◌<◌, ◌≤◌, pos, negsuc, Bool, true, false, if◌then◌else◌, List, [], ◌∷◌, length, Option, Some, None, All, refl, arith, codes}
+use Rattle.std.proofs.Common.{◌≡◌, ℕ, ◌+◌, ◌<◌, ◌≤◌, min, pos, negsuc, Bool, true, false, if◌then◌else◌, List, [], ◌∷◌, length, Option, Some, None, All, IsTrue, refl, sym, ap, ◌∙◌, arith, codes}
+use Rattle.std.specs.Prelude.{unwrap_or}
 use Rattle.std.proofs.lemmas.Bool.{and_parts, leb-true}
 use Rattle.std.proofs.lemmas.Option.{same_Some}
 use Rattle.std.proofs.lemmas.List.Elements.{All-cons}
 use Rattle.rdm_device.specs.declared.profile.Personality.{Personality}
 use Rattle.rdm_device.specs.declared.profile.Profile.{Profile}
 use Rattle.rdm_device.specs.declared.profile.SelfTest.{SelfTest}
+use Rattle.rdm_device.specs.declared.profile.own.ParameterDef.{ParameterDef}
 use Rattle.rdm_device.specs.declared.profile.Unit.{Unit as DeviceUnit}
+use Rattle.rdm_device.specs.Device.OwnParameters.{is_addable, has_limits, can_start}
 use Rattle.rdm_device.specs.Device.Profiles.{IsGoodUnit, CanBeMade}
 use Rattle.toml.specs.Data.{Data, string, integer, float, boolean, datetime, array, table, Items, no_items, item, Members, get_member}
 use Rattle.rdm_fixture.specs.Values.{number}
 use Rattle.rdm_fixture.specs.Keys.{may, must, OfTable, EachIs, ListAt}
-use Rattle.rdm_fixture.specs.Format.{IsPersonality, IsSelfTest, IsUnit, SubDevices, LanguagesAt, IsProfile, slot_count}
+use Rattle.rdm_fixture.specs.Format.{IsPersonality, IsSelfTest, IsUnit, SubDevices, LanguagesAt, IsProfile, slot_count, root_slots}
+use Rattle.rdm_fixture.specs.Parameters.{IsParameter}
 use Rattle.rdm_fixture.proofs.ListEntries.{slot_count-of}
+use Rattle.rdm_fixture.proofs.SaidParameters.{free_pid, good_limits, good_start}
 
 -- ---- numbers
 
@@ -39,6 +44,10 @@ may_range : (default least most : ℕ) (found : Option Data) (n : ℕ) → least
     → may default (number least most) found ≡ Some n → (least ≤ n) × (n ≤ most)
 may_range default least most None n low high h = let same = same_Some _ _ h in (omega (arith, same), omega (arith, same))
 may_range default least most (Some d) n low high h = number_range least most d n h
+
+-- the greatest number of a key that may be left out
+pub may_most : (default most : ℕ) (found : Option Data) (n : ℕ) → default ≤ most → may default (number 0 most) found ≡ Some n → n ≤ most
+may_most default most found n high h = (may_range default 0 most found n (omega arith) high h).1
 
 must_range : (least most : ℕ) (found : Option Data) (n : ℕ) → must (number least most) found ≡ Some n → (least ≤ n) × (n ≤ most)
 must_range least most None n h = absurd (cc)
@@ -118,20 +127,45 @@ some_language (Some (datetime dt)) xs h = absurd h
 numbered : (t : Members) (s : SelfTest) → IsSelfTest t s → (0 < s.number) × (s.number < 255)
 numbered t s h = let (low, high) = must_range 1 254 (get_member (codes "number") t) _ h.number in (omega (arith, low), omega (arith, high))
 
+pub slots_counted : (found : Option ℕ) (described count more : ℕ) → Some more ≡ found → described ≡ count → min 512 (described + more) ≡ min 512 (count + unwrap_or found 0)
+slots_counted found described count more is same =
+    ap (λ (n : ℕ). min 512 (n + more)) same ∙ ap (λ (o : Option ℕ). min 512 (count + unwrap_or o 0)) is
+
+-- as many slots as the root can use
+pub all_slots : (found : Option ℕ) (described count more : ℕ) → found ≡ Some more → described ≡ count → min 512 (described + unwrap_or found 0) ≡ min 512 (count + more)
+all_slots found described count more is same = rw (is, same) refl
+
+-- what holds of each parameter that a table says
+all_parameters : (Q : ParameterDef → Type 0) → ((t : Members) (d : ParameterDef) → IsParameter t d → Q d) → (t : Members) (ds : List ParameterDef)
+    → ListAt (OfTable IsParameter) (get_member (codes "parameter") t) ds → All Q ds
+all_parameters Q gives t ds h = all_at _ Q (of_table IsParameter Q gives) (get_member (codes "parameter") t) ds h
+
 pub made : (t : Members) (p : Profile) → IsProfile t p → CanBeMade p
 made t p h =
     let count : length p.slots.items ≡ slot_count (get_member (codes "slot") t) = slot_count-of _ (get_member (codes "slot") t) _ h.slots.items in
-    let fit = h.slots.fit in
-    let (subs, sub) = good_sub _ t (get_member (codes "sub_devices") t) _ _ (omega (arith, count, fit)) h.sub in
+    let slots : root_slots t ≡ min 512 (length p.slots.items + p.more_slots) =
+    all_slots (may 0 (number 0 512) (get_member (codes "more_slots") t)) (slot_count (get_member (codes "slot") t)) (length p.slots.items) p.more_slots h.more_slots (sym count) in
+    let (subs, sub) = good_sub (root_slots t) t (get_member (codes "sub_devices") t) _ _ (omega arith) h.sub in
     let (low, high) = may_range 0 0 65534 (get_member (codes "presets") t) _ (omega arith) (omega arith) h.presets in (
       subs,
       record {
-        root = good_unit _ _ t p.root (omega (arith, count)) h.root;
+        root = good_unit (root_slots t) (min 512 (length p.slots.items + p.more_slots)) t p.root (omega (arith, slots)) h.root;
         sub = sub;
         language = some_language (get_member (codes "languages") t) _ h.languages;
         test_numbers = all_at _ (λ s. (0 < s.number) × (s.number < 255)) (of_table IsSelfTest _ numbered) (get_member (codes "self_test") t) _ h.tests.items;
         tests_differ = h.tests_differ;
         statuses_differ = h.statuses_differ;
         presets = omega (arith, high);
+        own = record {
+          count = h.own.fit;
+          pids = (
+            all_parameters (λ d. IsTrue (is_addable d.pid)) free_pid t _ h.own.items,
+            λ i j d less within same. let below = h.own_ascend i j d less within in absurd (omega (arith, below, same)),
+          );
+          limits = all_parameters (λ d. IsTrue (has_limits d.shape d.low d.high)) good_limits t _ h.own.items;
+          starts = all_parameters (λ d. IsTrue (can_start d)) good_start t _ h.own.items;
+          ascending = h.own_ascend;
+        };
+        without = h.may_lack;
       },
     )

@@ -1,10 +1,14 @@
 -- A table says one thing: two fixtures that it says are the same.
-use Rattle.std.proofs.Common.{◌≡◌, ℕ, ℤ, List, [], ◌∷◌, Option, Some, None, refl, sym, ap, ◌∙◌, subst}
+use Rattle.std.proofs.Common.{◌≡◌, ℕ, ℤ, Bool, List, [], ◌∷◌, Option, Some, None, refl, sym, ap, ◌∙◌, subst, codes}
 use Rattle.std.proofs.lemmas.Option.{same_Some}
 use Rattle.arrayvec.specs.declared.array_vec.ArrayVec.{ArrayVec}
 use Rattle.rdm_frame.specs.declared.uid.Uid.{Uid}
 use Rattle.rdm_device.specs.declared.profile.Personality.{Personality}
 use Rattle.rdm_device.specs.declared.profile.Profile.{Profile}
+use Rattle.rdm_device.specs.declared.profile.own.ParameterDef.{ParameterDef}
+use Rattle.rdm_device.specs.declared.profile.own.Rights.{Rights}
+use Rattle.rdm_device.specs.declared.profile.own.Shape.{Shape}
+use Rattle.rdm_device.specs.Device.OwnParameters.{has_set}
 use Rattle.rdm_device.specs.declared.profile.SelfTest.{SelfTest}
 use Rattle.rdm_device.specs.declared.profile.SensorDef.{SensorDef}
 use Rattle.rdm_device.specs.declared.profile.Slot.{Slot}
@@ -16,16 +20,18 @@ use Rattle.rdm_outcomes.specs.declared.rule.Task.{Task}
 use Rattle.toml.specs.Data.{Data, string, integer, float, boolean, datetime, array, table, no_items, item, Members, get_member}
 use Rattle.rdm_fixture.specs.declared.fixture.Fixture.{Fixture}
 use Rattle.rdm_fixture.specs.Describes.{Describes}
-use Rattle.rdm_fixture.specs.Keys.{OfTable, EachIs, ListAt, Lists}
+use Rattle.rdm_fixture.specs.FirstWrong.{AreNamed}
+use Rattle.rdm_fixture.specs.Keys.{may, must, OfTable, EachIs, ListAt, Lists}
+use Rattle.rdm_fixture.specs.Parameters.{IsParameter, low_in, high_in, start, flag}
 use Rattle.rdm_fixture.specs.Values.{language}
 use Rattle.rdm_fixture.specs.Outcomes.{IsOutcome}
-use Rattle.rdm_fixture.specs.Format.{IsPersonality, IsSlot, IsSensor, IsSelfTest, IsStatus, IsUnit, SubDevices, LanguagesAt, IsProfile, IsFixture}
+use Rattle.rdm_fixture.specs.Format.{IsPersonality, IsSlot, IsSensor, IsSelfTest, IsStatus, IsUnit, SubDevices, LanguagesAt, IsProfile, IsFixture, parameter_named}
 
 -- what is said is one thing
 abbrev pub SaysOne : {S A : Type 0} → (S → A → Type 0) → Type 0
 SaysOne {S = S} {A = A} P = (s : S) (x y : A) → P s x → P s y → x ≡ y
 
-one : {A : Type 0} {o : Option A} {x y : A} → o ≡ Some x → o ≡ Some y → x ≡ y
+pub one : {A : Type 0} {o : Option A} {x y : A} → o ≡ Some x → o ≡ Some y → x ≡ y
 one p q = same_Some _ _ (sym p ∙ q)
 
 -- ---- lists
@@ -131,6 +137,43 @@ same_status e0 e1 = rw (e0, e1) refl
 pub one_status : SaysOne IsStatus
 one_status t x y p q = same_status (one p.id q.id) (one p.text q.text)
 
+abbrev pub parameter_of : ℕ → Rights → Shape → ℤ → ℤ → List ℕ → ℕ → ℕ → List ℕ → Bool → ParameterDef
+parameter_of a0 a1 a2 a3 a4 a5 a6 a7 a8 a9 = record { pid = a0; rights = a1; shape = a2; low = a3; high = a4; start = a5; unit = a6; prefix = a7; name = a8; resets = a9 }
+
+same_parameter : {a0 b0 : ℕ} {a1 b1 : Rights} {a2 b2 : Shape} {a3 b3 : ℤ} {a4 b4 : ℤ} {a5 b5 : List ℕ} {a6 b6 : ℕ} {a7 b7 : ℕ} {a8 b8 : List ℕ} {a9 b9 : Bool}
+    → a0 ≡ b0 → a1 ≡ b1 → a2 ≡ b2 → a3 ≡ b3 → a4 ≡ b4 → a5 ≡ b5 → a6 ≡ b6 → a7 ≡ b7 → a8 ≡ b8 → a9 ≡ b9
+    → parameter_of a0 a1 a2 a3 a4 a5 a6 a7 a8 a9 ≡ parameter_of b0 b1 b2 b3 b4 b5 b6 b7 b8 b9
+same_parameter e0 e1 e2 e3 e4 e5 e6 e7 e8 e9 = rw (e0, e1, e2, e3, e4, e5, e6, e7, e8, e9) refl
+
+-- what is said where the shape, the least and the greatest value are the same
+one_low : (t : Members) (s r : Shape) (x y : ℤ) → s ≡ r → low_in s t ≡ Some x → low_in r t ≡ Some y → x ≡ y
+one_low t s r x y e p q = one (subst (λ (k : Shape). low_in k t ≡ Some x) e p) q
+
+one_high : (t : Members) (s r : Shape) (l m x y : ℤ) → s ≡ r → l ≡ m → high_in s l t ≡ Some x → high_in r m t ≡ Some y → x ≡ y
+one_high t s r l m x y e f p q = one (subst (λ (k : ℤ). high_in r k t ≡ Some x) f (subst (λ (k : Shape). high_in k l t ≡ Some x) e p)) q
+
+one_start : (found : Option Data) (s r : Shape) (l m h i : ℤ) (x y : List ℕ) → s ≡ r → l ≡ m → h ≡ i
+    → must (start s l h) found ≡ Some x → must (start r m i) found ≡ Some y → x ≡ y
+one_start found s r l m h i x y e f g p q =
+    one (subst (λ (k : ℤ). must (start r m k) found ≡ Some x) g (subst (λ (k : ℤ). must (start r k h) found ≡ Some x) f (subst (λ (k : Shape). must (start k l h) found ≡ Some x) e p))) q
+
+one_flag : (found : Option Data) (a b : Rights) (x y : Bool) → a ≡ b → may (has_set a) flag found ≡ Some x → may (has_set b) flag found ≡ Some y → x ≡ y
+one_flag found a b x y e p q = one (subst (λ (k : Rights). may (has_set k) flag found ≡ Some x) e p) q
+
+pub one_parameter : SaysOne IsParameter
+one_parameter t x y p q =
+    let rights : x.rights ≡ y.rights = one p.rights q.rights in
+    let shape : x.shape ≡ y.shape = one p.shape q.shape in
+    let low : x.low ≡ y.low = one_low t x.shape y.shape x.low y.low shape p.low q.low in
+    let high : x.high ≡ y.high = one_high t x.shape y.shape x.low y.low x.high y.high shape low p.high q.high in
+    let start : x.start ≡ y.start =
+    one_start (get_member (codes "default_value") t) x.shape y.shape x.low y.low x.high y.high x.start y.start shape low high p.start q.start in
+    let resets : x.resets ≡ y.resets = one_flag (get_member (codes "factory_defaults") t) x.rights y.rights x.resets y.resets rights p.resets q.resets in
+    same_parameter (one p.pid q.pid) rights shape low high start (one p.unit q.unit) (one p.prefix q.prefix) (one p.name q.name) resets
+
+pub one_names : (t : Members) (xs ys : List ℕ) → AreNamed t xs → AreNamed t ys → xs ≡ ys
+one_names t xs ys p q = one_at (λ d pid. parameter_named d ≡ Some pid) (λ d a b. one) (get_member (codes "without") t) xs ys p.items q.items
+
 -- ---- the devices
 
 abbrev pub listed : {A : Type 0} (n : ℕ) → List A → ArrayVec A n (Unit {0})
@@ -159,13 +202,13 @@ one_sub slots t (Some (float f)) m n x y p q = absurd p
 one_sub slots t (Some (boolean b)) m n x y p q = absurd p
 one_sub slots t (Some (datetime dt)) m n x y p q = absurd p
 
-abbrev pub profile_of : DeviceUnit → DeviceUnit → ℕ → ℕ → List ℕ → ArrayVec ℕ 8 (Unit {0}) → ArrayVec Slot 46 (Unit {0}) → ArrayVec SensorDef 8 (Unit {0}) → ArrayVec SelfTest 8 (Unit {0}) → ArrayVec StatusText 8 (Unit {0}) → ℕ → Profile
-profile_of a0 a1 a2 a3 a4 a5 a6 a7 a8 a9 a10 = record { root = a0; sub = a1; subs = a2; boot = a3; boot_text = a4; languages = a5; slots = a6; sensors = a7; tests = a8; status_texts = a9; presets = a10 }
+abbrev pub profile_of : DeviceUnit → DeviceUnit → ℕ → ℕ → List ℕ → ArrayVec ℕ 8 (Unit {0}) → ArrayVec Slot 46 (Unit {0}) → ArrayVec SensorDef 8 (Unit {0}) → ArrayVec SelfTest 8 (Unit {0}) → ArrayVec StatusText 8 (Unit {0}) → ℕ → List ParameterDef → ArrayVec ℕ 36 (Unit {0}) → ℕ → Profile
+profile_of a0 a1 a2 a3 a4 a5 a6 a7 a8 a9 a10 a11 a12 a13 = record { root = a0; sub = a1; subs = a2; boot = a3; boot_text = a4; languages = a5; slots = a6; sensors = a7; tests = a8; status_texts = a9; presets = a10; own = a11; without = a12; more_slots = a13 }
 
-pub same_profile : {a0 b0 : DeviceUnit} {a1 b1 : DeviceUnit} {a2 b2 : ℕ} {a3 b3 : ℕ} {a4 b4 : List ℕ} {a5 b5 : ArrayVec ℕ 8 (Unit {0})} {a6 b6 : ArrayVec Slot 46 (Unit {0})} {a7 b7 : ArrayVec SensorDef 8 (Unit {0})} {a8 b8 : ArrayVec SelfTest 8 (Unit {0})} {a9 b9 : ArrayVec StatusText 8 (Unit {0})} {a10 b10 : ℕ}
-    → a0 ≡ b0 → a1 ≡ b1 → a2 ≡ b2 → a3 ≡ b3 → a4 ≡ b4 → a5 ≡ b5 → a6 ≡ b6 → a7 ≡ b7 → a8 ≡ b8 → a9 ≡ b9 → a10 ≡ b10
-    → profile_of a0 a1 a2 a3 a4 a5 a6 a7 a8 a9 a10 ≡ profile_of b0 b1 b2 b3 b4 b5 b6 b7 b8 b9 b10
-same_profile e0 e1 e2 e3 e4 e5 e6 e7 e8 e9 e10 = rw (e0, e1, e2, e3, e4, e5, e6, e7, e8, e9, e10) refl
+pub same_profile : {a0 b0 : DeviceUnit} {a1 b1 : DeviceUnit} {a2 b2 : ℕ} {a3 b3 : ℕ} {a4 b4 : List ℕ} {a5 b5 : ArrayVec ℕ 8 (Unit {0})} {a6 b6 : ArrayVec Slot 46 (Unit {0})} {a7 b7 : ArrayVec SensorDef 8 (Unit {0})} {a8 b8 : ArrayVec SelfTest 8 (Unit {0})} {a9 b9 : ArrayVec StatusText 8 (Unit {0})} {a10 b10 : ℕ} {a11 b11 : List ParameterDef} {a12 b12 : ArrayVec ℕ 36 (Unit {0})} {a13 b13 : ℕ}
+    → a0 ≡ b0 → a1 ≡ b1 → a2 ≡ b2 → a3 ≡ b3 → a4 ≡ b4 → a5 ≡ b5 → a6 ≡ b6 → a7 ≡ b7 → a8 ≡ b8 → a9 ≡ b9 → a10 ≡ b10 → a11 ≡ b11 → a12 ≡ b12 → a13 ≡ b13
+    → profile_of a0 a1 a2 a3 a4 a5 a6 a7 a8 a9 a10 a11 a12 a13 ≡ profile_of b0 b1 b2 b3 b4 b5 b6 b7 b8 b9 b10 b11 b12 b13
+same_profile e0 e1 e2 e3 e4 e5 e6 e7 e8 e9 e10 e11 e12 e13 = rw (e0, e1, e2, e3, e4, e5, e6, e7, e8, e9, e10, e11, e12, e13) refl
 
 pub one_profile : SaysOne IsProfile
 one_profile t x y p q =
@@ -182,6 +225,9 @@ one_profile t x y p q =
     (ap (listed 8) (one_list t _ IsSelfTest 0 8 _ _ one_self_test p.tests q.tests))
     (ap (listed 8) (one_list t _ IsStatus 0 8 _ _ one_status p.statuses q.statuses))
     (one p.presets q.presets)
+    (one_list t _ IsParameter 0 16 _ _ one_parameter p.own q.own)
+    (ap (listed 36) (one_names t _ _ p.without q.without))
+    (one p.more_slots q.more_slots)
 
 -- ---- the outcomes
 

@@ -1,5 +1,5 @@
 -- What a reader answers is carried over to what is said otherwise.
-use Rattle.std.proofs.Common.{◌≡◌, Some, None, Result, Ok, Err, IfOk, IsErr}
+use Rattle.std.proofs.Common.{◌≡◌, Option, Some, None, sym, ◌∙◌, Result, Ok, Err, IfOk, IsErr}
 use Rattle.rdm_fixture.specs.Keys.{Reads}
 
 pub Reads-same : {S T A E : Type 0} (P : S → A → Type 0) (Q : T → A → Type 0) (s : S) (t : T) (r : Result A E)
@@ -18,3 +18,7 @@ Reads-err P s (Err e) h none = none
 -- what was found isn't missing
 pub not_none : {A : Type 0} (x : A) → Some x ≡ None → ⊥
 not_none x e = cc
+
+-- what says nothing doesn't say this
+pub none_said : {A : Type 0} {o : Option A} (x : A) → None ≡ o → o ≡ Some x → ⊥
+none_said x none some = not_none x (sym (none ∙ some))

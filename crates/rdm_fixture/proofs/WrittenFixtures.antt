@@ -1,5 +1,5 @@
 -- What is written of a whole fixture, and of its UID and its languages.
-use Rattle.std.proofs.Common.{◌≡◌, ℕ, ◌+◌, ◌≤◌, ◌<◌, pos, false, List, [], ◌∷◌, ◌++◌, length, get_or, take, Option, Some, None, IsTrue, option_and_then, refl, sym, ap, ◌∙◌, arith, codes}
+use Rattle.std.proofs.Common.{◌≡◌, ℕ, ◌+◌, ◌≤◌, ◌<◌, min, pos, false, List, [], ◌∷◌, ◌++◌, length, get_or, take, Option, Some, None, IsTrue, option_and_then, refl, sym, ap, ◌∙◌, arith, codes}
 use Rattle.std.proofs.lemmas.List.{take_more}
 use Rattle.rdm_frame.specs.declared.uid.Uid.{Uid}
 use Rattle.rdm_frame.specs.Addressing.{is_broadcast}
@@ -11,13 +11,15 @@ use Rattle.toml.specs.View.{view, items_view}
 use Rattle.toml.specs.declared.value.Value.{Value}
 use Rattle.rdm_fixture.specs.declared.fixture.Fixture.{Fixture}
 use Rattle.rdm_fixture.specs.Describable.{CanBeDescribed}
-use Rattle.rdm_fixture.specs.Format.{IsFixture, IsUnit, IsSlot, IsSensor, IsSelfTest, IsStatus, SubDevices, LanguagesAt, slot_count, unit_keys, fixture_keys}
+use Rattle.rdm_fixture.specs.Format.{IsFixture, IsUnit, IsSlot, IsSensor, IsSelfTest, IsStatus, SubDevices, LanguagesAt, slot_count, root_slots, parameter_named, unit_keys, fixture_keys}
 use Rattle.rdm_fixture.specs.Keys.{may, must, has_only, EachIs, ListAt, OfTable}
 use Rattle.rdm_fixture.specs.Outcomes.{IsOutcome}
+use Rattle.rdm_fixture.specs.Parameters.{IsParameter}
 use Rattle.rdm_fixture.specs.Values.{number, text, uid, own_uid, language}
-use Rattle.rdm_fixture.specs.Writing.{text_field, IsPlain}
+use Rattle.rdm_fixture.specs.Writing.{with_field, text_field, IsPlain}
 use Rattle.rdm_fixture.proofs.Fields.{Field, members_on, find_on, or_else, get_on, only_on, absent, plain_on}
 use Rattle.rdm_fixture.proofs.ListEntries.{EachIs-last, slot_count-of}
+use Rattle.rdm_fixture.proofs.Made.{all_slots}
 use Rattle.rdm_fixture.proofs.Said.{number_says, number_plain, text_plain, option_plain}
 use Rattle.rdm_fixture.proofs.WrittenEntries.{says_text}
 use Rattle.rdm_fixture.proofs.WrittenUnits.{unit_kept, wider, says_long}
@@ -47,13 +49,42 @@ deeper n m d less is = record { shallow = omega (arith, less, is.shallow); dates
 pub deeper_some : (n m : ℕ) (o : Option Data) → n ≤ m → ((d : Data) → o ≡ Some d → IsPlain n d) → (d : Data) → o ≡ Some d → IsPlain m d
 deeper_some n m o less is d e = deeper n m d less (is d e)
 
-module _ (f : Fixture) (base : Members) (uid_data languages : Data) (slots sensors tests statuses outcomes subs : Option Data) where
+module _ (f : Fixture) (base : Members) (uid_data languages : Data) (slots sensors tests statuses lacks owns outcomes subs : Option Data) where
   abbrev pub fixture_fields : List Field
   fixture_fields =
-      (codes "sub_devices", subs) ∷ (codes "outcome", outcomes) ∷ (codes "status", statuses) ∷ (codes "self_test", tests)
-      ∷ (codes "sensor", sensors) ∷ (codes "slot", slots) ∷ (codes "presets", Some (integer (pos f.profile.presets)))
+      (codes "sub_devices", subs) ∷ (codes "outcome", outcomes) ∷ (codes "parameter", owns) ∷ (codes "without", lacks)
+      ∷ (codes "status", statuses) ∷ (codes "self_test", tests) ∷ (codes "sensor", sensors) ∷ (codes "slot", slots)
+      ∷ (codes "more_slots", Some (integer (pos f.profile.more_slots))) ∷ (codes "presets", Some (integer (pos f.profile.presets)))
       ∷ (codes "languages", Some languages) ∷ (codes "boot_software_version_label", text_field f.profile.boot_text)
       ∷ (codes "boot_software_version_id", Some (integer (pos f.profile.boot))) ∷ (codes "uid", Some uid_data) ∷ []
+
+  -- each table has one field more than the one before
+  pub fixture_members : (t1 t2 t3 t4 t5 t6 t7 t8 t9 t10 t11 t12 t13 t14 : Members)
+      → t1 ≡ with_field (codes "uid") (Some uid_data) base
+      → t2 ≡ with_field (codes "boot_software_version_id") (Some (integer (pos f.profile.boot))) t1
+      → t3 ≡ with_field (codes "boot_software_version_label") (text_field f.profile.boot_text) t2
+      → t4 ≡ with_field (codes "languages") (Some languages) t3
+      → t5 ≡ with_field (codes "presets") (Some (integer (pos f.profile.presets))) t4
+      → t6 ≡ with_field (codes "more_slots") (Some (integer (pos f.profile.more_slots))) t5
+      → t7 ≡ with_field (codes "slot") slots t6 → t8 ≡ with_field (codes "sensor") sensors t7
+      → t9 ≡ with_field (codes "self_test") tests t8 → t10 ≡ with_field (codes "status") statuses t9
+      → t11 ≡ with_field (codes "without") lacks t10 → t12 ≡ with_field (codes "parameter") owns t11
+      → t13 ≡ with_field (codes "outcome") outcomes t12 → t14 ≡ with_field (codes "sub_devices") subs t13
+      → t14 ≡ members_on base fixture_fields
+  fixture_members t1 t2 t3 t4 t5 t6 t7 t8 t9 t10 t11 t12 t13 t14 e1 e2 e3 e4 e5 e6 e7 e8 e9 e10 e11 e12 e13 e14 =
+      let at2 = e2 ∙ ap (with_field (codes "boot_software_version_id") (Some (integer (pos f.profile.boot)))) e1 in
+      let at3 = e3 ∙ ap (with_field (codes "boot_software_version_label") (text_field f.profile.boot_text)) at2 in
+      let at4 = e4 ∙ ap (with_field (codes "languages") (Some languages)) at3 in
+      let at5 = e5 ∙ ap (with_field (codes "presets") (Some (integer (pos f.profile.presets)))) at4 in
+      let at6 = e6 ∙ ap (with_field (codes "more_slots") (Some (integer (pos f.profile.more_slots)))) at5 in
+      let at7 = e7 ∙ ap (with_field (codes "slot") slots) at6 in
+      let at8 = e8 ∙ ap (with_field (codes "sensor") sensors) at7 in
+      let at9 = e9 ∙ ap (with_field (codes "self_test") tests) at8 in
+      let at10 = e10 ∙ ap (with_field (codes "status") statuses) at9 in
+      let at11 = e11 ∙ ap (with_field (codes "without") lacks) at10 in
+      let at12 = e12 ∙ ap (with_field (codes "parameter") owns) at11 in
+      let at13 = e13 ∙ ap (with_field (codes "outcome") outcomes) at12 in
+      e14 ∙ ap (with_field (codes "sub_devices") subs) at13
 
   or_absent : (o x : Option Data) → x ≡ None → or_else o x ≡ o
   or_absent None x none = none
@@ -63,31 +94,37 @@ module _ (f : Fixture) (base : Members) (uid_data languages : Data) (slots senso
       → get_member key (members_on base fixture_fields) ≡ o
   found key o is none = get_on base key fixture_fields ∙ is ∙ or_absent o (get_member key base) none
 
-  pub fixture_says : CanBeDescribed f → IsTrue (has_only unit_keys base) → ((slots : ℕ) → slots ≡ length f.profile.slots.items → IsUnit slots base f.profile.root)
+  pub fixture_says : CanBeDescribed f → IsTrue (has_only unit_keys base) → ((slots : ℕ) → slots ≡ min 512 (length f.profile.slots.items + f.profile.more_slots) → IsUnit slots base f.profile.root)
       → uid uid_data ≡ Some f.uid → says_long f.profile.boot → says_text f.profile.boot_text
       → LanguagesAt (Some languages) f.profile.languages.items
       → ListAt (OfTable IsSlot) slots f.profile.slots.items → length f.profile.slots.items ≤ 46
       → ListAt (OfTable IsSensor) sensors f.profile.sensors.items → length f.profile.sensors.items ≤ 8
       → ListAt (OfTable IsSelfTest) tests f.profile.tests.items → length f.profile.tests.items ≤ 8
       → ListAt (OfTable IsStatus) statuses f.profile.status_texts.items → length f.profile.status_texts.items ≤ 8
+      → ListAt (λ d pid. parameter_named d ≡ Some pid) lacks f.profile.without.items → length f.profile.without.items ≤ 36
+      → ListAt (OfTable IsParameter) owns f.profile.own → length f.profile.own ≤ 16
       → ListAt (OfTable IsOutcome) outcomes f.outcomes.items → length f.outcomes.items ≤ 32
       → ((n : ℕ) (t : Members) → IsUnit n t f.profile.root → SubDevices n t subs f.profile.subs f.profile.sub)
       → IsFixture (members_on base fixture_fields) f
-  fixture_says can only root own boot boot_text langs slot slot_fit sensor sensor_fit test test_fit status status_fit outcome outcome_fit sub =
+  fixture_says can only root own boot boot_text langs slot slot_fit sensor sensor_fit test test_fit status status_fit lacked lacked_fit added added_fit outcome outcome_fit sub =
       let fs = fixture_fields in
       let t = members_on base fs in
       let at_slot : get_member (codes "slot") t ≡ slots = found (codes "slot") slots refl (absent unit_keys (codes "slot") base only refl) in
       let count : slot_count (get_member (codes "slot") t) ≡ length f.profile.slots.items =
       ap slot_count at_slot ∙ sym (slot_count-of (OfTable IsSlot) slots f.profile.slots.items slot) in
-      let unit : IsUnit (slot_count (get_member (codes "slot") t)) t f.profile.root =
-      unit_kept base fs _ f.profile.root refl refl refl refl refl refl refl refl refl (root _ count) in
+      let more : may 0 (number 0 512) (get_member (codes "more_slots") t) ≡ Some f.profile.more_slots =
+      ap (may 0 (number 0 512)) (get_on base (codes "more_slots") fs) ∙ number_says 0 512 f.profile.more_slots (omega arith) can.slots in
+      let all : root_slots t ≡ min 512 (length f.profile.slots.items + f.profile.more_slots) = all_slots _ _ _ _ more count in
+      let unit : IsUnit (root_slots t) t f.profile.root =
+      unit_kept base fs _ f.profile.root refl refl refl refl refl refl refl refl refl (root _ all) in
       let at_sub : get_member (codes "sub_devices") t ≡ subs = found (codes "sub_devices") subs refl (absent unit_keys (codes "sub_devices") base only refl) in
       let good = can.made.1 in
       let few = good.presets in
       record {
         keys = only_on fixture_keys base fs
             (wider (codes "uid" ∷ codes "boot_software_version_id" ∷ codes "boot_software_version_label" ∷ codes "languages" ∷ codes "presets"
-            ∷ codes "slot" ∷ codes "sensor" ∷ codes "self_test" ∷ codes "status" ∷ codes "outcome" ∷ codes "sub_devices" ∷ []) unit_keys base only) refl;
+            ∷ codes "more_slots" ∷ codes "slot" ∷ codes "sensor" ∷ codes "self_test" ∷ codes "status" ∷ codes "without" ∷ codes "parameter" ∷ codes "outcome"
+            ∷ codes "sub_devices" ∷ []) unit_keys base only) refl;
         own = ap (must uid) (get_on base (codes "uid") fs) ∙ own;
         profile = record {
           root = unit;
@@ -103,17 +140,24 @@ module _ (f : Fixture) (base : Members) (uid_data languages : Data) (slots senso
           statuses = record { items = rw (found (codes "status") statuses refl (absent unit_keys (codes "status") base only refl)) status; enough = omega arith; fit = status_fit };
           statuses_differ = good.statuses_differ;
           presets = ap (may 0 (number 0 65534)) (get_on base (codes "presets") fs) ∙ number_says 0 65534 f.profile.presets (omega arith) (omega (arith, few));
+          more_slots = more;
+          without = record { items = rw (found (codes "without") lacks refl (absent unit_keys (codes "without") base only refl)) lacked; enough = omega arith; fit = lacked_fit };
+          may_lack = good.without;
+          own = record { items = rw (found (codes "parameter") owns refl (absent unit_keys (codes "parameter") base only refl)) added; enough = omega arith; fit = added_fit };
+          own_ascend = good.own.ascending;
         };
         outcomes = record { items = rw (found (codes "outcome") outcomes refl (absent unit_keys (codes "outcome") base only refl)) outcome; enough = omega arith; fit = outcome_fit };
       }
 
   pub fixture_plain : IsPlain 4 (table base) → IsPlain 3 uid_data → IsPlain 3 languages
       → ((d : Data) → slots ≡ Some d → IsPlain 3 d) → ((d : Data) → sensors ≡ Some d → IsPlain 3 d) → ((d : Data) → tests ≡ Some d → IsPlain 3 d)
-      → ((d : Data) → statuses ≡ Some d → IsPlain 3 d) → ((d : Data) → outcomes ≡ Some d → IsPlain 3 d) → ((d : Data) → subs ≡ Some d → IsPlain 3 d)
+      → ((d : Data) → statuses ≡ Some d → IsPlain 3 d) → ((d : Data) → lacks ≡ Some d → IsPlain 3 d) → ((d : Data) → owns ≡ Some d → IsPlain 3 d)
+      → ((d : Data) → outcomes ≡ Some d → IsPlain 3 d) → ((d : Data) → subs ≡ Some d → IsPlain 3 d)
       → IsPlain 4 (table (members_on base fixture_fields))
-  fixture_plain rest is_uid is_languages is_slots is_sensors is_tests is_statuses is_outcomes is_subs =
+  fixture_plain rest is_uid is_languages is_slots is_sensors is_tests is_statuses is_names is_own is_outcomes is_subs =
       plain_on 3 base fixture_fields rest
       (option_plain 3 (codes "sub_devices") subs _ is_subs (option_plain 3 (codes "outcome") outcomes _ is_outcomes
+      (option_plain 3 (codes "parameter") owns _ is_own (option_plain 3 (codes "without") lacks _ is_names
       (option_plain 3 (codes "status") statuses _ is_statuses (option_plain 3 (codes "self_test") tests _ is_tests
       (option_plain 3 (codes "sensor") sensors _ is_sensors (option_plain 3 (codes "slot") slots _ is_slots
-      (number_plain 3 _, (is_languages, text_plain 3 (codes "boot_software_version_label") f.profile.boot_text _ (number_plain 3 _, (is_uid, tt))))))))))
+      (number_plain 3 _, (number_plain 3 _, (is_languages, text_plain 3 (codes "boot_software_version_label") f.profile.boot_text _ (number_plain 3 _, (is_uid, tt)))))))))))))

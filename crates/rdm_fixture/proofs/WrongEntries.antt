@@ -11,7 +11,8 @@ use Rattle.arrayvec.specs.declared.array_vec.ArrayVec.{ArrayVec}
 use Rattle.rdm_fixture.specs.declared.refusal.Refusal.{Refusal}
 use Rattle.rdm_fixture.specs.declared.refusal.Wanted.TheVariants as wanted
 use Rattle.rdm_fixture.specs.Faults.{Fault, fault, in_entry, told}
-use Rattle.rdm_fixture.specs.FirstWrong.{WrongLanguages}
+use Rattle.rdm_fixture.specs.FirstWrong.{WrongLanguages, WrongNames}
+use Rattle.rdm_fixture.specs.Format.{parameter_named}
 use Rattle.rdm_fixture.specs.Keys.{has_only, OfTable, EachIs, items_count, Reads}
 use Rattle.rdm_fixture.specs.Values.{within, language}
 use Rattle.rdm_fixture.specs.Wrong.{FirstOther, InEntry, FirstEntry}
@@ -51,3 +52,10 @@ pub language_wrong : (r : Result (ArrayVec ℕ 8 (Unit {0})) Refusal) (ds : Item
     → IfErr r (λ e. WrongLanguages (Some (array ds)) (told e))
 language_wrong (Ok xs) ds h w = tt
 language_wrong (Err e) ds h w = inr (λ xs said. h (record { items = xs }) said, w)
+
+-- a list of names of parameters in which one is none
+pub name_wrong : (r : Result (ArrayVec ℕ 36 (Unit {0})) Refusal) (ds : Items)
+    → Reads (λ ds xs. EachIs (λ d pid. parameter_named d ≡ Some pid) ds xs.items) ds r → IfErr r (λ e. told e ≡ fault (codes "without") wanted.Parameter)
+    → IfErr r (λ e. WrongNames (Some (array ds)) (told e))
+name_wrong (Ok xs) ds h w = tt
+name_wrong (Err e) ds h w = inr (λ xs said. h (record { items = xs }) said, w)

@@ -1,9 +1,12 @@
 -- Which fixtures a file can describe, condition by condition.
-use Rattle.std.specs.Prelude.{◌≡◌, ℕ, ◌/◌, ◌%◌, Bool, true, false, ◌&&◌, IsTrue, List, Option, Some, None, All, nat_le}
+use Rattle.std.specs.Prelude.{◌≡◌, ℕ, ◌/◌, ◌%◌, ◌≤◌, Bool, true, false, ◌&&◌, IsTrue, List, Option, Some, None, All, nat_le, int_le}
 use Rattle.std.specs.List.{list_all}
 use Rattle.rdm_frame.specs.Addressing.{is_broadcast}
 use Rattle.rdm_device.specs.declared.profile.Profile.{Profile}
 use Rattle.rdm_device.specs.declared.profile.Unit.{Unit as DeviceUnit}
+use Rattle.rdm_device.specs.declared.profile.own.ParameterDef.{ParameterDef}
+use Rattle.rdm_device.specs.declared.profile.own.Shape.{Shape}
+use Rattle.rdm_device.specs.declared.profile.own.Shape.TheVariants as shapes
 use Rattle.rdm_device.specs.Device.Profiles.{CanBeMade}
 use Rattle.rdm_params.specs.declared.jobs.outcome.Outcome.{Outcome}
 use Rattle.rdm_params.specs.declared.jobs.outcome.Outcome.TheVariants.{Failed}
@@ -12,6 +15,7 @@ use Rattle.rdm_params.specs.declared.jobs.status.Severity.TheVariants.{Advisory,
 use Rattle.rdm_outcomes.specs.declared.rule.Rule.{Rule}
 use Rattle.rdm_outcomes.specs.Outcomes.{suits}
 use Rattle.rdm_fixture.specs.declared.fixture.Fixture.{Fixture}
+use Rattle.rdm_fixture.specs.Parameters.{least_of, greatest_of}
 use Rattle.rdm_fixture.specs.Values.{is_printable, is_letter}
 
 -- ---- texts
@@ -37,6 +41,21 @@ pub record HasPrintableTexts (p : Profile) : Type 0 where
   pub sensors : All (λ s. IsTrue (are_printable s.name)) p.sensors.items
   pub tests : All (λ t. IsTrue (are_printable t.name)) p.tests.items
   pub statuses : All (λ s. IsTrue (are_printable s.text)) p.status_texts.items
+
+-- ---- parameters of the maker's own
+
+-- data start with what can stand in a file: a text is printable, and all else is written in digits
+abbrev pub can_stand : Shape → List ℕ → Bool
+can_stand shapes.Text start = are_printable start
+can_stand _ start = true
+
+-- limits can stand in a file: the least isn't above the greatest, and both are numbers of the data, or 0 where these are none
+abbrev pub limits_stand : ParameterDef → Bool
+limits_stand d = int_le (least_of d.shape) d.low && (int_le d.low d.high && int_le d.high (greatest_of d.shape))
+
+-- a parameter can stand in a file
+abbrev pub is_sayable : ParameterDef → Bool
+is_sayable d = limits_stand d && (can_stand d.shape d.start && are_printable d.name)
 
 -- ---- languages and outcomes
 
@@ -69,6 +88,8 @@ is_ruled r = is_counted r.turn && (suits r.task r.outcome && is_told r.outcome)
 pub record CanBeDescribed (f : Fixture) : Type 0 where
   pub own : is_broadcast f.uid ≡ false
   pub made : CanBeMade f.profile
+  pub slots : f.profile.more_slots ≤ 512
+  pub parameters : All (λ d. IsTrue (is_sayable d)) f.profile.own
   pub texts : HasPrintableTexts f.profile
   pub languages : All (λ l. IsTrue (is_coded l)) f.profile.languages.items
   pub outcomes : All (λ r. IsTrue (is_ruled r)) f.outcomes.items

@@ -1,18 +1,25 @@
 -- What the tables of a fixture are looked at for, part by part, in the order in which it is done.
-use Rattle.std.specs.Prelude.{◌≡◌, ◌≢◌, ℕ, ◌+◌, ◌<◌, pos, neg_ℤ, false, ◌⊎◌, IsTrue, List, [], ◌∷◌, ◌++◌, length, slice_index_or, Option, Some, None, IsSome, AllPairs, codes}
+use Rattle.std.specs.Prelude.{◌≡◌, ◌≢◌, ℕ, ◌+◌, ◌<◌, ◌≤◌, ℤ, pos, neg_ℤ, true, false, ◌⊎◌, IsTrue, List, [], ◌∷◌, ◌++◌, length, slice_index_or, Option, Some, None, IsSome, AllPairs, codes}
 use Rattle.toml.specs.Data.{Data, table, array, Members, get_member}
 use Rattle.rdm_device.specs.declared.profile.Unit.{Unit as DeviceUnit}
+use Rattle.rdm_device.specs.declared.profile.own.ParameterDef.{ParameterDef}
+use Rattle.rdm_device.specs.declared.profile.own.Shape.{Shape}
+use Rattle.rdm_device.specs.declared.profile.own.Shape.TheVariants as shapes
+use Rattle.rdm_device.specs.Device.LeftOut.{leave_no_need}
+use Rattle.rdm_device.specs.Device.Profiles.{AreOptional}
 use Rattle.rdm_params.specs.declared.jobs.outcome.Outcome.{Outcome}
 use Rattle.rdm_params.specs.declared.jobs.outcome.Outcome.TheVariants.{Done, Reading, Failed}
 use Rattle.rdm_outcomes.specs.declared.rule.Task.{Task}
 use Rattle.rdm_outcomes.specs.Outcomes as rules
+use Rattle.rdm_fixture.specs.declared.refusal.Wanted.{Wanted}
 use Rattle.rdm_fixture.specs.declared.refusal.Wanted.TheVariants as wanted
 use Rattle.rdm_fixture.specs.Faults.{Fault, fault, in_entry, in_sub_devices}
-use Rattle.rdm_fixture.specs.Format.{IsPersonality, IsSlot, IsSensor, IsSelfTest, IsStatus, IsUnit, SubDevices, LanguagesAt, IsProfile, personality_keys, slot_keys, sensor_keys, self_test_keys, status_keys, unit_keys, fixture_keys, slot_count}
+use Rattle.rdm_fixture.specs.Format.{IsPersonality, IsSlot, IsSensor, IsSelfTest, IsStatus, IsUnit, SubDevices, LanguagesAt, IsProfile, personality_keys, slot_keys, sensor_keys, self_test_keys, status_keys, unit_keys, fixture_keys, root_slots, parameter_named}
 use Rattle.rdm_fixture.specs.Keys.{must, has_only, OfTable, EachIs, Lists, items_count}
 use Rattle.rdm_fixture.specs.Outcomes.{IsOutcome, task, severity, outcome_in, and_job_keys, rule_keys}
+use Rattle.rdm_fixture.specs.Parameters.{IsParameter, parameter_keys, own_pid, command_class, data_type, slots_of, shape_in, least_of, greatest_of, limit, integer_from, low_in, high_in, start, flag}
 use Rattle.rdm_fixture.specs.Values.{within, number, language, uid}
-use Rattle.rdm_fixture.specs.Wrong.{Part, FirstWrong, says_one, FirstOther, only, needed_as, needed, needed_number, free_number, free_signed, free_text, entries}
+use Rattle.rdm_fixture.specs.Wrong.{Part, FirstWrong, says_one, given, FirstOther, only, needed_as, needed, free, needed_number, free_number, free_signed, free_text, entries}
 
 -- ---- the entries of lists
 
@@ -36,6 +43,40 @@ self_test_parts = only self_test_keys ∷ needed_number (codes "number") 1 254 �
 
 abbrev pub status_parts : List Part
 status_parts = only status_keys ∷ needed_number (codes "id") 0 0xFFFF ∷ free_text (codes "description") ∷ []
+
+-- ---- parameters of the maker's own
+
+-- the type of its data
+abbrev pub type_part : Part
+type_part = record {
+  Right = λ t. IsSome (shape_in t);
+  Wrong = λ t f. (needed (codes "data_type") (data_type (slots_of (get_member (codes "default_value") t))) wanted.DataType).Wrong t f;
+}
+
+-- the least and the greatest value
+abbrev pub least_part : Shape → Part
+least_part shape = free (codes "minimum_valid_value") (limit shape) (wanted.Number (least_of shape) (greatest_of shape))
+
+abbrev pub greatest_part : Shape → ℤ → Part
+greatest_part shape low = free (codes "maximum_valid_value") (integer_from low (greatest_of shape)) (wanted.Number low (greatest_of shape))
+
+-- what data can start with
+abbrev pub wanted_start : Shape → ℤ → ℤ → Wanted
+wanted_start shapes.Text low high = wanted.Text
+wanted_start (shapes.Bits n) low high = wanted.Slots
+wanted_start (shapes.Slots n) low high = wanted.Slots
+wanted_start _ low high = wanted.Number low high
+
+abbrev pub start_part : Shape → ℤ → ℤ → Part
+start_part shape low high = needed (codes "default_value") (start shape low high) (wanted_start shape low high)
+
+abbrev pub parameter_parts : List Part
+parameter_parts =
+    only parameter_keys ∷ needed (codes "pid") own_pid wanted.Pid ∷ needed (codes "command_class") command_class wanted.CommandClass
+    ∷ type_part ∷ given shape_in least_part ∷ given shape_in (λ shape. given (low_in shape) (greatest_part shape))
+    ∷ given shape_in (λ shape. given (low_in shape) (λ low. given (high_in shape low) (start_part shape low)))
+    ∷ free_number (codes "unit") 0 0xFF ∷ free_number (codes "prefix") 0 0xFF ∷ free (codes "factory_defaults") flag wanted.Boolean
+    ∷ free_text (codes "description") ∷ []
 
 -- ---- how jobs end
 
@@ -101,12 +142,8 @@ unit_parts slots =
     ∷ free_number (codes "dmx_start_address") 1 512
     ∷ entries (codes "personality") (IsPersonality slots) (FirstWrong (personality_parts slots)) 1 8 ∷ []
 
--- as many slots as the list of them has
-abbrev pub slots_of : Members → ℕ
-slots_of t = slot_count (get_member (codes "slot") t)
-
 abbrev pub root : Part
-root = says_one (λ t (u : DeviceUnit). IsUnit (slots_of t) t u) (λ t f. FirstWrong (unit_parts (slots_of t)) t f)
+root = says_one (λ t (u : DeviceUnit). IsUnit (root_slots t) t u) (λ t f. FirstWrong (unit_parts (root_slots t)) t f)
 
 abbrev pub sub_parts : List Part
 sub_parts = only (codes "count" ∷ unit_keys) ∷ needed_number (codes "count") 0 512 ∷ unit_parts 512
@@ -118,7 +155,7 @@ WrongSubs (Some _) f = f ≡ fault (codes "sub_devices") wanted.Table
 
 abbrev pub sub_devices : Part
 sub_devices =
-    says_one (λ t (s : ℕ × DeviceUnit). SubDevices (slots_of t) t (get_member (codes "sub_devices") t) s.0 s.1)
+    says_one (λ t (s : ℕ × DeviceUnit). SubDevices (root_slots t) t (get_member (codes "sub_devices") t) s.0 s.1)
     (λ t f. WrongSubs (get_member (codes "sub_devices") t) f)
 
 -- ---- the whole
@@ -146,13 +183,54 @@ differing {A = A} list key P number =
     says_one (λ t (xs : List A). Lists t list (OfTable P) 0 8 xs × AllPairs (λ a b. number a ≢ number b) xs)
     (λ t f. (xs : List A) × (n : ℕ) × Lists t list (OfTable P) 0 8 xs × IsFirstAgain number xs n × (f ≡ in_entry list (n + 1) (fault key wanted.Other)))
 
+-- the parameter at n (from 0) is the first whose PID isn't above that of each one before it
+pub record IsFirstBelow (ds : List ParameterDef) (n : ℕ) : Type 0 where
+  pub there : n < length ds
+  pub before : (i j : ℕ) (d : ParameterDef) → i < j → j < n → (slice_index_or ds i d).pid < (slice_index_or ds j d).pid
+  pub below : (i : ℕ) × (i < n) × ((d : ParameterDef) → (slice_index_or ds n d).pid ≤ (slice_index_or ds i d).pid)
+
+abbrev pub ascending : Part
+ascending =
+    says_one (λ t (ds : List ParameterDef). Lists t (codes "parameter") (OfTable IsParameter) 0 16 ds × AllPairs (λ a b. a.pid < b.pid) ds)
+    (λ t f. (ds : List ParameterDef) × (n : ℕ) × Lists t (codes "parameter") (OfTable IsParameter) 0 16 ds × IsFirstBelow ds n
+    × (f ≡ in_entry (codes "parameter") (n + 1) (fault (codes "pid") wanted.Ascending)))
+
+-- these are the PIDs of the parameters that the key names
+abbrev pub AreNamed : Members → List ℕ → Type 0
+AreNamed t pids = Lists t (codes "without") (λ d pid. parameter_named d ≡ Some pid) 0 36 pids
+
+abbrev pub WrongNames : Option Data → Fault → Type 0
+WrongNames None f = ⊥
+WrongNames (Some (array ds)) f =
+    ((within 0 36 (items_count ds) ≡ false) × (f ≡ fault (codes "without") (wanted.List 0 36)))
+    ⊎ (((pids : List ℕ) → ¬ EachIs (λ d pid. parameter_named d ≡ Some pid) ds pids) × (f ≡ fault (codes "without") wanted.Parameter))
+WrongNames (Some _) f = f ≡ fault (codes "without") (wanted.List 0 36)
+
+abbrev pub names : Part
+names = says_one AreNamed (λ t f. WrongNames (get_member (codes "without") t) f)
+
+-- each of them can be left out
+abbrev pub optional : Part
+optional =
+    says_one (λ t (pids : List ℕ). AreNamed t pids × AreOptional pids)
+    (λ t f. (pids : List ℕ) × AreNamed t pids × (¬ AreOptional pids) × (f ≡ fault (codes "without") wanted.Optional))
+
+-- and none is needed by one that stays
+abbrev pub unneeded : Part
+unneeded =
+    says_one (λ t (pids : List ℕ). AreNamed t pids × (leave_no_need pids ≡ true))
+    (λ t f. (pids : List ℕ) × AreNamed t pids × (leave_no_need pids ≡ false) × (f ≡ fault (codes "without") wanted.Unneeded))
+
 abbrev pub profile_parts : List Part
 profile_parts =
     free_number (codes "boot_software_version_id") 0 0xFFFFFFFF ∷ free_text (codes "boot_software_version_label") ∷ languages
-    ∷ free_number (codes "presets") 0 65534 ∷ entries (codes "slot") IsSlot (FirstWrong slot_parts) 0 46 ∷ root ∷ sub_devices
+    ∷ free_number (codes "presets") 0 65534 ∷ free_number (codes "more_slots") 0 512
+    ∷ entries (codes "slot") IsSlot (FirstWrong slot_parts) 0 46 ∷ root ∷ sub_devices
     ∷ entries (codes "sensor") IsSensor (FirstWrong sensor_parts) 0 8
     ∷ entries (codes "self_test") IsSelfTest (FirstWrong self_test_parts) 0 8 ∷ differing (codes "self_test") (codes "number") IsSelfTest (λ a. a.number)
-    ∷ entries (codes "status") IsStatus (FirstWrong status_parts) 0 8 ∷ differing (codes "status") (codes "id") IsStatus (λ a. a.id) ∷ []
+    ∷ entries (codes "status") IsStatus (FirstWrong status_parts) 0 8 ∷ differing (codes "status") (codes "id") IsStatus (λ a. a.id)
+    ∷ names ∷ optional ∷ unneeded
+    ∷ entries (codes "parameter") IsParameter (FirstWrong parameter_parts) 0 16 ∷ ascending ∷ []
 
 abbrev pub fixture_parts : List Part
 fixture_parts =

@@ -1,7 +1,7 @@
 -- Which table is a fixture: each key, what it says, and its default. A key is named as the parameter or the field of
 -- E1.20 that it sets, in small letters.
-use Rattle.std.specs.Prelude.{◌≡◌, ◌≢◌, ℕ, ◌≤◌, pos, neg_ℤ, IsTrue, List, [], ◌∷◌, length, Option, Some, None, AllPairs, codes}
-use Rattle.toml.specs.Data.{Data, table, array, Members, get_member}
+use Rattle.std.specs.Prelude.{◌≡◌, ◌≢◌, ℕ, ◌+◌, ◌<◌, ◌≤◌, min, pos, neg_ℤ, IsTrue, List, [], ◌∷◌, length, Option, Some, None, option_map, unwrap_or, AllPairs, codes}
+use Rattle.toml.specs.Data.{Data, string, table, array, Members, get_member}
 use Rattle.rdm_device.specs.declared.profile.Personality.{Personality}
 use Rattle.rdm_device.specs.declared.profile.Profile.{Profile}
 use Rattle.rdm_device.specs.declared.profile.SelfTest.{SelfTest}
@@ -9,10 +9,13 @@ use Rattle.rdm_device.specs.declared.profile.SensorDef.{SensorDef}
 use Rattle.rdm_device.specs.declared.profile.Slot.{Slot}
 use Rattle.rdm_device.specs.declared.profile.StatusText.{StatusText}
 use Rattle.rdm_device.specs.declared.profile.Unit.{Unit as DeviceUnit}
+use Rattle.rdm_device.specs.Device.Profiles.{MayBeLeftOut}
+use Rattle.rdm_params.specs.Table.Kinds.{pid_of, kind_named}
 use Rattle.rdm_fixture.specs.declared.fixture.Fixture.{Fixture}
 use Rattle.rdm_fixture.specs.Outcomes.{IsOutcome}
+use Rattle.rdm_fixture.specs.Parameters.{IsParameter}
 use Rattle.rdm_fixture.specs.Values.{number, signed, text, language, uid}
-use Rattle.rdm_fixture.specs.Keys.{Must, May, has_only, OfTable, EachIs, Lists, items_count}
+use Rattle.rdm_fixture.specs.Keys.{may, Must, May, has_only, OfTable, EachIs, Lists, items_count}
 
 -- ---- the entries of lists
 
@@ -108,10 +111,19 @@ SubDevices slots t (Some _) count u = ⊥
 
 -- ---- the whole
 
--- how many slots the root has
+-- how many slots are described
 abbrev pub slot_count : Option Data → ℕ
 slot_count (Some (array ds)) = items_count ds
 slot_count _ = 0
+
+-- how many the root can use: those and so many more, of the 512 that there are
+abbrev pub root_slots : Members → ℕ
+root_slots t = min 512 (slot_count (get_member (codes "slot") t) + unwrap_or (may 0 (number 0 512) (get_member (codes "more_slots") t)) 0)
+
+-- the PID of the parameter of the standard with this name
+abbrev pub parameter_named : Data → Option ℕ
+parameter_named (string s) = option_map pid_of (kind_named s)
+parameter_named _ = None
 
 -- English is the language of a fixture that says nothing of it. Section 10.5.7.
 abbrev pub LanguagesAt : Option Data → List ℕ → Type 0
@@ -122,12 +134,14 @@ LanguagesAt (Some _) xs = ⊥
 abbrev pub fixture_keys : List (List ℕ)
 fixture_keys =
     codes "uid" ∷ codes "boot_software_version_id" ∷ codes "boot_software_version_label" ∷ codes "languages"
-    ∷ codes "presets" ∷ codes "slot" ∷ codes "sensor" ∷ codes "self_test" ∷ codes "status" ∷ codes "outcome"
-    ∷ codes "sub_devices" ∷ unit_keys
+    ∷ codes "presets" ∷ codes "more_slots" ∷ codes "slot" ∷ codes "sensor" ∷ codes "self_test" ∷ codes "status"
+    ∷ codes "without" ∷ codes "parameter" ∷ codes "outcome" ∷ codes "sub_devices" ∷ unit_keys
 
+-- What the devices are made with. The parameters of the maker's own are in the order of their PIDs. Those that the fixture lacks are ones
+-- that it may lack, and none that another one needs.
 pub record IsProfile (t : Members) (p : Profile) : Type 0 where
-  pub root : IsUnit (slot_count (get_member (codes "slot") t)) t p.root
-  pub sub : SubDevices (slot_count (get_member (codes "slot") t)) t (get_member (codes "sub_devices") t) p.subs p.sub
+  pub root : IsUnit (root_slots t) t p.root
+  pub sub : SubDevices (root_slots t) t (get_member (codes "sub_devices") t) p.subs p.sub
   pub boot : May t (codes "boot_software_version_id") 0 (number 0 0xFFFFFFFF) p.boot
   pub boot_text : May t (codes "boot_software_version_label") [] text p.boot_text
   pub languages : LanguagesAt (get_member (codes "languages") t) p.languages.items
@@ -138,6 +152,11 @@ pub record IsProfile (t : Members) (p : Profile) : Type 0 where
   pub statuses : Lists t (codes "status") (OfTable IsStatus) 0 8 p.status_texts.items
   pub statuses_differ : AllPairs (λ a b. a.id ≢ b.id) p.status_texts.items
   pub presets : May t (codes "presets") 0 (number 0 65534) p.presets
+  pub more_slots : May t (codes "more_slots") 0 (number 0 512) p.more_slots
+  pub without : Lists t (codes "without") (λ d pid. parameter_named d ≡ Some pid) 0 36 p.without.items
+  pub may_lack : MayBeLeftOut p.without.items
+  pub own : Lists t (codes "parameter") (OfTable IsParameter) 0 16 p.own
+  pub own_ascend : AllPairs (λ a b. a.pid < b.pid) p.own
 
 pub record IsFixture (t : Members) (f : Fixture) : Type 0 where
   pub keys : IsTrue (has_only fixture_keys t)

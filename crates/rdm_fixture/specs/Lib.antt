@@ -1,7 +1,9 @@
 pub mod Values
 pub mod Keys
 pub mod Outcomes
+pub mod Parameters
 pub mod Format
+pub mod Drafts
 pub mod Describes
 pub mod Describable
 pub mod Cause

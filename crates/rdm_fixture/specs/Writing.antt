@@ -3,6 +3,11 @@ use Rattle.std.specs.Prelude.{◌≡◌, ℕ, ◌≤◌, pos, true, List, [], �
 use Rattle.std.specs.Ordering.{nat_cmp, match_ordering}
 use Rattle.std.specs.Cmp.Lexicographic.{slice_cmp}
 use Rattle.std.specs.Str.Lossy.{utf8_lossy}
+use Rattle.rdm_frame.specs.Digits.{digits}
+use Rattle.rdm_device.specs.declared.profile.own.Rights.{Rights}
+use Rattle.rdm_device.specs.declared.profile.own.Rights.TheVariants as rights
+use Rattle.rdm_device.specs.declared.profile.own.Shape.{Shape}
+use Rattle.rdm_device.specs.declared.profile.own.Shape.TheVariants as shapes
 use Rattle.rdm_params.specs.Jobs.Severities.{severity_name}
 use Rattle.rdm_params.specs.declared.jobs.outcome.Outcome.{Outcome}
 use Rattle.rdm_params.specs.declared.jobs.outcome.Outcome.TheVariants.{Done, Reading, Failed}
@@ -29,6 +34,30 @@ text_field (c ∷ cs) = Some (string (utf8_lossy (c ∷ cs)))
 pub record IsPlain (n : ℕ) (d : Data) : Type 0 where
   pub shallow : depth d ≤ n
   pub dates : has_valid_dates d ≡ true
+
+-- ---- parameters of the maker's own
+
+-- the names of their commands and of the types of their data. Tables A-16 and A-15.
+abbrev pub rights_name : Rights → List ℕ
+rights_name rights.Get = codes "get"
+rights_name rights.Set = codes "set"
+rights_name rights.Both = codes "get_set"
+
+abbrev pub shape_name : Shape → List ℕ
+shape_name shapes.Byte = codes "unsigned_byte"
+shape_name shapes.SignedByte = codes "signed_byte"
+shape_name shapes.Word = codes "unsigned_word"
+shape_name shapes.SignedWord = codes "signed_word"
+shape_name shapes.Long = codes "unsigned_dword"
+shape_name shapes.SignedLong = codes "signed_dword"
+shape_name shapes.Text = codes "ascii"
+shape_name (shapes.Bits n) = codes "bit_field"
+shape_name (shapes.Slots n) = codes "not_defined"
+
+-- what is written of data that are no number: a text as it is, and all else in digits
+abbrev pub written_slots : Shape → List ℕ → List ℕ
+written_slots shapes.Text slots = utf8_lossy slots
+written_slots _ slots = utf8_lossy (digits slots)
 
 -- ---- how jobs end
 

@@ -28,6 +28,13 @@ AllRight (p ∷ ps) t = p.Right t × AllRight ps t
 abbrev pub says_one : {A : Type 0} → (Members → A → Type 0) → (Members → Fault → Type 0) → Part
 says_one {A = A} P W = record { Right = λ t. (x : A) × P t x; Wrong = W }
 
+-- a part of which what is right depends on what the table says elsewhere
+abbrev pub given : {A : Type 0} → (Members → Option A) → (A → Part) → Part
+given {A = A} says part = record {
+  Right = λ t. (x : A) × (says t ≡ Some x) × (part x).Right t;
+  Wrong = λ t f. (x : A) × (says t ≡ Some x) × (part x).Wrong t f;
+}
+
 -- ---- all keys
 
 -- the first key of the table that is none of these

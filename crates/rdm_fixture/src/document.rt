@@ -6,6 +6,7 @@ ghost use Rattle.toml.specs.Parse.{parse_document};
 ghost use Rattle.toml.specs.View.{table_view};
 ghost use Rattle.rdm_device.specs.Device.Profiles.{CanBeMade};
 ghost use Rattle.rdm_fixture.specs.Describes.{Describes, DescribesNothing};
+ghost use Rattle.rdm_fixture.specs.Drafts.{with_parameters, fixture_with};
 ghost use Rattle.rdm_fixture.specs.Describable.{CanBeDescribed};
 ghost use Rattle.rdm_fixture.specs.Cause.{IsCause};
 ghost use Rattle.rdm_fixture.specs.Faults.{told};
@@ -20,7 +21,9 @@ use crate::lists::list;
 use crate::profile::profile;
 use crate::unit::and_unit_keys;
 use crate::{Fixture, Refusal};
-use std::alloc::Global;
+use arrayvec::ArrayVec;
+use rdm_device::{OwnParameters, ParameterDef, Profile};
+use std::alloc::{AllocError, Global};
 use std::fmt;
 use thiserror::Error;
 use toml::Table;
@@ -56,7 +59,10 @@ impl Fixture {
             Err(error) => return Err(not_read(error)),
         };
         match fixture_of(&table) {
-            Ok(fixture) => Ok(fixture),
+            Ok((fixture, own)) => match with_own(alloc, fixture, own) {
+                Ok(fixture) => Ok(fixture),
+                Err(_) => Err(FixtureError::OutOfMemory),
+            },
             Err(refusal) => Err(FixtureError::Refused(with_line(alloc, text, refusal))),
         }
     }
@@ -74,11 +80,33 @@ fn not_read(error: toml::de::Error) -> FixtureError
     }
 }
 
-/// The fixture of a table, with no key besides those of the format.
-fn fixture_of(table: &Table) -> Result<Fixture, Refusal>
-    ensures read { Reads IsFixture (table_view table.now) result }
-    ensures made { IfOk result (λ f. CanBeMade f.profile) }
-    ensures describable { IfOk result CanBeDescribed }
+/// The fixture with these parameters of the maker's own in its profile. They take memory unless there are none.
+fn with_own(
+    alloc: Global,
+    fixture: Fixture,
+    own: ArrayVec<ParameterDef, 16>,
+) -> Result<Fixture, AllocError>
+    ensures { IfOk result (λ f. f ≡ fixture_with fixture own.items) }
+{
+    let Fixture {
+        uid,
+        profile,
+        outcomes,
+    } = fixture;
+    let own = OwnParameters::of(alloc, own)?;
+    let profile = Profile { own, ..profile };
+    Ok(Fixture {
+        uid,
+        profile,
+        outcomes,
+    })
+}
+
+/// The fixture of a table, with no key besides those of the format, but for the parameters of the maker's own, which stand beside it.
+fn fixture_of(table: &Table) -> Result<(Fixture, ArrayVec<ParameterDef, 16>), Refusal>
+    ensures read { Reads (λ t r. IsFixture t (fixture_with r.0 r.1.items)) (table_view table.now) result }
+    ensures made { IfOk result (λ r. CanBeMade (with_parameters r.0.profile r.1.items)) }
+    ensures describable { IfOk result (λ r. CanBeDescribed (fixture_with r.0 r.1.items)) }
     ensures wrong { IfErr result (λ e. FirstWrong fixture_parts (table_view table.now) (told e)) }
 {
     only(
@@ -89,20 +117,24 @@ fn fixture_of(table: &Table) -> Result<Fixture, Refusal>
             "boot_software_version_label",
             "languages",
             "presets",
+            "more_slots",
             "slot",
             "sensor",
             "self_test",
             "status",
+            "without",
+            "parameter",
             "outcome",
             "sub_devices"
         ),
     )?;
     let uid = own_uid(table, "uid")?;
-    let profile = profile(table)?;
+    let (profile, own) = profile(table)?;
     let outcomes = list(table, "outcome", 0, 0)?;
-    Ok(Fixture {
+    let fixture = Fixture {
         uid,
         profile,
         outcomes,
-    })
+    };
+    Ok((fixture, own))
 }

@@ -6,6 +6,7 @@ ghost use Rattle.std.specs.List.{list_any, list_all};
 ghost use Rattle.std.specs.Str.{bytes_eq};
 ghost use Rattle.toml.specs.Data.{get_member};
 ghost use Rattle.toml.specs.View.{view, table_view};
+ghost use Rattle.rdm_fixture.specs.Parameters as parameters;
 ghost use Rattle.rdm_fixture.specs.Values as says;
 ghost use Rattle.rdm_fixture.specs.Keys.{must, may, has_only};
 ghost use Rattle.rdm_fixture.specs.Faults.{fault, told};
@@ -147,6 +148,64 @@ pub(crate) fn integer16_in(value: &Value) -> Option<i16>
     None
 }
 
+/// The integer of a key that may be left out, in this range.
+pub(crate) fn integer_or(
+    table: &Table,
+    key: &str,
+    default: i64,
+    least: i64,
+    most: i64,
+) -> Result<i64, Refusal>
+    ensures value { result_ok result ≡ may default (parameters.integer_from least most) (get_member key.now (table_view table.now)) }
+    ensures wrong { IfErr result (λ e. (parts.free key.now (parameters.integer_from least most) (wanted.Number least most)).Wrong (table_view table.now) (told e)) }
+{
+    match find(table, key) {
+        Some(value) => match integer_from(value, least, most) {
+            Some(number) => Ok(number),
+            None => Err(Refusal::at(key, Wanted::Number { least, most })),
+        },
+        None => Ok(default),
+    }
+}
+
+/// The integer of a value, if it is one of this range.
+pub(crate) fn integer_from(value: &Value, least: i64, most: i64) -> Option<i64>
+    ensures { result ≡ parameters.integer_from least most (view value.now) }
+{
+    if let Value::Integer(z) = value
+        && least <= *z
+        && *z <= most
+    {
+        return Some(*z);
+    }
+    None
+}
+
+// ---- truths
+
+/// `true` or `false` at a key that may be left out.
+pub(crate) fn flag_or(table: &Table, key: &str, default: bool) -> Result<bool, Refusal>
+    ensures value { result_ok result ≡ may default parameters.flag (get_member key.now (table_view table.now)) }
+    ensures wrong { IfErr result (λ e. (parts.free key.now parameters.flag wanted.Boolean).Wrong (table_view table.now) (told e)) }
+{
+    match find(table, key) {
+        Some(value) => match flag_in(value) {
+            Some(flag) => Ok(flag),
+            None => Err(Refusal::at(key, Wanted::Boolean)),
+        },
+        None => Ok(default),
+    }
+}
+
+fn flag_in(value: &Value) -> Option<bool>
+    ensures { result ≡ parameters.flag (view value.now) }
+{
+    match value {
+        Value::Boolean(flag) => Some(*flag),
+        _ => None,
+    }
+}
+
 // ---- texts
 
 /// The text of a key that may be left out: it is empty then.
@@ -164,13 +223,23 @@ fn text_in(value: &Value, key: &str) -> Result<Text, Refusal>
     ensures value { result_ok result ≡ says.text (view value.now) }
     ensures wrong { IfErr result (λ e. told e ≡ fault key.now wanted.Text) }
 {
+    match printable_in(value) {
+        Some(text) => Ok(text),
+        None => Err(Refusal::at(key, Wanted::Text)),
+    }
+}
+
+/// The text of a value, if it is one that can be sent.
+pub(crate) fn printable_in(value: &Value) -> Option<Text>
+    ensures { result ≡ says.text (view value.now) }
+{
     if let Value::String(text) = value {
         let bytes = text.as_bytes();
         if bytes.len() <= 32 && are_printable(bytes) {
-            return Ok(Text::of(bytes));
+            return Some(Text::of(bytes));
         }
     }
-    Err(Refusal::at(key, Wanted::Text))
+    None
 }
 
 /// Whether every character is printable.

@@ -13,6 +13,7 @@ mod laws;
 mod line;
 mod lists;
 mod outcomes;
+mod parameters;
 mod profile;
 mod refusal;
 mod unit;

@@ -1,39 +1,51 @@
 //! What a device is made with.
 
-ghost use Rattle.std.specs.Prelude.{◌≡◌, ◌≢◌, ◌≤◌, ◌↔◌, ℕ, Some, None, IfOk, IfErr, IfSome, IsTrue, AllPairs, length, [], ◌∷◌, codes};
+ghost use Rattle.std.specs.Prelude.{◌≡◌, ◌≢◌, ◌+◌, ◌≤◌, ◌↔◌, ℕ, min, Some, None, IfOk, IfErr, IfSome, IsTrue, AllPairs, length, [], ◌∷◌, codes};
+ghost use Rattle.std.specs.Result.{result_ok};
 ghost use Rattle.toml.specs.Data.{get_member};
 ghost use Rattle.toml.specs.View.{view, array_view, table_view};
 ghost use Rattle.rdm_fixture.specs.Faults.{fault, in_entry, told};
 ghost use Rattle.rdm_fixture.specs.FirstWrong as parts;
+ghost use Rattle.rdm_fixture.specs.Drafts.{with_parameters};
 ghost use Rattle.rdm_fixture.specs.Format.{IsProfile, IsSlot, IsSelfTest, IsStatus, LanguagesAt, slot_count};
-ghost use Rattle.rdm_fixture.specs.Keys.{Reads, OfTable, EachIs, Lists};
+ghost use Rattle.rdm_fixture.specs.Keys.{Reads, may, OfTable, EachIs, Lists};
 ghost use Rattle.rdm_fixture.specs.Values as says;
-ghost use Rattle.rdm_fixture.specs.Wrong.{FirstWrong, entries};
+ghost use Rattle.rdm_fixture.specs.Wrong.{FirstWrong, entries, free_number};
 ghost use Rattle.rdm_fixture.specs.declared.refusal.Wanted.TheVariants as wanted;
+
+mod added;
 
 use crate::keys::{find, number_or, text_or_none};
 use crate::lists::list;
 use crate::refusal::{Refusal, Wanted};
 use crate::unit::{sub_devices, unit};
+use added::{own_parameters, without};
 use arrayvec::ArrayVec;
-use rdm_device::{Profile, SelfTest, Slot, StatusText};
+use rdm_device::{OwnParameters, ParameterDef, Profile, SelfTest, Slot, StatusText};
 use toml::value::Array;
 use toml::{Table, Value};
 
-/// The profile of a table, of which only the keys of a profile are looked at.
-pub(crate) fn profile(table: &Table) -> Result<Profile, Refusal>
-    ensures read { Reads IsProfile (table_view table.now) result }
+/// The profile of a table, of which only the keys of a profile are looked at. The parameters of the maker's own stand beside it, since
+/// they take memory in it.
+pub(crate) fn profile(table: &Table) -> Result<(Profile, ArrayVec<ParameterDef, 16>), Refusal>
+    ensures read { Reads (λ t r. IsProfile t (with_parameters r.0 r.1.items)) (table_view table.now) result }
     ensures wrong { IfErr result (λ e. FirstWrong parts.profile_parts (table_view table.now) (told e)) }
 {
     let boot = number_or(table, "boot_software_version_id", 0, 0, 0xFFFF_FFFF)?;
     let boot_text = text_or_none(table, "boot_software_version_label")?;
     let languages = languages(table)?;
     let presets = number_or(table, "presets", 0, 0, 65534)? as u16;
+    let more_slots = more_slots(table)?;
     let slots = slots(table)?;
-    let count = slots.len() as u16;
+    let count = root_slots(slots.len(), more_slots);
     let root = unit(table, count)?;
     let (subs, sub) = sub_devices(table, count)?;
-    Ok(Profile {
+    let sensors = list(table, "sensor", 0, 0)?;
+    let tests = self_tests(table)?;
+    let status_texts = status_texts(table)?;
+    let without = without(table)?;
+    let parameters = own_parameters(table)?;
+    let profile = Profile {
         root,
         sub,
         subs,
@@ -41,11 +53,36 @@ pub(crate) fn profile(table: &Table) -> Result<Profile, Refusal>
         boot_text,
         languages,
         slots,
-        sensors: list(table, "sensor", 0, 0)?,
-        tests: self_tests(table)?,
-        status_texts: status_texts(table)?,
+        sensors,
+        tests,
+        status_texts,
         presets,
-    })
+        own: OwnParameters::none(),
+        without,
+        more_slots,
+    };
+    Ok((profile, parameters))
+}
+
+/// How many slots the root uses besides those that are described.
+fn more_slots(table: &Table) -> Result<u16, Refusal>
+    ensures value { result_ok result ≡ may 0 (says.number 0 512) (get_member (codes "more_slots") (table_view table.now)) }
+    ensures within { IfOk result (λ n. n ≤ 512) }
+    ensures wrong { IfErr result (λ e. (free_number (codes "more_slots") 0 512).Wrong (table_view table.now) (told e)) }
+{
+    match number_or(table, "more_slots", 0, 0, 512) {
+        Ok(more) => Ok(more as u16),
+        Err(refusal) => Err(refusal),
+    }
+}
+
+/// How many slots the root can use: those that are described, and so many more, of the 512 that there are.
+fn root_slots(described: usize, more: u16) -> u16
+    requires few { described ≤ 46 }
+    requires more { more ≤ 512 }
+    ensures { result ≡ min 512 (described + more) }
+{
+    (described as u16 + more).min(512)
 }
 
 fn slots(table: &Table) -> Result<ArrayVec<Slot, 46>, Refusal>

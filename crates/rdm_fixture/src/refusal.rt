@@ -32,6 +32,24 @@ pub enum Wanted {
     Table,
     /// Another value than that of an earlier entry.
     Other,
+    /// The PID of a parameter that a maker can add (E1.20 table A-3).
+    Pid,
+    /// A greater PID than that of each earlier entry.
+    Ascending,
+    /// The commands of a parameter (table A-16).
+    CommandClass,
+    /// The type of the data of a parameter (table A-15).
+    DataType,
+    /// A string of at most 64 hexadecimal digits, two for each slot.
+    Slots,
+    /// `true` or `false`.
+    Boolean,
+    /// A list of names of the standard's parameters (table A-3).
+    Parameter,
+    /// A list without parameters that every fixture has (table A-3).
+    Optional,
+    /// A list without parameters that one which isn't in it needs.
+    Unneeded,
     /// `true`.
     True,
     /// A parameter whose command is a job.
@@ -173,36 +191,90 @@ impl fmt::Display for Refusal {
             let number = entry.number;
             write!(f, "in {list} {number}, ")?;
         }
-        let key = self.key.as_str();
-        match self.wanted {
-            Wanted::Key => write!(f, "missing key `{key}`"),
-            Wanted::NoSuchKey => write!(f, "unknown key `{key}`"),
-            Wanted::Number { least, most } => {
-                write!(f, "`{key}` isn't an integer from {least} to {most}")
-            }
-            Wanted::Text => write!(
-                f,
-                "`{key}` isn't a string of at most 32 printable ASCII characters"
-            ),
-            Wanted::Uid => write!(
-                f,
-                "`{key}` isn't a UID of one device, such as \"7FF0:00000001\""
-            ),
-            Wanted::Language => write!(f, "`{key}` isn't a language code of two lowercase letters"),
-            Wanted::List { least, most } => {
-                write!(f, "`{key}` isn't a list of {least} to {most} entries")
-            }
-            Wanted::Table => write!(f, "`{key}` isn't a table"),
-            Wanted::Other => write!(f, "`{key}` is the same as in an earlier entry"),
-            Wanted::True => write!(f, "`{key}` must be true"),
-            Wanted::Task => write!(
-                f,
-                "`{key}` must be LAMP_STATE, POWER_STATE, PERFORM_SELFTEST or SENSOR_VALUE"
-            ),
-            Wanted::Severity => write!(f, "`{key}` must be advisory, warning or error"),
-            Wanted::Outcome => write!(f, "expected one of `done`, `reading` and `severity`"),
-            Wanted::OneOutcome => write!(f, "`{key}` can't be combined with another outcome"),
-            Wanted::Suiting => write!(f, "`{key}` isn't a valid outcome of this parameter"),
+        write_wanted(f, self.key.as_str(), self.wanted)
+    }
+}
+
+/// What was wanted of a key of any table.
+fn write_wanted<W: fmt::Write>(
+    f: &mut fmt::Formatter<W>,
+    key: &str,
+    wanted: Wanted,
+) -> fmt::Result {
+    match wanted {
+        Wanted::Key => write!(f, "missing key `{key}`"),
+        Wanted::NoSuchKey => write!(f, "unknown key `{key}`"),
+        Wanted::Number { least, most } => {
+            write!(f, "`{key}` isn't an integer from {least} to {most}")
         }
+        Wanted::Text => write!(
+            f,
+            "`{key}` isn't a string of at most 32 printable ASCII characters"
+        ),
+        Wanted::Uid => write!(
+            f,
+            "`{key}` isn't a UID of one device, such as \"7FF0:00000001\""
+        ),
+        Wanted::Language => write!(f, "`{key}` isn't a language code of two lowercase letters"),
+        Wanted::List { least, most } => {
+            write!(f, "`{key}` isn't a list of {least} to {most} entries")
+        }
+        Wanted::Table => write!(f, "`{key}` isn't a table"),
+        Wanted::Other => write!(f, "`{key}` is the same as in an earlier entry"),
+        _ => write_wanted_parameter(f, key, wanted),
+    }
+}
+
+/// The same of a parameter that the maker adds, or of those that the fixture lacks.
+fn write_wanted_parameter<W: fmt::Write>(
+    f: &mut fmt::Formatter<W>,
+    key: &str,
+    wanted: Wanted,
+) -> fmt::Result {
+    match wanted {
+        Wanted::Pid => write!(
+            f,
+            "`{key}` isn't a PID that a maker can add, such as 0x8000 to 0xFFDF"
+        ),
+        Wanted::Ascending => write!(f, "`{key}` isn't greater than in each earlier entry"),
+        Wanted::CommandClass => write!(f, "`{key}` must be get, set or get_set"),
+        Wanted::DataType => write!(
+            f,
+            "`{key}` must be unsigned_byte, signed_byte, unsigned_word, signed_word, unsigned_dword, signed_dword, ascii, bit_field or not_defined"
+        ),
+        Wanted::Slots => write!(
+            f,
+            "`{key}` isn't a string of at most 32 slots, each of two hexadecimal digits"
+        ),
+        Wanted::Boolean => write!(f, "`{key}` must be true or false"),
+        Wanted::Parameter => write!(
+            f,
+            "`{key}` isn't a list of names of parameters, such as \"LAMP_STATE\""
+        ),
+        Wanted::Optional => write!(f, "`{key}` leaves out a parameter that every fixture has"),
+        Wanted::Unneeded => write!(
+            f,
+            "`{key}` leaves out a parameter that one which stays needs"
+        ),
+        _ => write_wanted_outcome(f, key, wanted),
+    }
+}
+
+/// The same of a rule by which jobs end.
+fn write_wanted_outcome<W: fmt::Write>(
+    f: &mut fmt::Formatter<W>,
+    key: &str,
+    wanted: Wanted,
+) -> fmt::Result {
+    match wanted {
+        Wanted::True => write!(f, "`{key}` must be true"),
+        Wanted::Task => write!(
+            f,
+            "`{key}` must be LAMP_STATE, POWER_STATE, PERFORM_SELFTEST or SENSOR_VALUE"
+        ),
+        Wanted::Severity => write!(f, "`{key}` must be advisory, warning or error"),
+        Wanted::Outcome => write!(f, "expected one of `done`, `reading` and `severity`"),
+        Wanted::OneOutcome => write!(f, "`{key}` can't be combined with another outcome"),
+        _ => write!(f, "`{key}` isn't a valid outcome of this parameter"),
     }
 }

@@ -11,6 +11,7 @@ ghost use Rattle.rdm_fixture.specs.Writing.{IsPlain};
 mod checks;
 mod entries;
 mod fields;
+mod parameters;
 mod rules;
 mod tables;
 mod units;
@@ -28,9 +29,11 @@ pub enum WriteError {
     /// Out of memory for its text.
     #[error("out of memory")]
     OutOfMemory,
-    /// No text describes it: its UID is a broadcast (E1.20 section 6.2.4), devices can't be made with its profile, a text of it
-    /// has a character that isn't printable ASCII, a language isn't two lowercase letters (section 10.5.7), or a rule can't be
-    /// in a file: it is of job 0, its outcome isn't one that its parameter can have, or it fails with what is over (table A-4).
+    /// No text describes it: its UID is a broadcast (E1.20 section 6.2.4), devices can't be made with its profile, the root has more
+    /// than 512 slots besides those that are described, a parameter of the maker's own has limits above one another or has limits
+    /// and no numbers (section 10.4.2), a text has a character that isn't printable ASCII, a language isn't two lowercase letters
+    /// (section 10.5.7), or a rule can't be in a file: it is of job 0, its outcome isn't one that its parameter can have, or it
+    /// fails with what is over (table A-4).
     #[error("no file describes the fixture")]
     Indescribable,
 }

@@ -2,6 +2,7 @@
 
 mod lines;
 mod outcomes;
+mod parameters;
 mod refusals;
 mod values;
 mod writing;

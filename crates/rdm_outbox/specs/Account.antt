@@ -11,13 +11,14 @@ pub record Noted : Type 0 where
   pub shown : Bool
 
 -- The greatest number of jobs and messages together, of jobs for each worker, and of entries that wait to be shown; the
--- jobs that were accepted; the workers whose jobs have ended, one for each; the messages that arrived, and how many of them
--- were given to the controller; the status entries; and the answers to QUEUED_MESSAGE and STATUS_MESSAGES, repeats left out.
--- All of them in order of time.
+-- number of each worker's first job; the jobs that were accepted; the workers whose jobs have ended, one for each; the
+-- messages that arrived, and how many of them were given to the controller; the status entries; and the answers to
+-- QUEUED_MESSAGE and STATUS_MESSAGES, repeats left out. All of them in order of time.
 pub record Account : Type 0 where
   pub q : ℕ
   pub jobs : ℕ
   pub entries : ℕ
+  pub first_job : ℕ
   pub accepted : List Job
   pub ended : List ℕ
   pub arrived : List Message
@@ -26,6 +27,16 @@ pub record Account : Type 0 where
   pub answers : List Message
 
 -- the account of an outbox that was just made
-abbrev pub account_before : ℕ → ℕ → ℕ → Account
-account_before q jobs entries =
-    record { q = q; jobs = jobs; entries = entries; accepted = []; ended = []; arrived = []; given = 0; noted = []; answers = [] }
+abbrev pub account_before : ℕ → ℕ → ℕ → ℕ → Account
+account_before q jobs entries first_job = record {
+  q = q;
+  jobs = jobs;
+  entries = entries;
+  first_job = first_job;
+  accepted = [];
+  ended = [];
+  arrived = [];
+  given = 0;
+  noted = [];
+  answers = [];
+}

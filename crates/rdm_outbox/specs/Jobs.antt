@@ -1,5 +1,5 @@
 -- Jobs that are outstanding, messages that wait, and the room for a further job.
-use Rattle.std.specs.Prelude.{ℕ, ◌+◌, ◌==◌, ◌&&◌, Bool, List, [], ◌∷◌, ◌++◌, length, drop, filter, count_by, nat_lt, Result, Ok, Err, if◌then◌else◌}
+use Rattle.std.specs.Prelude.{ℕ, ◌+◌, ◌%◌, ◌^◌, ◌==◌, ◌&&◌, Bool, List, [], ◌∷◌, ◌++◌, length, drop, filter, count_by, nat_lt, Result, Ok, Err, if◌then◌else◌}
 use Rattle.rdm_params.specs.declared.jobs.message.Message.{Message}
 use Rattle.rdm_params.specs.declared.jobs.work.Work.{Work}
 use Rattle.rdm_params.specs.Jobs.Work.{worker_of}
@@ -28,13 +28,22 @@ outstanding_count a = length (outstanding_of a 0) + length (outstanding_of a 1)
 abbrev pub waiting_of : Account → List Message
 waiting_of a = drop a.given a.arrived
 
+-- how many jobs a worker was given
+abbrev pub given_to : ℕ → Account → ℕ
+given_to worker a = length (jobs_of worker a.accepted)
+
+-- The number of a worker's next job, from that of its first and how many it was given. Numbers have 32 bits: after the
+-- greatest comes 0.
+unfoldable pub number_after : ℕ → ℕ → ℕ
+number_after first_job given = (first_job + given) % 2 ^ 32
+
 -- the job of this number
 abbrev pub numbered : ℕ → Work → Job
 numbered number work = record { number = number; work = work }
 
--- The job that this work becomes. Its number is how many jobs its worker was given before.
+-- the job that this work becomes, with the next number of its worker
 abbrev pub next_job : Account → Work → Job
-next_job a work = numbered (length (jobs_of (worker_of work) a.accepted)) work
+next_job a work = numbered (number_after a.first_job (given_to (worker_of work) a)) work
 
 -- There is a place for one more: outstanding jobs and waiting messages are fewer than q.
 abbrev pub has_place : Account → Bool
@@ -42,7 +51,7 @@ has_place a = nat_lt (outstanding_count a + length (waiting_of a)) a.q
 
 -- The room rule: there is a place, and the worker may be given a further job.
 abbrev pub has_room : Account → Work → Bool
-has_room a work = has_place a && nat_lt (next_job a work).number a.jobs
+has_room a work = has_place a && nat_lt (given_to (worker_of work) a) a.jobs
 
 -- what `reserve` answers, and the account after it
 abbrev pub reserved : Account → Work → Result Job Full

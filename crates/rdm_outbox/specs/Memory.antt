@@ -10,6 +10,7 @@ seen o = record {
   q = o.q;
   jobs = o.jobs;
   entries = o.entries;
+  first_job = o.first_job;
   first = o.first.items;
   second = o.second.items;
   first_given = o.first_given;

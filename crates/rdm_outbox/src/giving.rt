@@ -2,31 +2,36 @@
 
 ghost use Rattle.std.specs.Prelude.{◌≡◌, ◌<◌, ◌+◌, [], ◌∷◌, ◌++◌, length, nat_lt, Ok, Err, if◌then◌else◌};
 ghost use Rattle.circular_buffer.specs.Buffer.{buffer};
-ghost use Rattle.rdm_outbox.specs.Jobs.{numbered};
+ghost use Rattle.rdm_outbox.specs.Jobs.{number_after, numbered};
 
 use crate::ring::put;
 use crate::{Full, Job};
 use circular_buffer::HeapCircularBuffer;
 use rdm_params::Work;
 
-/// Gives a worker a further job, unless it was given `jobs` already. There must be room for it.
+/// Gives a worker a further job, unless it was given `jobs` already. Its first job had the number `first_job`. There must be
+/// room for it.
+#[tactic(auto, unfolding(crate::specs::Jobs::number_after))]
 pub(crate) fn give(
     outstanding: &mut HeapCircularBuffer<Job>,
     given: &mut u32,
     jobs: u32,
+    first_job: u32,
     work: Work,
 ) -> Result<Job, Full>
     requires { length outstanding.old.items < outstanding.old.capacity }
-    ensures answer { result ≡ (if nat_lt given.old jobs then Ok (numbered given.old work) else Err Full.NoRoom) }
+    ensures answer { result ≡ (if nat_lt given.old jobs
+        then Ok (numbered (number_after first_job given.old) work) else Err Full.NoRoom) }
     ensures outstanding { outstanding.new ≡ (if nat_lt given.old jobs
-        then buffer (outstanding.old.items ++ numbered given.old work ∷ []) outstanding.old.capacity else outstanding.old) }
+        then buffer (outstanding.old.items ++ numbered (number_after first_job given.old) work ∷ []) outstanding.old.capacity
+        else outstanding.old) }
     ensures given { given.new ≡ (if nat_lt given.old jobs then given.old + 1 else given.old) }
 {
     if *given >= jobs {
         return Err(Full::NoRoom);
     }
     let job = Job {
-        number: *given,
+        number: first_job.wrapping_add(*given),
         work,
     };
     put(outstanding, job);

@@ -6,7 +6,8 @@ use thiserror::Error;
 /// A slow command that was accepted, until it has ended.
 #[derive(Clone, Copy, Debug, PartialEq, Eq)]
 pub struct Job {
-    /// The number: how many jobs the worker was given before.
+    /// The number: that of the worker's first job, and one more for each job that it was given before. After 4,294,967,295
+    /// comes 0.
     pub number: u32,
     /// What is to be done.
     pub work: Work,

@@ -31,6 +31,7 @@ pub struct Outbox {
     q: u16,
     jobs: u32,
     entries: u16,
+    first_job: u32,
     first: HeapCircularBuffer<Job>,
     second: HeapCircularBuffer<Job>,
     first_given: u32,
@@ -59,7 +60,7 @@ impl Outbox {
     /// A `q` that isn't 1 to 1,024, or a `jobs` of 0, is rejected first, then comes out of memory. No later call takes
     /// memory.
     pub fn new(alloc: Global, q: u16, jobs: u32) -> Result<Self, NewError>
-        ensures shows { IfOk result (λ outbox. Shows outbox (account_before q jobs most_entries)) }
+        ensures shows { IfOk result (λ outbox. Shows outbox (account_before q jobs most_entries 0)) }
         ensures bad_size { (result ≡ Err NewError.BadSize) ↔ (¬ IsOutboxSize q jobs) }
     {
         Outbox::with_entries(alloc, q, jobs, MOST_ENTRIES)
@@ -71,7 +72,24 @@ impl Outbox {
     /// A `q` that isn't 1 to 1,024, a `jobs` of 0, or an `entries` that isn't 1 to 1,024 is rejected first, then comes out of
     /// memory. No later call takes memory.
     pub fn with_entries(alloc: Global, q: u16, jobs: u32, entries: u16) -> Result<Self, NewError>
-        ensures shows { IfOk result (λ outbox. Shows outbox (account_before q jobs entries)) }
+        ensures shows { IfOk result (λ outbox. Shows outbox (account_before q jobs entries 0)) }
+        ensures bad_size { (result ≡ Err NewError.BadSize) ↔ (¬ (IsOutboxSize q jobs × IsListSize entries)) }
+    {
+        Outbox::new_numbered(alloc, q, jobs, entries, 0)
+    }
+
+    /// An outbox as of `with_entries`, in which the first job of each worker has the number `first_job`: so that the jobs of
+    /// one outbox have other numbers than those of one before it. Those of `new` and `with_entries` begin at 0.
+    ///
+    /// It is rejected as `with_entries` says, whatever the number. No later call takes memory.
+    pub fn new_numbered(
+        alloc: Global,
+        q: u16,
+        jobs: u32,
+        entries: u16,
+        first_job: u32,
+    ) -> Result<Self, NewError>
+        ensures shows { IfOk result (λ outbox. Shows outbox (account_before q jobs entries first_job)) }
         ensures bad_size { (result ≡ Err NewError.BadSize) ↔ (¬ (IsOutboxSize q jobs × IsListSize entries)) }
     {
         if q == 0 || q > MOST_WAITING || jobs == 0 || entries == 0 || entries > MOST_ENTRIES {
@@ -93,6 +111,7 @@ impl Outbox {
             q,
             jobs,
             entries,
+            first_job,
             first,
             second,
             first_given: 0,
@@ -176,9 +195,21 @@ impl Outbox {
             return Err(Full::NoRoom);
         }
         if worker == 0 {
-            give(&mut self.first, &mut self.first_given, self.jobs, work)
+            give(
+                &mut self.first,
+                &mut self.first_given,
+                self.jobs,
+                self.first_job,
+                work,
+            )
         } else {
-            give(&mut self.second, &mut self.second_given, self.jobs, work)
+            give(
+                &mut self.second,
+                &mut self.second_given,
+                self.jobs,
+                self.first_job,
+                work,
+            )
         }
     }
 

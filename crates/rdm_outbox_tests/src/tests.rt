@@ -117,6 +117,40 @@ fn sizes_and_numbers(rt: HostRuntime) -> Result<(), Fail> {
 }
 
 #[test]
+fn numbers_begin_where_they_are_told_to(rt: HostRuntime) -> Result<(), Fail> {
+    // The first number, and those of three jobs: after the greatest comes 0.
+    for (first, numbers) in [
+        (0, [0, 1, 2]),
+        (1000, [1000, 1001, 1002]),
+        (0xFFFF_FFFE, [0xFFFF_FFFE, 0xFFFF_FFFF, 0]),
+        (0xFFFF_FFFF, [0xFFFF_FFFF, 0, 1]),
+    ] {
+        let mut outbox = Outbox::new_numbered(rt.alloc(), 8, 3, 1, first)
+            .ok()
+            .ok_or("a good size")?;
+        for expected in numbers {
+            for work in [LAMP, SELF_TEST] {
+                assert_eq!(rt; number(&mut outbox, work), Some(expected), "{first}");
+            }
+        }
+        // Each worker was given as many as it may be, whatever their numbers.
+        assert_eq!(rt; number(&mut outbox, LAMP), None, "{first}");
+        assert!(rt;
+            matches!(outbox.oldest(1), Some(job) if job.number == first),
+            "{first}"
+        );
+        finish(&rt, &mut outbox, 1, 0x1020);
+        let next = numbers[1];
+        assert!(rt;
+            matches!(outbox.oldest(1), Some(job) if job.number == next),
+            "{first}"
+        );
+        assert_eq!(rt; number(&mut outbox, SELF_TEST), None, "{first}");
+    }
+    Ok(())
+}
+
+#[test]
 fn jobs_and_messages_share_the_room(rt: HostRuntime) -> Result<(), Fail> {
     let mut outbox = made(&rt, 2, 9)?;
     assert_eq!(rt; number(&mut outbox, LAMP), Some(0));

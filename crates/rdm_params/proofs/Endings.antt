@@ -10,6 +10,7 @@ use Rattle.rdm_params.specs.declared.panel.Change.TheVariants as changes
 use Rattle.rdm_params.specs.declared.jobs.outcome.Outcome.{Outcome}
 use Rattle.rdm_params.specs.declared.jobs.outcome.Outcome.TheVariants.{Done, Reading, Failed}
 use Rattle.rdm_params.specs.declared.jobs.work.Work.{Work}
+use Rattle.rdm_device.specs.declared.profile.Profile.{Profile}
 use Rattle.rdm_device.specs.declared.value.Value.{Value}
 use Rattle.rdm_device.specs.declared.value.Value.TheVariants.{Byte}
 use Rattle.rdm_params.specs.Commands.Commands.{command_of, carried_out, is_all_call}
@@ -24,14 +25,14 @@ use Rattle.rdm_params.specs.Table.Rows.{Row, table, row_of, row_in, command_in}
 use Rattle.rdm_params.specs.Table.Uses.{is_slow}
 use Rattle.rdm_params.proofs.Bools.{both_true, is_not}
 use Rattle.rdm_params.proofs.OtherDevices.{unchanged, carried}
-use Rattle.rdm_params.proofs.OwnKeys.{Keeps, IsApart, lookup-update, not_either, carried_keeps, apart_test}
+use Rattle.rdm_params.proofs.OwnKeys.{Keeps, IsApart, lookup-update, not_either, carried_keeps, of_table, apart_test}
 use Rattle.rdm_params.proofs.Rows.{found}
 
 same : (p : Parameters) (key index : ℕ) → SameAt key index p p
-same p key index = record { root = refl; subs = λ k. refl }
+same p key index = record { root = refl; added = refl; subs = λ k. refl }
 
-carried_same : (p : Parameters) (sub pid : ℕ) (v : Value) (key index : ℕ) → IsApart pid key → SameAt key index p (carried_out p sub (command_of pid Set) v)
-carried_same p sub pid v key index apart = carried_keeps p sub pid v key index apart (sub == 0) (is_all_call sub Set)
+carried_same : (p : Parameters) (sub pid : ℕ) (v : Value) (key index : ℕ) → IsApart p.profile pid key → SameAt key index p (carried_out p sub (command_of pid Set) v)
+carried_same p sub pid v key index apart = carried_keeps p sub pid (command_of pid Set) v key index (of_table pid) apart (sub == 0) (is_all_call sub Set)
 
 -- ---- readings
 
@@ -45,7 +46,7 @@ measures_only number v key apart e at = either_false (e.pid == 0x0201) (e.index 
 reading_keeps : (p : Parameters) (w : Work) (v : ℤ) (key index : ℕ) → (0x0201 == key) ≡ false → SameAt key index p (after_commit p w (Reading v))
 unfolding after_commit
 reading_keeps p w v key index apart =
-    record { root = lookup-update key index (measured_by w.arg v) p.root (measures_only w.arg v key apart); subs = λ k. refl }
+    record { root = lookup-update key index (measured_by w.arg v) p.root (measures_only w.arg v key apart); added = refl; subs = λ k. refl }
 
 pub changes_its_keys_at_end : CommitChangesItsKeys
 unfolding after_commit
@@ -73,12 +74,12 @@ other_sensor number v key index apart (e ∷ es) =
 pub reading_changes_its_sensor : ReadingChangesItsSensor
 unfolding after_commit
 reading_changes_its_sensor p w v key index apart =
-    record { root = other_sensor w.arg v key index apart p.root; subs = λ k. refl }
+    record { root = other_sensor w.arg v key index apart p.root; added = refl; subs = λ k. refl }
 
 pub leaves_the_rest_at_end : CommitLeavesTheRest
 unfolding after_commit
-leaves_the_rest_at_end p w Done = carried p w.sub w.pid (Byte w.arg) (w.sub == 0) (w.sub == 0xFFFF) refl refl
-leaves_the_rest_at_end p w (Reading v) = record { profile = refl; count = refl; root = λ n. absurd (n refl); subs = λ k n m. refl }
+leaves_the_rest_at_end p w Done = carried p w.sub (command_of w.pid Set) (Byte w.arg) (w.sub == 0) (w.sub == 0xFFFF) refl refl
+leaves_the_rest_at_end p w (Reading v) = record { profile = refl; count = refl; root = λ n. absurd (n refl); added = λ n. refl; subs = λ k n m. refl }
 leaves_the_rest_at_end p w (Failed severity id v1 v2) = unchanged p 0
 
 pub failed_changes_nothing : FailedChangesNothing
@@ -89,7 +90,7 @@ failed_changes_nothing p w severity id v1 v2 = refl
 
 -- a slow GET is SENSOR_VALUE's, and a slow SET writes its own key
 abbrev SlowFacts : Row → Type 0
-SlowFacts r = (is_slow (command_in (Some r) Get) ≡ true → r.pid ≡ 0x0201) × (is_slow (command_in (Some r) Set) ≡ true → keys_written r.pid ≡ r.pid ∷ [])
+SlowFacts r = (is_slow (command_in (Some r) Get) ≡ true → r.pid ≡ 0x0201) × (is_slow (command_in (Some r) Set) ≡ true → (profile : Profile) → keys_written profile r.pid ≡ r.pid ∷ [])
 
 -- the same as a test
 abbrev passes : Row → Bool
@@ -101,8 +102,8 @@ slow_or : (slow b : Bool) → (not slow || b) ≡ true → slow ≡ true → b �
 slow_or true b e slow = e
 slow_or false b e slow = absurd cc
 
-own_key : (pid : ℕ) → (not (pid == 0x0090) && not (pid == 0x0202)) ≡ true → keys_written pid ≡ pid ∷ []
-own_key pid e =
+own_key : (pid : ℕ) → (not (pid == 0x0090) && not (pid == 0x0202)) ≡ true → (profile : Profile) → keys_written profile pid ≡ pid ∷ []
+own_key pid e profile =
     let both = both_true (not (pid == 0x0090)) (not (pid == 0x0202)) e in
     rw (is_not (pid == 0x0090) both.0, is_not (pid == 0x0202) both.1) refl
 
@@ -126,13 +127,13 @@ rows_pass = refl
 rows_say : AllByRecursion SlowFacts table
 rows_say = all_say table rows_pass
 
-of_row : (pid : ℕ) (row : Option Row) → row_in table pid ≡ row → (is_slow (command_in row Get) ≡ true → pid ≡ 0x0201) × (is_slow (command_in row Set) ≡ true → keys_written pid ≡ pid ∷ [])
+of_row : (pid : ℕ) (row : Option Row) → row_in table pid ≡ row → (is_slow (command_in row Get) ≡ true → pid ≡ 0x0201) × (is_slow (command_in row Set) ≡ true → (profile : Profile) → keys_written profile pid ≡ pid ∷ [])
 of_row pid None e = (λ slow. absurd cc, λ slow. absurd cc)
 of_row pid (Some r) e =
     let say = found SlowFacts table pid r rows_say e in
-    subst (λ (n : ℕ). (is_slow (command_in (Some r) Get) ≡ true → n ≡ 0x0201) × (is_slow (command_in (Some r) Set) ≡ true → keys_written n ≡ n ∷ [])) say.1 say.0
+    subst (λ (n : ℕ). (is_slow (command_in (Some r) Get) ≡ true → n ≡ 0x0201) × (is_slow (command_in (Some r) Set) ≡ true → (profile : Profile) → keys_written profile n ≡ n ∷ [])) say.1 say.0
 
-slow_says : (pid : ℕ) → (is_slow (command_of pid Get) ≡ true → pid ≡ 0x0201) × (is_slow (command_of pid Set) ≡ true → keys_written pid ≡ pid ∷ [])
+slow_says : (pid : ℕ) → (is_slow (command_of pid Get) ≡ true → pid ≡ 0x0201) × (is_slow (command_of pid Set) ≡ true → (profile : Profile) → keys_written profile pid ≡ pid ∷ [])
 unfolding row_of
 slow_says pid = of_row pid (row_in table pid) refl
 
@@ -140,17 +141,17 @@ one_key : (pid key : ℕ) (pids : List ℕ) → pids ≡ pid ∷ [] → key ≢ 
 one_key pid key pids e apart = rw (e, ne_eqb pid key (λ (at : pid ≡ key). apart (sym at))) refl
 
 -- the keys of an outcome that fits are the one of the parameter, or none
-its_key : (sub pid : ℕ) (verb : Verb) (arg : ℕ) (outcome : Outcome) (key : ℕ) → is_slow (command_of pid verb) ≡ true → ends verb outcome ≡ true → key ≢ pid → list_any (λ k. k == key) (keys_committed (record { sub = sub; pid = pid; verb = verb; arg = arg }) outcome) ≡ false
-its_key sub pid Set arg Done key slow end apart = one_key pid key (keys_written pid) ((slow_says pid).1 slow) apart
-its_key sub pid Get arg Done key slow end apart = absurd cc
-its_key sub pid Get arg (Reading v) key slow end apart = one_key pid key (0x0201 ∷ []) (rw ((slow_says pid).0 slow) refl) apart
-its_key sub pid Set arg (Reading v) key slow end apart = absurd cc
-its_key sub pid verb arg (Failed severity id v1 v2) key slow end apart = refl
+its_key : (profile : Profile) (sub pid : ℕ) (verb : Verb) (arg : ℕ) (outcome : Outcome) (key : ℕ) → is_slow (command_of pid verb) ≡ true → ends verb outcome ≡ true → key ≢ pid → list_any (λ k. k == key) (keys_committed profile (record { sub = sub; pid = pid; verb = verb; arg = arg }) outcome) ≡ false
+its_key profile sub pid Set arg Done key slow end apart = one_key pid key (keys_written profile pid) ((slow_says pid).1 slow profile) apart
+its_key profile sub pid Get arg Done key slow end apart = absurd cc
+its_key profile sub pid Get arg (Reading v) key slow end apart = one_key pid key (0x0201 ∷ []) (rw ((slow_says pid).0 slow) refl) apart
+its_key profile sub pid Set arg (Reading v) key slow end apart = absurd cc
+its_key profile sub pid verb arg (Failed severity id v1 v2) key slow end apart = refl
 
 pub changes_its_key_at_end : CommitChangesItsKey
 changes_its_key_at_end p w outcome key index fit apart =
     let both = both_true (is_slow (command_of w.pid w.verb)) (ends w.verb outcome) fit in
-    changes_its_keys_at_end p w outcome key index (its_key w.sub w.pid w.verb w.arg outcome key both.0 both.1 apart)
+    changes_its_keys_at_end p w outcome key index (its_key p.profile w.sub w.pid w.verb w.arg outcome key both.0 both.1 apart)
 
 -- ---- changes at the menu
 
@@ -159,19 +160,19 @@ either : (P : Parameters → Type 0) (test : Bool) (new old : Parameters) → P 
 either P true new old one two = one
 either P false new old one two = two
 
-menu_key : (change : Change) → keys_written (changed_pid change) ≡ changed_pid change ∷ []
-menu_key (changes.Start start) = refl
-menu_key (changes.Personality number) = refl
-menu_key (changes.Label plate) = refl
+menu_key : (profile : Profile) (change : Change) → keys_written profile (changed_pid change) ≡ changed_pid change ∷ []
+menu_key profile (changes.Start start) = refl
+menu_key profile (changes.Personality number) = refl
+menu_key profile (changes.Label plate) = refl
 
 pub panel_changes_its_key : PanelChangesItsKey
 unfolding after_change
 panel_changes_its_key p change key index apart =
     either (SameAt key index p) (can_change p change) (carried_out p 0 (command_of (changed_pid change) Set) (changed_value change)) p
-    (carried_same p 0 (changed_pid change) (changed_value change) key index (one_key (changed_pid change) key (keys_written (changed_pid change)) (menu_key change) apart)) (same p key index)
+    (carried_same p 0 (changed_pid change) (changed_value change) key index (one_key (changed_pid change) key (keys_written p.profile (changed_pid change)) (menu_key p.profile change) apart)) (same p key index)
 
 pub panel_leaves_the_rest : PanelLeavesTheRest
 unfolding after_change
 panel_leaves_the_rest p change =
     either (IsSameBut 0 p) (can_change p change) (carried_out p 0 (command_of (changed_pid change) Set) (changed_value change)) p
-    (carried p 0 (changed_pid change) (changed_value change) (0 == 0) (0 == 0xFFFF) refl refl) (unchanged p 0)
+    (carried p 0 (command_of (changed_pid change) Set) (changed_value change) (0 == 0) (0 == 0xFFFF) refl refl) (unchanged p 0)

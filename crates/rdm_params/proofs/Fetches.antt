@@ -16,17 +16,17 @@ use Rattle.rdm_device.specs.declared.value.Value.{Value}
 use Rattle.rdm_device.specs.declared.value.Value.TheVariants.{Byte}
 use Rattle.rdm_params.specs.declared.verdict.Verdict.{Verdict}
 use Rattle.rdm_params.specs.declared.verdict.Verdict.TheVariants.{Start, Queue, Status, Clear}
-use Rattle.rdm_params.specs.Commands.Commands.{command_of, accepted, addressed, answered, verdict, work, known, suits, check, is_some_device, got, answer_to_set, after_set, reply_at, ◌>>=◌}
+use Rattle.rdm_params.specs.Commands.Commands.{command_at, accepted, addressed, answered, verdict, work, known, suits, check, is_some_device, got, answer_to_set, after_set, reply_at, ◌>>=◌}
 use Rattle.rdm_device.specs.Columns.Forms.{byte}
 use Rattle.rdm_device.specs.Device.Parameters.{Parameters}
 use Rattle.rdm_device.specs.Columns.Ranges.{a_message_type}
 use Rattle.rdm_params.specs.Jobs.Asks.{ask_of}
 use Rattle.rdm_params.specs.Jobs.Laws.{IsWorkOf, GetStartsItsWork, SetStartsItsWork, GetQueues, GetStatuses, SetFetchesNothing, SetClears, GetClearsNothing}
 use Rattle.rdm_device.specs.Device.Spot.{Spot}
-use Rattle.rdm_params.specs.Table.Rows.{Command}
+use Rattle.rdm_params.specs.Table.Rows.{Command, Row, row_at}
 use Rattle.rdm_params.specs.Table.Uses.{read_as, read, way_of, is_by_job, is_slow, in_range_of}
 use Rattle.rdm_device.specs.Device.Values.{byte_or_0}
-use Rattle.rdm_params.proofs.RowFacts.{FactsOfWay, Facts, facts_of}
+use Rattle.rdm_params.proofs.RowFacts.{FactsOfWay, Facts, facts_at, slow_at}
 
 -- ---- what an answer says of the way
 
@@ -108,39 +108,40 @@ check_ok : (holds : Bool) (nack : Nack) (u : Unit {0}) → check holds nack ≡ 
 check_ok true nack u e = refl
 check_ok false nack u e = absurd cc
 
-some_device : (p : Parameters) (sub pid : ℕ) (verb : Verb) (u : Unit {0}) → known p sub pid verb ≡ Ok u → is_some_device (addressed p sub verb) ≡ true
-some_device p sub pid verb u e =
+some_device : (p : Parameters) (sub : ℕ) (row : Option Row) (verb : Verb) (u : Unit {0}) → known p sub row verb ≡ Ok u → is_some_device (addressed p sub verb) ≡ true
+some_device p sub row verb u e =
     let first = then_ok (check (is_some_device (addressed p sub verb)) SubDeviceOutOfRange) _ u e in
     check_ok (is_some_device (addressed p sub verb)) SubDeviceOutOfRange first.0 first.1.0
 
-abbrev is_within : Parameters → ℕ → ℕ → Verb → Value → Bool
-is_within p sub pid verb v = list_all (λ spot. in_range_of (command_of pid verb) spot v) (addressed p sub verb)
+abbrev is_within : Parameters → ℕ → Option Command → Verb → Value → Bool
+is_within p sub command verb v = list_all (λ spot. in_range_of command spot v) (addressed p sub verb)
 
-within : (p : Parameters) (sub pid : ℕ) (verb : Verb) (v : Value) (u : Unit {0}) → suits p sub pid verb v ≡ Ok u → is_within p sub pid verb v ≡ true
-within p sub pid verb v u e =
-    let first = then_ok (check (is_within p sub pid verb v) DataOutOfRange) _ u e in
-    check_ok (is_within p sub pid verb v) DataOutOfRange first.0 first.1.0
+within : (p : Parameters) (sub : ℕ) (command : Option Command) (verb : Verb) (v : Value) (u : Unit {0}) → suits p sub command verb v ≡ Ok u → is_within p sub command verb v ≡ true
+within p sub command verb v u e =
+    let first = then_ok (check (is_within p sub command verb v) DataOutOfRange) _ u e in
+    check_ok (is_within p sub command verb v) DataOutOfRange first.0 first.1.0
 
 ok_is : (v w : Value) → ok v ≡ ok w → v ≡ w
 ok_is v w e = cc
 
 -- what is read is accepted, in the range of every device, and there is a device
-record Accepts (p : Parameters) (sub pid : ℕ) (verb : Verb) (bytes : List ℕ) (v : Value) : Type 0 where
-  pub is_read : read (command_of pid verb) bytes ≡ Ok v
+record Accepts (p : Parameters) (sub : ℕ) (command : Option Command) (verb : Verb) (bytes : List ℕ) (v : Value) : Type 0 where
+  pub is_read : read command bytes ≡ Ok v
   pub device : is_some_device (addressed p sub verb) ≡ true
-  pub range : is_within p sub pid verb v ≡ true
+  pub range : is_within p sub command verb v ≡ true
 
-accepts : (p : Parameters) (sub pid : ℕ) (verb : Verb) (bytes : List ℕ) (v : Value) → accepted p sub pid verb bytes ≡ Ok v → Accepts p sub pid verb bytes v
+accepts : (p : Parameters) (sub pid : ℕ) (verb : Verb) (bytes : List ℕ) (v : Value) → accepted p sub pid verb bytes ≡ Ok v → Accepts p sub (command_at p pid verb) verb bytes v
 unfolding accepted
 accepts p sub pid verb bytes v e =
-    let first = then_ok (known p sub pid verb) _ v e in
-    let second = then_ok (read (command_of pid verb) bytes) _ v first.1.1 in
-    let third = then_ok (suits p sub pid verb second.0) _ v second.1.1 in
+    let command : Option Command = command_at p pid verb in
+    let first = then_ok (known p sub (row_at p.profile pid) verb) _ v e in
+    let second = then_ok (read command bytes) _ v first.1.1 in
+    let third = then_ok (suits p sub command verb second.0) _ v second.1.1 in
     let same : second.0 ≡ v = ok_is second.0 v third.1.1 in
     record {
       is_read = second.1.0 ∙ ap ok same;
-      device = some_device p sub pid verb first.0 first.1.0;
-      range = subst (λ (x : Value). is_within p sub pid verb x ≡ true) same (within p sub pid verb second.0 third.0 third.1.0);
+      device = some_device p sub (row_at p.profile pid) verb first.0 first.1.0;
+      range = subst (λ (x : Value). is_within p sub command verb x ≡ true) same (within p sub command verb second.0 third.0 third.1.0);
     }
 
 -- ---- a work is that of its command
@@ -157,21 +158,21 @@ byte_read [] v e = absurd cc
 byte_read (b ∷ []) v e = subst (is_byte (b ∷ [])) (ok_is (Byte b) v e) (refl, refl)
 byte_read (b ∷ c ∷ rest) v e = absurd (too_long (length (b ∷ c ∷ rest) == 1) (Byte b) v (ne_eqb (length (b ∷ c ∷ rest)) 1 (λ (same : length (b ∷ c ∷ rest) ≡ 1). omega arith)) e)
 
-job_of : (p : Parameters) (sub pid : ℕ) (verb : Verb) (bytes : List ℕ) (v : Value) → accepted p sub pid verb bytes ≡ Ok v → is_slow (command_of pid verb) ≡ true → IsWorkOf p sub pid verb (work sub pid verb v)
+job_of : (p : Parameters) (sub pid : ℕ) (verb : Verb) (bytes : List ℕ) (v : Value) → accepted p sub pid verb bytes ≡ Ok v → is_slow (command_at p pid verb) ≡ true → IsWorkOf p sub pid verb (work sub pid verb v)
 job_of p sub pid verb bytes v e slow =
     let says = accepts p sub pid verb bytes v e in
-    let one = byte_read bytes v (sym (takes_byte pid verb (command_of pid verb) (facts_of pid verb) slow bytes) ∙ says.is_read) in
+    let one = byte_read bytes v (sym (takes_byte pid verb (command_at p pid verb) (facts_at p pid verb) slow bytes) ∙ says.is_read) in
     record {
       same_sub = refl;
       same_pid = refl;
       same_verb = refl;
-      accepted = record { slow = slow; command = ap (accepted p sub pid verb) (sym one.0) ∙ e ∙ ap ok one.1 };
+      accepted = record { slow = sym (ap is_slow (slow_at p pid verb slow)) ∙ slow; command = ap (accepted p sub pid verb) (sym one.0) ∙ e ∙ ap ok one.1 };
     }
 
-starts_its_work : (p now : Parameters) (sub pid : ℕ) (verb : Verb) (bytes : List ℕ) (w : Work) (value : Result Value Nack) → accepted p sub pid verb bytes ≡ value → verdict now sub pid verb value ≡ Start w → IsWorkOf p sub pid verb w
+starts_its_work : (p now : Parameters) (sub pid : ℕ) (verb : Verb) (bytes : List ℕ) (w : Work) (value : Result Value Nack) → accepted p sub pid verb bytes ≡ value → verdict now sub pid (command_at p pid verb) verb value ≡ Start w → IsWorkOf p sub pid verb w
 starts_its_work p now sub pid verb bytes w (Err nack) e answer = absurd cc
 starts_its_work p now sub pid verb bytes w (Ok v) e answer =
-    let command = command_of pid verb in
+    let command = command_at p pid verb in
     let by = started_by (way_of command) (reply_at command (addressed now sub verb) v) (work sub pid verb v) (ask_of (byte_or_0 v)) w answer in
     subst (IsWorkOf p sub pid verb) by.1 (job_of p sub pid verb bytes v e by.0)
 
@@ -208,21 +209,21 @@ asks_something : (s : Spot) (v : Value) → a_message_type byte s v ≡ true →
 asks_something s (Byte n) e = of_type n e
 asks_something s _ e = absurd cc
 
-queues : (p now : Parameters) (sub pid : ℕ) (verb : Verb) (bytes : List ℕ) (ask : Ask) (value : Result Value Nack) → accepted p sub pid verb bytes ≡ value → verdict now sub pid verb value ≡ Queue ask → (pid ≡ 0x0020) × ((verb ≡ Get) × (ask ≢ asks.None))
+queues : (p now : Parameters) (sub pid : ℕ) (verb : Verb) (bytes : List ℕ) (ask : Ask) (value : Result Value Nack) → accepted p sub pid verb bytes ≡ value → verdict now sub pid (command_at p pid verb) verb value ≡ Queue ask → (pid ≡ 0x0020) × ((verb ≡ Get) × (ask ≢ asks.None))
 queues p now sub pid verb bytes ask (Err nack) e answer = absurd cc
 queues p now sub pid verb bytes ask (Ok v) e answer =
-    let command = command_of pid verb in
+    let command = command_at p pid verb in
     let by = queued_by (way_of command) (reply_at command (addressed now sub verb) v) (work sub pid verb v) (ask_of (byte_or_0 v)) ask answer in
-    let row = in_queue pid verb command (facts_of pid verb) by.0 in
+    let row = in_queue pid verb command (facts_at p pid verb) by.0 in
     let says = accepts p sub pid verb bytes v e in
     let one = first_within (λ spot. in_range_of command spot v) (addressed p sub verb) says.device says.range in
     (row.0, (row.1.0, subst (λ (a : Ask). a ≢ asks.None) by.1 (asks_something one.0 v (sym (row.1.1 one.0 v) ∙ one.1))))
 
-statuses : (now : Parameters) (sub pid : ℕ) (verb : Verb) (ask : Ask) (value : Result Value Nack) → verdict now sub pid verb value ≡ Status ask → (pid ≡ 0x0030) × (verb ≡ Get)
-statuses now sub pid verb ask (Err nack) answer = absurd cc
-statuses now sub pid verb ask (Ok v) answer =
-    let command = command_of pid verb in
-    in_status pid verb command (facts_of pid verb) (status_by (way_of command) (reply_at command (addressed now sub verb) v) (work sub pid verb v) (ask_of (byte_or_0 v)) ask answer)
+statuses : (p now : Parameters) (sub pid : ℕ) (verb : Verb) (ask : Ask) (value : Result Value Nack) → verdict now sub pid (command_at p pid verb) verb value ≡ Status ask → (pid ≡ 0x0030) × (verb ≡ Get)
+statuses p now sub pid verb ask (Err nack) answer = absurd cc
+statuses p now sub pid verb ask (Ok v) answer =
+    let command = command_at p pid verb in
+    in_status pid verb command (facts_at p pid verb) (status_by (way_of command) (reply_at command (addressed now sub verb) v) (work sub pid verb v) (ask_of (byte_or_0 v)) ask answer)
 
 pub get_queues : GetQueues
 unfolding got
@@ -232,7 +233,7 @@ get_queues p sub pid bytes ask e =
 
 pub get_statuses : GetStatuses
 unfolding got
-get_statuses p sub pid bytes ask e = (statuses p sub pid Get ask (accepted p sub pid Get bytes) e).0
+get_statuses p sub pid bytes ask e = (statuses p p sub pid Get ask (accepted p sub pid Get bytes) e).0
 
 set_is_no_get : Set ≢ Get
 set_is_no_get e = absurd cc
@@ -241,24 +242,24 @@ pub set_fetches_nothing : SetFetchesNothing
 unfolding answer_to_set
 set_fetches_nothing p sub pid bytes ask = (
   λ e. set_is_no_get (queues p (after_set p sub pid bytes) sub pid Set bytes ask (accepted p sub pid Set bytes) refl e).1.0,
-  λ e. set_is_no_get (statuses (after_set p sub pid bytes) sub pid Set ask (accepted p sub pid Set bytes) e).1,
+  λ e. set_is_no_get (statuses p (after_set p sub pid bytes) sub pid Set ask (accepted p sub pid Set bytes) e).1,
 )
 
 -- ---- what clears status entries
 
-clearing : (now : Parameters) (sub pid : ℕ) (verb : Verb) (value : Result Value Nack) → verdict now sub pid verb value ≡ Clear → (pid ≡ 0x0032) × (verb ≡ Set)
-clearing now sub pid verb (Err nack) answer = absurd cc
-clearing now sub pid verb (Ok v) answer =
-    let command = command_of pid verb in
-    in_clearing pid verb command (facts_of pid verb) (cleared_by (way_of command) (reply_at command (addressed now sub verb) v) (work sub pid verb v) (ask_of (byte_or_0 v)) answer)
+clearing : (p now : Parameters) (sub pid : ℕ) (verb : Verb) (value : Result Value Nack) → verdict now sub pid (command_at p pid verb) verb value ≡ Clear → (pid ≡ 0x0032) × (verb ≡ Set)
+clearing p now sub pid verb (Err nack) answer = absurd cc
+clearing p now sub pid verb (Ok v) answer =
+    let command = command_at p pid verb in
+    in_clearing pid verb command (facts_at p pid verb) (cleared_by (way_of command) (reply_at command (addressed now sub verb) v) (work sub pid verb v) (ask_of (byte_or_0 v)) answer)
 
 pub set_clears : SetClears
 unfolding answer_to_set
-set_clears p sub pid bytes e = (clearing (after_set p sub pid bytes) sub pid Set (accepted p sub pid Set bytes) e).0
+set_clears p sub pid bytes e = (clearing p (after_set p sub pid bytes) sub pid Set (accepted p sub pid Set bytes) e).0
 
 get_is_no_set : Get ≢ Set
 get_is_no_set e = absurd cc
 
 pub get_clears_nothing : GetClearsNothing
 unfolding got
-get_clears_nothing p sub pid bytes e = get_is_no_set (clearing p sub pid Get (accepted p sub pid Get bytes) e).1
+get_clears_nothing p sub pid bytes e = get_is_no_set (clearing p p sub pid Get (accepted p sub pid Get bytes) e).1

@@ -1,3 +1,6 @@
+pub mod AddedCommands
+pub mod AddedRows
+pub mod Ascending
 pub mod Bools
 pub mod Changes
 pub mod Endings
@@ -9,6 +12,7 @@ pub mod OtherRanges
 pub mod OwnKeys
 pub mod Places
 pub mod PlacesAsSet
+pub mod PlacesOwn
 pub mod PlateEquality
 pub mod Plates
 pub mod PowerOns
@@ -19,5 +23,6 @@ pub mod ReadData
 pub mod Silent
 pub mod StaysAccepted
 pub mod SubSteps
+pub mod Supported
 pub mod Told
 pub mod TwoWorkers

@@ -1,15 +1,16 @@
 -- A SET changes nothing but the values of the devices that it addresses.
-use Rattle.std.proofs.Common.{◌≡◌, ◌≢◌, ℕ, zero, suc, ◌-◌, ◌==◌, Bool, true, false, cond, List, [], ◌∷◌, length, map, Result, Ok, Err, refl, ap, arith}
+use Rattle.std.proofs.Common.{◌≡◌, ◌≢◌, ℕ, zero, suc, ◌-◌, ◌==◌, Bool, true, false, cond, List, [], ◌∷◌, length, map, Option, Result, Ok, Err, refl, ap, arith}
 use Rattle.std.specs.Prelude.{slice_index_or, slice_set}
 use Rattle.std.proofs.lemmas.Bool.{eqb-true, eqb-false}
 use Rattle.std.proofs.lemmas.List.{length-map}
 use Rattle.rdm_params.specs.declared.kind.Verb.TheVariants.{Set}
 use Rattle.rdm_params.specs.declared.nack.Nack.{Nack}
 use Rattle.rdm_device.specs.declared.value.Value.{Value}
-use Rattle.rdm_params.specs.Commands.Commands.{command_of, accepted, after_set, after_accepted, carried_out, written, root_spot, sub_spot}
+use Rattle.rdm_params.specs.Commands.Commands.{command_at, accepted, after_set, after_accepted, carried_out, written, added_written, root_spot, sub_spot}
 use Rattle.rdm_params.specs.Laws.{IsSameBut, LeavesTheRest}
 use Rattle.rdm_device.specs.Device.Map.{Entry}
 use Rattle.rdm_device.specs.Device.Parameters.{Parameters}
+use Rattle.rdm_params.specs.Table.Rows.{Command}
 use Rattle.rdm_params.specs.Table.Uses.{is_slow}
 
 as_many_set : (subs : List (List Entry)) (i : ℕ) (new : List Entry) → length (slice_set subs i new) ≡ length subs
@@ -29,25 +30,25 @@ place_apart zero k n apart same = absurd (n refl)
 place_apart (suc i) k n apart same = apart (omega (arith, same))
 
 pub unchanged : (p : Parameters) (sub : ℕ) → IsSameBut sub p p
-unchanged p sub = record { profile = refl; count = refl; root = λ n. refl; subs = λ k n m. refl }
+unchanged p sub = record { profile = refl; count = refl; root = λ n. refl; added = λ n. refl; subs = λ k n m. refl }
 
-pub carried : (p : Parameters) (sub pid : ℕ) (v : Value) (at_root all : Bool) → (sub == 0) ≡ at_root → (sub == 0xFFFF) ≡ all → IsSameBut sub p (cond at_root (record p { root = written (command_of pid Set) v (root_spot p) }) (cond all (record p { subs = map (λ entries. written (command_of pid Set) v (sub_spot p entries)) p.subs }) (record p { subs = slice_set p.subs (sub - 1) (written (command_of pid Set) v (sub_spot p (slice_index_or p.subs (sub - 1) []))) })))
-carried p sub pid v true all e f =
-    record { profile = refl; count = refl; root = λ n. absurd (n (eqb-true sub 0 e)); subs = λ k n m. refl }
-carried p sub pid v false true e f =
-    record { profile = refl; count = simp length-map; root = λ n. refl; subs = λ k n m. absurd (m (eqb-true sub 0xFFFF f)) }
-carried p sub pid v false false e f =
-    let new : List Entry = written (command_of pid Set) v (sub_spot p (slice_index_or p.subs (sub - 1) [])) in
-    record { profile = refl; count = as_many_set p.subs (sub - 1) new; root = λ n. refl; subs = λ k n m. set_other p.subs (sub - 1) new k (place_apart sub k (eqb-false sub 0 e) n) }
+pub carried : (p : Parameters) (sub : ℕ) (command : Option Command) (v : Value) (at_root all : Bool) → (sub == 0) ≡ at_root → (sub == 0xFFFF) ≡ all → IsSameBut sub p (cond at_root (record p { root = written command v (root_spot p); added = added_written command v (root_spot p) }) (cond all (record p { subs = map (λ entries. written command v (sub_spot p entries)) p.subs }) (record p { subs = slice_set p.subs (sub - 1) (written command v (sub_spot p (slice_index_or p.subs (sub - 1) []))) })))
+carried p sub command v true all e f =
+    record { profile = refl; count = refl; root = λ n. absurd (n (eqb-true sub 0 e)); added = λ n. absurd (n (eqb-true sub 0 e)); subs = λ k n m. refl }
+carried p sub command v false true e f =
+    record { profile = refl; count = simp length-map; root = λ n. refl; added = λ n. refl; subs = λ k n m. absurd (m (eqb-true sub 0xFFFF f)) }
+carried p sub command v false false e f =
+    let new : List Entry = written command v (sub_spot p (slice_index_or p.subs (sub - 1) [])) in
+    record { profile = refl; count = as_many_set p.subs (sub - 1) new; root = λ n. refl; added = λ n. refl; subs = λ k n m. set_other p.subs (sub - 1) new k (place_apart sub k (eqb-false sub 0 e) n) }
 
 unless_slow : (p new : Parameters) (sub : ℕ) (slow : Bool) → IsSameBut sub p new → IsSameBut sub p (cond slow p new)
 unless_slow p new sub true same = unchanged p sub
 unless_slow p new sub false same = same
 
-after : (p : Parameters) (sub pid : ℕ) (read : Result Value Nack) → IsSameBut sub p (after_accepted p sub pid read)
-after p sub pid (Err nack) = unchanged p sub
-after p sub pid (Ok v) = unless_slow p (carried_out p sub (command_of pid Set) v) sub (is_slow (command_of pid Set)) (carried p sub pid v (sub == 0) (sub == 0xFFFF) refl refl)
+after : (p : Parameters) (sub : ℕ) (command : Option Command) (read : Result Value Nack) → IsSameBut sub p (after_accepted p sub command read)
+after p sub command (Err nack) = unchanged p sub
+after p sub command (Ok v) = unless_slow p (carried_out p sub command v) sub (is_slow command) (carried p sub command v (sub == 0) (sub == 0xFFFF) refl refl)
 
 pub leaves_the_rest : LeavesTheRest
 unfolding after_set
-leaves_the_rest p sub pid bytes = after p sub pid (accepted p sub pid Set bytes)
+leaves_the_rest p sub pid bytes = after p sub (command_at p pid Set) (accepted p sub pid Set bytes)

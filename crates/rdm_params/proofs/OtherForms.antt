@@ -11,7 +11,7 @@ use Rattle.rdm_device.specs.Columns.Forms.{is_of_a_form}
 use Rattle.rdm_params.specs.Table.Kinds.{pid_of}
 use Rattle.rdm_device.specs.Device.Parameters.{Parameters}
 use Rattle.rdm_device.specs.Device.Spot.{Spot}
-use Rattle.rdm_params.specs.Table.Rows.{Command, table, row_of}
+use Rattle.rdm_params.specs.Table.Rows.{Command, table, row_of, is_left_out}
 use Rattle.rdm_params.specs.Table.Uses.{access, in_range_of}
 use Rattle.rdm_params.proofs.Bools.{is_not}
 use Rattle.rdm_params.proofs.Rows.{holds}
@@ -41,7 +41,22 @@ never_all a test [] none = refl
 never_all true test (spot ∷ spots) none = rw (none spot) refl
 never_all false test (spot ∷ spots) none = refl
 
+and_never : (a b : Bool) → b ≡ false → (a && b) ≡ false
+and_never true b e = e
+and_never false b e = refl
+
 pub never_in_range : (p : Parameters) (sub : ℕ) (kind : Kind) (verb : Verb) (v : Value) → is_of_a_form v ≡ false → in_range p sub kind verb v ≡ false
 unfolding in_range
 never_in_range p sub kind verb v other =
-    never_all (is_ok (access (row_of (pid_of kind)) (sub == 0) verb)) (λ spot. in_range_of (command_of (pid_of kind) verb) spot v) (addressed p sub verb) (λ spot. command_refuses (pid_of kind) verb spot v other)
+    and_never (not (is_left_out p.profile (pid_of kind))) _ (never_all (is_ok (access (row_of (pid_of kind)) (sub == 0) verb)) (λ spot. in_range_of (command_of (pid_of kind) verb) spot v) (addressed p sub verb) (λ spot. command_refuses (pid_of kind) verb spot v other))
+
+as_all : (left some known all r : Bool) → left ≡ false → some ≡ true → known ≡ true → r ≡ all → r ≡ (not left && ((some && known) && all))
+as_all false true true all r e f g h = h
+as_all true some known all r e f g h = absurd cc
+as_all false false known all r e f g h = absurd cc
+as_all false true false all r e f g h = absurd cc
+
+-- of a parameter that the devices have, the range at each of them decides
+pub in_range_by : (p : Parameters) (sub : ℕ) (kind : Kind) (verb : Verb) (v : Value) (r : Bool) → is_left_out p.profile (pid_of kind) ≡ false → is_some_device (addressed p sub verb) ≡ true → is_ok (access (row_of (pid_of kind)) (sub == 0) verb) ≡ true → r ≡ list_all (λ spot. in_range_of (command_of (pid_of kind) verb) spot v) (addressed p sub verb) → r ≡ in_range p sub kind verb v
+unfolding in_range
+in_range_by p sub kind verb v r e f g h = as_all (is_left_out p.profile (pid_of kind)) (is_some_device (addressed p sub verb)) (is_ok (access (row_of (pid_of kind)) (sub == 0) verb)) _ r e f g h

@@ -3,7 +3,7 @@ use Rattle.std.proofs.Common.{◌≡◌, ℕ, ◌-◌, ◌==◌, ◌&&◌, not, 
 use Rattle.std.specs.Prelude.{slice_get, option_to_list, is_some, is_ok}
 use Rattle.std.specs.List.{list_all}
 use Rattle.std.specs.Option.{option_map_or}
-use Rattle.std.proofs.lemmas.Bool.{ne_eqb}
+use Rattle.std.proofs.lemmas.Bool.{ne_eqb, and_from}
 use Rattle.rdm_params.specs.declared.kind.Verb.TheVariants.{Get, Set}
 use Rattle.rdm_params.specs.declared.nack.Nack.{Nack}
 use Rattle.rdm_params.specs.declared.nack.Nack.TheVariants.{DataOutOfRange, SubDeviceOutOfRange}
@@ -15,12 +15,12 @@ use Rattle.rdm_params.specs.declared.jobs.way.Way.TheVariants.{AtOnce, ByJob, Fr
 use Rattle.rdm_params.specs.declared.jobs.work.Work.{Work}
 use Rattle.rdm_params.specs.declared.verdict.Verdict.TheVariants.{Reply}
 use Rattle.rdm_device.specs.declared.value.Value.{Value}
-use Rattle.rdm_params.specs.Commands.Commands.{command_of, accepted, after_set, answer_to_set, answered, verdict, carried_out, addressed, is_some_device, is_all_call, root_spot, sub_spot, known, taken, after_accepted, check, ◌>>=◌}
+use Rattle.rdm_params.specs.Commands.Commands.{command_of, command_at, accepted, after_set, answer_to_set, answered, verdict, carried_out, addressed, is_some_device, is_all_call, root_spot, sub_spot, known, taken, after_accepted, check, ◌>>=◌}
 use Rattle.rdm_params.specs.Commands.Placing.{device, has_set, value_refusal, place_refusal, after_value, after_place}
 use Rattle.rdm_device.specs.Device.Parameters.{Parameters}
 use Rattle.rdm_device.specs.Device.Spot.{Spot}
 use Rattle.rdm_params.specs.Laws.{PlacesAsSet}
-use Rattle.rdm_params.specs.Table.Rows.{row_of}
+use Rattle.rdm_params.specs.Table.Rows.{Command, Row, row_of, row_in, row_or, row_at, is_left_out, added_rows, command_in}
 use Rattle.rdm_params.specs.Table.Uses.{access, read, is_by_job, is_slow, way_of, in_range_of, keeps}
 use Rattle.rdm_params.proofs.Bools.{both_true}
 
@@ -67,19 +67,19 @@ device_is p sub e =
 
 -- ---- placing
 
-none_refused : (some has kept : Bool) (x y : Option PlaceError) → some ≡ true → has ≡ true → kept ≡ true → x ≡ None → cond (not some) (Some NoDevice) (cond (not has) (Some NoValue) (cond kept x y)) ≡ None
-none_refused false has kept x y e f g h = absurd cc
-none_refused true false kept x y e f g h = absurd cc
-none_refused true true false x y e f g h = absurd cc
-none_refused true true true x y e f g h = h
+none_refused : (some has kept : Bool) (own x y : Option PlaceError) → some ≡ true → has ≡ true → kept ≡ true → x ≡ None → cond (not some) (Some NoDevice) (cond (not has) own (cond kept x y)) ≡ None
+none_refused false has kept own x y e f g h = absurd cc
+none_refused true false kept own x y e f g h = absurd cc
+none_refused true true false own x y e f g h = absurd cc
+none_refused true true true own x y e f g h = h
 
 value_fits : (p : Parameters) (sub pid : ℕ) (r : Result Value Nack) (w : Value) → r ≡ ok w → option_map_or (λ spot. in_range_of (command_of pid Set) spot w) (device p sub) false ≡ true → value_refusal p sub pid r ≡ None
 value_fits p sub pid r w e fits =
     ap (value_refusal p sub pid) e ∙ ap (λ (within : Bool). cond within None (Some OutOfRange)) fits
 
-after_is : (p new other : Parameters) (refusal : Option PlaceError) (kept : Bool) → refusal ≡ None → kept ≡ true → cond (is_some refusal) p (cond kept new other) ≡ new
-after_is p new other refusal kept e f =
-    ap (λ (o : Option PlaceError). cond (is_some o) p (cond kept new other)) e ∙ ap (λ (k : Bool). cond k new other) f
+after_is : (p own new other : Parameters) (refusal : Option PlaceError) (has kept : Bool) → refusal ≡ None → has ≡ true → kept ≡ true → cond (is_some refusal) p (cond (not has) own (cond kept new other)) ≡ new
+after_is p own new other refusal has kept e h f =
+    ap (λ (o : Option PlaceError). cond (is_some o) p (cond (not has) own (cond kept new other))) e ∙ ap (λ (b : Bool). cond (not b) own (cond kept new other)) h ∙ ap (λ (k : Bool). cond k new other) f
 
 -- ---- together
 
@@ -87,39 +87,59 @@ err_is_no_value : (known : Result (Unit {0}) Nack) (nack : Nack) (w : Value) →
 err_is_no_value (Err other) nack w e = cc
 err_is_no_value (Ok u) nack w e = cc
 
--- what a SET says that is accepted with this value
-record Says (p : Parameters) (sub pid : ℕ) (read' : Result Value Nack) (w : Value) : Type 0 where
+-- what a SET of a row says that is accepted with this value
+record Says (p : Parameters) (sub : ℕ) (row : Option Row) (read' : Result Value Nack) (w : Value) : Type 0 where
   read_is : read' ≡ ok w
   some : is_some_device (addressed p sub Set) ≡ true
-  allowed : is_ok (access (row_of pid) (sub == 0) Set) ≡ true
-  within : list_all (λ spot. in_range_of (command_of pid Set) spot w) (addressed p sub Set) ≡ true
+  allowed : is_ok (access row (sub == 0) Set) ≡ true
+  within : list_all (λ spot. in_range_of (command_in row Set) spot w) (addressed p sub Set) ≡ true
 
-says : (p : Parameters) (sub pid : ℕ) (r : Result Value Nack) (w : Value) → (known p sub pid Set >>= (λ u. r >>= (λ value. taken p sub pid Set value))) ≡ ok w → Says p sub pid r w
-says p sub pid (Err nack) w e = absurd (err_is_no_value (known p sub pid Set) nack w e)
-says p sub pid (Ok v) w e =
-    let passed = passed_at (is_some_device (addressed p sub Set)) (access (row_of pid) (sub == 0) Set) (list_all (λ spot. in_range_of (command_of pid Set) spot v) (addressed p sub Set)) (not (is_all_call sub Set && is_slow (command_of pid Set))) v w e in
+says : (p : Parameters) (sub : ℕ) (row : Option Row) (r : Result Value Nack) (w : Value) → (known p sub row Set >>= (λ u. r >>= (λ value. taken p sub (command_in row Set) Set value))) ≡ ok w → Says p sub row r w
+says p sub row (Err nack) w e = absurd (err_is_no_value (known p sub row Set) nack w e)
+says p sub row (Ok v) w e =
+    let passed = passed_at (is_some_device (addressed p sub Set)) (access row (sub == 0) Set) (list_all (λ spot. in_range_of (command_in row Set) spot v) (addressed p sub Set)) (not (is_all_call sub Set && is_slow (command_in row Set))) v w e in
     record {
       read_is = ap ok passed.1;
       some = passed.0.some;
       allowed = passed.0.allowed;
-      within = subst (λ (x : Value). list_all (λ spot. in_range_of (command_of pid Set) spot x) (addressed p sub Set) ≡ true) passed.1 passed.0.within_range;
+      within = subst (λ (x : Value). list_all (λ spot. in_range_of (command_in row Set) spot x) (addressed p sub Set) ≡ true) passed.1 passed.0.within_range;
     }
 
-placed_as : (p : Parameters) (sub pid : ℕ) (bytes : List ℕ) (w : Value) → (sub == 0xFFFF) ≡ false → keeps (command_of pid Set) ≡ true → is_slow (command_of pid Set) ≡ false → Says p sub pid (read (command_of pid Set) bytes) w → (place_refusal p sub pid bytes ≡ None) × (after_place p sub pid bytes ≡ after_accepted p sub pid (ok w))
+-- a SET of the table that keeps its data, and that these devices have, isn't left out
+kept_row : (left : Bool) (first later : Option Row) (is_root : Bool) → keeps (command_in first Set) ≡ true → is_ok (access (cond left None (row_or first later)) is_root Set) ≡ true → (left ≡ false) × (cond left None (row_or first later) ≡ first)
+kept_row true first later is_root kept e = absurd cc
+kept_row false None later is_root kept e = absurd cc
+kept_row false (Some r) later is_root kept e = (refl, refl)
+
+not_left : (left : Bool) → left ≡ false → not left ≡ true
+not_left left e = ap not e
+
+placed_as : (p : Parameters) (sub pid : ℕ) (bytes : List ℕ) (w : Value) → (sub == 0xFFFF) ≡ false → is_left_out p.profile pid ≡ false → keeps (command_of pid Set) ≡ true → is_slow (command_of pid Set) ≡ false → Says p sub (row_of pid) (read (command_of pid Set) bytes) w → (place_refusal p sub pid bytes ≡ None) × (after_place p sub pid bytes ≡ after_accepted p sub (command_of pid Set) (ok w))
 unfolding after_place place_refusal
-placed_as p sub pid bytes w apart kept quick is =
+placed_as p sub pid bytes w apart stays kept quick is =
     let device_at = device_is p sub apart in
     let c = command_of pid Set in
     let there : is_some (device p sub) ≡ true = ap is_some device_at ∙ is.some in
     let fits : option_map_or (λ spot. in_range_of c spot w) (device p sub) false ≡ true = ap (λ (o : Option Spot). option_map_or (λ spot. in_range_of c spot w) o false) device_at ∙ head_all (λ spot. in_range_of c spot w) (addressed p sub Set) is.some is.within in
-    let none : place_refusal p sub pid bytes ≡ None = none_refused (is_some (device p sub)) (has_set sub pid) (keeps c) _ _ there is.allowed kept (value_fits p sub pid (read c bytes) w is.read_is fits) in
-    (none, after_is p (after_value p sub pid (read c bytes)) _ (place_refusal p sub pid bytes) (keeps c) none kept ∙ ap (after_value p sub pid) is.read_is ∙ ap (λ (slow : Bool). cond slow p (carried_out p sub c w)) (sym quick))
+    let has : has_set p sub pid ≡ true = and_from (is_ok (access (row_of pid) (sub == 0) Set)) (not (is_left_out p.profile pid)) is.allowed (not_left (is_left_out p.profile pid) stays) in
+    let none : place_refusal p sub pid bytes ≡ None = none_refused (is_some (device p sub)) (has_set p sub pid) (keeps c) _ _ _ there has kept (value_fits p sub pid (read c bytes) w is.read_is fits) in
+    (none, after_is p _ (after_value p sub pid (read c bytes)) _ (place_refusal p sub pid bytes) (has_set p sub pid) (keeps c) none has kept ∙ ap (after_value p sub pid) is.read_is ∙ ap (λ (slow : Bool). cond slow p (carried_out p sub c w)) (sym quick))
 
-of_accepted : (p : Parameters) (sub pid : ℕ) (bytes reply : List ℕ) (r : Result Value Nack) → accepted p sub pid Set bytes ≡ r → (sub == 0xFFFF) ≡ false → keeps (command_of pid Set) ≡ true → verdict (after_accepted p sub pid r) sub pid Set r ≡ Reply reply → (place_refusal p sub pid bytes ≡ None) × (after_place p sub pid bytes ≡ after_accepted p sub pid r)
+-- what is said of the SET of the devices
+abbrev Placed : Parameters → ℕ → ℕ → List ℕ → Option Command → Result Value Nack → Type 0
+Placed p sub pid bytes command r = (place_refusal p sub pid bytes ≡ None) × (after_place p sub pid bytes ≡ after_accepted p sub command r)
+
+of_accepted : (p : Parameters) (sub pid : ℕ) (bytes reply : List ℕ) (r : Result Value Nack) → accepted p sub pid Set bytes ≡ r → (sub == 0xFFFF) ≡ false → keeps (command_of pid Set) ≡ true → verdict (after_accepted p sub (command_at p pid Set) r) sub pid (command_at p pid Set) Set r ≡ Reply reply → Placed p sub pid bytes (command_at p pid Set) r
 unfolding accepted
 of_accepted p sub pid bytes reply (Err nack) e apart kept told = absurd cc
 of_accepted p sub pid bytes reply (Ok w) e apart kept told =
-    placed_as p sub pid bytes w apart kept (no_reply (way_of (command_of pid Set)) _ _ _ reply told) (says p sub pid (read (command_of pid Set) bytes) w e)
+    let row : Option Row = row_at p.profile pid in
+    let at = says p sub row (read (command_in row Set) bytes) w e in
+    let is = kept_row (is_left_out p.profile pid) (row_of pid) (row_in (added_rows p.profile) pid) (sub == 0) kept at.allowed in
+    let same : row ≡ row_of pid = is.1 in
+    let quick : is_slow (command_in row Set) ≡ false = no_reply (way_of (command_in row Set)) _ _ _ reply told in
+    let placed = placed_as p sub pid bytes w apart is.0 kept (ap (λ (x : Option Row). is_slow (command_in x Set)) (sym same) ∙ quick) (subst (λ (x : Option Row). Says p sub x (read (command_in x Set) bytes) w) same at) in
+    subst (λ (x : Option Row). Placed p sub pid bytes (command_in x Set) (ok w)) (sym same) placed
 
 pub places_as_set : PlacesAsSet
 unfolding after_set answer_to_set

@@ -6,7 +6,7 @@ use Rattle.std.proofs.lemmas.Nat.{from_be_bytes-to_be_bytes_2, from_be_bytes-to_
 use Rattle.rdm_device.specs.declared.value.Value.{Value}
 use Rattle.rdm_device.specs.declared.value.Value.TheVariants.{Nothing, Byte, Word, Long, Preset, Label}
 use Rattle.rdm_params.specs.Commands.Commands.{command_of}
-use Rattle.rdm_device.specs.Columns.Forms.{Form, nothing, byte, word, long, preset, label, has_form}
+use Rattle.rdm_device.specs.Columns.Forms.{Form, nothing, byte, word, long, preset, label, sized, has_form}
 use Rattle.rdm_params.specs.Laws.{FitsSlots, HasFormOf, ReadsBack}
 use Rattle.rdm_params.specs.Table.Rows.{Command}
 use Rattle.rdm_params.specs.Table.Uses.{read_as, read}
@@ -19,6 +19,7 @@ form_again word (Word n) h fits = ap (λ (m : ℕ). Ok (Word m)) (from_be_bytes-
 form_again long (Long n) h fits = ap (λ (m : ℕ). Ok (Long m)) (from_be_bytes-to_be_bytes_4 n fits)
 form_again preset (Preset mode level) h fits = ap (λ (m : ℕ). Ok (Preset m level)) (from_be_bytes-to_be_bytes_2 mode fits.0)
 form_again label (Label text) h fits = rw (le-leb (length text) 32 fits) refl
+form_again (sized n) (Label text) h fits = rw (h, le-leb (length text) 32 fits) refl
 form_again _ _ h fits = absurd cc
 
 command_again : (command : Option Command) (v : Value) → HasFormOf command v → FitsSlots v → read command (bytes_of v) ≡ Ok v

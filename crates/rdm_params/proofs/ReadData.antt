@@ -62,7 +62,7 @@ only : (p : Parameters) (sub : ℕ) (spot : Spot) (all : Bool) → all ≡ false
 only p sub spot true one e = absurd cc
 only p sub spot false one e = only_in (sub == 0) (root_spot p) spot (sub_spot p) (slice_get p.subs (sub - 1)) e
 
-bind_alike : (r : Result Value Nack) (f g : Value → Result Value Nack) → ((v : Value) → f v ≡ g v) → (r >>= f) ≡ (r >>= g)
+pub bind_alike : (r : Result Value Nack) (f g : Value → Result Value Nack) → ((v : Value) → f v ≡ g v) → (r >>= f) ≡ (r >>= g)
 bind_alike (Ok v) f g same = same v
 bind_alike (Err nack) f g same = refl
 
@@ -80,11 +80,11 @@ no_jobs : (all slow : Bool) → all ≡ false → (all && slow) ≡ false
 no_jobs true slow e = absurd cc
 no_jobs false slow e = refl
 
-pub one_device : (p : Parameters) (sub pid : ℕ) (verb : Verb) (spot : Spot) (bytes : List ℕ) → slice_get (addressed p sub verb) 0 ≡ Some spot → is_all_call sub verb ≡ false → read_data p sub pid verb bytes ≡ read_data_at (command_of pid verb) spot bytes
-one_device p sub pid verb spot bytes first one =
-    let test : Spot → Value → Bool = λ s v. in_range_of (command_of pid verb) s v in
-    bind_alike (read (command_of pid verb) bytes) (suits_all test (addressed p sub verb) (is_all_call sub verb && is_slow (command_of pid verb))) (ranged (test spot))
-    (λ v. suits_at test (addressed p sub verb) spot (is_all_call sub verb && is_slow (command_of pid verb)) v (only p sub spot (is_all_call sub verb) one first) (no_jobs (is_all_call sub verb) (is_slow (command_of pid verb)) one))
+pub one_device : (p : Parameters) (sub : ℕ) (command : Option Command) (verb : Verb) (spot : Spot) (bytes : List ℕ) → slice_get (addressed p sub verb) 0 ≡ Some spot → is_all_call sub verb ≡ false → read_data p sub command verb bytes ≡ read_data_at command spot bytes
+one_device p sub command verb spot bytes first one =
+    let test : Spot → Value → Bool = λ s v. in_range_of command s v in
+    bind_alike (read command bytes) (suits_all test (addressed p sub verb) (is_all_call sub verb && is_slow command)) (ranged (test spot))
+    (λ v. suits_at test (addressed p sub verb) spot (is_all_call sub verb && is_slow command) v (only p sub spot (is_all_call sub verb) one first) (no_jobs (is_all_call sub verb) (is_slow command) one))
 
 refused_at : (here later jobs : Bool) (v : Value) (nack : Nack) → (check here DataOutOfRange >>= (λ u. Ok v)) ≡ Err nack
     → ((check (here && later) DataOutOfRange >>= (λ u. check (not jobs) SubDeviceOutOfRange)) >>= (λ u. Ok v)) ≡ Err nack
@@ -98,9 +98,9 @@ refused_in (Ok v) test (s ∷ rest) spot jobs nack first e =
     let same : spot ≡ s = cc in
     refused_at (test s v) (list_all (λ t. test t v) rest) jobs v nack (subst (λ (t : Spot). ranged (test t) v ≡ Err nack) same e)
 
-pub refused_first : (p : Parameters) (sub pid : ℕ) (verb : Verb) (spot : Spot) (bytes : List ℕ) (nack : Nack) → slice_get (addressed p sub verb) 0 ≡ Some spot → read_data_at (command_of pid verb) spot bytes ≡ Err nack → read_data p sub pid verb bytes ≡ Err nack
-refused_first p sub pid verb spot bytes nack first e =
-    refused_in (read (command_of pid verb) bytes) (λ s v. in_range_of (command_of pid verb) s v) (addressed p sub verb) spot (is_all_call sub verb && is_slow (command_of pid verb)) nack first e
+pub refused_first : (p : Parameters) (sub : ℕ) (command : Option Command) (verb : Verb) (spot : Spot) (bytes : List ℕ) (nack : Nack) → slice_get (addressed p sub verb) 0 ≡ Some spot → read_data_at command spot bytes ≡ Err nack → read_data p sub command verb bytes ≡ Err nack
+refused_first p sub command verb spot bytes nack first e =
+    refused_in (read command bytes) (λ s v. in_range_of command s v) (addressed p sub verb) spot (is_all_call sub verb && is_slow command) nack first e
 
 abbrev ok : Value → Result Value Nack
 ok v = Ok v
@@ -113,9 +113,9 @@ handed_at : (r : Result Value Nack) (test : Value → Bool) (v : Value) → (r >
 handed_at (Err n) test v e = e
 handed_at (Ok w) test v e = handed_here (test w) w v e
 
-handed_first : (p : Parameters) (sub pid : ℕ) (verb : Verb) (spot : Spot) (bytes : List ℕ) (v : Value) → read_data_at (command_of pid verb) spot bytes ≡ Ok v → read_data p sub pid verb bytes ≡ taken p sub pid verb v
-handed_first p sub pid verb spot bytes v e =
-    ap (λ (r : Result Value Nack). r >>= taken p sub pid verb) (handed_at (read (command_of pid verb) bytes) (in_range_of (command_of pid verb) spot) v e)
+handed_first : (p : Parameters) (sub : ℕ) (command : Option Command) (verb : Verb) (spot : Spot) (bytes : List ℕ) (v : Value) → read_data_at command spot bytes ≡ Ok v → read_data p sub command verb bytes ≡ taken p sub command verb v
+handed_first p sub command verb spot bytes v e =
+    ap (λ (r : Result Value Nack). r >>= taken p sub command verb) (handed_at (read command bytes) (in_range_of command spot) v e)
 
 refused : (r : Result (Unit {0}) Nack) (v : Value) (nack : Nack) → r ≡ Err nack → (r >>= (λ u. Ok v)) ≡ Err nack
 refused (Ok u) v nack e = absurd cc
@@ -125,8 +125,8 @@ fits : (r : Result (Unit {0}) Nack) (v : Value) (u : Unit {0}) → r ≡ Ok u �
 fits (Ok w) v u e = refl
 fits (Err n) v u e = absurd cc
 
-pub refused_later : (p : Parameters) (sub pid : ℕ) (verb : Verb) (spot : Spot) (bytes : List ℕ) (v : Value) (nack : Nack) → read_data_at (command_of pid verb) spot bytes ≡ Ok v → suits p sub pid verb v ≡ Err nack → read_data p sub pid verb bytes ≡ Err nack
-refused_later p sub pid verb spot bytes v nack e unfit = handed_first p sub pid verb spot bytes v e ∙ refused (suits p sub pid verb v) v nack unfit
+pub refused_later : (p : Parameters) (sub : ℕ) (command : Option Command) (verb : Verb) (spot : Spot) (bytes : List ℕ) (v : Value) (nack : Nack) → read_data_at command spot bytes ≡ Ok v → suits p sub command verb v ≡ Err nack → read_data p sub command verb bytes ≡ Err nack
+refused_later p sub command verb spot bytes v nack e unfit = handed_first p sub command verb spot bytes v e ∙ refused (suits p sub command verb v) v nack unfit
 
-pub taken_by_all : (p : Parameters) (sub pid : ℕ) (verb : Verb) (spot : Spot) (bytes : List ℕ) (v : Value) (u : Unit {0}) → read_data_at (command_of pid verb) spot bytes ≡ Ok v → suits p sub pid verb v ≡ Ok u → read_data p sub pid verb bytes ≡ Ok v
-taken_by_all p sub pid verb spot bytes v u e fit = handed_first p sub pid verb spot bytes v e ∙ fits (suits p sub pid verb v) v u fit
+pub taken_by_all : (p : Parameters) (sub : ℕ) (command : Option Command) (verb : Verb) (spot : Spot) (bytes : List ℕ) (v : Value) (u : Unit {0}) → read_data_at command spot bytes ≡ Ok v → suits p sub command verb v ≡ Ok u → read_data p sub command verb bytes ≡ Ok v
+taken_by_all p sub command verb spot bytes v u e fit = handed_first p sub command verb spot bytes v e ∙ fits (suits p sub command verb v) v u fit

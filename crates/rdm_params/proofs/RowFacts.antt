@@ -1,16 +1,24 @@
 -- What the rows say of commands that aren't answered at once.
-use Rattle.std.proofs.Common.{◌≡◌, ℕ, ◌<◌, Option, Some, None, refl, subst, arith}
+use Rattle.std.proofs.Common.{◌≡◌, ℕ, ◌<◌, Bool, true, false, cond, Option, Some, None, refl, sym, ap, ◌∙◌, subst, arith}
 use Rattle.std.specs.List.{AllByRecursion}
 use Rattle.rdm_params.specs.declared.kind.Verb.{Verb}
 use Rattle.rdm_params.specs.declared.kind.Verb.TheVariants.{Get, Set}
 use Rattle.rdm_params.specs.declared.jobs.way.Way.{Way}
 use Rattle.rdm_params.specs.declared.jobs.way.Way.TheVariants.{AtOnce, ByJob, FromQueue, FromStatus, Clears}
 use Rattle.rdm_device.specs.declared.value.Value.{Value}
-use Rattle.rdm_params.specs.Commands.Commands.{command_of}
+use Rattle.rdm_params.specs.Commands.Commands.{command_of, command_at}
+use Rattle.rdm_params.specs.Commands.Added.{row_here}
 use Rattle.rdm_device.specs.Columns.Forms.{byte}
 use Rattle.rdm_device.specs.Columns.Ranges.{a_message_type}
+use Rattle.rdm_device.specs.declared.profile.own.ParameterDef.{ParameterDef}
+use Rattle.rdm_device.specs.declared.profile.Profile.{Profile}
+use Rattle.rdm_device.specs.Columns.Added.{within}
+use Rattle.rdm_device.specs.Device.OwnParameters.{form_of, has_get, has_set}
+use Rattle.rdm_device.specs.Device.Parameters.{Parameters}
 use Rattle.rdm_device.specs.Device.Spot.{Spot}
-use Rattle.rdm_params.specs.Table.Rows.{Command, Row, table, row_of, row_in, command_in}
+use Rattle.rdm_params.specs.Table.Rows.{Command, Row, table, row_of, row_in, row_at, is_left_out, added_rows, added_row, shows_added, takes_added, command_in}
+use Rattle.rdm_params.specs.Table.Uses.{way_of, is_by_job, is_slow}
+use Rattle.rdm_params.proofs.AddedRows.{row_has, added_have, here_is}
 use Rattle.rdm_params.proofs.Rows.{found}
 
 -- the range of a command looks at the profile alone
@@ -54,3 +62,37 @@ of_row pid (Some r) e verb =
 pub facts_of : (pid : ℕ) (verb : Verb) → Facts pid verb (command_of pid verb)
 unfolding row_of
 facts_of pid verb = of_row pid (row_in table pid) refl verb
+
+-- ---- of the command that a profile's devices have for a PID
+
+get_facts : (pid : ℕ) (d : ParameterDef) (has : Bool) → Facts pid Get (cond has (shows_added d.pid) None)
+get_facts pid d true = tt
+get_facts pid d false = tt
+
+set_facts : (pid : ℕ) (d : ParameterDef) (has : Bool) → Facts pid Set (cond has (takes_added (form_of d.shape) (within d) d.pid) None)
+set_facts pid d true = tt
+set_facts pid d false = tt
+
+added_say : (d : ParameterDef) → RowFacts (added_row d)
+added_say d = (get_facts d.pid d (has_get d.rights), set_facts d.pid d (has_set d.rights))
+
+of_added : (p : Profile) (pid : ℕ) (row : Option Row) → row_in (added_rows p) pid ≡ row → (verb : Verb) → Facts pid verb (command_in row verb)
+of_added p pid None e verb = tt
+of_added p pid (Some r) e verb =
+    let say = found RowFacts (added_rows p) pid r (added_have RowFacts quick added_say p) e in
+    of_verb pid r verb (subst (λ (n : ℕ). Facts n Get r.get × Facts n Set r.set) say.1 say.0)
+
+pub facts_at : (p : Parameters) (pid : ℕ) (verb : Verb) → Facts pid verb (command_at p pid verb)
+facts_at p pid verb =
+    row_has (λ (row : Option Row). Facts pid verb (command_in row verb)) (is_left_out p.profile pid) (row_of pid) (row_here p.profile pid) tt (facts_of pid verb) (λ none. of_added p.profile pid (row_here p.profile pid) refl verb)
+
+never : false ≡ true → ⊥
+never e = cc
+
+not_slow : (command : Option Command) → way_of command ≡ AtOnce → is_slow command ≡ true → ⊥
+not_slow command e slow = never (sym (ap is_by_job e) ∙ slow)
+
+-- what is slow at a profile is slow in the table
+pub slow_at : (p : Parameters) (pid : ℕ) (verb : Verb) → is_slow (command_at p pid verb) ≡ true → command_at p pid verb ≡ command_of pid verb
+slow_at p pid verb =
+    row_has (λ (row : Option Row). is_slow (command_in row verb) ≡ true → command_in row verb ≡ command_of pid verb) (is_left_out p.profile pid) (row_of pid) (row_here p.profile pid) (λ slow. absurd (never slow)) (λ slow. refl) (λ none slow. absurd (not_slow (command_in (row_here p.profile pid) verb) ((here_is p.profile pid).way verb) slow))

@@ -2,6 +2,7 @@
 use Rattle.std.proofs.Common.{◌≡◌, ℕ, zero, suc, ◌-◌, ◌==◌, ◌&&◌, not, Bool, true, false, cond, List, [], ◌∷◌, length, map, replicate, Option, Some, None, Result, Ok, Err, refl, sym, ap, ◌∙◌}
 use Rattle.std.specs.Prelude.{slice_get, slice_set, slice_index_or, option_to_list, is_some}
 use Rattle.std.specs.List.{list_all}
+use Rattle.std.specs.Option.{option_map_or}
 use Rattle.std.proofs.lemmas.List.{length-map, length-set}
 use Rattle.rdm_params.specs.declared.kind.Verb.{Verb}
 use Rattle.rdm_params.specs.declared.kind.Verb.TheVariants.{Set}
@@ -13,15 +14,17 @@ use Rattle.rdm_params.specs.declared.jobs.way.Way.{Way}
 use Rattle.rdm_params.specs.declared.jobs.way.Way.TheVariants.{AtOnce, ByJob, FromQueue, FromStatus, Clears}
 use Rattle.rdm_device.specs.declared.value.Value.{Value}
 use Rattle.rdm_device.specs.declared.value.Value.TheVariants.{Byte}
-use Rattle.rdm_params.specs.Commands.Commands.{command_of, accepted, after_set, after_accepted, carried_out, written, addressed, root_spot, sub_spot, is_all_call, is_some_device, known, suits, check, ◌>>=◌}
+use Rattle.rdm_params.specs.Commands.Commands.{command_of, command_at, accepted, read_data, after_set, after_accepted, carried_out, written, added_written, addressed, root_spot, sub_spot, is_all_call, is_some_device, known, suits, check, ◌>>=◌}
 use Rattle.rdm_params.specs.Commands.Panel.{changed_pid, changed_value, can_change, after_change}
-use Rattle.rdm_params.specs.Commands.Placing.{place_refusal, after_value, after_place}
-use Rattle.rdm_device.specs.Device.Map.{Entry}
+use Rattle.rdm_params.specs.Commands.Placing.{place_refusal, after_value, after_place, has_set, own_at, own_placed}
+use Rattle.rdm_device.specs.declared.profile.own.ParameterDef.{ParameterDef}
+use Rattle.rdm_device.specs.Device.Map.{Entry, update}
+use Rattle.rdm_device.specs.Device.Measuring.{placed_by}
 use Rattle.rdm_device.specs.Device.Parameters.{Parameters}
 use Rattle.rdm_params.specs.Jobs.Commit.{after_commit}
 use Rattle.rdm_params.specs.Jobs.Laws.{SameDevices, StaysAccepted, SetKeepsDevices, CommitKeepsDevices, PanelKeepsDevices, PlaceKeepsDevices}
 use Rattle.rdm_device.specs.Device.Spot.{Spot}
-use Rattle.rdm_params.specs.Table.Rows.{Command, row_of}
+use Rattle.rdm_params.specs.Table.Rows.{Command, Row, row_of, row_in, row_or, row_at, is_left_out, added_rows, command_in}
 use Rattle.rdm_params.specs.Table.Uses.{access, read, is_by_job, is_slow, in_range_of, keeps}
 use Rattle.rdm_params.proofs.RowFacts.{FactsOfWay, Facts, ByProfile, facts_of}
 
@@ -91,23 +94,39 @@ then_same : {A B : Type 0} (r : Result A Nack) (f g : A → Result B Nack) → (
 then_same (Ok x) f g same = same x
 then_same (Err nack) f g same = refl
 
-known_alike : (p q : Parameters) (sub pid : ℕ) (verb : Verb) → SameDevices p q → known q sub pid verb ≡ known p sub pid verb
-known_alike p q sub pid verb same =
-    ap (λ (here : Bool). check here SubDeviceOutOfRange >>= (λ u. access (row_of pid) (sub == 0) verb)) (some_alike (addressed p sub verb) (addressed q sub verb) (alike p q sub verb same))
+known_alike : (p q : Parameters) (sub : ℕ) (row : Option Row) (verb : Verb) → SameDevices p q → known q sub row verb ≡ known p sub row verb
+known_alike p q sub row verb same =
+    ap (λ (here : Bool). check here SubDeviceOutOfRange >>= (λ u. access row (sub == 0) verb)) (some_alike (addressed p sub verb) (addressed q sub verb) (alike p q sub verb same))
 
-suits_alike : (p q : Parameters) (sub pid : ℕ) (verb : Verb) (v : Value) → SameDevices p q → is_slow (command_of pid verb) ≡ true → suits q sub pid verb v ≡ suits p sub pid verb v
-suits_alike p q sub pid verb v same slow =
-    ap (λ (within : Bool). check within DataOutOfRange >>= (λ u. check (not (is_all_call sub verb && is_slow (command_of pid verb))) SubDeviceOutOfRange)) (all_alike (λ spot. in_range_of (command_of pid verb) spot v) (λ s t e. profile_decides pid verb (command_of pid verb) (facts_of pid verb) slow s t v e) (addressed p sub verb) (addressed q sub verb) (alike p q sub verb same))
+-- the range of a command looks at the profile alone
+abbrev Decides : Option Command → Type 0
+Decides command = (s t : Spot) (v : Value) → s.profile ≡ t.profile → in_range_of command s v ≡ in_range_of command t v
+
+suits_alike : (p q : Parameters) (sub : ℕ) (command : Option Command) (verb : Verb) (v : Value) → SameDevices p q → Decides command → suits q sub command verb v ≡ suits p sub command verb v
+suits_alike p q sub command verb v same decides =
+    ap (λ (within : Bool). check within DataOutOfRange >>= (λ u. check (not (is_all_call sub verb && is_slow command)) SubDeviceOutOfRange)) (all_alike (λ spot. in_range_of command spot v) (λ s t e. decides s t v e) (addressed p sub verb) (addressed q sub verb) (alike p q sub verb same))
+
+-- a slow command of the table is that of the devices, unless the profile leaves it out
+slow_range : (verb : Verb) (left : Bool) (first later : Option Row) → is_slow (command_in first verb) ≡ true → Decides (command_in first verb) → Decides (command_in (cond left None (row_or first later)) verb)
+slow_range verb true first later slow decides = λ s t v e. refl
+slow_range verb false None later slow decides = absurd cc
+slow_range verb false (Some r) later slow decides = decides
+
+abbrev accepted_by : Parameters → Profile → ℕ → ℕ → Verb → List ℕ → Result Value Nack
+accepted_by p profile sub pid verb bytes = known p sub (row_at profile pid) verb >>= (λ u. read_data p sub (command_in (row_at profile pid) verb) verb bytes)
 
 pub stays_accepted : StaysAccepted
 unfolding accepted
 stays_accepted p q sub pid verb bytes same slow =
-    let rest : Parameters → Unit {0} → Result Value Nack = λ d u. read (command_of pid verb) bytes >>= (λ value. suits d sub pid verb value >>= (λ w. Ok value)) in
-    ap (λ (r : Result (Unit {0}) Nack). r >>= rest q) (known_alike p q sub pid verb same) ∙ then_same (known p sub pid verb) (rest q) (rest p) (λ u. then_same (read (command_of pid verb) bytes) _ _ (λ value. ap (λ (r : Result (Unit {0}) Nack). r >>= (λ w. Ok value)) (suits_alike p q sub pid verb value same slow)))
+    let row : Option Row = row_at p.profile pid in
+    let command : Option Command = command_in row verb in
+    let decides : Decides command = slow_range verb (is_left_out p.profile pid) (row_of pid) (row_in (added_rows p.profile) pid) slow (λ s t v e. profile_decides pid verb (command_of pid verb) (facts_of pid verb) slow s t v e) in
+    let rest : Parameters → Unit {0} → Result Value Nack = λ d u. read command bytes >>= (λ value. suits d sub command verb value >>= (λ w. Ok value)) in
+    ap (λ (profile : Profile). accepted_by q profile sub pid verb bytes) same.profile ∙ ap (λ (r : Result (Unit {0}) Nack). r >>= rest q) (known_alike p q sub row verb same) ∙ then_same (known p sub row verb) (rest q) (rest p) (λ u. then_same (read command bytes) _ _ (λ value. ap (λ (r : Result (Unit {0}) Nack). r >>= (λ w. Ok value)) (suits_alike p q sub command verb value same decides)))
 
 -- ---- the devices after a SET and after the end of a job
 
-carried_at : (p : Parameters) (sub : ℕ) (command : Option Command) (v : Value) (at_root all : Bool) → SameDevices p (cond at_root (record p { root = written command v (root_spot p) }) (cond all (record p { subs = map (λ entries. written command v (sub_spot p entries)) p.subs }) (record p { subs = slice_set p.subs (sub - 1) (written command v (sub_spot p (slice_index_or p.subs (sub - 1) []))) })))
+carried_at : (p : Parameters) (sub : ℕ) (command : Option Command) (v : Value) (at_root all : Bool) → SameDevices p (cond at_root (record p { root = written command v (root_spot p); added = added_written command v (root_spot p) }) (cond all (record p { subs = map (λ entries. written command v (sub_spot p entries)) p.subs }) (record p { subs = slice_set p.subs (sub - 1) (written command v (sub_spot p (slice_index_or p.subs (sub - 1) []))) })))
 carried_at p sub command v true all = record { profile = refl; subs = refl }
 carried_at p sub command v false true = record { profile = refl; subs = length-map p.subs (λ entries. written command v (sub_spot p entries)) }
 carried_at p sub command v false false = record { profile = refl; subs = length-set p.subs (sub - 1) _ }
@@ -119,13 +138,13 @@ unless_slow : (p new : Parameters) (slow : Bool) → SameDevices p new → SameD
 unless_slow p new true same = record { profile = refl; subs = refl }
 unless_slow p new false same = same
 
-after_keeps : (p : Parameters) (sub pid : ℕ) (value : Result Value Nack) → SameDevices p (after_accepted p sub pid value)
-after_keeps p sub pid (Err nack) = record { profile = refl; subs = refl }
-after_keeps p sub pid (Ok v) = unless_slow p (carried_out p sub (command_of pid Set) v) (is_slow (command_of pid Set)) (carried_keeps p sub (command_of pid Set) v)
+after_keeps : (p : Parameters) (sub : ℕ) (command : Option Command) (value : Result Value Nack) → SameDevices p (after_accepted p sub command value)
+after_keeps p sub command (Err nack) = record { profile = refl; subs = refl }
+after_keeps p sub command (Ok v) = unless_slow p (carried_out p sub command v) (is_slow command) (carried_keeps p sub command v)
 
 pub set_keeps_devices : SetKeepsDevices
 unfolding after_set
-set_keeps_devices p sub pid bytes = after_keeps p sub pid (accepted p sub pid Set bytes)
+set_keeps_devices p sub pid bytes = after_keeps p sub (command_at p pid Set) (accepted p sub pid Set bytes)
 
 pub commit_keeps_devices : CommitKeepsDevices
 unfolding after_commit
@@ -147,12 +166,16 @@ value_keeps : (p : Parameters) (sub pid : ℕ) (read' : Result Value Nack) → S
 value_keeps p sub pid (Err nack) = record { profile = refl; subs = refl }
 value_keeps p sub pid (Ok v) = carried_keeps p sub (command_of pid Set) v
 
-unless_refused : (p new other : Parameters) (refused kept : Bool) → SameDevices p new → SameDevices p other → SameDevices p (cond refused p (cond kept new other))
-unless_refused p new other true kept a b = record { profile = refl; subs = refl }
-unless_refused p new other false true a b = a
-unless_refused p new other false false a b = b
+own_keeps : (p : Parameters) (bytes : List ℕ) (own : Option ParameterDef) → SameDevices p (option_map_or (λ d. own_placed p d bytes) own p)
+own_keeps p bytes None = record { profile = refl; subs = refl }
+own_keeps p bytes (Some d) = record { profile = refl; subs = refl }
+
+either_keeps : (p new other : Parameters) (first : Bool) → SameDevices p new → SameDevices p other → SameDevices p (cond first new other)
+either_keeps p new other true a b = a
+either_keeps p new other false a b = b
 
 pub place_keeps_devices : PlaceKeepsDevices
 unfolding after_place
 place_keeps_devices p sub pid bytes =
-    unless_refused p _ _ (is_some (place_refusal p sub pid bytes)) (keeps (command_of pid Set)) (value_keeps p sub pid (read (command_of pid Set) bytes)) (record { profile = refl; subs = refl })
+    let stored = either_keeps p _ (record p { root = update (placed_by bytes) p.root }) (keeps (command_of pid Set)) (value_keeps p sub pid (read (command_of pid Set) bytes)) (record { profile = refl; subs = refl }) in
+    either_keeps p p _ (is_some (place_refusal p sub pid bytes)) (record { profile = refl; subs = refl }) (either_keeps p _ _ (not (has_set p sub pid)) (own_keeps p bytes (own_at p sub pid)) stored)

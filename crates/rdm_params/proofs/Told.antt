@@ -1,12 +1,12 @@
 -- What a SET tells, and the keys and the devices that it may write.
-use Rattle.std.proofs.Common.{◌≡◌, ◌≢◌, ℕ, ◌==◌, ◌||◌, Bool, true, false, cond, [], ◌∷◌, refl, sym, subst, ◌∙◌}
+use Rattle.std.proofs.Common.{◌≡◌, ◌≢◌, ℕ, ◌==◌, ◌||◌, Bool, true, false, cond, List, [], ◌∷◌, ◌++◌, refl, sym, subst, ◌∙◌}
 use Rattle.std.specs.List.{list_any}
 use Rattle.std.proofs.lemmas.Bool.{eqb-false, ne_eqb}
 use Rattle.rdm_params.specs.declared.changed.Changed.TheVariants.{Value, Several}
 use Rattle.rdm_params.specs.Commands.Changed.{change_of, pid_written}
 use Rattle.rdm_params.specs.Laws.{ChangesWhatItTells, LeavesWhatItDoesNotTell, IsSameBut}
 use Rattle.rdm_params.specs.Commands.Commands.{after_set}
-use Rattle.rdm_device.specs.Columns.Replies.{factory_pids}
+use Rattle.rdm_device.specs.Columns.Replies.{factory_pids, reset_pids}
 use Rattle.rdm_params.proofs.OtherDevices.{leaves_the_rest}
 use Rattle.rdm_params.proofs.OwnKeys.{changes_its_keys, not_either}
 
@@ -24,15 +24,15 @@ told_of sub pid s t e =
     let few = not_either (sub == 0xFFFF) (pid == 0x0090) parts.0 in
     (few.0, few.1, parts.1, parts.2)
 
-one_key : (factory recorded : Bool) (pid key : ℕ) → factory ≡ false → key ≢ cond recorded 0x0201 pid → list_any (λ k. k == key) (cond factory factory_pids (cond recorded (0x0201 ∷ []) (pid ∷ []))) ≡ false
-one_key true recorded pid key few apart = absurd cc
-one_key false true pid key few apart = rw (ne_eqb 0x0201 key (λ (e : 0x0201 ≡ key). apart (sym e))) refl
-one_key false false pid key few apart = rw (ne_eqb pid key (λ (e : pid ≡ key). apart (sym e))) refl
+one_key : (many : List ℕ) (factory recorded : Bool) (pid key : ℕ) → factory ≡ false → key ≢ cond recorded 0x0201 pid → list_any (λ k. k == key) (cond factory many (cond recorded (0x0201 ∷ []) (pid ∷ []))) ≡ false
+one_key many true recorded pid key few apart = absurd cc
+one_key many false true pid key few apart = rw (ne_eqb 0x0201 key (λ (e : 0x0201 ≡ key). apart (sym e))) refl
+one_key many false false pid key few apart = rw (ne_eqb pid key (λ (e : pid ≡ key). apart (sym e))) refl
 
 pub changes_what_it_tells : ChangesWhatItTells
 changes_what_it_tells p sub pid s t bytes key index e apart =
     let told = told_of sub pid s t e in
-    changes_its_keys p sub pid bytes key index (one_key (pid == 0x0090) (pid == 0x0202) pid key told.1 (λ (same : key ≡ pid_written pid). apart (same ∙ told.3)))
+    changes_its_keys p sub pid bytes key index (one_key (factory_pids ++ reset_pids p.profile.own) (pid == 0x0090) (pid == 0x0202) pid key told.1 (λ (same : key ≡ pid_written pid). apart (same ∙ told.3)))
 
 pub leaves_what_it_does_not_tell : LeavesWhatItDoesNotTell
 leaves_what_it_does_not_tell p sub pid s t bytes e =

@@ -1,3 +1,4 @@
+pub mod Added
 pub mod Changed
 pub mod Commands
 pub mod Nacks

@@ -1,6 +1,7 @@
 -- Laws of the table, for every value, command and device.
-use Rattle.std.specs.Prelude.{◌≡◌, ◌≢◌, ℕ, ℤ, suc, ◌^◌, ◌<◌, ◌≤◌, ◌==◌, false, List, [], ◌∷◌, length, Option, Some, None, Ok, IsTrue, true, slice_index_or, if◌then◌else◌}
+use Rattle.std.specs.Prelude.{◌≡◌, ◌≢◌, ℕ, ℤ, suc, ◌^◌, ◌<◌, ◌≤◌, ◌==◌, false, List, [], ◌∷◌, ◌++◌, length, Option, Some, None, Ok, IsTrue, Bool, true, slice_index_or, if◌then◌else◌}
 use Rattle.std.specs.List.{list_any}
+use Rattle.std.specs.List.Sorted.{IsStrictlyIncreasing}
 use Rattle.rdm_params.specs.declared.kind.Verb.{Verb}
 use Rattle.rdm_params.specs.declared.kind.Verb.TheVariants.{Set}
 use Rattle.rdm_params.specs.declared.verdict.Verdict.TheVariants.{Reply}
@@ -20,9 +21,11 @@ use Rattle.rdm_params.specs.Jobs.Commit.{after_commit}
 use Rattle.rdm_params.specs.Jobs.Outcome.{fits}
 use Rattle.rdm_device.specs.Columns.Forms.{has_form}
 use Rattle.rdm_device.specs.Device.Map.{lookup}
+use Rattle.rdm_device.specs.declared.profile.Profile.{Profile}
 use Rattle.rdm_device.specs.Device.Parameters.{Parameters}
-use Rattle.rdm_device.specs.Columns.Replies.{factory_pids}
-use Rattle.rdm_params.specs.Table.Rows.{Command}
+use Rattle.rdm_device.specs.Device.Profiles.{IsGoodProfile}
+use Rattle.rdm_device.specs.Columns.Replies.{factory_pids, reset_pids}
+use Rattle.rdm_params.specs.Table.Rows.{Command, row_of, row_at, supported_pids}
 use Rattle.rdm_params.specs.Table.Uses.{read, keeps}
 use Rattle.rdm_device.specs.Device.Values.{bytes_of}
 
@@ -46,21 +49,31 @@ ReadsBack =
     (pid : ℕ) (verb : Verb) (v : Value)
     → HasFormOf (command_of pid verb) v → FitsSlots v → read (command_of pid verb) (bytes_of v) ≡ Ok v
 
--- The PIDs of the keys that a SET of a parameter may write: its own, but for FACTORY_DEFAULTS, which sets ten
--- parameters back, and RECORD_SENSORS, which writes the sensors' values.
-abbrev pub keys_written : ℕ → List ℕ
-keys_written pid = if pid == 0x0090 then factory_pids else (if pid == 0x0202 then 0x0201 ∷ [] else pid ∷ [])
+-- Devices of a profile that adds no parameters and leaves none out have the table.
+abbrev pub TheTableAlone : Type 0
+TheTableAlone = (p : Profile) (pid : ℕ) → p.own ≡ [] → p.without.items ≡ [] → row_at p pid ≡ row_of pid
 
--- the values at this key are the same at the root and at every sub-device, of which the first is number 1
+-- SUPPORTED_PARAMETERS lists PIDs in ascending order, and so none twice, at the root and at a sub-device. Section 10.4.1.
+abbrev pub SupportedAscend : Type 0
+SupportedAscend = (p : Profile) (is_root : Bool) → IsGoodProfile p → IsStrictlyIncreasing (supported_pids p is_root)
+
+-- The PIDs of the keys that a SET of a parameter may write: its own, but for FACTORY_DEFAULTS, which sets ten
+-- parameters back and those of the maker's own that say so, and RECORD_SENSORS, which writes the sensors' values.
+abbrev pub keys_written : Profile → ℕ → List ℕ
+keys_written profile pid = if pid == 0x0090 then factory_pids ++ reset_pids profile.own else (if pid == 0x0202 then 0x0201 ∷ [] else pid ∷ [])
+
+-- the values at this key are the same at the root, also of the parameters that the maker adds, and at every sub-device, of
+-- which the first is number 1
 pub record SameAt (pid index : ℕ) (old new : Parameters) : Type 0 where
   pub root : lookup new.root pid index ≡ lookup old.root pid index
+  pub added : lookup new.added pid index ≡ lookup old.added pid index
   pub subs : (k : ℕ) → lookup (slice_index_or new.subs k []) pid index ≡ lookup (slice_index_or old.subs k []) pid index
 
 -- A SET changes no value but at the keys of its parameter, at any device.
 abbrev pub ChangesItsKeys : Type 0
 ChangesItsKeys =
     (p : Parameters) (sub pid : ℕ) (bytes : List ℕ) (key index : ℕ)
-    → list_any (λ k. k == key) (keys_written pid) ≡ false → SameAt key index p (after_set p sub pid bytes)
+    → list_any (λ k. k == key) (keys_written p.profile pid) ≡ false → SameAt key index p (after_set p sub pid bytes)
 
 -- The profile is the same, there are as many sub-devices, and the devices that a SET doesn't address keep all their
 -- values.
@@ -68,6 +81,7 @@ pub record IsSameBut (sub : ℕ) (old new : Parameters) : Type 0 where
   pub profile : new.profile ≡ old.profile
   pub count : length new.subs ≡ length old.subs
   pub root : sub ≢ 0 → new.root ≡ old.root
+  pub added : sub ≢ 0 → new.added ≡ old.added
   pub subs : (k : ℕ) → sub ≢ suc k → sub ≢ 0xFFFF → slice_index_or new.subs k [] ≡ slice_index_or old.subs k []
 
 -- A SET changes nothing but the values of the devices that it addresses.
@@ -95,16 +109,16 @@ CommitChangesItsKey =
 
 -- The PIDs of the keys that the end of a job may write, whichever outcome is handed in: those that the SET may write, that
 -- of the sensors' values, or none.
-abbrev pub keys_committed : Work → Outcome → List ℕ
-keys_committed w Done = keys_written w.pid
-keys_committed w (Reading v) = 0x0201 ∷ []
-keys_committed w (Failed severity id v1 v2) = []
+abbrev pub keys_committed : Profile → Work → Outcome → List ℕ
+keys_committed profile w Done = keys_written profile w.pid
+keys_committed profile w (Reading v) = 0x0201 ∷ []
+keys_committed profile w (Failed severity id v1 v2) = []
 
 -- The end of a job changes no value but at these keys, whichever outcome is handed in.
 abbrev pub CommitChangesItsKeys : Type 0
 CommitChangesItsKeys =
     (p : Parameters) (w : Work) (outcome : Outcome) (key index : ℕ)
-    → list_any (λ k. k == key) (keys_committed w outcome) ≡ false → SameAt key index p (after_commit p w outcome)
+    → list_any (λ k. k == key) (keys_committed p.profile w outcome) ≡ false → SameAt key index p (after_commit p w outcome)
 
 -- A reading changes no value of another sensor.
 abbrev pub ReadingChangesItsSensor : Type 0

@@ -2,7 +2,7 @@
 
 mod sub_devices;
 
-ghost use Rattle.std.specs.Prelude.{[], Some, None, IfSome, false, length, ◌≡◌, ◌≢◌, ◌↔◌, ◌≤◌, ◌<◌, IfOk, IfErr, slice_get};
+ghost use Rattle.std.specs.Prelude.{[], Some, None, IfSome, false, length, ◌≡◌, ◌≢◌, ◌↔◌, IfOk, IfErr, slice_get};
 ghost use Rattle.std.specs.List.{list_all};
 ghost use Rattle.std.specs.Option.{option_map, option_map_or};
 ghost use Rattle.rdm_params.specs.declared.kind.Verb.TheVariants.{Set};
@@ -11,8 +11,6 @@ ghost use Rattle.rdm_params.specs.Commands.Commands.{got, answer_to_set, after_s
 ghost use Rattle.rdm_params.specs.Commands.Commands.{addressed, command_of, carried_out, is_all_call, reply_at, root_spot, sub_spot};
 ghost use Rattle.rdm_params.specs.Commands.Changed.{change_of};
 ghost use Rattle.rdm_params.specs.Table.Kinds.{pid_of};
-ghost use Rattle.rdm_device.specs.Device.Parameters.{parameters_of};
-ghost use Rattle.rdm_device.specs.Device.Profiles.{IsGoodProfile};
 ghost use Rattle.rdm_device.specs.Device.Spot.{Spot};
 ghost use Rattle.rdm_device.specs.Device.Values.{byte_or_0};
 ghost use Rattle.rdm_device.specs.declared.value.Value.{Value};
@@ -20,24 +18,25 @@ ghost use Rattle.rdm_params.specs.Views.Verdicts.{verdict_with, NamesItsJob};
 ghost use Rattle.rdm_params.specs.Table.Uses.{way_of, in_range_of, is_bare, reply};
 ghost use Rattle.rdm_params.specs.Jobs.Asks.{ask_of};
 
+mod added;
 mod commit;
 mod panel;
 mod placing;
 mod read_data;
 mod saving;
+mod starting;
 mod thresholds;
 
-use crate::commands::sub_devices::{all_in_range, start_each, store_at, store_each};
+use crate::commands::sub_devices::{all_in_range, store_at, store_each};
 use crate::jobs::Way;
 use crate::table::find::{Found, find};
 use crate::table::respond::{reply_into, state_into};
-use crate::table::store::{store_common, store_own};
+use crate::table::store::{store_added, store_common, store_own};
 use crate::table::within::is_in_range;
 use crate::{Answer, Ask, Changed, Kind, Nack, Profile, Value, Verb, Verdict, Work};
-use rdm_device::{Argument, CommonValues, Place, RootValues, is_good};
+use rdm_device::{Argument, CommonValues, Place, RootValues};
 use rdm_frame::Body;
-use rdm_frame::standard::{MOST_SUB_DEVICES, SUB_DEVICE_ALL_CALL};
-use std::alloc::Global;
+use rdm_frame::standard::SUB_DEVICE_ALL_CALL;
 use std::marker::Model;
 use thiserror::Error;
 
@@ -73,45 +72,12 @@ impl Model for Devices {
     ghost Value = { Parameters };
 
     ghost use Rattle.std.specs.Prelude.{◌++◌, map};
-    ghost use Rattle.rdm_device.specs.Views.State.{common_entries, own_entries};
+    ghost use Rattle.rdm_device.specs.Views.State.{common_entries, own_entries, added_entries};
 
-    ghost view = { λ d. record { profile = d.profile.value; root = common_entries d.root ++ own_entries d.own; subs = map common_entries d.subs.items } };
+    ghost view = { λ d. record { profile = d.profile.value; root = common_entries d.root ++ own_entries d.own; added = added_entries d.own.added.items; subs = map common_entries d.subs.items } };
 }
 
 impl Devices {
-    /// The devices of a profile, with the values that they start with.
-    ///
-    /// It is `TooManySubs` over 512 sub-devices, else `BadProfile` if the profile breaks a rule.
-    // Inlined, since a call would have a copy of the profile on the stack.
-    #[inline(always)]
-    #[tactic(auto, unfolding(rdm_device::specs::Device::Parameters::parameters_of))]
-    pub fn new(alloc: Global, profile: Profile) -> Result<Devices, NewError>
-        ensures ok { IfOk result (λ devices. devices ≡ parameters_of profile) }
-        ensures too_many { (result ≡ Err NewError.TooManySubs) ↔ (512 < profile.subs) }
-        ensures bad { (result ≡ Err NewError.BadProfile) ↔ ((profile.subs ≤ 512) × ¬ IsGoodProfile profile) }
-    {
-        if profile.subs > MOST_SUB_DEVICES {
-            return Err(NewError::TooManySubs);
-        }
-        if !is_good(&profile) {
-            return Err(NewError::BadProfile);
-        }
-        let Ok(profile) = Box::new(alloc, profile) else {
-            return Err(NewError::OutOfMemory);
-        };
-        let root = CommonValues::at_start(&profile.root);
-        let own = RootValues::at_start(&profile);
-        let Ok(subs) = start_each(alloc, &profile.sub, profile.subs) else {
-            return Err(NewError::OutOfMemory);
-        };
-        Ok(Devices {
-            profile,
-            root,
-            own,
-            subs,
-        })
-    }
-
     /// How many sub-devices there are (E1.20 section 9).
     pub fn sub_devices(&self) -> usize
         ensures { result ≡ length self.now.subs }
@@ -188,6 +154,9 @@ impl Devices {
     pub fn in_range(&self, sub: u16, kind: Kind, verb: Verb, value: &Value) -> bool
         ensures { result ≡ in_range self.now sub kind verb value.now }
     {
+        if self.profile.lacks(kind.pid()) {
+            return false;
+        }
         let Some(argument) = Argument::of(value) else {
             return false;
         };
@@ -201,7 +170,7 @@ impl Devices {
     /// What a GET answers, or the first reason to reject it.
     // This and its steps are inlined, since a call would hand the argument on through memory.
     #[inline(always)]
-    #[tactic(auto, unfolding(crate::specs::Commands::Commands::got, crate::specs::Commands::Commands::accepted))]
+    #[tactic(auto, unfolding(crate::specs::Commands::Commands::got, crate::specs::Commands::Commands::accepted), using(crate::proofs::AddedCommands::tabled, crate::proofs::AddedCommands::lacking_get))]
     fn try_get(&self, sub: u16, pid: u16, data: &[u8], body: &mut Body) -> Result<Answer, Nack>
         requires { body.old ≡ [] }
         ensures ok { IfOk result (λ answer. verdict_with answer body.new ≡ got self.now sub pid data.now) }
@@ -212,14 +181,29 @@ impl Devices {
         let place = self
             .first_place(sub, Verb::Get)
             .ok_or(Nack::SubDeviceOutOfRange)?;
-        let found = find(pid, sub == 0, Verb::Get)?;
+        if self.profile.lacks(pid) {
+            return Err(Nack::UnknownPid);
+        }
+        let found = match find(pid, sub == 0, Verb::Get) {
+            Ok(found) => found,
+            Err(nack) => {
+                // Before the call, which costs more than the test.
+                if self.profile.own.as_slice().is_empty() {
+                    return Err(nack);
+                }
+                return match self.get_added(sub, pid, data, nack, body) {
+                    Ok(()) => Ok(Answer::Done),
+                    Err(nack) => Err(nack),
+                };
+            }
+        };
         let value = self.read_data(sub, Verb::Get, found, &place, data)?;
         Ok(answer(sub, Verb::Get, found, Some(place), &value, body))
     }
 
     /// What a SET answers, or the first reason to reject it. `changed` tells whether it changed a value.
     #[inline(always)]
-    #[tactic(auto, unfolding(crate::specs::Commands::Commands::answer_to_set, crate::specs::Commands::Commands::after_set, crate::specs::Commands::Commands::accepted))]
+    #[tactic(auto, unfolding(crate::specs::Commands::Commands::answer_to_set, crate::specs::Commands::Commands::after_set, crate::specs::Commands::Commands::accepted), using(crate::proofs::AddedCommands::tabled, crate::proofs::AddedCommands::lacking_set, crate::proofs::AddedCommands::lacking_leaves))]
     fn try_set(
         &mut self,
         sub: u16,
@@ -237,10 +221,28 @@ impl Devices {
         ensures after { self.new ≡ after_set self.old sub pid data.now }
         ensures same { (changed.new ≡ false) ↔ (self.new ≡ self.old) }
     {
+        let lacks = self.profile.lacks(pid);
         let place = self
             .first_place(sub, Verb::Set)
             .ok_or(Nack::SubDeviceOutOfRange)?;
-        let found = find(pid, sub == 0, Verb::Set)?;
+        if lacks {
+            return Err(Nack::UnknownPid);
+        }
+        let found = match find(pid, sub == 0, Verb::Set) {
+            Ok(found) => found,
+            Err(nack) => {
+                if self.profile.own.as_slice().is_empty() {
+                    return Err(nack);
+                }
+                return match self.set_added(sub, pid, data, nack) {
+                    Ok(differs) => {
+                        *changed = differs;
+                        Ok(Answer::Done)
+                    }
+                    Err(nack) => Err(nack),
+                };
+            }
+        };
         let value = self.read_data(sub, Verb::Set, found, &place, data)?;
         if !found.way.is_by_job() {
             *changed = self.carry_out(sub, found.kind, &value);
@@ -297,7 +299,8 @@ impl Devices {
         if sub == 0 {
             let common = store_common(kind, value, profile, &mut self.root);
             let own = store_own(kind, value, profile, &mut self.own);
-            common || own
+            let added = store_added(kind, value, profile, &mut self.own);
+            common || own || added
         } else if sub == SUB_DEVICE_ALL_CALL {
             store_each(kind, value, profile, &mut self.subs)
         } else {

@@ -4,7 +4,7 @@ ghost use Rattle.std.specs.Prelude.{◌≡◌, ◌↔◌, ℕ, List, IsTrue};
 ghost use Rattle.rdm_params.specs.Laws.{ReadsBack, ChangesItsKeys, LeavesTheRest, PanelChangesItsKey, PanelLeavesTheRest, PlacesAsSet};
 ghost use Rattle.rdm_params.specs.Laws.{ChangesWhatItTells, LeavesWhatItDoesNotTell};
 ghost use Rattle.rdm_params.specs.Laws.{CommitChangesItsKey, CommitChangesItsKeys, ReadingChangesItsSensor};
-ghost use Rattle.rdm_params.specs.Laws.{CommitLeavesTheRest, FailedChangesNothing};
+ghost use Rattle.rdm_params.specs.Laws.{CommitLeavesTheRest, FailedChangesNothing, TheTableAlone, SupportedAscend};
 
 use crate::{
     Answer, Ask, Change, Changed, Entry, Kind, Message, Nack, NewError, Outcome, PlaceError, Plate,
@@ -14,6 +14,16 @@ use crate::{
 /// What `write_value` writes of a value that has the form of a command, `read_value` reads back for that command.
 pub fn written_value_is_read_back()
     ensures { ReadsBack }
+{}
+
+/// Devices whose profile adds no parameters and leaves none out have those of the table: rows, and so answers.
+pub fn plain_profile_has_the_table()
+    ensures { TheTableAlone }
+{}
+
+/// What SUPPORTED_PARAMETERS lists at devices that can be made is in the order of the PIDs, and none is there twice.
+pub fn supported_parameters_ascend()
+    ensures { SupportedAscend }
 {}
 
 /// A SET changes no value but those at the keys of its parameter, at the devices that it addresses.

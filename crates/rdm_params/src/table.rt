@@ -13,6 +13,7 @@
 //!   writes that field at the end of a job of that worker; `(clears FORM (RANGE))`, which clears the list of status
 //!   entries that wait.
 
+pub(crate) mod chosen;
 pub(crate) mod find;
 pub(crate) mod keep;
 pub(crate) mod list;

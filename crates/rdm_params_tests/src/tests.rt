@@ -9,6 +9,7 @@ use rdm_params::*;
 use std::alloc::Global;
 use std::process::Abort;
 
+mod added;
 mod changes;
 mod devices;
 mod panel;

@@ -34,18 +34,20 @@ pub record Grows (a b : outbox.Account) (jobs : List Job) (workers : List ℕ) :
   pub accepted : b.accepted ≡ a.accepted ++ jobs
   pub ended : b.ended ≡ a.ended ++ workers
   pub most : b.jobs ≡ a.jobs
+  pub first_job : b.first_job ≡ a.first_job
 
-stays : (a b : outbox.Account) → b.accepted ≡ a.accepted → b.ended ≡ a.ended → b.jobs ≡ a.jobs → Grows a b [] []
-stays a b e1 e2 e3 = record { accepted = e1 ∙ sym (append-nil a.accepted); ended = e2 ∙ sym (append-nil a.ended); most = e3 }
+stays : (a b : outbox.Account) → b.accepted ≡ a.accepted → b.ended ≡ a.ended → b.jobs ≡ a.jobs → b.first_job ≡ a.first_job → Grows a b [] []
+stays a b e1 e2 e3 e4 = record { accepted = e1 ∙ sym (append-nil a.accepted); ended = e2 ∙ sym (append-nil a.ended); most = e3; first_job = e4 }
 
 pub still : (a : outbox.Account) → Grows a a [] []
-still a = stays a a refl refl refl
+still a = stays a a refl refl refl refl
 
 pub and_then : (a b c : outbox.Account) (js ks : List Job) (ws vs : List ℕ) → Grows a b js ws → Grows b c ks vs → Grows a c (js ++ ks) (ws ++ vs)
 and_then a b c js ks ws vs one two = record {
   accepted = two.accepted ∙ ap (λ (l : List Job). l ++ ks) one.accepted ∙ append_assoc a.accepted js ks;
   ended = two.ended ∙ ap (λ (l : List ℕ). l ++ vs) one.ended ∙ append_assoc a.ended ws vs;
   most = two.most ∙ one.most;
+  first_job = two.first_job ∙ one.first_job;
 }
 
 -- ---- a request
@@ -55,23 +57,23 @@ either a b c true one other = one
 either a b c false one other = other
 
 reserves : (b : outbox.Account) (j : Job) (room : Bool) → Grows b (cond room (record b { accepted = b.accepted ++ j ∷ [] }) b) (option_to_list (result_ok (cond room (Ok j) (Err NoRoom)))) []
-reserves b j true = record { accepted = refl; ended = sym (append-nil b.ended); most = refl }
+reserves b j true = record { accepted = refl; ended = sym (append-nil b.ended); most = refl; first_job = refl }
 reserves b j false = still b
 
 shows_statuses : (b : outbox.Account) (ask : Ask) → Grows b (after_status_now b ask) [] []
-shows_statuses b ask = stays b (after_status_now b ask) refl refl refl
+shows_statuses b ask = stays b (after_status_now b ask) refl refl refl refl
 
 gives_next : (b : outbox.Account) (ask : Ask) → Grows b (after_next b ask) [] []
 gives_next b ask =
     let next : outbox.Account = record b { given = b.given + 1; answers = b.answers ++ next_of b ask ∷ [] } in
-    either b next (after_status_now b ask) (nat_lt b.given (length b.arrived)) (stays b next refl refl refl) (shows_statuses b ask)
+    either b next (after_status_now b ask) (nat_lt b.given (length b.arrived)) (stays b next refl refl refl refl) (shows_statuses b ask)
 
 carries_out : (b : outbox.Account) (v : Verdict) → Grows b (outbox_after b v) (option_to_list (started_by b v)) []
 carries_out b (verdict.Start work) = reserves b (next_job b work) (has_room b work)
 carries_out b (verdict.Queue ask) = either b b (after_next b ask) (is_last ask) (still b) (gives_next b ask)
 carries_out b (verdict.Status ask) = either b b (after_status_now b ask) (is_last ask) (still b) (shows_statuses b ask)
 carries_out b (verdict.Reply bytes) = still b
-carries_out b verdict.Clear = stays b (after_clear b) refl refl refl
+carries_out b verdict.Clear = stays b (after_clear b) refl refl refl refl
 carries_out b (verdict.Refuse nack) = still b
 
 requested : (a : Account) (q : Request) → Grows a.outbox (account_with a q).outbox (option_to_list (job_with a q)) []
@@ -83,12 +85,12 @@ requested a (Set f) = carries_out a.outbox (answer_to_set a.parameters f.sub f.p
 
 -- ---- a report
 
-notes : (b c : outbox.Account) (r? : Bool) → c.accepted ≡ b.accepted → c.ended ≡ b.ended → c.jobs ≡ b.jobs → Grows b (cond r? c b) [] []
-notes b c true e1 e2 e3 = stays b c e1 e2 e3
-notes b c false e1 e2 e3 = still b
+notes : (b c : outbox.Account) (r? : Bool) → c.accepted ≡ b.accepted → c.ended ≡ b.ended → c.jobs ≡ b.jobs → c.first_job ≡ b.first_job → Grows b (cond r? c b) [] []
+notes b c true e1 e2 e3 e4 = stays b c e1 e2 e3 e4
+notes b c false e1 e2 e3 e4 = still b
 
 pub noted_entry : (p : Parameters) (b : outbox.Account) (entry : StatusEntry) → Grows b (after_entry p b entry) [] []
-noted_entry p b entry = either b _ b _ (notes b _ (can_note b) refl refl refl) (still b)
+noted_entry p b entry = either b _ b _ (notes b _ (can_note b) refl refl refl refl) (still b)
 
 ends : (p : Parameters) (b : outbox.Account) (work : Work) (outcome : Outcome) → Grows b (after_outcome p b work outcome) [] []
 ends p b work Done = still b
@@ -96,13 +98,13 @@ ends p b work (Reading v) = still b
 ends p b work (Failed severity id v1 v2) = noted_entry p b _
 
 reported : (b : outbox.Account) (worker : ℕ) (m : Message) → Grows b (after_arrive b worker m) [] (worker ∷ [])
-reported b worker m = record { accepted = sym (append-nil b.accepted); ended = refl; most = refl }
+reported b worker m = record { accepted = sym (append-nil b.accepted); ended = refl; most = refl; first_job = refl }
 
 -- ---- a change at the device's menu
 
 posted : (b : outbox.Account) (message : Option Message) → Grows b (after_message b message) [] []
 posted b None = still b
-posted b (Some m) = stays b (after_post b m) refl refl refl
+posted b (Some m) = stays b (after_post b m) refl refl refl refl
 
 -- ---- an event of a history
 

@@ -21,7 +21,7 @@ use Rattle.rdm_params.proofs.TwoWorkers.{there_are_two_workers}
 use Rattle.rdm_outbox.specs.Account as outbox
 use Rattle.rdm_outbox.specs.Account.{Noted}
 use Rattle.rdm_outbox.specs.declared.job.Job.{Job}
-use Rattle.rdm_outbox.specs.Jobs.{jobs_of, ended_of, has_place, has_room, next_job, outstanding_of, waiting_of, after_arrive}
+use Rattle.rdm_outbox.specs.Jobs.{jobs_of, ended_of, given_to, has_place, has_room, next_job, outstanding_of, waiting_of, after_arrive}
 use Rattle.rdm_outbox.specs.Laws.{OnlyMarks}
 use Rattle.rdm_outbox.specs.Messages.{is_last, after_next}
 use Rattle.rdm_outbox.specs.Shows as outbox_shows
@@ -38,10 +38,7 @@ use Rattle.rdm_responder.specs.Requests.{Request, Ignored, Branch, Muting, Get, 
 use Rattle.rdm_responder.specs.Rules.{Account, account_of, account_before, account_after, account_with, after_message, after_entry, after_outcome, outbox_after}
 use Rattle.rdm_responder.proofs.Shown.{IsWithin, either, after_event, ended_one}
 
--- how many jobs a worker was given, and how many of them have ended
-abbrev given_to : ℕ → outbox.Account → ℕ
-given_to w b = length (jobs_of w b.accepted)
-
+-- how many of a worker's jobs have ended
 abbrev done_by : ℕ → outbox.Account → ℕ
 done_by w b = ended_of w b.ended
 
@@ -83,12 +80,12 @@ jobs_still w k n jobs b false e many below few = omega (arith, few)
 
 starts : (b : outbox.Account) (work : Work) (room : Bool) → has_room b work ≡ room → IsWithin b → Fits b → Fits (cond room (record b { accepted = b.accepted ++ next_job b work ∷ [] }) b)
 starts b work true e is fits =
-    let parts = and_parts (has_place b) (nat_lt (next_job b work).number b.jobs) e in
+    let parts = and_parts (has_place b) (nat_lt (given_to (worker_of work) b) b.jobs) e in
     let j : Job = next_job b work in
     record {
       most = fits.most;
       room = omega (arith, has_a_place b is parts.0, one_more 0 b.accepted j, one_more 1 b.accepted j, either_worker (worker_of work) (there_are_two_workers work));
-      jobs = λ w. omega (arith, one_more w b.accepted j, jobs_still w (worker_of work) (next_job b work).number b.jobs b (worker_of work == w) refl refl (ltb-true (next_job b work).number b.jobs parts.1) (fits.jobs w));
+      jobs = λ w. omega (arith, one_more w b.accepted j, jobs_still w (worker_of work) (given_to (worker_of work) b) b.jobs b (worker_of work == w) refl refl (ltb-true (given_to (worker_of work) b) b.jobs parts.1) (fits.jobs w));
       unshown = fits.unshown;
     }
 starts b work false e is fits = fits

@@ -6,13 +6,14 @@ use Rattle.rdm_params.specs.declared.jobs.status.Entry.{Entry as StatusEntry}
 use Rattle.rdm_device.specs.declared.profile.Profile.{Profile}
 use Rattle.rdm_responder.specs.declared.report.Report.{Report}
 
--- What a responder is set up with: its UID, what it is, how many results of slow commands it has room for, and how many
--- status entries can wait to be shown.
+-- What a responder is set up with: its UID, what it is, how many results of slow commands it has room for, how many status
+-- entries can wait to be shown, and the number of each worker's first job.
 pub record Setup : Type 0 where
   pub uid : Uid
   pub profile : Profile
   pub queue_size : ℕ
   pub entries : ℕ
+  pub first_job : ℕ
 
 -- Something that happens: bytes are heard on the bus, the report of a job arrives, a person changes something at the
 -- fixture's own menu, the firmware places a value, of a sub-device and a PID, it has a status entry to tell, or it restores

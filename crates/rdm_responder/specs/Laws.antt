@@ -2,7 +2,7 @@
 use Rattle.std.specs.Prelude.{◌≡◌, ◌≤◌, length}
 use Rattle.rdm_params.specs.Commands.Saving.{powered_on}
 use Rattle.rdm_params.specs.Device.Parameters.{Parameters}
-use Rattle.rdm_saved.specs.Laws.{IsWhole, AreWhole, AreOfOneMake, taken}
+use Rattle.rdm_saved.specs.Laws.{IsWhole, AreTexts, AreWhole, AreOfOneMake, taken}
 use Rattle.rdm_saved.specs.SavedText.{saved_text}
 use Rattle.rdm_outbox.specs.Account as outbox
 use Rattle.rdm_outbox.specs.Jobs.{jobs_of, ended_of}
@@ -45,7 +45,7 @@ values_of h = (account_of h).parameters
 -- power cycle, and the others stay.
 abbrev pub SavedValuesAreRestored : Type 0
 SavedValuesAreRestored =
-    (saves restores : History) → IsWhole (values_of saves).root → AreWhole (values_of saves).subs
+    (saves restores : History) → IsWhole (values_of saves).root → AreTexts (values_of saves).added → AreWhole (values_of saves).subs
     → AreOfOneMake (values_of restores) (values_of saves)
     → MayRestore (account_of restores) (saved_text (values_of saves))
     × (values_of (then_event restores (Restored (saved_text (values_of saves)))) ≡ powered_on (taken (values_of restores) (values_of saves)))

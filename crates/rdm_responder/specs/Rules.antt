@@ -206,12 +206,12 @@ account_after a (Placed sub pid bytes) = record a { parameters = after_place a.p
 account_after a (Noted entry) = record a { outbox = after_entry a.parameters a.outbox entry }
 account_after a (Restored image) = record a { parameters = powered_on (restored a.parameters image) }
 
--- how many jobs a worker can be given: their numbers have 32 bits
+-- how many jobs a worker can be given: their numbers have 32 bits, so that no two are alike
 abbrev pub most_jobs : ℕ
 most_jobs = 4294967295
 
 abbrev pub account_before : Setup → Account
-account_before setup = record { setup = setup; parameters = parameters_of setup.profile; mutings = []; outbox = outbox.account_before setup.queue_size most_jobs setup.entries }
+account_before setup = record { setup = setup; parameters = parameters_of setup.profile; mutings = []; outbox = outbox.account_before setup.queue_size most_jobs setup.entries setup.first_job }
 
 unfoldable pub account_of : History → Account
 account_of h = fold account_after (account_before h.setup) h.events

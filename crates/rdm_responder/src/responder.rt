@@ -8,6 +8,8 @@ ghost use Rattle.rdm_outbox.specs.Shows.{Shows as OutboxShows};
 ghost use Rattle.rdm_outbox.specs.State.{IsListSize, jobs_at, most_entries};
 ghost use Rattle.rdm_frame.specs.Reading.{frame_in};
 ghost use Rattle.rdm_params.specs.Commands.Changed.{change_of};
+ghost use Rattle.rdm_device.specs.declared.profile.Profile.{Profile};
+ghost use Rattle.rdm_device.specs.Device.Parameters.{parameters_of};
 ghost use Rattle.rdm_params.specs.Device.Profiles.{CanBeMade};
 ghost use Rattle.rdm_params.specs.Jobs.Outcome.{fits};
 ghost use Rattle.rdm_params.specs.Jobs.Work.{worker_of};
@@ -33,7 +35,7 @@ use std::alloc::Global;
 use std::marker::Model;
 use thiserror::Error;
 
-/// How many jobs each worker can be given: their numbers have 32 bits.
+/// How many jobs each worker can be given: their numbers have 32 bits, so that no two are alike.
 const MOST_JOBS: u32 = u32::MAX;
 
 /// Why a responder can't be made, tested from the last to the first.
@@ -80,7 +82,7 @@ impl Responder {
     /// that breaks a rule or has too many sub-devices, and last comes out of memory.
     pub fn new(alloc: Global, uid: Uid, profile: Profile, queue_size: u16) -> Result<Self, NewError>
         ensures stands { IfOk result (λ r.
-            StandsFor r (empty_history (record { uid = uid; profile = profile; queue_size = queue_size; entries = most_entries }))) }
+            StandsFor r (empty_history (record { uid = uid; profile = profile; queue_size = queue_size; entries = most_entries; first_job = 0 }))) }
         ensures bad_uid { IsErrOf result NewError.BadUid ↔ (uid.device ≡ 0xFFFFFFFF) }
         ensures bad_size { IsErrOf result NewError.BadSize ↔ ((uid.device ≢ 0xFFFFFFFF) × ¬ IsQueueSize queue_size) }
         ensures bad_profile { IsErrOf result NewError.BadProfile
@@ -103,18 +105,41 @@ impl Responder {
         entries: u16,
     ) -> Result<Self, NewError>
         ensures stands { IfOk result (λ r.
-            StandsFor r (empty_history (record { uid = uid; profile = profile; queue_size = queue_size; entries = entries }))) }
+            StandsFor r (empty_history (record { uid = uid; profile = profile; queue_size = queue_size; entries = entries; first_job = 0 }))) }
         ensures bad_uid { IsErrOf result NewError.BadUid ↔ (uid.device ≡ 0xFFFFFFFF) }
         ensures bad_size { IsErrOf result NewError.BadSize
             ↔ ((uid.device ≢ 0xFFFFFFFF) × ¬ (IsQueueSize queue_size × IsListSize entries)) }
         ensures bad_profile { IsErrOf result NewError.BadProfile
             ↔ ((uid.device ≢ 0xFFFFFFFF) × (IsQueueSize queue_size × IsListSize entries) × ¬ CanBeMade profile) }
     {
-        if uid.is_broadcast() {
-            return Err(NewError::BadUid);
-        }
-        if queue_size == 0 || queue_size > MOST_WAITING || entries == 0 || entries > MOST_ENTRIES {
-            return Err(NewError::BadSize);
+        Responder::new_numbered(alloc, uid, profile, queue_size, entries, 0)
+    }
+
+    /// A responder as of `with_entries`, in which the first job of each worker has the number `first_job`, and each later one
+    /// the next; after 4,294,967,295 comes 0. A report is known by its job: if the first number is greater than that of each
+    /// job of the responder before, each report of such a job is astray. Those of `new` and `with_entries` begin at 0.
+    ///
+    /// The order of the refusals is that of `with_entries`, and no number is refused.
+    // Inlined, as `with_entries`.
+    #[inline(always)]
+    pub fn new_numbered(
+        alloc: Global,
+        uid: Uid,
+        profile: Profile,
+        queue_size: u16,
+        entries: u16,
+        first_job: u32,
+    ) -> Result<Self, NewError>
+        ensures stands { IfOk result (λ r.
+            StandsFor r (empty_history (record { uid = uid; profile = profile; queue_size = queue_size; entries = entries; first_job = first_job }))) }
+        ensures bad_uid { IsErrOf result NewError.BadUid ↔ (uid.device ≡ 0xFFFFFFFF) }
+        ensures bad_size { IsErrOf result NewError.BadSize
+            ↔ ((uid.device ≢ 0xFFFFFFFF) × ¬ (IsQueueSize queue_size × IsListSize entries)) }
+        ensures bad_profile { IsErrOf result NewError.BadProfile
+            ↔ ((uid.device ≢ 0xFFFFFFFF) × (IsQueueSize queue_size × IsListSize entries) × ¬ CanBeMade profile) }
+    {
+        if let Some(refusal) = refusal_of(uid, queue_size, entries) {
+            return Err(refusal);
         }
         // Here, since a call that turned the error into this one would hand on a copy of the devices.
         let devices = match Devices::new(alloc, profile) {
@@ -124,7 +149,57 @@ impl Responder {
                 return Err(NewError::BadProfile);
             }
         };
-        let Ok(outbox) = Outbox::with_entries(alloc, queue_size, MOST_JOBS, entries) else {
+        Responder::with_devices(alloc, uid, devices, queue_size, entries, first_job)
+    }
+
+    /// A responder as of `new_numbered`, of a profile that has its place already: for a caller with little stack, since a profile
+    /// has 4,776 bytes.
+    pub fn new_boxed(
+        alloc: Global,
+        uid: Uid,
+        profile: Box<Profile>,
+        queue_size: u16,
+        entries: u16,
+        first_job: u32,
+    ) -> Result<Self, NewError>
+        ensures stands { IfOk result (λ r. StandsFor r (empty_history
+            (record { uid = uid; profile = profile.value; queue_size = queue_size; entries = entries; first_job = first_job }))) }
+        ensures bad_uid { IsErrOf result NewError.BadUid ↔ (uid.device ≡ 0xFFFFFFFF) }
+        ensures bad_size { IsErrOf result NewError.BadSize
+            ↔ ((uid.device ≢ 0xFFFFFFFF) × ¬ (IsQueueSize queue_size × IsListSize entries)) }
+        ensures bad_profile { IsErrOf result NewError.BadProfile
+            ↔ ((uid.device ≢ 0xFFFFFFFF) × (IsQueueSize queue_size × IsListSize entries) × ¬ CanBeMade profile.value) }
+    {
+        if let Some(refusal) = refusal_of(uid, queue_size, entries) {
+            return Err(refusal);
+        }
+        let devices = match Devices::new_boxed(alloc, profile) {
+            Ok(devices) => devices,
+            Err(rdm_params::NewError::OutOfMemory) => return Err(NewError::OutOfMemory),
+            Err(rdm_params::NewError::TooManySubs | rdm_params::NewError::BadProfile) => {
+                return Err(NewError::BadProfile);
+            }
+        };
+        Responder::with_devices(alloc, uid, devices, queue_size, entries, first_job)
+    }
+
+    /// A responder with these devices, to which nothing has happened, if there is memory for its lists.
+    // Inlined, as `with_entries`.
+    #[inline(always)]
+    fn with_devices(
+        alloc: Global,
+        uid: Uid,
+        devices: Devices,
+        queue_size: u16,
+        entries: u16,
+        first_job: u32,
+    ) -> Result<Self, NewError>
+        ensures stands { IfOk result (λ r. (profile : Profile) → devices ≡ parameters_of profile → StandsFor r (empty_history
+            (record { uid = uid; profile = profile; queue_size = queue_size; entries = entries; first_job = first_job }))) }
+        ensures err { IfErr result (λ e. e ≡ NewError.OutOfMemory) }
+    {
+        let Ok(outbox) = Outbox::new_numbered(alloc, queue_size, MOST_JOBS, entries, first_job)
+        else {
             return Err(NewError::OutOfMemory);
         };
         Ok(Responder {
@@ -285,4 +360,20 @@ fn note_failure(devices: &Devices, outbox: &mut Outbox, work: &Work, outcome: Ou
         }
         Outcome::Done | Outcome::Reading(_) => false,
     }
+}
+
+/// Why no responder has this UID and these sizes, if so.
+fn refusal_of(uid: Uid, queue_size: u16, entries: u16) -> Option<NewError>
+    ensures bad_uid { (result ≡ Some NewError.BadUid) ↔ (uid.device ≡ 0xFFFFFFFF) }
+    ensures bad_size { (result ≡ Some NewError.BadSize)
+        ↔ ((uid.device ≢ 0xFFFFFFFF) × ¬ (IsQueueSize queue_size × IsListSize entries)) }
+    ensures others { (result ≢ Some NewError.BadProfile) × (result ≢ Some NewError.OutOfMemory) }
+{
+    if uid.is_broadcast() {
+        return Some(NewError::BadUid);
+    }
+    if queue_size == 0 || queue_size > MOST_WAITING || entries == 0 || entries > MOST_ENTRIES {
+        return Some(NewError::BadSize);
+    }
+    None
 }

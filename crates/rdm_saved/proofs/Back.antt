@@ -1,14 +1,16 @@
 -- What is saved is restored.
-use Rattle.std.proofs.Common.{◌≡◌, ℕ, ◌+◌, ◌-◌, Bool, true, false, ◌==◌, List, [], ◌∷◌, ◌++◌, length, length-append, append_assoc, take, drop, replicate, refl, sym, ap, ◌∙◌, arith}
+use Rattle.std.proofs.Common.{◌≡◌, ℕ, ◌+◌, ◌-◌, ◌*◌, ◌≤◌, Bool, true, false, ◌==◌, List, [], ◌∷◌, ◌++◌, length, length-append, append_assoc, take, drop, replicate, refl, sym, ap, ◌∙◌, arith}
 use Rattle.std.specs.Prelude.{slice_index, flat_map, if◌then◌else◌}
 use Rattle.std.proofs.Math.Seq.{drop-append_seam, take-append_seam}
 use Rattle.std.proofs.lemmas.List.{take_at}
 use Rattle.rdm_device.specs.Device.Map.{Entry, entry}
 use Rattle.rdm_device.specs.Device.Parameters.{Parameters}
-use Rattle.rdm_saved.specs.SavedText.{is_of_the_moment, label_text, lasting, device_text, values_text, sum_text, saved_text}
-use Rattle.rdm_saved.specs.Restoring.{size, device_size, devices_size, restored_value, restored_device, restored_devices, restored, saved_len}
-use Rattle.rdm_saved.specs.Laws.{IsWhole, AreWhole, HaveSamePids, AllHaveSamePids, AreOfOneMake, taken_value, taken_device, taken_devices, taken}
+use Rattle.rdm_saved.specs.SavedText.{is_of_the_moment, label_text, lasting, device_text, added_text, profile_text, values_text, sum_text, saved_text}
+use Rattle.rdm_saved.specs.Restoring.{size, device_size, devices_size, restored_value, restored_device, restored_kept, restored_added, restored_devices, restored, added_size, profile_size, saved_len}
+use Rattle.rdm_saved.specs.Laws.{IsWhole, AreTexts, AreWhole, HaveSamePids, AllHaveSamePids, AreOfOneMake, taken_value, taken_device, taken_added, taken_devices, taken}
 use Rattle.rdm_saved.proofs.Lists.{drop_drop}
+use Rattle.rdm_saved.proofs.Profiles.{text_size as profile_text_size}
+use Rattle.rdm_saved.proofs.Whole.{label_size}
 
 -- what lasts, by the three tests of the PID
 abbrev lasted : Bool → Bool → Bool → List ℕ → List ℕ
@@ -66,26 +68,59 @@ sizes_back [] (s ∷ ss) same whole = absurd same
 sizes_back (d ∷ ds) [] same whole = absurd same
 sizes_back (d ∷ ds) (s ∷ ss) same whole = omega (arith, size_back d s same.0 whole.0, sizes_back ds ss same.1 whole.1, length-append (device_text s) (flat_map device_text ss))
 
+added_sizes : (es ss : List Entry) → HaveSamePids es ss → AreTexts ss → added_size es ≡ length (added_text ss)
+added_sizes [] [] same short = refl
+added_sizes [] (s ∷ ss) same short = absurd same
+added_sizes (e ∷ es) [] same short = absurd same
+added_sizes (e ∷ es) (s ∷ ss) same short =
+    omega (arith, label_size s.bytes short.0, added_sizes es ss same.1 short.1, length-append (label_text s.bytes) (added_text ss))
+
+kept_back : (e s : Entry) → restored_kept e (label_text s.bytes) ≡ entry e.pid e.index s.bytes
+kept_back e s = ap (entry e.pid e.index) (take-append_seam s.bytes (replicate (32 - length s.bytes) 0))
+
+both_same : {x y : Entry} {xs ys : List Entry} → x ≡ y → xs ≡ ys → x ∷ xs ≡ y ∷ ys
+both_same p q = rw (p, q) refl
+
+added_back : (es ss : List Entry) (rest : List ℕ) → HaveSamePids es ss → AreTexts ss → restored_added es (added_text ss ++ rest) ≡ taken_added es ss
+added_back [] [] rest same short = refl
+added_back [] (s ∷ ss) rest same short = absurd same
+added_back (e ∷ es) [] rest same short = absurd same
+added_back (e ∷ es) (s ∷ ss) rest same short =
+    let text : List ℕ = label_text s.bytes in
+    let size : length text ≡ 33 = label_size s.bytes short.0 in
+    let bytes : added_text (s ∷ ss) ++ rest ≡ text ++ (added_text ss ++ rest) = append_assoc text (added_text ss) rest in
+    ap (restored_added (e ∷ es)) bytes
+    ∙ both_same (ap (restored_kept e) (take_at text (added_text ss ++ rest) 33 size) ∙ kept_back e s) (ap (restored_added es) (drop_at text (added_text ss ++ rest) 33 size) ∙ added_back es ss rest same.1 short.1)
+
 -- how many bytes the image has
-pub length_back : (now saved : Parameters) → IsWhole saved.root → AreWhole saved.subs → AreOfOneMake now saved → length (saved_text saved) ≡ saved_len now
+pub length_back : (now saved : Parameters) → IsWhole saved.root → AreTexts saved.added → AreWhole saved.subs → AreOfOneMake now saved → length (saved_text saved) ≡ saved_len now
 unfolding saved_text
-length_back now saved root subs make =
-    omega (arith, size_back now.root saved.root make.root root, sizes_back now.subs saved.subs make.subs subs, length-append (values_text saved) (sum_text (values_text saved)), length-append (device_text saved.root) (flat_map device_text saved.subs))
+length_back now saved root added subs make =
+    let profile : length (profile_text saved.profile) ≡ profile_size now.profile = profile_text_size saved.profile ∙ ap profile_size (sym make.profile) in
+    omega (arith, profile, size_back now.root saved.root make.root root, added_sizes now.added saved.added make.added added, sizes_back now.subs saved.subs make.subs subs, length-append (values_text saved) (sum_text (values_text saved)), length-append ((profile_text saved.profile ++ device_text saved.root) ++ added_text saved.added) (flat_map device_text saved.subs), length-append (profile_text saved.profile ++ device_text saved.root) (added_text saved.added), length-append (profile_text saved.profile) (device_text saved.root))
 
-regroup : (a b c : List ℕ) → (a ++ b) ++ c ≡ a ++ (b ++ c)
-regroup a b c = append_assoc a b c
+pub regroup : (a b c d e : List ℕ) → (((a ++ b) ++ c) ++ d) ++ e ≡ a ++ (b ++ (c ++ (d ++ e)))
+regroup a b c d e = simp append_assoc
 
-abbrev with_devices : Parameters → List Entry → List (List Entry) → Parameters
-with_devices p root subs = record p { root = root; subs = subs }
+abbrev with_devices : Parameters → List Entry → List Entry → List (List Entry) → Parameters
+with_devices p root added subs = record p { root = root; added = added; subs = subs }
 
-devices_same : (p : Parameters) {a b : List Entry} {xs ys : List (List Entry)} → a ≡ b → xs ≡ ys → with_devices p a xs ≡ with_devices p b ys
-devices_same p e f = rw (e, f) refl
+devices_same : (p : Parameters) {a b c d : List Entry} {xs ys : List (List Entry)} → a ≡ b → c ≡ d → xs ≡ ys → with_devices p a c xs ≡ with_devices p b d ys
+devices_same p e f g = rw (e, f, g) refl
 
 -- the values that are restored
-pub values_back : (now saved : Parameters) → IsWhole saved.root → AreWhole saved.subs → AreOfOneMake now saved → restored now (saved_text saved) ≡ taken now saved
+pub values_back : (now saved : Parameters) → IsWhole saved.root → AreTexts saved.added → AreWhole saved.subs → AreOfOneMake now saved → restored now (saved_text saved) ≡ taken now saved
 unfolding saved_text restored
-values_back now saved root subs make =
+values_back now saved root added subs make =
     let sum : List ℕ = sum_text (values_text saved) in
-    let behind : drop 17 (saved_text saved) ≡ device_text saved.root ++ (flat_map device_text saved.subs ++ sum) = regroup (device_text saved.root) (flat_map device_text saved.subs) sum in
-    let after : drop (17 + device_size now.root) (saved_text saved) ≡ flat_map device_text saved.subs ++ sum = sym (drop_drop 17 (device_size now.root) (saved_text saved)) ∙ ap (drop (device_size now.root)) behind ∙ drop_at (device_text saved.root) (flat_map device_text saved.subs ++ sum) (device_size now.root) (sym (size_back now.root saved.root make.root root)) in
-    devices_same now (ap (restored_device now.root) behind ∙ device_back now.root saved.root (flat_map device_text saved.subs ++ sum) make.root root) (ap (restored_devices now.subs) after ∙ devices_back now.subs saved.subs sum make.subs subs)
+    let m : ℕ = profile_size now.profile in
+    let n : ℕ = device_size now.root in
+    let k : ℕ = added_size now.added in
+    let end : List ℕ = flat_map device_text saved.subs ++ sum in
+    let profile : length (profile_text saved.profile) ≡ m = profile_text_size saved.profile ∙ ap profile_size (sym make.profile) in
+    let behind : drop m (saved_text saved) ≡ device_text saved.root ++ (added_text saved.added ++ end) = ap (drop m) (regroup (profile_text saved.profile) (device_text saved.root) (added_text saved.added) (flat_map device_text saved.subs) sum) ∙ drop_at (profile_text saved.profile) (device_text saved.root ++ (added_text saved.added ++ end)) m profile in
+    let after : drop (m + n) (saved_text saved) ≡ added_text saved.added ++ end = sym (drop_drop m n (saved_text saved)) ∙ ap (drop n) behind ∙ drop_at (device_text saved.root) (added_text saved.added ++ end) n (sym (size_back now.root saved.root make.root root)) in
+    let last : drop (m + n + k) (saved_text saved) ≡ end = sym (drop_drop (m + n) k (saved_text saved)) ∙ ap (drop k) after ∙ drop_at (added_text saved.added) end k (sym (added_sizes now.added saved.added make.added added)) in
+    devices_same now (ap (restored_device now.root) behind ∙ device_back now.root saved.root (added_text saved.added ++ end) make.root root)
+    (ap (restored_added now.added) after ∙ added_back now.added saved.added end make.added added)
+    (ap (restored_devices now.subs) last ∙ devices_back now.subs saved.subs sum make.subs subs)

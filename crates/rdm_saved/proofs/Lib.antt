@@ -1,4 +1,5 @@
 pub mod Sensors
+pub mod Profiles
 pub mod Sizes
 pub mod Parts
 pub mod Lists

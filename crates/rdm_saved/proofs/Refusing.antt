@@ -1,6 +1,6 @@
 -- Which images are refused.
 use Rattle.std.proofs.Common.{◌≡◌, ◌≢◌, ℕ, ◌+◌, ◌-◌, ◌%◌, ◌^◌, ◌<◌, ◌≤◌, Bool, true, false, ◌==◌, not, List, ◌++◌, length, length-append, take, drop, get_or, set, sum, Some, None, Option, refl, sym, ap, ◌∙◌, subst, arith, inl, inr}
-use Rattle.std.specs.Prelude.{if◌then◌else◌}
+use Rattle.std.specs.Prelude.{flat_map, if◌then◌else◌}
 use Rattle.std.specs.Str.{bytes_eq}
 use Rattle.std.specs.Int.{w32, from_be_bytes}
 use Rattle.std.proofs.lemmas.Bool.{cases_lt, cases_Bool, eq-eqb, ne_eqb, eqb-true}
@@ -12,10 +12,11 @@ use Rattle.std.proofs.lemmas.Slice.Eq.{bytes_eq-Decides}
 use Rattle.rdm_device.specs.Device.Parameters.{Parameters}
 use Rattle.rdm_saved.specs.declared.errors.RestoreError.{RestoreError}
 use Rattle.rdm_saved.specs.declared.errors.RestoreError.TheVariants.{Length, Altered, OfAnother}
-use Rattle.rdm_saved.specs.SavedText.{profile_text, values_text, sum_text, saved_text}
-use Rattle.rdm_saved.specs.Restoring.{saved_len, is_sound, restore_refusal}
-use Rattle.rdm_saved.specs.Laws.{IsWhole, AreWhole, AreOfOneMake}
-use Rattle.rdm_saved.proofs.Back.{length_back}
+use Rattle.rdm_saved.specs.SavedText.{device_text, added_text, profile_text, values_text, sum_text, saved_text}
+use Rattle.rdm_saved.specs.Restoring.{profile_size, saved_len, is_sound, restore_refusal}
+use Rattle.rdm_saved.specs.Laws.{IsWhole, AreTexts, AreWhole, AreOfOneMake}
+use Rattle.rdm_saved.proofs.Back.{length_back, regroup}
+use Rattle.rdm_saved.proofs.Profiles.{text_size}
 
 -- the first of three tests that fails
 abbrev first_of : Bool → Bool → Bool → Option RestoreError
@@ -37,7 +38,7 @@ all_pass true true false e = absurd (subst is_some e tt)
 all_pass true false c e = absurd (subst is_some e tt)
 all_pass false b c e = absurd (subst is_some e tt)
 
-accepted : (p : Parameters) (image : List ℕ) → restore_refusal p image ≡ None → AllPass (length image == saved_len p) (is_sound image) (bytes_eq (take 17 image) (profile_text p.profile))
+accepted : (p : Parameters) (image : List ℕ) → restore_refusal p image ≡ None → AllPass (length image == saved_len p) (is_sound image) (bytes_eq (take (profile_size p.profile) image) (profile_text p.profile))
 unfolding restore_refusal
 accepted p image e = all_pass _ _ _ e
 
@@ -50,11 +51,17 @@ sound_text values =
     let back : drop (length (values ++ sum_text values) - 4) (values ++ sum_text values) ≡ sum_text values = drop_at values (sum_text values) _ (sym k) in
     (bytes_eq-Decides _ _).1 (back ∙ ap sum_text (sym front))
 
-pub saved_accepted : (now saved : Parameters) → IsWhole saved.root → AreWhole saved.subs → AreOfOneMake now saved → restore_refusal now (saved_text saved) ≡ None
+pub saved_accepted : (now saved : Parameters) → IsWhole saved.root → AreTexts saved.added → AreWhole saved.subs → AreOfOneMake now saved → restore_refusal now (saved_text saved) ≡ None
 unfolding restore_refusal saved_text
-saved_accepted now saved root subs make =
-    let same : bytes_eq (take 17 (saved_text saved)) (profile_text now.profile) ≡ true = (bytes_eq-Decides _ _).1 (ap profile_text (sym make.profile)) in
-    rw (eq-eqb (length (saved_text saved)) (saved_len now) (length_back now saved root subs make), sound_text (values_text saved), same) refl
+saved_accepted now saved root added subs make =
+    let text : List ℕ = profile_text saved.profile in
+    let end : List ℕ = device_text saved.root ++ (added_text saved.added ++ (flat_map device_text saved.subs ++ sum_text (values_text saved))) in
+    let size : length text ≡ profile_size now.profile = text_size saved.profile ∙ ap profile_size (sym make.profile) in
+    let front : take (profile_size now.profile) (saved_text saved) ≡ text =
+    ap (take (profile_size now.profile)) (regroup text (device_text saved.root) (added_text saved.added) (flat_map device_text saved.subs) (sum_text (values_text saved)))
+    ∙ take_at text end (profile_size now.profile) size in
+    let same : bytes_eq (take (profile_size now.profile) (saved_text saved)) (profile_text now.profile) ≡ true = (bytes_eq-Decides _ _).1 (front ∙ ap profile_text (sym make.profile)) in
+    rw (eq-eqb (length (saved_text saved)) (saved_len now) (length_back now saved root added subs make), sound_text (values_text saved), same) refl
 
 -- ---- a cut
 

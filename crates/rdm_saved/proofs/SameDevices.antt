@@ -5,7 +5,7 @@ use Rattle.rdm_device.specs.declared.device.state.CommonValues.{CommonValues}
 use Rattle.rdm_device.specs.declared.device.state.RootValues.{RootValues}
 use Rattle.rdm_device.specs.declared.device.state.Measured.{Measured}
 use Rattle.rdm_device.specs.Device.Map.{Entry}
-use Rattle.rdm_device.specs.Views.State.{common_entries, own_entries, sensor_entries}
+use Rattle.rdm_device.specs.Views.State.{common_entries, own_entries, sensor_entries, added_entries}
 use Rattle.rdm_saved.specs.SavedText.{kept}
 use Rattle.rdm_saved.specs.Laws.{HaveSamePids, AllHaveSamePids, AreOfOneMake}
 
@@ -35,9 +35,10 @@ subs_same [] (d ∷ ds) e = absurd (omega (arith, e))
 subs_same (d ∷ ds) [] e = absurd (omega (arith, e))
 subs_same (d ∷ ds) (d' ∷ ds') e = (common_same d d', subs_same ds ds' (omega (arith, e)))
 
-pub one_make : (p : Profile) (d d' : CommonValues) (o o' : RootValues) (ds ds' : List CommonValues) → length o.sensors.items ≡ length o'.sensors.items → length ds ≡ length ds' → AreOfOneMake (kept p d o ds) (kept p d' o' ds')
-one_make p d d' o o' ds ds' sensors subs = record {
+pub one_make : (p : Profile) (d d' : CommonValues) (o o' : RootValues) (ds ds' : List CommonValues) → length o.sensors.items ≡ length o'.sensors.items → length ds ≡ length ds' → HaveSamePids (added_entries o.added.items) (added_entries o'.added.items) → AreOfOneMake (kept p d o ds) (kept p d' o' ds')
+one_make p d d' o o' ds ds' sensors subs added = record {
   profile = refl;
   root = same_append (common_entries d) (common_entries d') (own_entries o) (own_entries o') (common_same d d') (own_same o o' sensors);
+  added = added;
   subs = subs_same ds ds' subs;
 }

@@ -3,13 +3,14 @@ use Rattle.std.proofs.Common.{◌≡◌, ℕ, suc, ◌+◌, ◌-◌, ◌≤◌, 
 use Rattle.std.proofs.lemmas.List.{take_more, map-append, length-replicate}
 use Rattle.rdm_device.specs.declared.device.state.CommonValues.{CommonValues}
 use Rattle.rdm_device.specs.declared.device.state.RootValues.{RootValues}
+use Rattle.rdm_device.specs.declared.device.state.Kept.{Kept}
 use Rattle.rdm_device.specs.declared.device.state.Measured.{Measured}
 use Rattle.rdm_device.specs.Device.Map.{Entry}
-use Rattle.rdm_device.specs.Views.State.{common_entries, own_entries, sensor_entries}
+use Rattle.rdm_device.specs.Views.State.{common_entries, own_entries, sensor_entries, kept_entry, added_entries}
 use Rattle.rdm_saved.specs.SavedText.{label_text}
-use Rattle.rdm_saved.specs.Laws.{IsWhole, AreWhole}
+use Rattle.rdm_saved.specs.Laws.{IsWhole, AreTexts, AreWhole}
 
-label_size : (label : List ℕ) → length label ≤ 32 → length (label_text label) ≡ 33
+pub label_size : (label : List ℕ) → length label ≤ 32 → length (label_text label) ≡ 33
 label_size label short = omega (arith, short, length-append label (replicate (32 - length label) 0), length-replicate {A = ℕ} (32 - length label) 0)
 
 pub common_whole : (d : CommonValues) → length d.label ≤ 32 → IsWhole (common_entries d)
@@ -40,3 +41,12 @@ are_append (x ∷ xs) ys h g = (h.0, are_append xs ys h.1 g)
 pub whole_more : (ds : List CommonValues) (i : ℕ) (d : CommonValues) → i < length ds → AreWhole (map common_entries (take i ds)) → IsWhole (common_entries (get_or ds i d)) → AreWhole (map common_entries (take (i + 1) ds))
 whole_more ds i d lt so_far one =
     subst AreWhole (sym (ap (map common_entries) (take_more ds i d lt) ∙ map-append common_entries (take i ds) (get_or ds i d ∷ []))) (are_append (map common_entries (take i ds)) (common_entries (get_or ds i d) ∷ []) so_far (one, tt))
+
+texts_append : (xs ys : List Entry) → AreTexts xs → AreTexts ys → AreTexts (xs ++ ys)
+texts_append [] ys h g = g
+texts_append (x ∷ xs) ys h g = (h.0, texts_append xs ys h.1 g)
+
+-- one more value of a parameter that the maker adds
+pub texts_more : (ks : List Kept) (i : ℕ) (k : Kept) → i < length ks → AreTexts (added_entries (take i ks)) → length (get_or ks i k).bytes ≤ 32 → AreTexts (added_entries (take (i + 1) ks))
+texts_more ks i k lt so_far one =
+    subst AreTexts (sym (ap (map kept_entry) (take_more ks i k lt) ∙ map-append kept_entry (take i ks) (get_or ks i k ∷ []))) (texts_append (added_entries (take i ks)) (kept_entry (get_or ks i k) ∷ []) so_far (one, tt))

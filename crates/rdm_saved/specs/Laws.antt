@@ -1,11 +1,12 @@
 -- What holds of every image.
-use Rattle.std.specs.Prelude.{◌≡◌, ◌≢◌, ℕ, ◌<◌, ◌==◌, List, [], ◌∷◌, ◌++◌, length, take, drop, slice_index, slice_set, Some, None, if◌then◌else◌}
+use Rattle.std.specs.Prelude.{◌≡◌, ◌≢◌, ℕ, ◌<◌, ◌≤◌, ◌==◌, List, [], ◌∷◌, ◌++◌, length, take, drop, slice_index, slice_set, Some, None, if◌then◌else◌}
 use Rattle.rdm_saved.specs.declared.errors.RestoreError.TheVariants.{Length, Altered}
 use Rattle.rdm_device.specs.declared.profile.Profile.{Profile}
 use Rattle.rdm_device.specs.declared.device.state.CommonValues.{CommonValues}
 use Rattle.rdm_device.specs.declared.device.state.RootValues.{RootValues}
 use Rattle.rdm_device.specs.Device.Map.{Entry, entry}
 use Rattle.rdm_device.specs.Device.Parameters.{Parameters}
+use Rattle.rdm_device.specs.Views.State.{added_entries}
 use Rattle.rdm_saved.specs.SavedText.{is_of_the_moment, kept, lasting, saved_text}
 use Rattle.rdm_saved.specs.Restoring.{size, restored, restore_refusal}
 
@@ -17,6 +18,11 @@ IsWhole (e ∷ es) = (length (lasting e) ≡ size e.pid) × IsWhole es
 abbrev pub AreWhole : List (List Entry) → Type 0
 AreWhole [] = Unit {0}
 AreWhole (d ∷ ds) = IsWhole d × AreWhole ds
+
+-- No value of these has more than 32 bytes.
+abbrev pub AreTexts : List Entry → Type 0
+AreTexts [] = Unit {0}
+AreTexts (e ∷ es) = (length e.bytes ≤ 32) × AreTexts es
 
 -- Two devices have values of the same PIDs, in the same order.
 abbrev pub HaveSamePids : List Entry → List Entry → Type 0
@@ -31,10 +37,12 @@ AllHaveSamePids [] (s ∷ ss) = ⊥
 AllHaveSamePids (d ∷ ds) [] = ⊥
 AllHaveSamePids (d ∷ ds) (s ∷ ss) = HaveSamePids d s × AllHaveSamePids ds ss
 
--- Both are values of the same devices: of one profile, with as many sensors and sub-devices.
+-- Both are values of the same devices: of one profile, with as many sensors and sub-devices, and the same parameters that the maker
+-- adds.
 pub record AreOfOneMake (now saved : Parameters) : Type 0 where
   pub profile : now.profile ≡ saved.profile
   pub root : HaveSamePids now.root saved.root
+  pub added : HaveSamePids now.added saved.added
   pub subs : AllHaveSamePids now.subs saved.subs
 
 -- The value that is saved takes the place of that of now, but for the moment's, and those that a sensor has measured.
@@ -53,21 +61,32 @@ taken_devices [] saved = []
 taken_devices (d ∷ ds) [] = d ∷ ds
 taken_devices (d ∷ ds) (s ∷ ss) = taken_device d s ∷ taken_devices ds ss
 
+-- each value of a parameter that the maker adds is the saved one
+abbrev pub taken_added : List Entry → List Entry → List Entry
+taken_added [] saved = []
+taken_added (e ∷ es) [] = e ∷ es
+taken_added (e ∷ es) (s ∷ ss) = entry e.pid e.index s.bytes ∷ taken_added es ss
+
 -- the values of now, with those that last as they were saved
 abbrev pub taken : Parameters → Parameters → Parameters
-taken now saved = record now { root = taken_device now.root saved.root; subs = taken_devices now.subs saved.subs }
+taken now saved = record now {
+  root = taken_device now.root saved.root;
+  added = taken_added now.added saved.added;
+  subs = taken_devices now.subs saved.subs;
+}
 
--- So are values of one profile with as many sensors and sub-devices.
+-- So are values of one profile with as many sensors and sub-devices, and the same parameters that the maker adds.
 abbrev pub SameDevicesAreOfOneMake : Type 0
 SameDevicesAreOfOneMake =
     (p : Profile) (root root' : CommonValues) (own own' : RootValues) (subs subs' : List CommonValues)
     → length own.sensors.items ≡ length own'.sensors.items → length subs ≡ length subs'
+    → HaveSamePids (added_entries own.added.items) (added_entries own'.added.items)
     → AreOfOneMake (kept p root own subs) (kept p root' own' subs')
 
 -- What is saved is restored: on any values of the same devices.
 abbrev pub SavedIsRestored : Type 0
 SavedIsRestored =
-    (now saved : Parameters) → IsWhole saved.root → AreWhole saved.subs → AreOfOneMake now saved
+    (now saved : Parameters) → IsWhole saved.root → AreTexts saved.added → AreWhole saved.subs → AreOfOneMake now saved
     → (restore_refusal now (saved_text saved) ≡ None) × (restored now (saved_text saved) ≡ taken now saved)
 
 -- An image that is cut anywhere is refused.

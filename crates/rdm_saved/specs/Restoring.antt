@@ -1,8 +1,9 @@
 -- What values are restored from an image, and which images are refused.
-use Rattle.std.specs.Prelude.{ℕ, ◌+◌, ◌-◌, ◌==◌, Bool, List, [], ◌∷◌, ◌++◌, length, take, drop, slice_index, bytes_eq, not, Option, Some, None, if◌then◌else◌}
+use Rattle.std.specs.Prelude.{ℕ, ◌+◌, ◌-◌, ◌*◌, ◌==◌, Bool, List, [], ◌∷◌, ◌++◌, length, take, drop, slice_index, bytes_eq, not, Option, Some, None, if◌then◌else◌}
 use Rattle.std.specs.List.{list_any}
 use Rattle.rdm_saved.specs.declared.errors.RestoreError.{RestoreError}
 use Rattle.rdm_saved.specs.declared.errors.RestoreError.TheVariants.{Length, Altered, OfAnother}
+use Rattle.rdm_device.specs.declared.profile.Profile.{Profile}
 use Rattle.rdm_device.specs.Device.Map.{Entry, entry}
 use Rattle.rdm_device.specs.Device.Parameters.{Parameters}
 use Rattle.rdm_saved.specs.SavedText.{is_of_the_moment, profile_text, sum_text}
@@ -41,19 +42,32 @@ abbrev pub restored_devices : List (List Entry) → List ℕ → List (List Entr
 restored_devices [] bytes = []
 restored_devices (d ∷ ds) bytes = restored_device d bytes ∷ restored_devices ds (drop (device_size d) bytes)
 
--- the bytes that say the profile
-abbrev pub profile_size : ℕ
-profile_size = 17
+-- The value of a parameter that the maker adds after these 33 bytes are restored: the first tells how many of the others it has.
+abbrev pub restored_kept : Entry → List ℕ → Entry
+restored_kept e bytes = entry e.pid e.index (take (slice_index bytes 0) (drop 1 bytes))
+
+abbrev pub restored_added : List Entry → List ℕ → List Entry
+restored_added [] bytes = []
+restored_added (e ∷ es) bytes = restored_kept e (take 33 bytes) ∷ restored_added es (drop 33 bytes)
+
+-- how many bytes are saved of these
+abbrev pub added_size : List Entry → ℕ
+added_size es = 33 * length es
+
+-- how many bytes say the profile
+abbrev pub profile_size : Profile → ℕ
+profile_size p = 17 + 4 * length p.own + 2 * length p.without.items
 
 -- how many bytes the image of these values has
 abbrev pub saved_len : Parameters → ℕ
-saved_len p = profile_size + device_size p.root + devices_size p.subs + 4
+saved_len p = profile_size p.profile + device_size p.root + added_size p.added + devices_size p.subs + 4
 
 -- The values after an image of them is restored.
 unfoldable pub restored : Parameters → List ℕ → Parameters
 restored p image = record p {
-  root = restored_device p.root (drop profile_size image);
-  subs = restored_devices p.subs (drop (profile_size + device_size p.root) image);
+  root = restored_device p.root (drop (profile_size p.profile) image);
+  added = restored_added p.added (drop (profile_size p.profile + device_size p.root) image);
+  subs = restored_devices p.subs (drop (profile_size p.profile + device_size p.root + added_size p.added) image);
 }
 
 -- whether the last four bytes are the sum of the others
@@ -66,4 +80,4 @@ unfoldable pub restore_refusal : Parameters → List ℕ → Option RestoreError
 restore_refusal p image =
     if not (length image == saved_len p) then Some Length
     else if not (is_sound image) then Some Altered
-    else if not (bytes_eq (take profile_size image) (profile_text p.profile)) then Some OfAnother else None
+    else if not (bytes_eq (take (profile_size p.profile) image) (profile_text p.profile)) then Some OfAnother else None

@@ -2,12 +2,14 @@
 use Rattle.std.specs.Prelude.{ℕ, ◌-◌, ◌%◌, ◌^◌, ◌==◌, Bool, List, [], ◌∷◌, ◌++◌, length, drop, replicate, flat_map, map, sum, if◌then◌else◌}
 use Rattle.std.specs.List.{list_any}
 use Rattle.rdm_device.specs.declared.profile.Profile.{Profile}
+use Rattle.rdm_device.specs.declared.profile.own.ParameterDef.{ParameterDef}
 use Rattle.rdm_device.specs.declared.profile.Unit.{Unit as DeviceUnit}
+use Rattle.rdm_device.specs.Columns.Added.{data_type_of, size_of}
 use Rattle.rdm_device.specs.Device.Map.{Entry}
 use Rattle.rdm_device.specs.Device.Parameters.{Parameters}
 use Rattle.rdm_device.specs.declared.device.state.CommonValues.{CommonValues}
 use Rattle.rdm_device.specs.declared.device.state.RootValues.{RootValues}
-use Rattle.rdm_device.specs.Views.State.{common_entries, own_entries}
+use Rattle.rdm_device.specs.Views.State.{common_entries, own_entries, added_entries}
 use Rattle.rdm_device.specs.Device.Values.{word_slots, long_slots}
 
 -- The values of the moment, which power-off ends: LAMP_STATE, IDENTIFY_DEVICE, POWER_STATE, PERFORM_SELFTEST and
@@ -31,22 +33,34 @@ lasting e =
 abbrev pub device_text : List Entry → List ℕ
 device_text entries = flat_map lasting entries
 
+-- what is saved of the values of parameters that the maker adds: each as a label, whatever its data are
+abbrev pub added_text : List Entry → List ℕ
+added_text entries = flat_map (λ e. label_text e.bytes) entries
+
 -- the model, the software version and how many personalities there are
 abbrev pub unit_text : DeviceUnit → List ℕ
 unit_text u = word_slots u.model ++ long_slots u.software ++ length u.personalities.items ∷ []
 
--- What an image says of the profile, so that one of another profile is told: how many sub-devices and sensors there are,
--- and the two kinds of devices.
+-- how many sub-devices and sensors there are, and the two kinds of devices
+abbrev pub devices_text : Profile → List ℕ
+devices_text p = word_slots p.subs ++ length p.sensors.items ∷ unit_text p.root ++ unit_text p.sub
+
+-- a parameter that the maker adds: its PID, and which data it has
+abbrev pub own_text : ParameterDef → List ℕ
+own_text d = word_slots d.pid ++ data_type_of d.shape ∷ size_of d.shape ∷ []
+
+-- What an image says of the profile, so that one of another profile is told: its devices, the parameters that the maker adds,
+-- and the PIDs that are left out.
 abbrev pub profile_text : Profile → List ℕ
-profile_text p = word_slots p.subs ++ length p.sensors.items ∷ unit_text p.root ++ unit_text p.sub
+profile_text p = devices_text p ++ flat_map own_text p.own ++ flat_map word_slots p.without.items
 
 -- the sum of bytes, in four
 abbrev pub sum_text : List ℕ → List ℕ
 sum_text bytes = long_slots (sum bytes % 2 ^ 32)
 
--- the profile, the root, and the sub-devices in their order
+-- the profile, the root, the parameters that the maker adds to it, and the sub-devices in their order
 abbrev pub values_text : Parameters → List ℕ
-values_text p = profile_text p.profile ++ device_text p.root ++ flat_map device_text p.subs
+values_text p = profile_text p.profile ++ device_text p.root ++ added_text p.added ++ flat_map device_text p.subs
 
 -- The image of the values.
 unfoldable pub saved_text : Parameters → List ℕ
@@ -57,5 +71,6 @@ abbrev pub kept : Profile → CommonValues → RootValues → List CommonValues 
 kept profile root own subs = record {
   profile = profile;
   root = common_entries root ++ own_entries own;
+  added = added_entries own.added.items;
   subs = map common_entries subs;
 }

@@ -4,13 +4,14 @@ ghost use Rattle.std.specs.Prelude.{◌≡◌, ◌≤◌, ◌==◌, ◌+◌, ◌
 ghost use Rattle.std.specs.Result.{result_err};
 ghost use Rattle.rdm_saved.specs.declared.errors.SaveError.TheVariants.{Short};
 ghost use Rattle.rdm_saved.specs.SavedText.{kept, profile_text, saved_text, values_text};
-ghost use Rattle.rdm_saved.specs.Restoring.{saved_len, restored, restored_device, restored_devices, restore_refusal, is_sound};
-ghost use Rattle.rdm_saved.specs.Laws.{IsWhole, AreWhole};
-ghost use Rattle.rdm_device.specs.Views.State.{common_entries, own_entries};
+ghost use Rattle.rdm_saved.specs.Restoring.{saved_len, profile_size, restored, restored_device, restored_added, restored_devices, restore_refusal, is_sound};
+ghost use Rattle.rdm_saved.specs.Laws.{IsWhole, AreTexts, AreWhole};
+ghost use Rattle.rdm_device.specs.Views.State.{common_entries, own_entries, added_entries};
 
+use crate::profile_text::{profile_len, profile_text};
 use crate::restoring::{restore_common, restore_each, restore_own};
 use crate::saving::{
-    COMMON_BYTES, OWN_BYTES, PROFILE_BYTES, own_text, profile_text, save_common, save_each,
+    COMMON_BYTES, KEPT_BYTES, OWN_BYTES, own_text, save_added, save_common, save_each,
     save_sensors, sum_of,
 };
 use crate::{RestoreError, SaveError};
@@ -21,13 +22,10 @@ const SUM_BYTES: usize = 4;
 
 /// How many bytes `save_into` writes, or `usize::MAX` if they are more.
 #[tactic(auto, using(crate::proofs::Sizes::len_is))]
-pub fn saved_len(own: &RootValues, subs: &[CommonValues]) -> usize
-    ensures { (profile : Profile) → (root : CommonValues)
-        → result ≡ min (saved_len (kept profile root own.now subs.now)) usize.MAX }
+pub fn saved_len(profile: &Profile, own: &RootValues, subs: &[CommonValues]) -> usize
+    ensures { (root : CommonValues) → result ≡ min (saved_len (kept profile.now root own.now subs.now)) usize.MAX }
 {
-    COMMON_BYTES
-        .saturating_mul(subs.len())
-        .saturating_add(fixed_len(own))
+    image_len(profile, own, subs)
 }
 
 /// Writes the image of the values to the front of these bytes, and tells how many it has.
@@ -44,16 +42,16 @@ pub fn save_into(
     ensures written { IfOk result (λ n. (n ≡ saved_len (kept profile.now root.now own.now subs.now))
         × (image.new ≡ saved_text (kept profile.now root.now own.now subs.now) ++ drop n image.old)) }
     // Of its image the law of `saved_is_restored` speaks.
-    ensures whole { IfOk result (λ n. IsWhole (common_entries root.now ++ own_entries own.now) × AreWhole (map common_entries subs.now)) }
+    ensures whole { IfOk result (λ n. IsWhole (common_entries root.now ++ own_entries own.now) × AreTexts (added_entries own.now.added.items)
+        × AreWhole (map common_entries subs.now)) }
     ensures refused { result_err result
         ≡ (if nat_le (saved_len (kept profile.now root.now own.now subs.now)) (length image.old) then None else Some Short) }
     ensures same { OnErr result (image.new ≡ image.old) }
 {
-    let fixed = fixed_len(own);
-    if image.len() < fixed || subs.len() > (image.len() - fixed) / COMMON_BYTES {
+    let len = image_len(profile, own, subs);
+    if image.len() < len {
         return Err(SaveError::Short);
     }
-    let len = fixed + COMMON_BYTES * subs.len();
     let (front, _) = image.split_at_mut(len);
     write_image(profile, root, own, subs, front);
     Ok(len)
@@ -75,7 +73,7 @@ pub fn restore(
         ≡ restored (kept profile.now root.old own.old subs.old) image.now) }
     ensures same { OnErr result (kept profile.now root.new own.new subs.new ≡ kept profile.now root.old own.old subs.old) }
 {
-    if !is_length(own, subs, image.len()) {
+    if image.len() != image_len(profile, own, subs) {
         return Err(RestoreError::Length);
     }
     if !is_sound(image) {
@@ -84,7 +82,7 @@ pub fn restore(
     if !is_of(profile, image) {
         return Err(RestoreError::OfAnother);
     }
-    let (_, values) = image.split_at(PROFILE_BYTES);
+    let (_, values) = image.split_at(profile_len(profile));
     restore_parts(root, own, subs, values);
     Ok(())
 }
@@ -97,26 +95,36 @@ fn restore_parts(
     subs: &mut [CommonValues],
     bytes: &[u8],
 )
-    requires { length bytes.now ≡ 65 + 2 * length own.old.sensors.items + 46 * length subs.old }
+    requires { length bytes.now ≡ 65 + 2 * length own.old.sensors.items + 33 * length own.old.added.items + 46 * length subs.old }
     ensures root { common_entries root.new ++ own_entries own.new
         ≡ restored_device (common_entries root.old ++ own_entries own.old) bytes.now }
-    ensures subs { map common_entries subs.new
-        ≡ restored_devices (map common_entries subs.old) (drop (61 + 2 * length own.old.sensors.items) bytes.now) }
+    ensures added { added_entries own.new.added.items
+        ≡ restored_added (added_entries own.old.added.items) (drop (61 + 2 * length own.old.sensors.items) bytes.now) }
+    ensures subs { map common_entries subs.new ≡ restored_devices (map common_entries subs.old)
+        (drop (61 + 2 * length own.old.sensors.items + 33 * length own.old.added.items) bytes.now) }
 {
     let (common, rest) = bytes.split_at(COMMON_BYTES);
     let (beside, rest) = rest.split_at(OWN_BYTES + 2 * own.sensors.len());
+    let (added, rest) = rest.split_at(KEPT_BYTES * added_count(own));
     let (each, _) = rest.split_at(COMMON_BYTES * subs.len());
     restore_common(root, common);
-    restore_own(own, beside);
+    restore_own(own, beside, added);
     restore_each(subs, each);
+}
+
+/// How many parameters the maker added.
+fn added_count(own: &RootValues) -> usize
+    ensures { result ≡ length own.now.added.items }
+{
+    own.added.len()
 }
 
 /// Whether the bytes that say the profile say this one.
 fn is_of(profile: &Profile, image: &[u8]) -> bool
-    requires { 17 ≤ length image.now }
-    ensures { result ≡ bytes_eq (take 17 image.now) (profile_text profile.now) }
+    requires { profile_size profile.now ≤ length image.now }
+    ensures { result ≡ bytes_eq (take (profile_size profile.now) image.now) (profile_text profile.now) }
 {
-    let (front, _) = image.split_at(PROFILE_BYTES);
+    let (front, _) = image.split_at(profile_len(profile));
     front == profile_text(profile).as_slice()
 }
 
@@ -129,21 +137,15 @@ fn is_sound(image: &[u8]) -> bool
     sum == sum_of(values).to_be_bytes().as_slice()
 }
 
-/// Whether an image of such values has so many bytes.
-fn is_length(own: &RootValues, subs: &[CommonValues], len: usize) -> bool
-    ensures { result ≡ (len == 82 + 2 * length own.now.sensors.items + 46 * length subs.now) }
+/// How many bytes an image has, or `usize::MAX` if they are more.
+fn image_len(profile: &Profile, own: &RootValues, subs: &[CommonValues]) -> usize
+    ensures { result ≡ min (82 + 4 * length profile.now.own + 2 * length profile.now.without.items
+        + 2 * length own.now.sensors.items + 33 * length own.now.added.items + 46 * length subs.now) usize.MAX }
 {
-    let fixed = fixed_len(own);
-    len >= fixed
-        && subs.len() <= (len - fixed) / COMMON_BYTES
-        && len - fixed == COMMON_BYTES * subs.len()
-}
-
-/// How many bytes an image has without sub-devices.
-fn fixed_len(own: &RootValues) -> usize
-    ensures { result ≡ 82 + 2 * length own.now.sensors.items }
-{
-    PROFILE_BYTES + COMMON_BYTES + OWN_BYTES + 2 * own.sensors.len() + SUM_BYTES
+    let fixed = profile_len(profile) + COMMON_BYTES + OWN_BYTES + 2 * own.sensors.len() + SUM_BYTES;
+    fixed
+        .saturating_add(KEPT_BYTES.saturating_mul(own.added.len()))
+        .saturating_add(COMMON_BYTES.saturating_mul(subs.len()))
 }
 
 /// Writes an image.
@@ -155,9 +157,11 @@ fn write_image(
     subs: &[CommonValues],
     out: &mut [u8],
 )
-    requires { length out.old ≡ 82 + 2 * length own.now.sensors.items + 46 * length subs.now }
+    requires { length out.old ≡ 82 + 4 * length profile.now.own + 2 * length profile.now.without.items
+        + 2 * length own.now.sensors.items + 33 * length own.now.added.items + 46 * length subs.now }
     ensures text { out.new ≡ saved_text (kept profile.now root.now own.now subs.now) }
-    ensures whole { IsWhole (common_entries root.now ++ own_entries own.now) × AreWhole (map common_entries subs.now) }
+    ensures whole { IsWhole (common_entries root.now ++ own_entries own.now) × AreTexts (added_entries own.now.added.items)
+        × AreWhole (map common_entries subs.now) }
 {
     let (values, sum) = out.split_at_mut(out.len() - SUM_BYTES);
     write_values(profile, root, own, subs, values);
@@ -165,7 +169,7 @@ fn write_image(
 }
 
 /// Writes all but the sum.
-#[tactic(auto, using(crate::proofs::Whole::root_whole))]
+#[tactic(auto, using(crate::proofs::Whole::root_whole, crate::proofs::Profiles::text_size))]
 fn write_values(
     profile: &Profile,
     root: &CommonValues,
@@ -173,17 +177,21 @@ fn write_values(
     subs: &[CommonValues],
     out: &mut [u8],
 )
-    requires { length out.old ≡ 78 + 2 * length own.now.sensors.items + 46 * length subs.now }
+    requires { length out.old ≡ 78 + 4 * length profile.now.own + 2 * length profile.now.without.items
+        + 2 * length own.now.sensors.items + 33 * length own.now.added.items + 46 * length subs.now }
     ensures text { out.new ≡ values_text (kept profile.now root.now own.now subs.now) }
-    ensures whole { IsWhole (common_entries root.now ++ own_entries own.now) × AreWhole (map common_entries subs.now) }
+    ensures whole { IsWhole (common_entries root.now ++ own_entries own.now) × AreTexts (added_entries own.now.added.items)
+        × AreWhole (map common_entries subs.now) }
 {
-    let (front, rest) = out.split_at_mut(PROFILE_BYTES);
+    let (front, rest) = out.split_at_mut(profile_len(profile));
     let (common, rest) = rest.split_at_mut(COMMON_BYTES);
     let (beside, rest) = rest.split_at_mut(OWN_BYTES);
-    let (sensors, each) = rest.split_at_mut(2 * own.sensors.len());
-    front.copy_from_slice(&profile_text(profile));
+    let (sensors, rest) = rest.split_at_mut(2 * own.sensors.len());
+    let (added, each) = rest.split_at_mut(KEPT_BYTES * own.added.len());
+    front.copy_from_slice(profile_text(profile).as_slice());
     save_common(root, common);
     beside.copy_from_slice(&own_text(own));
     save_sensors(own.sensors.as_slice(), sensors);
+    save_added(own.added.as_slice(), added);
     save_each(subs, each);
 }

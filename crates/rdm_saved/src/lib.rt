@@ -7,6 +7,7 @@
 mod errors;
 mod kept;
 mod laws;
+mod profile_text;
 mod restoring;
 mod saving;
 

@@ -1,12 +1,12 @@
 //! From the bytes of an image to values.
 
 ghost use Rattle.std.specs.Prelude.{◌≡◌, ◌+◌, ◌*◌, [], ◌∷◌, length, take, drop, map};
-ghost use Rattle.rdm_device.specs.Views.State.{common_entries, own_entries, sensor_entries};
+ghost use Rattle.rdm_device.specs.Views.State.{common_entries, own_entries, sensor_entries, kept_entry, added_entries};
 ghost use Rattle.rdm_device.specs.Device.Values.{word_slots, long_slots, signed_slots};
-ghost use Rattle.rdm_saved.specs.Restoring.{restored_device, restored_devices};
+ghost use Rattle.rdm_saved.specs.Restoring.{restored_device, restored_kept, restored_added, restored_devices};
 
-use crate::saving::{COMMON_BYTES, LABEL_BYTES, OWN_BYTES};
-use rdm_device::{CommonValues, Measured, RootValues};
+use crate::saving::{COMMON_BYTES, KEPT_BYTES, LABEL_BYTES, OWN_BYTES};
+use rdm_device::{CommonValues, Kept, Measured, RootValues};
 use rdm_frame::Text;
 
 /// Restores what every device keeps.
@@ -77,9 +77,11 @@ pub(crate) fn restore_each(subs: &mut [CommonValues], bytes: &[u8])
 
 /// Restores what the root keeps beside it.
 #[tactic(auto, unfolding(rdm_device::specs::Views::State::own_entries))]
-pub(crate) fn restore_own(values: &mut RootValues, bytes: &[u8])
-    requires { length bytes.now ≡ 15 + 2 * length values.old.sensors.items }
-    ensures { own_entries values.new ≡ restored_device (own_entries values.old) bytes.now }
+pub(crate) fn restore_own(values: &mut RootValues, bytes: &[u8], added: &[u8])
+    requires own { length bytes.now ≡ 15 + 2 * length values.old.sensors.items }
+    requires added { length added.now ≡ 33 * length values.old.added.items }
+    ensures own { own_entries values.new ≡ restored_device (own_entries values.old) bytes.now }
+    ensures added { added_entries values.new.added.items ≡ restored_added (added_entries values.old.added.items) added.now }
 {
     let (numbers, sensors) = bytes.split_at(OWN_BYTES);
     let [
@@ -111,6 +113,29 @@ pub(crate) fn restore_own(values: &mut RootValues, bytes: &[u8])
     values.tilt_invert = *tilt;
     values.pan_tilt_swap = *swap;
     restore_sensors(values.sensors.as_mut_slice(), sensors);
+    restore_added(values.added.as_mut_slice(), added);
+}
+
+/// Restores the values of parameters that the maker adds.
+fn restore_added(values: &mut [Kept], bytes: &[u8])
+    requires { length bytes.now ≡ 33 * length values.old }
+    ensures { added_entries values.new ≡ restored_added (added_entries values.old) bytes.now }
+{
+    for i in 0..values.len() {
+        restore_kept(
+            &mut values[i],
+            &bytes[KEPT_BYTES * i..KEPT_BYTES * i + KEPT_BYTES],
+        );
+    }
+}
+
+/// Restores the value of one.
+fn restore_kept(kept: &mut Kept, bytes: &[u8])
+    requires { length bytes.now ≡ 33 }
+    ensures { kept_entry kept.new ≡ restored_kept (kept_entry kept.old) bytes.now }
+{
+    let (front, rest) = bytes.split_at(1);
+    kept.bytes = label_in(front[0], rest);
 }
 
 /// Restores the recorded values of sensors.

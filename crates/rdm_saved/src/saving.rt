@@ -1,12 +1,12 @@
 //! From values to the image of them.
 
 ghost use Rattle.std.specs.Prelude.{◌≡◌, ◌≤◌, ◌*◌, ◌-◌, ◌%◌, ◌^◌, ◌++◌, [], ◌∷◌, length, replicate, flat_map, map, sum};
-ghost use Rattle.rdm_device.specs.Views.State.{common_entries, own_entries, sensor_entries};
+ghost use Rattle.rdm_device.specs.Views.State.{common_entries, own_entries, sensor_entries, added_entries};
 ghost use Rattle.rdm_device.specs.Device.Values.{word_slots, long_slots, signed_slots};
-ghost use Rattle.rdm_saved.specs.SavedText.{device_text, profile_text, unit_text};
-ghost use Rattle.rdm_saved.specs.Laws.{IsWhole, AreWhole};
+ghost use Rattle.rdm_saved.specs.SavedText.{device_text, added_text, label_text};
+ghost use Rattle.rdm_saved.specs.Laws.{IsWhole, AreTexts, AreWhole};
 
-use rdm_device::{CommonValues, Measured, Profile, RootValues, Unit};
+use rdm_device::{CommonValues, Kept, Measured, RootValues};
 
 /// How many bytes are saved of what every device keeps.
 pub(crate) const COMMON_BYTES: usize = 46;
@@ -14,8 +14,8 @@ pub(crate) const COMMON_BYTES: usize = 46;
 /// How many bytes are saved of what the root keeps beside it, but for its sensors.
 pub(crate) const OWN_BYTES: usize = 15;
 
-/// How many bytes say the profile.
-pub(crate) const PROFILE_BYTES: usize = 17;
+/// How many bytes are saved of a parameter that the maker adds.
+pub(crate) const KEPT_BYTES: usize = 33;
 
 /// The most bytes of a label.
 pub(crate) const LABEL_BYTES: usize = 32;
@@ -85,6 +85,33 @@ pub(crate) fn save_each(subs: &[CommonValues], out: &mut [u8])
     }
 }
 
+/// Writes what is saved of parameters that the maker adds.
+#[tactic(auto, using(crate::proofs::Whole::texts_more))]
+pub(crate) fn save_added(values: &[Kept], out: &mut [u8])
+    requires { length out.old ≡ 33 * length values.now }
+    ensures text { out.new ≡ flat_map (λ kept. label_text kept.bytes) values.now }
+    ensures whole { AreTexts (added_entries values.now) }
+{
+    for i in 0..values.len() {
+        save_kept(
+            &values[i],
+            &mut out[KEPT_BYTES * i..KEPT_BYTES * i + KEPT_BYTES],
+        );
+    }
+}
+
+/// Writes what is saved of one.
+fn save_kept(kept: &Kept, out: &mut [u8])
+    requires { length out.old ≡ 33 }
+    ensures text { out.new ≡ label_text kept.now.bytes }
+    ensures short { length kept.now.bytes ≤ 32 }
+{
+    let bytes = kept.bytes.as_slice();
+    let (front, rest) = out.split_at_mut(1);
+    front.copy_from_slice(&[bytes.len() as u8]);
+    write_label(bytes, rest);
+}
+
 /// Writes what is saved of sensors.
 #[tactic(auto, using(crate::proofs::Sensors::sensors_text))]
 pub(crate) fn save_sensors(sensors: &[Measured], out: &mut [u8])
@@ -128,51 +155,6 @@ pub(crate) fn own_text(values: &RootValues) -> [u8; 15]
         values.pan_invert,
         values.tilt_invert,
         values.pan_tilt_swap,
-    ]
-}
-
-/// What an image says of the profile.
-pub(crate) fn profile_text(profile: &Profile) -> [u8; 17]
-    ensures { result ≡ profile_text profile.now }
-{
-    let subs = profile.subs.to_be_bytes();
-    let root = unit_text(&profile.root);
-    let sub = unit_text(&profile.sub);
-    [
-        subs[0],
-        subs[1],
-        profile.sensors.len() as u8,
-        root[0],
-        root[1],
-        root[2],
-        root[3],
-        root[4],
-        root[5],
-        root[6],
-        sub[0],
-        sub[1],
-        sub[2],
-        sub[3],
-        sub[4],
-        sub[5],
-        sub[6],
-    ]
-}
-
-/// The model, the software version and how many personalities there are.
-fn unit_text(unit: &Unit) -> [u8; 7]
-    ensures { result ≡ unit_text unit.now }
-{
-    let model = unit.model.to_be_bytes();
-    let software = unit.software.to_be_bytes();
-    [
-        model[0],
-        model[1],
-        software[0],
-        software[1],
-        software[2],
-        software[3],
-        unit.personalities.len() as u8,
     ]
 }
 

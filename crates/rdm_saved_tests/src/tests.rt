@@ -1,8 +1,10 @@
 //! What no clause says: that the definitions say what is meant. The images are worked out by hand.
 
-use rdm_device::{CommonValues, Profile, RootValues};
+use rdm_device::{CommonValues, OwnParameters, ParameterDef, Profile, RootValues, Shape};
 use rdm_frame::Text;
 use rdm_saved::{RestoreError, SaveError, restore, save_into};
+use std::alloc::Global;
+use std::process::Abort;
 
 /// The image of a demonstration fixture with one sub-device as it starts: what it is of, the root, the values of the root alone, two
 /// sensors, the sub-device, and 1655, the sum of all of them.
@@ -41,10 +43,10 @@ struct Fixture {
 }
 
 impl Fixture {
-    fn at_start(profile: Profile) -> Fixture {
+    fn at_start(rt: &impl Abort, alloc: Global, profile: Profile) -> Fixture {
         Fixture {
             root: CommonValues::at_start(&profile.root),
-            own: RootValues::at_start(&profile),
+            own: RootValues::at_start(alloc, &profile).expect(rt, "memory"),
             subs: [CommonValues::at_start(&profile.sub)],
             profile,
         }
@@ -79,8 +81,8 @@ impl Fixture {
 }
 
 /// A fixture in which every value is another than at the start.
-fn changed() -> Fixture {
-    let mut fixture = Fixture::at_start(Profile::demo(1));
+fn changed(rt: &impl Abort, alloc: Global) -> Fixture {
+    let mut fixture = Fixture::at_start(rt, alloc, Profile::demo(1));
     let root = &mut fixture.root;
     root.report_threshold = 4;
     root.label = Text::of(b"Left");
@@ -125,15 +127,20 @@ fn changed() -> Fixture {
 #[test]
 fn images_are_those_worked_out(rt: HostRuntime) {
     assert_eq!(rt;
-        Fixture::at_start(Profile::demo(1)).image().as_slice(),
+        Fixture::at_start(&rt, rt.alloc(), Profile::demo(1))
+            .image()
+            .as_slice(),
         AT_START.as_slice()
     );
-    assert_eq!(rt; changed().image().as_slice(), CHANGED.as_slice());
+    assert_eq!(rt;
+        changed(&rt, rt.alloc()).image().as_slice(),
+        CHANGED.as_slice()
+    );
 }
 
 #[test]
 fn an_image_stands_in_front(rt: HostRuntime) {
-    let fixture = changed();
+    let fixture = changed(&rt, rt.alloc());
     let mut longer = [0xEE; 140];
     assert_eq!(rt; fixture.save_into(&mut longer), Ok(132));
     let mut wanted = [0xEE; 140];
@@ -148,7 +155,7 @@ fn an_image_stands_in_front(rt: HostRuntime) {
 
 #[test]
 fn saved_values_are_restored(rt: HostRuntime) {
-    let mut fixture = Fixture::at_start(Profile::demo(1));
+    let mut fixture = Fixture::at_start(&rt, rt.alloc(), Profile::demo(1));
     assert_eq!(rt; fixture.restore(&CHANGED), Ok(()));
     assert_eq!(rt; fixture.image().as_slice(), CHANGED.as_slice());
     assert_eq!(rt; fixture.root.label.as_slice(), b"Left".as_slice());
@@ -164,7 +171,7 @@ fn saved_values_are_restored(rt: HostRuntime) {
 
 #[test]
 fn values_of_the_moment_stay(rt: HostRuntime) {
-    let mut fixture = changed();
+    let mut fixture = changed(&rt, rt.alloc());
     assert_eq!(rt; fixture.restore(&AT_START), Ok(()));
     assert_eq!(rt; fixture.image().as_slice(), AT_START.as_slice());
     assert_eq!(rt; fixture.root.lamp_state, 3);
@@ -182,7 +189,7 @@ fn values_of_the_moment_stay(rt: HostRuntime) {
 
 #[test]
 fn each_cut_and_each_altered_byte_is_refused(rt: HostRuntime) {
-    let mut fixture = Fixture::at_start(Profile::demo(1));
+    let mut fixture = Fixture::at_start(&rt, rt.alloc(), Profile::demo(1));
     for i in 0..CHANGED.len() {
         assert_eq!(rt;
             fixture.restore(&CHANGED[..i]),
@@ -215,9 +222,57 @@ fn images_of_other_profiles_are_refused(rt: HostRuntime) {
         profile.root.software = software;
         profile.sub.model = sub_model;
         profile.sub.software = sub_software;
-        let mut fixture = Fixture::at_start(profile);
+        let mut fixture = Fixture::at_start(&rt, rt.alloc(), profile);
         let before = fixture.image();
         assert_eq!(rt; fixture.restore(&CHANGED), Err(RestoreError::OfAnother));
         assert_eq!(rt; fixture.image().as_slice(), before.as_slice());
     }
+}
+
+/// A demonstration fixture with a parameter of its own, and without LAMP_STRIKES.
+fn with_own(rt: &impl Abort, alloc: Global, pid: u16) -> Fixture {
+    let mut profile = Profile::demo(1);
+    let mut def = ParameterDef::default();
+    def.pid = pid;
+    def.shape = Shape::Word;
+    def.high = 8000;
+    def.start = Text::of(&[0x15, 0xE0]);
+    let mut own = OwnParameters::none();
+    own.push(alloc, def).expect(rt, "memory");
+    profile.own = own;
+    assert!(rt; profile.without.try_push(0x0402).is_ok());
+    Fixture::at_start(rt, alloc, profile)
+}
+
+/// The image of that fixture as it starts is that of the demonstration, with the parameter and what is left out behind the profile, and the
+/// value behind the sensors. Its sum is 2044.
+fn own_at_start() -> [u8; 171] {
+    let mut image = [0; 171];
+    image[..17].copy_from_slice(&AT_START[..17]);
+    image[17..23].copy_from_slice(&[0x80, 0x01, 0x05, 0x02, 0x04, 0x02]);
+    image[23..88].copy_from_slice(&AT_START[17..82]);
+    image[88..91].copy_from_slice(&[2, 0x15, 0xE0]);
+    image[121..167].copy_from_slice(&AT_START[82..128]);
+    image[167..].copy_from_slice(&[0x00, 0x00, 0x07, 0xFC]);
+    image
+}
+
+#[test]
+fn own_values_are_saved_and_restored(rt: HostRuntime) {
+    let mut fixture = with_own(&rt, rt.alloc(), 0x8001);
+    let mut image = [0xEE; 171];
+    assert_eq!(rt; fixture.save_into(&mut image), Ok(171));
+    assert_eq!(rt; image.as_slice(), own_at_start().as_slice());
+    if let Some(kept) = fixture.own.added.first_mut() {
+        kept.bytes = Text::of(b"123");
+    }
+    assert_eq!(rt; fixture.restore(&image), Ok(()));
+    let kept = fixture.own.added.first();
+    assert_eq!(rt;
+        kept.map(|kept| (kept.pid, kept.bytes.as_slice())),
+        Some((0x8001, [0x15, 0xE0].as_slice()))
+    );
+    let mut other = with_own(&rt, rt.alloc(), 0x8002);
+    assert_eq!(rt; other.restore(&image), Err(RestoreError::OfAnother));
+    assert_eq!(rt; other.restore(&AT_START), Err(RestoreError::Length));
 }

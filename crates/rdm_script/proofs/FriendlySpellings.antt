@@ -1,14 +1,15 @@
 -- The words of a command that a friendly script may spell in another way are read exactly as what they spell.
 use Rattle.std.proofs.Common.{◌≡◌, ◌≢◌, ℕ, suc, ◌+◌, ◌-◌, ◌<◌, ◌≤◌, Bool, true, false, not, cond, eqb, leb, ltb, ◌&&◌, List, [], ◌∷◌, ◌++◌, length, get_or, take, Option, Some, None, ◌⊎◌, inl, inr, refl, sym, ap, subst, ◌∙◌, arith}
 use Rattle.std.specs.Prelude.{codes, find, slice_index}
-use Rattle.std.specs.Int.{w16, to_be_bytes}
+use Rattle.std.specs.Int.{w16, to_be_bytes, from_be_bytes}
 use Rattle.std.specs.List.{list_all}
-use Rattle.std.specs.Option.{option_or}
+use Rattle.std.specs.Option.{option_or, option_map}
 use Rattle.std.specs.Str.{bytes_eq}
 use Rattle.std.proofs.lemmas.Bool.{eqb-true, leb-true, le-leb, ltb-false}
 use Rattle.std.proofs.lemmas.Option.{same_Some, cond_some}
 use Rattle.std.proofs.lemmas.List.{take_more, take_all, take-append-le, length-append}
 use Rattle.std.proofs.lemmas.Slice.Eq.{bytes_eq-Decides}
+use Rattle.rdm_device.specs.declared.profile.own.ParameterDef.{ParameterDef}
 use Rattle.rdm_frame.specs.DigitReading.{byte_in, bytes_in, number_in}
 use Rattle.rdm_frame.proofs.NumberSpellings.{long, word_read, word_again}
 use Rattle.rdm_script.specs.declared.dialect.Spelling.{Spelling}
@@ -17,7 +18,7 @@ use Rattle.rdm_script.specs.Decimals.{number_up_to}
 use Rattle.rdm_params.specs.declared.kind.Kind.{Kind}
 use Rattle.rdm_params.specs.Table.Kinds.{name_of, kinds, kind_named}
 use Rattle.rdm_params.specs.Table.Names.{named_in, other_names, pid_named}
-use Rattle.rdm_script.specs.Grammar.{is_plain, sub_named, sub_in, pid_in, bytes_load_in, is_shown, is_quoted, between, quoted_in, load_in}
+use Rattle.rdm_script.specs.Grammar.{is_plain, sub_named, sub_in, own_named, pid_by_name, pid_in, bytes_load_in, is_shown, is_quoted, between, quoted_in, load_in}
 use Rattle.rdm_script.specs.Spelling.{SpellsCount, SpellsSub, SpellsPid, SpellsQuoted, SpellsLoad}
 use Rattle.rdm_script.proofs.DecimalSpellings.{number_read, number_again}
 use Rattle.rdm_script.proofs.WordSpellings.{chosen, guarded, not_true, differs, data_read, data_again}
@@ -137,21 +138,47 @@ no_name : (text : List ℕ) → length text ≡ 4 → pid_named text ≡ None
 unfolding pid_named
 no_name text four = rw (no_kind text four) (not_in other_names refl text four)
 
-pub pid_read : (spelling : Spelling) (text : List ℕ) (n : ℕ) → pid_in spelling text ≡ Some n → SpellsPid spelling text n
+pub pid_read : (spelling : Spelling) (own : List ParameterDef) (text : List ℕ) (n : ℕ) → pid_in spelling own text ≡ Some n → SpellsPid spelling own text n
 unfolding pid_in
-pid_read Strict text n e = word_read text n e
-pid_read Friendly text n e =
-    elim (first_or (number_in w16 text) (pid_named text) n e) [
+pid_read Strict own text n e = word_read text n e
+pid_read Friendly own text n e =
+    elim (first_or (number_in w16 text) (pid_by_name own text) n e) [
       | inl h ↦ inl (word_read text n h)
       | inr h ↦ inr h
     ]
 
-pub pid_again : (spelling : Spelling) (text : List ℕ) (n : ℕ) → SpellsPid spelling text n → pid_in spelling text ≡ Some n
+-- a double quote is no digit
+no_digits : (rest : List ℕ) → bytes_in (34 ∷ rest) ≡ None
+unfolding byte_in
+no_digits [] = refl
+no_digits (b ∷ bs) = refl
+
+none_if : (b : Bool) (o : Option ℕ) → o ≡ None → cond b o None ≡ None
+none_if true o h = h
+none_if false o h = refl
+
+quote_is_no_number : (text : List ℕ) → slice_index text 0 ≡ 34 → number_in w16 text ≡ None
+unfolding number_in
+quote_is_no_number [] h = refl
+quote_is_no_number (b ∷ rest) h =
+    none_if _ _ (ap (option_map (from_be_bytes w16)) (ap (λ (x : ℕ). bytes_in (x ∷ rest)) h ∙ no_digits rest))
+
+-- a name is no number, in double quotes or without them
+no_number_at : (own : List ParameterDef) (text : List ℕ) (n : ℕ) (b : Bool) → is_quoted text ≡ b → cond b (own_named own (between text)) (pid_named text) ≡ Some n → number_in w16 text ≡ None
+no_number_at own text n true q h =
+    let p = both (leb 2 (length text)) (eqb (slice_index text 0) 34 && eqb (slice_index text (length text - 1)) 34) q in
+    quote_is_no_number text (eqb-true _ _ (both (eqb (slice_index text 0) 34) (eqb (slice_index text (length text - 1)) 34) p.1).0)
+no_number_at own text n false q h = no_number text (λ four. let never : None ≡ Some n = sym (no_name text four) ∙ h in cc)
+
+name_is_no_number : (own : List ParameterDef) (text : List ℕ) (n : ℕ) → pid_by_name own text ≡ Some n → number_in w16 text ≡ None
+unfolding pid_by_name
+name_is_no_number own text n h = no_number_at own text n (is_quoted text) refl h
+
+pub pid_again : (spelling : Spelling) (own : List ParameterDef) (text : List ℕ) (n : ℕ) → SpellsPid spelling own text n → pid_in spelling own text ≡ Some n
 unfolding pid_in
-pid_again Strict text n s = word_again text n s
-pid_again Friendly text n (inl s) = rw (word_again text n s) refl
-pid_again Friendly text n (inr s) =
-    rw (no_number text (λ four. let never : None ≡ Some n = sym (no_name text four) ∙ s in cc)) s
+pid_again Strict own text n s = word_again text n s
+pid_again Friendly own text n (inl s) = rw (word_again text n s) refl
+pid_again Friendly own text n (inr s) = rw (name_is_no_number own text n s) s
 
 -- ---- data
 

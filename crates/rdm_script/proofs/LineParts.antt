@@ -9,7 +9,7 @@ use Rattle.std.proofs.lemmas.Slice.Eq.{bytes_eq-Decides}
 use Rattle.rdm_bus.specs.declared.fault.Fault.TheVariants as fault
 use Rattle.rdm_collector.specs.declared.command.Action.TheVariants.{Disc, Get, Set}
 use Rattle.rdm_crew.specs.declared.step.CrewStep.{CrewStep}
-use Rattle.rdm_script.specs.declared.dialect.Dialect.{Dialect}
+use Rattle.rdm_script.specs.Dialects.{Dialect}
 use Rattle.rdm_script.specs.declared.dialect.Spelling.{Spelling}
 use Rattle.rdm_script.specs.declared.grammar.line.Line.TheVariants.{Says, Faulty}
 use Rattle.rdm_script.specs.Decimals.{number_up_to}
@@ -128,7 +128,7 @@ pub record AreCommand (d : Dialect) (words : List (List ℕ)) : Type 0 where
   pub action : action_in (word words 0) ≢ None
   pub destination : destination_in d.device (word words 1) ≢ None
   pub sub : sub_in d.spelling (word words 2) ≢ None
-  pub pid : pid_in d.spelling (word words 3) ≢ None
+  pub pid : pid_in d.spelling d.own (word words 3) ≢ None
   pub load : load_in d.spelling (word words 4) ≢ None
   pub fault : AreFault (drop 5 words)
 
@@ -141,7 +141,7 @@ command_parts d words h =
     let a = then_is (action_in (word words 0)) _ (some_isnt _ _ c.1) in
     let u = then_is (destination_in d.device (word words 1)) _ a.2 in
     let s = then_is (sub_in d.spelling (word words 2)) _ u.2 in
-    let p = then_is (pid_in d.spelling (word words 3)) _ s.2 in
+    let p = then_is (pid_in d.spelling d.own (word words 3)) _ s.2 in
     let l = then_is (load_in d.spelling (word words 4)) _ p.2 in
     record {
       five = leb-true _ _ g.0;

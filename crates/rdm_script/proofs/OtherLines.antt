@@ -8,7 +8,7 @@ use Rattle.std.proofs.lemmas.Bool.Decides.{nat_tests}
 use Rattle.rdm_bus.specs.declared.fault.Fault.{Fault}
 use Rattle.rdm_crew.specs.declared.step.CrewStep.{CrewStep}
 use Rattle.rdm_crew.specs.declared.step.CrewStep.TheVariants.{Collect, Draw, Settle, Panel}
-use Rattle.rdm_script.specs.declared.dialect.Dialect.{Dialect}
+use Rattle.rdm_script.specs.Dialects.{Dialect}
 use Rattle.rdm_script.specs.declared.dialect.Spelling.{Spelling}
 use Rattle.rdm_script.specs.declared.script.ScriptSetup.{ScriptSetup}
 use Rattle.rdm_script.specs.declared.grammar.line.Line.{Line}

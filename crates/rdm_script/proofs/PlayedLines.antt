@@ -11,7 +11,7 @@ use Rattle.rdm_crew.specs.declared.step.CrewStep.TheVariants.{Settle}
 use Rattle.rdm_crew.specs.Stops.{IsStopAt, error_of}
 use Rattle.rdm_trace.specs.declared.line.Line.{Line as TraceLine}
 use Rattle.rdm_trace.specs.LineText.{lines_text}
-use Rattle.rdm_script.specs.declared.dialect.Dialect.{Dialect}
+use Rattle.rdm_script.specs.Dialects.{Dialect}
 use Rattle.rdm_script.specs.declared.grammar.line.Line.{Line}
 use Rattle.rdm_script.specs.declared.grammar.line.Line.TheVariants.{Skipped, Sets, Says, Finds, Faulty as FaultyLine}
 use Rattle.rdm_script.specs.declared.grammar.parsing.ScriptError.{ScriptError}

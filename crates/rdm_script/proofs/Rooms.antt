@@ -1,7 +1,7 @@
 -- There is room for the steps of each line of a text.
 use Rattle.std.proofs.Common.{◌≡◌, ℕ, ◌+◌, ◌*◌, ◌<◌, ◌≤◌, Bool, true, List, refl, arith}
 use Rattle.rdm_frame.specs.declared.uid.Uid.{Uid}
-use Rattle.rdm_script.specs.declared.dialect.Dialect.{Dialect}
+use Rattle.rdm_script.specs.Dialects.{Dialect}
 use Rattle.rdm_script.specs.declared.dialect.Spelling.{Spelling}
 use Rattle.rdm_script.specs.declared.dialect.Spelling.TheVariants.{Strict, Friendly}
 use Rattle.rdm_script.specs.declared.grammar.line.Line.TheVariants.{Finds}

@@ -20,9 +20,8 @@ use Rattle.rdm_crew.specs.Workers.{Answers}
 use Rattle.rdm_trace.specs.declared.line.Line.{Line}
 use Rattle.rdm_trace.specs.LineText.{lines_text}
 use Rattle.rdm_trace.specs.RunLines.{trace_lines}
-use Rattle.rdm_script.specs.declared.dialect.Dialect.{Dialect}
+use Rattle.rdm_script.specs.Dialects.{Dialect}
 use Rattle.rdm_script.specs.declared.dialect.Spelling.{Spelling}
-use Rattle.rdm_script.specs.Dialects.{dialect_of}
 use Rattle.rdm_script.specs.declared.playing.Unplayed.{Unplayed}
 use Rattle.rdm_script.specs.declared.playing.Unplayed.TheVariants as unplayed
 use Rattle.rdm_script.specs.declared.program.ProgramError.{ProgramError}
@@ -50,7 +49,11 @@ moved P s t w h = subst (P t.device) w.profile (subst (λ (d : Uid). P d s.profi
 
 -- what hangs on the dialect alone
 retold : (P : Dialect → Type 0) (s t : Scene) → IsWider s t → P (spoken_at s) → P (spoken_at t)
-retold P s t w h = subst (λ (k : Spelling). P (dialect_of t.device k)) w.spelling (subst (λ (d : Uid). P (dialect_of d s.spelling)) w.device h)
+retold P s t w h =
+    let own = s.profile.own in
+    let at_device = subst (λ (d : Uid). P (record { device = d; spelling = s.spelling; own = own })) w.device h in
+    let at_spelling = subst (λ (k : Spelling). P (record { device = t.device; spelling = k; own = own })) w.spelling at_device in
+    subst (λ (p : Profile). P (record { device = t.device; spelling = t.spelling; own = p.own })) w.profile at_spelling
 
 answers_wider : (f g : Job → Outcome → Type 0) → ((j : Job) (o : Outcome) → f j o → g j o) → (js : List Job) (rs : List Report) → Answers f js rs → Answers g js rs
 answers_wider f g wider js [] h = tt

@@ -2,14 +2,15 @@
 use Rattle.std.proofs.Common.{◌≡◌, ◌≢◌, ℕ, suc, ◌+◌, ◌<◌, ◌≤◌, Bool, List, [], ◌∷◌, ◌++◌, length, take, drop, None, inl, inr, refl, sym, subst, arith}
 use Rattle.std.specs.Prelude.{codes}
 use Rattle.rdm_frame.specs.declared.uid.Uid.{Uid}
-use Rattle.rdm_script.specs.declared.dialect.Dialect.{Dialect}
+use Rattle.rdm_device.specs.declared.profile.own.ParameterDef.{ParameterDef}
+use Rattle.rdm_script.specs.Dialects.{Dialect}
 use Rattle.rdm_script.specs.declared.dialect.Spelling.{Spelling}
 use Rattle.rdm_script.specs.declared.dialect.Spelling.TheVariants.{Strict, Friendly}
 use Rattle.rdm_frame.specs.DigitReading.{byte_in, number_in, uid_in}
 use Rattle.rdm_params.specs.Table.Kinds.{kind_named}
 use Rattle.rdm_script.specs.Decimals.{decimal_in, number_up_to}
 use Rattle.rdm_params.specs.Table.Names.{pid_named}
-use Rattle.rdm_script.specs.Grammar.{word, action_in, destination_in, sub_named, bytes_load_in, sub_in, pid_in, load_in, lost_in, raise_in}
+use Rattle.rdm_script.specs.Grammar.{word, action_in, destination_in, sub_named, bytes_load_in, sub_in, pid_by_name, pid_in, load_in, lost_in, raise_in}
 use Rattle.rdm_script.specs.WrongWords.{AreLine, AreFault, IsFirstWrong}
 use Rattle.rdm_script.proofs.LineParts.{some_isnt, IsAltered, AreAltered, AreCommand, no_altered, lost_isnt, fault_parts, no_fault, loss, raised, command_line, line_command}
 
@@ -133,10 +134,10 @@ unfolding sub_in sub_named number_in
 no_sub Strict = refl
 no_sub Friendly = rw (no_number 512) refl
 
-no_pid : (spelling : Spelling) → pid_in spelling [] ≡ None
-unfolding pid_in pid_named kind_named number_in
-no_pid Strict = refl
-no_pid Friendly = refl
+no_pid : (spelling : Spelling) (own : List ParameterDef) → pid_in spelling own [] ≡ None
+unfolding pid_in pid_by_name pid_named kind_named number_in
+no_pid Strict own = refl
+no_pid Friendly own = refl
 
 to_device : (device : Uid) → destination_in device (codes "dev") ≢ None
 unfolding destination_in
@@ -147,10 +148,10 @@ unfolding sub_in number_in byte_in
 sub_0 Strict = some_isnt (sub_in Strict (codes "0000")) _ refl
 sub_0 Friendly = some_isnt (sub_in Friendly (codes "0000")) _ refl
 
-pid_0 : (spelling : Spelling) → pid_in spelling (codes "0000") ≢ None
+pid_0 : (spelling : Spelling) (own : List ParameterDef) → pid_in spelling own (codes "0000") ≢ None
 unfolding pid_in number_in byte_in
-pid_0 Strict = some_isnt (pid_in Strict (codes "0000")) _ refl
-pid_0 Friendly = some_isnt (pid_in Friendly (codes "0000")) _ refl
+pid_0 Strict own = some_isnt (pid_in Strict own (codes "0000")) _ refl
+pid_0 Friendly own = some_isnt (pid_in Friendly own (codes "0000")) _ refl
 
 load_0 : (spelling : Spelling) → load_in spelling (codes "-") ≢ None
 unfolding load_in bytes_load_in
@@ -159,15 +160,15 @@ load_0 Friendly = some_isnt (load_in Friendly (codes "-")) _ refl
 
 -- any command that begins so
 begin_1 : (d : Dialect) (name : List ℕ) → action_in name ≢ None → AreCommand d (name ∷ codes "dev" ∷ codes "0000" ∷ codes "0000" ∷ codes "-" ∷ [])
-begin_1 d name a = record { five = omega arith; action = a; destination = to_device d.device; sub = sub_0 d.spelling; pid = pid_0 d.spelling; load = load_0 d.spelling; fault = no_fault }
+begin_1 d name a = record { five = omega arith; action = a; destination = to_device d.device; sub = sub_0 d.spelling; pid = pid_0 d.spelling d.own; load = load_0 d.spelling; fault = no_fault }
 
 begin_2 : (d : Dialect) (name destination : List ℕ) → action_in name ≢ None → destination_in d.device destination ≢ None → AreCommand d (name ∷ destination ∷ codes "0000" ∷ codes "0000" ∷ codes "-" ∷ [])
-begin_2 d name destination a u = record { five = omega arith; action = a; destination = u; sub = sub_0 d.spelling; pid = pid_0 d.spelling; load = load_0 d.spelling; fault = no_fault }
+begin_2 d name destination a u = record { five = omega arith; action = a; destination = u; sub = sub_0 d.spelling; pid = pid_0 d.spelling d.own; load = load_0 d.spelling; fault = no_fault }
 
 begin_3 : (d : Dialect) (name destination sub : List ℕ) → action_in name ≢ None → destination_in d.device destination ≢ None → sub_in d.spelling sub ≢ None → AreCommand d (name ∷ destination ∷ sub ∷ codes "0000" ∷ codes "-" ∷ [])
-begin_3 d name destination sub a u s = record { five = omega arith; action = a; destination = u; sub = s; pid = pid_0 d.spelling; load = load_0 d.spelling; fault = no_fault }
+begin_3 d name destination sub a u s = record { five = omega arith; action = a; destination = u; sub = s; pid = pid_0 d.spelling d.own; load = load_0 d.spelling; fault = no_fault }
 
-begin_4 : (d : Dialect) (name destination sub pid : List ℕ) → action_in name ≢ None → destination_in d.device destination ≢ None → sub_in d.spelling sub ≢ None → pid_in d.spelling pid ≢ None → AreCommand d (name ∷ destination ∷ sub ∷ pid ∷ codes "-" ∷ [])
+begin_4 : (d : Dialect) (name destination sub pid : List ℕ) → action_in name ≢ None → destination_in d.device destination ≢ None → sub_in d.spelling sub ≢ None → pid_in d.spelling d.own pid ≢ None → AreCommand d (name ∷ destination ∷ sub ∷ pid ∷ codes "-" ∷ [])
 begin_4 d name destination sub pid a u s p = record { five = omega arith; action = a; destination = u; sub = s; pid = p; load = load_0 d.spelling; fault = no_fault }
 
 pub wrong_destination : (d : Dialect) (begun : Bool) (words : List (List ℕ)) → action_in (word words 0) ≢ None → destination_in d.device (word words 1) ≡ None → IsFirstWrong (AreLine d begun) words 1
@@ -191,7 +192,7 @@ wrong_sub d begun (name ∷ w ∷ x ∷ words) a u s =
       wrong = inr (λ can. (line_command d begun name (w ∷ x ∷ can.0) a can.1).sub s);
     }
 
-pub wrong_pid : (d : Dialect) (begun : Bool) (words : List (List ℕ)) → action_in (word words 0) ≢ None → destination_in d.device (word words 1) ≢ None → sub_in d.spelling (word words 2) ≢ None → pid_in d.spelling (word words 3) ≡ None → IsFirstWrong (AreLine d begun) words 3
+pub wrong_pid : (d : Dialect) (begun : Bool) (words : List (List ℕ)) → action_in (word words 0) ≢ None → destination_in d.device (word words 1) ≢ None → sub_in d.spelling (word words 2) ≢ None → pid_in d.spelling d.own (word words 3) ≡ None → IsFirstWrong (AreLine d begun) words 3
 wrong_pid d begun [] a u s p = absurd (a refl)
 wrong_pid d begun (name ∷ []) a u s p = absurd (u (no_destination d.device))
 wrong_pid d begun (name ∷ w ∷ []) a u s p = absurd (s (no_sub d.spelling))
@@ -204,16 +205,16 @@ wrong_pid d begun (name ∷ w ∷ x ∷ y ∷ words) a u s p =
     }
 
 -- four words of a command, and the data are missing
-pub no_load : (d : Dialect) (begun : Bool) (words : List (List ℕ)) → length words ≤ 4 → action_in (word words 0) ≢ None → destination_in d.device (word words 1) ≢ None → sub_in d.spelling (word words 2) ≢ None → pid_in d.spelling (word words 3) ≢ None → IsFirstWrong (AreLine d begun) words 4
+pub no_load : (d : Dialect) (begun : Bool) (words : List (List ℕ)) → length words ≤ 4 → action_in (word words 0) ≢ None → destination_in d.device (word words 1) ≢ None → sub_in d.spelling (word words 2) ≢ None → pid_in d.spelling d.own (word words 3) ≢ None → IsFirstWrong (AreLine d begun) words 4
 no_load d begun [] few a u s p = absurd (a refl)
 no_load d begun (name ∷ []) few a u s p = absurd (u (no_destination d.device))
 no_load d begun (name ∷ w ∷ []) few a u s p = absurd (s (no_sub d.spelling))
-no_load d begun (name ∷ w ∷ x ∷ []) few a u s p = absurd (p (no_pid d.spelling))
+no_load d begun (name ∷ w ∷ x ∷ []) few a u s p = absurd (p (no_pid d.spelling d.own))
 no_load d begun (name ∷ w ∷ x ∷ y ∷ []) few a u s p =
     record { front = (codes "-" ∷ [], command_line d begun name _ (begin_4 d name w x y a u s p)); wrong = inl refl }
 no_load d begun (name ∷ w ∷ x ∷ y ∷ z ∷ words) few a u s p = absurd (omega (arith, few))
 
-load_behind : (d : Dialect) (begun : Bool) (name w x y z : List ℕ) (words : List (List ℕ)) → action_in name ≢ None → destination_in d.device w ≢ None → sub_in d.spelling x ≢ None → pid_in d.spelling y ≢ None → load_in d.spelling z ≡ None
+load_behind : (d : Dialect) (begun : Bool) (name w x y z : List ℕ) (words : List (List ℕ)) → action_in name ≢ None → destination_in d.device w ≢ None → sub_in d.spelling x ≢ None → pid_in d.spelling d.own y ≢ None → load_in d.spelling z ≡ None
     → IsFirstWrong (AreLine d begun) (name ∷ w ∷ x ∷ y ∷ z ∷ words) 4
 load_behind d begun name w x y z words a u s p l =
     record {
@@ -222,12 +223,12 @@ load_behind d begun name w x y z words a u s p l =
     }
 
 -- what goes wrong behind the five words of a command
-whole_command : (d : Dialect) (begun : Bool) (name w x y z : List ℕ) → action_in name ≢ None → destination_in d.device w ≢ None → sub_in d.spelling x ≢ None → pid_in d.spelling y ≢ None → load_in d.spelling z ≢ None
+whole_command : (d : Dialect) (begun : Bool) (name w x y z : List ℕ) → action_in name ≢ None → destination_in d.device w ≢ None → sub_in d.spelling x ≢ None → pid_in d.spelling d.own y ≢ None → load_in d.spelling z ≢ None
     → (words : List (List ℕ)) → AreFault words → AreLine d begun (name ∷ w ∷ x ∷ y ∷ z ∷ words)
 whole_command d begun name w x y z a u s p l words f =
     command_line d begun name (w ∷ x ∷ y ∷ z ∷ words) (record { five = omega arith; action = a; destination = u; sub = s; pid = p; load = l; fault = f })
 
-fault_behind : (d : Dialect) (begun : Bool) (name w x y z : List ℕ) (words : List (List ℕ)) (i : ℕ) → action_in name ≢ None → destination_in d.device w ≢ None → sub_in d.spelling x ≢ None → pid_in d.spelling y ≢ None → load_in d.spelling z ≢ None
+fault_behind : (d : Dialect) (begun : Bool) (name w x y z : List ℕ) (words : List (List ℕ)) (i : ℕ) → action_in name ≢ None → destination_in d.device w ≢ None → sub_in d.spelling x ≢ None → pid_in d.spelling d.own y ≢ None → load_in d.spelling z ≢ None
     → IsFirstWrong AreFault words i → IsFirstWrong (AreLine d begun) (name ∷ w ∷ x ∷ y ∷ z ∷ words) (i + 5)
 fault_behind d begun name w x y z words i a u s p l h =
     let P = AreLine d begun in
@@ -245,25 +246,25 @@ fault_behind d begun name w x y z words i a u s p l h =
 pub nothing_wrong : (words : List (List ℕ)) → words ≡ [] → AreFault words
 nothing_wrong words e = subst AreFault (sym e) no_fault
 
-pub wrong_load : (d : Dialect) (begun : Bool) (words : List (List ℕ)) → 4 < length words → action_in (word words 0) ≢ None → destination_in d.device (word words 1) ≢ None → sub_in d.spelling (word words 2) ≢ None → pid_in d.spelling (word words 3) ≢ None → load_in d.spelling (word words 4) ≡ None
+pub wrong_load : (d : Dialect) (begun : Bool) (words : List (List ℕ)) → 4 < length words → action_in (word words 0) ≢ None → destination_in d.device (word words 1) ≢ None → sub_in d.spelling (word words 2) ≢ None → pid_in d.spelling d.own (word words 3) ≢ None → load_in d.spelling (word words 4) ≡ None
     → IsFirstWrong (AreLine d begun) words 4
 wrong_load d begun [] many a u s p l = absurd (a refl)
 wrong_load d begun (name ∷ []) many a u s p l = absurd (u (no_destination d.device))
 wrong_load d begun (name ∷ w ∷ []) many a u s p l = absurd (s (no_sub d.spelling))
-wrong_load d begun (name ∷ w ∷ x ∷ []) many a u s p l = absurd (p (no_pid d.spelling))
+wrong_load d begun (name ∷ w ∷ x ∷ []) many a u s p l = absurd (p (no_pid d.spelling d.own))
 wrong_load d begun (name ∷ w ∷ x ∷ y ∷ []) many a u s p l = absurd (omega (arith, many))
 wrong_load d begun (name ∷ w ∷ x ∷ y ∷ z ∷ words) many a u s p l = load_behind d begun name w x y z words a u s p l
 
-pub wrong_behind : (d : Dialect) (begun : Bool) (words : List (List ℕ)) (i : ℕ) → 4 < length words → action_in (word words 0) ≢ None → destination_in d.device (word words 1) ≢ None → sub_in d.spelling (word words 2) ≢ None → pid_in d.spelling (word words 3) ≢ None → load_in d.spelling (word words 4) ≢ None
+pub wrong_behind : (d : Dialect) (begun : Bool) (words : List (List ℕ)) (i : ℕ) → 4 < length words → action_in (word words 0) ≢ None → destination_in d.device (word words 1) ≢ None → sub_in d.spelling (word words 2) ≢ None → pid_in d.spelling d.own (word words 3) ≢ None → load_in d.spelling (word words 4) ≢ None
     → IsFirstWrong AreFault (drop 5 words) i → IsFirstWrong (AreLine d begun) words (i + 5)
 wrong_behind d begun [] i many a u s p l h = absurd (a refl)
 wrong_behind d begun (name ∷ []) i many a u s p l h = absurd (u (no_destination d.device))
 wrong_behind d begun (name ∷ w ∷ []) i many a u s p l h = absurd (s (no_sub d.spelling))
-wrong_behind d begun (name ∷ w ∷ x ∷ []) i many a u s p l h = absurd (p (no_pid d.spelling))
+wrong_behind d begun (name ∷ w ∷ x ∷ []) i many a u s p l h = absurd (p (no_pid d.spelling d.own))
 wrong_behind d begun (name ∷ w ∷ x ∷ y ∷ []) i many a u s p l h = absurd (omega (arith, many))
 wrong_behind d begun (name ∷ w ∷ x ∷ y ∷ z ∷ words) i many a u s p l h = fault_behind d begun name w x y z words i a u s p l h
 
-pub command_ends : (d : Dialect) (begun : Bool) (words : List (List ℕ)) → 4 < length words → action_in (word words 0) ≢ None → destination_in d.device (word words 1) ≢ None → sub_in d.spelling (word words 2) ≢ None → pid_in d.spelling (word words 3) ≢ None → load_in d.spelling (word words 4) ≢ None
+pub command_ends : (d : Dialect) (begun : Bool) (words : List (List ℕ)) → 4 < length words → action_in (word words 0) ≢ None → destination_in d.device (word words 1) ≢ None → sub_in d.spelling (word words 2) ≢ None → pid_in d.spelling d.own (word words 3) ≢ None → load_in d.spelling (word words 4) ≢ None
     → AreFault (drop 5 words) → AreLine d begun words
 command_ends d begun [] many a u s p l f = absurd (a refl)
 command_ends d begun (name ∷ words) many a u s p l f =

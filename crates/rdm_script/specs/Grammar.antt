@@ -1,6 +1,6 @@
 -- How a script is read, by lines and words: the reader's view of what Spelling.antt defines. `d` is the dialect of the
 -- script, and `dev` the UID of the device that it is played on.
-use Rattle.std.specs.Prelude.{◌≡◌, ◌≢◌, ℕ, zero, suc, ◌+◌, ◌-◌, ◌<◌, ◌≤◌, Bool, true, false, not, ◌||◌, ◌==◌, ◌&&◌, if◌then◌else◌, List, [], ◌∷◌, length, position, fold, drop, take, filter, map, slice_index, slice_index_or, slice_get, Option, Some, None, nat_le, nat_lt, All, codes}
+use Rattle.std.specs.Prelude.{◌≡◌, ◌≢◌, ℕ, zero, suc, ◌+◌, ◌-◌, ◌<◌, ◌≤◌, Bool, true, false, not, ◌||◌, ◌==◌, ◌&&◌, if◌then◌else◌, List, [], ◌∷◌, length, position, fold, drop, take, filter, find, map, slice_index, slice_index_or, slice_get, Option, Some, None, nat_le, nat_lt, All, codes}
 use Rattle.std.specs.Option.{option_map, option_map_or, option_or}
 use Rattle.std.specs.Int.{w16}
 use Rattle.std.specs.Str.{bytes_eq}
@@ -10,6 +10,7 @@ use Rattle.rdm_frame.specs.declared.uid.Uid.{Uid}
 use Rattle.rdm_frame.specs.Addressing.{all_devices, all_of}
 use Rattle.rdm_frame.specs.Digits.{within}
 use Rattle.rdm_frame.specs.DigitReading.{◌>>=◌, bytes_in, number_in, uid_in}
+use Rattle.rdm_device.specs.declared.profile.own.ParameterDef.{ParameterDef}
 use Rattle.rdm_collector.specs.declared.command.Action.{Action}
 use Rattle.rdm_collector.specs.declared.command.Action.TheVariants.{Disc, Get, Set}
 use Rattle.rdm_collector.specs.declared.command.Command.{Command}
@@ -19,7 +20,7 @@ use Rattle.rdm_collector.specs.declared.want.Want.{Want}
 use Rattle.rdm_collector.specs.declared.want.Want.TheVariants.{Advisory, Warning, Error}
 use Rattle.rdm_crew.specs.declared.step.CrewStep.{CrewStep}
 use Rattle.rdm_crew.specs.declared.step.CrewStep.TheVariants.{Ask, Collect, Draw, Settle, Panel}
-use Rattle.rdm_script.specs.declared.dialect.Dialect.{Dialect}
+use Rattle.rdm_script.specs.Dialects.{Dialect}
 use Rattle.rdm_script.specs.declared.dialect.Spelling.{Spelling}
 use Rattle.rdm_script.specs.declared.dialect.Spelling.TheVariants.{Strict, Friendly}
 use Rattle.rdm_script.specs.declared.script.ScriptSetup.{ScriptSetup}
@@ -67,11 +68,6 @@ unfoldable pub sub_in : Spelling → List ℕ → Option ℕ
 sub_in Strict word = number_in w16 word
 sub_in Friendly word = option_or (number_in w16 word) (sub_named word)
 
--- four digits, or the name in a friendly script
-unfoldable pub pid_in : Spelling → List ℕ → Option ℕ
-pid_in Strict word = number_in w16 word
-pid_in Friendly word = option_or (number_in w16 word) (pid_named word)
-
 -- a hyphen for no data, or the digits of at most 255 bytes
 unfoldable pub bytes_load_in : List ℕ → Option (List ℕ)
 bytes_load_in word = if bytes_eq word (codes "-") then Some [] else (if nat_le (length word) 510 then bytes_in word else None)
@@ -87,6 +83,19 @@ is_quoted word = nat_le 2 (length word) && ((slice_index word 0 == 34) && (slice
 -- what stands behind the first and before the last
 abbrev pub between : List ℕ → List ℕ
 between word = take (length word - 1 - 1) (drop 1 word)
+
+-- the first of these parameters with this name
+abbrev pub own_named : List ParameterDef → List ℕ → Option ℕ
+own_named own name = option_map (λ d. d.pid) (find (λ d. bytes_eq name d.name) own)
+
+-- in double quotes stands the name of a parameter of the maker's own, without them that of one of the standard's
+unfoldable pub pid_by_name : List ParameterDef → List ℕ → Option ℕ
+pid_by_name own word = if is_quoted word then own_named own (between word) else pid_named word
+
+-- four digits, or the name in a friendly script
+unfoldable pub pid_in : Spelling → List ParameterDef → List ℕ → Option ℕ
+pid_in Strict own word = number_in w16 word
+pid_in Friendly own word = option_or (number_in w16 word) (pid_by_name own word)
 
 -- the text in double quotes
 unfoldable pub quoted_in : List ℕ → Option (List ℕ)
@@ -105,7 +114,7 @@ command_in d action dst sub pid load = do
   a ← action_in action
   u ← destination_in d.device dst
   s ← sub_in d.spelling sub
-  p ← pid_in d.spelling pid
+  p ← pid_in d.spelling d.own pid
   l ← load_in d.spelling load
   Some (record { dst = u; action = a; sub = s; pid = p; load = l })
 

@@ -10,7 +10,7 @@ use Rattle.rdm_crew.specs.declared.stopped.Stopped.TheVariants as stop
 use Rattle.rdm_crew.specs.Stops.{IsStopAt, error_of}
 use Rattle.rdm_trace.specs.declared.line.Line.{Line}
 use Rattle.rdm_trace.specs.RunLines.{trace_lines}
-use Rattle.rdm_script.specs.declared.dialect.Dialect.{Dialect}
+use Rattle.rdm_script.specs.Dialects.{Dialect}
 use Rattle.rdm_script.specs.declared.grammar.parsing.ScriptError.{ScriptError}
 use Rattle.rdm_script.specs.declared.grammar.parsing.ScriptError.TheVariants as script
 use Rattle.rdm_script.specs.declared.playing.Unplayed.{Unplayed}

@@ -5,10 +5,9 @@ use Rattle.rdm_params.specs.declared.panel.Change.{Change}
 use Rattle.rdm_params.specs.declared.jobs.outcome.Outcome.{Outcome}
 use Rattle.rdm_device.specs.declared.profile.Profile.{Profile}
 use Rattle.rdm_outbox.specs.declared.job.Job.{Job}
-use Rattle.rdm_script.specs.declared.dialect.Dialect.{Dialect}
+use Rattle.rdm_script.specs.Dialects.{Dialect}
 use Rattle.rdm_script.specs.declared.dialect.Spelling.{Spelling}
 use Rattle.rdm_script.specs.declared.stage.Stage.{Stage}
-use Rattle.rdm_script.specs.Dialects.{dialect_of}
 
 -- A fixture of this UID and profile, how the words of its scripts are spelled, the outcomes that each of its two workers may give for a job, and the changes that
 -- its panel may offer for 0, 1, 2 and so on.
@@ -33,4 +32,4 @@ scene_of gives_0 gives_1 offers stage = record {
 
 -- the dialect of the scripts of a scene
 abbrev pub spoken_at : Scene → Dialect
-spoken_at scene = dialect_of scene.device scene.spelling
+spoken_at scene = record { device = scene.device; spelling = scene.spelling; own = scene.profile.own }

@@ -1,7 +1,7 @@
 -- What a script is: how its lines spell a setup and steps, word by word. Bytes are spelled as a trace prints them, with
--- digits of either case. `d` is the dialect: the UID of the device that the script is played on, and whether the words are
--- spelled strictly. In a friendly script a sub-device, a parameter and data have a second spelling each, and a line may say a search; all else is
--- the same.
+-- digits of either case. `d` is the dialect: the UID of the device that the script is played on, whether the words are
+-- spelled strictly, and the parameters of the maker's own. In a friendly script a sub-device, a parameter and data have further spellings,
+-- and a line may say a search; all else is the same.
 use Rattle.std.specs.Prelude.{◌≡◌, ◌≢◌, true, false, ℕ, ◌<◌, ◌≤◌, ◌⊎◌, List, [], ◌∷◌, ◌++◌, length, drop, map, slice_index, Some, codes}
 use Rattle.std.specs.List.{list_all}
 use Rattle.std.specs.Int.{w16}
@@ -9,6 +9,7 @@ use Rattle.rdm_frame.specs.declared.uid.Uid.{Uid}
 use Rattle.rdm_frame.specs.Addressing.{all_devices, all_of}
 use Rattle.rdm_frame.specs.Digits.{SpellsBytes, SpellsNumber}
 use Rattle.rdm_frame.specs.UidText.{SpellsUid}
+use Rattle.rdm_device.specs.declared.profile.own.ParameterDef.{ParameterDef}
 use Rattle.rdm_collector.specs.declared.command.Action.{Action}
 use Rattle.rdm_collector.specs.declared.command.Action.TheVariants.{Disc, Get, Set}
 use Rattle.rdm_collector.specs.declared.command.Command.{Command}
@@ -18,15 +19,14 @@ use Rattle.rdm_collector.specs.declared.want.Want.{Want}
 use Rattle.rdm_collector.specs.declared.want.Want.TheVariants.{Advisory, Warning, Error}
 use Rattle.rdm_crew.specs.declared.step.CrewStep.{CrewStep}
 use Rattle.rdm_crew.specs.declared.step.CrewStep.TheVariants.{Ask, Collect, Draw, Settle, Panel}
-use Rattle.rdm_script.specs.declared.dialect.Dialect.{Dialect}
+use Rattle.rdm_script.specs.Dialects.{Dialect}
 use Rattle.rdm_script.specs.declared.dialect.Spelling.{Spelling}
 use Rattle.rdm_script.specs.declared.dialect.Spelling.TheVariants.{Strict, Friendly}
 use Rattle.rdm_script.specs.declared.script.ScriptSetup.{ScriptSetup}
 use Rattle.rdm_script.specs.Decimals.{SpellsDecimal}
-use Rattle.rdm_params.specs.Table.Names.{pid_named}
 use Rattle.rdm_script.specs.Parties.{plain_setup}
 use Rattle.rdm_script.specs.Search.{search_of}
-use Rattle.rdm_script.specs.Grammar.{word, is_shown, is_skipped, words_of, lines_of}
+use Rattle.rdm_script.specs.Grammar.{word, pid_by_name, is_shown, is_skipped, words_of, lines_of}
 
 -- The word says whom a command is for: by a name, or by a UID. The names are those of the device that the script is
 -- played on, of every device, and of every device of its manufacturer.
@@ -48,10 +48,11 @@ abbrev pub SpellsSub : Spelling → List ℕ → ℕ → Type 0
 SpellsSub Strict text sub = SpellsNumber w16 text sub
 SpellsSub Friendly text sub = SpellsNumber w16 text sub ⊎ (((text ≡ codes "root") × (sub ≡ 0)) ⊎ SpellsCount text sub)
 
--- The word says which parameter: by the four hexadecimal digits of its PID. A friendly script may say its name.
-abbrev pub SpellsPid : Spelling → List ℕ → ℕ → Type 0
-SpellsPid Strict text pid = SpellsNumber w16 text pid
-SpellsPid Friendly text pid = SpellsNumber w16 text pid ⊎ (pid_named text ≡ Some pid)
+-- The word says which parameter: by the four hexadecimal digits of its PID. A friendly script may say its name: one of
+-- the standard's, or in double quotes one of the maker's own.
+abbrev pub SpellsPid : Spelling → List ParameterDef → List ℕ → ℕ → Type 0
+SpellsPid Strict own text pid = SpellsNumber w16 text pid
+SpellsPid Friendly own text pid = SpellsNumber w16 text pid ⊎ (pid_by_name own text ≡ Some pid)
 
 -- The word is the data of a command: a hyphen for none, or at most 255 bytes.
 abbrev pub SpellsData : List ℕ → List ℕ → Type 0
@@ -80,7 +81,7 @@ pub record SpellsCommand (d : Dialect) (words : List (List ℕ)) (c : Command) :
   pub action : SpellsAction (word words 0) c.action
   pub destination : SpellsDestination d.device (word words 1) c.dst
   pub sub : SpellsSub d.spelling (word words 2) c.sub
-  pub pid : SpellsPid d.spelling (word words 3) c.pid
+  pub pid : SpellsPid d.spelling d.own (word words 3) c.pid
   pub load : SpellsLoad d.spelling (word words 4) c.load
 
 -- The words are this name, a slot and by how much it is raised.

@@ -2,7 +2,7 @@
 -- a line before says anything. Words are counted from 0, columns in bytes from 1.
 use Rattle.std.specs.Prelude.{◌≡◌, ◌≢◌, ℕ, ◌+◌, ◌-◌, Bool, not, List, [], ◌++◌, length, drop, take, slice_get, Some, None, ◌⊎◌}
 use Rattle.std.specs.List.{list_all}
-use Rattle.rdm_script.specs.declared.dialect.Dialect.{Dialect}
+use Rattle.rdm_script.specs.Dialects.{Dialect}
 use Rattle.rdm_script.specs.declared.dialect.Spelling.{Spelling}
 use Rattle.rdm_script.specs.declared.grammar.line.Line.TheVariants.{Faulty}
 use Rattle.rdm_script.specs.Grammar.{fault_in, is_skipped, line_at, lines_of, words_of}

@@ -2,11 +2,12 @@
 
 ghost use Rattle.std.specs.Prelude.{◌≡◌, ◌↔◌, ℕ, List, IsTrue, false};
 ghost use Rattle.rdm_frame.specs.declared.uid.Uid.{Uid as TheUid};
+ghost use Rattle.rdm_device.specs.declared.profile.own.ParameterDef.{ParameterDef as TheParameter};
 ghost use Rattle.rdm_crew.specs.declared.step.CrewStep.{CrewStep as TheStep};
 ghost use Rattle.rdm_script.specs.Dialects.{strict, friendly};
 ghost use Rattle.rdm_script.specs.Spelling.{SpellsStep, SpellsFind, SpellsSetup, IsScript};
 ghost use Rattle.rdm_script.specs.Grammar.{is_skipped, line_in, first_line_in, Refuses};
-ghost use Rattle.rdm_script.specs.declared.dialect.Dialect.{Dialect as TheDialect};
+ghost use Rattle.rdm_script.specs.Dialects.{Dialect as TheDialect};
 ghost use Rattle.rdm_script.specs.declared.script.ScriptSetup.{ScriptSetup as TheSetup};
 ghost use Rattle.rdm_script.specs.declared.grammar.line.Line.TheVariants.{Sets, Says, Finds};
 ghost use Rattle.rdm_script.specs.declared.grammar.parsing.ScriptError.{ScriptError as TheError};
@@ -40,10 +41,10 @@ pub fn line_says_what_its_words_spell()
         (first_line_in d words ≡ Sets setup) ↔ SpellsSetup words setup }
 {}
 
-/// Whatever spells a step strictly spells the same step in a friendly script.
+/// Whatever spells a step strictly spells the same step in a friendly script, whichever parameters of the maker's own this may name.
 pub fn strict_steps_are_friendly()
-    ensures { (device : TheUid) (words : List (List ℕ)) (step : TheStep) →
-        SpellsStep (strict device) words step → SpellsStep (friendly device) words step }
+    ensures { (device : TheUid) (own : List TheParameter) (words : List (List ℕ)) (step : TheStep) →
+        SpellsStep (strict device) words step → SpellsStep (record (friendly device) { own = own }) words step }
 {}
 
 /// Two setups are equal by `==` exactly where each of their fields is.

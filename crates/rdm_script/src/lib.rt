@@ -38,7 +38,7 @@ pub use laws::{
 pub use parties::{CONTROLLER, DEMO_DEVICE};
 pub use playing::{Unplayed, play_demonstration, play_script};
 pub use program::{ProgramError, run_script, run_script_as, run_script_on};
-pub use refusal::{Excerpt, Refusal, Wanted};
+pub use refusal::{Excerpt, Reason, Refusal, Wanted};
 pub use rules::{RuledPart, ruled_parts_fit};
 pub use script::{Script, ScriptSetup};
 pub use stage::Stage;

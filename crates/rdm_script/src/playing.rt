@@ -10,7 +10,7 @@ ghost use Rattle.rdm_script.specs.Scene.{scene_of};
 ghost use Rattle.rdm_script.specs.declared.playing.Unplayed.TheVariants.{OutOfMemory};
 
 use crate::demo::demo_stage;
-use crate::dialect::Spelling;
+use crate::dialect::{Dialect, Spelling};
 use crate::grammar::{ScriptError, finds_of, parse_as};
 use crate::rules::ruled_parts_fit;
 use crate::running::play_steps;
@@ -98,7 +98,12 @@ where
     // The line of a stop is that of the step at which the run stops, or of the setup.
     ensures line { IfErr result (NamesStopLine (scene_of P.gives Q.gives N.offers stage) text.now) }
 {
-    let script = parse_as(alloc, stage.spelling, stage.device, text)?;
+    let dialect = Dialect {
+        device: stage.device,
+        spelling: stage.spelling,
+        own: stage.profile.own.as_slice(),
+    };
+    let script = parse_as(alloc, &dialect, text)?;
     let finds = finds_of(stage.spelling, text);
     match play_steps(rt, alloc, script.setup, &script.steps, stage) {
         Ok(trace) => Ok(trace_lines(alloc, finds, trace.events(), trace.recorded())?),

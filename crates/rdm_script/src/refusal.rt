@@ -124,6 +124,17 @@ impl Refusal {
             wanted,
         }
     }
+
+    /// What is told of it without its place, as `WORD isn't a valid ..: expected ..`: for words that stand in no file.
+    pub fn reason(&self) -> Reason<'_> {
+        Reason { refusal: self }
+    }
+}
+
+/// What is told of a word, without its place.
+#[derive(Clone, Copy, Debug)]
+pub struct Reason<'a> {
+    refusal: &'a Refusal,
 }
 
 /// As much of a word as is shown.
@@ -146,16 +157,22 @@ fn front_of(word: &[u8]) -> &[u8]
 impl fmt::Display for Refusal {
     fn fmt<W: fmt::Write>(&self, f: &mut fmt::Formatter<W>) -> fmt::Result {
         let Refusal { line, column, .. } = self;
-        let wanted = self.wanted.words();
-        write!(f, "{line}:{column}: ")?;
-        if self.word.is_empty() {
+        let reason = self.reason();
+        write!(f, "{line}:{column}: {reason}")
+    }
+}
+
+impl fmt::Display for Reason<'_> {
+    fn fmt<W: fmt::Write>(&self, f: &mut fmt::Formatter<W>) -> fmt::Result {
+        let wanted = self.refusal.wanted.words();
+        if self.refusal.word.is_empty() {
             return write!(f, "a word is missing: expected {wanted}");
         }
         f.write_str("\"")?;
-        for byte in self.word.as_slice() {
+        for byte in self.refusal.word.as_slice() {
             write_shown(f, *byte)?;
         }
-        let complaint = self.wanted.complaint();
+        let complaint = self.refusal.wanted.complaint();
         write!(f, "\" {complaint}: expected {wanted}")
     }
 }

@@ -6,6 +6,7 @@ mod finds;
 mod friendly;
 mod lines;
 mod odd;
+mod own_names;
 mod panel;
 mod parsing;
 mod plain;

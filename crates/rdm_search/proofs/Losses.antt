@@ -118,21 +118,21 @@ twice_all request line =
 abbrev pub Asked : Request → List Fixture → List ℕ → List Fixture → ℕ → ℕ → Type 0
 Asked request line heard after least lost = IsKept request line heard after ⊎ (IsLost request line heard after × (least ≤ lost))
 
-kept_kept : (request : Request) (line l : List Fixture) (heard heard' : List ℕ) (l' : List Fixture) → IsKept request line heard l → IsKept request l heard' l' → IsKept request line heard' l'
+pub kept_kept : (request : Request) (line l : List Fixture) (heard heard' : List ℕ) (l' : List Fixture) → IsKept request line heard l → IsKept request l heard' l' → IsKept request line heard' l'
 kept_kept request line l heard heard' l' k k' =
     (before_all request line heard' (subst (λ (x : List Fixture). IsHeard request x heard') k.1 k'.0), k'.1 ∙ ap (after_request request) k.1 ∙ twice_all request line)
 
-kept_lost : (request : Request) (line l : List Fixture) (heard heard' : List ℕ) (l' : List Fixture) → heard ≡ [] → IsKept request line heard l → IsLost request l heard' l' → IsKept request line heard' l'
+pub kept_lost : (request : Request) (line l : List Fixture) (heard heard' : List ℕ) (l' : List Fixture) → heard ≡ [] → IsKept request line heard l → IsLost request l heard' l' → IsKept request line heard' l'
 kept_lost request line l heard heard' l' e k k' =
     let e' : heard ≡ heard' = e ∙ sym k'.0 in
     let all : l ≡ map (carried_out request) line = k.1 ∙ by_all request line in
     (subst (IsHeard request line) e' k.0, after_all request line l' (subst (λ (x : List Fixture). IsPartly request x l') all k'.1) ∙ sym (by_all request line))
 
-lost_kept : (request : Request) (line l : List Fixture) (heard heard' : List ℕ) (l' : List Fixture) → IsLost request line heard l → IsKept request l heard' l' → IsKept request line heard' l'
+pub lost_kept : (request : Request) (line l : List Fixture) (heard heard' : List ℕ) (l' : List Fixture) → IsLost request line heard l → IsKept request l heard' l' → IsKept request line heard' l'
 lost_kept request line l heard heard' l' k k' =
     (before request line l heard' k.1 k'.0, k'.1 ∙ by_all request l ∙ then_all request line l k.1 ∙ sym (by_all request line))
 
-lost_lost : (request : Request) (line l : List Fixture) (heard heard' : List ℕ) (l' : List Fixture) → IsLost request line heard l → IsLost request l heard' l' → IsLost request line heard' l'
+pub lost_lost : (request : Request) (line l : List Fixture) (heard heard' : List ℕ) (l' : List Fixture) → IsLost request line heard l → IsLost request l heard' l' → IsLost request line heard' l'
 lost_lost request line l heard heard' l' k k' = (k'.0, partly_more request line l l' k.1 k'.1)
 
 pub once_more : (request : Request) (line l : List Fixture) (heard heard' : List ℕ) (l' : List Fixture) (least least' lost lost' : ℕ) → least' ≤ least + 1 → heard ≡ [] → Asked request line heard l least lost → (IsKept request l heard' l' × (lost' ≡ 0)) ⊎ (IsLost request l heard' l' × (lost' ≡ suc lost)) → Asked request line heard' l' least' lost'

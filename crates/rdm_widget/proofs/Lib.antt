@@ -1,6 +1,5 @@
-pub mod Frames
-pub mod Pieces
 pub mod Turns
+pub mod Requests
 pub mod Reports
 pub mod Ready
 pub mod Ends

@@ -1,45 +1,14 @@
 -- One part of a stream after another.
-use Rattle.std.proofs.Common.{◌≡◌, ℕ, ◌+◌, ◌-◌, ◌<◌, ◌≤◌, List, [], ◌∷◌, ◌++◌, length, take, drop, Option, Some, None, refl, sym, ap, subst, ◌∙◌, arith, append_assoc, append-nil, length-append}
+use Rattle.std.proofs.Common.{◌≡◌, ℕ, ◌+◌, ◌-◌, ◌<◌, ◌≤◌, List, [], ◌∷◌, ◌++◌, length, take, drop, Option, Some, None, refl, sym, ap, subst, ◌∙◌, arith, append_assoc, append-nil}
 use Rattle.std.specs.Prelude.{Result, Ok, Err, OnOk, OnErr}
 use Rattle.std.specs.Io.KnownBytes.{Appends, Consumes, Keeps}
-use Rattle.std.proofs.Math.Seq.{drop-append_seam}
-use Rattle.std.proofs.Math.ListN.{drop_of_length-le}
 use Rattle.std.proofs.lemmas.List.{map-append, take_all, length-drop, drop-drop}
-use Rattle.rdm_widget.specs.Framing.{Message, IsMessage, message_bytes, bytes_of, IsUnfinished, IsStray, Piece, Rubbish, Said, stream_of, messages_of, AreCut}
-use Rattle.rdm_widget.specs.Hearing.{Hearing}
-use Rattle.rdm_widget.specs.Protocol.{answer_to, after_message}
-use Rattle.rdm_widget.proofs.Frames.{unfinished_none}
-use Rattle.rdm_widget.specs.Serving.{Turn, messages_in, times_of, after_turns, answer_in, answers, Tells, IsServed, AreDone, AllWritten, LastCutShort, IsServedOnce, IsCutShort}
-
--- ---- pieces
-
-stray_more : (xs more : List ℕ) → IsStray xs → IsStray (xs ++ more)
-stray_more xs more stray m later rest is e = stray m (more ++ later) rest is (sym (append_assoc xs more later) ∙ e)
-
-AreCut-more : (ps : List Piece) (rest more : List ℕ) → AreCut ps rest → AreCut ps (rest ++ more)
-AreCut-more [] rest more cut = tt
-AreCut-more (Rubbish b ∷ ps) rest more cut =
-    (subst IsStray (append_assoc (b ∷ stream_of ps) rest more) (stray_more (b ∷ stream_of ps ++ rest) more cut.0), AreCut-more ps rest more cut.1)
-AreCut-more (Said m ∷ ps) rest more cut = (cut.0, AreCut-more ps rest more cut.1)
-
-stream_of-append : (ps qs : List Piece) → stream_of (ps ++ qs) ≡ stream_of ps ++ stream_of qs
-stream_of-append [] qs = refl
-stream_of-append (Rubbish b ∷ ps) qs = ap (λ (l : List ℕ). b ∷ l) (stream_of-append ps qs)
-stream_of-append (Said m ∷ ps) qs = ap (λ l. message_bytes m ++ l) (stream_of-append ps qs) ∙ sym (append_assoc (message_bytes m) (stream_of ps) (stream_of qs))
-
-streams_join : (ps qs : List Piece) (rest : List ℕ) → stream_of ps ++ (stream_of qs ++ rest) ≡ stream_of (ps ++ qs) ++ rest
-streams_join ps qs rest = sym (append_assoc (stream_of ps) (stream_of qs) rest) ∙ ap (λ l. l ++ rest) (sym (stream_of-append ps qs))
-
-messages_of-append : (ps qs : List Piece) → messages_of (ps ++ qs) ≡ messages_of ps ++ messages_of qs
-messages_of-append [] qs = refl
-messages_of-append (Rubbish b ∷ ps) qs = messages_of-append ps qs
-messages_of-append (Said m ∷ ps) qs = ap (λ l. m ∷ l) (messages_of-append ps qs)
-
-AreCut-append : (ps qs : List Piece) (rest : List ℕ) → AreCut ps (stream_of qs ++ rest) → AreCut qs rest → AreCut (ps ++ qs) rest
-AreCut-append [] qs rest cut cut' = cut'
-AreCut-append (Rubbish b ∷ ps) qs rest cut cut' =
-    (subst (λ (l : List ℕ). IsStray (b ∷ l)) (streams_join ps qs rest) cut.0, AreCut-append ps qs rest cut.1 cut')
-AreCut-append (Said m ∷ ps) qs rest cut cut' = (cut.0, AreCut-append ps qs rest cut.1 cut')
+use Rattle.rdm_messages.specs.Framing.{Message, IsMessage, message_bytes, bytes_of, IsUnfinished, IsStray, Begins}
+use Rattle.rdm_messages.specs.Hearing.{Hearing}
+use Rattle.rdm_messages.specs.Protocol.{answer_to, after_message}
+use Rattle.rdm_messages.specs.Serving.{Turn, messages_in, times_of, after_turns, answer_in, answers, Tells, IsServed, AreDone, AllWritten, LastCutShort, IsServedOnce, IsCutShort}
+use Rattle.rdm_messages.proofs.Frames.{unfinished_none}
+use Rattle.rdm_messages.proofs.Beginnings.{begins_none, begins_stray, begins_said, begins_then, begins_more}
 
 -- ---- turns
 
@@ -116,15 +85,10 @@ pub join : {C D S : Type 0} (tells : C → ℕ → C → Type 0) (line : Hearing
     → ((ts us : List Turn) → W s ts → V (after_turns line s ts) us → U s (ts ++ us)) → AreDone tells line a c bytes rest s e U
 join tells line a b c bytes mid rest s d e W V U one two all =
     record {
-      pieces = one.pieces ++ two.pieces;
       turns = one.turns ++ two.turns;
-      whole = one.whole ∙ ap (λ l. stream_of one.pieces ++ l) two.whole ∙ streams_join one.pieces two.pieces rest;
-      cut = AreCut-append one.pieces two.pieces rest (subst (AreCut one.pieces) two.whole one.cut) two.cut;
-      said =
-          map-append (λ (t : Turn). t.message) one.turns two.turns
-          ∙ ap (λ l. l ++ messages_in two.turns) one.said
-          ∙ ap (λ l. messages_of one.pieces ++ l) two.said
-          ∙ sym (messages_of-append one.pieces two.pieces);
+      begins =
+          subst (λ (ms : List Message). Begins bytes ms rest) (sym (map-append (λ (t : Turn). t.message) one.turns two.turns))
+          (begins_then bytes mid rest (messages_in one.turns) (messages_in two.turns) one.begins two.begins);
       times =
           subst (λ l. Tells tells a l c) (sym (map-append (λ (t : Turn). t.at) one.turns two.turns))
           (Tells-append tells a b c (times_of one.turns) (times_of two.turns) one.times two.times);
@@ -136,11 +100,8 @@ join tells line a b c bytes mid rest s d e W V U one two all =
 pub more_read : {C D S : Type 0} (tells : C → ℕ → C → Type 0) (line : Hearing D S) (a b : C) (bytes rest more : List ℕ) (s : S) (d : D) (W : S → List Turn → Type 0)
     → AreDone tells line a b bytes rest s d W → AreDone tells line a b (bytes ++ more) (rest ++ more) s d W
 more_read tells line a b bytes rest more s d W one = record {
-  pieces = one.pieces;
   turns = one.turns;
-  whole = ap (λ l. l ++ more) one.whole ∙ append_assoc (stream_of one.pieces) rest more;
-  cut = AreCut-more one.pieces rest more one.cut;
-  said = one.said;
+  begins = begins_more bytes rest more (messages_in one.turns) one.begins;
   times = one.times;
   written = one.written;
   situation = one.situation;
@@ -150,11 +111,8 @@ more_read tells line a b bytes rest more s d W one = record {
 pub none_done : {C D S : Type 0} (tells : C → ℕ → C → Type 0) (line : Hearing D S) (a : C) (bytes : List ℕ) (s : S) (d : D) (old : Option (List ℕ))
     → line.is_in d s → AreDone tells line a a bytes bytes s d (AllWritten line old old)
 none_done tells line a bytes s d old is = record {
-  pieces = [];
   turns = [];
-  whole = refl;
-  cut = tt;
-  said = refl;
+  begins = begins_none bytes;
   times = refl;
   written = appends_none old;
   situation = is;
@@ -163,13 +121,9 @@ none_done tells line a bytes s d old is = record {
 -- a stray byte is passed over
 pub stray_done : {C D S : Type 0} (tells : C → ℕ → C → Type 0) (line : Hearing D S) (a : C) (bytes : List ℕ) (s : S) (d : D) (old : Option (List ℕ))
     → line.is_in d s → 0 < length bytes → IsStray bytes → AreDone tells line a a bytes (drop 1 bytes) s d (AllWritten line old old)
-stray_done tells line a [] s d old is some stray = absurd (omega (arith, some))
-stray_done tells line a (b ∷ bytes) s d old is some stray = record {
-  pieces = Rubbish b ∷ [];
+stray_done tells line a bytes s d old is some stray = record {
   turns = [];
-  whole = refl;
-  cut = (stray, tt);
-  said = refl;
+  begins = begins_stray bytes some stray;
   times = refl;
   written = appends_none old;
   situation = is;
@@ -179,27 +133,12 @@ stray_done tells line a (b ∷ bytes) s d old is some stray = record {
 pub said_done : {C D S : Type 0} (tells : C → ℕ → C → Type 0) (line : Hearing D S) (a b : C) (bytes rest : List ℕ) (m : Message) (now : ℕ) (s : S) (d : D) (W : S → List Turn → Type 0)
     → IsMessage m → bytes ≡ message_bytes m ++ rest → tells a now b → W s (record { at = now; message = m } ∷ []) → line.is_in d (after_message line now s m) → AreDone tells line a b bytes rest s d W
 said_done tells line a b bytes rest m now s d W is whole told written situation = record {
-  pieces = Said m ∷ [];
   turns = record { at = now; message = m } ∷ [];
-  whole = whole ∙ ap (λ l. l ++ rest) (sym (append-nil (message_bytes m)));
-  cut = (is, tt);
-  said = refl;
+  begins = begins_said bytes rest m is whole;
   times = (b, (told, refl));
   written = written;
   situation = situation;
 }
-
-length-message_bytes : (m : Message) → length (message_bytes m) ≡ length m.body + 5
-length-message_bytes m = omega (arith, length-append m.body (0xE7 ∷ []))
-
-pub rest_is : (bytes rest : List ℕ) (m : Message) → bytes ≡ message_bytes m ++ rest → rest ≡ drop (length m.body + 5) bytes
-rest_is bytes rest m whole =
-    sym (drop-append_seam (message_bytes m) rest) ∙ ap (λ n. drop n (message_bytes m ++ rest)) (length-message_bytes m) ∙ ap (λ l. drop (length m.body + 5) l) (sym whole)
-
-pub reaches : (bytes rest : List ℕ) (m : Message) → bytes ≡ message_bytes m ++ rest → length m.body + 5 ≤ length bytes
-reaches bytes rest m whole =
-    let size : length bytes ≡ length (message_bytes m) + length rest = ap (λ (l : List ℕ). length l) whole ∙ length-append (message_bytes m) rest in
-    omega (arith, size, length-message_bytes m)
 
 -- ---- what has been served
 
@@ -209,7 +148,7 @@ served tells line a b unread left old new input rest s d read done unfinished = 
   input = input;
   turns = done.turns;
   read = read;
-  holds = record { pieces = done.pieces; rest = rest; whole = done.whole; cut = done.cut; unfinished = unfinished; said = done.said };
+  holds = record { rest = rest; begins = done.begins; unfinished = unfinished };
   times = done.times;
   written = done.written;
   situation = done.situation;
@@ -285,9 +224,6 @@ pub rest_unfinished : (bytes : List ℕ) (done count : ℕ) → count ≡ 0 → 
 rest_unfinished bytes done count none unfinished =
     let same : done ≡ done + count = omega (arith, none) in
     subst (λ n. IsUnfinished (drop n bytes)) same (subst IsUnfinished (tail_of bytes done) unfinished)
-
-pub none_left : (bytes : List ℕ) (done : ℕ) → length bytes ≤ done → IsUnfinished (drop done bytes)
-none_left bytes done all = subst IsUnfinished (sym (drop_of_length-le bytes all)) unfinished_none
 
 -- ---- one read after another
 
@@ -381,12 +317,6 @@ still_served tells line a b c unread then left old new same held s d e clock wri
     subst (λ x. IsServed tells line a x unread left old same s e) (sym clock)
     (subst (λ (l : Option (List ℕ)). IsServed tells line a b unread left old l s e) (sym writer)
     (subst (λ x. IsServed tells line a b unread left old new s x) (sym stays) (not_read tells line a b unread then left old new held s d kept so)))
-
--- what is held is less than a message
-pub unfinished_short : (held : List ℕ) → IsUnfinished held → length held < 605
-unfinished_short held u =
-    let size : length held + length u.more ≡ length (message_bytes u.message) = sym (length-append held u.more) ∙ ap (λ (l : List ℕ). length l) u.whole in
-    omega (arith, size, length-message_bytes u.message, u.lacks, u.is_message.size)
 
 -- the same fault of another call
 abbrev pub as_fault : {A B E : Type 0} → E → Result A E → Result B E

@@ -13,7 +13,7 @@ use Rattle.rdm_responder.specs.Runs.{outbox_of}
 use Rattle.rdm_responder.specs.StandsFor.{StandsFor}
 use Rattle.rdm_widget.specs.declared.live_fixture.LiveFixture.{LiveFixture}
 use Rattle.rdm_widget.specs.declared.live_fixture.ending.Ended.{Ended}
-use Rattle.rdm_widget.specs.Hearing.{Hearing}
+use Rattle.rdm_messages.specs.Hearing.{Hearing}
 
 -- By which rules jobs end, what has happened to the responder, and since when each worker is at its oldest job. A worker
 -- without a job may begin one from then on.

@@ -9,7 +9,7 @@ use Rattle.rdm_line.specs.Collisions.{on_wire}
 use Rattle.rdm_line.specs.Hearing.{answers, heard_by}
 use Rattle.rdm_line.specs.Line.{State, uids_of}
 use Rattle.rdm_widget.specs.declared.live_fixture.LiveFixture.{LiveFixture}
-use Rattle.rdm_widget.specs.Hearing.{Hearing}
+use Rattle.rdm_messages.specs.Hearing.{Hearing}
 use Rattle.rdm_widget.specs.LiveFixtures.{Situation, IsIn, ready}
 
 -- What is on the line if several answer at once, and in which situation each fixture is, in the order of their UIDs.

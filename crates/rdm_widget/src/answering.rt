@@ -1,13 +1,12 @@
 //! The messages of a buffer are answered.
 
 ghost use Rattle.std.specs.Prelude.{◌≡◌, ◌≤◌, ◌++◌, ℕ, List, length, drop, IfOk, OnOk, OnErr};
-ghost use Rattle.rdm_widget.specs.Framing.{IsMessage, IsUnfinished, message_bytes, message_in};
-ghost use Rattle.rdm_widget.specs.Serving.{AreDone, AllWritten, LastCutShort};
+ghost use Rattle.rdm_messages.specs.Framing.{IsMessage, IsUnfinished, message_bytes, message_in};
+ghost use Rattle.rdm_messages.specs.Serving.{AreDone, AllWritten, LastCutShort};
 
-use crate::clock::Clock;
-use crate::framing::{FRAME_BYTES, Front, MessageView, front_of};
 use crate::on_line::OnLine;
 use crate::protocol::answer;
+use rdm_messages::{Clock, FRAME_BYTES, Front, MessageView, front_of};
 use rdm_streams::{WriteFault, write_all};
 use std::io::Write;
 

@@ -1,23 +1,18 @@
-//! Laws of streams, of time and of `==`. Each is the contract of a call that does nothing.
+//! Laws of requests, of time and of `==`. Each is the contract of a call that does nothing.
 
-ghost use Rattle.std.specs.Prelude.{◌≡◌, ◌↔◌, ◌∷◌, [], ℕ, List, IsTrue};
-ghost use Rattle.std.specs.List.{All};
+ghost use Rattle.std.specs.Prelude.{◌≡◌, ◌↔◌, ◌∷◌, [], ℕ, List, IsTrue, true};
+ghost use Rattle.std.specs.List.{list_all};
 ghost use Rattle.rdm_line.specs.declared.collision.Collision.{Collision};
+ghost use Rattle.rdm_messages.specs.Serving.{Turn, answers, answers_with, is_request, messages_in, replies_in};
 ghost use Rattle.rdm_widget.specs.LiveFixtures.{Situation, ReportsAreHandedIn, fixture_hearing};
 ghost use Rattle.rdm_widget.specs.Rigs.{rig_hearing};
-ghost use Rattle.rdm_widget.specs.Framing.{Message, IsMessage, Holds, bytes_of};
 
-use crate::ServeError;
+use crate::{OnLine, ServeError};
 
-/// A stream of bytes holds one list of messages.
-pub fn stream_holds_one_list()
-    ensures { (stream : List ℕ) (messages others : List Message) →
-        Holds stream messages → Holds stream others → messages ≡ others }
-{}
-
-/// Messages that are written, one after another, are read back.
-pub fn written_messages_are_read_back()
-    ensures { (messages : List Message) → All IsMessage messages → Holds (bytes_of messages) messages }
+/// What `serve` answers to requests is made of what comes from the line for each of them, and of nothing else.
+pub fn requests_are_answered<L: OnLine>()
+    ensures { (s : L.Situation) (turns : List Turn) → list_all is_request (messages_in turns) ≡ true →
+        answers L.hearing s turns ≡ answers_with (messages_in turns) (replies_in L.hearing s turns) }
 {}
 
 /// Once the reports are handed in, as they are before each request, no job that is outstanding has ended by now.

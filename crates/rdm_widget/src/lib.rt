@@ -5,22 +5,20 @@
 #![tactic(auto)]
 
 mod answering;
-mod clock;
-mod framing;
 mod laws;
 mod live_fixture;
 mod on_line;
 mod protocol;
-mod reading;
 mod rig;
 mod serving;
 
-pub use clock::{Clock, RealClock};
-pub use framing::{Front, MOST_BODY, MessageView, Packet, front_of, packet_of};
 pub use laws::{
-    no_job_is_overdue, rig_of_one_replies_as_its_fixture, serve_errors_are_equal_by_value,
-    stream_holds_one_list, written_messages_are_read_back,
+    no_job_is_overdue, requests_are_answered, rig_of_one_replies_as_its_fixture,
+    serve_errors_are_equal_by_value,
 };
 pub use live_fixture::LiveFixture;
 pub use on_line::OnLine;
+pub use rdm_messages::{
+    Clock, Front, MOST_BODY, MessageView, Packet, RealClock, front_of, packet_of,
+};
 pub use serving::{ServeError, serve, serve_some};

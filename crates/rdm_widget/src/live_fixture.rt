@@ -50,7 +50,7 @@ impl LiveFixture {
         rules: &ArrayVec<Rule, MOST_RULES>,
     ) -> Result<LiveFixture, NewError>
         ensures fixture { IfOk result (λ d.
-            IsIn d (switched_on rules.now.items (record { uid = uid; profile = profile; queue_size = queue_size; entries = most_entries }))) }
+            IsIn d (switched_on rules.now.items (record { uid = uid; profile = profile; queue_size = queue_size; entries = most_entries; first_job = 0 }))) }
         ensures bad_uid { IsErrOf result NewError.BadUid ↔ (uid.device ≡ 0xFFFFFFFF) }
         ensures bad_size { IsErrOf result NewError.BadSize ↔ ((uid.device ≢ 0xFFFFFFFF) × ¬ IsQueueSize queue_size) }
         ensures bad_profile { IsErrOf result NewError.BadProfile

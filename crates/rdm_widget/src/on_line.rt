@@ -2,7 +2,7 @@
 
 ghost use Rattle.std.specs.Prelude.{◌≡◌};
 ghost use Rattle.rdm_responder.specs.Rules.{answered};
-ghost use Rattle.rdm_widget.specs.Hearing.{Hearing};
+ghost use Rattle.rdm_messages.specs.Hearing.{Hearing};
 
 use crate::live_fixture::LiveFixture;
 use rdm_frame::Wire;

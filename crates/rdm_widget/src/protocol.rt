@@ -1,30 +1,13 @@
 //! What is answered to a message.
 
 ghost use Rattle.std.specs.Prelude.{◌≡◌, ◌≤◌, length};
-ghost use Rattle.rdm_widget.specs.Framing.{bytes_of, message_bytes, message_in};
-ghost use Rattle.rdm_widget.specs.Protocol as says;
+ghost use Rattle.rdm_messages.specs.Framing.{bytes_of, message_bytes, message_in};
+ghost use Rattle.rdm_messages.specs.Protocol as says;
 
-use crate::framing::{MessageView, Packet, packet_of};
 use crate::on_line::OnLine;
 use rdm_frame::{Bytes, Wire};
-
-/// From the host: which parameters the interface has. To the host: these.
-const PARAMETERS: u8 = 3;
-
-/// To the host: bytes that came from the line.
-const FROM_LINE: u8 = 5;
-
-/// From the host: an RDM request for the line.
-const REQUEST: u8 = 7;
-
-/// From the host: which serial number the interface has. To the host: this.
-const SERIAL_NUMBER: u8 = 10;
-
-/// From the host: an RDM discovery request for the line.
-const DISCOVERY: u8 = 11;
-
-/// To the host: nothing came from the line, or nothing more.
-const TIMEOUT: u8 = 12;
+use rdm_messages::labels::{DISCOVERY, FROM_LINE, PARAMETERS, REQUEST, SERIAL_NUMBER, TIMEOUT};
+use rdm_messages::{MessageView, Packet, packet_of};
 
 /// Firmware 2.4, a break of 9 and a mark of 1 times 10.67 µs, and 40 packets a second.
 const PARAMETER_BYTES: [u8; 5] = [0x04, 0x02, 9, 1, 40];

@@ -1,16 +1,13 @@
 //! A stream of messages is read, and each is answered.
 
-ghost use Rattle.std.specs.Prelude.{◌≡◌, ◌≤◌, ◌<◌, ◌+◌, [], length, drop, IfOk, OnOk};
+ghost use Rattle.std.specs.Prelude.{◌≡◌, ◌≤◌, ◌<◌, ◌+◌, [], length, IfOk, OnOk};
 ghost use Rattle.std.specs.Io.KnownBytes.{IsAtEnd, Keeps};
 ghost use Rattle.rdm_widget.specs.declared.serving.ServeError.TheVariants.{Read as ReadFault, Write as WriteFault};
-ghost use Rattle.rdm_widget.specs.Serving.{IsServed, IsServedOnce, IsCutShort};
+ghost use Rattle.rdm_messages.specs.Serving.{IsServed, IsServedOnce, IsCutShort};
 
 use crate::answering::answer_all;
-use crate::clock::Clock;
-use crate::framing::Packet;
 use crate::on_line::OnLine;
-use crate::reading::take_more;
-use rdm_frame::Bytes;
+use rdm_messages::{Clock, Packet, rest_of, take_more};
 use std::io::{Read, Write};
 use thiserror::Error;
 
@@ -95,14 +92,4 @@ pub fn serve<R: Read, W: Write, C: Clock, L: OnLine>(
         }
     }
     Err(ServeError::Read)
-}
-
-/// What is left of these bytes without the first ones.
-fn rest_of(bytes: &Packet, done: usize) -> Packet
-    requires { done ≤ length bytes.now }
-    ensures { result ≡ drop done bytes.now }
-{
-    let mut rest = Bytes::new();
-    rest.append(&bytes.as_slice()[done..]);
-    rest
 }

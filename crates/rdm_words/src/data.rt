@@ -5,6 +5,7 @@ pub(crate) mod known;
 pub(crate) mod layout;
 pub(crate) mod lists;
 pub(crate) mod meanings;
+pub(crate) mod own;
 pub(crate) mod records;
 pub(crate) mod sensors;
 pub(crate) mod statuses;

@@ -4,7 +4,9 @@ ghost use Rattle.std.specs.Prelude.{◌≡◌, ℕ, List, ◌++◌, OnOk, string
 ghost use Rattle.rdm_words.specs.FixtureWords.{SaysFixture, uid_line, model_words, subs_line};
 ghost use Rattle.rdm_words.specs.Plain.{IsPlain};
 
+use crate::data::own::put_added;
 use crate::data::sensors::put_range;
+use crate::tables::parameters::parameter;
 use crate::tables::products::PRODUCT_CATEGORIES;
 use crate::tables::sensors::{SENSOR_TYPES, SENSOR_UNITS, UNIT_PREFIXES};
 use crate::tables::slots::{SLOT_LABELS, SLOT_TYPES};
@@ -70,6 +72,7 @@ fn put_parts(text: &mut String, profile: &Profile, rules: &[Rule]) -> Result<(),
         put_sensor(text, number, sensor)?;
     }
     put_rest(text, profile)?;
+    put_own_parts(text, profile)?;
     for rule in rules {
         put_rule(text, rule)?;
     }
@@ -212,6 +215,22 @@ fn put_rest(text: &mut String, profile: &Profile) -> Result<(), AllocError> {
     let boot = profile.boot;
     let version = words(&profile.boot_text);
     writeln!(text, "  boot software version {boot:08X}, \"{version}\"")
+}
+
+/// The slots that aren't described, the parameters that the maker adds, and those of the standard that the fixture lacks.
+fn put_own_parts(text: &mut String, profile: &Profile) -> Result<(), AllocError> {
+    let more = profile.more_slots;
+    if more > 0 {
+        writeln!(text, "  {more} slots more than those above")?;
+    }
+    for def in profile.own.as_slice() {
+        put_added(text, def)?;
+    }
+    for pid in profile.without.iter() {
+        let name = parameter(*pid).unwrap_or("parameter");
+        writeln!(text, "  no {name} ({pid:04X})")?;
+    }
+    Ok(())
 }
 
 /// Of which jobs a rule speaks, and what they come to.

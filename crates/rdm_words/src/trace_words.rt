@@ -7,10 +7,10 @@ ghost use Rattle.rdm_words.specs.Unread.{AreUnread, AreLastOfLine, data_line};
 
 use crate::Known;
 use crate::data::layout::layout_of;
+use crate::data::own::{put_own_line, put_parameter};
 use crate::data::statuses::{Status, put_failure};
 use crate::frame::class::put_class;
 use crate::frame::frame_words::{put_bytes_words, put_data_lines};
-use crate::frame::header::put_parameter;
 use crate::frame::place::put_place;
 use crate::text::put_quoted;
 use rdm_bus::{Fault, Heard};
@@ -154,18 +154,25 @@ fn put_message(text: &mut String, message: &Message, known: &Known<'_>) -> Resul
         × (front : List ℕ) × (string_bytes text.new ≡ string_bytes text.old ++ (front ++ data_line message.now.body))) }
 {
     let mut head = String::new(*text.allocator());
-    put_heading(&mut head, message)?;
+    put_heading(&mut head, message, known)?;
     text.push_str(head.as_str())?;
     let layout = layout_of(message.class, message.pid);
     put_data_lines(text, layout, message.body.as_slice(), known)
 }
 
 /// What a message is, and of what.
-fn put_heading(text: &mut String, message: &Message) -> Result<(), AllocError> {
+fn put_heading(text: &mut String, message: &Message, known: &Known<'_>) -> Result<(), AllocError> {
+    let Message {
+        class,
+        pid,
+        sub,
+        body,
+    } = message;
     text.push_str("recorded: ")?;
-    put_class(text, message.class)?;
+    put_class(text, *class)?;
     text.push(' ')?;
-    put_parameter(text, message.pid)?;
+    put_parameter(text, *pid, known)?;
     text.push_str(", ")?;
-    put_place(text, message.sub)
+    put_place(text, *sub)?;
+    put_own_line(text, *class, *pid, body.as_slice(), known)
 }

@@ -1,6 +1,7 @@
 //! What no clause says: the words themselves, held against the fields of the standard.
 
 mod lines;
+mod own;
 mod requests;
 mod responses;
 mod short;

@@ -2,16 +2,18 @@
 
 ghost use Rattle.std.specs.Prelude.{◌≡◌, ◌≢◌, ◌↔◌, [], ◌∷◌, IfSome, IsSome, MatchOption, drop, false, length, slice_get, take};
 ghost use Rattle.rdm_frame.specs.FrameText.{frame_text, IsFrame};
-ghost use Rattle.rdm_collector.specs.Collecting.{State, refusal_of, poll_request, command_request, after_ask, after_poll, heard_in, after_hearing, without_transaction};
+ghost use Rattle.rdm_collector.specs.Collecting.{refusal_of, poll_request, command_request, heard_in};
+ghost use Rattle.rdm_c.specs.CollectorStates.{CollectorState, asked, ended, listened, may_repeat, polled, taken};
 ghost use Rattle.rdm_c.specs.Messages.{heard_code, message_in};
-ghost use Rattle.rdm_c.specs.Endpoints.{IsIn, found, is_collector};
+ghost use Rattle.rdm_c.specs.Endpoints.{IsIn, flag, found, is_collector};
 ghost use Rattle.rdm_c.specs.Statuses.{of_refusal};
 
 use crate::endpoint::Endpoint;
 use crate::front::write_front;
 use crate::message::{MessageNumbers, heard_code};
+use crate::running_collector::RunningCollector;
 use crate::status::Status;
-use rdm_collector::{AskError, Collector, Command, PollError};
+use rdm_collector::{AskError, Command, PollError};
 use rdm_frame::standard::MOST_SLOTS;
 
 /// Sends a command: writes its request to the front.
@@ -21,35 +23,37 @@ pub(crate) fn ask(
     request: &mut [u8; MOST_SLOTS],
     count: &mut usize,
 ) -> Status
-    ensures refused { (s : State) → IsIn endpoint.old s → result ≡ of_refusal (refusal_of s command.now) }
-    ensures sent { (s : State) → IsIn endpoint.old s → result ≡ Status.Done →
-        take count.new request.new ≡ frame_text (command_request s command.now) }
-    ensures count { (s : State) → IsIn endpoint.old s → result ≡ Status.Done →
-        count.new ≡ length (frame_text (command_request s command.now)) }
-    ensures is_frame { (s : State) → IsIn endpoint.old s → result ≡ Status.Done → IsFrame (command_request s command.now) }
-    ensures after { (s : State) → IsIn endpoint.old s → result ≡ Status.Done → IsIn endpoint.new (after_ask s command.now) }
+    ensures refused { (s : CollectorState) → IsIn endpoint.old s → result ≡ of_refusal (refusal_of s.collector command.now) }
+    ensures sent { (s : CollectorState) → IsIn endpoint.old s → result ≡ Status.Done →
+        take count.new request.new ≡ frame_text (command_request s.collector command.now) }
+    ensures count { (s : CollectorState) → IsIn endpoint.old s → result ≡ Status.Done →
+        count.new ≡ length (frame_text (command_request s.collector command.now)) }
+    ensures is_frame { (s : CollectorState) → IsIn endpoint.old s → result ≡ Status.Done → IsFrame (command_request s.collector command.now) }
+    ensures after { (s : CollectorState) → IsIn endpoint.old s → result ≡ Status.Done → IsIn endpoint.new (asked s command.now) }
     ensures same { result ≢ Status.Done → endpoint.new ≡ endpoint.old }
     ensures absent { (result ≡ Status.Absent) ↔ (is_collector endpoint.old ≡ false) }
     ensures known { result ≢ Status.Unknown }
 {
     match endpoint {
-        Endpoint::Responder(_) | Endpoint::Searcher(_) => Status::Absent,
+        Endpoint::Responder(_) | Endpoint::DeviceCollector(_) | Endpoint::Searcher(_) => {
+            Status::Absent
+        },
         Endpoint::Collector(collector) => send(collector, command, request, count),
     }
 }
 
 /// Sends a command, as `ask`.
 fn send(
-    collector: &mut Collector,
+    collector: &mut RunningCollector,
     command: &Command,
     request: &mut [u8; MOST_SLOTS],
     count: &mut usize,
 ) -> Status
-    ensures refused { result ≡ of_refusal (refusal_of collector.old command.now) }
-    ensures sent { result ≡ Status.Done → take count.new request.new ≡ frame_text (command_request collector.old command.now) }
-    ensures count { result ≡ Status.Done → count.new ≡ length (frame_text (command_request collector.old command.now)) }
-    ensures is_frame { result ≡ Status.Done → IsFrame (command_request collector.old command.now) }
-    ensures after { result ≡ Status.Done → collector.new ≡ after_ask collector.old command.now }
+    ensures refused { result ≡ of_refusal (refusal_of collector.old.collector command.now) }
+    ensures sent { result ≡ Status.Done → take count.new request.new ≡ frame_text (command_request collector.old.collector command.now) }
+    ensures count { result ≡ Status.Done → count.new ≡ length (frame_text (command_request collector.old.collector command.now)) }
+    ensures is_frame { result ≡ Status.Done → IsFrame (command_request collector.old.collector command.now) }
+    ensures after { result ≡ Status.Done → collector.new ≡ asked collector.old command.now }
     ensures same { result ≢ Status.Done → collector.new ≡ collector.old }
     ensures found { (result ≢ Status.Absent) × (result ≢ Status.Unknown) }
 {
@@ -70,28 +74,34 @@ pub(crate) fn poll(
     request: &mut [u8; MOST_SLOTS],
     count: &mut usize,
 ) -> Status
-    ensures busy { (s : State) → IsIn endpoint.old s → ((result ≡ Status.Busy) ↔ IsSome s.transaction) }
-    ensures sent { (s : State) → IsIn endpoint.old s → result ≡ Status.Done → take count.new request.new ≡ frame_text (poll_request s) }
-    ensures count { (s : State) → IsIn endpoint.old s → result ≡ Status.Done → count.new ≡ length (frame_text (poll_request s)) }
-    ensures is_frame { (s : State) → IsIn endpoint.old s → result ≡ Status.Done → IsFrame (poll_request s) }
-    ensures after { (s : State) → IsIn endpoint.old s → result ≡ Status.Done → IsIn endpoint.new (after_poll s) }
+    ensures busy { (s : CollectorState) → IsIn endpoint.old s → ((result ≡ Status.Busy) ↔ IsSome s.collector.transaction) }
+    ensures sent { (s : CollectorState) → IsIn endpoint.old s → result ≡ Status.Done → take count.new request.new ≡ frame_text (poll_request s.collector) }
+    ensures count { (s : CollectorState) → IsIn endpoint.old s → result ≡ Status.Done → count.new ≡ length (frame_text (poll_request s.collector)) }
+    ensures is_frame { (s : CollectorState) → IsIn endpoint.old s → result ≡ Status.Done → IsFrame (poll_request s.collector) }
+    ensures after { (s : CollectorState) → IsIn endpoint.old s → result ≡ Status.Done → IsIn endpoint.new (polled s) }
     ensures same { result ≢ Status.Done → endpoint.new ≡ endpoint.old }
     ensures absent { (result ≡ Status.Absent) ↔ (is_collector endpoint.old ≡ false) }
     ensures statuses { result ≢ Status.Done → result ≢ Status.Absent → result ≢ Status.Busy → result ≡ Status.OutOfMemory }
 {
     match endpoint {
-        Endpoint::Responder(_) | Endpoint::Searcher(_) => Status::Absent,
+        Endpoint::Responder(_) | Endpoint::DeviceCollector(_) | Endpoint::Searcher(_) => {
+            Status::Absent
+        },
         Endpoint::Collector(collector) => send_poll(collector, request, count),
     }
 }
 
 /// Sends a poll, as `poll`.
-fn send_poll(collector: &mut Collector, request: &mut [u8; MOST_SLOTS], count: &mut usize) -> Status
-    ensures busy { (result ≡ Status.Busy) ↔ IsSome collector.old.transaction }
-    ensures sent { result ≡ Status.Done → take count.new request.new ≡ frame_text (poll_request collector.old) }
-    ensures count { result ≡ Status.Done → count.new ≡ length (frame_text (poll_request collector.old)) }
-    ensures is_frame { result ≡ Status.Done → IsFrame (poll_request collector.old) }
-    ensures after { result ≡ Status.Done → collector.new ≡ after_poll collector.old }
+fn send_poll(
+    collector: &mut RunningCollector,
+    request: &mut [u8; MOST_SLOTS],
+    count: &mut usize,
+) -> Status
+    ensures busy { (result ≡ Status.Busy) ↔ IsSome collector.old.collector.transaction }
+    ensures sent { result ≡ Status.Done → take count.new request.new ≡ frame_text (poll_request collector.old.collector) }
+    ensures count { result ≡ Status.Done → count.new ≡ length (frame_text (poll_request collector.old.collector)) }
+    ensures is_frame { result ≡ Status.Done → IsFrame (poll_request collector.old.collector) }
+    ensures after { result ≡ Status.Done → collector.new ≡ polled collector.old }
     ensures same { result ≢ Status.Done → collector.new ≡ collector.old }
     ensures found { result ≢ Status.Absent }
     ensures statuses { result ≢ Status.Done → result ≢ Status.Busy → result ≡ Status.OutOfMemory }
@@ -109,12 +119,14 @@ fn send_poll(collector: &mut Collector, request: &mut [u8; MOST_SLOTS], count: &
 /// Hears bytes, and tells what they are taken for.
 pub(crate) fn hear(endpoint: &mut Endpoint, bytes: &[u8], heard: &mut u8) -> Status
     ensures status { result ≡ found (is_collector endpoint.old) }
-    ensures heard { (s : State) → IsIn endpoint.old s → heard.new ≡ heard_code (heard_in s bytes.now) }
-    ensures after { (s : State) → IsIn endpoint.old s → IsIn endpoint.new (after_hearing s bytes.now) }
+    ensures heard { (s : CollectorState) → IsIn endpoint.old s → heard.new ≡ heard_code (heard_in s.collector bytes.now) }
+    ensures after { (s : CollectorState) → IsIn endpoint.old s → IsIn endpoint.new (listened s bytes.now) }
     ensures absent { result ≢ Status.Done → endpoint.new ≡ endpoint.old }
 {
     match endpoint {
-        Endpoint::Responder(_) | Endpoint::Searcher(_) => Status::Absent,
+        Endpoint::Responder(_) | Endpoint::DeviceCollector(_) | Endpoint::Searcher(_) => {
+            Status::Absent
+        },
         Endpoint::Collector(collector) => {
             *heard = heard_code(collector.hear(bytes));
             Status::Done
@@ -125,11 +137,13 @@ pub(crate) fn hear(endpoint: &mut Endpoint, bytes: &[u8], heard: &mut u8) -> Sta
 /// Ends the open transaction, if there is one, without an answer.
 pub(crate) fn over(endpoint: &mut Endpoint) -> Status
     ensures status { result ≡ found (is_collector endpoint.old) }
-    ensures after { (s : State) → IsIn endpoint.old s → IsIn endpoint.new (without_transaction s) }
+    ensures after { (s : CollectorState) → IsIn endpoint.old s → IsIn endpoint.new (ended s) }
     ensures absent { result ≢ Status.Done → endpoint.new ≡ endpoint.old }
 {
     match endpoint {
-        Endpoint::Responder(_) | Endpoint::Searcher(_) => Status::Absent,
+        Endpoint::Responder(_) | Endpoint::DeviceCollector(_) | Endpoint::Searcher(_) => {
+            Status::Absent
+        },
         Endpoint::Collector(collector) => {
             collector.over();
             Status::Done
@@ -139,31 +153,38 @@ pub(crate) fn over(endpoint: &mut Endpoint) -> Status
 
 /// Takes the first message that was recorded, and tells of it.
 pub(crate) fn next(endpoint: &mut Endpoint, message: &mut MessageNumbers) -> Status
-    ensures next { (s : State) → IsIn endpoint.old s → MatchOption (slice_get s.recorded 0) (result ≡ Status.NoMore)
+    ensures next { (s : CollectorState) → IsIn endpoint.old s → MatchOption (slice_get s.collector.recorded 0) (result ≡ Status.NoMore)
         (λ m. (result ≡ Status.Done) × (message_in message.new ≡ m)) }
-    ensures count { (s : State) → IsIn endpoint.old s → IfSome (slice_get s.recorded 0) (λ m. message.new.count ≡ length m.body) }
-    ensures after { (s : State) → IsIn endpoint.old s → IsIn endpoint.new (record s { recorded = drop 1 s.recorded }) }
+    ensures count { (s : CollectorState) → IsIn endpoint.old s →
+        IfSome (slice_get s.collector.recorded 0) (λ m. message.new.count ≡ length m.body) }
+    ensures repeat { (s : CollectorState) → IsIn endpoint.old s → result ≡ Status.Done →
+        message.new.may_repeat ≡ flag (may_repeat s) }
+    ensures after { (s : CollectorState) → IsIn endpoint.old s → result ≡ Status.Done → IsIn endpoint.new (taken s) }
     ensures absent { (result ≡ Status.Absent) ↔ (is_collector endpoint.old ≡ false) }
-    ensures same { is_collector endpoint.old ≡ false → endpoint.new ≡ endpoint.old }
+    ensures same { result ≢ Status.Done → endpoint.new ≡ endpoint.old }
 {
     match endpoint {
-        Endpoint::Responder(_) | Endpoint::Searcher(_) => Status::Absent,
+        Endpoint::Responder(_) | Endpoint::DeviceCollector(_) | Endpoint::Searcher(_) => {
+            Status::Absent
+        },
         Endpoint::Collector(collector) => take_first(collector, message),
     }
 }
 
 /// Takes the first message, as `next`.
-fn take_first(collector: &mut Collector, message: &mut MessageNumbers) -> Status
-    ensures next { MatchOption (slice_get collector.old.recorded 0) (result ≡ Status.NoMore)
+fn take_first(collector: &mut RunningCollector, message: &mut MessageNumbers) -> Status
+    ensures next { MatchOption (slice_get collector.old.collector.recorded 0) (result ≡ Status.NoMore)
         (λ m. (result ≡ Status.Done) × (message_in message.new ≡ m)) }
-    ensures count { IfSome (slice_get collector.old.recorded 0) (λ m. message.new.count ≡ length m.body) }
+    ensures count { IfSome (slice_get collector.old.collector.recorded 0) (λ m. message.new.count ≡ length m.body) }
+    ensures repeat { result ≡ Status.Done → message.new.may_repeat ≡ flag (may_repeat collector.old) }
+    ensures after { result ≡ Status.Done → collector.new ≡ taken collector.old }
     ensures found { result ≢ Status.Absent }
-    ensures after { collector.new ≡ record collector.old { recorded = drop 1 collector.old.recorded } }
+    ensures same { result ≢ Status.Done → collector.new ≡ collector.old }
 {
     let Some(first) = collector.recorded().first() else {
         return Status::NoMore;
     };
-    message.tell(first);
-    collector.forget(1);
+    message.tell(first, collector.may_repeat());
+    collector.forget_first();
     Status::Done
 }

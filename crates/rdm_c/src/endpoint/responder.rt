@@ -50,7 +50,7 @@ pub(crate) fn step(
             hear(running, bytes, reply, stepped);
             Status::Done
         }
-        Endpoint::Collector(_) | Endpoint::Searcher(_) => {
+        Endpoint::Collector(_) | Endpoint::DeviceCollector(_) | Endpoint::Searcher(_) => {
             stepped.clear();
             Status::Absent
         }
@@ -101,7 +101,9 @@ pub(crate) fn arrive(endpoint: &mut Endpoint, report: Report, kept: &mut u8) -> 
 {
     match endpoint {
         Endpoint::Responder(running) => take_report(running, report, kept),
-        Endpoint::Collector(_) | Endpoint::Searcher(_) => Status::Absent,
+        Endpoint::Collector(_) | Endpoint::DeviceCollector(_) | Endpoint::Searcher(_) => {
+            Status::Absent
+        },
     }
 }
 
@@ -136,7 +138,9 @@ pub(crate) fn change(endpoint: &mut Endpoint, change: Change) -> Status
 {
     match endpoint {
         Endpoint::Responder(running) => take_change(running, change),
-        Endpoint::Collector(_) | Endpoint::Searcher(_) => Status::Absent,
+        Endpoint::Collector(_) | Endpoint::DeviceCollector(_) | Endpoint::Searcher(_) => {
+            Status::Absent
+        },
     }
 }
 

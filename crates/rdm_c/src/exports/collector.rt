@@ -2,9 +2,10 @@
 
 ghost use Rattle.std.specs.Prelude.{◌≡◌, ◌≢◌, ◌↔◌, ◌⊎◌, ◌≤◌, [], ◌∷◌, IfSome, IsSome, MatchOption, None, Some, drop, false, length, slice_get, take};
 ghost use Rattle.rdm_frame.specs.FrameText.{frame_text, IsFrame};
-ghost use Rattle.rdm_collector.specs.Collecting.{State, new_collector, refusal_of, poll_request, command_request, after_ask, after_poll, heard_in, after_hearing, without_transaction};
+ghost use Rattle.rdm_collector.specs.Collecting.{refusal_of, poll_request, command_request, heard_in};
+ghost use Rattle.rdm_c.specs.CollectorStates.{CollectorState, asked, ended, listened, may_repeat, new_state, polled, taken};
 ghost use Rattle.rdm_c.specs.Messages.{action_in, command_in, heard_code, message_in, want_in};
-ghost use Rattle.rdm_c.specs.Endpoints.{HeldIn, found, holds_collector};
+ghost use Rattle.rdm_c.specs.Endpoints.{HeldIn, flag, found, holds_collector};
 ghost use Rattle.rdm_c.specs.Statuses.{code_of, of_refusal};
 
 use crate::endpoint;
@@ -12,8 +13,8 @@ use crate::endpoint::Endpoint;
 use crate::handle::Handle;
 use crate::keeping::{free, put, replace, take};
 use crate::message::{CommandNumbers, MessageNumbers, want_in};
+use crate::running_collector::RunningCollector;
 use crate::status::Status;
-use rdm_collector::Collector;
 use rdm_frame::Uid;
 use rdm_frame::standard::MOST_SLOTS;
 use std::alloc::Global;
@@ -34,7 +35,7 @@ pub extern "C" fn felosumay_collector_new(
     wants: u8,
 ) -> u8
     ensures made { IfSome (want_in wants) (λ want. result ≡ code_of Status.Done → HeldIn collector.new.held
-        (new_collector (record { maker = maker; device = device }) (record { maker = target_maker; device = target_device }) want)) }
+        (new_state (record { maker = maker; device = device }) (record { maker = target_maker; device = target_device }) want)) }
     ensures unknown { (result ≡ code_of Status.Unknown) ↔ (want_in wants ≡ None) }
     ensures bad_uid { (result ≡ code_of Status.BadUid)
         ↔ ((want_in wants ≢ None) × ((device ≡ 0xFFFFFFFF) ⊎ (target_device ≡ 0xFFFFFFFF))) }
@@ -53,7 +54,7 @@ pub extern "C" fn felosumay_collector_new(
     if uid.is_broadcast() || target.is_broadcast() {
         return Status::BadUid.code();
     }
-    let made = Collector::new(alloc, uid, target, want);
+    let made = RunningCollector::new(alloc, uid, target, want);
     replace(alloc, collector, Endpoint::Collector(made)).code()
 }
 
@@ -74,16 +75,16 @@ pub extern "C" fn felosumay_collector_ask(
     ensures unknown { (result ≡ code_of Status.Unknown) ↔ (action_in command.now.command_class ≡ None) }
     ensures absent { IfSome (command_in command.now load.now) (λ c.
         (result ≡ code_of Status.Absent) ↔ (holds_collector collector.old.held ≡ false)) }
-    ensures refused { IfSome (command_in command.now load.now) (λ c. (s : State) → HeldIn collector.old.held s →
-        result ≡ code_of (of_refusal (refusal_of s c))) }
-    ensures sent { IfSome (command_in command.now load.now) (λ c. (s : State) → HeldIn collector.old.held s →
-        result ≡ code_of Status.Done → take count.new request.new ≡ frame_text (command_request s c)) }
-    ensures count { IfSome (command_in command.now load.now) (λ c. (s : State) → HeldIn collector.old.held s →
-        result ≡ code_of Status.Done → count.new ≡ length (frame_text (command_request s c))) }
-    ensures is_frame { IfSome (command_in command.now load.now) (λ c. (s : State) → HeldIn collector.old.held s →
-        result ≡ code_of Status.Done → IsFrame (command_request s c)) }
-    ensures after { IfSome (command_in command.now load.now) (λ c. (s : State) → HeldIn collector.old.held s →
-        result ≡ code_of Status.Done → HeldIn collector.new.held (after_ask s c)) }
+    ensures refused { IfSome (command_in command.now load.now) (λ c. (s : CollectorState) → HeldIn collector.old.held s →
+        result ≡ code_of (of_refusal (refusal_of s.collector c))) }
+    ensures sent { IfSome (command_in command.now load.now) (λ c. (s : CollectorState) → HeldIn collector.old.held s →
+        result ≡ code_of Status.Done → take count.new request.new ≡ frame_text (command_request s.collector c)) }
+    ensures count { IfSome (command_in command.now load.now) (λ c. (s : CollectorState) → HeldIn collector.old.held s →
+        result ≡ code_of Status.Done → count.new ≡ length (frame_text (command_request s.collector c))) }
+    ensures is_frame { IfSome (command_in command.now load.now) (λ c. (s : CollectorState) → HeldIn collector.old.held s →
+        result ≡ code_of Status.Done → IsFrame (command_request s.collector c)) }
+    ensures after { IfSome (command_in command.now load.now) (λ c. (s : CollectorState) → HeldIn collector.old.held s →
+        result ≡ code_of Status.Done → HeldIn collector.new.held (asked s c)) }
     ensures same { result ≢ code_of Status.Done → collector.new.held ≡ collector.old.held }
 {
     let Some(command) = command.command(load) else {
@@ -108,14 +109,14 @@ pub extern "C" fn felosumay_collector_poll(
     count: &mut usize,
 ) -> u8
     ensures absent { (result ≡ code_of Status.Absent) ↔ (holds_collector collector.old.held ≡ false) }
-    ensures busy { (s : State) → HeldIn collector.old.held s → ((result ≡ code_of Status.Busy) ↔ IsSome s.transaction) }
-    ensures sent { (s : State) → HeldIn collector.old.held s → result ≡ code_of Status.Done →
-        take count.new request.new ≡ frame_text (poll_request s) }
-    ensures count { (s : State) → HeldIn collector.old.held s → result ≡ code_of Status.Done →
-        count.new ≡ length (frame_text (poll_request s)) }
-    ensures is_frame { (s : State) → HeldIn collector.old.held s → result ≡ code_of Status.Done → IsFrame (poll_request s) }
-    ensures after { (s : State) → HeldIn collector.old.held s → result ≡ code_of Status.Done →
-        HeldIn collector.new.held (after_poll s) }
+    ensures busy { (s : CollectorState) → HeldIn collector.old.held s → ((result ≡ code_of Status.Busy) ↔ IsSome s.collector.transaction) }
+    ensures sent { (s : CollectorState) → HeldIn collector.old.held s → result ≡ code_of Status.Done →
+        take count.new request.new ≡ frame_text (poll_request s.collector) }
+    ensures count { (s : CollectorState) → HeldIn collector.old.held s → result ≡ code_of Status.Done →
+        count.new ≡ length (frame_text (poll_request s.collector)) }
+    ensures is_frame { (s : CollectorState) → HeldIn collector.old.held s → result ≡ code_of Status.Done → IsFrame (poll_request s.collector) }
+    ensures after { (s : CollectorState) → HeldIn collector.old.held s → result ≡ code_of Status.Done →
+        HeldIn collector.new.held (polled s) }
     ensures same { result ≢ code_of Status.Done → collector.new.held ≡ collector.old.held }
     ensures codes { result ≢ code_of Status.Done → result ≢ code_of Status.Absent → result ≢ code_of Status.Busy →
         result ≡ code_of Status.OutOfMemory }
@@ -138,8 +139,8 @@ pub extern "C" fn felosumay_collector_hear(
     heard: &mut u8,
 ) -> u8
     ensures status { result ≡ code_of (found (holds_collector collector.old.held)) }
-    ensures heard { (s : State) → HeldIn collector.old.held s → heard.new ≡ heard_code (heard_in s bytes.now) }
-    ensures after { (s : State) → HeldIn collector.old.held s → HeldIn collector.new.held (after_hearing s bytes.now) }
+    ensures heard { (s : CollectorState) → HeldIn collector.old.held s → heard.new ≡ heard_code (heard_in s.collector bytes.now) }
+    ensures after { (s : CollectorState) → HeldIn collector.old.held s → HeldIn collector.new.held (listened s bytes.now) }
     ensures absent { result ≢ code_of Status.Done → collector.new.held ≡ collector.old.held }
 {
     let Some(mut endpoint) = take(alloc, collector) else {
@@ -154,7 +155,7 @@ pub extern "C" fn felosumay_collector_hear(
 #[unsafe(no_mangle)]
 pub extern "C" fn felosumay_collector_over(alloc: Global, collector: &mut Handle) -> u8
     ensures status { result ≡ code_of (found (holds_collector collector.old.held)) }
-    ensures after { (s : State) → HeldIn collector.old.held s → HeldIn collector.new.held (without_transaction s) }
+    ensures after { (s : CollectorState) → HeldIn collector.old.held s → HeldIn collector.new.held (ended s) }
     ensures absent { result ≢ code_of Status.Done → collector.new.held ≡ collector.old.held }
 {
     let Some(mut endpoint) = take(alloc, collector) else {
@@ -173,14 +174,16 @@ pub extern "C" fn felosumay_collector_next(
     collector: &mut Handle,
     message: &mut MessageNumbers,
 ) -> u8
-    ensures next { (s : State) → HeldIn collector.old.held s → MatchOption (slice_get s.recorded 0) (result ≡ code_of Status.NoMore)
-        (λ m. (result ≡ code_of Status.Done) × (message_in message.new ≡ m)) }
-    ensures count { (s : State) → HeldIn collector.old.held s →
-        IfSome (slice_get s.recorded 0) (λ m. message.new.count ≡ length m.body) }
-    ensures after { (s : State) → HeldIn collector.old.held s →
-        HeldIn collector.new.held (record s { recorded = drop 1 s.recorded }) }
+    ensures next { (s : CollectorState) → HeldIn collector.old.held s → MatchOption (slice_get s.collector.recorded 0)
+        (result ≡ code_of Status.NoMore) (λ m. (result ≡ code_of Status.Done) × (message_in message.new ≡ m)) }
+    ensures count { (s : CollectorState) → HeldIn collector.old.held s →
+        IfSome (slice_get s.collector.recorded 0) (λ m. message.new.count ≡ length m.body) }
+    ensures repeat { (s : CollectorState) → HeldIn collector.old.held s → result ≡ code_of Status.Done →
+        message.new.may_repeat ≡ flag (may_repeat s) }
+    ensures after { (s : CollectorState) → HeldIn collector.old.held s → result ≡ code_of Status.Done →
+        HeldIn collector.new.held (taken s) }
     ensures absent { (result ≡ code_of Status.Absent) ↔ (holds_collector collector.old.held ≡ false) }
-    ensures same { holds_collector collector.old.held ≡ false → collector.new.held ≡ collector.old.held }
+    ensures same { result ≢ code_of Status.Done → collector.new.held ≡ collector.old.held }
 {
     let Some(mut endpoint) = take(alloc, collector) else {
         return Status::Absent.code();

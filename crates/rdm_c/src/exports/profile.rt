@@ -1,24 +1,28 @@
 //! What is wrong with a profile, as C asks for it.
 
-ghost use Rattle.std.specs.Prelude.{◌≡◌, ◌↔◌, ◌≤◌, IfSome};
+ghost use Rattle.std.specs.Prelude.{◌≡◌, ◌↔◌, ◌≤◌, [], IfSome, length};
 ghost use Rattle.rdm_device.specs.Device.Faults.{IsFirstBroken};
 ghost use Rattle.rdm_device.specs.Device.Profiles.{CanBeMade};
 ghost use Rattle.rdm_c.specs.Faults.{fault_in};
 ghost use Rattle.rdm_c.specs.Profiles.{profile_in};
 
 use crate::profile::ProfileNumbers;
-use rdm_device::{ProfileFault, profile_fault};
+use crate::profile::making::fault_of;
+use rdm_device::ProfileFault;
 
 /// Tells which rule of profiles is broken, the first of them in the order of their numbers, or 0 if none is: a responder can be
 /// made of the profile then. The header lists the rules.
+///
+/// Where there are no parameters of the maker's own, or none that are left out, the pointer to them isn't looked at.
 #[unsafe(no_mangle)]
-pub extern "C" fn felosumay_profile_fault(profile: &ProfileNumbers) -> u8
+pub extern "C" fn felosumay_profile_fault(profile: &ProfileNumbers<'_>) -> u8
     ensures good { (result ≡ 0) ↔ CanBeMade (profile_in profile.now) }
     ensures broken { IfSome (fault_in result) (λ fault. IsFirstBroken fault (profile_in profile.now)) }
-    ensures numbers { result ≤ 10 }
+    ensures numbers { result ≤ 17 }
+    ensures no_parameters { length profile.now.parameters.now ≡ 0 → (profile_in profile.now).own ≡ [] }
+    ensures none_left_out { length profile.now.without.now ≡ 0 → (profile_in profile.now).without.items ≡ [] }
 {
-    let profile = profile.profile();
-    match profile_fault(&profile) {
+    match fault_of(profile) {
         None => 0,
         Some(ProfileFault::SubDevices) => 1,
         Some(ProfileFault::Presets) => 2,
@@ -30,5 +34,12 @@ pub extern "C" fn felosumay_profile_fault(profile: &ProfileNumbers) -> u8
         Some(ProfileFault::TestNumber) => 8,
         Some(ProfileFault::TwinTests) => 9,
         Some(ProfileFault::TwinStatusTexts) => 10,
+        Some(ProfileFault::LeftOut) => 11,
+        Some(ProfileFault::LeftOutNeeded) => 12,
+        Some(ProfileFault::ParameterCount) => 13,
+        Some(ProfileFault::ParameterPid) => 14,
+        Some(ProfileFault::ParameterLimits) => 15,
+        Some(ProfileFault::ParameterStart) => 16,
+        Some(ProfileFault::ParameterOrder) => 17,
     }
 }

@@ -1,6 +1,6 @@
 //! The responder, as C calls it: made, given up, and what happens to it.
 
-ghost use Rattle.std.specs.Prelude.{◌≡◌, ◌≢◌, ◌↔◌, ◌≤◌, ◌==◌, None, Err, false, IfSome, IsSomeAnd, IfOk, IfErr, length, is_some};
+ghost use Rattle.std.specs.Prelude.{◌≡◌, ◌≢◌, ◌↔◌, ◌⊎◌, ◌≤◌, ◌==◌, None, Some, Err, false, IfSome, IsSomeAnd, IfOk, IfErr, length, is_some};
 ghost use Rattle.std.specs.Option.{option_map};
 ghost use Rattle.rdm_frame.specs.Reading.{frame_in};
 ghost use Rattle.rdm_params.specs.Commands.Changed.{change_of};
@@ -25,10 +25,11 @@ use crate::job::{JobNumbers, SteppedNumbers};
 use crate::keeping::{free, put, replace, take};
 use crate::outcome::{OutcomeNumbers, report_in};
 use crate::profile::ProfileNumbers;
+use crate::profile::making::{boxed, boxed_demo, fault_of, fault_of_demo};
 use crate::status::Status;
 use rdm_frame::standard::MOST_SLOTS;
 use rdm_frame::{Uid, Wire};
-use rdm_outbox::MOST_ENTRIES;
+use rdm_outbox::{MOST_ENTRIES, MOST_WAITING};
 use rdm_params::Profile;
 use rdm_responder::{NewError, Responder};
 use std::alloc::Global;
@@ -44,11 +45,11 @@ pub extern "C" fn felosumay_responder_new(
     responder: &mut Handle,
     maker: u16,
     device: u32,
-    profile: &ProfileNumbers,
+    profile: &ProfileNumbers<'_>,
     queue_size: u16,
 ) -> u8
     ensures made { result ≡ code_of Status.Done →
-        HeldFor responder.new.held (empty_history (setup_of maker device (profile_in profile.now) queue_size most_entries)) }
+        HeldFor responder.new.held (empty_history (setup_of maker device (profile_in profile.now) queue_size most_entries 0)) }
     ensures bad_uid { (result ≡ code_of Status.BadUid) ↔ (device ≡ 0xFFFFFFFF) }
     ensures bad_size { (result ≡ code_of Status.BadSize) ↔ ((device ≢ 0xFFFFFFFF) × ¬ IsQueueSize queue_size) }
     ensures bad_profile { (result ≡ code_of Status.BadProfile)
@@ -56,7 +57,7 @@ pub extern "C" fn felosumay_responder_new(
     ensures codes { result ≤ 4 }
     ensures refused { result ≢ code_of Status.Done → responder.new ≡ responder.old }
 {
-    felosumay_responder_new_with_entries(
+    felosumay_responder_new_with(
         alloc,
         responder,
         maker,
@@ -64,25 +65,30 @@ pub extern "C" fn felosumay_responder_new(
         profile,
         queue_size,
         MOST_ENTRIES,
+        0,
     )
 }
 
 /// Makes a responder as `felosumay_responder_new` does, with room for `entries` status entries that weren't shown (E1.20
-/// section 10.3.2), at 10 bytes each: for a controller with little memory. While that many wait, a further one is dropped.
+/// section 10.3.2), at 10 bytes each: for a controller with little memory. While that many wait, a further one is dropped. The
+/// first job of each worker has the number `first_job`, and each later one the next; after 4,294,967,295 comes 0. So if it is
+/// greater than the number of each job of the responder before, each report of such a job is astray.
 ///
-/// It is rejected as `felosumay_responder_new` says, and a number of entries that isn't 1 to 1,024 is a bad size too.
+/// It is rejected as `felosumay_responder_new` says, and a number of entries that isn't 1 to 1,024 is a bad size too. No
+/// `first_job` is rejected.
 #[unsafe(no_mangle)]
-pub extern "C" fn felosumay_responder_new_with_entries(
+pub extern "C" fn felosumay_responder_new_with(
     alloc: Global,
     responder: &mut Handle,
     maker: u16,
     device: u32,
-    profile: &ProfileNumbers,
+    profile: &ProfileNumbers<'_>,
     queue_size: u16,
     entries: u16,
+    first_job: u32,
 ) -> u8
     ensures made { result ≡ code_of Status.Done →
-        HeldFor responder.new.held (empty_history (setup_of maker device (profile_in profile.now) queue_size entries)) }
+        HeldFor responder.new.held (empty_history (setup_of maker device (profile_in profile.now) queue_size entries first_job)) }
     ensures bad_uid { (result ≡ code_of Status.BadUid) ↔ (device ≡ 0xFFFFFFFF) }
     ensures bad_size { (result ≡ code_of Status.BadSize)
         ↔ ((device ≢ 0xFFFFFFFF) × ¬ (IsQueueSize queue_size × IsListSize entries)) }
@@ -92,8 +98,19 @@ pub extern "C" fn felosumay_responder_new_with_entries(
     ensures refused { result ≢ code_of Status.Done → responder.new ≡ responder.old }
 {
     let uid = Uid { maker, device };
-    let profile = profile.profile();
-    start(alloc, responder, uid, profile, queue_size, entries).code()
+    if let Some(refusal) = refusal(uid, queue_size, entries) {
+        return refusal.code();
+    }
+    if fault_of(profile).is_some() {
+        return Status::BadProfile.code();
+    }
+    let Some(profile) = boxed(alloc, profile) else {
+        return Status::OutOfMemory.code();
+    };
+    start(
+        alloc, responder, uid, profile, queue_size, entries, first_job,
+    )
+    .code()
 }
 
 /// Makes a responder that is the demonstration fixture with N sub-devices, and replaces what the handle held.
@@ -109,7 +126,7 @@ pub extern "C" fn felosumay_responder_demo(
     queue_size: u16,
 ) -> u8
     ensures made { result ≡ code_of Status.Done →
-        HeldFor responder.new.held (empty_history (setup_of maker device (demo subs) queue_size most_entries)) }
+        HeldFor responder.new.held (empty_history (setup_of maker device (demo subs) queue_size most_entries 0)) }
     ensures bad_uid { (result ≡ code_of Status.BadUid) ↔ (device ≡ 0xFFFFFFFF) }
     ensures bad_size { (result ≡ code_of Status.BadSize) ↔ ((device ≢ 0xFFFFFFFF) × ¬ IsQueueSize queue_size) }
     ensures bad_profile { (result ≡ code_of Status.BadProfile)
@@ -118,8 +135,16 @@ pub extern "C" fn felosumay_responder_demo(
     ensures refused { result ≢ code_of Status.Done → responder.new ≡ responder.old }
 {
     let uid = Uid { maker, device };
-    let profile = Profile::demo(subs);
-    start(alloc, responder, uid, profile, queue_size, MOST_ENTRIES).code()
+    if let Some(refusal) = refusal(uid, queue_size, MOST_ENTRIES) {
+        return refusal.code();
+    }
+    if fault_of_demo(subs).is_some() {
+        return Status::BadProfile.code();
+    }
+    let Some(profile) = boxed_demo(alloc, subs) else {
+        return Status::OutOfMemory.code();
+    };
+    start(alloc, responder, uid, profile, queue_size, MOST_ENTRIES, 0).code()
 }
 
 /// Hears bytes, and tells of the reply, whose bytes stand at the front of `reply` then, of the job that started, and of what
@@ -200,47 +225,68 @@ pub extern "C" fn felosumay_responder_release(alloc: Global, responder: &mut Han
     free(alloc, responder);
 }
 
+/// Why no responder has this UID and these sizes, if so.
+fn refusal(uid: Uid, queue_size: u16, entries: u16) -> Option<Status>
+    ensures bad_uid { (result ≡ Some Status.BadUid) ↔ (uid.device ≡ 0xFFFFFFFF) }
+    ensures bad_size { (result ≡ Some Status.BadSize) ↔ ((uid.device ≢ 0xFFFFFFFF) × ¬ (IsQueueSize queue_size × IsListSize entries)) }
+    ensures others { IfSome result (λ status. (status ≡ Status.BadUid) ⊎ (status ≡ Status.BadSize)) }
+{
+    if uid.is_broadcast() {
+        return Some(Status::BadUid);
+    }
+    if queue_size == 0 || queue_size > MOST_WAITING || entries == 0 || entries > MOST_ENTRIES {
+        return Some(Status::BadSize);
+    }
+    None
+}
+
 /// Makes a responder, in the place of what the handle held.
+#[inline(never)]
 fn start(
     alloc: Global,
     responder: &mut Handle,
     uid: Uid,
-    profile: Profile,
+    profile: Box<Profile>,
     queue_size: u16,
     entries: u16,
+    first_job: u32,
 ) -> Status
     ensures made { result ≡ Status.Done →
-        HeldFor responder.new.held (empty_history (setup_of uid.maker uid.device profile queue_size entries)) }
+        HeldFor responder.new.held (empty_history (setup_of uid.maker uid.device profile.value queue_size entries first_job)) }
     ensures bad_uid { (result ≡ Status.BadUid) ↔ (uid.device ≡ 0xFFFFFFFF) }
     ensures bad_size { (result ≡ Status.BadSize) ↔ ((uid.device ≢ 0xFFFFFFFF) × ¬ (IsQueueSize queue_size × IsListSize entries)) }
     ensures bad_profile { (result ≡ Status.BadProfile)
-        ↔ ((uid.device ≢ 0xFFFFFFFF) × (IsQueueSize queue_size × IsListSize entries) × ¬ CanBeMade profile) }
+        ↔ ((uid.device ≢ 0xFFFFFFFF) × (IsQueueSize queue_size × IsListSize entries) × ¬ CanBeMade profile.value) }
     ensures codes { code_of result ≤ 4 }
     ensures refused { result ≢ Status.Done → responder.new ≡ responder.old }
 {
-    match running_responder(alloc, uid, profile, queue_size, entries) {
+    match running_responder(alloc, uid, profile, queue_size, entries, first_job) {
         Ok(made) => replace(alloc, responder, Endpoint::Responder(made)),
         Err(status) => status,
     }
 }
 
 /// A responder with the room for its replies.
+// Inlined, since a call would hand on a copy of it.
+#[inline(always)]
 fn running_responder(
     alloc: Global,
     uid: Uid,
-    profile: Profile,
+    profile: Box<Profile>,
     queue_size: u16,
     entries: u16,
+    first_job: u32,
 ) -> Result<RunningResponder, Status>
-    ensures made { IfOk result (λ s. StandsFor s.responder (empty_history (setup_of uid.maker uid.device profile queue_size entries))) }
+    ensures made { IfOk result (λ s.
+        StandsFor s.responder (empty_history (setup_of uid.maker uid.device profile.value queue_size entries first_job))) }
     ensures bad_uid { (result ≡ Err Status.BadUid) ↔ (uid.device ≡ 0xFFFFFFFF) }
     ensures bad_size { (result ≡ Err Status.BadSize)
         ↔ ((uid.device ≢ 0xFFFFFFFF) × ¬ (IsQueueSize queue_size × IsListSize entries)) }
     ensures bad_profile { (result ≡ Err Status.BadProfile)
-        ↔ ((uid.device ≢ 0xFFFFFFFF) × (IsQueueSize queue_size × IsListSize entries) × ¬ CanBeMade profile) }
+        ↔ ((uid.device ≢ 0xFFFFFFFF) × (IsQueueSize queue_size × IsListSize entries) × ¬ CanBeMade profile.value) }
     ensures codes { IfErr result (λ status. (code_of status ≤ 4) × (status ≢ Status.Done)) }
 {
-    match Responder::with_entries(alloc, uid, profile, queue_size, entries) {
+    match Responder::new_boxed(alloc, uid, profile, queue_size, entries, first_job) {
         Ok(made) => Ok(RunningResponder {
             responder: made,
             wire: Wire::new(),

@@ -16,7 +16,7 @@ abbrev for_byte : (ℕ → Bool) → Value → Bool
 for_byte test v = option_map_or test (byte_in v) false
 
 -- a test of the 16-bit number, if the value is one
-abbrev for_word : (ℕ → Bool) → Value → Bool
+abbrev pub for_word : (ℕ → Bool) → Value → Bool
 for_word test v = option_map_or test (word_in v) false
 
 -- every value of the form
@@ -51,9 +51,9 @@ a_personality form spot v = for_byte (λ n. nat_le 1 n && nat_le n (length spot.
 abbrev pub a_start : Form → Range
 a_start form spot v = for_word (λ n. nat_le 1 n && nat_le n 512 && not (footprint spot == 0)) v
 
--- a slot that the current personality uses
+-- a slot that the current personality uses, and the profile describes
 abbrev pub a_slot : Form → Range
-a_slot form spot v = for_word (λ n. nat_lt n (footprint spot)) v
+a_slot form spot v = for_word (λ n. nat_lt n (footprint spot) && nat_lt n (length spot.profile.slots.items)) v
 
 -- a sensor
 abbrev pub a_sensor : Form → Range

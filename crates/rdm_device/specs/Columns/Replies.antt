@@ -1,9 +1,10 @@
 -- Replies that aren't what is stored at a key.
-use Rattle.std.specs.Prelude.{ℕ, suc, ◌-◌, ◌==◌, List, [], ◌∷◌, ◌++◌, length, take, slice_get, slice_index, replicate, find, flat_map, bytes_eq, if◌then◌else◌}
+use Rattle.std.specs.Prelude.{ℕ, Bool, suc, ◌-◌, ◌==◌, ◌&&◌, ◌||◌, not, List, [], ◌∷◌, ◌++◌, length, take, slice_get, slice_index, replicate, find, filter, flat_map, map, bytes_eq, if◌then◌else◌}
 use Rattle.std.specs.Int.{w16, from_be_bytes}
 use Rattle.std.specs.List.{list_all}
 use Rattle.std.specs.Option.{option_map_or}
 use Rattle.rdm_device.specs.declared.profile.Slot.{Slot}
+use Rattle.rdm_device.specs.declared.profile.own.ParameterDef.{ParameterDef}
 use Rattle.rdm_device.specs.declared.value.Value.{Value}
 use Rattle.rdm_device.specs.declared.value.Value.TheVariants.{Named, SlotName, Mode, Sensor, Info}
 use Rattle.rdm_device.specs.Device.Map.{lookup}
@@ -34,10 +35,19 @@ device_info spot = bytes_of (info spot)
 abbrev pub factory_pids : List ℕ
 factory_pids = 0x0082 ∷ 0x00B0 ∷ 0x00E0 ∷ 0x00F0 ∷ 0x0404 ∷ 0x0500 ∷ 0x0501 ∷ 0x0600 ∷ 0x0601 ∷ 0x0602 ∷ []
 
--- 1 if each of these has the value that it starts with, else 0
+-- those of the maker's own that it sets back
+abbrev pub reset_pids : List ParameterDef → List ℕ
+reset_pids ds = map (λ d. d.pid) (filter (λ d. d.resets) ds)
+
+-- whether a parameter of the maker's own has the value that it starts with, or isn't set back
+abbrev pub is_at_start : Spot → ParameterDef → Bool
+is_at_start spot d = not d.resets || bytes_eq (lookup spot.added d.pid 0) d.start
+
+-- 1 if each that is set back has the value that it starts with, else 0
 abbrev pub at_factory_defaults : Spot → List ℕ
 at_factory_defaults spot =
     if list_all (λ pid. bytes_eq (lookup spot.entries pid 0) (lookup (root_at_start spot.profile) pid 0)) factory_pids
+    && list_all (is_at_start spot) spot.profile.own
     then 1 ∷ [] else 0 ∷ []
 
 -- the codes of the languages. Section 10.5.7.

@@ -92,4 +92,7 @@ demo subs = record {
   tests = record { items = demo_tests };
   status_texts = record { items = demo_statuses };
   presets = 4;
+  own = [];
+  without = record { items = [] };
+  more_slots = 0;
 }

@@ -1,9 +1,12 @@
 -- The rules of a profile, one by one, and which is the first that it breaks. E1.20 sections 9 and 10.
-use Rattle.std.specs.Prelude.{◌≢◌, ◌<◌, ◌≤◌, length, All, AllPairs}
+use Rattle.std.specs.Prelude.{◌≢◌, ℕ, ◌<◌, ◌≤◌, List, length, All, AllPairs, IsTrue}
 use Rattle.rdm_device.specs.declared.profile.Profile.{Profile}
+use Rattle.rdm_device.specs.declared.profile.own.ParameterDef.{ParameterDef}
 use Rattle.rdm_device.specs.declared.profile.Unit.{Unit as DeviceUnit}
 use Rattle.rdm_device.specs.declared.profile.faults.ProfileFault.{ProfileFault}
-use Rattle.rdm_device.specs.declared.profile.faults.ProfileFault.TheVariants.{SubDevices, Presets, Personalities, Start, RootFootprint, SubFootprint, Languages, TestNumber, TwinTests, TwinStatusTexts}
+use Rattle.rdm_device.specs.declared.profile.faults.ProfileFault.TheVariants.{SubDevices, Presets, Personalities, Start, RootFootprint, SubFootprint, Languages, TestNumber, TwinTests, TwinStatusTexts, LeftOut, LeftOutNeeded, ParameterCount, ParameterPid, ParameterLimits, ParameterStart, ParameterOrder}
+use Rattle.rdm_device.specs.Device.LeftOut.{leave_no_need}
+use Rattle.rdm_device.specs.Device.Profiles.{root_slots, AreOptional, HaveFreePids, HaveLimits, HaveStarts, Ascend}
 
 -- The start address is one of DMX512. Section 10.6.3.
 abbrev pub IsStart : DeviceUnit → Type 0
@@ -15,12 +18,29 @@ Keeps SubDevices p = p.subs ≤ 512
 Keeps Presets p = p.presets < 65535
 Keeps Personalities p = (0 < length p.root.personalities.items) × (0 < length p.sub.personalities.items)
 Keeps Start p = IsStart p.root × IsStart p.sub
-Keeps RootFootprint p = All (λ m. m.footprint ≤ length p.slots.items) p.root.personalities.items
+Keeps RootFootprint p = All (λ m. m.footprint ≤ root_slots p) p.root.personalities.items
 Keeps SubFootprint p = All (λ m. m.footprint ≤ 512) p.sub.personalities.items
 Keeps Languages p = 0 < length p.languages.items
 Keeps TestNumber p = All (λ t. (0 < t.number) × (t.number < 255)) p.tests.items
 Keeps TwinTests p = AllPairs (λ s t. s.number ≢ t.number) p.tests.items
 Keeps TwinStatusTexts p = AllPairs (λ s t. s.id ≢ t.id) p.status_texts.items
+Keeps LeftOut p = AreOptional p.without.items
+Keeps LeftOutNeeded p = IsTrue (leave_no_need p.without.items)
+Keeps ParameterCount p = length p.own ≤ 16
+Keeps ParameterPid p = HaveFreePids p.own
+Keeps ParameterLimits p = HaveLimits p.own
+Keeps ParameterStart p = HaveStarts p.own
+Keeps ParameterOrder p = Ascend p.own
+
+-- the rules that don't speak of parameters, kept
+abbrev pub KeepsOthers : Profile → Type 0
+KeepsOthers p =
+    Keeps SubDevices p × Keeps Presets p × Keeps Personalities p × Keeps Start p × Keeps RootFootprint p × Keeps SubFootprint p
+    × Keeps Languages p × Keeps TestNumber p × Keeps TwinTests p × Keeps TwinStatusTexts p
+
+-- those, and the rules of the parameters that are left out
+abbrev pub KeepsLeftOut : Profile → Type 0
+KeepsLeftOut p = KeepsOthers p × Keeps LeftOut p × Keeps LeftOutNeeded p
 
 -- the rules before it, kept
 abbrev pub KeepsBefore : ProfileFault → Profile → Type 0
@@ -41,7 +61,19 @@ KeepsBefore TwinTests p =
 KeepsBefore TwinStatusTexts p =
     Keeps SubDevices p × Keeps Presets p × Keeps Personalities p × Keeps Start p × Keeps RootFootprint p × Keeps SubFootprint p
     × Keeps Languages p × Keeps TestNumber p × Keeps TwinTests p
+KeepsBefore LeftOut p = KeepsOthers p
+KeepsBefore LeftOutNeeded p = KeepsOthers p × Keeps LeftOut p
+KeepsBefore ParameterCount p = KeepsLeftOut p
+KeepsBefore ParameterPid p = KeepsLeftOut p × Keeps ParameterCount p
+KeepsBefore ParameterLimits p = KeepsLeftOut p × Keeps ParameterCount p × Keeps ParameterPid p
+KeepsBefore ParameterStart p = KeepsLeftOut p × Keeps ParameterCount p × Keeps ParameterPid p × Keeps ParameterLimits p
+KeepsBefore ParameterOrder p =
+    KeepsLeftOut p × Keeps ParameterCount p × Keeps ParameterPid p × Keeps ParameterLimits p × Keeps ParameterStart p
 
 -- It is the first rule that the profile breaks.
 abbrev pub IsFirstBroken : ProfileFault → Profile → Type 0
 IsFirstBroken fault p = KeepsBefore fault p × ¬ Keeps fault p
+
+-- a profile with these parameters left out and these of the maker's own
+abbrev pub with_parameters : Profile → List ℕ → List ParameterDef → Profile
+with_parameters p without own = record p { without = record { items = without }; own = own }

@@ -1,15 +1,18 @@
 -- The values that a root device and its sub-devices keep, and those that they start with. E1.20 section 9.
-use Rattle.std.specs.Prelude.{ℕ, suc, List, [], ◌∷◌, ◌++◌, replicate, slice_index}
+use Rattle.std.specs.Prelude.{ℕ, suc, List, [], ◌∷◌, ◌++◌, map, replicate, slice_index}
+use Rattle.rdm_device.specs.declared.profile.own.ParameterDef.{ParameterDef}
 use Rattle.rdm_device.specs.declared.profile.Profile.{Profile}
 use Rattle.rdm_device.specs.declared.profile.SensorDef.{SensorDef}
 use Rattle.rdm_device.specs.declared.profile.Unit.{Unit as DeviceUnit}
 use Rattle.rdm_device.specs.Device.Map.{Entry, entry}
 use Rattle.rdm_device.specs.Device.Values.{word_slots, long_slots}
 
--- the profile, the values of the root, and those of each sub-device, of which the first is number 1
+-- the profile, the values of the root, those of the parameters that the maker adds to it, and those of each sub-device, of which
+-- the first is number 1
 pub record Parameters : Type 0 where
   pub profile : Profile
   pub root : List Entry
+  pub added : List Entry
   pub subs : List (List Entry)
 
 -- what every device starts with: reports from advisories on, the label and the start address of its unit, the first
@@ -52,6 +55,10 @@ own_at_start p =
 abbrev pub root_at_start : Profile → List Entry
 root_at_start p = common_at_start p.root ++ own_at_start p
 
+-- what the parameters that the maker adds start with
+abbrev pub added_at_start : List ParameterDef → List Entry
+added_at_start ds = map (λ d. entry d.pid 0 d.start) ds
+
 -- what the devices of a profile start with
 unfoldable pub parameters_of : Profile → Parameters
-parameters_of p = record { profile = p; root = root_at_start p; subs = replicate p.subs (common_at_start p.sub) }
+parameters_of p = record { profile = p; root = root_at_start p; added = added_at_start p.own; subs = replicate p.subs (common_at_start p.sub) }

@@ -31,4 +31,7 @@ plain_profile root sub subs = record {
   tests = record { items = [] };
   status_texts = record { items = [] };
   presets = 0;
+  own = [];
+  without = record { items = [] };
+  more_slots = 0;
 }

@@ -1,7 +1,10 @@
 -- Which profiles a device can be made with.
-use Rattle.std.specs.Prelude.{◌≢◌, ℕ, ◌<◌, ◌≤◌, length, All, AllPairs}
+use Rattle.std.specs.Prelude.{◌≢◌, ℕ, ◌+◌, ◌<◌, ◌≤◌, min, List, length, All, AllPairs, IsTrue}
 use Rattle.rdm_device.specs.declared.profile.Profile.{Profile}
+use Rattle.rdm_device.specs.declared.profile.own.ParameterDef.{ParameterDef}
 use Rattle.rdm_device.specs.declared.profile.Unit.{Unit as DeviceUnit}
+use Rattle.rdm_device.specs.Device.LeftOut.{is_optional, leave_no_need}
+use Rattle.rdm_device.specs.Device.OwnParameters.{is_addable, has_limits, can_start}
 
 -- A unit has a personality and a start address, and none of its personalities uses more slots than there are.
 pub record IsGoodUnit (u : DeviceUnit) (slots : ℕ) : Type 0 where
@@ -10,16 +13,56 @@ pub record IsGoodUnit (u : DeviceUnit) (slots : ℕ) : Type 0 where
   pub start_greatest : u.start ≤ 512
   pub footprints : All (λ m. m.footprint ≤ slots) u.personalities.items
 
+-- how many DMX512 slots the root can use: those that are described and so many more, of the 512 that there are
+abbrev pub root_slots : Profile → ℕ
+root_slots p = min 512 (length p.slots.items + p.more_slots)
+
+-- The parameters that are left out are few, and none is one that each device must have.
+abbrev pub AreOptional : List ℕ → Type 0
+AreOptional pids = (length pids ≤ 36) × All (λ pid. IsTrue (is_optional pid)) pids
+
+-- Each parameter of the maker's own has a PID that is free for it, and no two have the same.
+abbrev pub HaveFreePids : List ParameterDef → Type 0
+HaveFreePids ds = All (λ d. IsTrue (is_addable d.pid)) ds × AllPairs (λ s t. s.pid ≢ t.pid) ds
+
+-- The limits of each are numbers that its data can say, the least first; data that are no number have at most 32 slots.
+abbrev pub HaveLimits : List ParameterDef → Type 0
+HaveLimits ds = All (λ d. IsTrue (has_limits d.shape d.low d.high)) ds
+
+-- Each starts with data of its own, in range.
+abbrev pub HaveStarts : List ParameterDef → Type 0
+HaveStarts ds = All (λ d. IsTrue (can_start d)) ds
+
+-- They are in the order of their PIDs.
+abbrev pub Ascend : List ParameterDef → Type 0
+Ascend ds = AllPairs (λ s t. s.pid < t.pid) ds
+
+-- The parameters of the maker's own are at most 16, each of them is good, and they are in their order.
+pub record AreGoodParameters (ds : List ParameterDef) : Type 0 where
+  pub count : length ds ≤ 16
+  pub pids : HaveFreePids ds
+  pub limits : HaveLimits ds
+  pub starts : HaveStarts ds
+  pub ascending : Ascend ds
+
+-- Only parameters are left out that may be, and none that another needs which stays.
+pub record MayBeLeftOut (pids : List ℕ) : Type 0 where
+  pub optional : AreOptional pids
+  pub needs : IsTrue (leave_no_need pids)
+
 -- Both units are good; there is a language; no self test is numbered 0 or 255 and no two alike; no two status IDs
--- are alike; and the number of presets isn't the one that stands for all of them.
+-- are alike; the number of presets isn't the one that stands for all of them; those parameters that are left out may be; and
+-- the parameters of the maker's own are good.
 pub record IsGoodProfile (p : Profile) : Type 0 where
-  pub root : IsGoodUnit p.root (length p.slots.items)
+  pub root : IsGoodUnit p.root (root_slots p)
   pub sub : IsGoodUnit p.sub 512
   pub language : 0 < length p.languages.items
   pub test_numbers : All (λ t. (0 < t.number) × (t.number < 255)) p.tests.items
   pub tests_differ : AllPairs (λ s t. s.number ≢ t.number) p.tests.items
   pub statuses_differ : AllPairs (λ s t. s.id ≢ t.id) p.status_texts.items
   pub presets : p.presets < 65535
+  pub own : AreGoodParameters p.own
+  pub without : MayBeLeftOut p.without.items
 
 -- It is good, and has no more sub-devices than there can be.
 abbrev pub CanBeMade : Profile → Type 0

@@ -5,12 +5,14 @@ use Rattle.rdm_device.specs.declared.profile.Profile.{Profile}
 use Rattle.rdm_device.specs.declared.profile.Unit.{Unit as DeviceUnit}
 use Rattle.rdm_device.specs.Device.Map.{Entry, lookup}
 
--- A device: the profile, what it says of the device, whether it is the root, and its values.
+-- A device: the profile, what it says of the device, whether it is the root, its values, and those of the parameters that the
+-- maker adds.
 pub record Spot : Type 0 where
   pub profile : Profile
   pub unit : DeviceUnit
   pub is_root : Bool
   pub entries : List Entry
+  pub added : List Entry
 
 -- the number of the current personality, from 1
 abbrev pub personality : Spot → ℕ

@@ -1,9 +1,10 @@
 -- The values that devices keep, as a map by keys.
-use Rattle.std.specs.Prelude.{ℕ, suc, List, [], ◌∷◌, ◌++◌, Option, Some, None}
+use Rattle.std.specs.Prelude.{ℕ, suc, List, [], ◌∷◌, ◌++◌, map, Option, Some, None, if◌then◌else◌}
 use Rattle.rdm_device.specs.declared.device.state.CommonValues.{CommonValues}
+use Rattle.rdm_device.specs.declared.device.state.Kept.{Kept}
 use Rattle.rdm_device.specs.declared.device.state.Measured.{Measured}
 use Rattle.rdm_device.specs.declared.device.state.RootValues.{RootValues}
-use Rattle.rdm_device.specs.Device.Map.{Entry, entry}
+use Rattle.rdm_device.specs.Device.Map.{Entry, entry, has_key}
 use Rattle.rdm_device.specs.Device.Values.{word_slots, long_slots, signed_slots}
 
 -- the keys of every device
@@ -49,3 +50,28 @@ own_entries d =
 abbrev pub own_if : Option RootValues → List Entry
 own_if None = []
 own_if (Some d) = own_entries d
+
+-- the key of a parameter that the maker added
+abbrev pub kept_entry : Kept → Entry
+kept_entry k = entry k.pid 0 k.bytes
+
+-- the keys of the parameters that the maker added
+abbrev pub added_entries : List Kept → List Entry
+added_entries ks = map kept_entry ks
+
+-- the entry with these bytes, if it is that of this PID
+abbrev pub stored_in : ℕ → List ℕ → Entry → Entry
+stored_in pid bytes e = entry e.pid e.index (if has_key pid 0 e then bytes else e.bytes)
+
+-- the entry with the bytes that it becomes
+abbrev pub made_of : (Entry → List ℕ) → Entry → Entry
+made_of becomes e = entry e.pid e.index (becomes e)
+
+-- no entry
+abbrev pub no_entry : Entry
+no_entry = entry 0 0 []
+
+-- those of the root; a sub-device has none
+abbrev pub added_if : Option RootValues → List Entry
+added_if None = []
+added_if (Some d) = added_entries d.added.items

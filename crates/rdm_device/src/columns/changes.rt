@@ -37,6 +37,7 @@ pub fn common_set_back(profile: &Profile, common: &mut CommonValues) -> bool
 pub fn own_set_back(profile: &Profile, value: &Argument<'_>, own: &mut RootValues) -> bool
     ensures after { IsChanged set_back value.now profile.now (own_entries own.old) (own_entries own.new) }
     ensures same { (result ≡ false) ↔ (own_entries own.new ≡ own_entries own.old) }
+    ensures added { own.new.added ≡ own.old.added }
 {
     let _ = value;
     let first = profile.languages.first().copied().unwrap_or(0);
@@ -56,6 +57,7 @@ pub fn own_set_back(profile: &Profile, value: &Argument<'_>, own: &mut RootValue
 pub fn sensors_reset(profile: &Profile, value: &Argument<'_>, own: &mut RootValues) -> bool
     ensures after { IsChanged sensors_reset value.now profile.now (own_entries own.old) (own_entries own.new) }
     ensures same { (result ≡ false) ↔ (own_entries own.new ≡ own_entries own.old) }
+    ensures added { own.new.added ≡ own.old.added }
 {
     let after = changed(own.sensors.as_slice(), value.byte().unwrap_or(0), true);
     let differ = !are_same(after.as_slice(), own.sensors.as_slice());
@@ -69,6 +71,7 @@ pub fn sensors_reset(profile: &Profile, value: &Argument<'_>, own: &mut RootValu
 pub fn sensors_recorded(profile: &Profile, value: &Argument<'_>, own: &mut RootValues) -> bool
     ensures after { IsChanged sensors_recorded value.now profile.now (own_entries own.old) (own_entries own.new) }
     ensures same { (result ≡ false) ↔ (own_entries own.new ≡ own_entries own.old) }
+    ensures added { own.new.added ≡ own.old.added }
 {
     let after = changed(own.sensors.as_slice(), value.byte().unwrap_or(0), false);
     let differ = !are_same(after.as_slice(), own.sensors.as_slice());

@@ -100,13 +100,13 @@ pub fn a_start(place: &Place<'_>, value: &Argument<'_>) -> bool
     }
 }
 
-/// A slot that the current personality uses.
+/// A slot that the current personality uses, and the profile describes.
 #[inline]
 pub fn a_slot(place: &Place<'_>, value: &Argument<'_>) -> bool
     ensures { result ≡ a_slot word place.now value.now }
 {
     match value.word() {
-        Some(offset) => offset < footprint(place),
+        Some(offset) => offset < footprint(place) && (offset as usize) < place.profile.slots.len(),
         None => false,
     }
 }

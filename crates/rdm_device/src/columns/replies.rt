@@ -17,6 +17,7 @@ ghost use Rattle.rdm_device.specs.Device.Parameters.{root_at_start};
 ghost use Rattle.rdm_device.specs.Views.State.{common_entries, own_entries, sensor_entries, measured_slots};
 ghost use Rattle.rdm_device.specs.Device.Values.{bytes_of, word_slots};
 
+use crate::columns::added::are_at_start;
 pub use crate::columns::replies::lists::{languages, slot_defaults, slot_infos};
 use crate::device::Place;
 use crate::device::footprint::footprint;
@@ -93,7 +94,11 @@ pub fn at_factory_defaults(place: &Place<'_>, body: &mut Body)
     ensures { body.new ≡ at_factory_defaults place.now }
 {
     match place.own {
-        Some(own) if is_set_back(place.profile, place.common, own) => body.append(&[1]),
+        Some(own)
+            if is_set_back(place.profile, place.common, own)
+                && are_at_start(place.profile.own.as_slice(), own.added.as_slice()) => {
+            body.append(&[1])
+        }
         _ => body.append(&[0]),
     }
 }

@@ -13,7 +13,8 @@ use crate::device::state::{Measured, RootValues};
 /// highest value.
 #[tactic(auto, unfolding(crate::specs::Views::State::own_entries))]
 pub fn measure(own: &mut RootValues, number: u8, value: i16)
-    ensures { own_entries own.new ≡ update (measured_by number value) (own_entries own.old) }
+    ensures own { own_entries own.new ≡ update (measured_by number value) (own_entries own.old) }
+    ensures added { own.new.added ≡ own.old.added }
 {
     measure_among(own.sensors.as_mut_slice(), number as usize, value);
 }
@@ -50,7 +51,8 @@ fn with_value(lowest: i16, highest: i16, recorded: i16, value: i16) -> Measured
 #[tactic(auto, unfolding(crate::specs::Views::State::own_entries))]
 pub fn place_measured(own: &mut RootValues, slots: &[u8])
     requires { length slots.now ≡ 9 }
-    ensures { own_entries own.new ≡ update (placed_by slots.now) (own_entries own.old) }
+    ensures own { own_entries own.new ≡ update (placed_by slots.now) (own_entries own.old) }
+    ensures added { own.new.added ≡ own.old.added }
 {
     place_among(own.sensors.as_mut_slice(), slots[0] as usize, slots);
 }

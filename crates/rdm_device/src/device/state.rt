@@ -1,10 +1,13 @@
 //! The values that devices keep.
 
-ghost use Rattle.std.specs.Prelude.{◌≡◌};
+ghost use Rattle.std.specs.Prelude.{◌≡◌, IfOk};
+ghost use Rattle.rdm_device.specs.Device.Parameters.{added_at_start};
+ghost use Rattle.rdm_device.specs.Views.State.{added_entries};
 
-use crate::{Profile, SensorDef, Unit};
+use crate::{ParameterDef, Profile, SensorDef, Unit};
 use arrayvec::ArrayVec;
 use rdm_frame::Text;
+use std::alloc::{AllocError, Global};
 
 /// What every device keeps (E1.20 section 10).
 #[derive(Debug, Drop)]
@@ -68,6 +71,15 @@ pub struct Measured {
     pub recorded: i16,
 }
 
+/// What is kept of a parameter that the maker added.
+#[derive(Debug, Drop)]
+pub struct Kept {
+    /// Its PID.
+    pub pid: u16,
+    /// Its data.
+    pub bytes: Text,
+}
+
 /// What the root device keeps beside it.
 #[derive(Debug, Drop)]
 pub struct RootValues {
@@ -93,18 +105,22 @@ pub struct RootValues {
     pub preset: (u16, u8),
     /// What each sensor measured.
     pub sensors: ArrayVec<Measured, 8>,
+    /// What is kept of each parameter that the maker added.
+    pub added: Vec<Kept>,
 }
 
 impl RootValues {
-    ghost use Rattle.rdm_device.specs.Device.Parameters.{own_at_start, sensors_at_start};
-    ghost use Rattle.rdm_device.specs.Views.State.{own_entries, sensor_entries};
+    ghost use Rattle.rdm_device.specs.Device.Parameters.{own_at_start, sensors_at_start, added_at_start};
+    ghost use Rattle.rdm_device.specs.Views.State.{own_entries, sensor_entries, added_entries};
 
     /// What the root starts with.
     #[tactic(auto, unfolding(crate::specs::Views::State::own_entries, crate::specs::Device::Parameters::own_at_start))]
-    pub fn at_start(profile: &Profile) -> RootValues
-        ensures { own_entries result ≡ own_at_start profile.now }
+    pub fn at_start(alloc: Global, profile: &Profile) -> Result<RootValues, AllocError>
+        ensures own { IfOk result (λ own. own_entries own ≡ own_at_start profile.now) }
+        ensures added { IfOk result (λ own. added_entries own.added.items ≡ added_at_start profile.now.own) }
     {
-        RootValues {
+        let added = start_added(alloc, profile.own.as_slice())?;
+        Ok(RootValues {
             language: profile.languages.first().copied().unwrap_or(0),
             device_hours: 0,
             power_cycles: 0,
@@ -116,7 +132,8 @@ impl RootValues {
             self_test: 0,
             preset: (0, 0),
             sensors: RootValues::sensors_at_start(&profile.sensors),
-        }
+            added,
+        })
     }
 
     /// What each sensor starts with.
@@ -135,4 +152,20 @@ impl RootValues {
         }
         measured
     }
+}
+
+/// What each parameter that the maker added starts with.
+#[tactic(auto, using(crate::proofs::Added::start_step, std::proofs::lemmas::Grind::common_steps))]
+fn start_added(alloc: Global, defs: &[ParameterDef]) -> Result<Vec<Kept>, AllocError>
+    ensures { IfOk result (λ added. added_entries added.items ≡ added_at_start defs.now) }
+{
+    let mut added = Vec::new(alloc);
+    for i in 0..defs.len() {
+        let def = &defs[i];
+        added.push(Kept {
+            pid: def.pid,
+            bytes: def.start.copy(),
+        })?;
+    }
+    Ok(added)
 }

@@ -1,8 +1,10 @@
 //! The blanks that fill the unused places of a list: every number is 0, and every text empty.
 
-ghost use Rattle.std.specs.Prelude.{◌≡◌, [], pos};
+ghost use Rattle.std.specs.Prelude.{◌≡◌, [], pos, false};
+ghost use Rattle.rdm_device.specs.declared.profile.own.Rights.TheVariants as rights;
+ghost use Rattle.rdm_device.specs.declared.profile.own.Shape.TheVariants as shapes;
 
-use crate::{Personality, SelfTest, SensorDef, Slot, StatusText};
+use crate::{ParameterDef, Personality, Rights, SelfTest, SensorDef, Shape, Slot, StatusText};
 use rdm_frame::Text;
 
 impl Default for Personality {
@@ -65,6 +67,25 @@ impl Default for StatusText {
         StatusText {
             id: 0,
             text: Text::new(),
+        }
+    }
+}
+
+impl Default for ParameterDef {
+    ghost is_default = { λ blank. blank ≡ record { pid = 0; rights = rights.Get; shape = shapes.Byte; low = pos 0; high = pos 0; start = []; unit = 0; prefix = 0; name = []; resets = false } };
+
+    fn default() -> ParameterDef {
+        ParameterDef {
+            pid: 0,
+            rights: Rights::Get,
+            shape: Shape::Byte,
+            low: 0,
+            high: 0,
+            start: Text::new(),
+            unit: 0,
+            prefix: 0,
+            name: Text::new(),
+            resets: false,
         }
     }
 }

@@ -1,22 +1,41 @@
 //! Which profiles a device can be made with.
 
-ghost use Rattle.std.specs.Prelude.{◌≡◌, ◌≢◌, ◌↔◌, ◌<◌, ◌≤◌, length, IsTrue, All, AllPairs};
-ghost use Rattle.rdm_device.specs.Device.Profiles.{IsGoodUnit, IsGoodProfile};
+ghost use Rattle.std.specs.Prelude.{◌≡◌, ◌≢◌, ◌↔◌, ◌<◌, ◌≤◌, IsTrue, All, AllPairs};
+ghost use Rattle.rdm_device.specs.Device.Profiles.{IsGoodUnit, IsGoodProfile, MayBeLeftOut, AreGoodParameters, root_slots};
 
-use crate::{Personality, Profile, SelfTest, StatusText, Unit};
+use crate::profile::faults::parameter_fault;
+use crate::{ParameterDef, Personality, Profile, SelfTest, StatusText, Unit};
 use rdm_frame::standard::MOST_DMX_SLOTS;
 
 /// Whether a device can be made with the profile.
 pub fn is_good(profile: &Profile) -> bool
     ensures { IsTrue result ↔ IsGoodProfile profile.now }
 {
-    is_good_unit(&profile.root, profile.slots.len())
+    is_good_unit(&profile.root, root_slots(profile))
         && is_good_unit(&profile.sub, MOST_DMX_SLOTS as usize)
         && !profile.languages.is_empty()
         && are_numbered(profile.tests.as_slice())
         && tests_differ(profile.tests.as_slice())
         && statuses_differ(profile.status_texts.as_slice())
         && profile.presets < 65535
+        && are_good(profile.without.as_slice(), profile.own.as_slice())
+}
+
+/// Whether a device can lack the parameters with these PIDs, and have these of the maker's own.
+fn are_good(without: &[u16], own: &[ParameterDef]) -> bool
+    ensures { IsTrue result ↔ (MayBeLeftOut without.now × AreGoodParameters own.now) }
+{
+    match parameter_fault(without, own) {
+        None => true,
+        Some(_) => false,
+    }
+}
+
+/// How many DMX512 slots the root can use.
+pub(crate) fn root_slots(profile: &Profile) -> usize
+    ensures { result ≡ root_slots profile.now }
+{
+    (profile.slots.len() + profile.more_slots as usize).min(MOST_DMX_SLOTS as usize)
 }
 
 /// Whether the unit keeps its rules at a device with this many slots.

@@ -4,7 +4,7 @@ ghost use Rattle.std.specs.Prelude.{◌≡◌, ◌≤◌, length};
 ghost use Rattle.rdm_device.specs.Device.Profiles.{CanBeMade};
 ghost use Rattle.rdm_device.specs.Device.Demo.{demo, demo_root, demo_sub, demo_sensor, demo_slots, demo_sensors, demo_tests, demo_statuses};
 
-use crate::{Personality, Profile, SelfTest, SensorDef, Slot, StatusText, Unit};
+use crate::{OwnParameters, Personality, Profile, SelfTest, SensorDef, Slot, StatusText, Unit};
 use arrayvec::ArrayVec;
 use rdm_frame::Text;
 
@@ -37,6 +37,9 @@ fn moving_head(subs: u16) -> Profile
         tests: tests(),
         status_texts: status_texts(),
         presets: 4,
+        own: OwnParameters::none(),
+        without: ArrayVec::new(),
+        more_slots: 0,
     }
 }
 

@@ -1,11 +1,15 @@
 //! Which rule a profile breaks.
 
-ghost use Rattle.std.specs.Prelude.{◌≡◌, ◌↔◌, None, IfSome, IsTrue};
-ghost use Rattle.rdm_device.specs.Device.Faults.{IsFirstBroken, IsStart};
-ghost use Rattle.rdm_device.specs.Device.Profiles.{CanBeMade};
+ghost use Rattle.std.specs.Prelude.{◌≡◌, ◌↔◌, ℕ, List, None, IfSome, IsTrue};
+ghost use Rattle.rdm_device.specs.Device.Faults.{IsFirstBroken, IsStart, KeepsOthers, with_parameters};
+ghost use Rattle.rdm_device.specs.Device.Profiles.{CanBeMade, MayBeLeftOut, AreGoodParameters};
 
-use crate::profile::checks::{are_numbered, fit, statuses_differ, tests_differ};
-use crate::{Profile, Unit};
+use crate::profile::checks::{are_numbered, fit, root_slots, statuses_differ, tests_differ};
+use crate::profile::left_out::{are_optional, leave_no_need};
+use crate::profile::own_checks::{
+    are_ascending, are_few, have_free_pids, have_limits, have_starts,
+};
+use crate::{ParameterDef, Profile, Unit};
 use rdm_frame::standard::{MOST_DMX_SLOTS, MOST_SUB_DEVICES};
 
 /// A rule of profiles that is broken, in the order in which they are tested.
@@ -19,7 +23,7 @@ pub enum ProfileFault {
     Personalities,
     /// The start address of the root or of the sub-devices isn't 1 to 512 (section 10.6.3).
     Start,
-    /// A personality of the root uses more slots than the profile describes.
+    /// A personality of the root uses more slots than the profile describes and says that there are beside them, or more than 512.
     RootFootprint,
     /// A personality of the sub-devices uses more than 512 slots.
     SubFootprint,
@@ -31,12 +35,54 @@ pub enum ProfileFault {
     TwinTests,
     /// Two status texts have one ID (section 10.3.3).
     TwinStatusTexts,
+    /// A parameter is left out that each device must have, or that isn't one of the table (table A-3); or more than 36 are.
+    LeftOut,
+    /// A parameter is left out without one that needs it, such as DMX_PERSONALITY without DMX_PERSONALITY_DESCRIPTION.
+    LeftOutNeeded,
+    /// There are more than 16 parameters of the maker's own.
+    ParameterCount,
+    /// A parameter of the maker's own has a PID that isn't 0x8000 to 0xFFDF, nor one of the standards' that is lent to makers; or two have
+    /// the same.
+    ParameterPid,
+    /// A parameter of the maker's own has a limit that its data can't say, or its greatest number is below its least; or its data
+    /// have more than 32 slots.
+    ParameterLimits,
+    /// A parameter of the maker's own starts with data of another length, or out of its range.
+    ParameterStart,
+    /// The parameters of the maker's own aren't in the order of their PIDs.
+    ParameterOrder,
 }
 
 /// The first rule that the profile breaks, or `None` if it breaks none: a device can be made with it then.
 pub fn profile_fault(profile: &Profile) -> Option<ProfileFault>
     ensures good { (result ≡ None) ↔ CanBeMade profile.now }
     ensures first { IfSome result (λ fault. IsFirstBroken fault profile.now) }
+{
+    profile_fault_with(profile, profile.without.as_slice(), profile.own.as_slice())
+}
+
+/// The first rule that the profile would break if it left out the parameters with these PIDs and had these of the maker's own, and no
+/// others, or `None` if it would break none. So they can be judged before there is memory for them.
+#[tactic(auto, using(crate::proofs::Faults::made, crate::proofs::Faults::keeps_others, crate::proofs::Faults::keeps_parameters))]
+pub fn profile_fault_with(
+    profile: &Profile,
+    without: &[u16],
+    own: &[ParameterDef],
+) -> Option<ProfileFault>
+    ensures good { (result ≡ None) ↔ CanBeMade (with_parameters profile.now without.now own.now) }
+    ensures first { IfSome result (λ fault. IsFirstBroken fault (with_parameters profile.now without.now own.now)) }
+{
+    match other_fault(profile) {
+        Some(fault) => Some(fault),
+        None => parameter_fault(without, own),
+    }
+}
+
+/// The first rule that is broken, of those that don't speak of parameters.
+fn other_fault(profile: &Profile) -> Option<ProfileFault>
+    ensures good { (result ≡ None) ↔ KeepsOthers profile.now }
+    ensures first { (without : List ℕ) (own : List ParameterDef)
+        → IfSome result (λ fault. IsFirstBroken fault (with_parameters profile.now without own)) }
 {
     if profile.subs > MOST_SUB_DEVICES {
         return Some(ProfileFault::SubDevices);
@@ -50,7 +96,7 @@ pub fn profile_fault(profile: &Profile) -> Option<ProfileFault>
     if !has_start(&profile.root) || !has_start(&profile.sub) {
         return Some(ProfileFault::Start);
     }
-    if !fit(profile.root.personalities.as_slice(), profile.slots.len()) {
+    if !fit(profile.root.personalities.as_slice(), root_slots(profile)) {
         return Some(ProfileFault::RootFootprint);
     }
     if !fit(
@@ -70,6 +116,35 @@ pub fn profile_fault(profile: &Profile) -> Option<ProfileFault>
     }
     if !statuses_differ(profile.status_texts.as_slice()) {
         return Some(ProfileFault::TwinStatusTexts);
+    }
+    None
+}
+
+/// The first rule of parameters that is broken by those with these PIDs, if they are left out, and by these of the maker's own.
+pub(crate) fn parameter_fault(without: &[u16], own: &[ParameterDef]) -> Option<ProfileFault>
+    ensures good { (result ≡ None) ↔ (MayBeLeftOut without.now × AreGoodParameters own.now) }
+    ensures first { (p : Profile) → KeepsOthers p → IfSome result (λ fault. IsFirstBroken fault (with_parameters p without.now own.now)) }
+{
+    if !are_optional(without) {
+        return Some(ProfileFault::LeftOut);
+    }
+    if !leave_no_need(without) {
+        return Some(ProfileFault::LeftOutNeeded);
+    }
+    if !are_few(own) {
+        return Some(ProfileFault::ParameterCount);
+    }
+    if !have_free_pids(own) {
+        return Some(ProfileFault::ParameterPid);
+    }
+    if !have_limits(own) {
+        return Some(ProfileFault::ParameterLimits);
+    }
+    if !have_starts(own) {
+        return Some(ProfileFault::ParameterStart);
+    }
+    if !are_ascending(own) {
+        return Some(ProfileFault::ParameterOrder);
     }
     None
 }

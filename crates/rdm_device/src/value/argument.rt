@@ -1,6 +1,7 @@
 //! What a command hands in.
 
-ghost use Rattle.std.specs.Prelude.{◌≡◌, ◌≤◌, ◌↔◌, length, unwrap_or, Some, None, false, if◌then◌else◌};
+ghost use Rattle.std.specs.Prelude.{◌≡◌, ◌≤◌, ◌↔◌, length, unwrap_or, Some, None, IfSome, false, if◌then◌else◌};
+ghost use Rattle.std.specs.Option.{option_copied};
 ghost use Rattle.rdm_device.specs.declared.value.Value.TheVariants.{Nothing, Byte, Word, Label};
 ghost use Rattle.rdm_device.specs.Columns.Forms.{nothing, label, has_form, is_of_a_form};
 ghost use Rattle.rdm_device.specs.Device.Values.{byte_in, word_in, long_in, preset_in, label_in};
@@ -176,6 +177,18 @@ impl<'a> Argument<'a> {
     {
         match &self.value {
             ValueRef::Preset(mode, level) => Some((*mode, *level)),
+            _ => None,
+        }
+    }
+
+    /// The text or the slots, if the value is such.
+    #[inline]
+    pub fn label(&self) -> Option<&[u8]>
+        ensures text { option_copied result ≡ label_in self.now }
+        ensures few { IfSome result (λ bytes. length bytes.now ≤ 32) }
+    {
+        match &self.value {
+            ValueRef::Label(bytes) => Some(bytes),
             _ => None,
         }
     }

@@ -1,14 +1,17 @@
 //! Which fixtures a file can describe.
 
-ghost use Rattle.std.specs.Prelude.{◌≡◌, ◌↔◌, IsTrue, All};
+ghost use Rattle.std.specs.Prelude.{◌≡◌, ◌↔◌, ◌≤◌, IsTrue, All};
 ghost use Rattle.rdm_fixture.specs.Describable as spec;
 ghost use Rattle.rdm_fixture.specs.Values.{is_letter as is_small_letter};
 
 use crate::fixture::Fixture;
 use crate::keys::are_printable;
-use rdm_device::{Personality, Profile, SelfTest, SensorDef, Slot, StatusText, Unit, is_good};
+use crate::parameters::{greatest_of, least_of};
+use rdm_device::{
+    ParameterDef, Personality, Profile, SelfTest, SensorDef, Shape, Slot, StatusText, Unit, is_good,
+};
 use rdm_frame::Text;
-use rdm_frame::standard::MOST_SUB_DEVICES;
+use rdm_frame::standard::{MOST_DMX_SLOTS, MOST_SUB_DEVICES};
 use rdm_outcomes::Rule;
 use rdm_params::{Outcome, Severity};
 
@@ -19,9 +22,46 @@ pub(super) fn can_be_described(fixture: &Fixture) -> bool
     !fixture.uid.is_broadcast()
         && fixture.profile.subs <= MOST_SUB_DEVICES
         && is_good(&fixture.profile)
+        && fixture.profile.more_slots <= MOST_DMX_SLOTS
+        && are_sayable(fixture.profile.own.as_slice())
         && has_printable_texts(&fixture.profile)
         && are_coded(fixture.profile.languages.as_slice())
         && are_ruled(fixture.outcomes.as_slice())
+}
+
+// ---- the parameters of the maker's own
+
+fn are_sayable(defs: &[ParameterDef]) -> bool
+    ensures { IsTrue result ↔ All (λ d. IsTrue (spec.is_sayable d)) defs.now }
+{
+    defs.iter().all(|def| is_sayable(def))
+}
+
+/// Whether a parameter can stand in a file.
+fn is_sayable(def: &ParameterDef) -> bool
+    ensures { result ≡ spec.is_sayable def.now }
+{
+    limits_stand(def)
+        && (can_stand(def.shape, def.start.as_slice()) && are_printable(def.name.as_slice()))
+}
+
+/// Whether its limits can stand in a file: the least isn't above the greatest, and both are numbers of the data, or 0 where these are
+/// none.
+fn limits_stand(def: &ParameterDef) -> bool
+    ensures { result ≡ spec.limits_stand def.now }
+{
+    least_of(def.shape) <= def.low && (def.low <= def.high && def.high <= greatest_of(def.shape))
+}
+
+/// Whether what data start with can stand in a file: a text only if it is printable.
+fn can_stand(shape: Shape, start: &[u8]) -> bool
+    ensures { result ≡ spec.can_stand shape start.now }
+{
+    match shape {
+        Shape::Text => are_printable(start),
+        Shape::Byte | Shape::SignedByte | Shape::Word | Shape::SignedWord => true,
+        Shape::Long | Shape::SignedLong | Shape::Bits(_) | Shape::Slots(_) => true,
+    }
 }
 
 // ---- the texts

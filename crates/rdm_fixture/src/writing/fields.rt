@@ -1,7 +1,7 @@
 //! What is put into a table, key by key.
 
 ghost use Rattle.std.specs.Prelude.{◌≡◌, ◌≤◌, ℕ, pos, [], Some, IsOk, IfOk, IfSome, IsTrue, All, length, option_map};
-ghost use Rattle.toml.specs.Data.{Members, table as table_data, string, integer};
+ghost use Rattle.toml.specs.Data.{Members, table as table_data, string, integer, boolean};
 ghost use Rattle.toml.specs.View.{view, table_view};
 ghost use Rattle.rdm_fixture.specs.Describable.{are_printable};
 ghost use Rattle.rdm_fixture.specs.Keys.{may, OfTable, ListAt};
@@ -90,6 +90,30 @@ pub(super) fn put_signed(
     ensures says { says.signed (integer number) ≡ Some number }
 {
     put(alloc, table, key, Some(Value::from(i32::from(number))))
+}
+
+/// Puts an integer at the key.
+pub(super) fn put_integer(
+    alloc: Global,
+    table: &mut Table,
+    key: &str,
+    number: i64,
+) -> Result<(), AllocError>
+    ensures { IsOk result → table_view table.new ≡ with_field key.now (Some (integer number)) (table_view table.old) }
+{
+    put(alloc, table, key, Some(Value::from(number)))
+}
+
+/// Puts `true` or `false` at the key.
+pub(super) fn put_flag(
+    alloc: Global,
+    table: &mut Table,
+    key: &str,
+    flag: bool,
+) -> Result<(), AllocError>
+    ensures { IsOk result → table_view table.new ≡ with_field key.now (Some (boolean flag)) (table_view table.old) }
+{
+    put(alloc, table, key, Some(Value::from(flag)))
 }
 
 /// Puts a name at the key.

@@ -4,9 +4,12 @@ ghost use Rattle.std.specs.Prelude.{◌≡◌, ◌≤◌, ℕ, Some, IsOk, IfOk,
 ghost use Rattle.toml.specs.Data.{Members, table as table_data, string, array};
 ghost use Rattle.toml.specs.View.{view, items_view, table_view};
 ghost use Rattle.rdm_frame.specs.Addressing.{is_broadcast};
+ghost use Rattle.rdm_device.specs.Device.LeftOut.{is_optional};
 ghost use Rattle.rdm_device.specs.Device.Profiles.{IsGoodUnit, CanBeMade};
+ghost use Rattle.rdm_params.specs.Table.Kinds.{pid_of, kind_named};
 ghost use Rattle.rdm_fixture.specs.Describable.{HasPrintableUnit, CanBeDescribed, is_coded};
-ghost use Rattle.rdm_fixture.specs.Format.{IsFixture, IsUnit, SubDevices, LanguagesAt};
+ghost use Rattle.rdm_fixture.specs.Format.{IsFixture, IsUnit, SubDevices, LanguagesAt, parameter_named};
+ghost use Rattle.rdm_fixture.specs.Keys.{ListAt};
 ghost use Rattle.rdm_fixture.specs.Values as says;
 ghost use Rattle.rdm_fixture.specs.Writing.{with_field, IsPlain};
 
@@ -16,6 +19,7 @@ use crate::fixture::Fixture;
 use arrayvec::ArrayVec;
 use rdm_device::{Profile, units_are_equal_by_value};
 use rdm_frame::Uid;
+use rdm_params::kind_of;
 use std::alloc::{AllocError, Global};
 use toml::{Table, Value};
 
@@ -41,6 +45,7 @@ pub(super) fn table_of(alloc: Global, fixture: &Fixture) -> Result<Table, AllocE
         Some(languages_of(alloc, &profile.languages)?),
     )?;
     put_word(alloc, &mut table, "presets", profile.presets)?;
+    put_word(alloc, &mut table, "more_slots", profile.more_slots)?;
     put(
         alloc,
         &mut table,
@@ -64,6 +69,18 @@ pub(super) fn table_of(alloc: Global, fixture: &Fixture) -> Result<Table, AllocE
         &mut table,
         "status",
         list_of(alloc, profile.status_texts.as_slice())?,
+    )?;
+    put(
+        alloc,
+        &mut table,
+        "without",
+        names_of(alloc, profile.without.as_slice())?,
+    )?;
+    put(
+        alloc,
+        &mut table,
+        "parameter",
+        list_of(alloc, profile.own.as_slice())?,
     )?;
     put(
         alloc,
@@ -109,6 +126,32 @@ fn code_of(alloc: Global, language: u16) -> Result<Value, AllocError>
 {
     let code = String::from_utf8_lossy(alloc, &language.to_be_bytes())?;
     Ok(Value::String(code))
+}
+
+/// The names of the parameters that the fixture lacks, if it lacks some.
+fn names_of(alloc: Global, pids: &[u16]) -> Result<Option<Value>, AllocError>
+    ensures says { IfOk result (λ v. All (λ pid. IsTrue (is_optional pid)) pids.now
+        → ListAt (λ d pid. parameter_named d ≡ Some pid) (option_map view v) pids.now) }
+    ensures plain { IfOk result (λ v. IfSome v (λ x. IsPlain 1 (view x))) }
+{
+    if pids.is_empty() {
+        return Ok(None);
+    }
+    let mut names = Vec::new(alloc);
+    for pid in pids {
+        names.push(Value::string(alloc, name_of(*pid))?)?;
+    }
+    Ok(Some(Value::Array(names)))
+}
+
+/// The name of a parameter that a fixture may lack.
+fn name_of(pid: u16) -> &'static str
+    ensures { IsTrue (is_optional pid) → option_map pid_of (kind_named result.now) ≡ Some pid }
+{
+    match kind_of(pid) {
+        Some(kind) => kind.name(),
+        None => "",
+    }
 }
 
 /// The table of the sub-devices. Without it there are none, and what they would start as is the root.

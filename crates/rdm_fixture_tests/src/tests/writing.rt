@@ -12,6 +12,7 @@ device_label = 'a "label" \'
 device_model_id = 1
 dmx_start_address = 1
 languages = ["en"]
+more_slots = 0
 presets = 0
 product_category = 0
 software_version_id = 0

@@ -19,18 +19,18 @@ use Rattle.rdm_params.specs.Table.Kinds.{pid_of}
 use Rattle.rdm_device.specs.Device.Map.{Entry, update}
 use Rattle.rdm_device.specs.Device.Parameters.{Parameters}
 use Rattle.rdm_device.specs.Device.Spot.{Spot}
-use Rattle.rdm_params.specs.Table.Rows.{Command, row_of, command_in}
-use Rattle.rdm_params.specs.Table.Uses.{access, read, way_of, is_slow, in_range_of, change, reply}
+use Rattle.rdm_params.specs.Table.Rows.{Command, Row, row_of, row_at, is_left_out, command_in}
+use Rattle.rdm_params.specs.Table.Uses.{access, read, way_of, is_slow, in_range_of, change, added_change, reply}
 use Rattle.rdm_params.specs.Jobs.Asks.{ask_of}
 use Rattle.rdm_device.specs.Device.Values.{byte_or_0}
 
 -- the root
 abbrev pub root_spot : Parameters → Spot
-root_spot p = record { profile = p.profile; unit = p.profile.root; is_root = true; entries = p.root }
+root_spot p = record { profile = p.profile; unit = p.profile.root; is_root = true; entries = p.root; added = p.added }
 
 -- a sub-device of the profile that keeps these values
 abbrev pub profile_sub_spot : Profile → List Entry → Spot
-profile_sub_spot profile entries = record { profile = profile; unit = profile.sub; is_root = false; entries = entries }
+profile_sub_spot profile entries = record { profile = profile; unit = profile.sub; is_root = false; entries = entries; added = [] }
 
 -- a sub-device that keeps these values
 abbrev pub sub_spot : Parameters → List Entry → Spot
@@ -51,6 +51,10 @@ addressed p sub verb =
 abbrev pub command_of : ℕ → Verb → Option Command
 command_of pid verb = command_in (row_of pid) verb
 
+-- what these devices have for a PID: by the table without what their profile leaves out, or by what it adds
+abbrev pub command_at : Parameters → ℕ → Verb → Option Command
+command_at p pid verb = command_in (row_at p.profile pid) verb
+
 -- steps of which the first that fails decides
 infixl 10 ◌>>=◌
 abbrev pub ◌>>=◌ : {A B : Type 0} → Result A Nack → (A → Result B Nack) → Result B Nack
@@ -67,16 +71,16 @@ is_some_device spots = is_some (slice_get spots 0)
 
 -- Reply rule 6: there is a device that the command addresses. Rules 7 and 8: the device has the parameter, and the
 -- parameter the command.
-abbrev pub known : Parameters → ℕ → ℕ → Verb → Result (Unit {0}) Nack
-known p sub pid verb = do
+abbrev pub known : Parameters → ℕ → Option Row → Verb → Result (Unit {0}) Nack
+known p sub row verb = do
   exists ← check (is_some_device (addressed p sub verb)) SubDeviceOutOfRange
-  access (row_of pid) (sub == 0) verb
+  access row (sub == 0) verb
 
 -- Rule 10: the value is in range at each device that is addressed. Rule 11: it starts no jobs at all sub-devices at once.
-abbrev pub suits : Parameters → ℕ → ℕ → Verb → Value → Result (Unit {0}) Nack
-suits p sub pid verb value = do
-  in_range ← check (list_all (λ spot. in_range_of (command_of pid verb) spot value) (addressed p sub verb)) DataOutOfRange
-  check (not (is_all_call sub verb && is_slow (command_of pid verb))) SubDeviceOutOfRange
+abbrev pub suits : Parameters → ℕ → Option Command → Verb → Value → Result (Unit {0}) Nack
+suits p sub command verb value = do
+  in_range ← check (list_all (λ spot. in_range_of command spot value) (addressed p sub verb)) DataOutOfRange
+  check (not (is_all_call sub verb && is_slow command)) SubDeviceOutOfRange
 
 -- Rules 9 and 10 at one device: the value that the data stand for. Rule 9 is that they have the length of the command.
 abbrev pub read_data_at : Option Command → Spot → List ℕ → Result Value Nack
@@ -86,29 +90,30 @@ read_data_at command spot bytes = do
   Ok value
 
 -- the value, if the devices that are addressed take it
-abbrev pub taken : Parameters → ℕ → ℕ → Verb → Value → Result Value Nack
-taken p sub pid verb value = do
-  fits ← suits p sub pid verb value
+abbrev pub taken : Parameters → ℕ → Option Command → Verb → Value → Result Value Nack
+taken p sub command verb value = do
+  fits ← suits p sub command verb value
   Ok value
 
 -- Rules 9 to 11: the value that the data stand for, at all devices that are addressed.
-abbrev pub read_data : Parameters → ℕ → ℕ → Verb → List ℕ → Result Value Nack
-read_data p sub pid verb bytes = do
-  value ← read (command_of pid verb) bytes
-  taken p sub pid verb value
+abbrev pub read_data : Parameters → ℕ → Option Command → Verb → List ℕ → Result Value Nack
+read_data p sub command verb bytes = do
+  value ← read command bytes
+  taken p sub command verb value
 
 -- Rules 6 to 11: the value that the data of a command stand for, or the first reason to refuse it.
 unfoldable pub accepted : Parameters → ℕ → ℕ → Verb → List ℕ → Result Value Nack
 accepted p sub pid verb bytes = do
-  found ← known p sub pid verb
-  read_data p sub pid verb bytes
+  found ← known p sub (row_at p.profile pid) verb
+  read_data p sub (command_at p pid verb) verb bytes
 
 -- Whether a value is in the range of a command at each device that it addresses; it isn't if there is none, or
 -- if these have no such parameter or command.
 unfoldable pub in_range : Parameters → ℕ → Kind → Verb → Value → Bool
 in_range p sub kind verb value =
-    is_some_device (addressed p sub verb) && is_ok (access (row_of (pid_of kind)) (sub == 0) verb)
-    && list_all (λ spot. in_range_of (command_of (pid_of kind) verb) spot value) (addressed p sub verb)
+    not (is_left_out p.profile (pid_of kind))
+    && (is_some_device (addressed p sub verb) && is_ok (access (row_of (pid_of kind)) (sub == 0) verb)
+    && list_all (λ spot. in_range_of (command_of (pid_of kind) verb) spot value) (addressed p sub verb))
 
 -- the reply of a device; all that are addressed give the same
 abbrev pub reply_at : Option Command → List Spot → Value → List ℕ
@@ -127,36 +132,39 @@ answered FromStatus bytes job ask = Status ask
 answered Clears bytes job ask = Clear
 
 -- what a command answers that leaves these values
-abbrev pub verdict : Parameters → ℕ → ℕ → Verb → Result Value Nack → Verdict
-verdict p sub pid verb (Err nack) = Refuse nack
-verdict p sub pid verb (Ok value) =
-    let command = command_of pid verb in
+abbrev pub verdict : Parameters → ℕ → ℕ → Option Command → Verb → Result Value Nack → Verdict
+verdict p sub pid command verb (Err nack) = Refuse nack
+verdict p sub pid command verb (Ok value) =
     answered (way_of command) (reply_at command (addressed p sub verb) value) (work sub pid verb value) (ask_of (byte_or_0 value))
 
 -- the values of a device after a command that is carried out there
 abbrev pub written : Option Command → Value → Spot → List Entry
 written command value spot = update (change command spot value) spot.entries
 
+-- the values of the parameters that the maker adds, after it
+abbrev pub added_written : Option Command → Value → Spot → List Entry
+added_written command value spot = update (added_change command spot value) spot.added
+
 -- the values after a SET that is carried out at the devices that it addresses
 abbrev pub carried_out : Parameters → ℕ → Option Command → Value → Parameters
 carried_out p sub command value =
-    if sub == 0 then record p { root = written command value (root_spot p) }
+    if sub == 0 then record p { root = written command value (root_spot p); added = added_written command value (root_spot p) }
     else (if is_all_call sub Set then record p { subs = map (λ entries. written command value (sub_spot p entries)) p.subs }
     else record p { subs = slice_set p.subs (sub - 1) (written command value (sub_spot p (slice_index_or p.subs (sub - 1) []))) })
 
 -- the values after a SET that is accepted with this value, or refused
-abbrev pub after_accepted : Parameters → ℕ → ℕ → Result Value Nack → Parameters
-after_accepted p sub pid (Err nack) = p
-after_accepted p sub pid (Ok value) = if is_slow (command_of pid Set) then p else carried_out p sub (command_of pid Set) value
+abbrev pub after_accepted : Parameters → ℕ → Option Command → Result Value Nack → Parameters
+after_accepted p sub command (Err nack) = p
+after_accepted p sub command (Ok value) = if is_slow command then p else carried_out p sub command value
 
 -- What a GET answers.
 unfoldable pub got : Parameters → ℕ → ℕ → List ℕ → Verdict
-got p sub pid bytes = verdict p sub pid Get (accepted p sub pid Get bytes)
+got p sub pid bytes = verdict p sub pid (command_at p pid Get) Get (accepted p sub pid Get bytes)
 
 -- The values after a SET; a refused one and one that starts a job leave them.
 unfoldable pub after_set : Parameters → ℕ → ℕ → List ℕ → Parameters
-after_set p sub pid bytes = after_accepted p sub pid (accepted p sub pid Set bytes)
+after_set p sub pid bytes = after_accepted p sub (command_at p pid Set) (accepted p sub pid Set bytes)
 
 -- What a SET answers.
 unfoldable pub answer_to_set : Parameters → ℕ → ℕ → List ℕ → Verdict
-answer_to_set p sub pid bytes = verdict (after_set p sub pid bytes) sub pid Set (accepted p sub pid Set bytes)
+answer_to_set p sub pid bytes = verdict (after_set p sub pid bytes) sub pid (command_at p pid Set) Set (accepted p sub pid Set bytes)

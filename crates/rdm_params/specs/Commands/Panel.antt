@@ -1,6 +1,6 @@
 -- What a person changes at the fixture's own menu: the values afterwards, and the message that tells a controller. A
 -- change has the range and the effect of a SET of the same parameter at the root.
-use Rattle.std.specs.Prelude.{ℕ, Bool, Option, Some, None, if◌then◌else◌}
+use Rattle.std.specs.Prelude.{ℕ, Bool, ◌&&◌, not, Option, Some, None, if◌then◌else◌}
 use Rattle.rdm_params.specs.declared.kind.Verb.TheVariants.{Get, Set}
 use Rattle.rdm_params.specs.declared.panel.Change.{Change}
 use Rattle.rdm_params.specs.declared.panel.Change.TheVariants as changes
@@ -9,6 +9,7 @@ use Rattle.rdm_device.specs.declared.value.Value.{Value}
 use Rattle.rdm_device.specs.declared.value.Value.TheVariants.{Nothing, Byte, Word, Label}
 use Rattle.rdm_params.specs.Commands.Commands.{command_of, carried_out, addressed, reply_at, root_spot}
 use Rattle.rdm_device.specs.Device.Parameters.{Parameters}
+use Rattle.rdm_params.specs.Table.Rows.{is_left_out}
 use Rattle.rdm_params.specs.Table.Uses.{in_range_of}
 
 -- the parameter that is changed: DMX_START_ADDRESS, DMX_PERSONALITY or DEVICE_LABEL. Sections 10.6.3, 10.6.1 and 10.5.5.
@@ -23,9 +24,9 @@ changed_value (changes.Start start) = Word start
 changed_value (changes.Personality number) = Byte number
 changed_value (changes.Label plate) = Label plate
 
--- whether a SET of the value would be in range at the root
+-- whether the root has the parameter, and a SET of the value would be in range there
 abbrev pub can_change : Parameters → Change → Bool
-can_change p change = in_range_of (command_of (changed_pid change) Set) (root_spot p) (changed_value change)
+can_change p change = not (is_left_out p.profile (changed_pid change)) && in_range_of (command_of (changed_pid change) Set) (root_spot p) (changed_value change)
 
 -- The values after a change: those after the SET, if that is in range, else the same.
 unfoldable pub after_change : Parameters → Change → Parameters

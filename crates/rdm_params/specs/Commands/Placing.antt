@@ -1,6 +1,6 @@
 -- Values that the firmware of a fixture places: which it may, and the values afterwards. What is placed has the form, the
 -- range and the effect of a SET at that device, and no message tells of it. Sections 9 and 10.
-use Rattle.std.specs.Prelude.{ℕ, Bool, false, ◌==◌, not, List, length, Option, Some, None, Result, Ok, Err, is_ok, is_some, slice_get, slice_index, if◌then◌else◌}
+use Rattle.std.specs.Prelude.{ℕ, Bool, false, ◌==◌, ◌&&◌, not, List, length, Option, Some, None, Result, Ok, Err, is_ok, is_some, slice_get, slice_index, find, if◌then◌else◌}
 use Rattle.std.specs.Option.{option_map_or}
 use Rattle.rdm_params.specs.declared.kind.Verb.TheVariants.{Get, Set}
 use Rattle.rdm_params.specs.declared.nack.Nack.{Nack}
@@ -9,26 +9,48 @@ use Rattle.rdm_params.specs.declared.placing.PlaceError.TheVariants.{NoDevice, N
 use Rattle.rdm_device.specs.declared.value.Value.{Value}
 use Rattle.rdm_device.specs.declared.value.Value.TheVariants.{Byte}
 use Rattle.rdm_params.specs.Commands.Commands.{addressed, carried_out, command_of, root_spot}
-use Rattle.rdm_device.specs.Device.Map.{update}
+use Rattle.rdm_device.specs.declared.profile.own.ParameterDef.{ParameterDef}
+use Rattle.rdm_device.specs.Columns.Added.{added_stored, is_pid_of}
+use Rattle.rdm_device.specs.Columns.Forms.{value_of}
+use Rattle.rdm_device.specs.Device.Map.{Entry, update}
 use Rattle.rdm_device.specs.Device.Measuring.{placed_by}
+use Rattle.rdm_device.specs.Device.OwnParameters.{form_of, is_within}
 use Rattle.rdm_device.specs.Device.Parameters.{Parameters}
 use Rattle.rdm_device.specs.Device.Spot.{Spot}
-use Rattle.rdm_params.specs.Table.Rows.{row_of}
+use Rattle.rdm_params.specs.Table.Rows.{row_of, is_left_out}
 use Rattle.rdm_params.specs.Table.Uses.{access, read, keeps, in_range_of}
 
 -- The device of this number: 0 is the root, and the sub-devices are numbered from 1. 65535 is none. Section 9.
 abbrev pub device : Parameters → ℕ → Option Spot
 device p sub = if sub == 0xFFFF then None else slice_get (addressed p sub Get) 0
 
--- whether the device has the parameter, and a SET of it
-abbrev pub has_set : ℕ → ℕ → Bool
-has_set sub pid = is_ok (access (row_of pid) (sub == 0) Set)
+-- whether the device has the parameter of the table, and a SET of it
+abbrev pub has_set : Parameters → ℕ → ℕ → Bool
+has_set p sub pid = is_ok (access (row_of pid) (sub == 0) Set) && not (is_left_out p.profile pid)
 
 -- the refusal of the value that the data say, by the range of the SET at the device
 abbrev pub value_refusal : Parameters → ℕ → ℕ → Result Value Nack → Option PlaceError
 value_refusal p sub pid (Err nack) = Some Length
 value_refusal p sub pid (Ok value) =
     if option_map_or (λ spot. in_range_of (command_of pid Set) spot value) (device p sub) false then None else Some OutOfRange
+
+-- the parameter that the maker adds with this PID: the root has it, where the table has none
+abbrev pub own_at : Parameters → ℕ → ℕ → Option ParameterDef
+own_at p sub pid =
+    if is_left_out p.profile pid then None
+    else if is_some (row_of pid) then None
+    else if sub == 0 then find (is_pid_of pid) p.profile.own else None
+
+-- The refusal of data as its value, whichever commands it has: as those of a SET of it.
+abbrev pub own_refusal : ParameterDef → List ℕ → Option PlaceError
+own_refusal d bytes = option_map_or (λ value. if is_within d value then None else Some OutOfRange) (value_of (form_of d.shape) bytes) (Some Length)
+
+-- what a SET of it with these data makes of the values of the parameters that the maker adds
+abbrev pub own_values : Spot → ParameterDef → List ℕ → List Entry
+own_values spot d bytes = option_map_or (λ value. update (added_stored d.pid spot value) spot.added) (value_of (form_of d.shape) bytes) spot.added
+
+abbrev pub own_placed : Parameters → ParameterDef → List ℕ → Parameters
+own_placed p d bytes = record p { added = own_values (root_spot p) d bytes }
 
 -- The refusal of what a sensor shows, in the 9 slots of its GET: the first names a sensor that there is. Section 10.7.2.
 abbrev pub sensor_refusal : Parameters → List ℕ → Option PlaceError
@@ -37,11 +59,12 @@ sensor_refusal p bytes =
     else if in_range_of (command_of 0x0201 Get) (root_spot p) (Byte (slice_index bytes 0)) then None else Some OutOfRange
 
 -- Why data are refused, by the first reason: there is no such device; it stores no such value; the data have another
--- length; the value is out of range. Stored values are those of which a SET keeps the data, and what a sensor shows.
+-- length; the value is out of range. Stored values are those of which a SET keeps the data, what a sensor shows, and those of the
+-- parameters that the maker adds.
 unfoldable pub place_refusal : Parameters → ℕ → ℕ → List ℕ → Option PlaceError
 place_refusal p sub pid bytes =
     if not (is_some (device p sub)) then Some NoDevice
-    else if not (has_set sub pid) then Some NoValue
+    else if not (has_set p sub pid) then option_map_or (λ d. own_refusal d bytes) (own_at p sub pid) (Some NoValue)
     else if keeps (command_of pid Set) then value_refusal p sub pid (read (command_of pid Set) bytes)
     else if pid == 0x0201 then sensor_refusal p bytes else Some NoValue
 
@@ -54,5 +77,6 @@ after_value p sub pid (Ok value) = carried_out p sub (command_of pid Set) value
 unfoldable pub after_place : Parameters → ℕ → ℕ → List ℕ → Parameters
 after_place p sub pid bytes =
     if is_some (place_refusal p sub pid bytes) then p
+    else if not (has_set p sub pid) then option_map_or (λ d. own_placed p d bytes) (own_at p sub pid) p
     else if keeps (command_of pid Set) then after_value p sub pid (read (command_of pid Set) bytes)
     else record p { root = update (placed_by bytes) p.root }

@@ -1,21 +1,26 @@
 -- The table of parameters, one line a row. E1.20 section 10 and table A-3.
-use Rattle.std.specs.Prelude.{ℕ, Bool, true, false, ◌==◌, ◌&&◌, ◌||◌, not, List, [], ◌∷◌, ◌++◌, Option, Some, None, find, filter, flat_map}
+use Rattle.std.specs.Prelude.{ℕ, Bool, true, false, ◌==◌, ◌&&◌, ◌||◌, not, nat_le, List, [], ◌∷◌, ◌++◌, map, Option, Some, None, find, filter, flat_map, if◌then◌else◌}
 use Rattle.std.specs.List.{list_any}
 use Rattle.rdm_params.specs.declared.kind.Verb.{Verb}
 use Rattle.rdm_params.specs.declared.kind.Verb.TheVariants.{Get, Set}
 use Rattle.rdm_params.specs.declared.jobs.way.Way.{Way}
 use Rattle.rdm_params.specs.declared.jobs.way.Way.TheVariants.{AtOnce, ByJob, FromQueue, FromStatus, Clears}
+use Rattle.rdm_device.specs.declared.profile.own.ParameterDef.{ParameterDef}
+use Rattle.rdm_device.specs.declared.profile.Profile.{Profile}
 use Rattle.rdm_device.specs.declared.value.Value.{Value}
+use Rattle.rdm_device.specs.Columns.Added.{within, added_value, added_stored, added_set_back, has_makers_pid, a_makers_pid, described}
 use Rattle.rdm_device.specs.Columns.Changes.{Change, unchanged, stored_at, set_back, sensors_reset, sensors_recorded}
 use Rattle.rdm_device.specs.Columns.Forms.{Form, nothing, byte, word, long, preset, label}
+use Rattle.rdm_device.specs.Device.LeftOut.{lacks}
 use Rattle.rdm_device.specs.Device.Map.{lookup}
+use Rattle.rdm_device.specs.Device.OwnParameters.{form_of, has_get, has_set}
 use Rattle.rdm_device.specs.Columns.Ranges.{Range, any, below, a_message_type, a_threshold, a_status, a_language, a_personality, a_start, a_slot, a_sensor, sensors, a_power_state, a_test, a_self_test, a_preset}
 use Rattle.rdm_device.specs.Columns.Replies.{status_text, device_info, at_factory_defaults, languages, personality_of_all, personality_described, start_address, used_slots, slot_infos, slot_described, slot_defaults, sensor_described, sensor_measured, self_test_runs, self_test_described}
 use Rattle.rdm_device.specs.Device.Spot.{Spot}
 use Rattle.rdm_device.specs.Device.Values.{word_slots, long_slots}
 
 -- A command of a row: the form of its data, the range of it, the way in which it is answered, what it makes of the
--- entries of a device, and the data of its reply, which is of the device afterwards. If a job carries it out, the
+-- entries of a device and of those of the parameters that the maker adds, and the data of its reply, which is of the device afterwards. If a job carries it out, the
 -- change and the reply are those at the end of the job. And whether it keeps the data that it hands in, as the value of
 -- its parameter.
 pub record Command : Type 0 where
@@ -23,6 +28,7 @@ pub record Command : Type 0 where
   pub range : Range
   pub way : Way
   pub change : Change
+  pub added_change : Change
   pub reply : Spot → Value → List ℕ
   pub keeps : Bool
 
@@ -55,7 +61,7 @@ none pid = None
 
 -- a GET that is asked with data
 abbrev pub asks : Form → (Form → Range) → (Spot → Value → List ℕ) → Cell
-asks form range reply pid = Some (record { form = form; range = range form; way = AtOnce; change = unchanged; reply = reply; keeps = false })
+asks form range reply pid = Some (record { form = form; range = range form; way = AtOnce; change = unchanged; added_change = unchanged; reply = reply; keeps = false })
 
 -- a GET without data
 abbrev pub reads : (Spot → List ℕ) → Cell
@@ -65,32 +71,33 @@ reads shown = asks nothing any (λ spot v. shown spot)
 abbrev pub stored : Cell
 stored pid = reads (λ spot. lookup spot.entries pid 0) pid
 
--- a SET with a change and a reply
-abbrev pub sets : Form → (Form → Range) → Change → (Spot → Value → List ℕ) → Cell
-sets form range change reply pid = Some (record { form = form; range = range form; way = AtOnce; change = change; reply = reply; keeps = false })
+-- a SET with a change, one of the parameters that the maker adds, and a reply
+abbrev pub sets : Form → (Form → Range) → Change → Change → (Spot → Value → List ℕ) → Cell
+sets form range change added_change reply pid =
+    Some (record { form = form; range = range form; way = AtOnce; change = change; added_change = added_change; reply = reply; keeps = false })
 
 -- a SET that keeps its data at the key of its PID
 abbrev pub takes : Form → (Form → Range) → Cell
 takes form range pid =
-    Some (record { form = form; range = range form; way = AtOnce; change = stored_at pid form; reply = λ spot v. []; keeps = true })
+    Some (record { form = form; range = range form; way = AtOnce; change = stored_at pid form; added_change = unchanged; reply = λ spot v. []; keeps = true })
 
 -- a SET by a job of a worker, with an estimate in tenths of a second, which keeps its data at the key of its PID
 abbrev pub starts : ℕ → ℕ → (Form → Range) → Cell
 starts worker estimate range pid =
-    Some (record { form = byte; range = range byte; way = ByJob worker estimate; change = stored_at pid byte; reply = λ spot v. []; keeps = true })
+    Some (record { form = byte; range = range byte; way = ByJob worker estimate; change = stored_at pid byte; added_change = unchanged; reply = λ spot v. []; keeps = true })
 
 -- a GET by a job of a worker, with an estimate in tenths of a second, which shows what it has measured
 abbrev pub measures : ℕ → ℕ → (Form → Range) → (Spot → Value → List ℕ) → Cell
 measures worker estimate range reply pid =
-    Some (record { form = byte; range = range byte; way = ByJob worker estimate; change = unchanged; reply = reply; keeps = false })
+    Some (record { form = byte; range = range byte; way = ByJob worker estimate; change = unchanged; added_change = unchanged; reply = reply; keeps = false })
 
 -- a GET that is answered from what waits for the controller
 abbrev pub fetches : Way → (Form → Range) → Cell
-fetches way range pid = Some (record { form = byte; range = range byte; way = way; change = unchanged; reply = λ spot v. []; keeps = false })
+fetches way range pid = Some (record { form = byte; range = range byte; way = way; change = unchanged; added_change = unchanged; reply = λ spot v. []; keeps = false })
 
 -- a SET without data that clears the list of status entries
 abbrev pub clears : Cell
-clears pid = Some (record { form = nothing; range = any nothing; way = Clears; change = unchanged; reply = λ spot v. []; keeps = false })
+clears pid = Some (record { form = nothing; range = any nothing; way = Clears; change = unchanged; added_change = unchanged; reply = λ spot v. []; keeps = false })
 
 -- a row that shows and takes what is kept at the key of its PID
 abbrev pub kept : ℕ → Bool → Form → (Form → Range) → Row
@@ -113,7 +120,7 @@ information =
     ∷ row 0x0080 both (reads (λ spot. spot.unit.model_text)) none  -- DEVICE_MODEL_DESCRIPTION
     ∷ row 0x0081 both (reads (λ spot. spot.unit.maker_text)) none  -- MANUFACTURER_LABEL
     ∷ kept 0x0082 both label any  -- DEVICE_LABEL
-    ∷ row 0x0090 root (reads at_factory_defaults) (sets nothing any set_back (λ spot v. []))  -- FACTORY_DEFAULTS
+    ∷ row 0x0090 root (reads at_factory_defaults) (sets nothing any set_back added_set_back (λ spot v. []))  -- FACTORY_DEFAULTS
     ∷ []
 
 -- Language and software: sections 10.5.7 to 10.5.11
@@ -141,8 +148,8 @@ dmx =
 abbrev pub sensing : List Row
 sensing =
     row 0x0200 root (asks byte a_sensor sensor_described) none  -- SENSOR_DEFINITION
-    ∷ row 0x0201 root (measures 1 5 a_sensor sensor_measured) (sets byte sensors sensors_reset sensor_measured)  -- SENSOR_VALUE
-    ∷ row 0x0202 root none (sets byte sensors sensors_recorded (λ spot v. []))  -- RECORD_SENSORS
+    ∷ row 0x0201 root (measures 1 5 a_sensor sensor_measured) (sets byte sensors sensors_reset unchanged sensor_measured)  -- SENSOR_VALUE
+    ∷ row 0x0202 root none (sets byte sensors sensors_recorded unchanged (λ spot v. []))  -- RECORD_SENSORS
     ∷ []
 
 -- Power and lamp: section 10.8
@@ -180,13 +187,67 @@ control =
 abbrev pub is_required : ℕ → Bool
 is_required pid = list_any (λ required. pid == required) (0x0060 ∷ 0x00C0 ∷ 0x00F0 ∷ 0x1000 ∷ [])
 
--- what SUPPORTED_PARAMETERS lists of these rows, at the root or at a sub-device
-abbrev pub listed : Bool → List Row → List ℕ
-listed is_root rows = flat_map (λ r. word_slots r.pid) (filter (λ r. (is_root || not r.root_only) && not (is_required r.pid)) rows)
+-- ---- what a profile adds to the table
 
--- the PIDs that a device supports, beside those that every device does. Section 10.4.1.
+-- a GET that shows what is kept of a parameter that the maker adds
+abbrev pub shows_added : Cell
+shows_added pid = reads (added_value pid) pid
+
+-- a SET that keeps its data as the value of a parameter that the maker adds
+abbrev pub takes_added : Form → (Form → Range) → Cell
+takes_added form range pid =
+    Some (record { form = form; range = range form; way = AtOnce; change = unchanged; added_change = added_stored pid; reply = λ spot v. []; keeps = true })
+
+-- the row of a parameter that the maker adds
+abbrev pub added_row : ParameterDef → Row
+added_row d = record {
+  pid = d.pid;
+  root_only = root;
+  get = if has_get d.rights then shows_added d.pid else None;
+  set = if has_set d.rights then takes_added (form_of d.shape) (within d) d.pid else None;
+}
+
+-- PARAMETER_DESCRIPTION: section 10.4.2
+abbrev pub description_row : Row
+description_row = row 0x0051 root (asks word a_makers_pid described) none
+
+-- The rows that a profile adds to the table: one for each parameter that the maker adds, and PARAMETER_DESCRIPTION where
+-- one of these has a PID that the standard leaves to makers.
+unfoldable pub added_rows : Profile → List Row
+added_rows p = (if list_any has_makers_pid p.own then description_row ∷ [] else []) ++ map added_row p.own
+
+abbrev pub added_pids : Profile → List ℕ
+added_pids p = map (λ r. r.pid) (added_rows p)
+
+-- whether the devices of a profile lack a parameter of the table
+abbrev pub is_left_out : Profile → ℕ → Bool
+is_left_out p pid = lacks p.without.items pid
+
+-- a PID among others that are in their order, before the first that isn't below it
+abbrev pub with_pid : ℕ → List ℕ → List ℕ
+with_pid pid [] = pid ∷ []
+with_pid pid (p ∷ ps) = if nat_le pid p then pid ∷ p ∷ ps else p ∷ with_pid pid ps
+
+abbrev pub with_pids : List ℕ → List ℕ → List ℕ
+with_pids [] ps = ps
+with_pids (pid ∷ pids) ps = with_pids pids (with_pid pid ps)
+
+-- the PIDs of these rows that SUPPORTED_PARAMETERS lists, at the root or at a sub-device
+abbrev pub listed : Bool → List Row → List ℕ
+listed is_root rows = map (λ r. r.pid) (filter (λ r. (is_root || not r.root_only) && not (is_required r.pid)) rows)
+
+-- what it lists of the table
+unfoldable pub table_pids : Bool → List ℕ
+table_pids is_root = listed is_root (status ++ information ++ software ++ dmx ++ sensing ++ usage ++ display ++ control)
+
+-- The PIDs that a device supports, beside those that every device does, in their order: those of the table that the profile
+-- doesn't leave out, and at the root those that it adds. Section 10.4.1.
+unfoldable pub supported_pids : Profile → Bool → List ℕ
+supported_pids p is_root =
+    with_pids (if is_root then added_pids p else []) (filter (λ pid. not (is_left_out p pid)) (table_pids is_root))
+
 unfoldable pub supported : Spot → List ℕ
-supported spot = listed spot.is_root (status ++ information ++ software ++ dmx ++ sensing ++ usage ++ display ++ control)
+supported spot = flat_map word_slots (supported_pids spot.profile spot.is_root)
 
 -- Product information with SUPPORTED_PARAMETERS: section 10.4.1
 abbrev pub product : List Row
@@ -206,6 +267,16 @@ row_in rows pid = find (λ r. r.pid == pid) rows
 unfoldable pub row_of : ℕ → Option Row
 unfolding table
 row_of pid = row_in table pid
+
+-- the first of two rows, if there is one, else the second
+abbrev pub row_or : Option Row → Option Row → Option Row
+row_or (Some r) other = Some r
+row_or None other = other
+
+-- The row of a PID at the devices of a profile: none if the profile leaves the parameter out, else that of the table, else
+-- one that the profile adds.
+abbrev pub row_at : Profile → ℕ → Option Row
+row_at p pid = if is_left_out p pid then None else row_or (row_of pid) (row_in (added_rows p) pid)
 
 -- what a row has for a GET or a SET
 abbrev pub command_in : Option Row → Verb → Option Command

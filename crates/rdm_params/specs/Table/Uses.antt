@@ -68,6 +68,11 @@ abbrev pub change : Option Command → Change
 change None spot v e = e.bytes
 change (Some c) spot v e = c.change spot v e
 
+-- what the command makes of the entries of the parameters that the maker adds
+abbrev pub added_change : Option Command → Change
+added_change None spot v e = e.bytes
+added_change (Some c) spot v e = c.added_change spot v e
+
 -- what a SET by this row makes of these entries of a device
 abbrev pub after_store : Option Row → Spot → Value → List Entry → List Entry
 after_store row spot v entries = update (change (command_in row Set) spot v) entries

@@ -15,13 +15,17 @@ impl Devices {
     /// Takes over what a person changed at the fixture's own menu, and gives the message that tells a controller: the
     /// response to a GET of the parameter at the root, with the data that it reads now (E1.20 section 10.3.1).
     ///
-    /// It is `None`, and nothing changes, if a SET of the value would be out of range at the root.
+    /// It is `None`, and nothing changes, if the fixture doesn't have the parameter, or a SET of the value would be out of range
+    /// at the root.
     #[tactic(auto, unfolding(crate::specs::Commands::Panel::after_change, crate::specs::Commands::Panel::change_message))]
     pub fn change(&mut self, change: &Change) -> Option<Message>
         ensures message { result ≡ change_message self.old change.now }
         ensures after { self.new ≡ after_change self.old change.now }
     {
         let (kind, value) = (change.kind(), change.value());
+        if self.profile.lacks(kind.pid()) {
+            return None;
+        }
         if !is_in_range(kind, Verb::Set, &self.root_place(), &value) {
             return None;
         }

@@ -1,6 +1,12 @@
 //! Values that the firmware of a fixture places.
 
-ghost use Rattle.std.specs.Prelude.{◌≡◌, OnOk, OnErr, false, length};
+ghost use Rattle.std.specs.Prelude.{◌≡◌, ◌==◌, OnOk, OnErr, Some, Err, find, false, length};
+ghost use Rattle.rdm_device.specs.Columns.Added.{is_pid_of};
+ghost use Rattle.rdm_device.specs.Device.Spot.{Spot};
+ghost use Rattle.rdm_device.specs.Views.State.{own_entries, added_entries};
+ghost use Rattle.rdm_params.specs.declared.placing.PlaceError.TheVariants.{NoValue};
+ghost use Rattle.rdm_params.specs.Commands.Placing.{own_at, own_refusal, own_values, own_placed};
+ghost use Rattle.rdm_params.specs.Table.Rows.{row_of};
 ghost use Rattle.std.specs.Result.{result_err};
 ghost use Rattle.std.specs.Option.{option_map_or};
 ghost use Rattle.rdm_params.specs.declared.kind.Verb.TheVariants.{Get, Set};
@@ -8,17 +14,19 @@ ghost use Rattle.rdm_device.specs.declared.value.Value.TheVariants.{Byte};
 ghost use Rattle.rdm_params.specs.Commands.Commands.{command_of, root_spot};
 ghost use Rattle.rdm_params.specs.Commands.Placing.{device, place_refusal, after_place, value_refusal, after_value, sensor_refusal};
 ghost use Rattle.rdm_params.specs.Table.Kinds.{pid_of};
-ghost use Rattle.rdm_params.specs.Table.Uses.{read, in_range_of};
+ghost use Rattle.rdm_params.specs.Table.Uses.{access, read, in_range_of};
 ghost use Rattle.rdm_device.specs.Device.Map.{update};
 ghost use Rattle.rdm_device.specs.Device.Measuring.{placed_by};
 
 use super::Devices;
+use super::added::parameter_of;
 use crate::table::find::find;
 use crate::table::keep::keeps_data;
 use crate::table::read::read_argument;
 use crate::table::within::is_in_range;
-use crate::{Kind, PlaceError, Verb};
-use rdm_device::{Argument, Place, place_measured};
+use crate::{Kind, Nack, PlaceError, Verb};
+use rdm_device::columns::added;
+use rdm_device::{Argument, ParameterDef, Place, RootValues, place_measured};
 use rdm_frame::standard::SUB_DEVICE_ALL_CALL;
 
 /// How many slots say what a sensor shows: its number, and four values (E1.20 section 10.7.2).
@@ -27,7 +35,8 @@ const SENSOR_SLOTS: usize = 9;
 impl Devices {
     /// Makes a stored value at the root, or at one sub-device, what a SET of it would make it: at once, with no message,
     /// and for a slow SET too. What a sensor shows is placed by the 9 slots with which SENSOR_VALUE replies: the number,
-    /// then the present, the lowest, the highest and the recorded value (E1.20 section 10.7.2).
+    /// then the present, the lowest, the highest and the recorded value (E1.20 section 10.7.2). A parameter of the maker's own is
+    /// placed at the root, whichever commands it has.
     ///
     /// It is `NoDevice` if there is no such sub-device, else `NoValue` if the device stores no value of this parameter,
     /// else `Length` if the data have another length than the value, and else `OutOfRange` if the SET would be out of
@@ -41,15 +50,53 @@ impl Devices {
         if self.device(sub).is_none() {
             return Err(PlaceError::NoDevice);
         }
-        let Ok(found) = find(pid, sub == 0, Verb::Set) else {
-            return Err(PlaceError::NoValue);
+        let found = match find(pid, sub == 0, Verb::Set) {
+            Ok(found) => found,
+            Err(nack) => return self.place_own(sub, pid, data, nack),
         };
+        if self.profile.lacks(pid) {
+            return Err(PlaceError::NoValue);
+        }
         if keeps_data(found.kind) {
             self.place_value(sub, found.kind, data)
         } else if pid == Kind::SensorValue.pid() {
             self.place_sensor(data)
         } else {
             Err(PlaceError::NoValue)
+        }
+    }
+
+    /// Makes the value of a parameter that the maker adds what a SET of it would make it, whichever commands it has.
+    #[inline(never)]
+    #[tactic(auto, using(crate::proofs::PlacesOwn::nothing_refused, crate::proofs::PlacesOwn::own_left, crate::proofs::PlacesOwn::own_tabled, crate::proofs::PlacesOwn::own_sub))]
+    fn place_own(&mut self, sub: u16, pid: u16, data: &[u8], nack: Nack) -> Result<(), PlaceError>
+        requires { access (row_of pid) (sub == 0) Set ≡ Err nack }
+        ensures refused { result_err result ≡ option_map_or (λ d. own_refusal d data.now) (own_at self.old sub pid) (Some NoValue) }
+        ensures after { OnOk result (self.new ≡ option_map_or (λ d. own_placed self.old d data.now) (own_at self.old sub pid) self.old) }
+        ensures same { OnErr result (self.new ≡ self.old) }
+    {
+        if self.profile.lacks(pid) {
+            return Err(PlaceError::NoValue);
+        }
+        if nack != Nack::UnknownPid {
+            return Err(PlaceError::NoValue);
+        }
+        if sub != 0 {
+            return Err(PlaceError::NoValue);
+        }
+        self.place_at_root(pid, data)
+    }
+
+    /// The same at the root, of a PID that the table doesn't have.
+    fn place_at_root(&mut self, pid: u16, data: &[u8]) -> Result<(), PlaceError>
+        ensures refused { result_err result ≡ option_map_or (λ d. own_refusal d data.now) (find (is_pid_of pid) self.old.profile.own) (Some NoValue) }
+        ensures after { OnOk result (self.new ≡ option_map_or (λ d. own_placed self.old d data.now) (find (is_pid_of pid) self.old.profile.own) self.old) }
+        ensures same { OnErr result (self.new ≡ self.old) }
+    {
+        let profile = &self.profile;
+        match parameter_of(profile, pid) {
+            Some(def) => place_parameter(def, data, &mut self.own),
+            None => Err(PlaceError::NoValue),
         }
     }
 
@@ -122,4 +169,22 @@ impl Devices {
         let number = Argument::from_byte(number);
         is_in_range(Kind::SensorValue, Verb::Get, &self.root_place(), &number)
     }
+}
+
+/// Keeps what data stand for as the value of a parameter that the maker adds.
+fn place_parameter(def: &ParameterDef, data: &[u8], own: &mut RootValues) -> Result<(), PlaceError>
+    ensures refused { result_err result ≡ own_refusal def.now data.now }
+    ensures own { own_entries own.new ≡ own_entries own.old }
+    ensures after { OnOk result ((spot : Spot) → spot.added ≡ added_entries own.old.added.items
+        → added_entries own.new.added.items ≡ own_values spot def.now data.now) }
+    ensures same { OnErr result (own.new ≡ own.old) }
+{
+    let Some(value) = added::read_shape(def.shape, data) else {
+        return Err(PlaceError::Length);
+    };
+    if !added::is_within(def, &value) {
+        return Err(PlaceError::OutOfRange);
+    }
+    added::store_added(def.pid, &value, own);
+    Ok(())
 }

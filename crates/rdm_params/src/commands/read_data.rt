@@ -30,7 +30,7 @@ impl Devices {
         requires first { slice_get (addressed self.now sub verb) 0 ≡ Some place.now }
         requires way { found.way ≡ way_of (command_of (pid_of found.kind) verb) }
         requires bare { found.is_bare ≡ is_bare (command_of (pid_of found.kind) verb) }
-        ensures { result ≡ read_data self.now sub (pid_of found.kind) verb data.now }
+        ensures { result ≡ read_data self.now sub (command_of (pid_of found.kind) verb) verb data.now }
     {
         let value = read_data_at(verb, found, place, data)?;
         if is_all_call(sub, verb) {
@@ -54,7 +54,7 @@ impl Devices {
         requires some { 1 ≤ length self.now.subs }
         requires first { IfSome (slice_get (addressed self.now sub verb) 0) (λ spot. in_range_of (command_of (pid_of found.kind) verb) spot value.now ≡ true) }
         requires way { found.way ≡ way_of (command_of (pid_of found.kind) verb) }
-        ensures { result ≡ suits self.now sub (pid_of found.kind) verb value.now }
+        ensures { result ≡ suits self.now sub (command_of (pid_of found.kind) verb) verb value.now }
     {
         if !self.is_in_range_at_each(sub, found.kind, verb, value) {
             return Err(Nack::DataOutOfRange);

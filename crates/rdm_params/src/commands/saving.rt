@@ -5,7 +5,7 @@ ghost use Rattle.std.specs.Result.{result_err};
 ghost use Rattle.rdm_saved.specs.declared.errors.SaveError.TheVariants.{Short};
 ghost use Rattle.rdm_saved.specs.SavedText.{saved_text};
 ghost use Rattle.rdm_saved.specs.Restoring.{saved_len, restored, restore_refusal};
-ghost use Rattle.rdm_saved.specs.Laws.{IsWhole, AreWhole};
+ghost use Rattle.rdm_saved.specs.Laws.{IsWhole, AreTexts, AreWhole};
 ghost use Rattle.rdm_device.specs.Device.Values.{long_slots};
 ghost use Rattle.rdm_params.specs.Commands.Saving.{one_more, powered_on};
 
@@ -17,7 +17,7 @@ impl Devices {
     pub fn saved_len(&self) -> usize
         ensures { result ≡ min (saved_len self.now) usize.MAX }
     {
-        saved_len(&self.own, self.subs.as_slice())
+        saved_len(&self.profile, &self.own, self.subs.as_slice())
     }
 
     /// Writes the image of the values that outlive power-off to the front of these bytes, and tells how many it has.
@@ -25,7 +25,7 @@ impl Devices {
     /// It is `Short` if there are fewer bytes, and then nothing is written.
     pub fn save_into(&self, image: &mut [u8]) -> Result<usize, SaveError>
         ensures written { IfOk result (λ n. (n ≡ saved_len self.now) × (image.new ≡ saved_text self.now ++ drop n image.old)) }
-        ensures whole { IfOk result (λ n. IsWhole self.now.root × AreWhole self.now.subs) }
+        ensures whole { IfOk result (λ n. IsWhole self.now.root × AreTexts self.now.added × AreWhole self.now.subs) }
         ensures refused { result_err result ≡ (if nat_le (saved_len self.now) (length image.old) then None else Some Short) }
         ensures same { OnErr result (image.new ≡ image.old) }
     {

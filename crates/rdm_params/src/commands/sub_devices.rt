@@ -15,7 +15,7 @@ use crate::{Kind, Profile, Unit, Verb};
 use rdm_device::{Argument, CommonValues, Place};
 use std::alloc::{AllocError, Global};
 
-/// This many sub-devices, with the values that they start with.
+/// This many sub-devices, with the values that they start with. They take their memory at once, and no more than they need.
 pub(crate) fn start_each(
     alloc: Global,
     unit: &Unit,
@@ -23,7 +23,7 @@ pub(crate) fn start_each(
 ) -> Result<Vec<CommonValues>, AllocError>
     ensures { IfOk result (λ subs. map common_entries subs.items ≡ replicate count (common_at_start unit.now)) }
 {
-    let mut subs = Vec::new(alloc);
+    let mut subs = Vec::with_capacity(alloc, usize::from(count))?;
     for _ in 0..count {
         subs.push(CommonValues::at_start(unit))?;
     }

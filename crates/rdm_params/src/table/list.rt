@@ -1,8 +1,10 @@
 //! The list of supported parameters.
 
-ghost use Rattle.std.specs.Prelude.{◌≡◌, []};
-ghost use Rattle.rdm_params.specs.Table.Rows.{supported};
+ghost use Rattle.std.specs.Prelude.{◌≡◌, [], flat_map};
+ghost use Rattle.rdm_device.specs.Device.Values.{word_slots};
+ghost use Rattle.rdm_params.specs.Table.Rows.{supported, table_pids};
 
+use crate::table::chosen::put_chosen;
 use crate::table::rows;
 use rdm_device::Place;
 use rdm_frame::Body;
@@ -33,12 +35,25 @@ macro_rules! list_row {
 }
 
 /// The PIDs that the device supports, in their order, beside those that every device does.
-#[tactic(auto, unfolding(crate::specs::Table::Rows::supported))]
+#[tactic(auto, unfolding(crate::specs::Table::Rows::supported), using(crate::proofs::Supported::plain))]
 pub(crate) fn supported(place: &Place<'_>, list: &mut Body)
     requires { list.old ≡ [] }
     ensures { list.new ≡ supported place.now }
 {
     let is_root = place.own.is_some();
+    if place.profile.is_plain() {
+        put_table(is_root, list);
+    } else {
+        put_chosen(place.profile, is_root, list);
+    }
+}
+
+/// The PIDs of the table.
+#[tactic(auto, unfolding(crate::specs::Table::Rows::table_pids))]
+fn put_table(is_root: bool, list: &mut Body)
+    requires { list.old ≡ [] }
+    ensures { list.new ≡ flat_map word_slots (table_pids is_root) }
+{
     // It is empty already. Here the compiler sees that, and looks for room no more.
     list.clear();
     rows!(listed_rows!(is_root list))

@@ -1,15 +1,18 @@
 //! What a SET writes.
 
-ghost use Rattle.std.specs.Prelude.{◌≡◌, ◌↔◌, false};
+ghost use Rattle.std.specs.Prelude.{◌≡◌, ◌↔◌, ◌==◌, false};
 ghost use Rattle.rdm_params.specs.Table.Kinds.{pid_of};
 ghost use Rattle.rdm_device.specs.Device.Spot.{Spot};
-ghost use Rattle.rdm_device.specs.Views.State.{common_entries, own_entries};
+ghost use Rattle.rdm_device.specs.Device.Map.{update};
+ghost use Rattle.rdm_device.specs.Views.State.{common_entries, own_entries, added_entries};
+ghost use Rattle.rdm_params.specs.declared.kind.Verb.TheVariants.{Set};
+ghost use Rattle.rdm_params.specs.Commands.Commands.{command_of};
 ghost use Rattle.rdm_params.specs.Table.Rows.{row_of};
-ghost use Rattle.rdm_params.specs.Table.Uses.{after_store};
+ghost use Rattle.rdm_params.specs.Table.Uses.{added_change, after_store};
 
 use crate::table::rows;
 use crate::{Kind, Profile};
-use rdm_device::columns::{changes, writes};
+use rdm_device::columns::{added, changes, writes};
 use rdm_device::{Argument, CommonValues, RootValues};
 
 macro_rules! common_rows {
@@ -76,6 +79,23 @@ macro_rules! write_own {
     };
 }
 
+macro_rules! factory_rows {
+    (($kind:ident) $(($name:ident $pid:tt $at:ident $get:tt $set:tt))*) => {
+        match $kind {
+            $(Kind::$name => sets_back!($name),)*
+        }
+    };
+}
+
+macro_rules! sets_back {
+    (FactoryDefaults) => {
+        true
+    };
+    ($name:ident) => {
+        false
+    };
+}
+
 /// Writes what a SET writes of the values that every device keeps, and says whether that changed one.
 // Inlined, since a call would save and restore the registers of a SET, and of each sub-device in a SET of all.
 #[inline(always)]
@@ -94,6 +114,8 @@ pub(crate) fn store_common(
 }
 
 /// Writes what a SET writes of the values that the root alone keeps, and says whether that changed one.
+// Inlined, as `store_common`.
+#[inline(always)]
 #[tactic(auto, unfolding(crate::specs::Table::Rows::row_of, crate::specs::Table::Rows::table, rdm_device::specs::Views::State::own_entries), using(rdm_device::proofs::Sensors::sensors_stay))]
 pub(crate) fn store_own(
     kind: Kind,
@@ -104,6 +126,37 @@ pub(crate) fn store_own(
     ensures after { (spot : Spot) → spot.profile ≡ profile.now
         → own_entries own.new ≡ after_store (row_of (pid_of kind)) spot value.now (own_entries own.old) }
     ensures same { (result ≡ false) ↔ (own_entries own.new ≡ own_entries own.old) }
+    ensures added { own.new.added ≡ own.old.added }
 {
     rows!(own_rows!(kind value profile own))
+}
+
+/// Writes what a SET of the table writes of the parameters that the maker adds, and says whether that changed a value.
+#[inline(always)]
+#[tactic(auto, using(crate::proofs::AddedRows::set_back_by_factory, crate::proofs::AddedRows::left_by_others))]
+pub(crate) fn store_added(
+    kind: Kind,
+    value: &Argument<'_>,
+    profile: &Profile,
+    own: &mut RootValues,
+) -> bool
+    ensures own { own_entries own.new ≡ own_entries own.old }
+    ensures after { (spot : Spot) → spot.profile ≡ profile.now → added_entries own.new.added.items
+        ≡ update (added_change (command_of (pid_of kind) Set) spot value.now) (added_entries own.old.added.items) }
+    ensures same { (result ≡ false) ↔ (added_entries own.new.added.items ≡ added_entries own.old.added.items) }
+{
+    let _ = value;
+    if is_factory_defaults(kind) {
+        added::set_added_back(profile, own)
+    } else {
+        false
+    }
+}
+
+/// Whether it is FACTORY_DEFAULTS.
+#[inline(always)]
+fn is_factory_defaults(kind: Kind) -> bool
+    ensures { result ≡ (pid_of kind == 0x0090) }
+{
+    rows!(factory_rows!(kind))
 }

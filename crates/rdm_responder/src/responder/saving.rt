@@ -8,7 +8,7 @@ ghost use Rattle.rdm_responder.specs.Lawful.{IsLawful};
 ghost use Rattle.rdm_responder.specs.Laws.{values_of};
 ghost use Rattle.rdm_responder.specs.StandsFor.{StandsFor};
 ghost use Rattle.rdm_saved.specs.declared.errors.SaveError.TheVariants.{Short};
-ghost use Rattle.rdm_saved.specs.Laws.{IsWhole, AreWhole};
+ghost use Rattle.rdm_saved.specs.Laws.{IsWhole, AreTexts, AreWhole};
 ghost use Rattle.rdm_saved.specs.Restoring.{saved_len, restored, restore_refusal};
 ghost use Rattle.rdm_saved.specs.SavedText.{saved_text};
 
@@ -30,7 +30,7 @@ impl Responder {
         ensures written { IfOk result (λ n. (h : History) → StandsFor self.now h →
             (n ≡ saved_len (values_of h)) × (image.new ≡ saved_text (values_of h) ++ drop n image.old)) }
         ensures whole { IfOk result (λ n. (h : History) → StandsFor self.now h →
-            IsWhole (values_of h).root × AreWhole (values_of h).subs) }
+            IsWhole (values_of h).root × AreTexts (values_of h).added × AreWhole (values_of h).subs) }
         ensures refused { (h : History) → StandsFor self.now h →
             result_err result ≡ (if nat_le (saved_len (values_of h)) (length image.old) then None else Some Short) }
         ensures same { OnErr result (image.new ≡ image.old) }

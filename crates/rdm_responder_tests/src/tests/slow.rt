@@ -212,6 +212,34 @@ fn a_queue_of_255_is_used_up_to_its_end(rt: HostRuntime) -> Result<(), Fail> {
     Ok(())
 }
 
+#[test]
+fn a_report_for_the_responder_before_is_astray(rt: HostRuntime) -> Result<(), Fail> {
+    let set = lamp(0)?;
+    let outcome = Outcome::Done;
+    let made = |first| Responder::new_numbered(rt.alloc(), DEVICE, Profile::demo(0), 8, 64, first);
+    let mut former = made(7)?;
+    let before = started(&mut former, &set)?;
+    assert_eq!(rt; before.number, 7);
+    // The first number of the next responder, and that of its second job.
+    for (first, second) in [(8, 9), (0, 1), (0xFFFF_FFFF, 0)] {
+        let mut responder = made(first)?;
+        let job = started(&mut responder, &set)?;
+        assert_eq!(rt; job.number, first);
+        let report = Report {
+            job: before,
+            outcome,
+        };
+        assert!(rt; responder.arrive(report).is_err(), "{first}");
+        ends(&mut responder, job, outcome)?;
+        assert_eq!(rt; started(&mut responder, &set)?.number, second, "{first}");
+    }
+    // One that begins at the same number can't tell the two apart, here one whose profile has its place already.
+    let profile = Box::new(rt.alloc(), Profile::demo(0))?;
+    let mut again = Responder::new_boxed(rt.alloc(), DEVICE, profile, 8, 64, 7)?;
+    assert_eq!(rt; started(&mut again, &set)?, before);
+    Ok(())
+}
+
 /// SET LAMP_STATE on, QUEUED_MESSAGE, and what is answered to them: ACK_TIMER with 50 tenths of a second, and the response
 /// to the SET.
 const SET_LAMP_ON: &str = "CC0119 7FF000000001 7FF000000002 00 01 00 0000 30 0403 01 01 0401";

@@ -2,11 +2,12 @@
 
 ghost use Rattle.std.specs.Prelude.{◌≡◌, ◌≤◌, length, true};
 ghost use Rattle.std.specs.List.{list_all};
-ghost use Rattle.rdm_script.specs.Grammar.{action_in, destination_in, is_plain, sub_in, sub_named, pid_in, bytes_load_in, is_shown, is_quoted, quoted_in, load_in, command_in};
+ghost use Rattle.rdm_script.specs.Grammar.{action_in, destination_in, is_plain, sub_in, sub_named, own_named, pid_by_name, pid_in, bytes_load_in, is_shown, is_quoted, quoted_in, load_in, command_in};
 
 use super::decimals;
 use crate::dialect::{Dialect, Spelling};
 use rdm_bus::{Action, Command};
+use rdm_device::ParameterDef;
 use rdm_frame::digits::{bytes_in, word_in};
 use rdm_frame::{Load, Uid};
 use rdm_params::pid_named;
@@ -17,20 +18,20 @@ const MOST_DIGITS: usize = 3;
 /// The command that five words say, to the device of the dialect among others.
 #[tactic(auto, unfolding(crate::specs::Grammar::command_in))]
 pub(crate) fn command_in(
-    dialect: Dialect,
+    dialect: &Dialect<'_>,
     action: &[u8],
     dst: &[u8],
     sub: &[u8],
     pid: &[u8],
     load: &[u8],
 ) -> Option<Command>
-    ensures { result ≡ command_in dialect action.now dst.now sub.now pid.now load.now }
+    ensures { result ≡ command_in dialect.now action.now dst.now sub.now pid.now load.now }
 {
     Some(Command {
         action: action_in(action)?,
         dst: destination_in(dialect.device, dst)?,
         sub: sub_in(dialect.spelling, sub)?,
-        pid: pid_in(dialect.spelling, pid)?,
+        pid: pid_in(dialect.spelling, dialect.own, pid)?,
         load: load_in(dialect.spelling, load)?,
     })
 }
@@ -102,18 +103,38 @@ fn is_plain(word: &[u8]) -> bool
     word.len() <= MOST_DIGITS && !(word.len() > 1 && word[0] == b'0')
 }
 
-/// The parameter: four digits, or its name in a friendly script.
+/// The parameter: four digits, or in a friendly script its name.
 #[tactic(auto, unfolding(crate::specs::Grammar::pid_in))]
-pub(crate) fn pid_in(spelling: Spelling, word: &[u8]) -> Option<u16>
-    ensures { result ≡ pid_in spelling word.now }
+pub(crate) fn pid_in(spelling: Spelling, own: &[ParameterDef], word: &[u8]) -> Option<u16>
+    ensures { result ≡ pid_in spelling own.now word.now }
 {
     match spelling {
         Spelling::Strict => word_in(word),
         Spelling::Friendly => match word_in(word) {
             Some(pid) => Some(pid),
-            None => pid_named(word),
+            None => pid_by_name(own, word),
         },
     }
+}
+
+/// The parameter of this name: in double quotes one of the maker's own, else one of the standard's.
+#[tactic(auto, unfolding(crate::specs::Grammar::pid_by_name))]
+fn pid_by_name(own: &[ParameterDef], word: &[u8]) -> Option<u16>
+    ensures { result ≡ pid_by_name own.now word.now }
+{
+    if is_quoted(word) {
+        own_named(own, &word[1..word.len() - 1])
+    } else {
+        pid_named(word)
+    }
+}
+
+/// The first parameter of the maker's own with this name.
+fn own_named(own: &[ParameterDef], name: &[u8]) -> Option<u16>
+    ensures { result ≡ own_named own.now name.now }
+{
+    let def = own.iter().find(|def| name == def.name.as_slice())?;
+    Some(def.pid)
 }
 
 /// The data of a command, which may be a text in a friendly script.

@@ -30,8 +30,8 @@ pub enum Line {
 
 /// What the words of a line say, where no line before it says anything: a setup may stand there.
 #[tactic(auto, unfolding(crate::specs::Grammar::first_line_in))]
-pub(crate) fn first_line_in(dialect: Dialect, words: &[&[u8]]) -> Line
-    ensures { result ≡ first_line_in dialect (map (λ word. word.now) words.now) }
+pub(crate) fn first_line_in(dialect: &Dialect<'_>, words: &[&[u8]]) -> Line
+    ensures { result ≡ first_line_in dialect.now (map (λ word. word.now) words.now) }
 {
     match setup_in(words) {
         Some(setup) => Line::Sets(setup),
@@ -41,8 +41,8 @@ pub(crate) fn first_line_in(dialect: Dialect, words: &[&[u8]]) -> Line
 
 /// What the words of any other line say.
 #[tactic(auto, unfolding(crate::specs::Grammar::line_in))]
-pub(crate) fn line_in(dialect: Dialect, words: &[&[u8]]) -> Line
-    ensures { result ≡ line_in dialect (map (λ word. word.now) words.now) }
+pub(crate) fn line_in(dialect: &Dialect<'_>, words: &[&[u8]]) -> Line
+    ensures { result ≡ line_in dialect.now (map (λ word. word.now) words.now) }
 {
     if is_skipped(words) {
         return Line::Skipped;
@@ -98,8 +98,8 @@ pub(crate) fn want_in(word: &[u8]) -> Option<Want>
 
 /// The step that words say.
 #[tactic(auto, unfolding(crate::specs::Grammar::step_in))]
-fn step_in(dialect: Dialect, words: &[&[u8]]) -> Option<CrewStep>
-    ensures { result ≡ step_in dialect (map (λ word. word.now) words.now) }
+fn step_in(dialect: &Dialect<'_>, words: &[&[u8]]) -> Option<CrewStep>
+    ensures { result ≡ step_in dialect.now (map (λ word. word.now) words.now) }
 {
     match words {
         [name, fault @ ..] if *name == b"collect".as_slice() => {
@@ -118,8 +118,8 @@ fn step_in(dialect: Dialect, words: &[&[u8]]) -> Option<CrewStep>
 
 /// The command that words say, and what goes wrong when it is sent.
 #[tactic(auto, unfolding(crate::specs::Grammar::command_step_in, crate::specs::Grammar::asked))]
-fn command_step_in(dialect: Dialect, words: &[&[u8]]) -> Option<CrewStep>
-    ensures { result ≡ command_step_in dialect (map (λ word. word.now) words.now) }
+fn command_step_in(dialect: &Dialect<'_>, words: &[&[u8]]) -> Option<CrewStep>
+    ensures { result ≡ command_step_in dialect.now (map (λ word. word.now) words.now) }
 {
     let [action, dst, sub, pid, load, fault @ ..] = words else {
         return None;

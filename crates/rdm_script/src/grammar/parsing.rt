@@ -5,7 +5,7 @@ ghost use Rattle.std.specs.Option.{option_or};
 ghost use Rattle.rdm_crew.specs.declared.step.CrewStep.{CrewStep as TheStep};
 ghost use Rattle.rdm_crew.specs.RunTrace.{HaveFaults};
 ghost use Rattle.rdm_script.specs.declared.script.ScriptSetup.{ScriptSetup as TheSetup};
-ghost use Rattle.rdm_script.specs.Dialects.{dialect_of, strict};
+ghost use Rattle.rdm_script.specs.Dialects.{strict};
 ghost use Rattle.rdm_script.specs.Parties.{demo_device, plain_setup};
 ghost use Rattle.rdm_script.specs.Grammar.{words_of, line_at, begun_after, said_by, lines_of, setup_after, steps_of_line, AreSaid, IsFirstFaulty, IsRead, Refuses};
 ghost use Rattle.rdm_script.specs.Search.{most_steps, search_of};
@@ -118,44 +118,39 @@ pub fn parse_for(alloc: Global, device: Uid, text: &[u8]) -> Result<Script, Scri
     ensures lines { IfOk result (λ script. script.lines.items ≡ step_lines (strict device) text.now) }
     ensures setup_line { IfOk result (λ script. script.setup_line ≡ setup_line (strict device) text.now) }
 {
-    parse_as(alloc, Spelling::Strict, device, text)
+    parse_as(alloc, &Dialect::of(device, Spelling::Strict), text)
 }
 
-/// The script that the bytes are, in words that are spelled so, played on a device of this UID.
+/// The script that the bytes are in a dialect.
 ///
 /// Memory for the steps is taken first, so that whether the bytes are a script hangs on nothing else.
-pub fn parse_as(
-    alloc: Global,
-    spelling: Spelling,
-    device: Uid,
-    text: &[u8],
-) -> Result<Script, ScriptError>
+pub fn parse_as(alloc: Global, dialect: &Dialect<'_>, text: &[u8]) -> Result<Script, ScriptError>
     // What is read is a script of this setup and these steps.
-    ensures ok { IfOk result (λ script. IsScript (dialect_of device spelling) text.now script.setup script.steps.items) }
+    ensures ok { IfOk result (λ script. IsScript dialect.now text.now script.setup script.steps.items) }
     // A script is read, unless memory is refused.
-    ensures only { (setup : TheSetup) (steps : List TheStep) → IsScript (dialect_of device spelling) text.now setup steps →
+    ensures only { (setup : TheSetup) (steps : List TheStep) → IsScript dialect.now text.now setup steps →
         MatchResult result (λ script. (script.setup ≡ setup) × (script.steps.items ≡ steps)) (λ e. e ≡ OutOfMemory) }
     // Each refusal comes for its cause: a line is named only where it is the first faulty one.
-    ensures err { IfErr result (λ e. Refuses (dialect_of device spelling) e text.now) }
+    ensures err { IfErr result (λ e. Refuses dialect.now e text.now) }
     ensures too_long { 65536 < length text.now → result ≡ Err ScriptError.TooLong }
     // What goes wrong at a step alters something.
     ensures faults { IfOk result (λ script. HaveFaults script.steps.items) }
     // The script knows the line of each step, and that of its setup.
-    ensures lines { IfOk result (λ script. script.lines.items ≡ step_lines (dialect_of device spelling) text.now) }
-    ensures setup_line { IfOk result (λ script. script.setup_line ≡ setup_line (dialect_of device spelling) text.now) }
+    ensures lines { IfOk result (λ script. script.lines.items ≡ step_lines dialect.now text.now) }
+    ensures setup_line { IfOk result (λ script. script.setup_line ≡ setup_line dialect.now text.now) }
 {
-    read_script(alloc, Dialect { device, spelling }, text)
+    read_script(alloc, dialect, text)
 }
 
 /// The script that the bytes are, as the reader sees it.
-fn read_script(alloc: Global, dialect: Dialect, text: &[u8]) -> Result<Script, ScriptError>
-    ensures ok { IfOk result (λ script. IsRead dialect text.now script.setup script.steps.items) }
-    ensures only { (setup : TheSetup) (steps : List TheStep) → IsRead dialect text.now setup steps →
+fn read_script(alloc: Global, dialect: &Dialect<'_>, text: &[u8]) -> Result<Script, ScriptError>
+    ensures ok { IfOk result (λ script. IsRead dialect.now text.now script.setup script.steps.items) }
+    ensures only { (setup : TheSetup) (steps : List TheStep) → IsRead dialect.now text.now setup steps →
         MatchResult result (λ script. (script.setup ≡ setup) × (script.steps.items ≡ steps)) (λ e. e ≡ OutOfMemory) }
-    ensures err { IfErr result (λ e. Refuses dialect e text.now) }
+    ensures err { IfErr result (λ e. Refuses dialect.now e text.now) }
     ensures too_long { 65536 < length text.now → result ≡ Err ScriptError.TooLong }
-    ensures lines { IfOk result (λ script. script.lines.items ≡ step_lines dialect text.now) }
-    ensures setup_line { IfOk result (λ script. script.setup_line ≡ setup_line dialect text.now) }
+    ensures lines { IfOk result (λ script. script.lines.items ≡ step_lines dialect.now text.now) }
+    ensures setup_line { IfOk result (λ script. script.setup_line ≡ setup_line dialect.now text.now) }
 {
     if text.len() > MOST_BYTES {
         return Err(ScriptError::TooLong);
@@ -201,17 +196,17 @@ fn line_end_count(text: &[u8]) -> usize
 }
 
 /// Puts what the lines of a text say into a script that has room for their steps.
-fn read_lines(dialect: Dialect, text: &[u8], script: &mut Script) -> Result<(), FaultyLine>
+fn read_lines(dialect: &Dialect<'_>, text: &[u8], script: &mut Script) -> Result<(), FaultyLine>
     requires plain { script.old.setup ≡ plain_setup }
     requires none { script.old.steps.items ≡ [] }
     requires no_lines { script.old.lines.items ≡ [] }
     requires no_setup { script.old.setup_line ≡ None }
-    requires room { length (lines_of text.now) * most_steps dialect.spelling ≤ vec_capacity script.old.steps }
-    requires lines_room { length (lines_of text.now) * most_steps dialect.spelling ≤ vec_capacity script.old.lines }
-    ensures ok { OnOk result (AreSaid (said_by dialect (lines_of text.now)) script.new.setup script.new.steps.items) }
-    ensures lines { OnOk result (script.new.lines.items ≡ step_lines dialect text.now) }
-    ensures setup_line { OnOk result (script.new.setup_line ≡ setup_line dialect text.now) }
-    ensures err { IfErr result (λ fault. IsFirstFaulty (said_by dialect (lines_of text.now)) fault.0) }
+    requires room { length (lines_of text.now) * most_steps dialect.now.spelling ≤ vec_capacity script.old.steps }
+    requires lines_room { length (lines_of text.now) * most_steps dialect.now.spelling ≤ vec_capacity script.old.lines }
+    ensures ok { OnOk result (AreSaid (said_by dialect.now (lines_of text.now)) script.new.setup script.new.steps.items) }
+    ensures lines { OnOk result (script.new.lines.items ≡ step_lines dialect.now text.now) }
+    ensures setup_line { OnOk result (script.new.setup_line ≡ setup_line dialect.now text.now) }
+    ensures err { IfErr result (λ fault. IsFirstFaulty (said_by dialect.now (lines_of text.now)) fault.0) }
 {
     let mut rest = text;
     let mut index = 0;
@@ -228,26 +223,26 @@ fn read_lines(dialect: Dialect, text: &[u8], script: &mut Script) -> Result<(), 
 /// Puts what the line at an index says into a script, and tells whether a line has now said anything.
 #[tactic(auto, using(crate::proofs::Rooms::one_fits))]
 fn read_line(
-    dialect: Dialect,
+    dialect: &Dialect<'_>,
     line: &[u8],
     index: usize,
     begun: bool,
     script: &mut Script,
 ) -> Result<bool, FaultyLine>
     requires within { index < 2 ^ 63 }
-    requires room { vec_len script.old.steps + most_steps dialect.spelling ≤ vec_capacity script.old.steps }
-    requires lines_room { vec_len script.old.lines + most_steps dialect.spelling ≤ vec_capacity script.old.lines }
-    ensures sound { OnOk result (line_at dialect begun (words_of dialect.spelling line.now) ≢ Faulty) }
-    ensures begun { IfOk result (λ now. now ≡ begun_after begun (line_at dialect begun (words_of dialect.spelling line.now))) }
-    ensures setup { OnOk result (script.new.setup ≡ setup_after script.old.setup (line_at dialect begun (words_of dialect.spelling line.now))) }
-    ensures steps { OnOk result (script.new.steps.items ≡ script.old.steps.items ++ steps_of_line (line_at dialect begun (words_of dialect.spelling line.now))) }
-    ensures len { vec_len script.new.steps ≤ vec_len script.old.steps + most_steps dialect.spelling }
+    requires room { vec_len script.old.steps + most_steps dialect.now.spelling ≤ vec_capacity script.old.steps }
+    requires lines_room { vec_len script.old.lines + most_steps dialect.now.spelling ≤ vec_capacity script.old.lines }
+    ensures sound { OnOk result (line_at dialect.now begun (words_of dialect.now.spelling line.now) ≢ Faulty) }
+    ensures begun { IfOk result (λ now. now ≡ begun_after begun (line_at dialect.now begun (words_of dialect.now.spelling line.now))) }
+    ensures setup { OnOk result (script.new.setup ≡ setup_after script.old.setup (line_at dialect.now begun (words_of dialect.now.spelling line.now))) }
+    ensures steps { OnOk result (script.new.steps.items ≡ script.old.steps.items ++ steps_of_line (line_at dialect.now begun (words_of dialect.now.spelling line.now))) }
+    ensures len { vec_len script.new.steps ≤ vec_len script.old.steps + most_steps dialect.now.spelling }
     ensures capacity { vec_capacity script.new.steps ≡ vec_capacity script.old.steps }
-    ensures lines { OnOk result (script.new.lines.items ≡ script.old.lines.items ++ step_line (index + 1) (line_at dialect begun (words_of dialect.spelling line.now))) }
-    ensures lines_len { vec_len script.new.lines ≤ vec_len script.old.lines + most_steps dialect.spelling }
+    ensures lines { OnOk result (script.new.lines.items ≡ script.old.lines.items ++ step_line (index + 1) (line_at dialect.now begun (words_of dialect.now.spelling line.now))) }
+    ensures lines_len { vec_len script.new.lines ≤ vec_len script.old.lines + most_steps dialect.now.spelling }
     ensures lines_capacity { vec_capacity script.new.lines ≡ vec_capacity script.old.lines }
-    ensures setup_line { OnOk result (script.new.setup_line ≡ option_or script.old.setup_line (set_line (index + 1) (line_at dialect begun (words_of dialect.spelling line.now)))) }
-    ensures err { IfErr result (λ fault. (fault.0 ≡ index + 1) × (line_at dialect begun (words_of dialect.spelling line.now) ≡ Faulty)) }
+    ensures setup_line { OnOk result (script.new.setup_line ≡ option_or script.old.setup_line (set_line (index + 1) (line_at dialect.now begun (words_of dialect.now.spelling line.now)))) }
+    ensures err { IfErr result (λ fault. (fault.0 ≡ index + 1) × (line_at dialect.now begun (words_of dialect.now.spelling line.now) ≡ Faulty)) }
 {
     match line_of(dialect, line, begun) {
         Line::Skipped => Ok(begun),
@@ -306,8 +301,8 @@ fn put_step(script: &mut Script, step: CrewStep, number: usize)
 }
 
 /// What a line says, behind lines that say something or nothing.
-fn line_of(dialect: Dialect, line: &[u8], begun: bool) -> Line
-    ensures { result ≡ line_at dialect begun (words_of dialect.spelling line.now) }
+fn line_of(dialect: &Dialect<'_>, line: &[u8], begun: bool) -> Line
+    ensures { result ≡ line_at dialect.now begun (words_of dialect.now.spelling line.now) }
 {
     let words = words_of(dialect.spelling, line);
     if begun {

@@ -2,7 +2,6 @@
 
 ghost use Rattle.std.specs.Prelude.{◌≡◌, ◌≤◌, ◌||◌, length, not, MatchOption};
 ghost use Rattle.rdm_script.specs.declared.grammar.line.Line.TheVariants.{Faulty};
-ghost use Rattle.rdm_script.specs.Dialects.{dialect_of};
 ghost use Rattle.rdm_script.specs.Grammar.{is_skipped, line_at, lines_of, said_by, words_of, IsFirstFaulty};
 ghost use Rattle.rdm_script.specs.WrongWords.{BeginsAt, IsRefused, IsRefusedAt};
 
@@ -11,18 +10,16 @@ use super::words::{piece_end, words_of};
 use super::wrong::wrong_word;
 use crate::dialect::{Dialect, Spelling};
 use crate::refusal::Refusal;
-use rdm_frame::Uid;
 use rdm_streams::{line_end, without_return};
 
 /// What is told of a faulty line of a script, counted from 1: its first word that isn't what it has to be. `parse_as` says
 /// which line is the first faulty one.
-pub fn refusal_at(spelling: Spelling, device: Uid, text: &[u8], number: usize) -> Refusal
+pub fn refusal_at(dialect: &Dialect<'_>, text: &[u8], number: usize) -> Refusal
     ensures line { result.line ≡ number }
     // The first faulty line is refused at the first word with which no line of a script can go on.
-    ensures told { IsFirstFaulty (said_by (dialect_of device spelling) (lines_of text.now)) number →
-        IsRefused (dialect_of device spelling) text.now number result.column result.word.items }
+    ensures told { IsFirstFaulty (said_by dialect.now (lines_of text.now)) number →
+        IsRefused dialect.now text.now number result.column result.word.items }
 {
-    let dialect = Dialect { device, spelling };
     let mut rest = text;
     let mut left = number;
     let mut begun = false;
@@ -31,7 +28,7 @@ pub fn refusal_at(spelling: Spelling, device: Uid, text: &[u8], number: usize) -
         if left <= 1 {
             return refusal_of(dialect, line, number, begun);
         }
-        begun = begun_by(spelling, line, begun);
+        begun = begun_by(dialect.spelling, line, begun);
         rest = &rest[end + 1..];
         left -= 1;
     }
@@ -39,10 +36,10 @@ pub fn refusal_at(spelling: Spelling, device: Uid, text: &[u8], number: usize) -
 }
 
 /// What is told of this faulty line.
-fn refusal_of(dialect: Dialect, line: &[u8], number: usize, begun: bool) -> Refusal
+fn refusal_of(dialect: &Dialect<'_>, line: &[u8], number: usize, begun: bool) -> Refusal
     ensures line { result.line ≡ number }
-    ensures told { line_at dialect begun (words_of dialect.spelling line.now) ≡ Faulty →
-        IsRefusedAt dialect begun line.now result.column result.word.items }
+    ensures told { line_at dialect.now begun (words_of dialect.now.spelling line.now) ≡ Faulty →
+        IsRefusedAt dialect.now begun line.now result.column result.word.items }
 {
     let words = words_of(dialect.spelling, line);
     let wrong = wrong_word(dialect, words.as_slice(), begun);

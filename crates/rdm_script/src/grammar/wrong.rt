@@ -2,7 +2,7 @@
 
 ghost use Rattle.std.specs.Prelude.{◌≡◌, ◌≢◌, ◌<◌, ◌≤◌, ◌⊎◌, ◌||◌, Bool, drop, length, map, codes, None, IfSome, MatchOption};
 ghost use Rattle.std.specs.Str.{bytes_eq};
-ghost use Rattle.rdm_script.specs.declared.dialect.Dialect.{Dialect as TheDialect};
+ghost use Rattle.rdm_script.specs.Dialects.{Dialect as TheDialect};
 ghost use Rattle.rdm_script.specs.declared.grammar.line.Line.TheVariants.{Faulty};
 ghost use Rattle.rdm_script.specs.Grammar.{word, action_in, line_at};
 ghost use Rattle.rdm_script.specs.WrongWords.{AreFault, AreLine, IsFirstWrong};
@@ -27,9 +27,9 @@ pub(crate) struct WrongWord {
 }
 
 /// The first wrong word of a faulty line. `begun` tells whether a line before it has said something.
-pub(crate) fn wrong_word(dialect: Dialect, words: &[&[u8]], begun: bool) -> WrongWord
-    ensures index { line_at dialect begun (map (λ word. word.now) words.now) ≡ Faulty →
-        IsFirstWrong (AreLine dialect begun) (map (λ word. word.now) words.now) result.index }
+pub(crate) fn wrong_word(dialect: &Dialect<'_>, words: &[&[u8]], begun: bool) -> WrongWord
+    ensures index { line_at dialect.now begun (map (λ word. word.now) words.now) ≡ Faulty →
+        IsFirstWrong (AreLine dialect.now begun) (map (λ word. word.now) words.now) result.index }
     ensures within { result.index < 9 }
 {
     match wrong_in_line(dialect, words, begun) {
@@ -39,10 +39,10 @@ pub(crate) fn wrong_word(dialect: Dialect, words: &[&[u8]], begun: bool) -> Wron
 }
 
 /// The first wrong word of a line, if there is one. A comment isn't seen here: it is taken for a step.
-fn wrong_in_line(dialect: Dialect, words: &[&[u8]], begun: bool) -> Option<WrongWord>
-    ensures told { line_at dialect begun (map (λ word. word.now) words.now) ≡ Faulty →
-        MatchOption result (AreLine dialect begun (map (λ word. word.now) words.now))
-        (λ w. IsFirstWrong (AreLine dialect begun) (map (λ word. word.now) words.now) w.index) }
+fn wrong_in_line(dialect: &Dialect<'_>, words: &[&[u8]], begun: bool) -> Option<WrongWord>
+    ensures told { line_at dialect.now begun (map (λ word. word.now) words.now) ≡ Faulty →
+        MatchOption result (AreLine dialect.now begun (map (λ word. word.now) words.now))
+        (λ w. IsFirstWrong (AreLine dialect.now begun) (map (λ word. word.now) words.now) w.index) }
     ensures within { IfSome result (λ w. w.index < 9) }
 {
     let name = text_at(words, 0);
@@ -120,21 +120,21 @@ fn wrong_in_count(words: &[&[u8]]) -> Option<WrongWord>
 }
 
 /// The first wrong word of a command, which has four words more and what goes wrong.
-fn wrong_in_command(dialect: Dialect, words: &[&[u8]]) -> Option<WrongWord>
+fn wrong_in_command(dialect: &Dialect<'_>, words: &[&[u8]]) -> Option<WrongWord>
     requires { action_in (word (map (λ word. word.now) words.now) 0) ≢ None }
     ensures told { (begun : Bool) →
-        MatchOption result (AreLine dialect begun (map (λ word. word.now) words.now))
-        (λ w. IsFirstWrong (AreLine dialect begun) (map (λ word. word.now) words.now) w.index) }
+        MatchOption result (AreLine dialect.now begun (map (λ word. word.now) words.now))
+        (λ w. IsFirstWrong (AreLine dialect.now begun) (map (λ word. word.now) words.now) w.index) }
     ensures within { IfSome result (λ w. w.index < 9) }
 {
-    let Dialect { device, spelling } = dialect;
-    if destination_in(device, text_at(words, 1)).is_none() {
+    let spelling = dialect.spelling;
+    if destination_in(dialect.device, text_at(words, 1)).is_none() {
         return Some(wrong(1, Wanted::Destination));
     }
     if sub_in(spelling, text_at(words, 2)).is_none() {
         return Some(wrong(2, Wanted::SubDevice));
     }
-    if pid_in(spelling, text_at(words, 3)).is_none() {
+    if pid_in(spelling, dialect.own, text_at(words, 3)).is_none() {
         return Some(wrong(3, Wanted::Parameter));
     }
     if words.len() <= 4 {

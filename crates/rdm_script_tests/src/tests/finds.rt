@@ -2,7 +2,9 @@
 
 use super::played_as;
 use rdm_frame::{Uid, encode};
-use rdm_script::{ProgramError, ScriptError, Spelling, parse, parse_as, play_demonstration};
+use rdm_script::{
+    Dialect, ProgramError, ScriptError, Spelling, parse, parse_as, play_demonstration,
+};
 use rdm_search::Search;
 use rdm_trace::Line;
 use std::test::Fail;
@@ -128,7 +130,7 @@ fn strict_scripts_find_nobody(rt: HostRuntime) {
 #[test]
 fn a_search_is_on_one_line(rt: HostRuntime) -> Result<(), Fail> {
     let text = b"setup 0 8 error\n\nfind\ndraw\n#\nfind";
-    let script = parse_as(rt.alloc(), Spelling::Friendly, DEVICE, text)?;
+    let script = parse_as(rt.alloc(), &Dialect::of(DEVICE, Spelling::Friendly), text)?;
     assert_eq!(rt;
         script.lines.as_slice(),
         [3, 3, 3, 3, 4, 6, 6, 6, 6].as_slice()

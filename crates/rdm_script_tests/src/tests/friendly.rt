@@ -2,7 +2,7 @@
 
 use rdm_crew::CrewStep;
 use rdm_frame::Uid;
-use rdm_script::{Script, ScriptError, Spelling, parse, parse_as, refusal_at};
+use rdm_script::{Dialect, Script, ScriptError, Spelling, parse, parse_as, refusal_at};
 use std::process::Abort;
 use std::test::Fail;
 
@@ -28,8 +28,7 @@ fn try_pairs(rt: &(impl Abort + AllocGlobal), rows: &[(&str, &str)]) -> Result<(
     for (text, strict) in rows {
         let Script { setup, steps, .. } = parse_as(
             rt.alloc(),
-            Spelling::Friendly,
-            DEVICE,
+            &Dialect::of(DEVICE, Spelling::Friendly),
             text.as_bytes(),
         )?;
         let other = parse(rt.alloc(), strict.as_bytes())?;
@@ -50,13 +49,16 @@ fn try_rows(rt: &(impl Abort + AllocGlobal), rows: &[(&str, &str)]) -> Result<()
     for (text, wanted) in rows {
         let Err(ScriptError::Line(line)) = parse_as(
             rt.alloc(),
-            Spelling::Friendly,
-            DEVICE,
+            &Dialect::of(DEVICE, Spelling::Friendly),
             text.as_bytes(),
         ) else {
             return Err("a faulty line".into());
         };
-        let refusal = refusal_at(Spelling::Friendly, DEVICE, text.as_bytes(), line);
+        let refusal = refusal_at(
+            &Dialect::of(DEVICE, Spelling::Friendly),
+            text.as_bytes(),
+            line,
+        );
         let told = format!(in rt.alloc(); "{refusal}")?;
         assert_eq!(rt; told.as_str(), *wanted, "{text:?}");
     }

@@ -1,16 +1,17 @@
 //! What is known of a fixture beforehand.
 
-use rdm_device::{Profile, SensorDef, StatusText};
+use rdm_device::{ParameterDef, Profile, SensorDef, StatusText};
 use rdm_frame::Uid;
 
-/// What is known of the fixture that frames speak of, and doesn't stand in the frames: the units of its sensors, and what
-/// its own status IDs mean. It is used for the frames of that fixture alone, and for the lines of a trace that say nothing of
-/// a device.
+/// What is known of the fixture that frames speak of, and doesn't stand in the frames: the units of its sensors, what its own
+/// status IDs mean, and the parameters that its maker adds. It is used for the frames of that fixture alone, and for the lines
+/// of a trace that say nothing of a device.
 #[derive(Clone, Copy)]
 pub struct Known<'a> {
     uid: Option<Uid>,
     sensors: &'a [SensorDef],
     status_texts: &'a [StatusText],
+    parameters: &'a [ParameterDef],
 }
 
 impl<'a> Known<'a> {
@@ -20,6 +21,7 @@ impl<'a> Known<'a> {
             uid: None,
             sensors: &[],
             status_texts: &[],
+            parameters: &[],
         }
     }
 
@@ -29,6 +31,7 @@ impl<'a> Known<'a> {
             uid: Some(uid),
             sensors: profile.sensors.as_slice(),
             status_texts: profile.status_texts.as_slice(),
+            parameters: profile.own.as_slice(),
         }
     }
 
@@ -44,6 +47,11 @@ impl<'a> Known<'a> {
     /// The sensor with this number.
     pub(crate) fn sensor(&self, number: u8) -> Option<&'a SensorDef> {
         self.sensors.get(usize::from(number))
+    }
+
+    /// The parameter that the maker adds with this PID.
+    pub(crate) fn parameter(&self, pid: u16) -> Option<&'a ParameterDef> {
+        self.parameters.iter().find(|def| def.pid == pid)
     }
 
     /// The text of a status ID of the fixture's own.

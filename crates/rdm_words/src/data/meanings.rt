@@ -2,6 +2,7 @@
 
 use crate::Known;
 use crate::data::form::Meaning;
+use crate::data::own::put_parameter;
 use crate::data::sensors::{put_measured, put_measures, put_range};
 use crate::data::statuses::{Status, put_failure, put_status_text};
 use crate::data::values::{number_of, put_coded, put_data, put_named};
@@ -46,7 +47,7 @@ pub(crate) fn put_meaning(
             write!(text, "{number}")
         }
         (Meaning::Parameter, [a, b]) => {
-            put_named(text, parameter(u16::from_be_bytes([*a, *b])), slots)
+            put_parameter_code(text, u16::from_be_bytes([*a, *b]), slots, known)
         }
         (Meaning::Place, [a, b]) => put_place(text, u16::from_be_bytes([*a, *b])),
         (Meaning::StatusText, [a, b]) => {
@@ -73,6 +74,19 @@ pub(crate) fn put_meaning(
             put_measured(text, *number, i16::from_be_bytes([*a, *b]), known)
         }
         _ => put_rare(text, meaning, slots),
+    }
+}
+
+/// A parameter by its name, if the standard or the fixture has one, and its number.
+fn put_parameter_code(
+    text: &mut String,
+    pid: u16,
+    slots: &[u8],
+    known: &Known<'_>,
+) -> Result<(), AllocError> {
+    match (parameter(pid), known.parameter(pid)) {
+        (None, Some(_)) => put_parameter(text, pid, known),
+        (name, _) => put_named(text, name, slots),
     }
 }
 

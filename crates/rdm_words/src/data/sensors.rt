@@ -32,7 +32,12 @@ pub(crate) fn put_range(text: &mut String, low: i16, high: i16) -> Result<(), Al
 
 /// Behind these words, a space and a unit with its prefix, or their numbers if the tables have no symbol. Nothing is put if
 /// the tables say that there is no unit.
-fn put_unit(text: &mut String, before: &str, prefix: u8, unit: u8) -> Result<(), AllocError> {
+pub(crate) fn put_unit(
+    text: &mut String,
+    before: &str,
+    prefix: u8,
+    unit: u8,
+) -> Result<(), AllocError> {
     let multiple = UNIT_PREFIXES.name(u32::from(prefix));
     let symbol = SENSOR_UNITS.name(u32::from(unit));
     match (multiple, symbol) {

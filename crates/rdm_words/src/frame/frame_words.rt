@@ -9,11 +9,12 @@ use crate::Known;
 use crate::data::form::{Form, Layout};
 use crate::data::layout::layout_of;
 use crate::data::lists::put_entries;
+use crate::data::own::put_own_line;
 use crate::data::values::{put_data, put_value};
 use crate::frame::class::{Class, is_response};
 use crate::frame::header::{put_request, put_response};
 use crate::text::put_hex;
-use rdm_frame::standard::{ACK_TIMER, NACK_REASON};
+use rdm_frame::standard::{ACK, ACK_TIMER, NACK_REASON};
 use rdm_frame::{FrameError, FrameView, Uid, branch_uid, decode_view};
 use std::alloc::AllocError;
 use std::fmt::Write;
@@ -70,19 +71,37 @@ fn put_frame(text: &mut String, frame: &FrameView<'_>, known: &Known<'_>) -> Res
         ((front : List ℕ) × (string_bytes text.new ≡ string_bytes text.old ++ (front ++ data_line frame.now.body))) }
 {
     let mut head = String::new(*text.allocator());
-    put_head(&mut head, frame)?;
+    put_head(&mut head, frame, known)?;
+    put_own_words(&mut head, frame, known)?;
     text.push_str(head.as_str())?;
     put_body(text, frame, known)
 }
 
 /// The line of the header.
-fn put_head(text: &mut String, frame: &FrameView<'_>) -> Result<(), AllocError> {
+fn put_head(text: &mut String, frame: &FrameView<'_>, known: &Known<'_>) -> Result<(), AllocError> {
     if is_response(frame.class) {
-        return put_response(text, frame);
+        return put_response(text, frame, &known.at(frame.src));
     }
+    let known = known.at(frame.dst);
     match Class::of(frame.class) {
-        Some(_) => put_request(text, "asks", frame),
-        None => put_request(text, "to", frame),
+        Some(_) => put_request(text, "asks", frame, &known),
+        None => put_request(text, "to", frame, &known),
+    }
+}
+
+/// A line of what the data of a parameter say that no table of the standard has, if that is known of the fixture.
+fn put_own_words(
+    text: &mut String,
+    frame: &FrameView<'_>,
+    known: &Known<'_>,
+) -> Result<(), AllocError> {
+    let (class, pid, body) = (frame.class, frame.pid, frame.body);
+    if !is_response(class) {
+        return put_own_line(text, class, pid, body, &known.at(frame.dst));
+    }
+    match frame.port {
+        ACK => put_own_line(text, class, pid, body, &known.at(frame.src)),
+        _ => Ok(()),
     }
 }
 

@@ -1,9 +1,10 @@
 //! The words of a frame's header (E1.20 section 6.2).
 
+use crate::Known;
+use crate::data::own::put_parameter;
 use crate::data::values::put_named;
 use crate::frame::class::put_class;
 use crate::frame::place::put_place;
-use crate::tables::parameters::parameter;
 use crate::tables::replies::RESPONSE_TYPES;
 use rdm_frame::standard::{ACK_TIMER, FIRST_PORT, NACK_REASON};
 use rdm_frame::{FrameView, Uid};
@@ -17,10 +18,11 @@ pub(crate) fn put_request(
     text: &mut String,
     verb: &str,
     frame: &FrameView<'_>,
+    known: &Known<'_>,
 ) -> Result<(), AllocError> {
     put_parties(text, verb, frame)?;
     put_class(text, frame.class)?;
-    put_subject(text, frame)?;
+    put_subject(text, frame, known)?;
     let port = frame.port;
     if port != FIRST_PORT {
         write!(text, ", port {port}")?;
@@ -29,12 +31,16 @@ pub(crate) fn put_request(
 }
 
 /// A reply: who answers whom, how, to what, and where.
-pub(crate) fn put_response(text: &mut String, frame: &FrameView<'_>) -> Result<(), AllocError> {
+pub(crate) fn put_response(
+    text: &mut String,
+    frame: &FrameView<'_>,
+    known: &Known<'_>,
+) -> Result<(), AllocError> {
     put_parties(text, "answers", frame)?;
     put_response_type(text, frame.port, frame.body)?;
     text.push_str(", ")?;
     put_class(text, frame.class)?;
-    put_subject(text, frame)?;
+    put_subject(text, frame, known)?;
     put_waiting(text, frame.count)
 }
 
@@ -53,21 +59,17 @@ fn put_parties(text: &mut String, verb: &str, frame: &FrameView<'_>) -> Result<(
 }
 
 /// The parameter, where it is, and the transaction.
-fn put_subject(text: &mut String, frame: &FrameView<'_>) -> Result<(), AllocError> {
+fn put_subject(
+    text: &mut String,
+    frame: &FrameView<'_>,
+    known: &Known<'_>,
+) -> Result<(), AllocError> {
     let (pid, tn) = (frame.pid, frame.tn);
     text.push(' ')?;
-    put_parameter(text, pid)?;
+    put_parameter(text, pid, known)?;
     text.push_str(", ")?;
     put_place(text, frame.sub)?;
     write!(text, ", transaction {tn}")
-}
-
-/// A parameter: its name and its number, or the number if it has no name.
-pub(crate) fn put_parameter(text: &mut String, pid: u16) -> Result<(), AllocError> {
-    match parameter(pid) {
-        Some(name) => write!(text, "{name} ({pid:04X})"),
-        None => write!(text, "parameter {pid:04X}"),
-    }
 }
 
 /// How a request is answered. An estimate is in tenths of a second (section 6.3.3).

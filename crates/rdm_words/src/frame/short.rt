@@ -6,13 +6,14 @@ ghost use Rattle.rdm_words.specs.Plain.{IsPlain};
 use crate::Known;
 use crate::data::form::{Form, Layout};
 use crate::data::layout::layout_of;
+use crate::data::own::put_own;
 use crate::data::values::put_value;
 use crate::frame::class::{Class, put_class};
 use crate::frame::frame_words::cause_of;
 use crate::frame::header::put_response_type;
 use crate::frame::place::put_place;
 use crate::tables::parameters::parameter;
-use crate::text::put_shown;
+use crate::text::{put_quoted, put_shown};
 use rdm_frame::standard::{ACK, NACK_REASON, ROOT_DEVICE};
 use rdm_frame::{FrameError, FrameView, branch_uid, decode_view};
 use rdm_params::reason_name;
@@ -69,7 +70,7 @@ fn put_request(
     known: &Known<'_>,
 ) -> Result<(), AllocError> {
     put_class(text, frame.class)?;
-    put_subject(text, frame)?;
+    put_subject(text, frame, known)?;
     match Class::of(frame.class) {
         Some(_) => put_short_value(text, frame, known),
         None => Ok(()),
@@ -88,7 +89,7 @@ fn put_reply(
     match (frame.port, frame.body) {
         (ACK, _) => {
             text.push_str("ACK")?;
-            put_subject(text, frame)?;
+            put_subject(text, frame, known)?;
             put_short_value(text, frame, known)
         }
         (NACK_REASON, [a, b]) => {
@@ -103,11 +104,17 @@ fn put_reply(
 }
 
 /// The parameter, and the sub-device if it isn't the root.
-fn put_subject(text: &mut String, frame: &FrameView<'_>) -> Result<(), AllocError> {
+fn put_subject(
+    text: &mut String,
+    frame: &FrameView<'_>,
+    known: &Known<'_>,
+) -> Result<(), AllocError> {
     let pid = frame.pid;
-    match parameter(pid) {
-        Some(name) => write!(text, " {name}")?,
-        None => write!(text, " {pid:04X}")?,
+    text.push(' ')?;
+    match (parameter(pid), known.parameter(pid)) {
+        (Some(name), _) => text.push_str(name)?,
+        (None, Some(def)) => put_quoted(text, def.name.as_slice())?,
+        (None, None) => write!(text, "{pid:04X}")?,
     }
     if frame.sub == ROOT_DEVICE {
         return Ok(());
@@ -135,7 +142,10 @@ fn put_short_value(
         form => form,
     };
     let mut value = String::new(*text.allocator());
-    put_value(&mut value, Layout("", form), data, known)?;
+    put_own(&mut value, "", frame.class, frame.pid, data, known)?;
+    if value.is_empty() {
+        put_value(&mut value, Layout("", form), data, known)?;
+    }
     if value.len() > LONGEST_VALUE {
         let slots = data.len();
         return write!(text, ": {slots} slots of data");

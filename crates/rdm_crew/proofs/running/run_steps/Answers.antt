@@ -10,7 +10,7 @@ use Rattle.rdm_crew.specs.declared.stopped.Stopped.TheVariants.{BadSetup}
 use Rattle.rdm_crew.specs.Settling.{IsLaneOfOne}
 use Rattle.rdm_crew.specs.Stops.{IsStopAt}
 use Rattle.rdm_crew.specs.Setups.{switched_on, IsBadSetup}
-use Rattle.rdm_crew.proofs.Starting.{tied, unchanged, told_also}
+use Rattle.rdm_crew.proofs.Starting.{tied, unchanged, told_also, good_setup}
 use Rattle.rdm_crew.proofs.Stepping.{bus_of, cut_at, over_at, headline_of_run}
 use Rattle.rdm_crew.proofs.Stopping.{if_reserved, if_too_long, if_within}
 use Rattle.rdm_crew.proofs.running.run_steps.Goals as goal
@@ -54,6 +54,9 @@ returns-clause-lane g c = subst (λ (s : SettledState Report). LaneLaw 2 s.taken
 
 pub returns-in-Err-clause-bad_setup : goal.returns-in-Err-clause-bad_setup
 returns-in-Err-clause-bad_setup g c = told_also c.in-Err.refusal BadSetup (IsBadSetup c.args.setup) c.in-Err.ensures.bad
+
+pub returns-in_default-start-2-clause-bad_setup : goal.returns-in_default-start-2-clause-bad_setup
+returns-in_default-start-2-clause-bad_setup g c = good_setup c.in-Ok.system (IsBadSetup c.args.setup) c.in-Ok.ensures.bad
 
 pub returns-in_err-ended-clause-reserved : goal.returns-in_err-ended-clause-reserved
 returns-in_err-ended-clause-reserved g c =

@@ -1,11 +1,15 @@
-use Rattle.std.proofs.Common.{◌≡◌, ◌∙◌, ℕ, List, [], ◌∷◌, inl, inr, subst, codes, rules}
+use Rattle.std.proofs.Common.{◌≡◌, ◌∙◌, ℕ, List, [], ◌∷◌, ◌++◌, Some, inl, inr, subst, codes, rules}
 use Rattle.toml.specs.Data.{get_member}
 use Rattle.toml.specs.View.{table_view}
+use Rattle.rdm_fixture.specs.Drafts.{with_parameters}
 use Rattle.rdm_fixture.specs.Faults.{told}
-use Rattle.rdm_fixture.specs.FirstWrong.{profile_parts, unit_parts, self_test_parts, status_parts, differing}
-use Rattle.rdm_fixture.specs.Format.{IsProfile, IsSelfTest, IsStatus, slot_count}
+use Rattle.rdm_fixture.specs.FirstWrong.{profile_parts, unit_parts, self_test_parts, status_parts, parameter_parts, differing, names, optional, unneeded, ascending}
+use Rattle.rdm_fixture.specs.Format.{IsProfile, IsSelfTest, IsStatus, root_slots}
+use Rattle.rdm_fixture.specs.Keys.{may}
+use Rattle.rdm_fixture.specs.Parameters.{IsParameter}
 use Rattle.rdm_fixture.specs.Values.{number, text}
 use Rattle.rdm_fixture.specs.Wrong.{Part, FirstWrong, entries}
+use Rattle.rdm_fixture.proofs.Made.{slots_counted}
 use Rattle.rdm_fixture.proofs.Parts.{exit, free_right, among}
 use Rattle.rdm_fixture.proofs.Readings.{Reads-err}
 use Rattle.rdm_fixture.proofs.profile.profile.Goals as goal
@@ -16,22 +20,45 @@ tests_parts = entries (codes "self_test") IsSelfTest (FirstWrong self_test_parts
 abbrev statuses_parts : List Part
 statuses_parts = entries (codes "status") IsStatus (FirstWrong status_parts) 0 8 ∷ differing (codes "status") (codes "id") IsStatus (λ a. a.id) ∷ []
 
+abbrev without_parts : List Part
+without_parts = names ∷ optional ∷ unneeded ∷ []
+
+abbrev own_parts : List Part
+own_parts = entries (codes "parameter") IsParameter (FirstWrong parameter_parts) 0 16 ∷ ascending ∷ []
+
+abbrev after_statuses : List Part
+after_statuses = without_parts ++ own_parts
+
+abbrev after_tests : List Part
+after_tests = statuses_parts ++ after_statuses
+
 pub returns-in_err-root-clause-read : goal.returns-in_err-root-clause-read
 returns-in_err-root-clause-read c =
-    let count : c.len-count.result ≡ slot_count (get_member (codes "slot") (table_view c.args.table.now)) =
-    c.len-count.ensures.value ∙ c.in_ok-slots.ensures.count in
-    Reads-err IsProfile _ _ c.from_residual-in_err-root.ensures.0 (λ p h. c.in_err-root.ensures.read p.root (rw count h.root))
+    let more : Some c.in_ok-more_slots.more_slots ≡ may 0 (number 0 512) (get_member (codes "more_slots") (table_view c.args.table.now)) = c.in_ok-more_slots.ensures.value in
+    let count : c.root_slots-count.result ≡ root_slots (table_view c.args.table.now) =
+    c.root_slots-count.ensures ∙ slots_counted _ _ _ _ more (c.len.ensures.value ∙ c.in_ok-slots.ensures.count) in
+    Reads-err (λ t r. IsProfile t (with_parameters r.0 r.1.items)) _ _ c.from_residual-in_err-root.ensures.0 (λ r h. c.in_err-root.ensures.read r.0.root (rw count h.root))
 
 pub returns-in_err-subs-clause-read : goal.returns-in_err-subs-clause-read
 returns-in_err-subs-clause-read c =
-    let count : c.len-count.result ≡ slot_count (get_member (codes "slot") (table_view c.args.table.now)) =
-    c.len-count.ensures.value ∙ c.in_ok-slots.ensures.count in
-    Reads-err IsProfile _ _ c.from_residual-in_err-subs.ensures.0 (λ p h. c.in_err-subs.ensures.read (p.subs, p.sub) (rw count h.sub))
+    let more : Some c.in_ok-more_slots.more_slots ≡ may 0 (number 0 512) (get_member (codes "more_slots") (table_view c.args.table.now)) = c.in_ok-more_slots.ensures.value in
+    let count : c.root_slots-count.result ≡ root_slots (table_view c.args.table.now) =
+    c.root_slots-count.ensures ∙ slots_counted _ _ _ _ more (c.len.ensures.value ∙ c.in_ok-slots.ensures.count) in
+    Reads-err (λ t r. IsProfile t (with_parameters r.0 r.1.items)) _ _ c.from_residual-in_err-subs.ensures.0 (λ r h. c.in_err-subs.ensures.read (r.0.subs, r.0.sub) (rw count h.sub))
+
+pub returns-in_err-without-clause-read : goal.returns-in_err-without-clause-read
+returns-in_err-without-clause-read c =
+    Reads-err (λ t r. IsProfile t (with_parameters r.0 r.1.items)) _ _ c.from_residual-in_err-without.ensures.0 (λ r h. c.in_err-without.ensures.read r.0.without (h.without, h.may_lack))
+
+pub returns-in_err-parameters-clause-read : goal.returns-in_err-parameters-clause-read
+returns-in_err-parameters-clause-read c =
+    Reads-err (λ t r. IsProfile t (with_parameters r.0 r.1.items)) _ _ c.from_residual-in_err-parameters.ensures.0 (λ r h. c.in_err-parameters.ensures.read r.1 (h.own, h.own_ascend))
 
 pub returns-clause-read : goal.returns-clause-read
 returns-clause-read c =
-    let count : c.len-count.result ≡ slot_count (get_member (codes "slot") (table_view c.args.table.now)) =
-    c.len-count.ensures.value ∙ c.in_ok-slots.ensures.count in
+    let more : Some c.in_ok-more_slots.more_slots ≡ may 0 (number 0 512) (get_member (codes "more_slots") (table_view c.args.table.now)) = c.in_ok-more_slots.ensures.value in
+    let count : c.root_slots-count.result ≡ root_slots (table_view c.args.table.now) =
+    c.root_slots-count.ensures ∙ slots_counted _ _ _ _ more (c.len.ensures.value ∙ c.in_ok-slots.ensures.count) in
     record {
       root = rw (← count) c.in_ok-root.ensures.read;
       sub = rw (← count) c.in_ok-subs.ensures.read;
@@ -45,10 +72,19 @@ returns-clause-read c =
       statuses = search rules;
       statuses_differ = search rules;
       presets = search rules;
+      more_slots = search rules;
+      without = c.in_ok-without.ensures.read.0;
+      may_lack = c.in_ok-without.ensures.read.1;
+      own = c.in_ok-parameters.ensures.read.0;
+      own_ascend = c.in_ok-parameters.ensures.read.1;
     }
 
 pub sub_devices-requires : goal.sub_devices-requires
 sub_devices-requires c = (c.in_ok-root.root, c.in_ok-root.ensures.read)
+
+pub returns-in_err-boot-clause-wrong : goal.returns-in_err-boot-clause-wrong
+returns-in_err-boot-clause-wrong c =
+    exit (FirstWrong profile_parts (table_view c.args.table.now)) _ _ c.from_residual.ensures.1 (inl c.in_err-boot.ensures.wrong)
 
 pub returns-in_err-boot_text-clause-wrong : goal.returns-in_err-boot_text-clause-wrong
 returns-in_err-boot_text-clause-wrong c =
@@ -65,42 +101,68 @@ returns-in_err-presets-clause-wrong c =
     exit (FirstWrong profile_parts (table_view c.args.table.now)) _ _ c.from_residual-in_err-presets.ensures.1
     (inr (free_right 0 (number 0 0xFFFFFFFF) (get_member (codes "boot_software_version_id") (table_view c.args.table.now)) _ c.in_ok-boot.ensures.value, inr (free_right [] text (get_member (codes "boot_software_version_label") (table_view c.args.table.now)) _ c.in_ok-boot_text.ensures.value, inr ((c.in_ok-languages.languages.items, c.in_ok-languages.ensures.read), inl c.in_err-presets.ensures.wrong))))
 
+pub returns-in_err-more_slots-clause-wrong : goal.returns-in_err-more_slots-clause-wrong
+returns-in_err-more_slots-clause-wrong c =
+    exit (FirstWrong profile_parts (table_view c.args.table.now)) _ _ c.from_residual-in_err-more_slots.ensures.1
+    (inr (free_right 0 (number 0 0xFFFFFFFF) (get_member (codes "boot_software_version_id") (table_view c.args.table.now)) _ c.in_ok-boot.ensures.value, inr (free_right [] text (get_member (codes "boot_software_version_label") (table_view c.args.table.now)) _ c.in_ok-boot_text.ensures.value, inr ((c.in_ok-languages.languages.items, c.in_ok-languages.ensures.read), inr (free_right 0 (number 0 65534) (get_member (codes "presets") (table_view c.args.table.now)) _ c.in_ok-presets.ensures.value, inl c.in_err-more_slots.ensures.wrong)))))
+
 pub returns-in_err-slots-clause-wrong : goal.returns-in_err-slots-clause-wrong
 returns-in_err-slots-clause-wrong c =
     exit (FirstWrong profile_parts (table_view c.args.table.now)) _ _ c.from_residual-in_err-slots.ensures.1
-    (inr (free_right 0 (number 0 0xFFFFFFFF) (get_member (codes "boot_software_version_id") (table_view c.args.table.now)) _ c.in_ok-boot.ensures.value, inr (free_right [] text (get_member (codes "boot_software_version_label") (table_view c.args.table.now)) _ c.in_ok-boot_text.ensures.value, inr ((c.in_ok-languages.languages.items, c.in_ok-languages.ensures.read), inr (free_right 0 (number 0 65534) (get_member (codes "presets") (table_view c.args.table.now)) _ c.in_ok-presets.ensures.value, inl c.in_err-slots.ensures.wrong)))))
+    (inr (free_right 0 (number 0 0xFFFFFFFF) (get_member (codes "boot_software_version_id") (table_view c.args.table.now)) _ c.in_ok-boot.ensures.value, inr (free_right [] text (get_member (codes "boot_software_version_label") (table_view c.args.table.now)) _ c.in_ok-boot_text.ensures.value, inr ((c.in_ok-languages.languages.items, c.in_ok-languages.ensures.read), inr (free_right 0 (number 0 65534) (get_member (codes "presets") (table_view c.args.table.now)) _ c.in_ok-presets.ensures.value, inr (free_right 0 (number 0 512) (get_member (codes "more_slots") (table_view c.args.table.now)) _ c.in_ok-more_slots.ensures.value, inl c.in_err-slots.ensures.wrong))))))
 
 pub returns-in_err-root-clause-wrong : goal.returns-in_err-root-clause-wrong
 returns-in_err-root-clause-wrong c =
-    let count : c.len-count.result ≡ slot_count (get_member (codes "slot") (table_view c.args.table.now)) =
-    c.len-count.ensures.value ∙ c.in_ok-slots.ensures.count in
+    let more : Some c.in_ok-more_slots.more_slots ≡ may 0 (number 0 512) (get_member (codes "more_slots") (table_view c.args.table.now)) = c.in_ok-more_slots.ensures.value in
+    let count : c.root_slots-count.result ≡ root_slots (table_view c.args.table.now) =
+    c.root_slots-count.ensures ∙ slots_counted _ _ _ _ more (c.len.ensures.value ∙ c.in_ok-slots.ensures.count) in
     exit (FirstWrong profile_parts (table_view c.args.table.now)) _ _ c.from_residual-in_err-root.ensures.1
-    (inr (free_right 0 (number 0 0xFFFFFFFF) (get_member (codes "boot_software_version_id") (table_view c.args.table.now)) _ c.in_ok-boot.ensures.value, inr (free_right [] text (get_member (codes "boot_software_version_label") (table_view c.args.table.now)) _ c.in_ok-boot_text.ensures.value, inr ((c.in_ok-languages.languages.items, c.in_ok-languages.ensures.read), inr (free_right 0 (number 0 65534) (get_member (codes "presets") (table_view c.args.table.now)) _ c.in_ok-presets.ensures.value, inr ((c.in_ok-slots.slots.items, c.in_ok-slots.ensures.read), inl (let Wrong : ℕ → Type 0 = λ n. FirstWrong (unit_parts n) (table_view c.args.table.now) (told c.in_err-root.field-0.0) in subst Wrong count c.in_err-root.ensures.wrong)))))))
+    (inr (free_right 0 (number 0 0xFFFFFFFF) (get_member (codes "boot_software_version_id") (table_view c.args.table.now)) _ c.in_ok-boot.ensures.value, inr (free_right [] text (get_member (codes "boot_software_version_label") (table_view c.args.table.now)) _ c.in_ok-boot_text.ensures.value, inr ((c.in_ok-languages.languages.items, c.in_ok-languages.ensures.read), inr (free_right 0 (number 0 65534) (get_member (codes "presets") (table_view c.args.table.now)) _ c.in_ok-presets.ensures.value, inr (free_right 0 (number 0 512) (get_member (codes "more_slots") (table_view c.args.table.now)) _ c.in_ok-more_slots.ensures.value, inr ((c.in_ok-slots.slots.items, c.in_ok-slots.ensures.read), inl (let Wrong : ℕ → Type 0 = λ n. FirstWrong (unit_parts n) (table_view c.args.table.now) (told c.in_err-root.field-0.0) in subst Wrong count c.in_err-root.ensures.wrong))))))))
 
 pub returns-in_err-subs-clause-wrong : goal.returns-in_err-subs-clause-wrong
 returns-in_err-subs-clause-wrong c =
-    let count : c.len-count.result ≡ slot_count (get_member (codes "slot") (table_view c.args.table.now)) =
-    c.len-count.ensures.value ∙ c.in_ok-slots.ensures.count in
+    let more : Some c.in_ok-more_slots.more_slots ≡ may 0 (number 0 512) (get_member (codes "more_slots") (table_view c.args.table.now)) = c.in_ok-more_slots.ensures.value in
+    let count : c.root_slots-count.result ≡ root_slots (table_view c.args.table.now) =
+    c.root_slots-count.ensures ∙ slots_counted _ _ _ _ more (c.len.ensures.value ∙ c.in_ok-slots.ensures.count) in
     exit (FirstWrong profile_parts (table_view c.args.table.now)) _ _ c.from_residual-in_err-subs.ensures.1
-    (inr (free_right 0 (number 0 0xFFFFFFFF) (get_member (codes "boot_software_version_id") (table_view c.args.table.now)) _ c.in_ok-boot.ensures.value, inr (free_right [] text (get_member (codes "boot_software_version_label") (table_view c.args.table.now)) _ c.in_ok-boot_text.ensures.value, inr ((c.in_ok-languages.languages.items, c.in_ok-languages.ensures.read), inr (free_right 0 (number 0 65534) (get_member (codes "presets") (table_view c.args.table.now)) _ c.in_ok-presets.ensures.value, inr ((c.in_ok-slots.slots.items, c.in_ok-slots.ensures.read), inr ((c.in_ok-root.root, rw (← count) c.in_ok-root.ensures.read), inl c.in_err-subs.ensures.wrong)))))))
+    (inr (free_right 0 (number 0 0xFFFFFFFF) (get_member (codes "boot_software_version_id") (table_view c.args.table.now)) _ c.in_ok-boot.ensures.value, inr (free_right [] text (get_member (codes "boot_software_version_label") (table_view c.args.table.now)) _ c.in_ok-boot_text.ensures.value, inr ((c.in_ok-languages.languages.items, c.in_ok-languages.ensures.read), inr (free_right 0 (number 0 65534) (get_member (codes "presets") (table_view c.args.table.now)) _ c.in_ok-presets.ensures.value, inr (free_right 0 (number 0 512) (get_member (codes "more_slots") (table_view c.args.table.now)) _ c.in_ok-more_slots.ensures.value, inr ((c.in_ok-slots.slots.items, c.in_ok-slots.ensures.read), inr ((c.in_ok-root.root, rw (← count) c.in_ok-root.ensures.read), inl c.in_err-subs.ensures.wrong))))))))
 
-pub returns-in_err-list-clause-wrong : goal.returns-in_err-list-clause-wrong
-returns-in_err-list-clause-wrong c =
-    let count : c.len-count.result ≡ slot_count (get_member (codes "slot") (table_view c.args.table.now)) =
-    c.len-count.ensures.value ∙ c.in_ok-slots.ensures.count in
-    exit (FirstWrong profile_parts (table_view c.args.table.now)) _ _ c.from_residual-in_err-list.ensures.1
-    (inr (free_right 0 (number 0 0xFFFFFFFF) (get_member (codes "boot_software_version_id") (table_view c.args.table.now)) _ c.in_ok-boot.ensures.value, inr (free_right [] text (get_member (codes "boot_software_version_label") (table_view c.args.table.now)) _ c.in_ok-boot_text.ensures.value, inr ((c.in_ok-languages.languages.items, c.in_ok-languages.ensures.read), inr (free_right 0 (number 0 65534) (get_member (codes "presets") (table_view c.args.table.now)) _ c.in_ok-presets.ensures.value, inr ((c.in_ok-slots.slots.items, c.in_ok-slots.ensures.read), inr ((c.in_ok-root.root, rw (← count) c.in_ok-root.ensures.read), inr (((c.in_ok-subs.subs, c.in_ok-subs.sub), rw (← count) c.in_ok-subs.ensures.read), inl c.in_err-list.ensures.wrong))))))))
+pub returns-in_err-sensors-clause-wrong : goal.returns-in_err-sensors-clause-wrong
+returns-in_err-sensors-clause-wrong c =
+    let more : Some c.in_ok-more_slots.more_slots ≡ may 0 (number 0 512) (get_member (codes "more_slots") (table_view c.args.table.now)) = c.in_ok-more_slots.ensures.value in
+    let count : c.root_slots-count.result ≡ root_slots (table_view c.args.table.now) =
+    c.root_slots-count.ensures ∙ slots_counted _ _ _ _ more (c.len.ensures.value ∙ c.in_ok-slots.ensures.count) in
+    exit (FirstWrong profile_parts (table_view c.args.table.now)) _ _ c.from_residual-in_err-sensors.ensures.1
+    (inr (free_right 0 (number 0 0xFFFFFFFF) (get_member (codes "boot_software_version_id") (table_view c.args.table.now)) _ c.in_ok-boot.ensures.value, inr (free_right [] text (get_member (codes "boot_software_version_label") (table_view c.args.table.now)) _ c.in_ok-boot_text.ensures.value, inr ((c.in_ok-languages.languages.items, c.in_ok-languages.ensures.read), inr (free_right 0 (number 0 65534) (get_member (codes "presets") (table_view c.args.table.now)) _ c.in_ok-presets.ensures.value, inr (free_right 0 (number 0 512) (get_member (codes "more_slots") (table_view c.args.table.now)) _ c.in_ok-more_slots.ensures.value, inr ((c.in_ok-slots.slots.items, c.in_ok-slots.ensures.read), inr ((c.in_ok-root.root, rw (← count) c.in_ok-root.ensures.read), inr (((c.in_ok-subs.subs, c.in_ok-subs.sub), rw (← count) c.in_ok-subs.ensures.read), inl c.in_err-sensors.ensures.wrong)))))))))
 
-pub returns-in_err-self_tests-clause-wrong : goal.returns-in_err-self_tests-clause-wrong
-returns-in_err-self_tests-clause-wrong c =
-    let count : c.len-count.result ≡ slot_count (get_member (codes "slot") (table_view c.args.table.now)) =
-    c.len-count.ensures.value ∙ c.in_ok-slots.ensures.count in
-    exit (FirstWrong profile_parts (table_view c.args.table.now)) _ _ c.from_residual-in_err-self_tests.ensures.1
-    (inr (free_right 0 (number 0 0xFFFFFFFF) (get_member (codes "boot_software_version_id") (table_view c.args.table.now)) _ c.in_ok-boot.ensures.value, inr (free_right [] text (get_member (codes "boot_software_version_label") (table_view c.args.table.now)) _ c.in_ok-boot_text.ensures.value, inr ((c.in_ok-languages.languages.items, c.in_ok-languages.ensures.read), inr (free_right 0 (number 0 65534) (get_member (codes "presets") (table_view c.args.table.now)) _ c.in_ok-presets.ensures.value, inr ((c.in_ok-slots.slots.items, c.in_ok-slots.ensures.read), inr ((c.in_ok-root.root, rw (← count) c.in_ok-root.ensures.read), inr (((c.in_ok-subs.subs, c.in_ok-subs.sub), rw (← count) c.in_ok-subs.ensures.read), inr ((_, c.in_ok-list.ensures.read), among tests_parts statuses_parts (table_view c.args.table.now) _ c.in_err-self_tests.ensures.wrong)))))))))
+pub returns-in_err-tests-clause-wrong : goal.returns-in_err-tests-clause-wrong
+returns-in_err-tests-clause-wrong c =
+    let more : Some c.in_ok-more_slots.more_slots ≡ may 0 (number 0 512) (get_member (codes "more_slots") (table_view c.args.table.now)) = c.in_ok-more_slots.ensures.value in
+    let count : c.root_slots-count.result ≡ root_slots (table_view c.args.table.now) =
+    c.root_slots-count.ensures ∙ slots_counted _ _ _ _ more (c.len.ensures.value ∙ c.in_ok-slots.ensures.count) in
+    exit (FirstWrong profile_parts (table_view c.args.table.now)) _ _ c.from_residual-in_err-tests.ensures.1
+    (inr (free_right 0 (number 0 0xFFFFFFFF) (get_member (codes "boot_software_version_id") (table_view c.args.table.now)) _ c.in_ok-boot.ensures.value, inr (free_right [] text (get_member (codes "boot_software_version_label") (table_view c.args.table.now)) _ c.in_ok-boot_text.ensures.value, inr ((c.in_ok-languages.languages.items, c.in_ok-languages.ensures.read), inr (free_right 0 (number 0 65534) (get_member (codes "presets") (table_view c.args.table.now)) _ c.in_ok-presets.ensures.value, inr (free_right 0 (number 0 512) (get_member (codes "more_slots") (table_view c.args.table.now)) _ c.in_ok-more_slots.ensures.value, inr ((c.in_ok-slots.slots.items, c.in_ok-slots.ensures.read), inr ((c.in_ok-root.root, rw (← count) c.in_ok-root.ensures.read), inr (((c.in_ok-subs.subs, c.in_ok-subs.sub), rw (← count) c.in_ok-subs.ensures.read), inr ((_, c.in_ok-sensors.ensures.read), among tests_parts after_tests (table_view c.args.table.now) _ c.in_err-tests.ensures.wrong))))))))))
 
 pub returns-in_err-status_texts-clause-wrong : goal.returns-in_err-status_texts-clause-wrong
 returns-in_err-status_texts-clause-wrong c =
-    let count : c.len-count.result ≡ slot_count (get_member (codes "slot") (table_view c.args.table.now)) =
-    c.len-count.ensures.value ∙ c.in_ok-slots.ensures.count in
+    let more : Some c.in_ok-more_slots.more_slots ≡ may 0 (number 0 512) (get_member (codes "more_slots") (table_view c.args.table.now)) = c.in_ok-more_slots.ensures.value in
+    let count : c.root_slots-count.result ≡ root_slots (table_view c.args.table.now) =
+    c.root_slots-count.ensures ∙ slots_counted _ _ _ _ more (c.len.ensures.value ∙ c.in_ok-slots.ensures.count) in
     exit (FirstWrong profile_parts (table_view c.args.table.now)) _ _ c.from_residual-in_err-status_texts.ensures.1
-    (inr (free_right 0 (number 0 0xFFFFFFFF) (get_member (codes "boot_software_version_id") (table_view c.args.table.now)) _ c.in_ok-boot.ensures.value, inr (free_right [] text (get_member (codes "boot_software_version_label") (table_view c.args.table.now)) _ c.in_ok-boot_text.ensures.value, inr ((c.in_ok-languages.languages.items, c.in_ok-languages.ensures.read), inr (free_right 0 (number 0 65534) (get_member (codes "presets") (table_view c.args.table.now)) _ c.in_ok-presets.ensures.value, inr ((c.in_ok-slots.slots.items, c.in_ok-slots.ensures.read), inr ((c.in_ok-root.root, rw (← count) c.in_ok-root.ensures.read), inr (((c.in_ok-subs.subs, c.in_ok-subs.sub), rw (← count) c.in_ok-subs.ensures.read), inr ((_, c.in_ok-list.ensures.read), inr ((_, c.in_ok-self_tests.ensures.read.0), inr ((_, c.in_ok-self_tests.ensures.read), c.in_err-status_texts.ensures.wrong)))))))))))
+    (inr (free_right 0 (number 0 0xFFFFFFFF) (get_member (codes "boot_software_version_id") (table_view c.args.table.now)) _ c.in_ok-boot.ensures.value, inr (free_right [] text (get_member (codes "boot_software_version_label") (table_view c.args.table.now)) _ c.in_ok-boot_text.ensures.value, inr ((c.in_ok-languages.languages.items, c.in_ok-languages.ensures.read), inr (free_right 0 (number 0 65534) (get_member (codes "presets") (table_view c.args.table.now)) _ c.in_ok-presets.ensures.value, inr (free_right 0 (number 0 512) (get_member (codes "more_slots") (table_view c.args.table.now)) _ c.in_ok-more_slots.ensures.value, inr ((c.in_ok-slots.slots.items, c.in_ok-slots.ensures.read), inr ((c.in_ok-root.root, rw (← count) c.in_ok-root.ensures.read), inr (((c.in_ok-subs.subs, c.in_ok-subs.sub), rw (← count) c.in_ok-subs.ensures.read), inr ((_, c.in_ok-sensors.ensures.read), inr ((_, c.in_ok-tests.ensures.read.0), inr ((_, c.in_ok-tests.ensures.read), among statuses_parts after_statuses (table_view c.args.table.now) _ c.in_err-status_texts.ensures.wrong))))))))))))
+
+pub returns-in_err-without-clause-wrong : goal.returns-in_err-without-clause-wrong
+returns-in_err-without-clause-wrong c =
+    let more : Some c.in_ok-more_slots.more_slots ≡ may 0 (number 0 512) (get_member (codes "more_slots") (table_view c.args.table.now)) = c.in_ok-more_slots.ensures.value in
+    let count : c.root_slots-count.result ≡ root_slots (table_view c.args.table.now) =
+    c.root_slots-count.ensures ∙ slots_counted _ _ _ _ more (c.len.ensures.value ∙ c.in_ok-slots.ensures.count) in
+    exit (FirstWrong profile_parts (table_view c.args.table.now)) _ _ c.from_residual-in_err-without.ensures.1
+    (inr (free_right 0 (number 0 0xFFFFFFFF) (get_member (codes "boot_software_version_id") (table_view c.args.table.now)) _ c.in_ok-boot.ensures.value, inr (free_right [] text (get_member (codes "boot_software_version_label") (table_view c.args.table.now)) _ c.in_ok-boot_text.ensures.value, inr ((c.in_ok-languages.languages.items, c.in_ok-languages.ensures.read), inr (free_right 0 (number 0 65534) (get_member (codes "presets") (table_view c.args.table.now)) _ c.in_ok-presets.ensures.value, inr (free_right 0 (number 0 512) (get_member (codes "more_slots") (table_view c.args.table.now)) _ c.in_ok-more_slots.ensures.value, inr ((c.in_ok-slots.slots.items, c.in_ok-slots.ensures.read), inr ((c.in_ok-root.root, rw (← count) c.in_ok-root.ensures.read), inr (((c.in_ok-subs.subs, c.in_ok-subs.sub), rw (← count) c.in_ok-subs.ensures.read), inr ((_, c.in_ok-sensors.ensures.read), inr ((_, c.in_ok-tests.ensures.read.0), inr ((_, c.in_ok-tests.ensures.read), inr ((_, c.in_ok-status_texts.ensures.read.0), inr ((_, c.in_ok-status_texts.ensures.read), among without_parts own_parts (table_view c.args.table.now) _ c.in_err-without.ensures.wrong))))))))))))))
+
+pub returns-in_err-parameters-clause-wrong : goal.returns-in_err-parameters-clause-wrong
+returns-in_err-parameters-clause-wrong c =
+    let more : Some c.in_ok-more_slots.more_slots ≡ may 0 (number 0 512) (get_member (codes "more_slots") (table_view c.args.table.now)) = c.in_ok-more_slots.ensures.value in
+    let count : c.root_slots-count.result ≡ root_slots (table_view c.args.table.now) =
+    c.root_slots-count.ensures ∙ slots_counted _ _ _ _ more (c.len.ensures.value ∙ c.in_ok-slots.ensures.count) in
+    exit (FirstWrong profile_parts (table_view c.args.table.now)) _ _ c.from_residual-in_err-parameters.ensures.1
+    (inr (free_right 0 (number 0 0xFFFFFFFF) (get_member (codes "boot_software_version_id") (table_view c.args.table.now)) _ c.in_ok-boot.ensures.value, inr (free_right [] text (get_member (codes "boot_software_version_label") (table_view c.args.table.now)) _ c.in_ok-boot_text.ensures.value, inr ((c.in_ok-languages.languages.items, c.in_ok-languages.ensures.read), inr (free_right 0 (number 0 65534) (get_member (codes "presets") (table_view c.args.table.now)) _ c.in_ok-presets.ensures.value, inr (free_right 0 (number 0 512) (get_member (codes "more_slots") (table_view c.args.table.now)) _ c.in_ok-more_slots.ensures.value, inr ((c.in_ok-slots.slots.items, c.in_ok-slots.ensures.read), inr ((c.in_ok-root.root, rw (← count) c.in_ok-root.ensures.read), inr (((c.in_ok-subs.subs, c.in_ok-subs.sub), rw (← count) c.in_ok-subs.ensures.read), inr ((_, c.in_ok-sensors.ensures.read), inr ((_, c.in_ok-tests.ensures.read.0), inr ((_, c.in_ok-tests.ensures.read), inr ((_, c.in_ok-status_texts.ensures.read.0), inr ((_, c.in_ok-status_texts.ensures.read), inr ((_, c.in_ok-without.ensures.read.0), inr ((_, (c.in_ok-without.ensures.read.0, c.in_ok-without.ensures.read.1.optional)), inr ((_, (c.in_ok-without.ensures.read.0, c.in_ok-without.ensures.read.1.needs)), c.in_err-parameters.ensures.wrong)))))))))))))))))

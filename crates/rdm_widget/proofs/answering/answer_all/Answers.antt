@@ -1,6 +1,7 @@
 use Rattle.std.proofs.Common.{arith}
-use Rattle.rdm_widget.specs.Serving.{AllWritten, LastCutShort}
-use Rattle.rdm_widget.proofs.Turns.{none_done, next_done, next_fails, all_then, short_then, rest_within, rest_unfinished, none_left}
+use Rattle.rdm_messages.specs.Serving.{AllWritten, LastCutShort}
+use Rattle.rdm_messages.proofs.Beginnings.{none_left}
+use Rattle.rdm_widget.proofs.Turns.{none_done, next_done, next_fails, all_then, short_then, rest_within, rest_unfinished}
 use Rattle.rdm_widget.proofs.answering.answer_all.Goals as goal
 
 pub loop-done-init : goal.loop-done-init

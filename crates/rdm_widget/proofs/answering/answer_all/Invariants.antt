@@ -1,5 +1,5 @@
 use Rattle.std.proofs.Common.{length, drop, ◌-◌, ◌≤◌}
-use Rattle.rdm_widget.specs.Serving.{AreDone, AllWritten}
+use Rattle.rdm_messages.specs.Serving.{AreDone, AllWritten}
 use Rattle.rdm_widget.proofs.answering.answer_all.Given as goal
 
 abbrev pub invariant-loop-done : goal.invariant-loop-done

@@ -1,7 +1,8 @@
 use Rattle.std.proofs.Common.{List, ℕ, subst}
-use Rattle.rdm_widget.specs.Framing.{message_in}
-use Rattle.rdm_widget.specs.Serving.{AreDone, AllWritten}
-use Rattle.rdm_widget.proofs.Turns.{none_done, stray_done, rest_is}
+use Rattle.rdm_messages.specs.Framing.{message_in}
+use Rattle.rdm_messages.specs.Serving.{AreDone, AllWritten}
+use Rattle.rdm_messages.proofs.Beginnings.{rest_is}
+use Rattle.rdm_widget.proofs.Turns.{none_done, stray_done}
 use Rattle.rdm_widget.proofs.answering.answer_front.Goals as goal
 
 pub returns-in-Unfinished-clause-ok : goal.returns-in-Unfinished-clause-ok

@@ -1,5 +1,5 @@
 use Rattle.std.proofs.Common.{◌∙◌}
-use Rattle.rdm_widget.specs.Framing.{message_in}
+use Rattle.rdm_messages.specs.Framing.{message_in}
 use Rattle.rdm_widget.proofs.Turns.{answered_ok, answered_err}
 use Rattle.rdm_widget.proofs.answering.answer_one.Goals as goal
 

@@ -1,4 +1,4 @@
-use Rattle.std.proofs.Common.{◌∙◌, [], List, map, ap}
+use Rattle.std.proofs.Common.{◌∙◌, [], map, ap}
 use Rattle.rdm_line.specs.declared.collision.Collision.{Collision}
 use Rattle.rdm_line.specs.Collisions.{on_wire}
 use Rattle.rdm_line.specs.Hearing.{answers}

@@ -1,0 +1,170 @@
+/* Responders in memory of the program's own (felosumay_memory.h), with no heap: each size that there is takes exactly the memory that
+ * is said, and not a byte less will do; memory is refused where it isn't aligned or is in use, and is free again when its responder
+ * is. It prints what differs, and then ends with status 1. */
+#include "felosumay_memory.h"
+#include "felosumay_names.h"
+#include <stdio.h>
+
+enum { MAKER = 0x7FF0, FIXTURE = 1, MOST = 1024, MOST_SUB_DEVICES = 512 };
+
+FELOSUMAY_ALIGNED static uint8_t memory[FELOSUMAY_RESPONDER_BYTES(MOST, MOST, MOST_SUB_DEVICES)];
+FELOSUMAY_ALIGNED static uint8_t second[FELOSUMAY_RESPONDER_BYTES(2, 1, 0) + 16];
+static felosumay_profile profile;
+static int failed;
+
+static void expect(const char *what, unsigned got, unsigned wanted) {
+    if (got != wanted) {
+        printf("%s: %u, not %u\n", what, got, wanted);
+        failed = 1;
+    }
+}
+
+static felosumay_result make(felosumay_responder *responder, uint8_t *at, size_t bytes, uint16_t queue_size, uint16_t entries) {
+    return felosumay_responder_new_in(at, bytes, responder, MAKER, FIXTURE, &profile, queue_size, entries, 0);
+}
+
+/* A responder of this size has room in the memory that is said, fills it, and hasn't room in a byte less. It answers. */
+static void try_size(uint16_t queue_size, uint16_t entries, uint16_t sub_devices) {
+    const size_t bytes = FELOSUMAY_RESPONDER_BYTES(queue_size, entries, sub_devices);
+    felosumay_responder responder = {0};
+    uint8_t value[FELOSUMAY_VALUE_BYTES];
+    size_t count = 0;
+    uint16_t reason = 0;
+    int was = failed;
+    profile.subs = sub_devices;
+    expect("the size in the library", (unsigned)felosumay_responder_size(queue_size, entries, sub_devices), (unsigned)bytes);
+    expect("a byte less", make(&responder, memory, bytes - 1, queue_size, entries), FELOSUMAY_SHORT_MEMORY);
+    expect("the memory", make(&responder, memory, bytes, queue_size, entries), FELOSUMAY_DONE);
+    if (responder.at == NULL)
+        return;
+    expect("what is left of it", (unsigned)(felosumay_arenas->end - felosumay_arenas->free), 0);
+    expect("what it answers",
+           felosumay_responder_get(&responder, sub_devices, FELOSUMAY_PID_IDENTIFY_DEVICE, NULL, 0, value, &count, &reason),
+           FELOSUMAY_DONE);
+    felosumay_responder_free(&responder);
+    expect("arenas in use", felosumay_arenas != NULL, 0);
+    if (failed != was)
+        printf("queue %u, status entries %u, sub-devices %u\n", queue_size, entries, sub_devices);
+}
+
+static void sizes(void) {
+    static const uint16_t entries[] = {1, 2, 7, 8, 9, 64, 1023, MOST}, subs[] = {0, 1, 2, 3, 4, 5, 48, 511, MOST_SUB_DEVICES};
+    for (uint16_t queue_size = 1; queue_size <= MOST; queue_size++)
+        try_size(queue_size, 64, 0);
+    for (uint16_t number = 1; number <= MOST; number++)
+        try_size(2, number, 1);
+    for (uint16_t number = 0; number <= MOST_SUB_DEVICES; number++)
+        try_size(1, 1, number);
+    for (size_t i = 0; i < sizeof entries / sizeof *entries; i++)
+        for (size_t k = 0; k < sizeof subs / sizeof *subs; k++) {
+            try_size(1, entries[i], subs[k]);
+            try_size(255, entries[i], subs[k]);
+            try_size(MOST, entries[i], subs[k]);
+        }
+}
+
+/* A profile with parameters of the maker's own takes more: with as many as there can be, exactly what is said. */
+static void own_parameters(void) {
+    static felosumay_parameter own[16];
+    const size_t bytes = FELOSUMAY_RESPONDER_BYTES(2, 1, 0), more = bytes + FELOSUMAY_OWN_PARAMETERS_BYTES;
+    felosumay_responder responder = {0};
+    for (uint16_t i = 0; i < 16; i++) {
+        own[i].pid = (uint16_t)(0x8000 + i);
+        own[i].kind = FELOSUMAY_DS_UNSIGNED_BYTE;
+        own[i].commands = FELOSUMAY_CC_GET;
+        own[i].start.count = 1;
+    }
+    profile.subs = 0;
+    profile.parameters = own;
+    profile.parameter_count = 16;
+    expect("own parameters, without more", make(&responder, memory, bytes, 2, 1), FELOSUMAY_OUT_OF_MEMORY);
+    expect("own parameters, a byte less", make(&responder, memory, more - 1, 2, 1), FELOSUMAY_OUT_OF_MEMORY);
+    expect("own parameters", make(&responder, memory, more, 2, 1), FELOSUMAY_DONE);
+    if (felosumay_arenas != NULL)
+        expect("what own parameters leave", (unsigned)(felosumay_arenas->end - felosumay_arenas->free), 0);
+    felosumay_responder_free(&responder);
+    profile.parameters = NULL;
+    profile.parameter_count = 0;
+}
+
+/* What is refused, and leaves the memory free. */
+static void refusals(void) {
+    felosumay_responder responder = {0};
+    felosumay_collector collector = {0};
+    felosumay_search search = {0};
+    profile.subs = 0;
+    for (size_t past = 1; past < 16; past++)
+        expect("unaligned memory", make(&responder, memory + past, sizeof memory - past, 8, 64), FELOSUMAY_UNALIGNED);
+    expect("no memory", make(&responder, memory, 0, 8, 64), FELOSUMAY_SHORT_MEMORY);
+    expect("no queue", make(&responder, memory, sizeof memory, 0, 64), FELOSUMAY_BAD_SIZE);
+    expect("1,025 entries", make(&responder, memory, sizeof memory, 8, 1025), FELOSUMAY_BAD_SIZE);
+    profile.language_count = 0;
+    expect("a bad profile", make(&responder, memory, sizeof memory, 8, 64), FELOSUMAY_BAD_PROFILE);
+    profile.language_count = 1;
+    expect("a UID of all",
+           felosumay_responder_new_in(memory, sizeof memory, &responder, MAKER, 0xFFFFFFFF, &profile, 8, 64, 0), FELOSUMAY_BAD_UID);
+    expect("arenas in use", felosumay_arenas != NULL, 0);
+    expect("a responder on the heap", felosumay_responder_new(&responder, MAKER, FIXTURE, &profile, 8), FELOSUMAY_OUT_OF_MEMORY);
+    expect("a collector", felosumay_collector_new(&collector, MAKER, 2, MAKER, FIXTURE, 2), FELOSUMAY_OUT_OF_MEMORY);
+    expect("a search", felosumay_search_new(&search, MAKER, 2, 76), FELOSUMAY_OUT_OF_MEMORY);
+    expect("a handle", responder.at != NULL || collector.at != NULL || search.at != NULL, 0);
+}
+
+/* Memory that a responder lies in, all of it or a part. */
+static void in_use(void) {
+    const size_t bytes = FELOSUMAY_RESPONDER_BYTES(2, 1, 0);
+    felosumay_responder first = {0}, other = {0}, third = {0};
+    size_t waiting = 9;
+    expect("one", make(&first, memory, bytes, 2, 1), FELOSUMAY_DONE);
+    expect("the same memory", make(&other, memory, sizeof memory, 2, 1), FELOSUMAY_IN_USE);
+    expect("its own memory", make(&first, memory, bytes, 2, 1), FELOSUMAY_IN_USE);
+    expect("its last bytes", make(&other, memory + bytes - 16, sizeof memory - bytes, 2, 1), FELOSUMAY_IN_USE);
+    expect("the bytes behind it", make(&other, memory + bytes, bytes, 2, 1), FELOSUMAY_DONE);
+    expect("a third", make(&third, second, sizeof second, 2, 1), FELOSUMAY_DONE);
+    felosumay_responder_free(&other);
+    expect("the first after that", felosumay_responder_waiting(&first, &waiting), FELOSUMAY_DONE);
+    expect("the bytes behind it again", make(&third, memory + bytes, bytes, 2, 1), FELOSUMAY_DONE);
+    expect("what the third had", make(&other, second, sizeof second, 2, 1), FELOSUMAY_DONE);
+    felosumay_responder_free(&first);
+    felosumay_responder_free(&third);
+    felosumay_responder_free(&other);
+    expect("arenas in use", felosumay_arenas != NULL, 0);
+}
+
+/* A report of a former responder is astray in one that numbers its jobs from another number on, and 0 comes after the greatest. */
+static void numbers(void) {
+    static const uint8_t lamp_on[] = {0xCC, 0x01, 0x19, 0x7F, 0xF0, 0, 0, 0, 1, 0x7F, 0xF0, 0, 0, 0,
+                                      2,    0,    1,    0,    0,    0, 0x30, 0x04, 0x03, 1, 1, 0x04, 0x01};
+    const felosumay_outcome done = {FELOSUMAY_JOB_DONE, 0, 0, 0, 0, 0};
+    felosumay_responder responder = {0};
+    felosumay_stepped stepped;
+    felosumay_job before = {0, 0, 0, 0, 0, 0, 0};
+    uint8_t reply[FELOSUMAY_FRAME_BYTES], kept;
+    const uint32_t first_jobs[] = {7, 8, 0xFFFFFFFF, 0};
+    for (size_t i = 0; i < sizeof first_jobs / sizeof *first_jobs; i++) {
+        expect("a responder", felosumay_responder_new_in(memory, sizeof memory, &responder, MAKER, FIXTURE, &profile, 4, 1, first_jobs[i]),
+               FELOSUMAY_DONE);
+        felosumay_responder_step(&responder, lamp_on, sizeof lamp_on, reply, &stepped);
+        expect("a job", stepped.started, 1);
+        expect("its number", stepped.job.number, first_jobs[i]);
+        if (i != 0)
+            expect("a report of before", felosumay_responder_arrive(&responder, &before, &done, &kept), FELOSUMAY_ASTRAY);
+        before = stepped.job;
+        expect("its own report", felosumay_responder_arrive(&responder, &stepped.job, &done, &kept), FELOSUMAY_DONE);
+        felosumay_responder_step(&responder, lamp_on, sizeof lamp_on, reply, &stepped);
+        expect("the next number", stepped.job.number, (uint32_t)(first_jobs[i] + 1));
+        felosumay_responder_free(&responder);
+    }
+}
+
+int main(void) {
+    profile.root.personality_count = profile.sub.personality_count = 1;
+    profile.root.start = profile.sub.start = 1;
+    profile.language_count = 1;
+    sizes();
+    own_parameters();
+    refusals();
+    in_use();
+    numbers();
+    return failed;
+}

@@ -1,0 +1,173 @@
+//! `felosumay line`: a console on a real line, through an interface.
+
+mod asking;
+mod collecting;
+mod console;
+mod errand;
+pub mod fault;
+mod finding;
+mod log;
+mod mailbox;
+mod playing;
+mod recorder;
+pub mod telling;
+mod watching;
+
+use crate::fault::Fault;
+use crate::host::Host;
+use crate::source::Source;
+use crate::usage;
+use crate::watched::Watched;
+use clap::ArgMatches;
+use console::Console;
+use errand::Errand;
+use fault::LineFault;
+use log::{Log, TraceFile};
+use rdm_collector::PortError;
+use rdm_interface::{Clock, Interface, RealClock};
+use recorder::Recorder;
+use std::fs::OpenOptions;
+use std::io;
+use std::io::{Read, Write};
+use telling::{Place, Teller, Terminals};
+
+/// How many milliseconds the interface is waited for, unless something else is asked for.
+const LIMIT: u16 = 1000;
+
+/// The two ends of a port.
+#[derive(Drop)]
+struct Ends<'a, R, W> {
+    /// By what name messages tell of it.
+    name: &'a str,
+    reader: R,
+    writer: W,
+    /// Whether a read returns if no byte comes, so that what others left can be passed over.
+    gives_up: bool,
+}
+
+/// Does what is asked for on the line of a port, or of standard input and output. What can't be asked is refused before anything
+/// is sent.
+pub fn run<'a, H: Host>(
+    rt: H,
+    terminals: Terminals,
+    asked: &ArgMatches<'a>,
+) -> Result<(), Fault<'a>> {
+    let errand = Errand::asked_for(rt, asked)?;
+    match Source::named(asked.get_str(usage::PORT)) {
+        Source::File(name) => {
+            let teller = Teller::new(rt, Place::Output, terminals.errors);
+            let ends = Ends {
+                name,
+                reader: open(rt, name)?,
+                writer: open(rt, name)?,
+                gives_up: true,
+            };
+            run_on(teller, asked, errand, ends)
+        }
+        Source::Input => {
+            let teller = Teller::new(rt, Place::Errors, terminals.errors);
+            let ends = Ends {
+                name: "<stdin>",
+                reader: rt.reader(),
+                writer: io::writer(&rt),
+                gives_up: terminals.input,
+            };
+            run_on(teller, asked, errand, ends)
+        }
+    }
+}
+
+/// Does it through this port.
+fn run_on<'a, H: Host, R: Read + Drop, W: Write + Drop>(
+    teller: Teller<H>,
+    asked: &ArgMatches<'a>,
+    errand: Errand,
+    ends: Ends<'a, R, W>,
+) -> Result<(), Fault<'a>> {
+    let rt = teller.rt();
+    let log = Log::new(teller, trace_file(rt, asked)?);
+    let clock = match RealClock::start(&rt, 1) {
+        Ok(clock) => clock,
+        Err(error) => return Err(Fault::Clock(error)),
+    };
+    let limit = asked.get_one::<u16>(usage::LIMIT).unwrap_or(LIMIT);
+    let Ends {
+        name,
+        reader,
+        writer,
+        gives_up,
+    } = ends;
+    let mut port = Interface::new(Watched::new(reader), Watched::new(writer), clock, limit);
+    if let Err(fault) = greet(name, &mut port, gives_up) {
+        return Err(told(name, fault, port));
+    }
+    let mut console = Console {
+        port: Recorder::new(port, log),
+        teller,
+    };
+    let done = errand.run(&mut console);
+    let (port, log) = console.port.into_parts();
+    match (done, log.into_fault()) {
+        (Ok(()), _) => Ok(()),
+        (Err(_), Some(fault)) => Err(fault),
+        (Err(fault), None) => Err(told(name, fault, port)),
+    }
+}
+
+/// The file for the trace, if one is asked for.
+fn trace_file<'a, H: Host>(
+    rt: H,
+    asked: &ArgMatches<'a>,
+) -> Result<Option<TraceFile<'a, H::File>>, Fault<'a>> {
+    let Some(path) = asked.get_str(usage::TRACE) else {
+        return Ok(None);
+    };
+    let made = OpenOptions::new()
+        .write(true)
+        .create(true)
+        .truncate(true)
+        .open(&rt, path);
+    match made {
+        Ok(file) => Ok(Some(TraceFile { path, file })),
+        Err(error) => Err(Fault::Io(path, error)),
+    }
+}
+
+/// Opens a port. It is opened twice, for reading and for writing.
+fn open<'a, H: Host>(rt: H, path: &'a str) -> Result<H::File, Fault<'a>> {
+    match OpenOptions::new().read(true).write(true).open(&rt, path) {
+        Ok(file) => Ok(file),
+        Err(error) => Err(Fault::Io(path, error)),
+    }
+}
+
+/// Passes over what is left of those who used the port before, and asks the interface for its serial number, or else for its
+/// parameters: so it is known that there is one.
+fn greet<'a, R: Read, W: Write, C: Clock>(
+    name: &'a str,
+    port: &mut Interface<R, W, C>,
+    gives_up: bool,
+) -> Result<(), Fault<'a>> {
+    if gives_up {
+        port.clear()?;
+    }
+    if port.serial_number()?.is_some() || port.parameters()?.is_some() {
+        return Ok(());
+    }
+    Err(Fault::Line(LineFault::NoInterface(name)))
+}
+
+/// A fault, with what the system tells of it if it is one of the port.
+fn told<'a, R: Read + Drop, W: Write + Drop, C: Clock + Drop>(
+    name: &'a str,
+    fault: Fault<'a>,
+    port: Interface<Watched<R>, Watched<W>, C>,
+) -> Fault<'a> {
+    let (reader, writer, _clock) = port.into_parts();
+    match fault {
+        Fault::Line(LineFault::Port(PortError::Closed)) => Fault::Line(LineFault::Closed(name)),
+        Fault::Line(LineFault::Port(PortError::Read)) => Fault::Io(name, reader.error()),
+        Fault::Line(LineFault::Port(PortError::Write)) => Fault::Io(name, writer.error()),
+        fault => fault,
+    }
+}

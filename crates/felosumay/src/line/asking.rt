@@ -1,0 +1,116 @@
+//! A command is sent, and its result waited for.
+
+use super::collecting::Fetched;
+use super::console::Console;
+use super::fault::LineFault;
+use super::mailbox::{Letter, Mailbox};
+use crate::fault::Fault;
+use crate::host::Host;
+use rdm_collector::{Action, Command, Port, Response, Want};
+use rdm_frame::standard::{GET_COMMAND_RESPONSE, SET_COMMAND_RESPONSE};
+use std::io::Write;
+
+/// How many tenths of a second there are between two polls for a result that is late.
+const BETWEEN: u16 = 5;
+
+/// How many times it is polled for: half a minute.
+const MOST_POLLS: u32 = 60;
+
+/// What there is to do after a poll for a result.
+#[derive(Clone, Copy)]
+enum Next {
+    /// The result came, and this was it.
+    Done(Response),
+    /// It is polled for again at once.
+    Poll,
+    /// It is polled for after so many tenths of a second.
+    Wait(u16),
+    /// The device gives no messages.
+    NoQueue,
+}
+
+impl<'a, H: Host, P: Port, F: Write> Console<'a, H, P, F> {
+    /// Sends a command, and tells what is answered. If the result comes later, it is waited for. What is for several devices isn't
+    /// answered (E1.20 section 6.2.4).
+    pub fn ask(&mut self, command: &Command) -> Result<(), Fault<'a>> {
+        let uid = command.dst;
+        let mut mailbox = Mailbox::new(self.teller.rt().alloc(), uid, Want::Advisory);
+        if uid.is_broadcast() {
+            let request = mailbox.ask(command)?;
+            self.port.exchange(&request)?;
+            return Ok(());
+        }
+        match self.told_answer(&mut mailbox, command)? {
+            Response::AckTimer { tenths } => self.await_result(&mut mailbox, command, tenths),
+            response => ended(command, response),
+        }
+    }
+
+    /// Waits for the time that a device estimates, in tenths of a second, and fetches its messages until the result is among them.
+    fn await_result(
+        &mut self,
+        mailbox: &mut Mailbox,
+        command: &Command,
+        tenths: u16,
+    ) -> Result<(), Fault<'a>> {
+        self.teller.wait(command.dst, tenths);
+        for _turn in 0..MOST_POLLS {
+            match self.look(mailbox, command)? {
+                Next::Done(Response::AckTimer { tenths }) => self.teller.wait(command.dst, tenths),
+                Next::Done(response) => return ended(command, response),
+                Next::Poll => {}
+                Next::Wait(tenths) => self.teller.wait(command.dst, tenths),
+                Next::NoQueue => match self.ask_again(mailbox, command)? {
+                    Response::AckTimer { tenths } => self.teller.wait(command.dst, tenths),
+                    response => return ended(command, response),
+                },
+            }
+        }
+        Err(Fault::Line(LineFault::NoResult(command.dst)))
+    }
+
+    /// Fetches a message, and looks whether it is the result of a command.
+    fn look(&mut self, mailbox: &mut Mailbox, command: &Command) -> Result<Next, Fault<'a>> {
+        match self.fetch(mailbox)? {
+            Fetched::Message => match mailbox.last() {
+                Some(letter) if is_result(letter, command) => Ok(Next::Done(letter.response)),
+                _ => Ok(Next::Poll),
+            },
+            Fetched::Repeat => Ok(Next::Poll),
+            Fetched::Nothing => Ok(Next::Wait(BETWEEN)),
+            Fetched::NotYet(tenths) => Ok(Next::Wait(tenths)),
+            Fetched::NoQueue | Fetched::Refused(_) => Ok(Next::NoQueue),
+            Fetched::Silent => Err(Fault::Line(LineFault::Silent(command.dst))),
+        }
+    }
+
+    /// Asks for a value again of a device that gives no messages. A SET can't be sent again, since it was carried out perhaps.
+    fn ask_again(
+        &mut self,
+        mailbox: &mut Mailbox,
+        command: &Command,
+    ) -> Result<Response, Fault<'a>> {
+        match command.action {
+            Action::Get => self.told_answer(mailbox, command),
+            Action::Set | Action::Disc => Err(Fault::Line(LineFault::NoQueue(command.dst))),
+        }
+    }
+}
+
+/// What comes of a command that was answered so at last.
+fn ended<'a>(command: &Command, response: Response) -> Result<(), Fault<'a>> {
+    match response {
+        Response::Nack { .. } => Err(Fault::Line(LineFault::Rejected(command.dst))),
+        Response::Ack | Response::AckTimer { .. } | Response::AckOverflow => Ok(()),
+    }
+}
+
+/// Whether a message is the result of a command.
+fn is_result(letter: &Letter, command: &Command) -> bool {
+    let class = match command.action {
+        Action::Set => SET_COMMAND_RESPONSE,
+        Action::Get | Action::Disc => GET_COMMAND_RESPONSE,
+    };
+    let message = &letter.message;
+    message.class == class && message.pid == command.pid && message.sub == command.sub
+}

@@ -1,0 +1,112 @@
+//! The messages of a device are fetched.
+
+use super::console::{Console, MOST_PARTS, TRIES};
+use super::fault::LineFault;
+use super::mailbox::{Mailbox, Sorted};
+use crate::fault::Fault;
+use crate::host::Host;
+use rdm_collector::{DeviceHeard, Port, Uid, Want, Wire};
+use std::io::Write;
+
+/// How many messages are fetched at most. A device has no more that wait, but may say for ever that one does.
+const MOST_MESSAGES: u32 = 65536;
+
+/// What comes of a poll, or of as many as the parts of a message need.
+#[derive(Clone, Copy)]
+pub enum Fetched {
+    /// A message, which was told: the mailbox has it.
+    Message,
+    /// A message that was told before.
+    Repeat,
+    /// Nothing waits in the device.
+    Nothing,
+    /// The device has no queue.
+    NoQueue,
+    /// The device rejects the poll, for the reason with this code (E1.20 table A-17).
+    Refused(u16),
+    /// The device needs so many tenths of a second for the poll (section 6.3.3).
+    NotYet(u16),
+    /// The device doesn't answer, as often as it was asked.
+    Silent,
+}
+
+impl<'a, H: Host, P: Port, F: Write> Console<'a, H, P, F> {
+    /// Fetches all messages that wait in a device, and tells each.
+    pub fn collect(&mut self, uid: Uid) -> Result<(), Fault<'a>> {
+        let mut mailbox = Mailbox::new(self.teller.rt().alloc(), uid, Want::Advisory);
+        for _turn in 0..MOST_MESSAGES {
+            match self.fetch(&mut mailbox)? {
+                Fetched::Message | Fetched::Repeat => {}
+                Fetched::Nothing => return Ok(()),
+                Fetched::NotYet(tenths) => self.teller.wait(uid, tenths),
+                Fetched::NoQueue => return Err(Fault::Line(LineFault::NoQueue(uid))),
+                Fetched::Refused(code) => return Err(Fault::Line(LineFault::Refused(uid, code))),
+                Fetched::Silent => return Err(Fault::Line(LineFault::Silent(uid))),
+            }
+        }
+        Err(Fault::Line(LineFault::Endless(uid)))
+    }
+
+    /// Fetches the next message of a device, and tells it. A poll that isn't answered is repeated, and then the device gives the
+    /// last message again, if it gave one (E1.20 section 10.3.1).
+    pub fn fetch(&mut self, mailbox: &mut Mailbox) -> Result<Fetched, Fault<'a>> {
+        let mut silent: u8 = 0;
+        for _turn in 0..MOST_PARTS {
+            let request = mailbox.poll()?;
+            let heard = self.port.exchange(&request)?;
+            match mailbox.hear(&heard) {
+                DeviceHeard::Message | DeviceHeard::Part => {
+                    silent = 0;
+                    if let Some(fetched) = self.tell_sorted(mailbox, &heard)? {
+                        return Ok(fetched);
+                    }
+                }
+                DeviceHeard::Unsupported => return Ok(Fetched::NoQueue),
+                DeviceHeard::Refused { reason } => return Ok(Fetched::Refused(reason)),
+                DeviceHeard::NotYet { tenths } => return Ok(Fetched::NotYet(tenths)),
+                DeviceHeard::Reply | DeviceHeard::Ignored => {
+                    silent = silent.saturating_add(1);
+                    if silent >= TRIES {
+                        return Ok(Fetched::Silent);
+                    }
+                }
+            }
+        }
+        Err(Fault::Line(LineFault::Endless(mailbox.uid())))
+    }
+
+    /// Tells what was fetched, unless it was told before. Of a message in parts it is nothing until the last one is there.
+    fn tell_sorted(
+        &mut self,
+        mailbox: &mut Mailbox,
+        heard: &Option<Wire>,
+    ) -> Result<Option<Fetched>, Fault<'a>> {
+        let fetched = match mailbox.sort()? {
+            Sorted::Nothing => return Ok(Some(Fetched::Nothing)),
+            Sorted::Repeat => return Ok(Some(Fetched::Repeat)),
+            Sorted::Letter => Some(Fetched::Message),
+            Sorted::Part => None,
+        };
+        if let Some(reply) = heard {
+            self.teller.tell_reply(reply)?;
+        }
+        if fetched.is_some() {
+            self.tell_more(mailbox)?;
+        }
+        Ok(fetched)
+    }
+
+    /// Tells of the message that came last what its reply doesn't say.
+    fn tell_more(&mut self, mailbox: &Mailbox) -> Result<(), Fault<'a>> {
+        let Some(letter) = mailbox.last() else {
+            return Ok(());
+        };
+        if let Some(joined) = &letter.joined {
+            self.teller.tell_joined(joined.as_slice())?;
+        }
+        if letter.again {
+            self.teller.tell(b"  it was asked for again, and may have been fetched before\n")?;
+        }
+        Ok(())
+    }
+}

@@ -1,0 +1,107 @@
+//! All devices of a line are looked for.
+
+use super::console::Console;
+use super::fault::LineFault;
+use super::mailbox::Mailbox;
+use super::telling::CONSOLE;
+use crate::fault::Fault;
+use crate::host::Host;
+use crate::usage::MOST_FIXTURES;
+use rdm_collector::{Action, Command, Load, Port, Response, Want, read_reply};
+use rdm_frame::Uid;
+use rdm_interface::discover_through;
+use rdm_params::Kind;
+use std::fmt::Write as WriteText;
+use std::io::Write;
+
+/// How many times a request is asked again that nothing answers: as many as lines lose in a row at times.
+const RETRIES: u8 = 2;
+
+/// How many transactions a search of the greatest line takes at most.
+const LIMIT: u32 = 74 * MOST_FIXTURES as u32 + 2;
+
+impl<'a, H: Host, P: Port, F: Write> Console<'a, H, P, F> {
+    /// Finds all devices, and tells the UID of each, its model and its label.
+    pub fn find(&mut self) -> Result<(), Fault<'a>> {
+        let found = self.found()?;
+        for uid in &found {
+            self.tell_found(*uid)?;
+        }
+        Ok(())
+    }
+
+    /// The UIDs of all devices on the line. If there is none, that is a fault.
+    pub fn found(&mut self) -> Result<Vec<Uid>, Fault<'a>> {
+        let alloc = self.teller.rt().alloc();
+        let found = discover_through(alloc, &mut self.port, CONSOLE, RETRIES, LIMIT)?;
+        if found.is_empty() {
+            return Err(Fault::Line(LineFault::NoDevice));
+        }
+        let mut uids = Vec::with_capacity(alloc, found.len())?;
+        for one in &found {
+            uids.push(one.uid)?;
+        }
+        Ok(uids)
+    }
+
+    /// Tells the UID of a device, its model and its label.
+    fn tell_found(&mut self, uid: Uid) -> Result<(), Fault<'a>> {
+        let alloc = self.teller.rt().alloc();
+        let mut mailbox = Mailbox::new(alloc, uid, Want::Advisory);
+        let mut line = String::new(alloc);
+        write!(line, "{uid}")?;
+        self.put_text(&mut mailbox, &mut line, Kind::DeviceModelDescription)?;
+        self.put_text(&mut mailbox, &mut line, Kind::DeviceLabel)?;
+        line.push_str("\n")?;
+        self.teller.tell(line.as_bytes())
+    }
+
+    /// Puts a text of a device at the end of a line, in double quotes, or a dash if it tells none.
+    fn put_text(
+        &mut self,
+        mailbox: &mut Mailbox,
+        line: &mut String,
+        kind: Kind,
+    ) -> Result<(), Fault<'a>> {
+        let command = Command {
+            dst: mailbox.uid(),
+            action: Action::Get,
+            sub: 0,
+            pid: kind.pid(),
+            load: Load::new(),
+        };
+        let reply = match self.answer(mailbox, &command) {
+            Ok(reply) => reply,
+            Err(Fault::Line(LineFault::Silent(_))) => {
+                line.push_str(" -")?;
+                return Ok(());
+            }
+            Err(fault) => return Err(fault),
+        };
+        match read_reply(reply.as_slice()) {
+            Some(said) if said.response == Response::Ack => put_quoted(line, said.body),
+            _ => {
+                line.push_str(" -")?;
+                Ok(())
+            }
+        }
+    }
+}
+
+/// Puts bytes at the end of a line, in double quotes: those that aren't printable ASCII by their numbers.
+fn put_quoted<'a>(line: &mut String, bytes: &[u8]) -> Result<(), Fault<'a>> {
+    line.push_str(" \"")?;
+    for byte in bytes {
+        let byte = *byte;
+        if byte == b'"' || byte == b'\\' {
+            line.push_str("\\")?;
+        }
+        if (0x20..0x7F).contains(&byte) {
+            line.push(char::from(byte))?;
+        } else {
+            write!(line, "\\x{byte:02X}")?;
+        }
+    }
+    line.push_str("\"")?;
+    Ok(())
+}

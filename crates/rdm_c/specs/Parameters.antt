@@ -1,0 +1,49 @@
+-- The parameter of the maker's own that a plain struct of C's stands for. E1.20 section 10.4.2, tables A-15 and A-16.
+use Rattle.std.specs.Prelude.{ℕ, ◌==◌, ◌&&◌, nat_le, not, if◌then◌else◌}
+use Rattle.rdm_device.specs.declared.profile.own.ParameterDef.{ParameterDef}
+use Rattle.rdm_device.specs.declared.profile.own.Rights.{Rights}
+use Rattle.rdm_device.specs.declared.profile.own.Rights.TheVariants as rights
+use Rattle.rdm_device.specs.declared.profile.own.Shape.{Shape}
+use Rattle.rdm_device.specs.declared.profile.own.Shape.TheVariants as shapes
+use Rattle.rdm_c.specs.declared.profile.parameters.ParameterNumbers.{ParameterNumbers}
+use Rattle.rdm_c.specs.Texts.{text_in}
+
+-- the commands of a number of table A-16
+abbrev pub rights_in : ℕ → Rights
+rights_in commands = if commands == 0x01 then rights.Get else if commands == 0x02 then rights.Set else rights.Both
+
+-- data of more slots than there can be, with which no profile is good
+abbrev pub too_long : Shape
+too_long = shapes.Slots 255
+
+-- the data of a type of table A-15, with so many slots where it doesn't say how many
+abbrev pub shape_of : ℕ → ℕ → Shape
+shape_of kind size =
+    if kind == 0x00 then shapes.Slots size
+    else if kind == 0x01 then shapes.Bits size
+    else if kind == 0x02 then shapes.Text
+    else if kind == 0x03 then shapes.Byte
+    else if kind == 0x04 then shapes.SignedByte
+    else if kind == 0x05 then shapes.Word
+    else if kind == 0x06 then shapes.SignedWord
+    else if kind == 0x07 then shapes.Long
+    else if kind == 0x08 then shapes.SignedLong else too_long
+
+-- those data, where the commands are a number of table A-16
+abbrev pub shape_in : ℕ → ℕ → ℕ → Shape
+shape_in commands kind size = if nat_le 1 commands && nat_le commands 3 then shape_of kind size else too_long
+
+-- The parameter. If its type or its commands aren't a number of the tables, its data are too long, and so the profile is refused.
+abbrev pub parameter_in : ParameterNumbers → ParameterDef
+parameter_in p = record {
+  pid = p.pid;
+  rights = rights_in p.commands;
+  shape = shape_in p.commands p.kind p.size;
+  low = p.low;
+  high = p.high;
+  start = text_in p.start;
+  unit = p.unit;
+  prefix = p.prefix;
+  name = text_in p.name;
+  resets = not (p.resets == 0);
+}

@@ -1,0 +1,180 @@
+//! What a collector for any device does for C.
+
+ghost use Rattle.std.specs.Prelude.{◌≡◌, ◌≢◌, ◌↔◌, IfSome, IsSome, MatchOption, None, Some, drop, is_some, length, slice_get, take};
+ghost use Rattle.rdm_frame.specs.FrameText.{frame_text, IsFrame};
+ghost use Rattle.rdm_collector.specs.Collecting.{refusal_of, poll_request, command_request};
+ghost use Rattle.rdm_collector.specs.AnyDevice.Collecting.{sender, after_ask, after_poll, after_over, after_hearing, heard_in};
+ghost use Rattle.rdm_c.specs.Collecteds.{heard_numbers, Tells};
+ghost use Rattle.rdm_c.specs.Endpoints.{device_collector_of, found};
+ghost use Rattle.rdm_c.specs.Statuses.{of_refusal};
+
+use crate::collected::{CollectedNumbers, HeardNumbers};
+use crate::endpoint::Endpoint;
+use crate::front::write_front;
+use crate::status::Status;
+use rdm_collector::{AskError, Command, DeviceCollector, PollError};
+use rdm_frame::standard::MOST_SLOTS;
+
+/// Sends a command: writes its request to the front.
+pub(crate) fn ask(
+    endpoint: &mut Endpoint,
+    command: &Command,
+    request: &mut [u8; MOST_SLOTS],
+    count: &mut usize,
+) -> Status
+    ensures refused { IfSome (device_collector_of endpoint.old) (λ s. result ≡ of_refusal (refusal_of (sender s) command.now)) }
+    ensures sent { IfSome (device_collector_of endpoint.old) (λ s. result ≡ Status.Done →
+        take count.new request.new ≡ frame_text (command_request (sender s) command.now)) }
+    ensures count { IfSome (device_collector_of endpoint.old) (λ s. result ≡ Status.Done →
+        count.new ≡ length (frame_text (command_request (sender s) command.now))) }
+    ensures is_frame { IfSome (device_collector_of endpoint.old) (λ s. result ≡ Status.Done →
+        IsFrame (command_request (sender s) command.now)) }
+    ensures after { IfSome (device_collector_of endpoint.old) (λ s. result ≡ Status.Done →
+        device_collector_of endpoint.new ≡ Some (after_ask s command.now)) }
+    ensures same { result ≢ Status.Done → endpoint.new ≡ endpoint.old }
+    ensures absent { (result ≡ Status.Absent) ↔ (device_collector_of endpoint.old ≡ None) }
+    ensures known { result ≢ Status.Unknown }
+{
+    match endpoint {
+        Endpoint::Responder(_) | Endpoint::Collector(_) | Endpoint::Searcher(_) => Status::Absent,
+        Endpoint::DeviceCollector(collector) => send(collector, command, request, count),
+    }
+}
+
+/// Sends a command, as `ask`.
+fn send(
+    collector: &mut DeviceCollector,
+    command: &Command,
+    request: &mut [u8; MOST_SLOTS],
+    count: &mut usize,
+) -> Status
+    ensures refused { result ≡ of_refusal (refusal_of (sender collector.old) command.now) }
+    ensures sent { result ≡ Status.Done → take count.new request.new ≡ frame_text (command_request (sender collector.old) command.now) }
+    ensures count { result ≡ Status.Done → count.new ≡ length (frame_text (command_request (sender collector.old) command.now)) }
+    ensures is_frame { result ≡ Status.Done → IsFrame (command_request (sender collector.old) command.now) }
+    ensures after { result ≡ Status.Done → collector.new ≡ after_ask collector.old command.now }
+    ensures same { result ≢ Status.Done → collector.new ≡ collector.old }
+    ensures found { (result ≢ Status.Absent) × (result ≢ Status.Unknown) }
+{
+    match collector.ask(command) {
+        Ok(wire) => {
+            *count = write_front(wire.as_slice(), request);
+            Status::Done
+        }
+        Err(AskError::Reserved) => Status::Reserved,
+        Err(AskError::Busy) => Status::Busy,
+        Err(AskError::TooLong) => Status::TooLong,
+    }
+}
+
+/// Sends a poll: writes its request to the front.
+pub(crate) fn poll(
+    endpoint: &mut Endpoint,
+    request: &mut [u8; MOST_SLOTS],
+    count: &mut usize,
+) -> Status
+    ensures busy { IfSome (device_collector_of endpoint.old) (λ s. (result ≡ Status.Busy) ↔ IsSome s.transaction) }
+    ensures sent { IfSome (device_collector_of endpoint.old) (λ s. result ≡ Status.Done →
+        take count.new request.new ≡ frame_text (poll_request (sender s))) }
+    ensures count { IfSome (device_collector_of endpoint.old) (λ s. result ≡ Status.Done →
+        count.new ≡ length (frame_text (poll_request (sender s)))) }
+    ensures is_frame { IfSome (device_collector_of endpoint.old) (λ s. result ≡ Status.Done → IsFrame (poll_request (sender s))) }
+    ensures after { IfSome (device_collector_of endpoint.old) (λ s. result ≡ Status.Done →
+        device_collector_of endpoint.new ≡ Some (after_poll s)) }
+    ensures same { result ≢ Status.Done → endpoint.new ≡ endpoint.old }
+    ensures absent { (result ≡ Status.Absent) ↔ (device_collector_of endpoint.old ≡ None) }
+    ensures statuses { result ≢ Status.Done → result ≢ Status.Absent → result ≢ Status.Busy → result ≡ Status.OutOfMemory }
+{
+    match endpoint {
+        Endpoint::Responder(_) | Endpoint::Collector(_) | Endpoint::Searcher(_) => Status::Absent,
+        Endpoint::DeviceCollector(collector) => send_poll(collector, request, count),
+    }
+}
+
+/// Sends a poll, as `poll`.
+fn send_poll(
+    collector: &mut DeviceCollector,
+    request: &mut [u8; MOST_SLOTS],
+    count: &mut usize,
+) -> Status
+    ensures busy { (result ≡ Status.Busy) ↔ IsSome collector.old.transaction }
+    ensures sent { result ≡ Status.Done → take count.new request.new ≡ frame_text (poll_request (sender collector.old)) }
+    ensures count { result ≡ Status.Done → count.new ≡ length (frame_text (poll_request (sender collector.old))) }
+    ensures is_frame { result ≡ Status.Done → IsFrame (poll_request (sender collector.old)) }
+    ensures after { result ≡ Status.Done → collector.new ≡ after_poll collector.old }
+    ensures same { result ≢ Status.Done → collector.new ≡ collector.old }
+    ensures found { result ≢ Status.Absent }
+    ensures statuses { result ≢ Status.Done → result ≢ Status.Busy → result ≡ Status.OutOfMemory }
+{
+    match collector.poll() {
+        Ok(wire) => {
+            *count = write_front(wire.as_slice(), request);
+            Status::Done
+        }
+        Err(PollError::OutOfMemory) => Status::OutOfMemory,
+        Err(PollError::Busy) => Status::Busy,
+    }
+}
+
+/// Hears bytes, and tells what they are taken for.
+pub(crate) fn hear(endpoint: &mut Endpoint, bytes: &[u8], heard: &mut HeardNumbers) -> Status
+    ensures status { result ≡ found (is_some (device_collector_of endpoint.old)) }
+    ensures heard { IfSome (device_collector_of endpoint.old) (λ s. heard.new ≡ heard_numbers (heard_in s bytes.now)) }
+    ensures after { IfSome (device_collector_of endpoint.old) (λ s.
+        device_collector_of endpoint.new ≡ Some (after_hearing s bytes.now)) }
+    ensures absent { result ≢ Status.Done → endpoint.new ≡ endpoint.old }
+{
+    match endpoint {
+        Endpoint::Responder(_) | Endpoint::Collector(_) | Endpoint::Searcher(_) => Status::Absent,
+        Endpoint::DeviceCollector(collector) => {
+            *heard = HeardNumbers::of(collector.hear(bytes));
+            Status::Done
+        }
+    }
+}
+
+/// Ends the open transaction, if there is one, without an answer.
+pub(crate) fn over(endpoint: &mut Endpoint) -> Status
+    ensures status { result ≡ found (is_some (device_collector_of endpoint.old)) }
+    ensures after { IfSome (device_collector_of endpoint.old) (λ s. device_collector_of endpoint.new ≡ Some (after_over s)) }
+    ensures absent { result ≢ Status.Done → endpoint.new ≡ endpoint.old }
+{
+    match endpoint {
+        Endpoint::Responder(_) | Endpoint::Collector(_) | Endpoint::Searcher(_) => Status::Absent,
+        Endpoint::DeviceCollector(collector) => {
+            collector.over();
+            Status::Done
+        }
+    }
+}
+
+/// Takes the first of what was recorded, and tells of it.
+pub(crate) fn next(endpoint: &mut Endpoint, collected: &mut CollectedNumbers) -> Status
+    ensures next { IfSome (device_collector_of endpoint.old) (λ s. MatchOption (slice_get s.recorded 0) (result ≡ Status.NoMore)
+        (λ c. (result ≡ Status.Done) × Tells collected.new c)) }
+    ensures after { IfSome (device_collector_of endpoint.old) (λ s. result ≡ Status.Done →
+        device_collector_of endpoint.new ≡ Some (record s { recorded = drop 1 s.recorded })) }
+    ensures absent { (result ≡ Status.Absent) ↔ (device_collector_of endpoint.old ≡ None) }
+    ensures same { result ≢ Status.Done → endpoint.new ≡ endpoint.old }
+{
+    match endpoint {
+        Endpoint::Responder(_) | Endpoint::Collector(_) | Endpoint::Searcher(_) => Status::Absent,
+        Endpoint::DeviceCollector(collector) => take_first(collector, collected),
+    }
+}
+
+/// Takes the first of what was recorded, as `next`.
+fn take_first(collector: &mut DeviceCollector, collected: &mut CollectedNumbers) -> Status
+    ensures next { MatchOption (slice_get collector.old.recorded 0) (result ≡ Status.NoMore)
+        (λ c. (result ≡ Status.Done) × Tells collected.new c) }
+    ensures after { result ≡ Status.Done → collector.new ≡ record collector.old { recorded = drop 1 collector.old.recorded } }
+    ensures found { result ≢ Status.Absent }
+    ensures same { result ≢ Status.Done → collector.new ≡ collector.old }
+{
+    let Some(first) = collector.recorded().first() else {
+        return Status::NoMore;
+    };
+    collected.tell(first);
+    collector.forget(1);
+    Status::Done
+}

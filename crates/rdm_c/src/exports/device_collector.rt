@@ -1,0 +1,197 @@
+//! The collector for any device, as C calls it.
+
+ghost use Rattle.std.specs.Prelude.{◌≡◌, ◌≢◌, ◌↔◌, ◌⊎◌, IfSome, IsSome, MatchOption, None, Some, drop, is_some, length, slice_get, take};
+ghost use Rattle.rdm_frame.specs.FrameText.{frame_text, IsFrame};
+ghost use Rattle.rdm_collector.specs.Collecting.{refusal_of, poll_request, command_request};
+ghost use Rattle.rdm_collector.specs.AnyDevice.Collecting.{new_device_collector, sender, after_ask, after_poll, after_over, after_hearing, heard_in};
+ghost use Rattle.rdm_c.specs.Collecteds.{heard_numbers, Tells};
+ghost use Rattle.rdm_c.specs.Endpoints.{found, held_device_collector};
+ghost use Rattle.rdm_c.specs.Messages.{action_in, command_in, want_in};
+ghost use Rattle.rdm_c.specs.Statuses.{code_of, of_refusal};
+
+use crate::collected::{CollectedNumbers, HeardNumbers};
+use crate::endpoint;
+use crate::endpoint::Endpoint;
+use crate::handle::Handle;
+use crate::keeping::{free, put, replace, take};
+use crate::message::{CommandNumbers, want_in};
+use crate::status::Status;
+use rdm_collector::DeviceCollector;
+use rdm_frame::Uid;
+use rdm_frame::standard::MOST_SLOTS;
+use std::alloc::Global;
+
+/// Makes a collector with this UID for the messages of the target, whatever response types its answers have (E1.20 section 6.3),
+/// in the place of what the handle held. It is rejected as `felosumay_collector_new` says, and takes the same numbers.
+#[unsafe(no_mangle)]
+pub extern "C" fn felosumay_device_collector_new(
+    alloc: Global,
+    collector: &mut Handle,
+    maker: u16,
+    device: u32,
+    target_maker: u16,
+    target_device: u32,
+    wants: u8,
+) -> u8
+    ensures made { IfSome (want_in wants) (λ want. result ≡ code_of Status.Done → held_device_collector collector.new.held ≡ Some
+        (new_device_collector (record { maker = maker; device = device }) (record { maker = target_maker; device = target_device }) want)) }
+    ensures unknown { (result ≡ code_of Status.Unknown) ↔ (want_in wants ≡ None) }
+    ensures bad_uid { (result ≡ code_of Status.BadUid)
+        ↔ ((want_in wants ≢ None) × ((device ≡ 0xFFFFFFFF) ⊎ (target_device ≡ 0xFFFFFFFF))) }
+    ensures refused { result ≢ code_of Status.Done → collector.new ≡ collector.old }
+    ensures codes { result ≢ code_of Status.Done → result ≢ code_of Status.Unknown → result ≢ code_of Status.BadUid →
+        result ≡ code_of Status.OutOfMemory }
+{
+    let Some(want) = want_in(wants) else {
+        return Status::Unknown.code();
+    };
+    let uid = Uid { maker, device };
+    let target = Uid {
+        maker: target_maker,
+        device: target_device,
+    };
+    if uid.is_broadcast() || target.is_broadcast() {
+        return Status::BadUid.code();
+    }
+    let made = DeviceCollector::new(alloc, uid, target, want);
+    replace(alloc, collector, Endpoint::DeviceCollector(made)).code()
+}
+
+/// Sends a command: its request stands at the front of `request` then, and a transaction is open. It is rejected as
+/// `felosumay_collector_ask` says.
+#[unsafe(no_mangle)]
+pub extern "C" fn felosumay_device_collector_ask(
+    alloc: Global,
+    collector: &mut Handle,
+    command: &CommandNumbers,
+    load: &[u8],
+    request: &mut [u8; MOST_SLOTS],
+    count: &mut usize,
+) -> u8
+    ensures unknown { (result ≡ code_of Status.Unknown) ↔ (action_in command.now.command_class ≡ None) }
+    ensures absent { IfSome (command_in command.now load.now) (λ c.
+        (result ≡ code_of Status.Absent) ↔ (held_device_collector collector.old.held ≡ None)) }
+    ensures refused { IfSome (command_in command.now load.now) (λ c. IfSome (held_device_collector collector.old.held) (λ s.
+        result ≡ code_of (of_refusal (refusal_of (sender s) c)))) }
+    ensures sent { IfSome (command_in command.now load.now) (λ c. IfSome (held_device_collector collector.old.held) (λ s.
+        result ≡ code_of Status.Done → take count.new request.new ≡ frame_text (command_request (sender s) c))) }
+    ensures count { IfSome (command_in command.now load.now) (λ c. IfSome (held_device_collector collector.old.held) (λ s.
+        result ≡ code_of Status.Done → count.new ≡ length (frame_text (command_request (sender s) c)))) }
+    ensures is_frame { IfSome (command_in command.now load.now) (λ c. IfSome (held_device_collector collector.old.held) (λ s.
+        result ≡ code_of Status.Done → IsFrame (command_request (sender s) c))) }
+    ensures after { IfSome (command_in command.now load.now) (λ c. IfSome (held_device_collector collector.old.held) (λ s.
+        result ≡ code_of Status.Done → held_device_collector collector.new.held ≡ Some (after_ask s c))) }
+    ensures same { result ≢ code_of Status.Done → collector.new.held ≡ collector.old.held }
+{
+    let Some(command) = command.command(load) else {
+        return Status::Unknown.code();
+    };
+    let Some(mut endpoint) = take(alloc, collector) else {
+        return Status::Absent.code();
+    };
+    let status = endpoint::device_collector::ask(&mut endpoint, &command, request, count);
+    put(collector, endpoint);
+    status.code()
+}
+
+/// Sends a poll for the target's next message, or for the last one again if the last poll wasn't answered, or was answered by
+/// ACK_TIMER: its request stands at the front of `request` then, and a transaction is open. It is rejected as
+/// `felosumay_collector_poll` says.
+#[unsafe(no_mangle)]
+pub extern "C" fn felosumay_device_collector_poll(
+    alloc: Global,
+    collector: &mut Handle,
+    request: &mut [u8; MOST_SLOTS],
+    count: &mut usize,
+) -> u8
+    ensures absent { (result ≡ code_of Status.Absent) ↔ (held_device_collector collector.old.held ≡ None) }
+    ensures busy { IfSome (held_device_collector collector.old.held) (λ s. (result ≡ code_of Status.Busy) ↔ IsSome s.transaction) }
+    ensures sent { IfSome (held_device_collector collector.old.held) (λ s. result ≡ code_of Status.Done →
+        take count.new request.new ≡ frame_text (poll_request (sender s))) }
+    ensures count { IfSome (held_device_collector collector.old.held) (λ s. result ≡ code_of Status.Done →
+        count.new ≡ length (frame_text (poll_request (sender s)))) }
+    ensures is_frame { IfSome (held_device_collector collector.old.held) (λ s. result ≡ code_of Status.Done →
+        IsFrame (poll_request (sender s))) }
+    ensures after { IfSome (held_device_collector collector.old.held) (λ s. result ≡ code_of Status.Done →
+        held_device_collector collector.new.held ≡ Some (after_poll s)) }
+    ensures same { result ≢ code_of Status.Done → collector.new.held ≡ collector.old.held }
+    ensures codes { result ≢ code_of Status.Done → result ≢ code_of Status.Absent → result ≢ code_of Status.Busy →
+        result ≡ code_of Status.OutOfMemory }
+{
+    let Some(mut endpoint) = take(alloc, collector) else {
+        return Status::Absent.code();
+    };
+    let status = endpoint::device_collector::poll(&mut endpoint, request, count);
+    put(collector, endpoint);
+    status.code()
+}
+
+/// Hears bytes, and tells what they are taken for: nothing; a message that answers the open poll, or a part of one, which is
+/// recorded; the reply to the open command; or that the device rejects the poll, or needs time for it.
+#[unsafe(no_mangle)]
+pub extern "C" fn felosumay_device_collector_hear(
+    alloc: Global,
+    collector: &mut Handle,
+    bytes: &[u8],
+    heard: &mut HeardNumbers,
+) -> u8
+    ensures status { result ≡ code_of (found (is_some (held_device_collector collector.old.held))) }
+    ensures heard { IfSome (held_device_collector collector.old.held) (λ s. heard.new ≡ heard_numbers (heard_in s bytes.now)) }
+    ensures after { IfSome (held_device_collector collector.old.held) (λ s.
+        held_device_collector collector.new.held ≡ Some (after_hearing s bytes.now)) }
+    ensures absent { result ≢ code_of Status.Done → collector.new.held ≡ collector.old.held }
+{
+    let Some(mut endpoint) = take(alloc, collector) else {
+        return Status::Absent.code();
+    };
+    let status = endpoint::device_collector::hear(&mut endpoint, bytes, heard);
+    put(collector, endpoint);
+    status.code()
+}
+
+/// Ends the open transaction, if there is one, without an answer. A poll that ends so stays unanswered.
+#[unsafe(no_mangle)]
+pub extern "C" fn felosumay_device_collector_over(alloc: Global, collector: &mut Handle) -> u8
+    ensures status { result ≡ code_of (found (is_some (held_device_collector collector.old.held))) }
+    ensures after { IfSome (held_device_collector collector.old.held) (λ s.
+        held_device_collector collector.new.held ≡ Some (after_over s)) }
+    ensures absent { result ≢ code_of Status.Done → collector.new.held ≡ collector.old.held }
+{
+    let Some(mut endpoint) = take(alloc, collector) else {
+        return Status::Absent.code();
+    };
+    let status = endpoint::device_collector::over(&mut endpoint);
+    put(collector, endpoint);
+    status.code()
+}
+
+/// Takes the first message, or part of one, that was recorded and not taken yet, and tells of it. There may be no more. The
+/// collector forgets what was taken, and later messages take its room.
+#[unsafe(no_mangle)]
+pub extern "C" fn felosumay_device_collector_next(
+    alloc: Global,
+    collector: &mut Handle,
+    collected: &mut CollectedNumbers,
+) -> u8
+    ensures next { IfSome (held_device_collector collector.old.held) (λ s. MatchOption (slice_get s.recorded 0)
+        (result ≡ code_of Status.NoMore) (λ c. (result ≡ code_of Status.Done) × Tells collected.new c)) }
+    ensures after { IfSome (held_device_collector collector.old.held) (λ s. result ≡ code_of Status.Done →
+        held_device_collector collector.new.held ≡ Some (record s { recorded = drop 1 s.recorded })) }
+    ensures absent { (result ≡ code_of Status.Absent) ↔ (held_device_collector collector.old.held ≡ None) }
+    ensures same { result ≢ code_of Status.Done → collector.new.held ≡ collector.old.held }
+{
+    let Some(mut endpoint) = take(alloc, collector) else {
+        return Status::Absent.code();
+    };
+    let status = endpoint::device_collector::next(&mut endpoint, collected);
+    put(collector, endpoint);
+    status.code()
+}
+
+/// Gives up the collector that the handle holds, if any, and its memory.
+#[unsafe(no_mangle)]
+pub extern "C" fn felosumay_device_collector_release(alloc: Global, collector: &mut Handle)
+    ensures { collector.new.held ≡ None }
+{
+    free(alloc, collector);
+}

@@ -1,0 +1,19 @@
+use Rattle.std.proofs.Common.{rules, refl, IsTrue}
+use Rattle.rdm_device.specs.Device.LeftOut.{leave_no_need}
+use Rattle.rdm_device.proofs.profile.faults.parameter_fault.Goals as goal
+
+pub returns-clause-good : goal.returns-clause-good
+returns-clause-good c =
+    let needs : IsTrue (leave_no_need c.args.without.now) = search rules in (
+      λ e. (
+        record { optional = c.are_optional.ensures.0 c.if-not-are_optional.false; needs = needs },
+        record {
+          count = c.are_few.ensures.0 c.if-not-are_few.false;
+          pids = c.have_free_pids.ensures.0 c.if-not-have_free_pids.false;
+          limits = c.have_limits.ensures.0 c.if-not-have_limits.false;
+          starts = c.have_starts.ensures.0 c.if-not-have_starts.false;
+          ascending = c.are_ascending.ensures.0 c.if-not-are_ascending.false;
+        },
+      ),
+      λ good. refl,
+    )

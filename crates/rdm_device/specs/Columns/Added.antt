@@ -1,0 +1,110 @@
+-- What the commands of a parameter that the maker adds read and write. E1.20 section 10.4.2 and tables A-15 and A-16.
+use Rattle.std.specs.Prelude.{ℕ, ℤ, pos, ◌%◌, Bool, ◌==◌, ◌&&◌, List, [], ◌∷◌, ◌++◌, find, unwrap_or, if◌then◌else◌}
+use Rattle.std.specs.List.{list_any}
+use Rattle.std.specs.Option.{option_map_or}
+use Rattle.std.specs.Int.{w64, cast_unsigned}
+use Rattle.rdm_device.specs.declared.profile.own.ParameterDef.{ParameterDef}
+use Rattle.rdm_device.specs.declared.profile.own.Rights.{Rights}
+use Rattle.rdm_device.specs.declared.profile.own.Rights.TheVariants as rights
+use Rattle.rdm_device.specs.declared.profile.own.Shape.{Shape}
+use Rattle.rdm_device.specs.declared.profile.own.Shape.TheVariants as shapes
+use Rattle.rdm_device.specs.declared.value.Value.{Value}
+use Rattle.rdm_device.specs.Columns.Changes.{Change}
+use Rattle.rdm_device.specs.Columns.Forms.{Form, value_of}
+use Rattle.rdm_device.specs.Columns.Ranges.{Range, for_word}
+use Rattle.rdm_device.specs.Device.Map.{Entry, has_key, lookup}
+use Rattle.rdm_device.specs.Device.OwnParameters.{form_of, number_in, is_within, is_makers}
+use Rattle.rdm_device.specs.Device.Spot.{Spot}
+use Rattle.rdm_device.specs.Device.Values.{bytes_of, word_slots, long_slots, word_or_0}
+
+-- the values in the range of a parameter
+abbrev pub within : ParameterDef → Form → Range
+within d form spot v = is_within d v
+
+-- what is kept of it
+abbrev pub added_value : ℕ → Spot → List ℕ
+added_value pid spot = lookup spot.added pid 0
+
+-- its entry takes the value
+abbrev pub added_stored : ℕ → Change
+added_stored pid spot v e = if has_key pid 0 e then bytes_of v else e.bytes
+
+-- what the bytes of an entry become when those of these parameters that FACTORY_DEFAULTS sets back take the data that they start with
+abbrev pub set_back_in : List ParameterDef → Entry → List ℕ
+set_back_in ds e = option_map_or (λ d. d.start) (find (λ d. d.resets && (d.pid == e.pid)) ds) e.bytes
+
+-- FACTORY_DEFAULTS sets back those of the maker's own that say so. Section 10.5.6.
+abbrev pub added_set_back : Change
+added_set_back spot v e = set_back_in spot.profile.own e
+
+-- ---- PARAMETER_DESCRIPTION: section 10.4.2
+
+-- how many slots its data have; of a text, how many at most
+abbrev pub size_of : Shape → ℕ
+size_of shapes.Byte = 1
+size_of shapes.Word = 2
+size_of shapes.Long = 4
+size_of shapes.SignedByte = 1
+size_of shapes.SignedWord = 2
+size_of shapes.SignedLong = 4
+size_of shapes.Text = 32
+size_of (shapes.Bits n) = n
+size_of (shapes.Slots n) = n
+
+-- the type of its data. Table A-15.
+abbrev pub data_type_of : Shape → ℕ
+data_type_of shapes.Byte = 0x03
+data_type_of shapes.Word = 0x05
+data_type_of shapes.Long = 0x07
+data_type_of shapes.SignedByte = 0x04
+data_type_of shapes.SignedWord = 0x06
+data_type_of shapes.SignedLong = 0x08
+data_type_of shapes.Text = 0x02
+data_type_of (shapes.Bits n) = 0x01
+data_type_of (shapes.Slots n) = 0x00
+
+-- the commands that it has. Table A-16.
+abbrev pub class_of : Rights → ℕ
+class_of rights.Get = 0x01
+class_of rights.Set = 0x02
+class_of rights.Both = 0x03
+
+-- how many numbers the data can say, and one where they are no number
+abbrev pub span_of : Shape → ℕ
+span_of shapes.Byte = 0x100
+span_of shapes.Word = 0x10000
+span_of shapes.Long = 0x100000000
+span_of shapes.SignedByte = 0x100
+span_of shapes.SignedWord = 0x10000
+span_of shapes.SignedLong = 0x100000000
+span_of _ = 1
+
+-- a number of the data in four slots, with 00 before it: in two's complement where it is signed, and 0 where the data are no number
+abbrev pub four_slots : Shape → ℤ → List ℕ
+four_slots shape z = long_slots (cast_unsigned w64 z % span_of shape)
+
+-- the number that it starts with, and 0 where the data are no number
+abbrev pub first_number : ParameterDef → ℤ
+first_number d = option_map_or (λ v. unwrap_or (number_in d.shape v) (pos 0)) (value_of (form_of d.shape) d.start) (pos 0)
+
+-- the fields of the reply
+abbrev pub description_of : ParameterDef → List ℕ
+description_of d =
+    word_slots d.pid ++ (size_of d.shape ∷ data_type_of d.shape ∷ class_of d.rights ∷ 0 ∷ d.unit ∷ d.prefix ∷ [])
+    ++ four_slots d.shape d.low ++ four_slots d.shape d.high ++ four_slots d.shape (first_number d) ++ d.name
+
+-- whether a parameter has this PID
+abbrev pub is_pid_of : ℕ → ParameterDef → Bool
+is_pid_of pid d = d.pid == pid
+
+-- whether it has a PID that the standard leaves to makers
+abbrev pub has_makers_pid : ParameterDef → Bool
+has_makers_pid d = is_makers d.pid
+
+-- a parameter that the maker adds, with a PID that the standard leaves to makers
+abbrev pub a_makers_pid : Form → Range
+a_makers_pid form spot v = for_word (λ pid. is_makers pid && list_any (is_pid_of pid) spot.profile.own) v
+
+-- the description of a parameter that the maker adds
+abbrev pub described : Spot → Value → List ℕ
+described spot v = option_map_or description_of (find (is_pid_of (word_or_0 v)) spot.profile.own) []

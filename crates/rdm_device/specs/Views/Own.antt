@@ -1,0 +1,9 @@
+-- A list that most often has no elements.
+use Rattle.std.specs.Prelude.{ℕ, List, [], Option, Some, None}
+use Rattle.std.specs.declared.boxed.Box.{Box}
+use Rattle.arrayvec.specs.declared.array_vec.ArrayVec.{ArrayVec}
+
+-- the elements of the list that there may be
+abbrev pub listed : {X Z : Type 0} (n : ℕ) → Option (Box (ArrayVec X n (Unit {0})) Z) → List X
+listed n None = []
+listed n (Some list) = list.value.items

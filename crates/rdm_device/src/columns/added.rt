@@ -1,0 +1,278 @@
+//! What the parameters that a maker adds take and reply.
+
+mod description;
+mod resetting;
+
+ghost use Rattle.std.specs.Prelude.{◌≡◌, ◌↔◌, ◌<◌, ◌≤◌, ◌==◌, ◌&&◌, int_le, [], length, map, slice_set, slice_index_or, false, find};
+ghost use Rattle.std.specs.List.{list_any};
+ghost use Rattle.std.specs.Option.{option_copied};
+ghost use Rattle.rdm_device.specs.Columns.Forms.{sized, has_form, value_of};
+ghost use Rattle.rdm_device.specs.Columns.Added.{added_value, added_stored, is_pid_of, has_makers_pid, a_makers_pid};
+ghost use Rattle.rdm_device.specs.Columns.Forms.{word};
+ghost use Rattle.rdm_device.specs.Device.Map.{lookup, update};
+ghost use Rattle.rdm_device.specs.Device.OwnParameters.{form_of, number_in, is_within, is_makers, has_get, has_set};
+ghost use Rattle.rdm_device.specs.Device.Spot.{Spot};
+ghost use Rattle.rdm_device.specs.Device.Values.{bytes_of};
+ghost use Rattle.rdm_device.specs.Views.State.{added_entries, own_entries, kept_entry, stored_in, no_entry};
+
+pub use crate::columns::added::description::{data_type_of, described, size_of};
+pub use crate::columns::added::resetting::{are_at_start, set_added_back};
+use crate::columns::{forms, writes};
+use crate::device::Place;
+use crate::device::state::{Kept, RootValues};
+use crate::profile::own_checks::is_makers;
+use crate::value::argument::{Argument, ValueRef};
+use crate::{ParameterDef, Rights, Shape};
+use rdm_frame::standard::MOST_TEXT;
+use rdm_frame::{Body, Text};
+
+/// So many slots, of at most 32.
+pub fn sized(size: u8, data: &[u8]) -> Option<Argument<'_>>
+    ensures { result ≡ value_of (sized size) data.now }
+{
+    if data.len() != size as usize || data.len() > MOST_TEXT {
+        return None;
+    }
+    Some(Argument {
+        value: ValueRef::Label(data),
+    })
+}
+
+/// The value that data say in a shape, if they have its length.
+pub fn read_shape(shape: Shape, data: &[u8]) -> Option<Argument<'_>>
+    ensures { result ≡ value_of (form_of shape) data.now }
+{
+    match shape {
+        Shape::Byte | Shape::SignedByte => forms::byte(data),
+        Shape::Word | Shape::SignedWord => forms::word(data),
+        Shape::Long | Shape::SignedLong => forms::long(data),
+        Shape::Text => forms::label(data),
+        Shape::Bits(size) => sized(size, data),
+        Shape::Slots(size) => sized(size, data),
+    }
+}
+
+/// Whether a value is in the range of a parameter: a number from its least to its greatest, or any text or slots of its form.
+pub fn is_within(def: &ParameterDef, value: &Argument<'_>) -> bool
+    ensures { result ≡ is_within def.now value.now }
+{
+    match number_in(def.shape, value) {
+        Some(number) => lies(def, number),
+        None => has_form(def.shape, value),
+    }
+}
+
+/// The number that a value says in a shape, in two's complement where that is signed, or `None` where the data are no number.
+pub fn number_in(shape: Shape, value: &Argument<'_>) -> Option<i64>
+    ensures { result ≡ number_in shape value.now }
+{
+    match shape {
+        Shape::Byte => Some(value.byte()? as i64),
+        Shape::Word => Some(value.word()? as i64),
+        Shape::Long => Some(value.long()? as i64),
+        Shape::SignedByte => Some(value.byte()?.cast_signed() as i64),
+        Shape::SignedWord => Some(value.word()?.cast_signed() as i64),
+        Shape::SignedLong => Some(value.long()?.cast_signed() as i64),
+        Shape::Text | Shape::Bits(_) | Shape::Slots(_) => None,
+    }
+}
+
+/// Whether a value has the form of a shape.
+fn has_form(shape: Shape, value: &Argument<'_>) -> bool
+    ensures { result ≡ has_form (form_of shape) value.now }
+{
+    match shape {
+        Shape::Byte | Shape::SignedByte => value.byte().is_some(),
+        Shape::Word | Shape::SignedWord => value.word().is_some(),
+        Shape::Long | Shape::SignedLong => value.long().is_some(),
+        Shape::Text => value.is_label(),
+        Shape::Bits(size) => has_size(value, size),
+        Shape::Slots(size) => has_size(value, size),
+    }
+}
+
+/// Whether a number lies from the least to the greatest of a parameter.
+fn lies(def: &ParameterDef, number: i64) -> bool
+    ensures { result ≡ (int_le def.now.low number && int_le number def.now.high) }
+{
+    def.low <= number && number <= def.high
+}
+
+/// Whether a value is so many slots.
+fn has_size(value: &Argument<'_>, size: u8) -> bool
+    ensures { result ≡ has_form (sized size) value.now }
+{
+    match value.label() {
+        Some(bytes) => bytes.len() == size as usize,
+        None => false,
+    }
+}
+
+/// Whether a parameter has a GET.
+pub fn has_get(rights: Rights) -> bool
+    ensures { result ≡ has_get rights }
+{
+    match rights {
+        Rights::Set => false,
+        Rights::Get | Rights::Both => true,
+    }
+}
+
+/// Whether a parameter has a SET.
+pub fn has_set(rights: Rights) -> bool
+    ensures { result ≡ has_set rights }
+{
+    match rights {
+        Rights::Get => false,
+        Rights::Set | Rights::Both => true,
+    }
+}
+
+/// The parameter with this PID among those that the maker adds.
+pub fn parameter_of(defs: &[ParameterDef], pid: u16) -> Option<&ParameterDef>
+    ensures { option_copied result ≡ find (is_pid_of pid) defs.now }
+{
+    defs.iter().find(|def| def.pid == pid)
+}
+
+/// Whether the maker adds a parameter with a PID that the standard leaves to makers.
+pub fn has_makers(defs: &[ParameterDef]) -> bool
+    ensures { result ≡ list_any has_makers_pid defs.now }
+{
+    defs.iter().any(|def| is_makers(def.pid))
+}
+
+/// A parameter that the maker adds, with a PID that the standard leaves to makers.
+pub fn a_makers_pid(place: &Place<'_>, value: &Argument<'_>) -> bool
+    ensures { result ≡ a_makers_pid word place.now value.now }
+{
+    match value.word() {
+        Some(pid) => is_makers(pid) && has_pid(place.profile.own.as_slice(), pid),
+        None => false,
+    }
+}
+
+/// Whether one of the parameters has this PID.
+fn has_pid(defs: &[ParameterDef], pid: u16) -> bool
+    ensures { result ≡ list_any (is_pid_of pid) defs.now }
+{
+    defs.iter().any(|def| def.pid == pid)
+}
+
+/// Writes what is kept of a parameter that the maker adds into an empty list.
+pub fn write_added(place: &Place<'_>, pid: u16, body: &mut Body)
+    requires { body.old ≡ [] }
+    ensures { body.new ≡ added_value pid place.now }
+{
+    if let Some(own) = place.own {
+        write_kept(own.added.as_slice(), pid, body);
+    }
+}
+
+#[tactic(auto, using(crate::proofs::Added::kept_is))]
+fn write_kept(values: &[Kept], pid: u16, body: &mut Body)
+    requires { body.old ≡ [] }
+    ensures { body.new ≡ lookup (added_entries values.now) pid 0 }
+{
+    if let Some(kept) = kept_of(values, pid) {
+        write_bytes(kept.bytes.as_slice(), body);
+    }
+}
+
+/// Writes these bytes into an empty list.
+// A number is stored at once; a copy of any length is a call.
+fn write_bytes(bytes: &[u8], body: &mut Body)
+    requires few { length bytes.now ≤ 32 }
+    requires empty { body.old ≡ [] }
+    ensures { body.new ≡ bytes.now }
+{
+    match bytes {
+        [a] => body.append(&[*a]),
+        [a, b] => body.append(&[*a, *b]),
+        [a, b, c, d] => body.append(&[*a, *b, *c, *d]),
+        _ => body.append(bytes),
+    }
+}
+
+fn kept_of(values: &[Kept], pid: u16) -> Option<&Kept>
+    ensures { option_copied result ≡ find (λ k. k.pid == pid) values.now }
+{
+    values.iter().find(|kept| kept.pid == pid)
+}
+
+/// Keeps the value of a parameter that the maker adds, and says whether it is another one.
+#[tactic(auto, unfolding(crate::specs::Views::State::own_entries))]
+pub fn store_added(pid: u16, value: &Argument<'_>, own: &mut RootValues) -> bool
+    ensures own { own_entries own.new ≡ own_entries own.old }
+    ensures after { (spot : Spot) → added_entries own.new.added.items ≡ update (added_stored pid spot value.now) (added_entries own.old.added.items) }
+    ensures same { (result ≡ false) ↔ (added_entries own.new.added.items ≡ added_entries own.old.added.items) }
+{
+    let bytes = bytes_of(value);
+    store_in(&mut own.added, pid, bytes.as_slice())
+}
+
+/// Keeps these bytes as the value of a parameter, and says whether it is another one.
+fn store_in(values: &mut Vec<Kept>, pid: u16, bytes: &[u8]) -> bool
+    requires { length bytes.now ≤ 32 }
+    ensures after { added_entries values.new.items ≡ map (stored_in pid bytes.now) (added_entries values.old.items) }
+    ensures same { (result ≡ false) ↔ (added_entries values.new.items ≡ added_entries values.old.items) }
+{
+    store_among(values.as_mut_slice(), pid, bytes)
+}
+
+/// The bytes that stand for the value of a command.
+fn bytes_of(value: &Argument<'_>) -> Text
+    ensures { result ≡ bytes_of value.now }
+{
+    let mut text = Text::new();
+    match &value.value {
+        ValueRef::Nothing => {}
+        ValueRef::Byte(number) => text.append(&[*number]),
+        ValueRef::Word(number) => text.append(&number.to_be_bytes()),
+        ValueRef::Long(number) => text.append(&number.to_be_bytes()),
+        ValueRef::Preset(mode, level) => {
+            text.append(&mode.to_be_bytes());
+            text.append(&[*level]);
+        }
+        ValueRef::Label(bytes) => text.append(bytes),
+    }
+    text
+}
+
+/// Keeps these bytes as each value of a parameter, and says whether one is another.
+fn store_among(values: &mut [Kept], pid: u16, bytes: &[u8]) -> bool
+    requires { length bytes.now ≤ 32 }
+    ensures after { added_entries values.new ≡ map (stored_in pid bytes.now) (added_entries values.old) }
+    ensures same { (result ≡ false) ↔ (added_entries values.new ≡ added_entries values.old) }
+{
+    let mut changed = false;
+    for i in 0..values.len() {
+        let here = store_at(values, i, pid, bytes);
+        changed = changed || here;
+    }
+    changed
+}
+
+/// Keeps these bytes at one place, if the parameter is kept there, and says whether they are others.
+fn store_at(values: &mut [Kept], index: usize, pid: u16, bytes: &[u8]) -> bool
+    requires place { index < length values.old }
+    requires few { length bytes.now ≤ 32 }
+    ensures after { added_entries values.new
+        ≡ slice_set (added_entries values.old) index (stored_in pid bytes.now (slice_index_or (added_entries values.old) index no_entry)) }
+    ensures same { (result ≡ false) ↔ (added_entries values.new ≡ added_entries values.old) }
+{
+    store_one(&mut values[index], pid, bytes)
+}
+
+/// Keeps these bytes, if it is this parameter's value, and says whether they are others.
+fn store_one(kept: &mut Kept, pid: u16, bytes: &[u8]) -> bool
+    requires { length bytes.now ≤ 32 }
+    ensures after { kept_entry kept.new ≡ stored_in pid bytes.now (kept_entry kept.old) }
+    ensures same { (result ≡ false) ↔ (kept_entry kept.new ≡ kept_entry kept.old) }
+{
+    if kept.pid == pid {
+        writes::text(&mut kept.bytes, bytes)
+    } else {
+        false
+    }
+}

@@ -1,0 +1,152 @@
+//! The parameters that a fixture has beside those of the standard.
+
+ghost use Rattle.std.specs.Prelude.{◌≡◌, ◌<◌, ◌≤◌, [], ◌∷◌, ◌++◌, length, IfOk, OnErr, OnOk};
+
+use arrayvec::ArrayVec;
+use rdm_frame::Text;
+use std::alloc::{AllocError, Global};
+use std::marker::Model;
+
+/// Which commands a parameter has (E1.20 section 10.4.2, command class).
+#[derive(Clone, Copy, Debug, PartialEq, Eq)]
+pub enum Rights {
+    /// GET alone.
+    Get,
+    /// SET alone.
+    Set,
+    /// GET and SET.
+    Both,
+}
+
+/// Which data a parameter has (section 10.4.2 and table A-15).
+#[derive(Clone, Copy, Debug, PartialEq, Eq)]
+pub enum Shape {
+    /// A number of 8 bits.
+    Byte,
+    /// A number of 16 bits.
+    Word,
+    /// A number of 32 bits.
+    Long,
+    /// A signed number of 8 bits.
+    SignedByte,
+    /// A signed number of 16 bits.
+    SignedWord,
+    /// A signed number of 32 bits.
+    SignedLong,
+    /// A text of at most 32 bytes.
+    Text,
+    /// A field of bits of so many slots, of which there are at most 32.
+    Bits(u8),
+    /// So many slots, of which there are at most 32, of a form that the maker tells elsewhere.
+    Slots(u8),
+}
+
+/// A parameter that the maker of the fixture adds, at the root device.
+#[derive(Debug, Drop, PartialEq, Eq)]
+pub struct ParameterDef {
+    /// Its PID: 0x8000 to 0xFFDF, or one of the standards' whose data can be described so.
+    pub pid: u16,
+    /// Which commands it has.
+    pub rights: Rights,
+    /// Which data it has.
+    pub shape: Shape,
+    /// The least value, where the data are a number.
+    pub low: i64,
+    /// The greatest value, where the data are a number.
+    pub high: i64,
+    /// The data that it starts with.
+    pub start: Text,
+    /// The unit of its values (table A-13).
+    pub unit: u8,
+    /// The prefix of the unit (table A-14).
+    pub prefix: u8,
+    /// What it is called (section 10.4.2).
+    pub name: Text,
+    /// Whether FACTORY_DEFAULTS sets it back (section 10.5.6).
+    pub resets: bool,
+}
+
+/// The parameters that the maker of a fixture adds: at most 16. A contract sees the list of them.
+// Behind a pointer, so that a profile has no room for what few fixtures have.
+#[derive(Debug, Drop)]
+pub struct OwnParameters {
+    list: Option<Box<ArrayVec<ParameterDef, 16>>>,
+}
+
+impl Model for OwnParameters {
+    ghost use Rattle.std.specs.Prelude.{List};
+    ghost use Rattle.rdm_device.specs.declared.profile.own.ParameterDef.{ParameterDef};
+    ghost use Rattle.rdm_device.specs.Views.Own.{listed};
+
+    ghost Value = { List ParameterDef };
+
+    ghost view = { λ o. listed 16 o.list };
+}
+
+impl OwnParameters {
+    /// No parameters.
+    pub fn none() -> Self
+        ensures { result ≡ [] }
+    {
+        OwnParameters { list: None }
+    }
+
+    /// These parameters. They take memory unless there are none.
+    pub fn of(alloc: Global, list: ArrayVec<ParameterDef, 16>) -> Result<Self, AllocError>
+        ensures { IfOk result (λ own. own ≡ list.items) }
+    {
+        if list.is_empty() {
+            return Ok(OwnParameters::none());
+        }
+        let list = Some(Box::new(alloc, list)?);
+        Ok(OwnParameters { list })
+    }
+
+    /// The parameters.
+    pub fn as_slice(&self) -> &[ParameterDef]
+        ensures value { result.now ≡ self.now }
+        ensures few { length result.now ≤ 16 }
+    {
+        match &self.list {
+            Some(list) => list.as_slice(),
+            None => &[],
+        }
+    }
+
+    /// Adds a parameter, after those that there are. There must be room.
+    pub fn push(&mut self, alloc: Global, def: ParameterDef) -> Result<(), AllocError>
+        requires { length self.old < 16 }
+        ensures pushed { OnOk result (self.new ≡ self.old ++ def ∷ []) }
+        ensures same { OnErr result (self.new ≡ self.old) }
+    {
+        match &mut self.list {
+            Some(list) => list.push(def),
+            None => {
+                let mut list = ArrayVec::new();
+                list.push(def);
+                self.list = Some(Box::new(alloc, list)?);
+            }
+        }
+        Ok(())
+    }
+}
+
+impl PartialEq for OwnParameters {
+    ghost use Rattle.std.specs.Cmp.Lexicographic.{lists_per, pointwise};
+    ghost use Rattle.rdm_device.specs.contracts.profile.own.ParameterDefPartialEq.TheImpl.Laws as params;
+
+    ghost eq = { pointwise ⟦<ParameterDef as PartialEq>⟧.eq };
+
+    ghost laws = { lists_per params.laws-law };
+
+    fn eq(&self, other: &Self) -> bool {
+        self.as_slice() == other.as_slice()
+    }
+}
+
+impl Eq for OwnParameters {
+    ghost use Rattle.std.specs.Cmp.Lexicographic.{lists_equiv};
+    ghost use Rattle.rdm_device.specs.contracts.profile.own.ParameterDefEq.TheImpl.Laws as params;
+
+    ghost laws = { lists_equiv params.laws-law };
+}

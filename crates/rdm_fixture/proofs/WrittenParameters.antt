@@ -1,0 +1,131 @@
+-- What is written of the parameters that the maker adds, and of those that the fixture lacks.
+use Rattle.std.proofs.Common.{◌≡◌, ℕ, ◌+◌, ◌<◌, pos, int_le, Bool, true, false, ◌&&◌, ◌||◌, ◌==◌, ◌⊎◌, List, [], ◌∷◌, ◌++◌, length, get_or, take, Option, Some, None, option_and_then, option_map, is_some, IsTrue, inl, inr, refl, sym, ap, subst, ◌∙◌, arith, codes, if◌then◌else◌}
+use Rattle.std.specs.List.{list_any, list_all}
+use Rattle.std.proofs.lemmas.Bool.{and_parts, eqb-true}
+use Rattle.std.proofs.lemmas.List.{take_more}
+use Rattle.rdm_device.specs.declared.profile.own.ParameterDef.{ParameterDef}
+use Rattle.rdm_device.specs.Device.LeftOut.{optional_pids, is_optional}
+use Rattle.rdm_device.specs.Device.OwnParameters.{is_addable, has_set, can_start}
+use Rattle.rdm_params.specs.declared.kind.Kind.{Kind}
+use Rattle.rdm_params.specs.Table.Kinds.{pid_of, name_of, kind_named, kind_with}
+use Rattle.rdm_params.proofs.KindNames.{named_is}
+use Rattle.toml.specs.Data.{Data, integer, string, boolean, table, get_member}
+use Rattle.toml.specs.View.{view, items_view}
+use Rattle.toml.specs.declared.value.Value.{Value}
+use Rattle.rdm_fixture.specs.Describable.{are_printable, can_stand, limits_stand, is_sayable}
+use Rattle.rdm_fixture.specs.Format.{parameter_named}
+use Rattle.rdm_fixture.specs.Keys.{must, EachIs}
+use Rattle.rdm_fixture.specs.Parameters.{IsParameter, parameter_keys, own_pid, command_class, data_type, slots_of, shape_in, least_of, greatest_of, limit, integer_from, start, flag}
+use Rattle.rdm_fixture.specs.Values.{number}
+use Rattle.rdm_fixture.specs.Writing.{text_field, rights_name, shape_name, IsPlain}
+use Rattle.rdm_fixture.proofs.Fields.{Field, members_from, get_from, only_from, plain_from}
+use Rattle.rdm_fixture.proofs.ListEntries.{EachIs-last}
+use Rattle.rdm_fixture.proofs.NumberSlots.{le_through, integer_again}
+use Rattle.rdm_fixture.proofs.Said.{must_say, may_say, may_text, number_plain, text_plain}
+use Rattle.rdm_fixture.proofs.Starts.{type_again, rights_again, start_sized}
+use Rattle.rdm_fixture.proofs.WrittenEntries.{says_byte, says_word, says_text}
+
+-- ---- a parameter of the maker's own
+
+abbrev pub parameter_fields : ParameterDef → Data → List Field
+parameter_fields d given =
+    (codes "description", text_field d.name) ∷ (codes "factory_defaults", Some (boolean d.resets))
+    ∷ (codes "prefix", Some (integer (pos d.prefix))) ∷ (codes "unit", Some (integer (pos d.unit)))
+    ∷ (codes "default_value", Some given) ∷ (codes "maximum_valid_value", Some (integer d.high))
+    ∷ (codes "minimum_valid_value", Some (integer d.low)) ∷ (codes "data_type", Some (string (shape_name d.shape)))
+    ∷ (codes "command_class", Some (string (rights_name d.rights))) ∷ (codes "pid", Some (integer (pos d.pid))) ∷ []
+
+pid_again : (n : ℕ) → says_word n → is_addable n ≡ true → own_pid (integer (pos n)) ≡ Some n
+pid_again n says free =
+    ap (option_and_then (λ pid. if is_addable pid then Some pid else None)) says ∙ ap (λ (b : Bool). if b then Some n else None) free
+
+pub parameter_says : (d : ParameterDef) (given : Data) → IsTrue (is_addable d.pid) → IsTrue (can_start d) → IsTrue (is_sayable d) → says_word d.pid → says_byte d.unit → says_byte d.prefix → says_text d.name
+    → start d.shape d.low d.high given ≡ Some d.start → IsParameter (members_from (parameter_fields d given)) d
+parameter_says d given free good said pid unit prefix name starts =
+    let fs = parameter_fields d given in
+    let (limits, rest) = and_parts (limits_stand d) (can_stand d.shape d.start && are_printable d.name) said in
+    let (least, more) = and_parts (int_le (least_of d.shape) d.low) (int_le d.low d.high && int_le d.high (greatest_of d.shape)) limits in
+    let (order, greatest) = and_parts (int_le d.low d.high) (int_le d.high (greatest_of d.shape)) more in
+    let at_start : get_member (codes "default_value") (members_from fs) ≡ Some given = get_from (codes "default_value") fs in
+    let at_type : get_member (codes "data_type") (members_from fs) ≡ Some (string (shape_name d.shape)) = get_from (codes "data_type") fs in
+    let typed : shape_in (members_from fs) ≡ Some d.shape =
+    ap (λ (o : Option Data). must (data_type (slots_of o)) (get_member (codes "data_type") (members_from fs))) at_start
+    ∙ ap (must (data_type (slots_of (Some given)))) at_type ∙ type_again (slots_of (Some given)) d.shape (start_sized d.shape d.low d.high given d.start starts good) in
+    record {
+      keys = only_from parameter_keys fs refl;
+      pid = must_say (codes "pid") fs own_pid _ _ refl (pid_again d.pid pid free);
+      rights = must_say (codes "command_class") fs command_class _ _ refl (rights_again d.rights);
+      shape = typed;
+      low = may_say (codes "minimum_valid_value") fs (least_of d.shape) (limit d.shape) _ _ refl
+          (integer_again (least_of d.shape) (greatest_of d.shape) d.low least (le_through d.low d.high (greatest_of d.shape) order greatest));
+      high = may_say (codes "maximum_valid_value") fs (greatest_of d.shape) (integer_from d.low (greatest_of d.shape)) _ _ refl
+          (integer_again d.low (greatest_of d.shape) d.high order greatest);
+      start = must_say (codes "default_value") fs (start d.shape d.low d.high) _ _ refl starts;
+      unit = may_say (codes "unit") fs 0 (number 0 0xFF) _ _ refl unit;
+      prefix = may_say (codes "prefix") fs 0 (number 0 0xFF) _ _ refl prefix;
+      resets = may_say (codes "factory_defaults") fs (has_set d.rights) flag _ _ refl refl;
+      name = may_text (codes "description") fs d.name refl name;
+    }
+
+-- the parts of what a file asks of it
+pub name_stands : (d : ParameterDef) → IsTrue (is_sayable d) → IsTrue (are_printable d.name)
+name_stands d said =
+    let (limits, rest) = and_parts (limits_stand d) (can_stand d.shape d.start && are_printable d.name) said in
+    (and_parts (can_stand d.shape d.start) (are_printable d.name) rest).1
+
+pub start_stands : (d : ParameterDef) → IsTrue (is_sayable d) → IsTrue (can_stand d.shape d.start)
+start_stands d said =
+    let (limits, rest) = and_parts (limits_stand d) (can_stand d.shape d.start && are_printable d.name) said in
+    (and_parts (can_stand d.shape d.start) (are_printable d.name) rest).0
+
+string_plain : (s : List ℕ) → IsPlain 0 (string s)
+string_plain s = record { shallow = omega arith; dates = refl }
+
+pub string_is_plain : (d : Data) (s : List ℕ) → d ≡ string s → IsPlain 0 d
+string_is_plain d s e = subst (IsPlain 0) (sym e) (string_plain s)
+
+flag_plain : (b : Bool) → IsPlain 0 (boolean b)
+flag_plain b = record { shallow = omega arith; dates = refl }
+
+pub parameter_plain : (d : ParameterDef) (given : Data) → IsPlain 0 given → IsPlain 1 (table (members_from (parameter_fields d given)))
+parameter_plain d given is =
+    plain_from 0 (parameter_fields d given)
+    (text_plain 0 (codes "description") d.name _
+    (flag_plain _, (number_plain 0 _, (number_plain 0 _, (is, (number_plain 0 _, (number_plain 0 _, (string_plain _, (string_plain _, (number_plain 0 _, tt))))))))))
+
+-- ---- parameters that the fixture lacks
+
+either : (a b : Bool) → (a || b) ≡ true → (a ≡ true) ⊎ (b ≡ true)
+either true b h = inl refl
+either false b h = inr h
+
+any_known : (pid : ℕ) (pids : List ℕ) → list_any (λ p. p == pid) pids ≡ true → list_all (λ p. is_some (kind_with p)) pids ≡ true → is_some (kind_with pid) ≡ true
+any_known pid [] h k = absurd (cc)
+any_known pid (p ∷ pids) h k =
+    let (here, rest) = and_parts (is_some (kind_with p)) (list_all (λ q. is_some (kind_with q)) pids) k in
+    elim (either (p == pid) (list_any (λ q. q == pid) pids) h) [
+      | inl same ↦ subst (λ (q : ℕ). is_some (kind_with q) ≡ true) (eqb-true p pid same) here
+      | inr later ↦ any_known pid pids later rest
+    ]
+
+all_known : list_all (λ p. is_some (kind_with p)) optional_pids ≡ true
+unfolding kind_with
+all_known = refl
+
+not_known : (o : Option Kind) → is_some o ≡ true → o ≡ None → ⊥
+not_known None h e = absurd (cc)
+not_known (Some kind) h e = cc
+
+-- each of them is in the table
+pub optional_known : (pid : ℕ) → IsTrue (is_optional pid) → kind_with pid ≡ None → ⊥
+optional_known pid h none = not_known (kind_with pid) (any_known pid optional_pids h all_known) none
+
+pub named_again : (kind : Kind) (pid : ℕ) (name : List ℕ) → pid_of kind ≡ pid → name ≡ name_of kind → option_map pid_of (kind_named name) ≡ Some pid
+named_again kind pid name is e =
+    ap (λ (n : List ℕ). option_map pid_of (kind_named n)) e ∙ ap (option_map pid_of) ((named_is (name_of kind) kind).1 refl) ∙ ap (λ (p : ℕ). Some p) is
+
+pub name_more : (vs : List Value) (v : Value) (xs : List ℕ) (i : ℕ) → i < length xs
+    → EachIs (λ d pid. parameter_named d ≡ Some pid) (items_view vs) (take i xs) → parameter_named (view v) ≡ Some (get_or xs i 0)
+    → EachIs (λ d pid. parameter_named d ≡ Some pid) (items_view (vs ++ v ∷ [])) (take (i + 1) xs)
+name_more vs v xs i less before is =
+    rw (take_more xs i 0 less) (EachIs-last (λ d pid. parameter_named d ≡ Some pid) vs (take i xs) v (get_or xs i 0) before is)

@@ -1,0 +1,142 @@
+-- Which table is a parameter that the maker adds. A key is named as the field of PARAMETER_DESCRIPTION that it sets, in small
+-- letters; commands and types have the names of tables A-16 and A-15. E1.20 section 10.4.2.
+use Rattle.std.specs.Prelude.{◌≡◌, ℕ, ◌/◌, ◌%◌, min, ℤ, pos, neg_ℤ, Bool, ◌&&◌, if◌then◌else◌, nat_le, int_le, IsTrue, List, [], ◌∷◌, length, Option, Some, None, option_and_then, option_map, codes}
+use Rattle.std.specs.Int.{w64, cast_unsigned}
+use Rattle.std.specs.Str.{bytes_eq}
+use Rattle.toml.specs.Data.{Data, string, integer, boolean, Members, get_member}
+use Rattle.rdm_frame.specs.DigitReading.{bytes_in}
+use Rattle.rdm_device.specs.declared.profile.own.ParameterDef.{ParameterDef}
+use Rattle.rdm_device.specs.declared.profile.own.Rights.{Rights}
+use Rattle.rdm_device.specs.declared.profile.own.Rights.TheVariants as rights
+use Rattle.rdm_device.specs.declared.profile.own.Shape.{Shape}
+use Rattle.rdm_device.specs.declared.profile.own.Shape.TheVariants as shapes
+use Rattle.rdm_device.specs.Device.OwnParameters.{is_addable, has_set}
+use Rattle.rdm_device.specs.Device.Values.{word_slots, long_slots}
+use Rattle.rdm_fixture.specs.Keys.{must, may, Must, May, has_only}
+use Rattle.rdm_fixture.specs.Values.{number, text}
+
+-- ---- its PID and its commands
+
+-- a PID that a maker can add
+abbrev pub own_pid : Data → Option ℕ
+own_pid d = option_and_then (λ pid. if is_addable pid then Some pid else None) (number 0 0xFFFF d)
+
+-- the commands of this name. Table A-16.
+abbrev pub rights_named : List ℕ → Option Rights
+rights_named s =
+    if bytes_eq s (codes "get") then Some rights.Get
+    else (if bytes_eq s (codes "set") then Some rights.Set
+    else (if bytes_eq s (codes "get_set") then Some rights.Both else None))
+
+abbrev pub command_class : Data → Option Rights
+command_class (string s) = rights_named s
+command_class _ = None
+
+-- ---- its data
+
+-- the data of the type with this name, and with so many slots if the type leaves that open. Table A-15.
+abbrev pub shape_named : ℕ → List ℕ → Option Shape
+shape_named slots s =
+    if bytes_eq s (codes "unsigned_byte") then Some shapes.Byte
+    else (if bytes_eq s (codes "signed_byte") then Some shapes.SignedByte
+    else (if bytes_eq s (codes "unsigned_word") then Some shapes.Word
+    else (if bytes_eq s (codes "signed_word") then Some shapes.SignedWord
+    else (if bytes_eq s (codes "unsigned_dword") then Some shapes.Long
+    else (if bytes_eq s (codes "signed_dword") then Some shapes.SignedLong
+    else (if bytes_eq s (codes "ascii") then Some shapes.Text
+    else (if bytes_eq s (codes "bit_field") then Some (shapes.Bits slots)
+    else (if bytes_eq s (codes "not_defined") then Some (shapes.Slots slots) else None))))))))
+
+abbrev pub data_type : ℕ → Data → Option Shape
+data_type slots (string s) = shape_named slots s
+data_type slots _ = None
+
+-- as many slots as a default value has digits for; of more than 255 it is none anyway
+abbrev pub slots_of : Option Data → ℕ
+slots_of (Some (string s)) = min (length s / 2) 255
+slots_of _ = 0
+
+-- which data it has: bits and data of no type have as many slots as they start with
+abbrev pub shape_in : Members → Option Shape
+shape_in t = must (data_type (slots_of (get_member (codes "default_value") t))) (get_member (codes "data_type") t)
+
+-- the least and the greatest number that data can say; where they are no number, nothing but 0 stands for their limits
+abbrev pub least_of : Shape → ℤ
+least_of shapes.SignedByte = neg_ℤ (pos 128)
+least_of shapes.SignedWord = neg_ℤ (pos 32768)
+least_of shapes.SignedLong = neg_ℤ (pos 2147483648)
+least_of _ = pos 0
+
+abbrev pub greatest_of : Shape → ℤ
+greatest_of shapes.Byte = pos 255
+greatest_of shapes.SignedByte = pos 127
+greatest_of shapes.Word = pos 65535
+greatest_of shapes.SignedWord = pos 32767
+greatest_of shapes.Long = pos 4294967295
+greatest_of shapes.SignedLong = pos 2147483647
+greatest_of _ = pos 0
+
+-- the number, if it is an integer from low to high
+abbrev pub integer_from : ℤ → ℤ → Data → Option ℤ
+integer_from low high (integer z) = if int_le low z && int_le z high then Some z else None
+integer_from low high _ = None
+
+-- a limit of its numbers
+abbrev pub limit : Shape → Data → Option ℤ
+limit shape d = integer_from (least_of shape) (greatest_of shape) d
+
+-- ---- what it starts with
+
+-- a number in the slots of data, in two's complement if it is signed
+abbrev pub number_slots : Shape → ℤ → List ℕ
+number_slots shapes.Byte z = cast_unsigned w64 z % 0x100 ∷ []
+number_slots shapes.SignedByte z = cast_unsigned w64 z % 0x100 ∷ []
+number_slots shapes.Word z = word_slots (cast_unsigned w64 z % 0x10000)
+number_slots shapes.SignedWord z = word_slots (cast_unsigned w64 z % 0x10000)
+number_slots shapes.Long z = long_slots (cast_unsigned w64 z % 0x100000000)
+number_slots shapes.SignedLong z = long_slots (cast_unsigned w64 z % 0x100000000)
+number_slots _ z = []
+
+-- the slots that a text has two hexadecimal digits for: at most 32
+abbrev pub spelled : Data → Option (List ℕ)
+spelled (string s) = if nat_le (length s) 64 then bytes_in s else None
+spelled _ = None
+
+-- a number from the least to the greatest, a text, or slots
+abbrev pub start : Shape → ℤ → ℤ → Data → Option (List ℕ)
+start shapes.Text low high d = text d
+start (shapes.Bits n) low high d = spelled d
+start (shapes.Slots n) low high d = spelled d
+start shape low high d = option_map (number_slots shape) (integer_from low high d)
+
+-- ---- the whole
+
+abbrev pub flag : Data → Option Bool
+flag (boolean b) = Some b
+flag _ = None
+
+abbrev pub parameter_keys : List (List ℕ)
+parameter_keys =
+    codes "pid" ∷ codes "command_class" ∷ codes "data_type" ∷ codes "minimum_valid_value" ∷ codes "maximum_valid_value"
+    ∷ codes "default_value" ∷ codes "unit" ∷ codes "prefix" ∷ codes "factory_defaults" ∷ codes "description" ∷ []
+
+-- what these keys say: the least value, and the greatest one from there on
+abbrev pub low_in : Shape → Members → Option ℤ
+low_in shape t = may (least_of shape) (limit shape) (get_member (codes "minimum_valid_value") t)
+
+abbrev pub high_in : Shape → ℤ → Members → Option ℤ
+high_in shape low t = may (greatest_of shape) (integer_from low (greatest_of shape)) (get_member (codes "maximum_valid_value") t)
+
+-- Where nothing is said of it, FACTORY_DEFAULTS sets back what has a SET. Section 10.5.6.
+pub record IsParameter (t : Members) (d : ParameterDef) : Type 0 where
+  pub keys : IsTrue (has_only parameter_keys t)
+  pub pid : Must t (codes "pid") own_pid d.pid
+  pub rights : Must t (codes "command_class") command_class d.rights
+  pub shape : shape_in t ≡ Some d.shape
+  pub low : low_in d.shape t ≡ Some d.low
+  pub high : high_in d.shape d.low t ≡ Some d.high
+  pub start : Must t (codes "default_value") (start d.shape d.low d.high) d.start
+  pub unit : May t (codes "unit") 0 (number 0 0xFF) d.unit
+  pub prefix : May t (codes "prefix") 0 (number 0 0xFF) d.prefix
+  pub resets : May t (codes "factory_defaults") (has_set d.rights) flag d.resets
+  pub name : May t (codes "description") [] text d.name

@@ -1,0 +1,109 @@
+//! Which parameters the maker adds, and which of the standard's the fixture lacks.
+
+ghost use Rattle.std.specs.Prelude.{◌≡◌, ◌<◌, ◌≤◌, ◌↔◌, Some, None, IfErr, IfSome, AllPairs, length, [], ◌∷◌, codes};
+ghost use Rattle.rdm_device.specs.Device.Profiles.{MayBeLeftOut};
+ghost use Rattle.rdm_fixture.specs.Faults.{fault, told};
+ghost use Rattle.rdm_fixture.specs.FirstWrong as parts;
+ghost use Rattle.rdm_fixture.specs.Format as says;
+ghost use Rattle.rdm_fixture.specs.Keys.{Reads, OfTable, EachIs, Lists};
+ghost use Rattle.rdm_fixture.specs.Parameters.{IsParameter};
+ghost use Rattle.rdm_fixture.specs.Wrong.{FirstWrong, entries};
+ghost use Rattle.rdm_fixture.specs.declared.refusal.Wanted.TheVariants as wanted;
+ghost use Rattle.toml.specs.Data.{get_member};
+ghost use Rattle.toml.specs.View.{view, array_view, table_view};
+
+use crate::keys::find;
+use crate::lists::list;
+use crate::refusal::{Refusal, Wanted};
+use arrayvec::ArrayVec;
+use rdm_device::{ParameterDef, are_optional, leave_no_need};
+use rdm_params::Kind;
+use toml::value::Array;
+use toml::{Table, Value};
+
+/// The parameters of the maker's own, in the order of their PIDs.
+pub(super) fn own_parameters(table: &Table) -> Result<ArrayVec<ParameterDef, 16>, Refusal>
+    ensures read { Reads (λ t xs. Lists t (codes "parameter") (OfTable IsParameter) 0 16 xs.items
+        × AllPairs (λ a b. a.pid < b.pid) xs.items) (table_view table.now) result }
+    ensures wrong { IfErr result (λ e. FirstWrong (entries (codes "parameter") IsParameter (FirstWrong parts.parameter_parts) 0 16
+        ∷ parts.ascending ∷ []) (table_view table.now) (told e)) }
+{
+    let defs = list(table, "parameter", 0, 0)?;
+    match first_below(defs.as_slice()) {
+        None => Ok(defs),
+        Some(below) => Err(Refusal::at("pid", Wanted::Ascending).in_entry("parameter", below + 1)),
+    }
+}
+
+/// The first parameter whose PID isn't above that of each earlier one, if there is one.
+fn first_below(defs: &[ParameterDef]) -> Option<usize>
+    ensures none { (result ≡ None) ↔ AllPairs (λ a b. a.pid < b.pid) defs.now }
+    ensures first { IfSome result (λ n. parts.IsFirstBelow defs.now n) }
+{
+    for n in 0..defs.len() {
+        for i in 0..n {
+            if defs[n].pid <= defs[i].pid {
+                return Some(n);
+            }
+        }
+    }
+    None
+}
+
+/// The PIDs of the parameters that the fixture lacks, which are ones that it may lack.
+pub(super) fn without(table: &Table) -> Result<ArrayVec<u16, 36>, Refusal>
+    ensures read { Reads (λ t xs. parts.AreNamed t xs.items × MayBeLeftOut xs.items) (table_view table.now) result }
+    ensures wrong { IfErr result (λ e. FirstWrong (parts.names ∷ parts.optional ∷ parts.unneeded ∷ []) (table_view table.now) (told e)) }
+{
+    let pids = names(table)?;
+    if !are_optional(pids.as_slice()) {
+        return Err(Refusal::at("without", Wanted::Optional));
+    }
+    if !leave_no_need(pids.as_slice()) {
+        return Err(Refusal::at("without", Wanted::Unneeded));
+    }
+    Ok(pids)
+}
+
+/// The PIDs of the parameters that are named.
+fn names(table: &Table) -> Result<ArrayVec<u16, 36>, Refusal>
+    ensures read { Reads (λ t xs. parts.AreNamed t xs.items) (table_view table.now) result }
+    ensures wrong { IfErr result (λ e. parts.WrongNames (get_member (codes "without") (table_view table.now)) (told e)) }
+{
+    let Some(value) = find(table, "without") else {
+        return Ok(ArrayVec::new());
+    };
+    let Value::Array(names) = value else {
+        return Err(Refusal::at("without", Wanted::List { least: 0, most: 36 }));
+    };
+    if names.len() > 36 {
+        return Err(Refusal::at("without", Wanted::List { least: 0, most: 36 }));
+    }
+    pids_of(names)
+}
+
+fn pids_of(names: &Array) -> Result<ArrayVec<u16, 36>, Refusal>
+    requires { length names.now.items ≤ 36 }
+    ensures read { Reads (λ ds xs. EachIs (λ d pid. says.parameter_named d ≡ Some pid) ds xs.items) (array_view names.now) result }
+    ensures wrong { IfErr result (λ e. told e ≡ fault (codes "without") wanted.Parameter) }
+{
+    let mut pids = ArrayVec::new();
+    for name in names {
+        let Some(pid) = pid_of(name) else {
+            return Err(Refusal::at("without", Wanted::Parameter));
+        };
+        pids.push(pid);
+    }
+    Ok(pids)
+}
+
+/// The PID of the parameter of the standard that is named.
+fn pid_of(name: &Value) -> Option<u16>
+    ensures { result ≡ says.parameter_named (view name.now) }
+{
+    let Value::String(name) = name else {
+        return None;
+    };
+    let kind = Kind::named(name.as_bytes())?;
+    Some(kind.pid())
+}

@@ -1,0 +1,72 @@
+-- Two requests that one response answers.
+use Rattle.std.proofs.Common.{◌≡◌, ℕ, ◌+◌, Bool, true, false, ◌&&◌, ◌||◌, ◌==◌, cond, refl, sym, ap, ◌∙◌, arith, true≢false}
+use Rattle.std.proofs.lemmas.Bool.{eqb-true}
+use Rattle.rdm_frame.specs.declared.frame.Frame.{Frame}
+use Rattle.rdm_frame.specs.declared.uid.Uid.{Uid}
+use Rattle.rdm_frame.specs.Addressing.{same_uid}
+use Rattle.rdm_interface.specs.Answers.{is_poll, responds_to, is_response}
+use Rattle.rdm_interface.specs.Sessions.{LateAnswersArePassedOver}
+
+both : (a b : Bool) → (a && b) ≡ true → (a ≡ true) × (b ≡ true)
+both true b e = (refl, e)
+both false b e = absurd (true≢false (sym e))
+
+uid_with : ℕ → ℕ → Uid
+uid_with maker device = record { maker = maker; device = device }
+
+one_uid : (u v : Uid) → same_uid u v ≡ true → u ≡ v
+unfolding uid_with
+one_uid u v e =
+    let parts = both (u.maker == v.maker) (u.device == v.device) e in
+    ap (λ m. uid_with m u.device) (eqb-true u.maker v.maker parts.0) ∙ ap (λ d. uid_with v.maker d) (eqb-true u.device v.device parts.1)
+
+-- the parts of a test
+record IsOf (request f : Frame) : Type 0 where
+  number : f.tn ≡ request.tn
+  device : f.src ≡ request.dst
+  controller : f.dst ≡ request.src
+  command : responds_to request f ≡ true
+
+is_of : (request f : Frame) → is_response request f ≡ true → IsOf request f
+is_of request f e =
+    let one = both ((f.tn == request.tn) && same_uid f.src request.dst && same_uid f.dst request.src) (responds_to request f) e in
+    let two = both ((f.tn == request.tn) && same_uid f.src request.dst) (same_uid f.dst request.src) one.0 in
+    let three = both (f.tn == request.tn) (same_uid f.src request.dst) two.0 in
+    record {
+      number = eqb-true f.tn request.tn three.0;
+      device = one_uid f.src request.dst three.1;
+      controller = one_uid f.dst request.src two.1;
+      command = one.1;
+    }
+
+-- the command of a response that answers no poll
+record IsSameCommand (request f : Frame) : Type 0 where
+  class : f.class ≡ request.class + 1
+  sub : f.sub ≡ request.sub
+  pid : f.pid ≡ request.pid
+
+same_command : (request f : Frame) → is_poll request ≡ false → responds_to request f ≡ true → IsSameCommand request f
+same_command request f no_poll e =
+    let tested : ((f.class == request.class + 1) && (f.sub == request.sub) && (f.pid == request.pid)) ≡ true =
+    sym (ap (λ t. cond t ((f.class == 0x21) || (f.class == 0x31)) ((f.class == request.class + 1) && (f.sub == request.sub) && (f.pid == request.pid))) no_poll) ∙ e in
+    let one = both ((f.class == request.class + 1) && (f.sub == request.sub)) (f.pid == request.pid) tested in
+    let two = both (f.class == request.class + 1) (f.sub == request.sub) one.0 in
+    record {
+      class = eqb-true f.class (request.class + 1) two.0;
+      sub = eqb-true f.sub request.sub two.1;
+      pid = eqb-true f.pid request.pid one.1;
+    }
+
+pub late_answers : LateAnswersArePassedOver
+late_answers request other f a b =
+    let one = is_of request f a in
+    let two = is_of other f b in
+    record {
+      number = sym one.number ∙ two.number;
+      device = sym one.device ∙ two.device;
+      controller = sym one.controller ∙ two.controller;
+      command = λ no_poll no_other.
+          let c = same_command request f no_poll one.command in
+          let d = same_command other f no_other two.command in
+          (omega (arith, c.class, d.class), sym c.sub ∙ d.sub, sym c.pid ∙ d.pid);
+    }

@@ -1,0 +1,5 @@
+pub mod Nexts
+pub mod Waits
+pub mod Sessions
+pub mod Alikes
+pub mod Searches

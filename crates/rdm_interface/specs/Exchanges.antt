@@ -1,0 +1,75 @@
+-- One exchange with the interface: what is written, what is passed over, and what answers.
+use Rattle.std.specs.Prelude.{◌≡◌, ℕ, ◌-◌, ◌<◌, ◌≤◌, Bool, true, false, List, ◌++◌, length, take, Option, Some, None}
+use Rattle.std.specs.List.{list_any}
+use Rattle.std.specs.Io.KnownBytes.{Consumes, Appends}
+use Rattle.rdm_messages.specs.Framing.{Message, IsMessage, IsUnfinished, message_bytes, Begins}
+use Rattle.rdm_interface.specs.declared.wanted.Wanted.TheVariants.{Labelled}
+use Rattle.rdm_interface.specs.Answers.{wanted_by, belongs, has_end, heard_in, request_message}
+
+-- ---- of a stream
+
+-- A message that belongs stands next, and is taken; or none was.
+abbrev pub IsTaken : (Message → Bool) → List ℕ → Option Message → List ℕ → Type 0
+IsTaken belongs stream None rest = stream ≡ rest
+IsTaken belongs stream (Some m) rest = (belongs m ≡ true) × IsMessage m × (stream ≡ message_bytes m ++ rest)
+
+-- The next message of a stream that belongs, if one came: of those that are passed over before it, none does.
+pub record IsNext (belongs : Message → Bool) (stream : List ℕ) (came : Option Message) (rest : List ℕ) : Type 0 where
+  pub passed : List Message
+  pub behind : List ℕ
+  pub begins : Begins stream passed behind
+  pub others : list_any belongs passed ≡ false
+  pub taken : IsTaken belongs behind came rest
+
+-- ---- of a line
+
+-- More is read behind what was held. In both together this comes next, if anything does; what is left is held.
+pub record IsReadOn (belongs : Message → Bool) (unread left : Option (List ℕ)) (held kept : List ℕ) (came : Option Message) : Type 0 where
+  pub input : List ℕ
+  pub read : Consumes unread left input
+  pub next : IsNext belongs (held ++ input) came kept
+
+-- The clock told last that the limit is over since then.
+pub record IsPast {C : Type 0} (tells : C → ℕ → C → Type 0) (limit start : ℕ) (after : C) : Type 0 where
+  pub now : ℕ
+  pub last : C
+  pub told : tells last now after
+  pub past : limit ≤ now - start
+
+-- It was over since the time that the clock told first.
+pub record IsOver {C : Type 0} (tells : C → ℕ → C → Type 0) (limit : ℕ) (before after : C) : Type 0 where
+  pub start : ℕ
+  pub first : C
+  pub told : tells before start first
+  pub past : IsPast tells limit start after
+
+-- What belongs is waited for. If it doesn't come, the limit is over, and no message is left of what was read.
+pub record IsAwaited {C : Type 0} (tells : C → ℕ → C → Type 0) (limit : ℕ) (before after : C) (unread left : Option (List ℕ)) (held kept : List ℕ) (belongs : Message → Bool) (came : Option Message) : Type 0 where
+  pub read : IsReadOn belongs unread left held kept came
+  pub over : came ≡ None → IsOver tells limit before after
+  pub searched : came ≡ None → IsUnfinished kept
+
+-- A message is written, and the one that answers it is waited for.
+pub record IsAsked {C : Type 0} (tells : C → ℕ → C → Type 0) (limit : ℕ) (before after : C) (unread left old new : Option (List ℕ)) (held kept : List ℕ) (asked : Message) (belongs : Message → Bool) (answer : Option Message) : Type 0 where
+  pub written : Appends old new (message_bytes asked)
+  pub awaited : IsAwaited tells limit before after unread left held kept belongs answer
+
+-- Behind an answer that has an end this is waited for too. Behind another nothing is read.
+abbrev pub IsEnded : {C : Type 0} → (C → ℕ → C → Type 0) → ℕ → C → C → Option (List ℕ) → Option (List ℕ) → List ℕ → List ℕ → Bool → Type 0
+IsEnded tells limit before after unread left held kept false = (after ≡ before) × (left ≡ unread) × (kept ≡ held)
+IsEnded tells limit before after unread left held kept true =
+    (end : Option Message) × IsAwaited tells limit before after unread left held kept (belongs (Labelled 12)) end
+
+-- A request is sent on the line, and this is heard: what the answer says.
+pub record IsExchanged {C : Type 0} (tells : C → ℕ → C → Type 0) (limit : ℕ) (before after : C) (unread left old new : Option (List ℕ)) (held kept request : List ℕ) (heard : Option (List ℕ)) : Type 0 where
+  pub answer : Option Message
+  pub between : C
+  pub mid : Option (List ℕ)
+  pub rest : List ℕ
+  pub asked : IsAsked tells limit before between unread mid old new held rest (request_message request) (belongs (wanted_by request)) answer
+  pub ended : IsEnded tells limit between after mid left rest kept (has_end (wanted_by request) answer)
+  pub heard_is : heard ≡ heard_in answer
+
+-- The writer took a front of these bytes that isn't all of them.
+abbrev pub IsCutOff : Option (List ℕ) → Option (List ℕ) → List ℕ → Type 0
+IsCutOff old new bytes = (count : ℕ) × (count < length bytes) × Appends old new (take count bytes)

@@ -1,0 +1,136 @@
+//! Which message answers what is asked.
+
+ghost use Rattle.std.specs.Prelude.{◌≡◌, ◌&&◌, nat_lt, false, length, drop};
+ghost use Rattle.std.specs.Option.{option_map_or};
+ghost use Rattle.rdm_frame.specs.Reading.{frame_in};
+ghost use Rattle.rdm_messages.specs.Framing.{message_in};
+ghost use Rattle.rdm_interface.specs.Answers.{belongs, is_branch, is_from_line, is_poll, is_response, label_for, line_bytes, responds_to, wanted_by};
+
+use rdm_frame::standard::{
+    DISC_UNIQUE_BRANCH, DISCOVERY_COMMAND, GET_COMMAND, GET_COMMAND_RESPONSE, SET_COMMAND_RESPONSE,
+};
+use rdm_frame::{FrameView, decode_view};
+use rdm_messages::MessageView;
+use rdm_messages::labels::{DISCOVERY, FROM_LINE, REQUEST, TIMEOUT};
+use rdm_params::Kind;
+
+/// Which message is waited for.
+#[derive(Debug, Drop)]
+pub(crate) enum Wanted<'a> {
+    /// The one with this label.
+    Labelled(u8),
+    /// The answer to DISC_UNIQUE_BRANCH (E1.20 section 7.5).
+    Branch,
+    /// The response to this request (section 6.2).
+    Response(FrameView<'a>),
+}
+
+impl Wanted<'_> {
+    /// With which label the request is sent.
+    pub(crate) fn label(&self) -> u8
+        ensures { result ≡ label_for self.now }
+    {
+        match self {
+            Wanted::Branch => DISCOVERY,
+            Wanted::Labelled(_) | Wanted::Response(_) => REQUEST,
+        }
+    }
+
+    /// Whether a message is the one.
+    pub(crate) fn belongs(&self, message: &MessageView<'_>) -> bool
+        ensures { result ≡ belongs self.now (message_in message.now) }
+    {
+        match self {
+            Wanted::Labelled(label) => message.label == *label,
+            Wanted::Branch => message.label == TIMEOUT || has_bytes(message),
+            Wanted::Response(request) => {
+                message.label == TIMEOUT || has_response(request, message)
+            }
+        }
+    }
+}
+
+/// What is waited for when these bytes are sent on the line.
+pub(crate) fn wanted_by(request: &[u8]) -> Wanted<'_>
+    ensures { result ≡ wanted_by request.now }
+{
+    match decode_view(request) {
+        Ok(frame) => {
+            if is_branch(&frame) {
+                Wanted::Branch
+            } else {
+                Wanted::Response(frame)
+            }
+        }
+        Err(_) => Wanted::Labelled(TIMEOUT),
+    }
+}
+
+/// Whether a request is DISC_UNIQUE_BRANCH.
+fn is_branch(request: &FrameView<'_>) -> bool
+    ensures { result ≡ is_branch request.now }
+{
+    request.class == DISCOVERY_COMMAND && request.pid == DISC_UNIQUE_BRANCH
+}
+
+/// Whether a message says that bytes came from the line.
+fn has_bytes(message: &MessageView<'_>) -> bool
+    ensures { result ≡ (is_from_line (message_in message.now) && nat_lt 1 (length message.now.body.now)) }
+{
+    message.label == FROM_LINE && message.body.len() > 1
+}
+
+/// Whether a message says that a response to a request came from the line.
+fn has_response(request: &FrameView<'_>, message: &MessageView<'_>) -> bool
+    ensures { result ≡ (is_from_line (message_in message.now)
+        && option_map_or (is_response request.now) (frame_in (line_bytes (message_in message.now))) false) }
+{
+    message.label == FROM_LINE && is_response_in(request, line_bytes(message.body))
+}
+
+/// The bytes that came from the line, behind the status byte.
+pub(crate) fn line_bytes(body: &[u8]) -> &[u8]
+    ensures { result.now ≡ drop 1 body.now }
+{
+    if body.is_empty() { body } else { &body[1..] }
+}
+
+/// Whether bytes are the text of a response to a request.
+fn is_response_in(request: &FrameView<'_>, bytes: &[u8]) -> bool
+    ensures { result ≡ option_map_or (is_response request.now) (frame_in bytes.now) false }
+{
+    match decode_view(bytes) {
+        Ok(frame) => is_response(request, &frame),
+        Err(_) => false,
+    }
+}
+
+/// Whether a frame is a response to a request (E1.20 sections 6.2.4 to 6.2.10).
+fn is_response(request: &FrameView<'_>, frame: &FrameView<'_>) -> bool
+    ensures { result ≡ is_response request.now frame.now }
+{
+    frame.tn == request.tn
+        && frame.src == request.dst
+        && frame.dst == request.src
+        && responds_to(request, frame)
+}
+
+/// Whether a frame responds to the command of a request: a poll is answered by any message (section 10.3.1).
+fn responds_to(request: &FrameView<'_>, frame: &FrameView<'_>) -> bool
+    ensures { result ≡ responds_to request.now frame.now }
+{
+    if is_poll(request) {
+        frame.class == GET_COMMAND_RESPONSE || frame.class == SET_COMMAND_RESPONSE
+    } else {
+        u16::from(frame.class) == u16::from(request.class) + 1
+            && frame.sub == request.sub
+            && frame.pid == request.pid
+    }
+}
+
+/// Whether a request is GET QUEUED_MESSAGE.
+fn is_poll(request: &FrameView<'_>) -> bool
+    ensures { result ≡ is_poll request.now }
+{
+    request.class == GET_COMMAND && request.pid == Kind::QueuedMessage.pid()
+}

@@ -1,0 +1,125 @@
+//! A search through a port that doesn't hear every time.
+
+use rdm_collector::{Port, PortError};
+use rdm_frame::{Uid, Wire};
+use rdm_interface::{SearchFault, discover_through};
+use rdm_line::{Collision, Line};
+use rdm_outcomes::demo_rules;
+use rdm_params::Profile;
+use rdm_search::SearchError;
+use rdm_widget::{LiveFixture, OnLine};
+use std::process::Abort;
+
+const CONTROLLER: Uid = Uid {
+    maker: 0x7FF0,
+    device: 2,
+};
+
+/// The device IDs of the fixtures: two neighbours, and one that is far from them.
+const DEVICES: [u32; 3] = [0x10, 0x11, 0x8000_0000];
+
+/// How many transactions three fixtures take at most.
+const ENOUGH: u32 = 74 * 3 + 2;
+
+/// A port on a rig, of whose askings so many in a row are lost.
+#[derive(Drop)]
+struct Lossy {
+    line: Line<LiveFixture>,
+    most: u8,
+    lost: u8,
+}
+
+impl Port for Lossy {
+    ghost hears = { λ _ _ _ _. Unit {0} };
+
+    fn exchange(&mut self, request: &Wire) -> Result<Option<Wire>, PortError> {
+        if self.lost < self.most {
+            self.lost += 1;
+            return Ok(None);
+        }
+        self.lost = 0;
+        let mut reply = Wire::new();
+        let heard = OnLine::hear(&mut self.line, 0, request.as_slice(), &mut reply);
+        Ok(heard.then_some(reply))
+    }
+}
+
+/// A port whose line is closed.
+#[derive(Drop)]
+struct Gone;
+
+impl Port for Gone {
+    ghost hears = { λ _ _ _ _. Unit {0} };
+
+    fn exchange(&mut self, _request: &Wire) -> Result<Option<Wire>, PortError> {
+        Err(PortError::Closed)
+    }
+}
+
+/// A port on a rig of the three.
+fn rig(rt: &(impl AllocGlobal + Abort), most: u8) -> Lossy {
+    let mut line = Line::new(rt.alloc(), Collision::AllBits);
+    for device in DEVICES {
+        let uid = Uid {
+            maker: 0x7FF0,
+            device,
+        };
+        let fixture = LiveFixture::new(rt.alloc(), uid, Profile::demo(0), 1, &demo_rules()).expect(
+            rt, "memory",
+        );
+        assert!(rt; line.join(fixture).is_ok());
+    }
+    Lossy {
+        line,
+        most,
+        lost: 0,
+    }
+}
+
+#[test]
+fn all_are_found_if_all_are_asked_often_enough(rt: HostRuntime) {
+    for retries in 0..3 {
+        let mut port = rig(&rt, retries);
+        let found = discover_through(rt.alloc(), &mut port, CONTROLLER, retries, ENOUGH).expect(
+            &rt,
+            "nothing fails",
+        );
+        assert_eq!(rt; found.len(), DEVICES.len());
+        for (one, device) in found.iter().zip(DEVICES) {
+            assert_eq!(rt; one.uid.device, device);
+        }
+    }
+}
+
+/// DISC_UN_MUTE alone isn't enough.
+#[test]
+fn a_search_ends_at_its_limit(rt: HostRuntime) {
+    let mut port = rig(&rt, 0);
+    let told = discover_through(rt.alloc(), &mut port, CONTROLLER, 0, 1);
+    assert!(rt; matches!(told, Err(SearchFault::Search(SearchError::Limit))));
+}
+
+#[test]
+fn a_search_tells_that_the_line_is_closed(rt: HostRuntime) {
+    let told = discover_through(rt.alloc(), &mut Gone, CONTROLLER, 3, ENOUGH);
+    assert!(rt; matches!(told, Err(SearchFault::Port(PortError::Closed))));
+}
+
+#[test]
+fn a_fault_says_what_failed(rt: HostRuntime) {
+    let alloc = rt.alloc();
+    for (fault, words) in [
+        (
+            SearchFault::Search(SearchError::Limit),
+            "the limit of transactions is reached",
+        ),
+        (
+            SearchFault::Search(SearchError::OutOfMemory),
+            "out of memory",
+        ),
+        (SearchFault::Port(PortError::Closed), "the line is closed"),
+    ] {
+        let told = format!(in alloc; "{fault}").expect(&rt, "memory");
+        assert_eq!(rt; told.as_str(), words);
+    }
+}

@@ -1,0 +1,4 @@
+pub mod Framing
+pub mod Hearing
+pub mod Protocol
+pub mod Serving

@@ -1,0 +1,318 @@
+-- Commands of PIDs that the table doesn't have, or that a profile leaves out.
+use Rattle.std.proofs.Common.{◌≡◌, ◌≢◌, ℕ, ◌==◌, Bool, true, false, cond, List, [], ◌∷◌, length, Option, Some, None, Result, Ok, Err, refl, sym, ap, subst, ◌∙◌}
+use Rattle.std.specs.Prelude.{is_some, is_ok, IfOk, IfErr}
+use Rattle.std.proofs.lemmas.Bool.{ne_eqb}
+use Rattle.rdm_params.specs.declared.kind.Verb.{Verb}
+use Rattle.rdm_params.specs.declared.kind.Verb.TheVariants.{Get, Set}
+use Rattle.rdm_params.specs.declared.nack.Nack.{Nack}
+use Rattle.rdm_params.specs.declared.nack.Nack.TheVariants.{FormatError, UnknownPid, UnsupportedCommandClass, DataOutOfRange, SubDeviceOutOfRange}
+use Rattle.rdm_params.specs.declared.jobs.way.Way.{Way}
+use Rattle.rdm_params.specs.declared.jobs.way.Way.TheVariants.{AtOnce}
+use Rattle.rdm_params.specs.declared.verdict.Verdict.{Verdict}
+use Rattle.rdm_params.specs.declared.verdict.Verdict.TheVariants.{Reply, Refuse}
+use Rattle.rdm_device.specs.declared.profile.own.ParameterDef.{ParameterDef}
+use Rattle.rdm_device.specs.declared.profile.Profile.{Profile}
+use Rattle.rdm_device.specs.Columns.Added.{within, added_stored}
+use Rattle.rdm_device.specs.Columns.Forms.{has_length, value_in, value_of}
+use Rattle.rdm_device.specs.Device.OwnParameters.{form_of, is_within, has_set}
+use Rattle.rdm_device.specs.declared.value.Value.{Value}
+use Rattle.rdm_device.specs.Device.Map.{Entry, update}
+use Rattle.rdm_device.specs.Device.Parameters.{Parameters}
+use Rattle.rdm_device.specs.Device.Spot.{Spot}
+use Rattle.rdm_params.specs.Commands.Added.{row_here, handed_here, reply_here, after_here, stored_here}
+use Rattle.rdm_params.specs.Commands.Commands.{command_at, accepted, read_data, read_data_at, addressed, is_some_device, is_all_call, root_spot, verdict, answered, work, got, answer_to_set, after_set, after_accepted, carried_out, written, added_written, check, ◌>>=◌}
+use Rattle.rdm_params.specs.Jobs.Asks.{ask_of}
+use Rattle.rdm_params.specs.Table.Rows.{Command, Row, row_of, row_in, row_or, row_at, is_left_out, added_rows, added_row, takes_added, command_in}
+use Rattle.rdm_params.specs.Table.Uses.{access, change, reply, way_of, is_by_job, is_slow}
+use Rattle.rdm_device.specs.Device.Values.{byte_or_0}
+use Rattle.rdm_params.proofs.AddedRows.{MayBeAdded, here_is, update_leaves}
+use Rattle.rdm_params.proofs.ReadData.{one_device, bind_alike}
+use Rattle.rdm_params.proofs.Supported.{nothing_added, row_alone}
+
+-- ---- the row of a PID
+
+first_known : (first later : Option Row) (is_root : Bool) (verb : Verb) → access first is_root verb ≡ Ok tt → row_or first later ≡ first
+first_known None later is_root verb e = absurd cc
+first_known (Some r) later is_root verb e = refl
+
+stays_at : (p : Profile) (pid : ℕ) → is_left_out p pid ≡ false → row_at p pid ≡ row_or (row_of pid) (row_here p pid)
+stays_at p pid stays = ap (λ (left : Bool). cond left None (row_or (row_of pid) (row_here p pid))) stays
+
+-- what the table has, and the profile doesn't leave out, the devices have
+pub tabled : (p : Profile) (pid : ℕ) (is_root : Bool) (verb : Verb) → is_left_out p pid ≡ false → access (row_of pid) is_root verb ≡ Ok tt → row_at p pid ≡ row_of pid
+tabled p pid is_root verb stays e = stays_at p pid stays ∙ first_known (row_of pid) (row_here p pid) is_root verb e
+
+lacking : (p : Profile) (pid : ℕ) → is_left_out p pid ≡ true → row_at p pid ≡ None
+lacking p pid left = ap (λ (left : Bool). cond left None (row_or (row_of pid) (row_here p pid))) left
+
+-- ---- refusals
+
+refuses : (here : Bool) (r : Result (Unit {0}) Nack) (f : Unit {0} → Result Value Nack) (nack : Nack) → here ≡ true → r ≡ Err nack → ((check here SubDeviceOutOfRange >>= (λ u. r)) >>= f) ≡ Err nack
+refuses true (Err n) f nack h e = cc
+refuses true (Ok u) f nack h e = absurd cc
+refuses false r f nack h e = absurd cc
+
+not_accepted : (p : Parameters) (sub pid : ℕ) (verb : Verb) (bytes : List ℕ) (nack : Nack) → is_some_device (addressed p sub verb) ≡ true → access (row_at p.profile pid) (sub == 0) verb ≡ Err nack → accepted p sub pid verb bytes ≡ Err nack
+unfolding accepted
+not_accepted p sub pid verb bytes nack here e =
+    refuses (is_some_device (addressed p sub verb)) (access (row_at p.profile pid) (sub == 0) verb) (λ u. read_data p sub (command_at p pid verb) verb bytes) nack here e
+
+refused_get : (p : Parameters) (sub pid : ℕ) (bytes : List ℕ) (nack : Nack) → is_some_device (addressed p sub Get) ≡ true → access (row_at p.profile pid) (sub == 0) Get ≡ Err nack → got p sub pid bytes ≡ Refuse nack
+unfolding got
+refused_get p sub pid bytes nack here e = ap (verdict p sub pid (command_at p pid Get) Get) (not_accepted p sub pid Get bytes nack here e)
+
+refused_set : (p : Parameters) (sub pid : ℕ) (bytes : List ℕ) (nack : Nack) → is_some_device (addressed p sub Set) ≡ true → access (row_at p.profile pid) (sub == 0) Set ≡ Err nack → answer_to_set p sub pid bytes ≡ Refuse nack
+unfolding answer_to_set
+refused_set p sub pid bytes nack here e = ap (verdict (after_set p sub pid bytes) sub pid (command_at p pid Set) Set) (not_accepted p sub pid Set bytes nack here e)
+
+refused_leaves : (p : Parameters) (sub pid : ℕ) (bytes : List ℕ) (nack : Nack) → is_some_device (addressed p sub Set) ≡ true → access (row_at p.profile pid) (sub == 0) Set ≡ Err nack → after_set p sub pid bytes ≡ p
+unfolding after_set
+refused_leaves p sub pid bytes nack here e = ap (after_accepted p sub (command_at p pid Set)) (not_accepted p sub pid Set bytes nack here e)
+
+-- of a PID that the profile leaves out
+lacking_access : (p : Profile) (pid : ℕ) (is_root : Bool) (verb : Verb) → is_left_out p pid ≡ true → access (row_at p pid) is_root verb ≡ Err UnknownPid
+lacking_access p pid is_root verb left = ap (λ (row : Option Row). access row is_root verb) (lacking p pid left)
+
+pub lacking_get : (p : Parameters) (sub pid : ℕ) (bytes : List ℕ) → is_some_device (addressed p sub Get) ≡ true → is_left_out p.profile pid ≡ true → got p sub pid bytes ≡ Refuse UnknownPid
+lacking_get p sub pid bytes here left = refused_get p sub pid bytes UnknownPid here (lacking_access p.profile pid (sub == 0) Get left)
+
+pub lacking_set : (p : Parameters) (sub pid : ℕ) (bytes : List ℕ) → is_some_device (addressed p sub Set) ≡ true → is_left_out p.profile pid ≡ true → answer_to_set p sub pid bytes ≡ Refuse UnknownPid
+lacking_set p sub pid bytes here left = refused_set p sub pid bytes UnknownPid here (lacking_access p.profile pid (sub == 0) Set left)
+
+pub lacking_leaves : (p : Parameters) (sub pid : ℕ) (bytes : List ℕ) → is_some_device (addressed p sub Set) ≡ true → is_left_out p.profile pid ≡ true → p ≡ after_set p sub pid bytes
+lacking_leaves p sub pid bytes here left = sym (refused_leaves p sub pid bytes UnknownPid here (lacking_access p.profile pid (sub == 0) Set left))
+
+-- of a PID that the table doesn't have, where the profile adds none
+plain_at : (p : Profile) (pid : ℕ) (is_root : Bool) (verb : Verb) (nack : Nack) → p.own ≡ [] → is_left_out p pid ≡ false → access (row_of pid) is_root verb ≡ Err nack → access (row_at p pid) is_root verb ≡ Err nack
+plain_at p pid is_root verb nack none stays e =
+    ap (λ (row : Option Row). access row is_root verb) (stays_at p pid stays ∙ ap (row_or (row_of pid)) (nothing_added p pid none) ∙ row_alone (row_of pid)) ∙ e
+
+pub plain_get : (p : Parameters) (sub pid : ℕ) (bytes : List ℕ) (nack : Nack) → is_some_device (addressed p sub Get) ≡ true → p.profile.own ≡ [] → is_left_out p.profile pid ≡ false → access (row_of pid) (sub == 0) Get ≡ Err nack → got p sub pid bytes ≡ Refuse nack
+plain_get p sub pid bytes nack here none stays e = refused_get p sub pid bytes nack here (plain_at p.profile pid (sub == 0) Get nack none stays e)
+
+pub plain_set : (p : Parameters) (sub pid : ℕ) (bytes : List ℕ) (nack : Nack) → is_some_device (addressed p sub Set) ≡ true → p.profile.own ≡ [] → is_left_out p.profile pid ≡ false → access (row_of pid) (sub == 0) Set ≡ Err nack → answer_to_set p sub pid bytes ≡ Refuse nack
+plain_set p sub pid bytes nack here none stays e = refused_set p sub pid bytes nack here (plain_at p.profile pid (sub == 0) Set nack none stays e)
+
+pub plain_leaves : (p : Parameters) (sub pid : ℕ) (bytes : List ℕ) (nack : Nack) → is_some_device (addressed p sub Set) ≡ true → p.profile.own ≡ [] → is_left_out p.profile pid ≡ false → access (row_of pid) (sub == 0) Set ≡ Err nack → p ≡ after_set p sub pid bytes
+plain_leaves p sub pid bytes nack here none stays e = sym (refused_leaves p sub pid bytes nack here (plain_at p.profile pid (sub == 0) Set nack none stays e))
+
+-- of a sub-device
+abbrev unit_err : Nack → Result (Unit {0}) Nack
+unit_err nack = Err nack
+
+err_is : (a b : Nack) → unit_err a ≡ unit_err b → a ≡ b
+err_is a b e = cc
+
+at_sub : (first later : Option Row) (verb : Verb) (nack : Nack) → access later false verb ≡ Err UnknownPid → access first false verb ≡ Err nack → access (row_or first later) false verb ≡ Err nack
+at_sub None later verb nack unknown e = unknown ∙ e
+at_sub (Some r) later verb nack unknown e = e
+
+sub_access : (p : Profile) (pid sub : ℕ) (verb : Verb) (nack : Nack) → sub ≢ 0 → is_left_out p pid ≡ false → access (row_of pid) (sub == 0) verb ≡ Err nack → access (row_at p pid) (sub == 0) verb ≡ Err nack
+sub_access p pid sub verb nack n stays e =
+    let other : (sub == 0) ≡ false = ne_eqb sub 0 n in
+    let first : access (row_of pid) false verb ≡ Err nack = ap (λ (b : Bool). access (row_of pid) b verb) (sym other) ∙ e in
+    ap (λ (b : Bool). access (row_at p pid) b verb) other ∙ ap (λ (row : Option Row). access row false verb) (stays_at p pid stays) ∙ at_sub (row_of pid) (row_here p pid) verb nack ((here_is p pid).at_sub verb) first
+
+pub get_of_sub : (p : Parameters) (sub pid : ℕ) (bytes : List ℕ) (nack : Nack) → is_some_device (addressed p sub Get) ≡ true → sub ≢ 0 → is_left_out p.profile pid ≡ false → access (row_of pid) (sub == 0) Get ≡ Err nack → got p sub pid bytes ≡ Refuse nack
+get_of_sub p sub pid bytes nack here n stays e = refused_get p sub pid bytes nack here (sub_access p.profile pid sub Get nack n stays e)
+
+pub set_of_sub : (p : Parameters) (sub pid : ℕ) (bytes : List ℕ) (nack : Nack) → is_some_device (addressed p sub Set) ≡ true → sub ≢ 0 → is_left_out p.profile pid ≡ false → access (row_of pid) (sub == 0) Set ≡ Err nack → answer_to_set p sub pid bytes ≡ Refuse nack
+set_of_sub p sub pid bytes nack here n stays e = refused_set p sub pid bytes nack here (sub_access p.profile pid sub Set nack n stays e)
+
+pub leaves_of_sub : (p : Parameters) (sub pid : ℕ) (bytes : List ℕ) (nack : Nack) → is_some_device (addressed p sub Set) ≡ true → sub ≢ 0 → is_left_out p.profile pid ≡ false → access (row_of pid) (sub == 0) Set ≡ Err nack → p ≡ after_set p sub pid bytes
+leaves_of_sub p sub pid bytes nack here n stays e = sym (refused_leaves p sub pid bytes nack here (sub_access p.profile pid sub Set nack n stays e))
+
+-- of a parameter of the table that has no such command
+at_table : (first later : Option Row) (is_root : Bool) (verb : Verb) (nack : Nack) → nack ≢ UnknownPid → access first is_root verb ≡ Err nack → access (row_or first later) is_root verb ≡ Err nack
+at_table None later is_root verb nack n e = absurd (n (err_is nack UnknownPid (sym e)))
+at_table (Some r) later is_root verb nack n e = e
+
+table_access : (p : Profile) (pid : ℕ) (is_root : Bool) (verb : Verb) (nack : Nack) → nack ≢ UnknownPid → is_left_out p pid ≡ false → access (row_of pid) is_root verb ≡ Err nack → access (row_at p pid) is_root verb ≡ Err nack
+table_access p pid is_root verb nack n stays e =
+    ap (λ (row : Option Row). access row is_root verb) (stays_at p pid stays) ∙ at_table (row_of pid) (row_here p pid) is_root verb nack n e
+
+pub get_of_table : (p : Parameters) (sub pid : ℕ) (bytes : List ℕ) (nack : Nack) → is_some_device (addressed p sub Get) ≡ true → nack ≢ UnknownPid → is_left_out p.profile pid ≡ false → access (row_of pid) (sub == 0) Get ≡ Err nack → got p sub pid bytes ≡ Refuse nack
+get_of_table p sub pid bytes nack here n stays e = refused_get p sub pid bytes nack here (table_access p.profile pid (sub == 0) Get nack n stays e)
+
+pub set_of_table : (p : Parameters) (sub pid : ℕ) (bytes : List ℕ) (nack : Nack) → is_some_device (addressed p sub Set) ≡ true → nack ≢ UnknownPid → is_left_out p.profile pid ≡ false → access (row_of pid) (sub == 0) Set ≡ Err nack → answer_to_set p sub pid bytes ≡ Refuse nack
+set_of_table p sub pid bytes nack here n stays e = refused_set p sub pid bytes nack here (table_access p.profile pid (sub == 0) Set nack n stays e)
+
+pub leaves_of_table : (p : Parameters) (sub pid : ℕ) (bytes : List ℕ) (nack : Nack) → is_some_device (addressed p sub Set) ≡ true → nack ≢ UnknownPid → is_left_out p.profile pid ≡ false → access (row_of pid) (sub == 0) Set ≡ Err nack → p ≡ after_set p sub pid bytes
+leaves_of_table p sub pid bytes nack here n stays e = sym (refused_leaves p sub pid bytes nack here (table_access p.profile pid (sub == 0) Set nack n stays e))
+
+-- ---- at the root, of a PID that the table doesn't have
+
+supported_or : (has : Bool) → cond has (Ok tt) (Err UnsupportedCommandClass) ≡ unit_err UnknownPid → ⊥
+supported_or true e = cc
+supported_or false e = cc
+
+unknown_first : (first later : Option Row) (verb : Verb) → access first true verb ≡ Err UnknownPid → row_or first later ≡ later
+unknown_first None later verb e = refl
+unknown_first (Some r) later verb e = absurd (supported_or (is_some (command_in (Some r) verb)) e)
+
+-- the row at the root is what the profile adds
+pub at_here : (p : Profile) (pid : ℕ) (verb : Verb) → is_left_out p pid ≡ false → access (row_of pid) true verb ≡ Err UnknownPid → row_at p pid ≡ row_here p pid
+at_here p pid verb stays e = stays_at p pid stays ∙ unknown_first (row_of pid) (row_here p pid) verb e
+
+no_all_call : (verb : Verb) → is_all_call 0 verb ≡ false
+no_all_call Get = refl
+no_all_call Set = refl
+
+abbrev taken_at_root : Parameters → Option Row → Verb → List ℕ → Result Value Nack
+taken_at_root p row verb bytes = access row true verb >>= (λ u. read_data p 0 (command_in row verb) verb bytes)
+
+then_alike : (r : Result (Unit {0}) Nack) (f g : Unit {0} → Result Value Nack) → ((u : Unit {0}) → f u ≡ g u) → (r >>= f) ≡ (r >>= g)
+then_alike (Ok u) f g same = same u
+then_alike (Err nack) f g same = refl
+
+pub accepted_here : (p : Parameters) (pid : ℕ) (verb : Verb) (bytes : List ℕ) → row_at p.profile pid ≡ row_here p.profile pid → accepted p 0 pid verb bytes ≡ handed_here (root_spot p) (row_here p.profile pid) verb bytes
+unfolding accepted
+accepted_here p pid verb bytes e =
+    let here = row_here p.profile pid in
+    ap (λ (row : Option Row). taken_at_root p row verb bytes) e ∙ then_alike (access here true verb) (λ u. read_data p 0 (command_in here verb) verb bytes) (λ u. read_data_at (command_in here verb) (root_spot p) bytes) (λ u. one_device p 0 (command_in here verb) verb (root_spot p) bytes refl (no_all_call verb))
+
+abbrev reply_of : List ℕ → Verdict
+reply_of body = Reply body
+
+abbrev ok_bytes : List ℕ → Result (List ℕ) Nack
+ok_bytes body = Ok body
+
+bytes_are : (a b : List ℕ) → ok_bytes a ≡ ok_bytes b → a ≡ b
+bytes_are a b e = cc
+
+abbrev told : Option Command → Spot → Result Value Nack → Result (List ℕ) Nack
+told command spot r = r >>= (λ value. Ok (reply command spot value))
+
+replies : (p : Parameters) (pid : ℕ) (command : Option Command) (verb : Verb) (r : Result Value Nack) (body : List ℕ) → way_of command ≡ AtOnce → told command (root_spot p) r ≡ Ok body → verdict p 0 pid command verb r ≡ Reply body
+replies p pid command verb (Err nack) body at_once e = absurd cc
+replies p pid command verb (Ok v) body at_once e =
+    ap (λ (way : Way). answered way (reply command (root_spot p) v) (work 0 pid verb v) (ask_of (byte_or_0 v))) at_once ∙ ap reply_of (bytes_are (reply command (root_spot p) v) body e)
+
+told_err : (r : Result Value Nack) (command : Option Command) (spot : Spot) (nack : Nack) → told command spot r ≡ Err nack → r ≡ Err nack
+told_err (Err n) command spot nack e = cc
+told_err (Ok v) command spot nack e = absurd cc
+
+got_at : (p : Parameters) (pid : ℕ) (bytes : List ℕ) → row_at p.profile pid ≡ row_here p.profile pid → got p 0 pid bytes ≡ verdict p 0 pid (command_in (row_here p.profile pid) Get) Get (handed_here (root_spot p) (row_here p.profile pid) Get bytes)
+unfolding got
+got_at p pid bytes e =
+    ap (λ (row : Option Row). verdict p 0 pid (command_in row Get) Get (accepted p 0 pid Get bytes)) e ∙ ap (verdict p 0 pid (command_in (row_here p.profile pid) Get) Get) (accepted_here p pid Get bytes e)
+
+pub get_here_replies : (p : Parameters) (pid : ℕ) (bytes body : List ℕ) → is_left_out p.profile pid ≡ false → access (row_of pid) true Get ≡ Err UnknownPid → reply_here (root_spot p) (row_here p.profile pid) Get bytes ≡ Ok body → Reply body ≡ got p 0 pid bytes
+get_here_replies p pid bytes body stays unknown e =
+    let at = at_here p.profile pid Get stays unknown in
+    let here = row_here p.profile pid in
+    sym (got_at p pid bytes at ∙ replies p pid (command_in here Get) Get (handed_here (root_spot p) here Get bytes) body ((here_is p.profile pid).way Get) e)
+
+pub get_here_refuses : (p : Parameters) (pid : ℕ) (bytes : List ℕ) (nack : Nack) → is_left_out p.profile pid ≡ false → access (row_of pid) true Get ≡ Err UnknownPid → reply_here (root_spot p) (row_here p.profile pid) Get bytes ≡ Err nack → got p 0 pid bytes ≡ Refuse nack
+get_here_refuses p pid bytes nack stays unknown e =
+    let at = at_here p.profile pid Get stays unknown in
+    let here = row_here p.profile pid in
+    got_at p pid bytes at ∙ ap (verdict p 0 pid (command_in here Get) Get) (told_err (handed_here (root_spot p) here Get bytes) (command_in here Get) (root_spot p) nack e)
+
+set_at : (p q : Parameters) (pid : ℕ) (bytes : List ℕ) → row_at p.profile pid ≡ row_here p.profile pid → verdict q 0 pid (command_at p pid Set) Set (accepted p 0 pid Set bytes) ≡ verdict q 0 pid (command_in (row_here p.profile pid) Set) Set (handed_here (root_spot p) (row_here p.profile pid) Set bytes)
+set_at p q pid bytes e =
+    ap (λ (row : Option Row). verdict q 0 pid (command_in row Set) Set (accepted p 0 pid Set bytes)) e ∙ ap (verdict q 0 pid (command_in (row_here p.profile pid) Set) Set) (accepted_here p pid Set bytes e)
+
+silent_reply : (q : Parameters) (pid : ℕ) (command : Option Command) (r : Result Value Nack) → way_of command ≡ AtOnce → ((spot : Spot) (v : Value) → reply command spot v ≡ []) → is_ok r ≡ true → verdict q 0 pid command Set r ≡ Reply []
+silent_reply q pid command (Err nack) at_once silent e = absurd cc
+silent_reply q pid command (Ok v) at_once silent e =
+    ap (λ (way : Way). answered way (reply command (root_spot q) v) (work 0 pid Set v) (ask_of (byte_or_0 v))) at_once ∙ ap reply_of (silent (root_spot q) v)
+
+pub set_here_replies : (p : Parameters) (pid : ℕ) (bytes : List ℕ) → is_left_out p.profile pid ≡ false → access (row_of pid) true Set ≡ Err UnknownPid → is_ok (handed_here (root_spot p) (row_here p.profile pid) Set bytes) ≡ true → Reply [] ≡ answer_to_set p 0 pid bytes
+unfolding answer_to_set
+set_here_replies p pid bytes stays unknown e =
+    let at = at_here p.profile pid Set stays unknown in
+    let here = row_here p.profile pid in
+    let is = here_is p.profile pid in
+    sym (set_at p (after_set p 0 pid bytes) pid bytes at ∙ silent_reply (after_set p 0 pid bytes) pid (command_in here Set) (handed_here (root_spot p) here Set bytes) (is.way Set) is.silent e)
+
+pub set_here_refuses : (p : Parameters) (pid : ℕ) (bytes : List ℕ) (nack : Nack) → is_left_out p.profile pid ≡ false → access (row_of pid) true Set ≡ Err UnknownPid → handed_here (root_spot p) (row_here p.profile pid) Set bytes ≡ Err nack → answer_to_set p 0 pid bytes ≡ Refuse nack
+unfolding answer_to_set
+set_here_refuses p pid bytes nack stays unknown e =
+    let at = at_here p.profile pid Set stays unknown in
+    set_at p (after_set p 0 pid bytes) pid bytes at ∙ ap (verdict (after_set p 0 pid bytes) 0 pid (command_in (row_here p.profile pid) Set) Set) e
+
+quick : (way : Way) → way ≡ AtOnce → is_by_job way ≡ false
+quick way e = ap is_by_job e
+
+leaves_root : (p : Parameters) (command : Option Command) (r : Result Value Nack) → way_of command ≡ AtOnce → ((spot : Spot) (v : Value) (e : Entry) → change command spot v e ≡ e.bytes) → after_accepted p 0 command r ≡ record p { added = stored_here (root_spot p) command r }
+leaves_root p command (Err nack) at_once leaves = refl
+leaves_root p command (Ok v) at_once leaves =
+    ap (λ (slow : Bool). cond slow p (carried_out p 0 command v)) (quick (way_of command) at_once) ∙ ap (λ (root : List Entry). record p { root = root; added = added_written command v (root_spot p) }) (update_leaves (change command (root_spot p) v) p.root (leaves (root_spot p) v))
+
+pub set_here_leaves : (p : Parameters) (pid : ℕ) (bytes : List ℕ) → is_left_out p.profile pid ≡ false → access (row_of pid) true Set ≡ Err UnknownPid → after_set p 0 pid bytes ≡ record p { added = after_here (root_spot p) (row_here p.profile pid) bytes }
+unfolding after_set
+set_here_leaves p pid bytes stays unknown =
+    let at = at_here p.profile pid Set stays unknown in
+    let here = row_here p.profile pid in
+    let is = here_is p.profile pid in
+    ap (λ (row : Option Row). after_accepted p 0 (command_in row Set) (accepted p 0 pid Set bytes)) at ∙ ap (after_accepted p 0 (command_in here Set)) (accepted_here p pid Set bytes at) ∙ leaves_root p (command_in here Set) (handed_here (root_spot p) here Set bytes) (is.way Set) is.leaves
+
+-- ---- what the calls at the root say of the command
+
+at_root_unknown : (pid sub : ℕ) (verb : Verb) (nack : Nack) → sub ≡ 0 → nack ≡ UnknownPid → access (row_of pid) (sub == 0) verb ≡ Err nack → access (row_of pid) true verb ≡ Err UnknownPid
+at_root_unknown pid sub verb nack zero unknown e = subst (λ (s : ℕ). access (row_of pid) (s == 0) verb ≡ Err nack) zero e ∙ ap unit_err unknown
+
+pub get_ok : {A : Type 0} (p : Parameters) (sub pid : ℕ) (bytes body : List ℕ) (nack : Nack) (r : Result A Nack) → sub ≡ 0 → nack ≡ UnknownPid → is_left_out p.profile pid ≡ false → access (row_of pid) (sub == 0) Get ≡ Err nack → IfOk r (λ u. reply_here (root_spot p) (row_here p.profile pid) Get bytes ≡ Ok body) → IfOk r (λ u. Reply body ≡ got p sub pid bytes)
+get_ok p sub pid bytes body nack (Err n) zero unknown stays e h = tt
+get_ok p sub pid bytes body nack (Ok u) zero unknown stays e h =
+    subst (λ (s : ℕ). Reply body ≡ got p s pid bytes) (sym zero) (get_here_replies p pid bytes body stays (at_root_unknown pid sub Get nack zero unknown e) h)
+
+pub get_err : {A : Type 0} (p : Parameters) (sub pid : ℕ) (bytes : List ℕ) (nack : Nack) (r : Result A Nack) → sub ≡ 0 → nack ≡ UnknownPid → is_left_out p.profile pid ≡ false → access (row_of pid) (sub == 0) Get ≡ Err nack → IfErr r (λ reason. reply_here (root_spot p) (row_here p.profile pid) Get bytes ≡ Err reason) → IfErr r (λ reason. got p sub pid bytes ≡ Refuse reason)
+get_err p sub pid bytes nack (Ok u) zero unknown stays e h = tt
+get_err p sub pid bytes nack (Err n) zero unknown stays e h =
+    subst (λ (s : ℕ). got p s pid bytes ≡ Refuse n) (sym zero) (get_here_refuses p pid bytes n stays (at_root_unknown pid sub Get nack zero unknown e) h)
+
+pub set_ok : {A : Type 0} (p : Parameters) (sub pid : ℕ) (bytes : List ℕ) (nack : Nack) (r : Result A Nack) → sub ≡ 0 → nack ≡ UnknownPid → is_left_out p.profile pid ≡ false → access (row_of pid) (sub == 0) Set ≡ Err nack → IfOk r (λ u. is_ok (handed_here (root_spot p) (row_here p.profile pid) Set bytes) ≡ true) → IfOk r (λ u. Reply [] ≡ answer_to_set p sub pid bytes)
+set_ok p sub pid bytes nack (Err n) zero unknown stays e h = tt
+set_ok p sub pid bytes nack (Ok u) zero unknown stays e h =
+    subst (λ (s : ℕ). Reply [] ≡ answer_to_set p s pid bytes) (sym zero) (set_here_replies p pid bytes stays (at_root_unknown pid sub Set nack zero unknown e) h)
+
+pub set_err : {A : Type 0} (p : Parameters) (sub pid : ℕ) (bytes : List ℕ) (nack : Nack) (r : Result A Nack) → sub ≡ 0 → nack ≡ UnknownPid → is_left_out p.profile pid ≡ false → access (row_of pid) (sub == 0) Set ≡ Err nack → IfErr r (λ reason. handed_here (root_spot p) (row_here p.profile pid) Set bytes ≡ Err reason) → IfErr r (λ reason. answer_to_set p sub pid bytes ≡ Refuse reason)
+set_err p sub pid bytes nack (Ok u) zero unknown stays e h = tt
+set_err p sub pid bytes nack (Err n) zero unknown stays e h =
+    subst (λ (s : ℕ). answer_to_set p s pid bytes ≡ Refuse n) (sym zero) (set_here_refuses p pid bytes n stays (at_root_unknown pid sub Set nack zero unknown e) h)
+
+pub set_after : (p new : Parameters) (sub pid : ℕ) (bytes : List ℕ) (nack : Nack) → sub ≡ 0 → nack ≡ UnknownPid → is_left_out p.profile pid ≡ false → access (row_of pid) (sub == 0) Set ≡ Err nack → new ≡ record p { added = after_here (root_spot p) (row_here p.profile pid) bytes } → new ≡ after_set p sub pid bytes
+set_after p new sub pid bytes nack zero unknown stays e after =
+    subst (λ (s : ℕ). new ≡ after_set p s pid bytes) (sym zero) (after ∙ sym (set_here_leaves p pid bytes stays (at_root_unknown pid sub Set nack zero unknown e)))
+
+-- a SET that is refused leaves the values
+pub set_unchanged : {A : Type 0} (p new : Parameters) (pid : ℕ) (bytes : List ℕ) (r : Result A Nack) → new ≡ record p { added = after_here (root_spot p) (row_here p.profile pid) bytes } → IfErr r (λ reason. handed_here (root_spot p) (row_here p.profile pid) Set bytes ≡ Err reason) → IfErr r (λ reason. new ≡ p)
+set_unchanged p new pid bytes (Ok u) after h = tt
+set_unchanged p new pid bytes (Err n) after h =
+    after ∙ ap (λ (value : Result Value Nack). record p { added = stored_here (root_spot p) (command_in (row_here p.profile pid) Set) value }) h
+
+-- ---- a SET of a parameter that the maker adds
+
+abbrev ok : Value → Result Value Nack
+ok v = Ok v
+
+abbrev taken_by : (Value → Bool) → Value → Result Value Nack
+taken_by test v = check (test v) DataOutOfRange >>= (λ u. ok v)
+
+read_is : (fits : Bool) (x v : Value) → cond fits (Some x) None ≡ Some v → cond fits (ok x) (Err FormatError) ≡ ok v
+read_is true x v e = cc
+read_is false x v e = absurd cc
+
+-- the row of the parameter, with or without a SET
+abbrev row_with : ParameterDef → Bool → Row
+row_with d set = record { pid = d.pid; root_only = true; get = (added_row d).get; set = cond set (takes_added (form_of d.shape) (within d) d.pid) None }
+
+pub set_stores : (d : ParameterDef) (spot : Spot) (bytes : List ℕ) (v : Value) (old new : List Entry) → has_set d.rights ≡ true → value_of (form_of d.shape) bytes ≡ Some v → is_within d v ≡ true → spot.added ≡ old → new ≡ update (added_stored d.pid spot v) old → new ≡ after_here spot (Some (added_row d)) bytes
+set_stores d spot bytes v old new set value inside same e =
+    let handed : handed_here spot (Some (row_with d true)) Set bytes ≡ ok v = ap (λ (r : Result Value Nack). r >>= taken_by (is_within d)) (read_is (has_length (form_of d.shape) (length bytes)) (value_in (form_of d.shape) bytes) v value) ∙ ap (λ (b : Bool). check b DataOutOfRange >>= (λ u. ok v)) inside in
+    sym (ap (λ (b : Bool). after_here spot (Some (row_with d b)) bytes) set ∙ ap (stored_here spot (takes_added (form_of d.shape) (within d) d.pid)) handed ∙ ap (update (added_stored d.pid spot v)) same ∙ sym e)
+
+pub set_ok_at : {A : Type 0} (p : Parameters) (pid : ℕ) (bytes : List ℕ) (d : ParameterDef) (r : Result A Nack) → row_here p.profile pid ≡ Some (added_row d) → IfOk r (λ u. (spot : Spot) → is_ok (handed_here spot (Some (added_row d)) Set bytes) ≡ true) → IfOk r (λ u. is_ok (handed_here (root_spot p) (row_here p.profile pid) Set bytes) ≡ true)
+set_ok_at p pid bytes d (Err n) e h = tt
+set_ok_at p pid bytes d (Ok u) e h = ap (λ (row : Option Row). is_ok (handed_here (root_spot p) row Set bytes)) e ∙ h (root_spot p)
+
+pub set_err_at : {A : Type 0} (p : Parameters) (pid : ℕ) (bytes : List ℕ) (d : ParameterDef) (r : Result A Nack) → row_here p.profile pid ≡ Some (added_row d) → IfErr r (λ nack. (spot : Spot) → handed_here spot (Some (added_row d)) Set bytes ≡ Err nack) → IfErr r (λ nack. handed_here (root_spot p) (row_here p.profile pid) Set bytes ≡ Err nack)
+set_err_at p pid bytes d (Ok u) e h = tt
+set_err_at p pid bytes d (Err n) e h = ap (λ (row : Option Row). handed_here (root_spot p) row Set bytes) e ∙ h (root_spot p)
+
+-- the values in which those of the root's own parameters are others
+pub set_viewed : (p : Parameters) (root' added' : List Entry) (pid : ℕ) (bytes : List ℕ) (d : ParameterDef) → root' ≡ p.root → added' ≡ after_here (root_spot p) (Some (added_row d)) bytes → row_here p.profile pid ≡ Some (added_row d) → record p { root = root'; added = added' } ≡ record p { added = after_here (root_spot p) (row_here p.profile pid) bytes }
+set_viewed p root' added' pid bytes d e f g =
+    ap (λ (root : List Entry). record p { root = root; added = added' }) e ∙ ap (λ (added : List Entry). record p { added = added }) (f ∙ ap (λ (row : Option Row). after_here (root_spot p) row bytes) (sym g))

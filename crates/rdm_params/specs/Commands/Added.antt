@@ -1,0 +1,32 @@
+-- A command of a parameter that the maker adds, at the root: rules 7 to 10, its reply, and what it leaves.
+use Rattle.std.specs.Prelude.{ℕ, true, List, Option, Some, Result, Ok, Err}
+use Rattle.rdm_params.specs.declared.kind.Verb.{Verb}
+use Rattle.rdm_params.specs.declared.kind.Verb.TheVariants.{Set}
+use Rattle.rdm_params.specs.declared.nack.Nack.{Nack}
+use Rattle.rdm_device.specs.declared.profile.Profile.{Profile}
+use Rattle.rdm_device.specs.declared.value.Value.{Value}
+use Rattle.rdm_device.specs.Device.Map.{Entry}
+use Rattle.rdm_device.specs.Device.Spot.{Spot}
+use Rattle.rdm_params.specs.Commands.Commands.{read_data_at, added_written, ◌>>=◌}
+use Rattle.rdm_params.specs.Table.Rows.{Command, Row, row_in, added_rows, command_in}
+use Rattle.rdm_params.specs.Table.Uses.{access, reply}
+
+-- the row that the profile adds for a PID
+abbrev pub row_here : Profile → ℕ → Option Row
+row_here profile pid = row_in (added_rows profile) pid
+
+-- rules 7 to 10: the value that the data of a command of this row stand for
+abbrev pub handed_here : Spot → Option Row → Verb → List ℕ → Result Value Nack
+handed_here spot row verb bytes = access row true verb >>= (λ found. read_data_at (command_in row verb) spot bytes)
+
+-- the data of its reply
+abbrev pub reply_here : Spot → Option Row → Verb → List ℕ → Result (List ℕ) Nack
+reply_here spot row verb bytes = handed_here spot row verb bytes >>= (λ value. Ok (reply (command_in row verb) spot value))
+
+abbrev pub stored_here : Spot → Option Command → Result Value Nack → List Entry
+stored_here spot command (Err nack) = spot.added
+stored_here spot command (Ok value) = added_written command value spot
+
+-- the values of the parameters that the maker adds, after its SET
+abbrev pub after_here : Spot → Option Row → List ℕ → List Entry
+after_here spot row bytes = stored_here spot (command_in row Set) (handed_here spot row Set bytes)

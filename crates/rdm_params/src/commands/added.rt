@@ -1,0 +1,191 @@
+//! The commands of the parameters that a profile adds to the table, which the root alone has.
+
+ghost use Rattle.std.specs.Prelude.{◌≡◌, ◌≢◌, ◌↔◌, ◌==◌, ◌&&◌, [], Some, Ok, Err, IfOk, IfErr, true, false, is_ok, find};
+ghost use Rattle.std.specs.List.{list_any};
+ghost use Rattle.std.specs.Option.{option_copied};
+ghost use Rattle.rdm_params.specs.declared.kind.Verb.TheVariants.{Get, Set};
+ghost use Rattle.rdm_params.specs.declared.verdict.Verdict.TheVariants.{Reply, Refuse};
+ghost use Rattle.rdm_device.specs.Columns.Added.{has_makers_pid, is_pid_of};
+ghost use Rattle.rdm_device.specs.Device.Spot.{Spot};
+ghost use Rattle.rdm_device.specs.Views.State.{own_entries, added_entries};
+ghost use Rattle.rdm_params.specs.Commands.Added.{row_here, handed_here, reply_here, after_here};
+ghost use Rattle.rdm_params.specs.Commands.Commands.{addressed, is_some_device, root_spot, got, answer_to_set, after_set};
+ghost use Rattle.rdm_params.specs.Table.Rows.{row_of, is_left_out, description_row, added_row};
+ghost use Rattle.rdm_params.specs.Table.Uses.{access};
+
+use super::Devices;
+use crate::{Nack, Profile};
+use rdm_device::columns::{added, forms};
+use rdm_device::{ParameterDef, Place, RootValues};
+use rdm_frame::Body;
+use rdm_frame::standard::PARAMETER_DESCRIPTION;
+
+impl Devices {
+    /// What a GET answers of which the table has no command, or the first reason to reject it.
+    // A call, so that the commands of the table don't make room for it.
+    #[cold]
+    #[inline(never)]
+    pub(super) fn get_added(
+        &self,
+        sub: u16,
+        pid: u16,
+        data: &[u8],
+        nack: Nack,
+        body: &mut Body,
+    ) -> Result<(), Nack>
+        requires empty { body.old ≡ [] }
+        requires device { is_some_device (addressed self.now sub Get) ≡ true }
+        requires stays { is_left_out self.now.profile pid ≡ false }
+        requires refused { access (row_of pid) (sub == 0) Get ≡ Err nack }
+        ensures ok { IfOk result (λ u. Reply body.new ≡ got self.now sub pid data.now) }
+        ensures err { IfErr result (λ reason. got self.now sub pid data.now ≡ Refuse reason) }
+        ensures empty { result ≢ Ok tt → body.new ≡ [] }
+    {
+        if sub != 0 {
+            return Err(nack);
+        }
+        if nack != Nack::UnknownPid {
+            return Err(nack);
+        }
+        self.get_at_root(pid, data, body)
+    }
+
+    /// What a GET of the root answers, by what the profile adds.
+    #[tactic(auto, using(crate::proofs::AddedRows::description_here, crate::proofs::AddedRows::parameter_here, crate::proofs::AddedRows::nothing_here))]
+    fn get_at_root(&self, pid: u16, data: &[u8], body: &mut Body) -> Result<(), Nack>
+        requires { body.old ≡ [] }
+        ensures ok { IfOk result (λ u. reply_here (root_spot self.now) (row_here self.now.profile pid) Get data.now ≡ Ok body.new) }
+        ensures err { IfErr result (λ nack. reply_here (root_spot self.now) (row_here self.now.profile pid) Get data.now ≡ Err nack) }
+        ensures empty { result ≢ Ok tt → body.new ≡ [] }
+    {
+        let place = self.root_place();
+        if is_description(&self.profile, pid) {
+            return get_description(&place, data, body);
+        }
+        match parameter_of(&self.profile, pid) {
+            Some(def) => get_parameter(&place, def, data, body),
+            None => Err(Nack::UnknownPid),
+        }
+    }
+
+    /// What a SET answers of which the table has no command, or the first reason to reject it; and whether it changed a value.
+    // A call, as that for a GET.
+    #[cold]
+    #[inline(never)]
+    pub(super) fn set_added(
+        &mut self,
+        sub: u16,
+        pid: u16,
+        data: &[u8],
+        nack: Nack,
+    ) -> Result<bool, Nack>
+        requires device { is_some_device (addressed self.old sub Set) ≡ true }
+        requires stays { is_left_out self.old.profile pid ≡ false }
+        requires refused { access (row_of pid) (sub == 0) Set ≡ Err nack }
+        ensures ok { IfOk result (λ differs. Reply [] ≡ answer_to_set self.old sub pid data.now) }
+        ensures err { IfErr result (λ reason. answer_to_set self.old sub pid data.now ≡ Refuse reason) }
+        ensures after { self.new ≡ after_set self.old sub pid data.now }
+        ensures same { IfOk result (λ differs. (differs ≡ false) ↔ (self.new ≡ self.old)) }
+        ensures unchanged { IfErr result (λ reason. self.new ≡ self.old) }
+    {
+        if sub != 0 {
+            return Err(nack);
+        }
+        if nack != Nack::UnknownPid {
+            return Err(nack);
+        }
+        self.set_at_root(pid, data)
+    }
+
+    /// What a SET of the root changes, by what the profile adds, and whether that is another value.
+    #[tactic(auto, using(crate::proofs::AddedRows::description_here, crate::proofs::AddedRows::parameter_here, crate::proofs::AddedRows::nothing_here))]
+    fn set_at_root(&mut self, pid: u16, data: &[u8]) -> Result<bool, Nack>
+        ensures ok { IfOk result (λ differs. is_ok (handed_here (root_spot self.old) (row_here self.old.profile pid) Set data.now) ≡ true) }
+        ensures err { IfErr result (λ nack. handed_here (root_spot self.old) (row_here self.old.profile pid) Set data.now ≡ Err nack) }
+        ensures after { self.new ≡ record self.old { added = after_here (root_spot self.old) (row_here self.old.profile pid) data.now } }
+        ensures same { IfOk result (λ differs. (differs ≡ false) ↔ (self.new ≡ self.old)) }
+    {
+        let profile = &self.profile;
+        if is_description(profile, pid) {
+            return Err(Nack::UnsupportedCommandClass);
+        }
+        match parameter_of(profile, pid) {
+            Some(def) => set_parameter(def, data, &mut self.own),
+            None => Err(Nack::UnknownPid),
+        }
+    }
+}
+
+/// Whether the PID is that of PARAMETER_DESCRIPTION, and the profile adds it.
+fn is_description(profile: &Profile, pid: u16) -> bool
+    ensures { result ≡ ((0x0051 == pid) && list_any has_makers_pid profile.now.own) }
+{
+    PARAMETER_DESCRIPTION == pid && added::has_makers(profile.own.as_slice())
+}
+
+/// The parameter that the profile adds with this PID.
+pub(super) fn parameter_of(profile: &Profile, pid: u16) -> Option<&ParameterDef>
+    ensures { option_copied result ≡ find (is_pid_of pid) profile.now.own }
+{
+    added::parameter_of(profile.own.as_slice(), pid)
+}
+
+/// What describes a parameter that the maker adds.
+fn get_description(place: &Place<'_>, data: &[u8], body: &mut Body) -> Result<(), Nack>
+    requires { body.old ≡ [] }
+    ensures ok { IfOk result (λ u. reply_here place.now (Some description_row) Get data.now ≡ Ok body.new) }
+    ensures err { IfErr result (λ nack. reply_here place.now (Some description_row) Get data.now ≡ Err nack) }
+    ensures empty { result ≢ Ok tt → body.new ≡ [] }
+{
+    let Some(value) = forms::word(data) else {
+        return Err(Nack::FormatError);
+    };
+    if !added::a_makers_pid(place, &value) {
+        return Err(Nack::DataOutOfRange);
+    }
+    added::described(place, &value, body);
+    Ok(())
+}
+
+/// What is kept of a parameter that the maker adds.
+fn get_parameter(
+    place: &Place<'_>,
+    def: &ParameterDef,
+    data: &[u8],
+    body: &mut Body,
+) -> Result<(), Nack>
+    requires { body.old ≡ [] }
+    ensures ok { IfOk result (λ u. reply_here place.now (Some (added_row def.now)) Get data.now ≡ Ok body.new) }
+    ensures err { IfErr result (λ nack. reply_here place.now (Some (added_row def.now)) Get data.now ≡ Err nack) }
+    ensures empty { result ≢ Ok tt → body.new ≡ [] }
+{
+    if !added::has_get(def.rights) {
+        return Err(Nack::UnsupportedCommandClass);
+    }
+    if !data.is_empty() {
+        return Err(Nack::FormatError);
+    }
+    added::write_added(place, def.pid, body);
+    Ok(())
+}
+
+/// Keeps what the data of a SET stand for, if the parameter takes that, and says whether it is another value.
+fn set_parameter(def: &ParameterDef, data: &[u8], own: &mut RootValues) -> Result<bool, Nack>
+    ensures ok { IfOk result (λ differs. (spot : Spot) → is_ok (handed_here spot (Some (added_row def.now)) Set data.now) ≡ true) }
+    ensures err { IfErr result (λ nack. (spot : Spot) → handed_here spot (Some (added_row def.now)) Set data.now ≡ Err nack) }
+    ensures own { own_entries own.new ≡ own_entries own.old }
+    ensures added { (spot : Spot) → spot.added ≡ added_entries own.old.added.items
+        → added_entries own.new.added.items ≡ after_here spot (Some (added_row def.now)) data.now }
+    ensures same { IfOk result (λ differs. (differs ≡ false) ↔ (added_entries own.new.added.items ≡ added_entries own.old.added.items)) }
+{
+    if !added::has_set(def.rights) {
+        return Err(Nack::UnsupportedCommandClass);
+    }
+    let Some(value) = added::read_shape(def.shape, data) else {
+        return Err(Nack::FormatError);
+    };
+    if !added::is_within(def, &value) {
+        return Err(Nack::DataOutOfRange);
+    }
+    Ok(added::store_added(def.pid, &value, own))
+}

@@ -1,7 +1,0 @@
-use Rattle.std.proofs.Common.{refl}
-use Rattle.rdm_responder.proofs.Accounts.{stands_for_empty}
-use Rattle.rdm_responder.proofs.responder.Responder.with_entries.Goals as goal
-
-pub returns-clause-stands : goal.returns-clause-stands
-returns-clause-stands c =
-    stands_for_empty _ _ (record { uid = refl; parameters = c.in-Ok.ensures.ok; muted = refl; outbox = c.in-Ok-with_entries.ensures.shows })

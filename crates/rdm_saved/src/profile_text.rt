@@ -1,0 +1,108 @@
+//! What an image says of the profile.
+
+ghost use Rattle.std.specs.Prelude.{◌≡◌, ◌+◌, ◌*◌, ◌≤◌, ◌++◌, length, flat_map};
+ghost use Rattle.rdm_device.specs.Device.Values.{word_slots};
+ghost use Rattle.rdm_saved.specs.SavedText.{devices_text, own_text, profile_text, unit_text};
+ghost use Rattle.rdm_saved.specs.Restoring.{profile_size};
+
+use rdm_device::columns::added::{data_type_of, size_of};
+use rdm_device::{ParameterDef, Profile, Unit};
+use rdm_frame::Body;
+
+/// How many bytes say what the devices are.
+const DEVICES_BYTES: usize = 17;
+
+/// How many bytes an image has that say the profile.
+pub(crate) fn profile_len(profile: &Profile) -> usize
+    ensures size { result ≡ profile_size profile.now }
+    ensures few { result ≤ 231 }
+{
+    DEVICES_BYTES + 4 * profile.own.as_slice().len() + 2 * profile.without.len()
+}
+
+/// What an image says of the profile.
+pub(crate) fn profile_text(profile: &Profile) -> Body
+    ensures { result ≡ profile_text profile.now }
+{
+    let mut text = Body::new();
+    text.append(&devices_text(profile));
+    append_own(profile.own.as_slice(), &mut text);
+    append_without(profile.without.as_slice(), &mut text);
+    text
+}
+
+/// Appends what is said of each parameter that the maker adds.
+#[tactic(auto, using(crate::proofs::Profiles::own_step, std::proofs::lemmas::Grind::common_steps))]
+fn append_own(defs: &[ParameterDef], text: &mut Body)
+    requires { length text.old + 4 * length defs.now ≤ 231 }
+    ensures after { text.new ≡ text.old ++ flat_map own_text defs.now }
+    ensures size { length text.new ≡ length text.old + 4 * length defs.now }
+{
+    for i in 0..defs.len() {
+        text.append(&own_text(&defs[i]));
+    }
+}
+
+/// The PID, and which data it has.
+fn own_text(def: &ParameterDef) -> [u8; 4]
+    ensures { result ≡ own_text def.now }
+{
+    let pid = def.pid.to_be_bytes();
+    [pid[0], pid[1], data_type_of(def.shape), size_of(def.shape)]
+}
+
+/// Appends PIDs.
+#[tactic(auto, using(rdm_device::proofs::ListSteps::codes_step, std::proofs::lemmas::Grind::common_steps))]
+fn append_without(pids: &[u16], text: &mut Body)
+    requires { length text.old + 2 * length pids.now ≤ 231 }
+    ensures { text.new ≡ text.old ++ flat_map word_slots pids.now }
+{
+    for i in 0..pids.len() {
+        text.append(&pids[i].to_be_bytes());
+    }
+}
+
+/// How many sub-devices and sensors there are, and what the two kinds of devices are.
+fn devices_text(profile: &Profile) -> [u8; 17]
+    ensures { result ≡ devices_text profile.now }
+{
+    let subs = profile.subs.to_be_bytes();
+    let root = unit_text(&profile.root);
+    let sub = unit_text(&profile.sub);
+    [
+        subs[0],
+        subs[1],
+        profile.sensors.len() as u8,
+        root[0],
+        root[1],
+        root[2],
+        root[3],
+        root[4],
+        root[5],
+        root[6],
+        sub[0],
+        sub[1],
+        sub[2],
+        sub[3],
+        sub[4],
+        sub[5],
+        sub[6],
+    ]
+}
+
+/// The model, the software version and how many personalities there are.
+fn unit_text(unit: &Unit) -> [u8; 7]
+    ensures { result ≡ unit_text unit.now }
+{
+    let model = unit.model.to_be_bytes();
+    let software = unit.software.to_be_bytes();
+    [
+        model[0],
+        model[1],
+        software[0],
+        software[1],
+        software[2],
+        software[3],
+        unit.personalities.len() as u8,
+    ]
+}

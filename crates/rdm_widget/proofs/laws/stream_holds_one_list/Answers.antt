@@ -1,5 +1,0 @@
-use Rattle.rdm_widget.proofs.Pieces.{one_list}
-use Rattle.rdm_widget.proofs.laws.stream_holds_one_list.Goals as goal
-
-pub returns : goal.returns
-returns c = one_list

@@ -1,5 +1,0 @@
-use Rattle.rdm_widget.proofs.Pieces.{read_back}
-use Rattle.rdm_widget.proofs.laws.written_messages_are_read_back.Goals as goal
-
-pub returns : goal.returns
-returns c = read_back
