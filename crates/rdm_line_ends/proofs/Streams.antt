@@ -52,7 +52,7 @@ stays_such line IsSuch fair now s request false such = such
 
 -- ---- all turns
 
-message_is : (m n : Message) (ms ns : List Message) → m ∷ ms ≡ n ∷ ns → m ≡ n
+pub message_is : (m n : Message) (ms ns : List Message) → m ∷ ms ≡ n ∷ ns → m ≡ n
 message_is m n ms ns e = cc
 
 messages_are : (m n : Message) (ms ns : List Message) → m ∷ ms ≡ n ∷ ns → ms ≡ ns

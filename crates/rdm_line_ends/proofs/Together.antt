@@ -6,7 +6,7 @@ use Rattle.std.proofs.lemmas.Bool.{cases_Bool}
 use Rattle.std.proofs.lemmas.List.Elements.{All-from_recursion}
 use Rattle.rdm_frame.specs.declared.frame.Frame.{Frame}
 use Rattle.rdm_frame.specs.Reading.{frame_in}
-use Rattle.rdm_messages.specs.Framing.{Message, IsMessage, Holds}
+use Rattle.rdm_messages.specs.Framing.{Message, IsMessage, Holds, bytes_of}
 use Rattle.rdm_messages.specs.Hearing.{Hearing}
 use Rattle.rdm_messages.specs.Serving.{answers, answers_with, is_request, messages_in, replies_in}
 use Rattle.rdm_messages.proofs.Pieces.{one_list, read_back}
@@ -50,13 +50,19 @@ left_over : (stream : List ℕ) (left : Option (List ℕ)) (input : List ℕ) �
 left_over stream None input read = absurd read
 left_over stream (Some rest) input read = record { rest = rest; left_is = refl; whole = read }
 
+-- the messages of these requests alone were read
+pub turns_are : (requests : List (List ℕ)) (input : List ℕ) (messages : List Message) → AllByRecursion CanBeSent requests → Holds input messages → input ≡ bytes_of (map request_message requests)
+    → messages ≡ map request_message requests
+turns_are requests input messages can holds read =
+    let ms : List Message = map request_message requests in
+    one_list input messages ms holds
+    (subst (λ (l : List ℕ). Holds l ms) (sym read) (read_back ms (All-from_recursion IsMessage ms (are_messages requests can))))
+
 pub heard : {C E D S : Type 0} (tells : C → ℕ → C → Type 0) (times : E → ℕ → E → Type 0) (line : Hearing D S) (IsSuch : S → Type 0) → IsFair line IsSuch → IsHeard tells times line IsSuch
 heard tells times line IsSuch fair limit before after xs asked held start end unread left old new s d served such read later bytes stream =
     let ms : List Message = map request_message (requests_in xs) in
     let can : AllByRecursion CanBeSent (requests_in xs) = all_sent tells limit before after xs asked in
-    let turns : messages_in served.turns ≡ ms =
-    one_list served.input (messages_in served.turns) ms served.holds
-    (subst (λ (l : List ℕ). Holds l ms) (sym read) (read_back ms (All-from_recursion IsMessage ms (are_messages (requests_in xs) can)))) in
+    let turns : messages_in served.turns ≡ ms = turns_are (requests_in xs) served.input (messages_in served.turns) can served.holds read in
     let replies : List (Option (List ℕ)) = replies_in line s served.turns in
     let written : answers line s served.turns ≡ answers_with (messages_in served.turns) replies =
     answered_with line s served.turns (ap (list_all is_request) turns ∙ all_requests (requests_in xs)) in

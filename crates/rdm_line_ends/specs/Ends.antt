@@ -2,10 +2,12 @@
 use Rattle.std.specs.Prelude.{◌≡◌, ◌≢◌, ℕ, ◌≤◌, List, [], ◌∷◌, ◌++◌, length, map, Option, Some, IsSome, AllPairs}
 use Rattle.std.specs.Io.KnownBytes.{Appends}
 use Rattle.rdm_line.specs.Line.{uids_of}
-use Rattle.rdm_messages.specs.Framing.{bytes_of}
+use Rattle.rdm_responder.specs.Rules.{reply_of}
+use Rattle.rdm_messages.specs.Framing.{bytes_of, message_bytes}
 use Rattle.rdm_messages.specs.Hearing.{Hearing}
 use Rattle.rdm_messages.specs.Serving.{Turn, IsServed, answers, replies_in}
-use Rattle.rdm_widget.specs.LiveFixtures.{fixture_hearing}
+use Rattle.rdm_widget.specs.declared.live_fixture.LiveFixture.{LiveFixture}
+use Rattle.rdm_widget.specs.LiveFixtures.{Situation, fixture_hearing, ready}
 use Rattle.rdm_widget.specs.Rigs.{histories, rig_hearing}
 use Rattle.rdm_interface.specs.Answers.{has_end, request_message, wanted_by}
 use Rattle.rdm_interface.specs.Exchanges.{IsExchanged}
@@ -79,3 +81,13 @@ FixtureIsHeard tells times = IsHeard tells times fixture_hearing (λ s. Unit {0}
 -- of a rig, whose fixtures have different UIDs
 abbrev pub RigIsHeard : {C E : Type 0} → (C → ℕ → C → Type 0) → (E → ℕ → E → Type 0) → Type 0
 RigIsHeard tells times = IsHeard tells times rig_hearing (λ rig. AllPairs (λ u v. u ≢ v) (uids_of (histories rig.fixtures)))
+
+-- One request to a fixture: what is heard is the reply by the reply rules, after all that happened to the fixture before and the
+-- reports of the jobs that have ended by the time that the clock tells for it.
+abbrev pub OneIsHeard : {C E : Type 0} → (C → ℕ → C → Type 0) → (E → ℕ → E → Type 0) → Type 0
+OneIsHeard {C} {E} tells times =
+    (limit : ℕ) (before after : Host C) (x : Asked) → IsAnswered tells limit before after x → before.held ≡ []
+    → (start end : E) (unread left old new : Option (List ℕ)) (s : Situation) (d : LiveFixture) (served : IsServed times fixture_hearing start end unread left old new s d)
+    → served.input ≡ message_bytes (request_message x.request)
+    → (later : List ℕ) → AreBytes (answers fixture_hearing s served.turns) → before.unread ≡ Some (answers fixture_hearing s served.turns ++ later)
+    → (now : ℕ) × times start now end × (x.heard ≡ reply_of (ready now s).history x.request)

@@ -1,6 +1,6 @@
 //! Laws of replies and of both ends of a line. Each is the contract of a call that does nothing.
 
-ghost use Rattle.rdm_line_ends.specs.Ends.{FixtureIsHeard, RequestsAreWritten, RigIsHeard};
+ghost use Rattle.rdm_line_ends.specs.Ends.{FixtureIsHeard, OneIsHeard, RequestsAreWritten, RigIsHeard};
 ghost use Rattle.rdm_line_ends.specs.Replies.{BranchesAreAnswered, RepeatsAreAnswered, RepliesAreResponses, RepliesBelong, WhatIsOnTheWireBelongs};
 
 use rdm_messages::Clock;
@@ -28,5 +28,6 @@ pub fn replies_belong_to_their_requests()
 pub fn what_is_replied_is_heard<H: Clock, F: Clock>()
     ensures written { RequestsAreWritten H.tells }
     ensures fixture { FixtureIsHeard H.tells F.tells }
+    ensures one { OneIsHeard H.tells F.tells }
     ensures rig { RigIsHeard H.tells F.tells }
 {}
