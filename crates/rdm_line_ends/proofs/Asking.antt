@@ -5,10 +5,10 @@ use Rattle.std.specs.Io.KnownBytes.{Appends, Consumes}
 use Rattle.std.proofs.KnownBytes.{Consumes-nil, Consumes-trans}
 use Rattle.rdm_messages.specs.Framing.{bytes_of, message_bytes}
 use Rattle.rdm_interface.specs.Answers.{request_message}
-use Rattle.rdm_interface.specs.Sessions.{Exchange, IsInTime, IsSession, requests_of, heard_of, inputs_of}
+use Rattle.rdm_interface.specs.Sessions.{Exchange, IsSession, requests_of, heard_of, inputs_of}
 use Rattle.rdm_interface.proofs.Sessions.{answered_is_in_time}
 use Rattle.rdm_widget.proofs.Turns.{appends_then}
-use Rattle.rdm_line_ends.specs.Ends.{Host, Asked, requests_in, heard_in, IsAnswered, AreAnswered, RequestsAreWritten}
+use Rattle.rdm_line_ends.specs.Ends.{Host, Asked, requests_in, heard_in, AreAnswered, RequestsAreWritten}
 use Rattle.rdm_line_ends.proofs.Streams.{CanBeSent}
 
 -- ---- what is written
@@ -62,4 +62,4 @@ exchanged {C} tells limit before after (x ∷ xs) is =
 pub all_sent : {C : Type 0} (tells : C → ℕ → C → Type 0) (limit : ℕ) (before after : Host C) (xs : List Asked) → AreAnswered tells limit before xs after → AllByRecursion CanBeSent (requests_in xs)
 all_sent tells limit before after [] is = tt
 all_sent tells limit before after (x ∷ xs) is =
-    (record { bytes = is.1.bytes; fits = is.1.fits; no_repeat = is.1.no_repeat }, all_sent tells limit is.0 after xs is.2)
+    (record { bytes = is.1.bytes; fits = is.1.fits }, all_sent tells limit is.0 after xs is.2)

@@ -1,5 +1,5 @@
 -- Fixtures and rigs reply with what belongs to the request.
-use Rattle.std.proofs.Common.{◌≡◌, ◌≢◌, ℕ, List, [], ◌∷◌, ◌++◌, append-nil, map, Option, Some, None, refl, sym, ap, subst, ◌∙◌}
+use Rattle.std.proofs.Common.{◌≡◌, ◌≢◌, ℕ, List, [], ◌∷◌, append-nil, map, Option, Some, refl, sym, ap, subst, ◌∙◌}
 use Rattle.std.specs.Prelude.{AllPairs}
 use Rattle.rdm_frame.specs.declared.uid.Uid.{Uid}
 use Rattle.rdm_responder.specs.History.{History}
@@ -19,7 +19,7 @@ use Rattle.rdm_widget.specs.LiveFixtures.{Situation, fixture_hearing, ready}
 use Rattle.rdm_widget.specs.Rigs.{Rig, after_line, from_wire, histories, rig_hearing}
 use Rattle.rdm_widget.proofs.Rigs.{ready_uids}
 use Rattle.rdm_line_ends.specs.Ends.{Asked, AreAnswered, FixtureIsHeard, OneIsHeard, RigIsHeard, requests_in}
-use Rattle.rdm_line_ends.specs.Replies.{AreBytes, IsNoRepeat}
+use Rattle.rdm_line_ends.specs.Replies.{AreBytes}
 use Rattle.rdm_line_ends.proofs.Asking.{all_sent}
 use Rattle.rdm_line_ends.proofs.Replying.{replies_belong}
 use Rattle.rdm_line_ends.proofs.Streams.{IsFair, message_is}
@@ -33,7 +33,7 @@ IsAny s = Unit {0}
 
 fixture_is_fair : IsFair fixture_hearing IsAny
 fixture_is_fair = record {
-  belongs = λ now s request bytes such asked are once e. replies_belong (ready now s).history request bytes asked are once e;
+  belongs = λ now s request bytes such asked are e. replies_belong (ready now s).history request bytes asked are e;
   stays = λ now s request such. tt;
 }
 
@@ -79,13 +79,13 @@ reply_is_something none = cc
 collision_is_something : Collided ≢ Nothing
 collision_is_something none = cc
 
-wire_belongs : (hs : List History) (rule : Collision) (request bytes : List ℕ) (w : OnWire × List ℕ) → AllPairs (λ u v. u ≢ v) (uids_of hs) → AreBytes request → AreBytes bytes → IsNoRepeat request
+wire_belongs : (hs : List History) (rule : Collision) (request bytes : List ℕ) (w : OnWire × List ℕ) → AllPairs (λ u v. u ≢ v) (uids_of hs) → AreBytes request → AreBytes bytes
     → on_wire rule [] (answers request hs) ≡ w → from_wire w ≡ Some bytes → IsReplyTo request (Some bytes)
-wire_belongs hs rule request bytes (Nothing, xs) apart asked are once wire e = absurd cc
-wire_belongs hs rule request bytes (Reply, xs) apart asked are once wire e =
-    on_the_wire hs rule request [] bytes Reply apart asked are once reply_is_something (wire ∙ ap (λ (l : List ℕ). (Reply, l)) (is_some xs bytes e))
-wire_belongs hs rule request bytes (Collided, xs) apart asked are once wire e =
-    on_the_wire hs rule request [] bytes Collided apart asked are once collision_is_something (wire ∙ ap (λ (l : List ℕ). (Collided, l)) (is_some xs bytes e))
+wire_belongs hs rule request bytes (Nothing, xs) apart asked are wire e = absurd cc
+wire_belongs hs rule request bytes (Reply, xs) apart asked are wire e =
+    on_the_wire hs rule request [] bytes Reply apart asked are reply_is_something (wire ∙ ap (λ (l : List ℕ). (Reply, l)) (is_some xs bytes e))
+wire_belongs hs rule request bytes (Collided, xs) apart asked are wire e =
+    on_the_wire hs rule request [] bytes Collided apart asked are collision_is_something (wire ∙ ap (λ (l : List ℕ). (Collided, l)) (is_some xs bytes e))
 
 -- what a fixture hears leaves its UID
 line_uids : (request : List ℕ) (ss : List Situation) → uids_of (histories (map (after_line request) ss)) ≡ uids_of (histories ss)
@@ -96,10 +96,10 @@ line_uids request (s ∷ ss) =
 
 rig_is_fair : IsFair rig_hearing DifferInUid
 rig_is_fair = record {
-  belongs = λ now rig request bytes such asked are once e.
+  belongs = λ now rig request bytes such asked are e.
       wire_belongs (histories (map (ready now) rig.fixtures)) rig.rule request bytes
       (on_wire rig.rule [] (answers request (histories (map (ready now) rig.fixtures))))
-      (subst (λ (us : List Uid). AllPairs (λ u v. u ≢ v) us) (sym (ready_uids now rig.fixtures)) such) asked are once refl e;
+      (subst (λ (us : List Uid). AllPairs (λ u v. u ≢ v) us) (sym (ready_uids now rig.fixtures)) such) asked are refl e;
   stays = λ now rig request such.
       subst (λ (us : List Uid). AllPairs (λ u v. u ≢ v) us)
       (sym (line_uids request (map (ready now) rig.fixtures) ∙ ready_uids now rig.fixtures)) such;

@@ -19,8 +19,8 @@ use Rattle.rdm_params.specs.Jobs.Commit.{after_commit, committed, message_of}
 use Rattle.rdm_params.specs.Jobs.Thresholds.{notes}
 use Rattle.rdm_params.specs.Jobs.Work.{worker_of}
 use Rattle.rdm_outbox.specs.Account as outbox
-use Rattle.rdm_outbox.specs.Jobs.{has_room, after_reserve, after_arrive}
-use Rattle.rdm_outbox.specs.Messages.{is_last, last_or, last_of, next_of, after_next, dispensed, after_dispense, status_dispensed, after_status}
+use Rattle.rdm_outbox.specs.Jobs.{has_room, after_arrive}
+use Rattle.rdm_outbox.specs.Messages.{is_last, last_or, last_of, next_of, after_next, dispensed, status_dispensed}
 use Rattle.rdm_outbox.specs.Statuses.{can_note, after_note, status_message, status_now, after_status_now}
 use Rattle.rdm_responder.specs.History.{Event, Heard, Arrived, Changed, Placed, Noted, Restored, History}
 use Rattle.rdm_responder.specs.Requests.{Request, Ignored, Branch, Muting, Get, Set, request_in}

@@ -1,6 +1,6 @@
 -- A reply belongs to its request.
-use Rattle.std.proofs.Common.{◌≡◌, ◌≢◌, ◌⊎◌, ℕ, ◌+◌, ◌^◌, ◌<◌, ◌≤◌, ◌==◌, ◌&&◌, ◌||◌, Bool, true, false, cond, List, [], ◌∷◌, length, Option, Some, None, refl, sym, ap, subst, ◌∙◌, inl, inr, arith}
-use Rattle.std.specs.Prelude.{not, nat_lt, slice_index}
+use Rattle.std.proofs.Common.{◌≡◌, ◌⊎◌, ℕ, ◌+◌, ◌^◌, ◌<◌, ◌≤◌, ◌==◌, ◌&&◌, ◌||◌, Bool, true, false, cond, List, ◌∷◌, length, Option, Some, None, refl, sym, ap, subst, ◌∙◌, inl, inr, arith}
+use Rattle.std.specs.Prelude.{not}
 use Rattle.std.specs.Option.{option_map_or}
 use Rattle.std.proofs.lemmas.Bool.{and_left, and_right, and_parts, and_from, both_ways, cases_Bool, cond_both, eqb-true, eq-eqb, lt-ltb}
 use Rattle.rdm_frame.specs.declared.frame.Frame.{Frame}
@@ -17,8 +17,8 @@ use Rattle.rdm_responder.specs.Rules.{Account, Response, account_of, answer_to, 
 use Rattle.rdm_line.proofs.Alone.{uid_decides}
 use Rattle.rdm_line.proofs.Unheard.{setup_of}
 use Rattle.rdm_messages.specs.Protocol.{from_line}
-use Rattle.rdm_interface.specs.Answers.{belongs, is_branch, is_poll, is_response, responds_to, wanted_for}
-use Rattle.rdm_line_ends.specs.Replies.{AreBytes, IsNoRepeat, RepliesAreResponses, RepeatsAreAnswered, BranchesAreAnswered, RepliesBelong, asks_again, is_message}
+use Rattle.rdm_interface.specs.Answers.{belongs, is_branch, is_fetch, is_response, responds_to, wanted_for}
+use Rattle.rdm_line_ends.specs.Replies.{AreBytes, RepliesAreResponses, BranchesAreAnswered, RepliesBelong}
 use Rattle.rdm_line_ends.proofs.Messages.{AreResponses, messages_are_responses}
 use Rattle.rdm_line_ends.proofs.Rereading.{each_byte, few_data, fits_read, found_fits, read_back, text_read, text_size}
 use Rattle.rdm_line_ends.proofs.Responding.{Fits, Responds, framed, get_responds, is_any, own_responds, set_responds}
@@ -160,25 +160,10 @@ from_and_to f g number device controller =
     and_from _ _ (and_from _ _ (eq-eqb g.tn f.tn number) ((uid_decides g.src f.dst).1 device)) ((uid_decides g.dst f.src).1 controller)
 
 pub replies_are_responses : RepliesAreResponses
-replies_are_responses h request reply f found other once e =
+replies_are_responses h request reply f found other e =
     elim (replied h request reply f found e) [
       | inl branch ↦ absurd (both_ways (is_branch f) other branch.0)
-      | inr is ↦ (is.1.frame, is.1.text, and_from _ _ (from_and_to f is.1.frame is.1.number is.1.device is.1.controller) (is.1.fits.responds once))
-    ]
-
--- a GET is no discovery
-again_or_branch : (f : Frame) → asks_again f ≡ true → is_branch f ≡ true → ⊥
-again_or_branch f again branch =
-    let get = and_parts (f.class == 0x20) (f.pid == 0x0030) (and_parts ((f.class == 0x20) && (f.pid == 0x0030)) (length f.body == 1)
-    (and_parts ((f.class == 0x20) && (f.pid == 0x0030) && (length f.body == 1)) (slice_index f.body 0 == 0x01) again).0).0 in
-    let class : f.class ≡ 0x20 = eqb-true f.class 0x20 get.0 in
-    both_ways (is_branch f) (of_class f 0x20 class refl) branch
-
-pub repeats_are_answered : RepeatsAreAnswered
-repeats_are_answered h request reply f found again e =
-    elim (replied h request reply f found e) [
-      | inl branch ↦ absurd (again_or_branch f again branch.0)
-      | inr is ↦ (is.1.frame, is.1.text, and_from _ _ (from_and_to f is.1.frame is.1.number is.1.device is.1.controller) (is.1.fits.message again))
+      | inr is ↦ (is.1.frame, is.1.text, and_from _ _ (from_and_to f is.1.frame is.1.number is.1.device is.1.controller) is.1.fits.responds)
     ]
 
 pub branches_are_answered : BranchesAreAnswered
@@ -210,36 +195,36 @@ branch_belongs f bytes branch size = (
 )
 
 -- a response is read as one
-read_response : (f g : Frame) → IsFrame f → g.tn ≡ f.tn → g.src ≡ f.dst → g.dst ≡ f.src → asks_again f ≡ false → Fits f g → option_map_or (is_response f) (frame_in (frame_text g)) false ≡ true
-read_response f g fit number device controller once fits =
+read_response : (f g : Frame) → IsFrame f → g.tn ≡ f.tn → g.src ≡ f.dst → g.dst ≡ f.src → Fits f g → option_map_or (is_response f) (frame_in (frame_text g)) false ≡ true
+read_response f g fit number device controller fits =
     let dst : IsUid g.dst = subst IsUid (sym controller) fit.src in
     let src : IsUid g.src = subst IsUid (sym device) fit.dst in
     let from : ((g.tn == f.tn) && same_uid g.src f.dst && same_uid g.dst f.src) ≡ true = from_and_to f g number device controller in
-    elim (cases_Bool (is_poll f)) [
-      | inl poll ↦
+    elim (cases_Bool (is_fetch f)) [
+      | inl fetch ↦
           (
           let any : Bool = is_any g.class in
           let own : Bool = (g.class == f.class + 1) && (g.sub == f.sub) && (g.pid == f.pid) in
           let back : Bool = (g.class == f.class + 1) && ((read_back g).sub == f.sub) && ((read_back g).pid == f.pid) in
-          let tested : any ≡ true = sym (ap (λ t. cond t any own) poll) ∙ fits.responds once in
-          let responds : responds_to f (read_back g) ≡ true = ap (λ t. cond t any back) poll ∙ tested in
+          let tested : any ≡ true = sym (ap (λ t. cond t any own) fetch) ∙ fits.responds in
+          let responds : responds_to f (read_back g) ≡ true = ap (λ t. cond t any back) fetch ∙ tested in
           ap (λ (o : Option Frame). option_map_or (is_response f) o false) (text_read g dst src) ∙ and_from _ _ from responds
           )
       | inr other ↦
           (
-          let same = fits.same once other in
+          let same = fits.same other in
           let read = fits_read g dst src (subst (λ n. n < 2 ^ 16) (sym same.0) fit.sub) (subst (λ n. n < 2 ^ 16) (sym same.1) fit.pid) in
-          ap (λ (o : Option Frame). option_map_or (is_response f) o false) read ∙ and_from _ _ from (fits.responds once)
+          ap (λ (o : Option Frame). option_map_or (is_response f) o false) read ∙ and_from _ _ from fits.responds
           )
     ]
 
-response_belongs : (f : Frame) (request reply : List ℕ) → AreBytes request → AreBytes reply → frame_in request ≡ Some f → is_branch f ≡ false → asks_again f ≡ false → IsText f reply
+response_belongs : (f : Frame) (request reply : List ℕ) → AreBytes request → AreBytes reply → frame_in request ≡ Some f → is_branch f ≡ false → IsText f reply
     → (length reply ≤ 257) × (belongs (wanted_for (Some f)) (from_line reply) ≡ true)
-response_belongs f request reply asked are found other once is =
+response_belongs f request reply asked are found other is =
     let g : Frame = is.frame in
     let bytes : AreBytes (frame_text g) = subst AreBytes is.text are in
     let size : length reply ≡ 26 + length g.body = ap (λ (l : List ℕ). length l) is.text ∙ text_size g in
-    let read = read_response f g (found_fits request f asked found) is.number is.device is.controller once is.fits in (
+    let read = read_response f g (found_fits request f asked found) is.number is.device is.controller is.fits in (
       omega (arith, size, few_data g (each_byte (frame_text g) bytes)),
       if_second (is_branch f) _ _ (λ w. belongs w (from_line reply)) other
           ∙ ap (λ (l : List ℕ). option_map_or (is_response f) (frame_in l) false) is.text ∙ read,
@@ -248,15 +233,15 @@ response_belongs f request reply asked are found other once is =
 none_heard : (a : Account) (reply : List ℕ) → answer_to a (request_in a.setup.uid None) ≡ Some reply → ⊥
 none_heard a reply e = cc
 
-belongs_to : (h : History) (request reply : List ℕ) (o : Option Frame) → frame_in request ≡ o → AreBytes request → AreBytes reply → IsNoRepeat request → reply_of h request ≡ Some reply
+belongs_to : (h : History) (request reply : List ℕ) (o : Option Frame) → frame_in request ≡ o → AreBytes request → AreBytes reply → reply_of h request ≡ Some reply
     → (length reply ≤ 257) × (belongs (wanted_for o) (from_line reply) ≡ true)
-belongs_to h request reply None found asked are once e =
+belongs_to h request reply None found asked are e =
     absurd (none_heard (account_of h) reply (sym (ap (λ (o : Option Frame). answer_to (account_of h) (request_in (account_of h).setup.uid o)) found) ∙ e))
-belongs_to h request reply (Some f) found asked are once e =
+belongs_to h request reply (Some f) found asked are e =
     elim (replied h request reply f found e) [
       | inl branch ↦ branch_belongs f reply branch.0 (ap (λ (l : List ℕ). length l) branch.1 ∙ branch_size h.setup.uid)
-      | inr is ↦ response_belongs f request reply asked are found is.0 (once f found) is.1
+      | inr is ↦ response_belongs f request reply asked are found is.0 is.1
     ]
 
 pub replies_belong : RepliesBelong
-replies_belong h request reply asked are once e = belongs_to h request reply (frame_in request) refl asked are once e
+replies_belong h request reply asked are e = belongs_to h request reply (frame_in request) refl asked are e

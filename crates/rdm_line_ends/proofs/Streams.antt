@@ -1,5 +1,5 @@
 -- What comes from a line in bytes belongs to the requests for which it comes.
-use Rattle.std.proofs.Common.{◌≡◌, ℕ, ◌^◌, ◌<◌, ◌≤◌, Bool, true, false, ◌&&◌, ◌||◌, ◌==◌, cond, List, [], ◌∷◌, ◌++◌, length, map, Option, Some, None, refl, sym, ap, subst, ◌∙◌}
+use Rattle.std.proofs.Common.{◌≡◌, ℕ, ◌≤◌, Bool, true, false, ◌||◌, ◌==◌, cond, List, [], ◌∷◌, ◌++◌, length, map, Option, Some, None, sym, ap}
 use Rattle.std.specs.List.{AllByRecursion}
 use Rattle.rdm_messages.specs.Framing.{Message, bytes_of}
 use Rattle.rdm_messages.specs.Hearing.{Hearing}
@@ -7,7 +7,7 @@ use Rattle.rdm_messages.specs.Protocol.{after_message, answer_of_discovery, answ
 use Rattle.rdm_messages.specs.Serving.{Turn, answer_with, answers_with, messages_in, replies_in}
 use Rattle.rdm_interface.specs.Answers.{request_message}
 use Rattle.rdm_interface.specs.Sessions.{AreRepliesTo, IsReplyTo}
-use Rattle.rdm_line_ends.specs.Replies.{AreBytes, IsNoRepeat}
+use Rattle.rdm_line_ends.specs.Replies.{AreBytes}
 
 -- ---- bytes among bytes
 
@@ -31,7 +31,7 @@ from_the_line m bytes are = of_either (m.label == 11) bytes are
 
 -- Where such things are on a line, what comes in bytes after a request belongs to it, and they stay such.
 pub record IsFair {D S : Type 0} (line : Hearing D S) (IsSuch : S → Type 0) : Type 0 where
-  pub belongs : (now : ℕ) (s : S) (request bytes : List ℕ) → IsSuch s → AreBytes request → AreBytes bytes → IsNoRepeat request
+  pub belongs : (now : ℕ) (s : S) (request bytes : List ℕ) → IsSuch s → AreBytes request → AreBytes bytes
       → line.reply now s request ≡ Some bytes → IsReplyTo request (Some bytes)
   pub stays : (now : ℕ) (s : S) (request : List ℕ) → IsSuch s → IsSuch (line.heard now s request)
 
@@ -39,12 +39,11 @@ pub record IsFair {D S : Type 0} (line : Hearing D S) (IsSuch : S → Type 0) : 
 pub record CanBeSent (request : List ℕ) : Type 0 where
   pub bytes : AreBytes request
   pub fits : length request ≤ 257
-  pub no_repeat : IsNoRepeat request
 
 reply_of : {D S : Type 0} (line : Hearing D S) (IsSuch : S → Type 0) → IsFair line IsSuch → (now : ℕ) (s : S) (m : Message) (request : List ℕ) (reply : Option (List ℕ)) → IsSuch s → CanBeSent request
     → line.reply now s request ≡ reply → AreBytes (bytes_of (answer_with m reply)) → IsReplyTo request reply
 reply_of line IsSuch fair now s m request None such can e are = tt
-reply_of line IsSuch fair now s m request (Some bytes) such can e are = fair.belongs now s request bytes such can.bytes (from_the_line m bytes are) can.no_repeat e
+reply_of line IsSuch fair now s m request (Some bytes) such can e are = fair.belongs now s request bytes such can.bytes (from_the_line m bytes are) e
 
 stays_such : {D S : Type 0} (line : Hearing D S) (IsSuch : S → Type 0) → IsFair line IsSuch → (now : ℕ) (s : S) (request : List ℕ) (t : Bool) → IsSuch s → IsSuch (cond t (line.heard now s request) s)
 stays_such line IsSuch fair now s request true such = fair.stays now s request such

@@ -1,6 +1,6 @@
 -- What is replied at one end is heard at the other.
-use Rattle.std.proofs.Common.{◌≡◌, ℕ, ◌≤◌, Bool, true, inl, inr, ◌&&◌, ◌||◌, ◌==◌, List, [], ◌∷◌, ◌++◌, length, map, Option, Some, None, refl, sym, ap, subst, ◌∙◌, arith}
-use Rattle.std.specs.List.{All, AllByRecursion, list_all}
+use Rattle.std.proofs.Common.{◌≡◌, ℕ, true, inl, inr, ◌&&◌, ◌||◌, ◌==◌, List, [], ◌∷◌, ◌++◌, map, Option, Some, None, refl, sym, ap, subst, ◌∙◌, arith}
+use Rattle.std.specs.List.{AllByRecursion, list_all}
 use Rattle.std.specs.Io.KnownBytes.{Consumes}
 use Rattle.std.proofs.lemmas.Bool.{cases_Bool}
 use Rattle.std.proofs.lemmas.List.Elements.{All-from_recursion}
@@ -14,7 +14,7 @@ use Rattle.rdm_widget.proofs.Requests.{answered_with}
 use Rattle.rdm_interface.specs.Answers.{is_branch, label_for, request_message, wanted_for}
 use Rattle.rdm_interface.specs.Sessions.{AreRepliesTo, IsSession, inputs_of, requests_of}
 use Rattle.rdm_interface.proofs.Sessions.{replies_are_heard}
-use Rattle.rdm_line_ends.specs.Ends.{Host, Asked, requests_in, IsHeard}
+use Rattle.rdm_line_ends.specs.Ends.{requests_in, IsHeard}
 use Rattle.rdm_line_ends.specs.Replies.{AreBytes}
 use Rattle.rdm_line_ends.proofs.Asking.{AreExchanged, all_sent, exchanged}
 use Rattle.rdm_line_ends.proofs.Replying.{if_first, if_second}

@@ -1,7 +1,7 @@
 -- What is on the wire belongs to the request that was heard.
-use Rattle.std.proofs.Common.{◌≡◌, ◌≢◌, ℕ, suc, ◌+◌, ◌<◌, ◌≤◌, ◌==◌, ◌&&◌, Bool, true, false, List, [], ◌∷◌, ◌++◌, length, fold, max, cond, Option, Some, None, refl, sym, ap, subst, ◌∙◌, inl, inr, arith}
-use Rattle.std.specs.Prelude.{AllPairs, bit_or, slice_index, map}
-use Rattle.std.specs.List.{AllByRecursion, range_with_len}
+use Rattle.std.proofs.Common.{◌≡◌, ◌≢◌, ℕ, suc, ◌<◌, ◌≤◌, ◌==◌, true, List, [], ◌∷◌, ◌++◌, length, fold, max, Option, Some, None, refl, sym, ap, subst, ◌∙◌, inl, inr, arith}
+use Rattle.std.specs.Prelude.{AllPairs, bit_or, slice_index}
+use Rattle.std.specs.List.{AllByRecursion}
 use Rattle.std.specs.Option.{option_to_list}
 use Rattle.std.proofs.lemmas.Bool.{and_from, both_ways, cases_Bool, eq-eqb}
 use Rattle.std.proofs.lemmas.List.FromFn.{length-map-range_with_len}
@@ -9,12 +9,12 @@ use Rattle.rdm_frame.specs.declared.frame.Frame.{Frame}
 use Rattle.rdm_frame.specs.Reading.{frame_in}
 use Rattle.rdm_responder.specs.History.{History}
 use Rattle.rdm_responder.specs.Requests.{request_in}
-use Rattle.rdm_responder.specs.Rules.{Account, account_of, answer_to, reply_of}
+use Rattle.rdm_responder.specs.Rules.{account_of, answer_to, reply_of}
 use Rattle.rdm_line.specs.declared.collision.Collision.{Collision}
 use Rattle.rdm_line.specs.declared.collision.Collision.TheVariants.{AllBits, First, Rubbish}
 use Rattle.rdm_line.specs.declared.on_wire.OnWire.{OnWire}
-use Rattle.rdm_line.specs.declared.on_wire.OnWire.TheVariants.{Nothing, Reply, Collision as Collided}
-use Rattle.rdm_line.specs.Collisions.{all_bits, collided, on_wire, rubbish}
+use Rattle.rdm_line.specs.declared.on_wire.OnWire.TheVariants.{Nothing}
+use Rattle.rdm_line.specs.Collisions.{all_bits, collided, on_wire}
 use Rattle.rdm_line.specs.Hearing.{answers}
 use Rattle.rdm_line.specs.Laws.{IsBranch}
 use Rattle.rdm_line.specs.Line.{uids_of}
@@ -22,7 +22,7 @@ use Rattle.rdm_line.proofs.Collisions.{collide, silent_all}
 use Rattle.rdm_messages.specs.Protocol.{from_line}
 use Rattle.rdm_interface.specs.Answers.{belongs, is_branch, wanted_for}
 use Rattle.rdm_interface.specs.Sessions.{IsReplyTo}
-use Rattle.rdm_line_ends.specs.Replies.{AreBytes, IsNoRepeat, WhatIsOnTheWireBelongs}
+use Rattle.rdm_line_ends.specs.Replies.{AreBytes, WhatIsOnTheWireBelongs}
 use Rattle.rdm_line_ends.proofs.Replying.{branch_belongs, branch_size, branches_are_answered, replies_belong}
 
 -- ---- who answered
@@ -109,17 +109,17 @@ collision_belongs hs rule request first second others (Some f) apart found e =
 -- ---- what is on the wire
 
 wire_belongs : (hs : List History) (rule : Collision) (request before bytes : List ℕ) (told : OnWire) (all : List (List ℕ)) → AllPairs (λ u v. u ≢ v) (uids_of hs) → AreBytes request → AreBytes bytes
-    → IsNoRepeat request → told ≢ Nothing → answers request hs ≡ all → on_wire rule before all ≡ (told, bytes) → IsReplyTo request (Some bytes)
-wire_belongs hs rule request before bytes told [] apart asked are once some e wire = absurd (some (sym (ap (λ (w : OnWire × List ℕ). w.0) wire)))
-wire_belongs hs rule request before bytes told (answer ∷ []) apart asked are once some e wire =
+    → told ≢ Nothing → answers request hs ≡ all → on_wire rule before all ≡ (told, bytes) → IsReplyTo request (Some bytes)
+wire_belongs hs rule request before bytes told [] apart asked are some e wire = absurd (some (sym (ap (λ (w : OnWire × List ℕ). w.0) wire)))
+wire_belongs hs rule request before bytes told (answer ∷ []) apart asked are some e wire =
     let one = first_of hs request answer [] e in
     let same : answer ≡ bytes = ap (λ (w : OnWire × List ℕ). w.1) wire in
-    replies_belong one.0 request bytes asked are once (one.1 ∙ ap (λ (l : List ℕ). Some l) same)
-wire_belongs hs rule request before bytes told (first ∷ (second ∷ others)) apart asked are once some e wire =
+    replies_belong one.0 request bytes asked are (one.1 ∙ ap (λ (l : List ℕ). Some l) same)
+wire_belongs hs rule request before bytes told (first ∷ (second ∷ others)) apart asked are some e wire =
     let same : collided rule first (second ∷ others) ≡ bytes = ap (λ (w : OnWire × List ℕ). w.1) wire in
     subst (λ (l : List ℕ). (length l ≤ 257) × (belongs (wanted_for (frame_in request)) (from_line l) ≡ true)) same
     (collision_belongs hs rule request first second others (frame_in request) apart refl e)
 
 pub on_the_wire : WhatIsOnTheWireBelongs
-on_the_wire hs rule request before bytes told apart asked are once some wire =
-    wire_belongs hs rule request before bytes told (answers request hs) apart asked are once some refl wire
+on_the_wire hs rule request before bytes told apart asked are some wire =
+    wire_belongs hs rule request before bytes told (answers request hs) apart asked are some refl wire

@@ -12,7 +12,7 @@ use Rattle.rdm_widget.specs.Rigs.{histories, rig_hearing}
 use Rattle.rdm_interface.specs.Answers.{has_end, request_message, wanted_by}
 use Rattle.rdm_interface.specs.Exchanges.{IsExchanged}
 use Rattle.rdm_interface.specs.Sessions.{CameToEnd}
-use Rattle.rdm_line_ends.specs.Replies.{AreBytes, IsNoRepeat}
+use Rattle.rdm_line_ends.specs.Replies.{AreBytes}
 
 -- ---- the host
 
@@ -34,12 +34,11 @@ requests_in xs = map (λ x. x.request) xs
 abbrev pub heard_in : List Asked → List (Option (List ℕ))
 heard_in xs = map (λ x. x.heard) xs
 
--- A request is sent as `Interface::send` promises: it has as many bytes as a frame at most, and doesn't ask for the last message
--- again. The answer comes before the limit is over, and its end.
+-- A request, which has as many bytes as a frame at most, is sent as `Interface::send` promises. The answer comes before the limit is
+-- over, and its end.
 pub record IsAnswered {C : Type 0} (tells : C → ℕ → C → Type 0) (limit : ℕ) (before after : Host C) (x : Asked) : Type 0 where
   pub bytes : AreBytes x.request
   pub fits : length x.request ≤ 257
-  pub no_repeat : IsNoRepeat x.request
   pub exchanged : IsExchanged tells limit before.clock after.clock before.unread after.unread before.written after.written before.held after.held x.request x.heard
   pub came : IsSome exchanged.answer
   pub ended : CameToEnd tells limit exchanged.between after.clock exchanged.mid after.unread exchanged.rest after.held (has_end (wanted_by x.request) exchanged.answer) exchanged.ended

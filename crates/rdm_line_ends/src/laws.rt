@@ -1,7 +1,7 @@
 //! Laws of replies and of both ends of a line. Each is the contract of a call that does nothing.
 
 ghost use Rattle.rdm_line_ends.specs.Ends.{FixtureIsHeard, OneIsHeard, RequestsAreWritten, RigIsHeard};
-ghost use Rattle.rdm_line_ends.specs.Replies.{BranchesAreAnswered, RepeatsAreAnswered, RepliesAreResponses, RepliesBelong, WhatIsOnTheWireBelongs};
+ghost use Rattle.rdm_line_ends.specs.Replies.{BranchesAreAnswered, RepliesAreResponses, RepliesBelong, WhatIsOnTheWireBelongs};
 
 use rdm_messages::Clock;
 
@@ -12,7 +12,6 @@ use rdm_messages::Clock;
 /// the last message again, which may be a queued one (sections 10.3.1 and 10.3.2).
 pub fn replies_belong_to_their_requests()
     ensures responses { RepliesAreResponses }
-    ensures repeats { RepeatsAreAnswered }
     ensures branches { BranchesAreAnswered }
     ensures belong { RepliesBelong }
     ensures wire { WhatIsOnTheWireBelongs }
@@ -23,8 +22,7 @@ pub fn replies_belong_to_their_requests()
 /// heard of each request is what was replied, or nothing if nothing was, and what is written later is all that is left over.
 ///
 /// On the line is a fixture, whose replies are those of the reply rules, after any history; or a rig of fixtures of different UIDs,
-/// and what is heard is what all of them make, each after its own history. Whatever may be asked, but STATUS_MESSAGES for the last
-/// message again: the answer to that may be one for which an interface doesn't wait.
+/// and what is heard is what all of them make, each after its own history. Whatever is asked.
 pub fn what_is_replied_is_heard<H: Clock, F: Clock>()
     ensures written { RequestsAreWritten H.tells }
     ensures fixture { FixtureIsHeard H.tells F.tells }
