@@ -9,9 +9,3 @@ both_true false b h = absurd cc
 pub is_not : (b : Bool) → not b ≡ true → b ≡ false
 is_not true e = absurd cc
 is_not false e = refl
-
-pub and_swaps : (a b : Bool) → (a && b) ≡ (b && a)
-and_swaps true true = refl
-and_swaps true false = refl
-and_swaps false true = refl
-and_swaps false false = refl

@@ -21,7 +21,6 @@ ghost use Rattle.rdm_params.specs.Jobs.Asks.{ask_of};
 mod added;
 mod addressing;
 mod commit;
-mod left_out;
 mod panel;
 mod placing;
 mod read_data;
@@ -183,7 +182,7 @@ impl Devices {
         let place = self
             .first_place(sub, Verb::Get)
             .ok_or(Nack::SubDeviceOutOfRange)?;
-        if self.lacks(pid) {
+        if self.profile.lacks(pid) {
             return Err(Nack::UnknownPid);
         }
         let found = match find(pid, sub == 0, Verb::Get) {
@@ -230,7 +229,7 @@ impl Devices {
         let place = self
             .first_place(sub, Verb::Set)
             .ok_or(Nack::SubDeviceOutOfRange)?;
-        if self.lacks(pid) {
+        if self.profile.lacks(pid) {
             return Err(Nack::UnknownPid);
         }
         let found = match find(pid, sub == 0, Verb::Set) {
