@@ -11,6 +11,7 @@ ghost use Rattle.rdm_params.specs.Commands.Commands.{got, answer_to_set, after_s
 ghost use Rattle.rdm_params.specs.Commands.Commands.{addressed, command_of, carried_out, is_all_call, reply_at};
 ghost use Rattle.rdm_params.specs.Commands.Changed.{change_of};
 ghost use Rattle.rdm_params.specs.Table.Kinds.{pid_of};
+ghost use Rattle.rdm_params.specs.Table.Rows.{is_left_out};
 ghost use Rattle.rdm_device.specs.Device.Spot.{Spot};
 ghost use Rattle.rdm_device.specs.Device.Values.{byte_or_0};
 ghost use Rattle.rdm_device.specs.declared.value.Value.{Value};
@@ -168,6 +169,14 @@ impl Devices {
             && self.is_in_range_at(sub, kind, verb, &place, &argument)
     }
 
+    /// Whether the devices lack the parameter, since the profile leaves it out.
+    #[inline(always)]
+    fn lacks(&self, pid: u16) -> bool
+        ensures { result ≡ is_left_out self.now.profile pid }
+    {
+        self.profile.lacks(pid)
+    }
+
     /// What a GET answers, or the first reason to reject it.
     // This and its steps are inlined, since a call would hand the argument on through memory.
     #[inline(always)]
@@ -182,7 +191,7 @@ impl Devices {
         let place = self
             .first_place(sub, Verb::Get)
             .ok_or(Nack::SubDeviceOutOfRange)?;
-        if self.profile.lacks(pid) {
+        if self.lacks(pid) {
             return Err(Nack::UnknownPid);
         }
         let found = match find(pid, sub == 0, Verb::Get) {
@@ -229,7 +238,7 @@ impl Devices {
         let place = self
             .first_place(sub, Verb::Set)
             .ok_or(Nack::SubDeviceOutOfRange)?;
-        if self.profile.lacks(pid) {
+        if self.lacks(pid) {
             return Err(Nack::UnknownPid);
         }
         let found = match find(pid, sub == 0, Verb::Set) {
