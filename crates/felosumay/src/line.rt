@@ -97,7 +97,19 @@ fn run_on<'a, H: Host, R: Read + Drop, W: Write + Drop>(
         writer,
         gives_up,
     } = ends;
-    let mut port = Interface::new(Watched::new(reader), Watched::new(writer), clock, limit);
+    let port = Interface::new(Watched::new(reader), Watched::new(writer), clock, limit);
+    talk(teller, errand, name, gives_up, port, log)
+}
+
+/// Does it through this interface, of a port of that name.
+fn talk<'a, H: Host, R: Read + Drop, W: Write + Drop, C: Clock + Drop>(
+    teller: Teller<H>,
+    errand: Errand,
+    name: &'a str,
+    gives_up: bool,
+    mut port: Interface<Watched<R>, Watched<W>, C>,
+    log: Log<'a, H, H::File>,
+) -> Result<(), Fault<'a>> {
     if let Err(fault) = greet(name, &mut port, gives_up) {
         return Err(told(name, fault, port));
     }

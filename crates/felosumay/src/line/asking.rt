@@ -33,15 +33,20 @@ impl<'a, H: Host, P: Port, F: Write> Console<'a, H, P, F> {
     /// Sends a command, and tells what is answered. If the result comes later, it is waited for. What is for several devices isn't
     /// answered (E1.20 section 6.2.4).
     pub fn ask(&mut self, command: &Command) -> Result<(), Fault<'a>> {
-        let uid = command.dst;
-        let mut mailbox = Mailbox::new(self.teller.rt().alloc(), uid, Want::Advisory);
-        if uid.is_broadcast() {
+        let alloc = self.teller.rt().alloc();
+        let mut mailbox = Mailbox::new(alloc, command.dst, Want::Advisory);
+        self.ask_from(&mut mailbox, command)
+    }
+
+    /// The same, from the mailbox of the device.
+    fn ask_from(&mut self, mailbox: &mut Mailbox, command: &Command) -> Result<(), Fault<'a>> {
+        if command.dst.is_broadcast() {
             let request = mailbox.ask(command)?;
             self.port.exchange(&request)?;
             return Ok(());
         }
-        match self.told_answer(&mut mailbox, command)? {
-            Response::AckTimer { tenths } => self.await_result(&mut mailbox, command, tenths),
+        match self.told_answer(mailbox, command)? {
+            Response::AckTimer { tenths } => self.await_result(mailbox, command, tenths),
             response => ended(command, response),
         }
     }

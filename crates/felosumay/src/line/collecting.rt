@@ -34,8 +34,14 @@ impl<'a, H: Host, P: Port, F: Write> Console<'a, H, P, F> {
     /// Fetches all messages that wait in a device, and tells each.
     pub fn collect(&mut self, uid: Uid) -> Result<(), Fault<'a>> {
         let mut mailbox = Mailbox::new(self.teller.rt().alloc(), uid, Want::Advisory);
+        self.fetch_all(&mut mailbox)
+    }
+
+    /// Fetches all messages that wait in the device of a mailbox, and tells each.
+    fn fetch_all(&mut self, mailbox: &mut Mailbox) -> Result<(), Fault<'a>> {
+        let uid = mailbox.uid();
         for _turn in 0..MOST_MESSAGES {
-            match self.fetch(&mut mailbox)? {
+            match self.fetch(mailbox)? {
                 Fetched::Message | Fetched::Repeat => {}
                 Fetched::Nothing => return Ok(()),
                 Fetched::NotYet(tenths) => self.teller.wait(uid, tenths),

@@ -100,8 +100,13 @@ impl<'a, H: Host, P: Port, F: Write> Console<'a, H, P, F> {
             tells_finds: has_search(script),
             tenths: 0,
         };
+        self.play_all(&mut playing, script)
+    }
+
+    /// Plays all steps of a script, and tells what was collected.
+    fn play_all(&mut self, playing: &mut Playing, script: &Script) -> Result<(), Fault<'a>> {
         for step in &script.steps {
-            self.play_step(&mut playing, step)?;
+            self.play_step(playing, step)?;
         }
         for item in playing.mailbox.collected() {
             self.port.keep(Line::Message(item.message.copy()))?;

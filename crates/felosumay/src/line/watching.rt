@@ -37,18 +37,29 @@ enum State {
 impl<'a, H: Host, P: Port, F: Write> Console<'a, H, P, F> {
     /// Finds all devices, polls them in turn, and tells each message as it comes. It doesn't end by itself.
     pub fn watch(&mut self) -> Result<(), Fault<'a>> {
-        let alloc = self.teller.rt().alloc();
         let found = self.found()?;
-        let mut watched = Vec::with_capacity(alloc, found.len())?;
-        for uid in &found {
+        let mut watched = Vec::with_capacity(self.teller.rt().alloc(), found.len())?;
+        self.begin(found.as_slice(), &mut watched)?;
+        self.watch_on(watched.as_mut_slice())
+    }
+
+    /// Takes these devices among those that are watched, and tells of each.
+    fn begin(&mut self, uids: &[Uid], watched: &mut Vec<Watched>) -> Result<(), Fault<'a>> {
+        let alloc = self.teller.rt().alloc();
+        for uid in uids {
             self.tell_of(*uid, "is watched")?;
             watched.push(Watched {
                 mailbox: Mailbox::new(alloc, *uid, Want::Advisory),
                 state: State::Answers,
             })?;
         }
+        Ok(())
+    }
+
+    /// Polls all of these, round after round.
+    fn watch_on(&mut self, watched: &mut [Watched]) -> Result<(), Fault<'a>> {
         for _round in 0..u64::MAX {
-            if !self.watch_all(watched.as_mut_slice())? {
+            if !self.watch_all(watched)? {
                 thread::sleep(&self.teller.rt(), Duration::from_millis(PAUSE));
             }
         }
