@@ -15,8 +15,9 @@ ghost use Rattle.rdm_device.specs.Device.Spot.{Spot};
 ghost use Rattle.rdm_device.specs.Device.Values.{byte_or_0};
 ghost use Rattle.rdm_device.specs.declared.value.Value.{Value};
 ghost use Rattle.rdm_params.specs.Views.Verdicts.{verdict_with, NamesItsJob};
-ghost use Rattle.rdm_params.specs.Table.Uses.{way_of, in_range_of, is_bare, reply};
+ghost use Rattle.rdm_params.specs.Table.Uses.{way_of, way_at, in_range_of, is_bare, reply};
 ghost use Rattle.rdm_params.specs.Jobs.Asks.{ask_of};
+ghost use Rattle.rdm_params.specs.Jobs.Work.{estimate_of};
 
 mod added;
 mod commit;
@@ -28,7 +29,7 @@ mod starting;
 mod thresholds;
 
 use crate::commands::sub_devices::{all_in_range, store_at, store_each};
-use crate::jobs::Way;
+use crate::jobs::{Way, estimate_by};
 use crate::table::find::{Found, find};
 use crate::table::respond::{reply_into, state_into};
 use crate::table::store::{store_added, store_common, store_own};
@@ -85,6 +86,14 @@ impl Devices {
         self.subs.len()
     }
 
+    /// How long the job of a slow command takes, in tenths of a second, for ACK_TIMER (E1.20 section 6.3.3): what the profile
+    /// estimates. It is 0 if the work isn't a slow command.
+    pub fn estimate_of(&self, work: &Work) -> u16
+        ensures { result ≡ estimate_of self.now.profile work.now }
+    {
+        estimate_by(&self.profile.estimates, work)
+    }
+
     /// What a GET answers: the value, the job that it starts, or the first reason to reject it.
     pub fn get(&self, sub: u16, pid: u16, data: &[u8]) -> Verdict
         ensures { result ≡ got self.now sub pid data.now }
@@ -100,7 +109,7 @@ impl Devices {
     #[inline(always)]
     pub fn get_into(&self, sub: u16, pid: u16, data: &[u8], body: &mut Body) -> Answer
         ensures answer { verdict_with result body.new ≡ got self.now sub pid data.now }
-        ensures job { NamesItsJob result }
+        ensures job { NamesItsJob self.now.profile result }
         ensures empty { result ≢ Answer.Done → body.new ≡ [] }
     {
         body.clear();
@@ -133,7 +142,7 @@ impl Devices {
         body: &mut Body,
     ) -> (Answer, Option<Changed>)
         ensures answer { verdict_with result.0 body.new ≡ answer_to_set self.old sub pid data.now }
-        ensures job { NamesItsJob result.0 }
+        ensures job { NamesItsJob self.old.profile result.0 }
         ensures empty { result.0 ≢ Answer.Done → body.new ≡ [] }
         ensures after { self.new ≡ after_set self.old sub pid data.now }
         ensures unchanged { (result.1 ≡ None) ↔ (self.new ≡ self.old) }
@@ -175,7 +184,7 @@ impl Devices {
         requires { body.old ≡ [] }
         ensures ok { IfOk result (λ answer. verdict_with answer body.new ≡ got self.now sub pid data.now) }
         ensures err { IfErr result (λ nack. got self.now sub pid data.now ≡ Refuse nack) }
-        ensures job { IfOk result (λ answer. NamesItsJob answer) }
+        ensures job { IfOk result (λ answer. NamesItsJob self.now.profile answer) }
         ensures empty { result ≢ Ok Answer.Done → body.new ≡ [] }
     {
         let place = self
@@ -198,7 +207,8 @@ impl Devices {
             }
         };
         let value = self.read_data(sub, Verb::Get, found, &place, data)?;
-        Ok(answer(sub, Verb::Get, found, Some(place), &value, body))
+        let profile = &self.profile;
+        Ok(answer(profile, sub, Verb::Get, found, Some(place), &value, body))
     }
 
     /// What a SET answers, or the first reason to reject it. `changed` tells whether it changed a value.
@@ -216,7 +226,7 @@ impl Devices {
         requires changed { changed.old ≡ false }
         ensures ok { IfOk result (λ answer. verdict_with answer body.new ≡ answer_to_set self.old sub pid data.now) }
         ensures err { IfErr result (λ nack. answer_to_set self.old sub pid data.now ≡ Refuse nack) }
-        ensures job { IfOk result (λ answer. NamesItsJob answer) }
+        ensures job { IfOk result (λ answer. NamesItsJob self.old.profile answer) }
         ensures empty { result ≢ Ok Answer.Done → body.new ≡ [] }
         ensures after { self.new ≡ after_set self.old sub pid data.now }
         ensures same { (changed.new ≡ false) ↔ (self.new ≡ self.old) }
@@ -249,7 +259,8 @@ impl Devices {
         }
         // The reply tells what the write left, and the write had to end the borrow of the first place.
         let place = self.place_of_reply(sub, found);
-        Ok(answer(sub, Verb::Set, found, place, &value, body))
+        let profile = &self.profile;
+        Ok(answer(profile, sub, Verb::Set, found, place, &value, body))
     }
 
     /// The device whose values the reply to a SET tells, if that has data.
@@ -345,6 +356,7 @@ impl Devices {
 /// What an accepted command answers, if this is the first device that it is for.
 #[inline(always)]
 fn answer(
+    profile: &Profile,
     sub: u16,
     verb: Verb,
     found: Found,
@@ -355,14 +367,14 @@ fn answer(
     requires empty { body.old ≡ [] }
     requires way { found.way ≡ way_of (command_of (pid_of found.kind) verb) }
     requires bare { found.is_bare ≡ is_bare (command_of (pid_of found.kind) verb) }
-    ensures answer { verdict_with result body.new ≡ answered found.way
+    ensures answer { verdict_with result body.new ≡ answered (way_at profile.now (command_of (pid_of found.kind) verb) verb value.now)
         (option_map_or (λ spot. reply (command_of (pid_of found.kind) verb) spot value.now) place.entry [])
         (work sub (pid_of found.kind) verb value.now) (ask_of (byte_or_0 value.now)) }
-    ensures job { NamesItsJob result }
+    ensures job { NamesItsJob profile.now result }
     ensures empty { result ≢ Answer.Done → body.new ≡ [] }
 {
     let arg = value.byte().unwrap_or(0);
-    match found.way {
+    match found.way.at(profile, verb, arg) {
         Way::AtOnce => {
             if let Some(place) = place {
                 match verb {
@@ -372,15 +384,15 @@ fn answer(
             }
             Answer::Done
         }
-        Way::ByJob { worker, estimate } => Answer::Starts {
+        Way::ByJob(slow) => Answer::Starts {
             work: Work {
                 sub,
                 pid: found.kind.pid(),
                 verb,
                 arg,
             },
-            worker,
-            estimate,
+            worker: slow.worker(),
+            estimate: slow.estimate(&profile.estimates),
         },
         Way::FromQueue => Answer::Queues(Ask::of(arg)),
         Way::FromStatus => Answer::Statuses(Ask::of(arg)),
