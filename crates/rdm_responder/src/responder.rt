@@ -18,7 +18,7 @@ ghost use Rattle.rdm_responder.specs.Lawful.{IsLawful, MayArrive};
 ghost use Rattle.rdm_responder.specs.Rules.{Account, account_of, account_after_report, after_outcome, answered, reply_of, job_of};
 ghost use Rattle.rdm_responder.specs.Runs.{IsArrival, outbox_of};
 ghost use Rattle.rdm_responder.specs.StandsFor.{Shows, StandsFor, IsQueueSize};
-ghost use Rattle.rdm_responder.specs.Started.{job_in, IsAsInTable};
+ghost use Rattle.rdm_responder.specs.Started.{job_in, IsAsInProfile};
 
 mod firmware;
 mod hear;
@@ -241,7 +241,7 @@ impl Responder {
         ensures reply { (h : History) → StandsFor self.old h → answered result.replied wire.new ≡ reply_of h bytes.now }
         ensures silent { OnFalse result.replied (wire.new ≡ wire.old) }
         ensures job { (h : History) → StandsFor self.old h → job_in result.started ≡ job_of h bytes.now }
-        ensures table { IfSome result.started IsAsInTable }
+        ensures table { IfSome result.started (IsAsInProfile self.old.parameters.profile) }
         ensures stands { (h : History) → StandsFor self.old h → StandsFor self.new (then_event h (Heard bytes.now)) }
         ensures unchanged { (h : History) → StandsFor self.old h → ((result.changed ≡ None)
             ↔ ((account_of (then_event h (Heard bytes.now))).parameters ≡ (account_of h).parameters)) }
