@@ -81,33 +81,29 @@ fn command<'a>(alloc: Global) -> Result<Command<'a>, Error> {
 
 /// `felosumay play`.
 fn play<'a>(alloc: Global) -> Result<Command<'a>, Error> {
-    let script = input(
-        alloc,
-        "SCRIPT",
-        "The script; standard input if omitted or -",
-    );
-    let fixture = fixture_file(
-        alloc,
-        "The fixture to play it on; standard input if -, the demonstration fixture if omitted",
-    );
     let words = Arg::new(alloc, WORDS)
-        .long("words")
+        .long(WORDS)
         .action(ArgAction::SetTrue)
         .help("Print the trace in words");
-    let chart = Arg::new(alloc, CHART)
-        .long("chart")
-        .value_name("FILE.svg")
-        .action(ArgAction::Set)
-        .help(
-            "Also write a chart of the trace to this file; if -, print the chart instead of the trace",
-        );
     Ok(
         Command::new(alloc, "play")
             .about("Play a script on a fixture and print the trace")
-            .arg(script)?
-            .arg(fixture)?
+            .arg(input(
+                alloc,
+                "SCRIPT",
+                "The script; standard input if omitted or -",
+            ))?
+            .arg(fixture_file(
+                alloc,
+                "The fixture to play it on; standard input if -, the demonstration fixture if omitted",
+            ))?
             .arg(words)?
-            .arg(chart)?,
+            .arg(option(
+                alloc,
+                CHART,
+                "FILE.svg",
+                "Also write a chart of the trace to this file; if -, print the chart instead of the trace",
+            ))?,
     )
 }
 
@@ -126,17 +122,11 @@ fn words<'a>(alloc: Global) -> Result<Command<'a>, Error> {
 
 /// `felosumay chart`.
 fn chart<'a>(alloc: Global) -> Result<Command<'a>, Error> {
-    let output = Arg::new(alloc, OUTPUT)
-        .short('o')
-        .long("output")
-        .value_name("FILE.svg")
-        .action(ArgAction::Set)
-        .help("The file to write the chart to; standard output if omitted or -");
     Ok(
         Command::new(alloc, "chart")
             .about("Draw a trace as a sequence chart in SVG")
             .arg(input(alloc, "TRACE", "The trace; standard input if omitted or -"))?
-            .arg(output)?
+            .arg(output(alloc))?
             .arg(fixture_file(
                 alloc,
                 "The fixture for sensor units and status texts; standard input if -, the demonstration fixture if omitted",
@@ -155,14 +145,15 @@ fn fixture<'a>(alloc: Global) -> Result<Command<'a>, Error> {
 
 /// `felosumay parameters`.
 fn parameters<'a>(alloc: Global) -> Result<Command<'a>, Error> {
-    let parameter = Arg::new(alloc, PARAMETER)
-        .value_name("NAME")
-        .action(ArgAction::Set)
-        .help("A parameter, by name or PID; all of them if omitted");
     Ok(
         Command::new(alloc, "parameters")
             .about("List the parameters of a fixture and the data that their commands take")
-            .arg(parameter)?
+            .arg(argument(
+                alloc,
+                PARAMETER,
+                "NAME",
+                "A parameter, by name or PID; all of them if omitted",
+            ))?
             .arg(fixture_file(
                 alloc,
                 "The fixture; standard input if -, the demonstration fixture if omitted",
@@ -172,135 +163,126 @@ fn parameters<'a>(alloc: Global) -> Result<Command<'a>, Error> {
 
 /// `felosumay widget`.
 fn widget<'a>(alloc: Global) -> Result<Command<'a>, Error> {
-    let fixture = fixture_file(
-        alloc,
-        "A fixture on the line, given once for each; the demonstration fixture if omitted",
-    )
-    .action(ArgAction::Append);
-    let subs = Arg::new(alloc, SUBS)
-        .long("subs")
-        .value_name("N")
-        .value_parser(value_parser!(u16).range(0..=i64::from(MOST_SUB_DEVICES)))
-        .help("The number of sub-devices; if omitted, all of the file's, or none without a file");
-    let speed = Arg::new(alloc, SPEED)
-        .long("speed")
-        .value_name("N")
-        .value_parser(value_parser!(u32).range(1..=1000000))
-        .help("Run slow commands N times faster; 1 if omitted");
-    let saved = Arg::new(alloc, SAVED)
-        .long("saved")
-        .value_name("FILE")
-        .action(ArgAction::Set)
-        .help("Keep the fixture's values in this file, over restarts");
     Ok(
         Command::new(alloc, "widget")
             .about(
                 "Run virtual fixtures behind an ENTTEC DMX USB Pro, on standard input and output",
             )
-            .arg(fixture)?
+            .arg(fixture_file(
+                alloc,
+                "A fixture on the line, given once for each; the demonstration fixture if omitted",
+            )
+            .action(ArgAction::Append))?
             .arg(count(alloc))?
             .arg(collision(alloc))?
-            .arg(subs)?
-            .arg(speed)?
-            .arg(saved)?,
+            .arg(subs(alloc))?
+            .arg(speed(alloc))?
+            .arg(option(
+                alloc,
+                SAVED,
+                "FILE",
+                "Keep the fixture's values in this file, over restarts",
+            ))?,
     )
 }
 
 /// `felosumay line`.
 fn line<'a>(alloc: Global) -> Result<Command<'a>, Error> {
-    let port = Arg::new(alloc, PORT)
-        .long("port")
-        .value_name("PATH")
-        .required(true)
-        .action(ArgAction::Set)
-        .help(
-            "The serial device of the interface, set raw with min 0 time 1; standard input and output if -",
-        );
-    let limit = Arg::new(alloc, LIMIT)
-        .long("limit")
-        .value_name("MS")
-        .value_parser(value_parser!(u16).range(1..=65535))
-        .help("How many milliseconds the interface is waited for; 1000 if omitted");
-    let trace = Arg::new(alloc, TRACE)
-        .long("trace")
-        .value_name("FILE")
-        .action(ArgAction::Set)
-        .help("Also write what is sent and heard to this file, as a trace");
     let line = Command::new(alloc, "line")
         .about("Find, read, set and collect on a real line, through an ENTTEC DMX USB Pro")
         .subcommand_required(true)
         .arg_required_else_help(true)
-        .arg(port)?
-        .arg(limit)?
-        .arg(trace)?;
+        .arg(port(alloc))?
+        .arg(limit(alloc))?
+        .arg(option(
+            alloc,
+            TRACE,
+            "FILE",
+            "Also write what is sent and heard to this file, as a trace",
+        ))?;
     errands(alloc, line)
 }
 
 /// What `felosumay line` does.
 fn errands<'a>(alloc: Global, line: Command<'a>) -> Result<Command<'a>, Error> {
+    let find = Command::new(alloc, "find").about("Find all devices");
+    let line = line.subcommand(find)?;
+    let line = line.subcommand(line_get(alloc)?)?;
+    let line = line.subcommand(line_set(alloc)?)?;
+    let line = line.subcommand(line_collect(alloc)?)?;
+    let watch = Command::new(alloc, "watch").about(
+        "Poll all devices in turn, and print each message as it comes",
+    );
+    let line = line.subcommand(watch)?;
+    Ok(line.subcommand(line_play(alloc)?)?)
+}
+
+/// `felosumay line get`.
+fn line_get<'a>(alloc: Global) -> Result<Command<'a>, Error> {
     let get = Command::new(alloc, "get").about("Read a parameter of a device");
+    let get = of_parameter(alloc, get)?;
+    let help = "The data, as in a script; none if omitted";
+    Ok(get.arg(argument(alloc, DATA, "DATA", help))?)
+}
+
+/// `felosumay line set`.
+fn line_set<'a>(alloc: Global) -> Result<Command<'a>, Error> {
     let set = Command::new(alloc, "set").about(
         "Set a parameter of a device, and wait for the result",
     );
-    let data = argument(
-        alloc,
-        DATA,
-        "DATA",
-        "The data, as in a script; none if omitted",
-    );
-    let value = argument(alloc, DATA, "DATA", "The data, as in a script").required(true);
+    let set = of_parameter(alloc, set)?;
+    let data = argument(alloc, DATA, "DATA", "The data, as in a script");
+    Ok(set.arg(data.required(true))?)
+}
+
+/// `felosumay line collect`.
+fn line_collect<'a>(alloc: Global) -> Result<Command<'a>, Error> {
     Ok(
-        line.subcommand(Command::new(alloc, "find").about("Find all devices"))?
-            .subcommand(of_parameter(alloc, get)?.arg(data)?)?
-            .subcommand(of_parameter(alloc, set)?.arg(value)?)?
-            .subcommand(
-                Command::new(alloc, "collect")
-                    .about("Fetch all messages that wait in a device")
-                    .arg(device(alloc))?,
-            )?
-            .subcommand(Command::new(alloc, "watch").about(
-                "Poll all devices in turn, and print each message as it comes",
-            ))?
-            .subcommand(line_play(alloc)?)?,
+        Command::new(alloc, "collect")
+            .about("Fetch all messages that wait in a device")
+            .arg(device(alloc))?,
     )
 }
 
 /// `felosumay line play`.
 fn line_play<'a>(alloc: Global) -> Result<Command<'a>, Error> {
-    let script = input(
+    let device = option(
         alloc,
-        "SCRIPT",
-        "The script; standard input if omitted or -",
+        UID,
+        "UID",
+        "The device to play it on, as 7FF0:00000001",
     );
-    let uid = Arg::new(alloc, UID)
-        .long("uid")
-        .value_name("UID")
-        .required(true)
-        .action(ArgAction::Set)
-        .help("The device to play it on, as 7FF0:00000001");
     Ok(
         Command::new(alloc, "play")
             .about("Play a script on a device and print the trace, with the times")
-            .arg(script)?
-            .arg(uid)?,
+            .arg(input(
+                alloc,
+                "SCRIPT",
+                "The script; standard input if omitted or -",
+            ))?
+            .arg(device.required(true))?,
     )
 }
 
 /// What a command of a parameter takes before its data.
 fn of_parameter<'a>(alloc: Global, command: Command<'a>) -> Result<Command<'a>, Error> {
-    let sub = Arg::new(alloc, SUB)
-        .long("sub")
-        .value_name("SUB")
-        .action(ArgAction::Set)
-        .help("The sub-device, as in a script; the root if omitted");
-    let parameter = argument(
-        alloc,
-        PARAMETER,
-        "PARAMETER",
-        "The parameter, by name or PID",
+    Ok(
+        command
+            .arg(device(alloc))?
+            .arg(argument(
+                alloc,
+                PARAMETER,
+                "PARAMETER",
+                "The parameter, by name or PID",
+            )
+            .required(true))?
+            .arg(option(
+                alloc,
+                SUB,
+                "SUB",
+                "The sub-device, as in a script; the root if omitted",
+            ))?,
     )
-    .required(true);
-    Ok(command.arg(device(alloc))?.arg(parameter)?.arg(sub)?)
 }
 
 /// The argument that names a device.
@@ -316,10 +298,64 @@ fn argument<'a>(alloc: Global, id: &'a str, name: &'a str, help: &'a str) -> Arg
         .help(help)
 }
 
+/// An option with a value, by its name.
+fn option<'a>(alloc: Global, id: &'a str, name: &'a str, help: &'a str) -> Arg<'a> {
+    argument(alloc, id, name, help).long(id)
+}
+
+/// The option for how many sub-devices there are.
+fn subs<'a>(alloc: Global) -> Arg<'a> {
+    Arg::new(alloc, SUBS)
+        .long(SUBS)
+        .value_name("N")
+        .value_parser(value_parser!(u16).range(0..=i64::from(MOST_SUB_DEVICES)))
+        .help("The number of sub-devices; if omitted, all of the file's, or none without a file")
+}
+
+/// The option for how fast time passes.
+fn speed<'a>(alloc: Global) -> Arg<'a> {
+    Arg::new(alloc, SPEED)
+        .long(SPEED)
+        .value_name("N")
+        .value_parser(value_parser!(u32).range(1..=1000000))
+        .help("Run slow commands N times faster; 1 if omitted")
+}
+
+/// The option that names the port of an interface.
+fn port<'a>(alloc: Global) -> Arg<'a> {
+    option(
+        alloc,
+        PORT,
+        "PATH",
+        "The serial device of the interface, set raw with min 0 time 1; standard input and output if -",
+    )
+    .required(true)
+}
+
+/// The option for how long the interface is waited for.
+fn limit<'a>(alloc: Global) -> Arg<'a> {
+    Arg::new(alloc, LIMIT)
+        .long(LIMIT)
+        .value_name("MS")
+        .value_parser(value_parser!(u16).range(1..=65535))
+        .help("How many milliseconds the interface is waited for; 1000 if omitted")
+}
+
+/// The option that names the file of a chart.
+fn output<'a>(alloc: Global) -> Arg<'a> {
+    option(
+        alloc,
+        OUTPUT,
+        "FILE.svg",
+        "The file to write the chart to; standard output if omitted or -",
+    )
+    .short('o')
+}
+
 /// The option for how many of each fixture there are.
 fn count<'a>(alloc: Global) -> Arg<'a> {
     Arg::new(alloc, COUNT)
-        .long("count")
+        .long(COUNT)
         .value_name("N")
         .value_parser(value_parser!(u16).range(1..=i64::from(MOST_FIXTURES)))
         .help("The number of each fixture, with device IDs counted up; 1 if omitted")
@@ -328,7 +364,7 @@ fn count<'a>(alloc: Global) -> Arg<'a> {
 /// The option for what is on the line if several fixtures answer at once.
 fn collision<'a>(alloc: Global) -> Arg<'a> {
     Arg::new(alloc, COLLISION)
-        .long("collision")
+        .long(COLLISION)
         .value_name("RULE")
         .value_parser(COLLISIONS.as_slice())
         .help("What comes of several answers at once; all-bits if omitted")
@@ -336,17 +372,10 @@ fn collision<'a>(alloc: Global) -> Arg<'a> {
 
 /// A text that is read, by its place.
 fn input<'a>(alloc: Global, name: &'a str, help: &'a str) -> Arg<'a> {
-    Arg::new(alloc, INPUT)
-        .value_name(name)
-        .action(ArgAction::Set)
-        .help(help)
+    argument(alloc, INPUT, name, help)
 }
 
 /// The option of a fixture file.
 fn fixture_file<'a>(alloc: Global, help: &'a str) -> Arg<'a> {
-    Arg::new(alloc, FIXTURE)
-        .long("fixture")
-        .value_name("FILE")
-        .action(ArgAction::Set)
-        .help(help)
+    option(alloc, FIXTURE, "FILE", help)
 }

@@ -4,7 +4,7 @@ use Rattle.std.proofs.lemmas.Bool.{eqb-true}
 use Rattle.rdm_frame.specs.declared.frame.Frame.{Frame}
 use Rattle.rdm_frame.specs.declared.uid.Uid.{Uid}
 use Rattle.rdm_frame.specs.Addressing.{same_uid}
-use Rattle.rdm_interface.specs.Answers.{is_poll, responds_to, is_response}
+use Rattle.rdm_interface.specs.Answers.{is_fetch, responds_to, is_response}
 use Rattle.rdm_interface.specs.Sessions.{LateAnswersArePassedOver}
 
 both : (a b : Bool) → (a && b) ≡ true → (a ≡ true) × (b ≡ true)
@@ -39,16 +39,16 @@ is_of request f e =
       command = one.1;
     }
 
--- the command of a response that answers no poll
+-- the command of a response to what fetches no message
 record IsSameCommand (request f : Frame) : Type 0 where
   class : f.class ≡ request.class + 1
   sub : f.sub ≡ request.sub
   pid : f.pid ≡ request.pid
 
-same_command : (request f : Frame) → is_poll request ≡ false → responds_to request f ≡ true → IsSameCommand request f
-same_command request f no_poll e =
+same_command : (request f : Frame) → is_fetch request ≡ false → responds_to request f ≡ true → IsSameCommand request f
+same_command request f no_fetch e =
     let tested : ((f.class == request.class + 1) && (f.sub == request.sub) && (f.pid == request.pid)) ≡ true =
-    sym (ap (λ t. cond t ((f.class == 0x21) || (f.class == 0x31)) ((f.class == request.class + 1) && (f.sub == request.sub) && (f.pid == request.pid))) no_poll) ∙ e in
+    sym (ap (λ t. cond t ((f.class == 0x21) || (f.class == 0x31)) ((f.class == request.class + 1) && (f.sub == request.sub) && (f.pid == request.pid))) no_fetch) ∙ e in
     let one = both ((f.class == request.class + 1) && (f.sub == request.sub)) (f.pid == request.pid) tested in
     let two = both (f.class == request.class + 1) (f.sub == request.sub) one.0 in
     record {
@@ -65,8 +65,8 @@ late_answers request other f a b =
       number = sym one.number ∙ two.number;
       device = sym one.device ∙ two.device;
       controller = sym one.controller ∙ two.controller;
-      command = λ no_poll no_other.
-          let c = same_command request f no_poll one.command in
+      command = λ no_fetch no_other.
+          let c = same_command request f no_fetch one.command in
           let d = same_command other f no_other two.command in
           (omega (arith, c.class, d.class), sym c.sub ∙ d.sub, sym c.pid ∙ d.pid);
     }

@@ -12,15 +12,20 @@ use Rattle.rdm_interface.specs.declared.wanted.Wanted.TheVariants.{Labelled, Bra
 
 -- ---- responses
 
--- GET QUEUED_MESSAGE. Section 10.3.1.
-abbrev pub is_poll : Frame → Bool
-is_poll f = (f.class == 0x20) && (f.pid == 0x0020)
+-- STATUS_GET_LAST_MESSAGE of table A-4: the last message again
+abbrev pub asks_again : List ℕ → Bool
+asks_again body = (length body == 1) && (slice_index body 0 == 0x01)
 
--- A response has the class of its request plus 1, and the same sub-device and parameter. A poll is answered by the response to
--- a GET or a SET of any parameter. Sections 6.2.9, 6.2.10 and 10.3.1.
+-- A request that fetches a message: GET QUEUED_MESSAGE, and GET STATUS_MESSAGES of the last message again, which may be a queued
+-- one. Sections 10.3.1 and 10.3.2.
+abbrev pub is_fetch : Frame → Bool
+is_fetch f = (f.class == 0x20) && ((f.pid == 0x0020) || ((f.pid == 0x0030) && asks_again f.body))
+
+-- A response has the class of its request plus 1, and the same sub-device and parameter. What fetches a message is answered by the
+-- response to a GET or a SET of any parameter. Sections 6.2.9, 6.2.10, 10.3.1 and 10.3.2.
 abbrev pub responds_to : Frame → Frame → Bool
 responds_to request f =
-    if is_poll request then (f.class == 0x21) || (f.class == 0x31)
+    if is_fetch request then (f.class == 0x21) || (f.class == 0x31)
     else (f.class == request.class + 1) && (f.sub == request.sub) && (f.pid == request.pid)
 
 -- It comes in the transaction of this request, from the device that was asked, to the controller that did. Sections 6.2.4 to 6.2.6.

@@ -7,7 +7,7 @@ use Rattle.rdm_messages.specs.Framing.{Message}
 use Rattle.rdm_messages.specs.Protocol.{from_line}
 use Rattle.rdm_messages.specs.Serving.{answers_with}
 use Rattle.rdm_interface.specs.declared.wanted.Wanted.TheVariants.{Labelled}
-use Rattle.rdm_interface.specs.Answers.{is_poll, is_response, wanted_by, request_message, belongs, has_end, heard_in}
+use Rattle.rdm_interface.specs.Answers.{is_fetch, is_response, wanted_by, request_message, belongs, has_end, heard_in}
 use Rattle.rdm_interface.specs.Exchanges.{IsNext, IsEnded, IsExchanged}
 
 -- ---- this end
@@ -87,7 +87,7 @@ pub record AreAlike (request other : Frame) : Type 0 where
   pub number : request.tn ≡ other.tn
   pub device : request.dst ≡ other.dst
   pub controller : request.src ≡ other.src
-  pub command : is_poll request ≡ false → is_poll other ≡ false
+  pub command : is_fetch request ≡ false → is_fetch other ≡ false
       → (request.class ≡ other.class) × (request.sub ≡ other.sub) × (request.pid ≡ other.pid)
 
 -- A response to an earlier request, however late, is the answer to no other one that isn't like it.

@@ -18,7 +18,7 @@ pub fn answered_is_in_time<C: Clock>()
 {}
 
 /// A response answers no two requests that differ in their transaction number, their device or their controller, or, but for
-/// polls, in their command class, sub-device or parameter (E1.20 section 6.2).
+/// those that fetch a message, in their command class, sub-device or parameter (E1.20 section 6.2).
 pub fn late_answers_are_passed_over()
     ensures { LateAnswersArePassedOver }
 {}

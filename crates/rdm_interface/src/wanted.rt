@@ -4,10 +4,11 @@ ghost use Rattle.std.specs.Prelude.{◌≡◌, ◌&&◌, nat_lt, false, length, 
 ghost use Rattle.std.specs.Option.{option_map_or};
 ghost use Rattle.rdm_frame.specs.Reading.{frame_in};
 ghost use Rattle.rdm_messages.specs.Framing.{message_in};
-ghost use Rattle.rdm_interface.specs.Answers.{belongs, is_branch, is_from_line, is_poll, is_response, label_for, line_bytes, responds_to, wanted_by};
+ghost use Rattle.rdm_interface.specs.Answers.{asks_again, belongs, is_branch, is_fetch, is_from_line, is_response, label_for, line_bytes, responds_to, wanted_by};
 
 use rdm_frame::standard::{
-    DISC_UNIQUE_BRANCH, DISCOVERY_COMMAND, GET_COMMAND, GET_COMMAND_RESPONSE, SET_COMMAND_RESPONSE,
+    DISC_UNIQUE_BRANCH, DISCOVERY_COMMAND, GET_COMMAND, GET_COMMAND_RESPONSE, GET_LAST_MESSAGE,
+    SET_COMMAND_RESPONSE,
 };
 use rdm_frame::{FrameView, decode_view};
 use rdm_messages::MessageView;
@@ -115,11 +116,11 @@ fn is_response(request: &FrameView<'_>, frame: &FrameView<'_>) -> bool
         && responds_to(request, frame)
 }
 
-/// Whether a frame responds to the command of a request: a poll is answered by any message (section 10.3.1).
+/// Whether a frame responds to the command of a request: what fetches a message is answered by any (sections 10.3.1 and 10.3.2).
 fn responds_to(request: &FrameView<'_>, frame: &FrameView<'_>) -> bool
     ensures { result ≡ responds_to request.now frame.now }
 {
-    if is_poll(request) {
+    if is_fetch(request) {
         frame.class == GET_COMMAND_RESPONSE || frame.class == SET_COMMAND_RESPONSE
     } else {
         u16::from(frame.class) == u16::from(request.class) + 1
@@ -128,9 +129,18 @@ fn responds_to(request: &FrameView<'_>, frame: &FrameView<'_>) -> bool
     }
 }
 
-/// Whether a request is GET QUEUED_MESSAGE.
-fn is_poll(request: &FrameView<'_>) -> bool
-    ensures { result ≡ is_poll request.now }
+/// Whether a request fetches a message: GET QUEUED_MESSAGE, or GET STATUS_MESSAGES of the last message again.
+fn is_fetch(request: &FrameView<'_>) -> bool
+    ensures { result ≡ is_fetch request.now }
 {
-    request.class == GET_COMMAND && request.pid == Kind::QueuedMessage.pid()
+    request.class == GET_COMMAND
+        && (request.pid == Kind::QueuedMessage.pid()
+            || request.pid == Kind::StatusMessages.pid() && asks_again(request.body))
+}
+
+/// Whether these data are the status type of the last message again (table A-4).
+fn asks_again(body: &[u8]) -> bool
+    ensures { result ≡ asks_again body.now }
+{
+    body.len() == 1 && body[0] == GET_LAST_MESSAGE
 }

@@ -100,9 +100,6 @@ plain_leaves p sub pid bytes nack here none stays e = sym (refused_leaves p sub 
 abbrev unit_err : Nack → Result (Unit {0}) Nack
 unit_err nack = Err nack
 
-err_is : (a b : Nack) → unit_err a ≡ unit_err b → a ≡ b
-err_is a b e = cc
-
 at_sub : (first later : Option Row) (verb : Verb) (nack : Nack) → access later false verb ≡ Err UnknownPid → access first false verb ≡ Err nack → access (row_or first later) false verb ≡ Err nack
 at_sub None later verb nack unknown e = unknown ∙ e
 at_sub (Some r) later verb nack unknown e = e
@@ -121,24 +118,6 @@ set_of_sub p sub pid bytes nack here n stays e = refused_set p sub pid bytes nac
 
 pub leaves_of_sub : (p : Parameters) (sub pid : ℕ) (bytes : List ℕ) (nack : Nack) → is_some_device (addressed p sub Set) ≡ true → sub ≢ 0 → is_left_out p.profile pid ≡ false → access (row_of pid) (sub == 0) Set ≡ Err nack → p ≡ after_set p sub pid bytes
 leaves_of_sub p sub pid bytes nack here n stays e = sym (refused_leaves p sub pid bytes nack here (sub_access p.profile pid sub Set nack n stays e))
-
--- of a parameter of the table that has no such command
-at_table : (first later : Option Row) (is_root : Bool) (verb : Verb) (nack : Nack) → nack ≢ UnknownPid → access first is_root verb ≡ Err nack → access (row_or first later) is_root verb ≡ Err nack
-at_table None later is_root verb nack n e = absurd (n (err_is nack UnknownPid (sym e)))
-at_table (Some r) later is_root verb nack n e = e
-
-table_access : (p : Profile) (pid : ℕ) (is_root : Bool) (verb : Verb) (nack : Nack) → nack ≢ UnknownPid → is_left_out p pid ≡ false → access (row_of pid) is_root verb ≡ Err nack → access (row_at p pid) is_root verb ≡ Err nack
-table_access p pid is_root verb nack n stays e =
-    ap (λ (row : Option Row). access row is_root verb) (stays_at p pid stays) ∙ at_table (row_of pid) (row_here p pid) is_root verb nack n e
-
-pub get_of_table : (p : Parameters) (sub pid : ℕ) (bytes : List ℕ) (nack : Nack) → is_some_device (addressed p sub Get) ≡ true → nack ≢ UnknownPid → is_left_out p.profile pid ≡ false → access (row_of pid) (sub == 0) Get ≡ Err nack → got p sub pid bytes ≡ Refuse nack
-get_of_table p sub pid bytes nack here n stays e = refused_get p sub pid bytes nack here (table_access p.profile pid (sub == 0) Get nack n stays e)
-
-pub set_of_table : (p : Parameters) (sub pid : ℕ) (bytes : List ℕ) (nack : Nack) → is_some_device (addressed p sub Set) ≡ true → nack ≢ UnknownPid → is_left_out p.profile pid ≡ false → access (row_of pid) (sub == 0) Set ≡ Err nack → answer_to_set p sub pid bytes ≡ Refuse nack
-set_of_table p sub pid bytes nack here n stays e = refused_set p sub pid bytes nack here (table_access p.profile pid (sub == 0) Set nack n stays e)
-
-pub leaves_of_table : (p : Parameters) (sub pid : ℕ) (bytes : List ℕ) (nack : Nack) → is_some_device (addressed p sub Set) ≡ true → nack ≢ UnknownPid → is_left_out p.profile pid ≡ false → access (row_of pid) (sub == 0) Set ≡ Err nack → p ≡ after_set p sub pid bytes
-leaves_of_table p sub pid bytes nack here n stays e = sym (refused_leaves p sub pid bytes nack here (table_access p.profile pid (sub == 0) Set nack n stays e))
 
 -- ---- at the root, of a PID that the table doesn't have
 
@@ -211,12 +190,6 @@ get_here_replies p pid bytes body stays unknown e =
     let here = row_here p.profile pid in
     sym (got_at p pid bytes at ∙ replies p pid (command_in here Get) Get (handed_here (root_spot p) here Get bytes) body ((here_is p.profile pid).way Get) e)
 
-pub get_here_refuses : (p : Parameters) (pid : ℕ) (bytes : List ℕ) (nack : Nack) → is_left_out p.profile pid ≡ false → access (row_of pid) true Get ≡ Err UnknownPid → reply_here (root_spot p) (row_here p.profile pid) Get bytes ≡ Err nack → got p 0 pid bytes ≡ Refuse nack
-get_here_refuses p pid bytes nack stays unknown e =
-    let at = at_here p.profile pid Get stays unknown in
-    let here = row_here p.profile pid in
-    got_at p pid bytes at ∙ ap (verdict p 0 pid (command_in here Get) Get) (told_err (handed_here (root_spot p) here Get bytes) (command_in here Get) (root_spot p) nack e)
-
 set_at : (p q : Parameters) (pid : ℕ) (bytes : List ℕ) → row_at p.profile pid ≡ row_here p.profile pid → verdict q 0 pid (command_at p pid Set) Set (accepted p 0 pid Set bytes) ≡ verdict q 0 pid (command_in (row_here p.profile pid) Set) Set (handed_here (root_spot p) (row_here p.profile pid) Set bytes)
 set_at p q pid bytes e =
     ap (λ (row : Option Row). verdict q 0 pid (command_in row Set) Set (accepted p 0 pid Set bytes)) e ∙ ap (verdict q 0 pid (command_in (row_here p.profile pid) Set) Set) (accepted_here p pid Set bytes e)
@@ -233,12 +206,6 @@ set_here_replies p pid bytes stays unknown e =
     let here = row_here p.profile pid in
     let is = here_is p.profile pid in
     sym (set_at p (after_set p 0 pid bytes) pid bytes at ∙ silent_reply (after_set p 0 pid bytes) pid (command_in here Set) (handed_here (root_spot p) here Set bytes) (is.way Set) is.silent e)
-
-pub set_here_refuses : (p : Parameters) (pid : ℕ) (bytes : List ℕ) (nack : Nack) → is_left_out p.profile pid ≡ false → access (row_of pid) true Set ≡ Err UnknownPid → handed_here (root_spot p) (row_here p.profile pid) Set bytes ≡ Err nack → answer_to_set p 0 pid bytes ≡ Refuse nack
-unfolding answer_to_set
-set_here_refuses p pid bytes nack stays unknown e =
-    let at = at_here p.profile pid Set stays unknown in
-    set_at p (after_set p 0 pid bytes) pid bytes at ∙ ap (verdict (after_set p 0 pid bytes) 0 pid (command_in (row_here p.profile pid) Set) Set) e
 
 quick : (way : Way) → way ≡ AtOnce → is_by_job way ≡ false
 quick way e = ap is_by_job e
@@ -266,30 +233,14 @@ get_ok p sub pid bytes body nack (Err n) zero unknown stays e h = tt
 get_ok p sub pid bytes body nack (Ok u) zero unknown stays e h =
     subst (λ (s : ℕ). Reply body ≡ got p s pid bytes) (sym zero) (get_here_replies p pid bytes body stays (at_root_unknown pid sub Get nack zero unknown e) h)
 
-pub get_err : {A : Type 0} (p : Parameters) (sub pid : ℕ) (bytes : List ℕ) (nack : Nack) (r : Result A Nack) → sub ≡ 0 → nack ≡ UnknownPid → is_left_out p.profile pid ≡ false → access (row_of pid) (sub == 0) Get ≡ Err nack → IfErr r (λ reason. reply_here (root_spot p) (row_here p.profile pid) Get bytes ≡ Err reason) → IfErr r (λ reason. got p sub pid bytes ≡ Refuse reason)
-get_err p sub pid bytes nack (Ok u) zero unknown stays e h = tt
-get_err p sub pid bytes nack (Err n) zero unknown stays e h =
-    subst (λ (s : ℕ). got p s pid bytes ≡ Refuse n) (sym zero) (get_here_refuses p pid bytes n stays (at_root_unknown pid sub Get nack zero unknown e) h)
-
 pub set_ok : {A : Type 0} (p : Parameters) (sub pid : ℕ) (bytes : List ℕ) (nack : Nack) (r : Result A Nack) → sub ≡ 0 → nack ≡ UnknownPid → is_left_out p.profile pid ≡ false → access (row_of pid) (sub == 0) Set ≡ Err nack → IfOk r (λ u. is_ok (handed_here (root_spot p) (row_here p.profile pid) Set bytes) ≡ true) → IfOk r (λ u. Reply [] ≡ answer_to_set p sub pid bytes)
 set_ok p sub pid bytes nack (Err n) zero unknown stays e h = tt
 set_ok p sub pid bytes nack (Ok u) zero unknown stays e h =
     subst (λ (s : ℕ). Reply [] ≡ answer_to_set p s pid bytes) (sym zero) (set_here_replies p pid bytes stays (at_root_unknown pid sub Set nack zero unknown e) h)
 
-pub set_err : {A : Type 0} (p : Parameters) (sub pid : ℕ) (bytes : List ℕ) (nack : Nack) (r : Result A Nack) → sub ≡ 0 → nack ≡ UnknownPid → is_left_out p.profile pid ≡ false → access (row_of pid) (sub == 0) Set ≡ Err nack → IfErr r (λ reason. handed_here (root_spot p) (row_here p.profile pid) Set bytes ≡ Err reason) → IfErr r (λ reason. answer_to_set p sub pid bytes ≡ Refuse reason)
-set_err p sub pid bytes nack (Ok u) zero unknown stays e h = tt
-set_err p sub pid bytes nack (Err n) zero unknown stays e h =
-    subst (λ (s : ℕ). answer_to_set p s pid bytes ≡ Refuse n) (sym zero) (set_here_refuses p pid bytes n stays (at_root_unknown pid sub Set nack zero unknown e) h)
-
 pub set_after : (p new : Parameters) (sub pid : ℕ) (bytes : List ℕ) (nack : Nack) → sub ≡ 0 → nack ≡ UnknownPid → is_left_out p.profile pid ≡ false → access (row_of pid) (sub == 0) Set ≡ Err nack → new ≡ record p { added = after_here (root_spot p) (row_here p.profile pid) bytes } → new ≡ after_set p sub pid bytes
 set_after p new sub pid bytes nack zero unknown stays e after =
     subst (λ (s : ℕ). new ≡ after_set p s pid bytes) (sym zero) (after ∙ sym (set_here_leaves p pid bytes stays (at_root_unknown pid sub Set nack zero unknown e)))
-
--- a SET that is refused leaves the values
-pub set_unchanged : {A : Type 0} (p new : Parameters) (pid : ℕ) (bytes : List ℕ) (r : Result A Nack) → new ≡ record p { added = after_here (root_spot p) (row_here p.profile pid) bytes } → IfErr r (λ reason. handed_here (root_spot p) (row_here p.profile pid) Set bytes ≡ Err reason) → IfErr r (λ reason. new ≡ p)
-set_unchanged p new pid bytes (Ok u) after h = tt
-set_unchanged p new pid bytes (Err n) after h =
-    after ∙ ap (λ (value : Result Value Nack). record p { added = stored_here (root_spot p) (command_in (row_here p.profile pid) Set) value }) h
 
 -- ---- a SET of a parameter that the maker adds
 

@@ -4,13 +4,14 @@ mod sub_devices;
 
 ghost use Rattle.std.specs.Prelude.{[], Some, None, IfSome, false, length, ◌≡◌, ◌≢◌, ◌↔◌, IfOk, IfErr, slice_get};
 ghost use Rattle.std.specs.List.{list_all};
-ghost use Rattle.std.specs.Option.{option_map, option_map_or};
+ghost use Rattle.std.specs.Option.{option_copied, option_map_or};
 ghost use Rattle.rdm_params.specs.declared.kind.Verb.TheVariants.{Set};
 ghost use Rattle.rdm_params.specs.declared.verdict.Verdict.TheVariants.{Refuse};
 ghost use Rattle.rdm_params.specs.Commands.Commands.{got, answer_to_set, after_set, in_range, answered, work};
-ghost use Rattle.rdm_params.specs.Commands.Commands.{addressed, command_of, carried_out, is_all_call, reply_at, root_spot, sub_spot};
+ghost use Rattle.rdm_params.specs.Commands.Commands.{addressed, command_of, carried_out, is_all_call, reply_at};
 ghost use Rattle.rdm_params.specs.Commands.Changed.{change_of};
 ghost use Rattle.rdm_params.specs.Table.Kinds.{pid_of};
+ghost use Rattle.rdm_params.specs.Table.Rows.{is_left_out};
 ghost use Rattle.rdm_device.specs.Device.Spot.{Spot};
 ghost use Rattle.rdm_device.specs.Device.Values.{byte_or_0};
 ghost use Rattle.rdm_device.specs.declared.value.Value.{Value};
@@ -20,6 +21,7 @@ ghost use Rattle.rdm_params.specs.Jobs.Asks.{ask_of};
 ghost use Rattle.rdm_params.specs.Jobs.Work.{estimate_of};
 
 mod added;
+mod addressing;
 mod commit;
 mod panel;
 mod placing;
@@ -176,6 +178,14 @@ impl Devices {
             && self.is_in_range_at(sub, kind, verb, &place, &argument)
     }
 
+    /// Whether the devices lack the parameter, since the profile leaves it out.
+    #[inline(always)]
+    fn lacks(&self, pid: u16) -> bool
+        ensures { result ≡ is_left_out self.now.profile pid }
+    {
+        self.profile.lacks(pid)
+    }
+
     /// What a GET answers, or the first reason to reject it.
     // This and its steps are inlined, since a call would hand the argument on through memory.
     #[inline(always)]
@@ -190,25 +200,30 @@ impl Devices {
         let place = self
             .first_place(sub, Verb::Get)
             .ok_or(Nack::SubDeviceOutOfRange)?;
-        if self.profile.lacks(pid) {
+        if self.lacks(pid) {
             return Err(Nack::UnknownPid);
         }
         let found = match find(pid, sub == 0, Verb::Get) {
             Ok(found) => found,
-            Err(nack) => {
-                // Before the call, which costs more than the test.
+            Err(Nack::UnknownPid) => {
+                // Before the call, which costs more than the tests.
                 if self.profile.own.as_slice().is_empty() {
-                    return Err(nack);
+                    return Err(Nack::UnknownPid);
                 }
-                return match self.get_added(sub, pid, data, nack, body) {
+                if sub != 0 {
+                    return Err(Nack::UnknownPid);
+                }
+                return match self.get_at_root(pid, data, body) {
                     Ok(()) => Ok(Answer::Done),
                     Err(nack) => Err(nack),
                 };
             }
+            Err(nack) => return Err(nack),
         };
         let value = self.read_data(sub, Verb::Get, found, &place, data)?;
         let profile = &self.profile;
-        Ok(answer(profile, sub, Verb::Get, found, Some(place), &value, body))
+        let place = Some(&place);
+        Ok(answer(profile, sub, Verb::Get, found, place, &value, body))
     }
 
     /// What a SET answers, or the first reason to reject it. `changed` tells whether it changed a value.
@@ -231,20 +246,22 @@ impl Devices {
         ensures after { self.new ≡ after_set self.old sub pid data.now }
         ensures same { (changed.new ≡ false) ↔ (self.new ≡ self.old) }
     {
-        let lacks = self.profile.lacks(pid);
         let place = self
             .first_place(sub, Verb::Set)
             .ok_or(Nack::SubDeviceOutOfRange)?;
-        if lacks {
+        if self.lacks(pid) {
             return Err(Nack::UnknownPid);
         }
         let found = match find(pid, sub == 0, Verb::Set) {
             Ok(found) => found,
-            Err(nack) => {
+            Err(Nack::UnknownPid) => {
                 if self.profile.own.as_slice().is_empty() {
-                    return Err(nack);
+                    return Err(Nack::UnknownPid);
                 }
-                return match self.set_added(sub, pid, data, nack) {
+                if sub != 0 {
+                    return Err(Nack::UnknownPid);
+                }
+                return match self.set_at_root(pid, data) {
                     Ok(differs) => {
                         *changed = differs;
                         Ok(Answer::Done)
@@ -252,30 +269,36 @@ impl Devices {
                     Err(nack) => Err(nack),
                 };
             }
+            Err(nack) => return Err(nack),
         };
         let value = self.read_data(sub, Verb::Set, found, &place, data)?;
         if !found.way.is_by_job() {
             *changed = self.carry_out(sub, found.kind, &value);
         }
-        // The reply tells what the write left, and the write had to end the borrow of the first place.
-        let place = self.place_of_reply(sub, found);
-        let profile = &self.profile;
-        Ok(answer(profile, sub, Verb::Set, found, place, &value, body))
+        Ok(self.answer_to_set(sub, found, &value, body))
     }
 
-    /// The device whose values the reply to a SET tells, if that has data.
+    /// What an accepted SET answers, after it was carried out at the devices that it is for.
     #[inline(always)]
     #[tactic(auto, using(crate::proofs::Silent::silent_at))]
-    fn place_of_reply(&self, sub: u16, found: Found) -> Option<Place<'_>>
-        requires { found.has_reply ≡ false → (spot : Spot) (value : Value) → reply (command_of (pid_of found.kind) Set) spot value ≡ [] }
-        ensures { (value : Value) → option_map_or (λ spot. reply (command_of (pid_of found.kind) Set) spot value) result []
-            ≡ reply_at (command_of (pid_of found.kind) Set) (addressed self.now sub Set) value }
+    fn answer_to_set(&self, sub: u16, found: Found, value: &Argument<'_>, body: &mut Body) -> Answer
+        requires empty { body.old ≡ [] }
+        requires way { found.way ≡ way_of (command_of (pid_of found.kind) Set) }
+        requires bare { found.is_bare ≡ is_bare (command_of (pid_of found.kind) Set) }
+        requires silent { found.has_reply ≡ false → (spot : Spot) (value : Value) → reply (command_of (pid_of found.kind) Set) spot value ≡ [] }
+        ensures answer { verdict_with result body.new ≡ answered (way_at self.now.profile (command_of (pid_of found.kind) Set) Set value.now)
+            (reply_at (command_of (pid_of found.kind) Set) (addressed self.now sub Set) value.now)
+            (work sub (pid_of found.kind) Set value.now) (ask_of (byte_or_0 value.now)) }
+        ensures job { NamesItsJob self.now.profile result }
+        ensures empty { result ≢ Answer.Done → body.new ≡ [] }
     {
-        if found.has_reply {
-            self.first_place(sub, Verb::Set)
-        } else {
-            None
+        let profile = &self.profile;
+        // Few replies tell what the write left, and the write had to end the borrow of the first place.
+        if !found.has_reply {
+            return answer(profile, sub, Verb::Set, found, None, value, body);
         }
+        let place = self.first_place(sub, Verb::Set);
+        answer(profile, sub, Verb::Set, found, place.as_ref(), value, body)
     }
 
     /// Whether a value is in range at each device that a command is for, of which this is the first place.
@@ -318,39 +341,6 @@ impl Devices {
             store_at(kind, value, profile, &mut self.subs, sub as usize - 1)
         }
     }
-
-    /// The first device that a command is for, if there is one.
-    #[tactic(auto, using(crate::proofs::Places::first_of_subs, crate::proofs::Places::first_of_one))]
-    fn first_place(&self, sub: u16, verb: Verb) -> Option<Place<'_>>
-        ensures { result ≡ slice_get (addressed self.now sub verb) 0 }
-    {
-        if sub == 0 {
-            return Some(self.root_place());
-        }
-        if is_all_call(sub, verb) {
-            return self.sub_place(0);
-        }
-        self.sub_place(sub as usize - 1)
-    }
-
-    /// The sub-device at this place, from 0, if there is one.
-    #[tactic(auto, using(crate::proofs::Places::at_place))]
-    fn sub_place(&self, index: usize) -> Option<Place<'_>>
-        ensures { result ≡ option_map (sub_spot self.now) (slice_get self.now.subs index) }
-    {
-        match self.subs.get(index) {
-            Some(common) => Some(Place::of_sub(&self.profile, common)),
-            None => None,
-        }
-    }
-
-    /// The root.
-    #[inline(always)]
-    fn root_place(&self) -> Place<'_>
-        ensures { result ≡ root_spot self.now }
-    {
-        Place::of_root(&self.profile, &self.root, &self.own)
-    }
 }
 
 /// What an accepted command answers, if this is the first device that it is for.
@@ -360,7 +350,7 @@ fn answer(
     sub: u16,
     verb: Verb,
     found: Found,
-    place: Option<Place<'_>>,
+    place: Option<&Place<'_>>,
     value: &Argument<'_>,
     body: &mut Body,
 ) -> Answer
@@ -368,7 +358,7 @@ fn answer(
     requires way { found.way ≡ way_of (command_of (pid_of found.kind) verb) }
     requires bare { found.is_bare ≡ is_bare (command_of (pid_of found.kind) verb) }
     ensures answer { verdict_with result body.new ≡ answered (way_at profile.now (command_of (pid_of found.kind) verb) verb value.now)
-        (option_map_or (λ spot. reply (command_of (pid_of found.kind) verb) spot value.now) place.entry [])
+        (option_map_or (λ spot. reply (command_of (pid_of found.kind) verb) spot value.now) (option_copied place.entry) [])
         (work sub (pid_of found.kind) verb value.now) (ask_of (byte_or_0 value.now)) }
     ensures job { NamesItsJob profile.now result }
     ensures empty { result ≢ Answer.Done → body.new ≡ [] }
@@ -378,8 +368,8 @@ fn answer(
         Way::AtOnce => {
             if let Some(place) = place {
                 match verb {
-                    Verb::Get if found.is_bare => state_into(found.kind, &place, body),
-                    _ => reply_into(found.kind, verb, &place, value, body),
+                    Verb::Get if found.is_bare => state_into(found.kind, place, body),
+                    _ => reply_into(found.kind, verb, place, value, body),
                 }
             }
             Answer::Done

@@ -7,3 +7,4 @@ pub mod Options
 pub mod Room
 pub mod Runs
 pub mod Shown
+pub mod Sources

@@ -1,6 +1,6 @@
 -- The first five reply rules: which of the bytes that are heard are a request to the device. The first rule that applies
 -- decides.
-use Rattle.std.specs.Prelude.{Bool, true, false, length, Option, Some, None, ◌==◌, ◌&&◌, if◌then◌else◌}
+use Rattle.std.specs.Prelude.{◌≡◌, ℕ, ◌≤◌, Bool, true, false, List, length, slice_index, Option, Some, None, ◌==◌, ◌&&◌, if◌then◌else◌}
 use Rattle.rdm_frame.specs.declared.uid.Uid.{Uid}
 use Rattle.rdm_frame.specs.declared.frame.Frame.{Frame}
 use Rattle.rdm_frame.specs.Addressing.{is_broadcast, is_addressed}
@@ -42,3 +42,7 @@ request_of own f =
 abbrev pub request_in : Uid → Option Frame → Request
 request_in own None = Ignored
 request_in own (Some f) = request_of own f
+
+-- The bytes of a request tell its source and its transaction number. Section 6.2.
+abbrev pub IsFrom : List ℕ → Frame → Type 0
+IsFrom bytes f = (16 ≤ length bytes) × (uid_at bytes 9 ≡ f.src) × (slice_index bytes 15 ≡ f.tn)

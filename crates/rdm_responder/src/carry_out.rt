@@ -12,6 +12,7 @@ ghost use Rattle.rdm_params.specs.Jobs.Work.{worker_of, estimate_of};
 ghost use Rattle.rdm_params.specs.declared.verdict.Verdict.TheVariants.{Start};
 ghost use Rattle.rdm_params.specs.Commands.Nacks.{nack_code};
 ghost use Rattle.rdm_responder.specs.Headings.{response_with, own_heading};
+ghost use Rattle.rdm_responder.specs.Requests.{IsFrom};
 ghost use Rattle.rdm_responder.specs.Started.{job_in, IsAsInProfile};
 ghost use Rattle.rdm_responder.specs.Rules.{response_of, answered, outbox_after, reply_with, started_by};
 
@@ -28,12 +29,14 @@ use rdm_params::{Answer, Nack, Work};
 #[inline(always)]
 pub(crate) fn carry_out(
     own: Uid,
+    bytes: &[u8],
     request: &FrameView<'_>,
     answer: Answer,
     body: &mut Body,
     outbox: &mut Outbox,
     wire: &mut Wire,
 ) -> Stepped
+    requires from { IsFrom bytes.now request.now }
     requires class { request.now.class < 255 }
     requires job { (p : Profile) × NamesItsJob p answer }
     ensures reply { (p : Profile) (b : Account) → NamesItsJob p answer → Shows outbox.old b →
@@ -48,7 +51,15 @@ pub(crate) fn carry_out(
     let replied = match answer {
         Answer::Done => {
             let heading = Heading::of_own(request, ACK);
-            send(own, request, heading, body.as_slice(), outbox.count(), wire)
+            send(
+                own,
+                bytes,
+                request,
+                heading,
+                body.as_slice(),
+                outbox.count(),
+                wire,
+            )
         }
         Answer::Starts {
             work,
@@ -57,25 +68,41 @@ pub(crate) fn carry_out(
         } => {
             let port = start(work, worker, estimate, outbox, body, &mut started);
             let heading = Heading::of_own(request, port);
-            send(own, request, heading, body.as_slice(), outbox.count(), wire)
+            send(
+                own,
+                bytes,
+                request,
+                heading,
+                body.as_slice(),
+                outbox.count(),
+                wire,
+            )
         }
         Answer::Queues(ask) => {
             outbox.answer(ask);
-            send_last(own, request, outbox, wire)
+            send_last(own, bytes, request, outbox, wire)
         }
         Answer::Statuses(ask) => {
             outbox.answer_status(ask);
-            send_last(own, request, outbox, wire)
+            send_last(own, bytes, request, outbox, wire)
         }
         Answer::Clears => {
             outbox.clear_status();
             let heading = Heading::of_own(request, ACK);
-            send(own, request, heading, &[], outbox.count(), wire)
+            send(own, bytes, request, heading, &[], outbox.count(), wire)
         }
         Answer::Refused(nack) => {
             refuse(nack, body);
             let heading = Heading::of_own(request, NACK_REASON);
-            send(own, request, heading, body.as_slice(), outbox.count(), wire)
+            send(
+                own,
+                bytes,
+                request,
+                heading,
+                body.as_slice(),
+                outbox.count(),
+                wire,
+            )
         }
     };
     Stepped {

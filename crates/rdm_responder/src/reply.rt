@@ -5,10 +5,11 @@ ghost use Rattle.std.specs.Bool.{OnFalse};
 ghost use Rattle.rdm_outbox.specs.Account.{Account};
 ghost use Rattle.rdm_outbox.specs.Shows.{Shows};
 ghost use Rattle.rdm_responder.specs.Headings.{response_with, own_heading, message_heading};
+ghost use Rattle.rdm_responder.specs.Requests.{IsFrom};
 ghost use Rattle.rdm_responder.specs.Rules.{ack_message, answered, answer_with, message_count};
 
 use rdm_frame::standard::ACK;
-use rdm_frame::{FrameView, Uid, Wire, encode_into};
+use rdm_frame::{FrameView, Uid, Wire, encode_into, uid_at};
 use rdm_outbox::Outbox;
 use rdm_params::Message;
 
@@ -51,7 +52,14 @@ impl Heading {
 /// Writes the bytes of a response that carries the last message.
 // Inlined, as `carry_out` says.
 #[inline(always)]
-pub(crate) fn send_last(own: Uid, request: &FrameView<'_>, outbox: &Outbox, wire: &mut Wire) -> bool
+pub(crate) fn send_last(
+    own: Uid,
+    bytes: &[u8],
+    request: &FrameView<'_>,
+    outbox: &Outbox,
+    wire: &mut Wire,
+) -> bool
+    requires { IsFrom bytes.now request.now }
     ensures reply { (b : Account) → Shows outbox.now b →
         answered result wire.new ≡ answer_with own request.now (message_count b) (ack_message outbox.now.last) }
     ensures silent { OnFalse result (wire.new ≡ wire.old) }
@@ -60,6 +68,7 @@ pub(crate) fn send_last(own: Uid, request: &FrameView<'_>, outbox: &Outbox, wire
     let heading = Heading::of_message(message);
     send(
         own,
+        bytes,
         request,
         heading,
         message.body.as_slice(),
@@ -70,17 +79,21 @@ pub(crate) fn send_last(own: Uid, request: &FrameView<'_>, outbox: &Outbox, wire
 
 /// Writes the bytes of a response, unless the request was for more than one device: that is never answered, and `wire`
 /// stays as it was. It says whether there is a response.
+// Source and transaction number are read here from the bytes of the request: those that were read first would take registers
+// through all that lies between.
 #[inline(always)]
 #[tactic(auto, unfolding(crate::specs::Rules::answer_with))]
 pub(crate) fn send(
     own: Uid,
+    bytes: &[u8],
     request: &FrameView<'_>,
     heading: Heading,
     data: &[u8],
     count: u8,
     wire: &mut Wire,
 ) -> bool
-    requires { length data.now ≤ 231 }
+    requires from { IsFrom bytes.now request.now }
+    requires fits { length data.now ≤ 231 }
     ensures reply { answered result wire.new ≡ answer_with own request.now count (response_with heading data.now) }
     ensures silent { OnFalse result (wire.new ≡ wire.old) }
 {
@@ -88,9 +101,9 @@ pub(crate) fn send(
         return false;
     }
     let response = FrameView {
-        dst: request.src,
+        dst: uid_at(bytes, 9),
         src: own,
-        tn: request.tn,
+        tn: bytes[15],
         port: heading.port,
         count,
         sub: heading.sub,

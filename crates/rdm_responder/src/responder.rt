@@ -1,6 +1,6 @@
 //! The responder.
 
-ghost use Rattle.std.specs.Prelude.{◌≡◌, ◌↔◌, ◌<◌, ◌≤◌, ◌≢◌, ℕ, IsTrue, IsOk, IfOk, OnOk, OnErr, IfErr, IsErrOf, IfSome, IsSome, IsSomeAnd, Option, None, Some, true, slice_get, length, nat_lt};
+ghost use Rattle.std.specs.Prelude.{◌≡◌, ◌↔◌, ◌<◌, ◌≢◌, IsOk, IfOk, OnOk, OnErr, IfErr, IsErrOf, IfSome, IsSome, IsSomeAnd, Option, None, Some, true, slice_get, length, nat_lt};
 ghost use Rattle.std.specs.Bool.{OnFalse};
 ghost use Rattle.rdm_outbox.specs.Account.{Account as OutboxAccount};
 ghost use Rattle.rdm_outbox.specs.Jobs.{outstanding_count, outstanding_of, waiting_of};
@@ -15,7 +15,7 @@ ghost use Rattle.rdm_params.specs.Jobs.Outcome.{fits};
 ghost use Rattle.rdm_params.specs.Jobs.Work.{worker_of};
 ghost use Rattle.rdm_responder.specs.History.{History, Heard, Arrived, empty_history, then_event};
 ghost use Rattle.rdm_responder.specs.Lawful.{IsLawful, MayArrive};
-ghost use Rattle.rdm_responder.specs.Rules.{Account, account_of, account_after_report, after_outcome, answered, reply_of, job_of};
+ghost use Rattle.rdm_responder.specs.Rules.{Account, account_of, after_outcome, answered, reply_of, job_of};
 ghost use Rattle.rdm_responder.specs.Runs.{IsArrival, outbox_of};
 ghost use Rattle.rdm_responder.specs.StandsFor.{Shows, StandsFor, IsQueueSize};
 ghost use Rattle.rdm_responder.specs.Started.{job_in, IsAsInProfile};
@@ -237,6 +237,7 @@ impl Responder {
     /// (E1.20 section 6.3.3), and what changed of the parameters: so firmware sees at once that the fixture is to identify
     /// itself (section 10.11), and a request that changes no value says nothing. The bytes of the reply stand in `wire`,
     /// which stays as it was if there is none. If one `wire` takes all replies, none is blanked or copied on its way.
+    #[tactic(auto, using(crate::proofs::Sources::is_from))]
     pub fn step_into(&mut self, bytes: &[u8], wire: &mut Wire) -> Stepped
         ensures reply { (h : History) → StandsFor self.old h → answered result.replied wire.new ≡ reply_of h bytes.now }
         ensures silent { OnFalse result.replied (wire.new ≡ wire.old) }
@@ -248,7 +249,7 @@ impl Responder {
         ensures what { IfSome result.changed (λ c. IsSomeAnd (frame_in bytes.now) (λ f. c ≡ change_of f.sub f.pid)) }
     {
         match decode_view(bytes) {
-            Ok(request) => self.answer(&request, wire),
+            Ok(request) => self.answer(bytes, &request, wire),
             Err(_) => Stepped::silent(),
         }
     }

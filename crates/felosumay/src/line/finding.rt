@@ -49,11 +49,17 @@ impl<'a, H: Host, P: Port, F: Write> Console<'a, H, P, F> {
         let alloc = self.teller.rt().alloc();
         let mut mailbox = Mailbox::new(alloc, uid, Want::Advisory);
         let mut line = String::new(alloc);
-        write!(line, "{uid}")?;
-        self.put_text(&mut mailbox, &mut line, Kind::DeviceModelDescription)?;
-        self.put_text(&mut mailbox, &mut line, Kind::DeviceLabel)?;
-        line.push_str("\n")?;
+        self.put_found(&mut mailbox, &mut line)?;
         self.teller.tell(line.as_bytes())
+    }
+
+    /// Puts the UID of a device, its model and its label at the end of a line.
+    fn put_found(&mut self, mailbox: &mut Mailbox, line: &mut String) -> Result<(), Fault<'a>> {
+        write!(line, "{}", mailbox.uid())?;
+        self.put_text(mailbox, line, Kind::DeviceModelDescription)?;
+        self.put_text(mailbox, line, Kind::DeviceLabel)?;
+        line.push_str("\n")?;
+        Ok(())
     }
 
     /// Puts a text of a device at the end of a line, in double quotes, or a dash if it tells none.

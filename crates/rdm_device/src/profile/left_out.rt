@@ -24,6 +24,8 @@ fn is_each_optional(pids: &[u16]) -> bool
 }
 
 /// Whether a device may lack the parameter.
+// Inlined, as those below that `lacks` calls: for a call each command would make room, and few profiles leave anything out.
+#[inline(always)]
 fn is_optional(pid: u16) -> bool
     ensures { result ≡ is_optional pid }
 {
@@ -71,7 +73,7 @@ impl Profile {
         ensures { result ≡ lacks self.now.without.items pid }
     {
         let pids = self.without.as_slice();
-        !pids.is_empty() && leaves_out(pids, pid)
+        !pids.is_empty() && are_lacking(pids, pid)
     }
 
     /// Whether the devices have the standard's parameters alone, and lack none of them.
@@ -83,12 +85,18 @@ impl Profile {
     }
 }
 
-/// Whether a parameter that devices may lack is among these PIDs.
-// A call, so that the commands of the others don't make room for it.
-#[cold]
-#[inline(never)]
-fn leaves_out(pids: &[u16], pid: u16) -> bool
+/// Whether devices that leave these out lack the parameter.
+#[inline(always)]
+fn are_lacking(pids: &[u16], pid: u16) -> bool
     ensures { result ≡ lacks pids.now pid }
 {
-    is_optional(pid) && pids.contains(&pid)
+    is_optional(pid) && is_among(pids, pid)
+}
+
+/// Whether the parameter is among these.
+#[inline(always)]
+fn is_among(pids: &[u16], pid: u16) -> bool
+    ensures { result ≡ leaves_out pids.now pid }
+{
+    pids.iter().any(|left_out| *left_out == pid)
 }

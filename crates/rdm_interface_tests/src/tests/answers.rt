@@ -5,7 +5,12 @@ use super::{GET_LABEL, LABEL, Line, hears, interface, stream};
 /// GET QUEUED_MESSAGE in transaction 6.
 const POLL: &str = "CC01197FF0000000017FF000000002060100000020002001040413";
 
-/// A message that answers it: SET_COMMAND_RESPONSE of LAMP_STATE.
+/// GET STATUS_MESSAGES of the last message again, and of advisory entries, in transaction 6.
+const LAST: &str = "CC01197FF0000000017FF000000002060100000020003001010420";
+
+const ADVISORY: &str = "CC01197FF0000000017FF000000002060100000020003001020421";
+
+/// A message that answers the first two: SET_COMMAND_RESPONSE of LAMP_STATE.
 const MESSAGE: &str = "CC01187FF0000000027FF0000000010600020000310403000406";
 
 /// DISC_UNIQUE_BRANCH over all UIDs.
@@ -19,7 +24,7 @@ struct Row {
     heard: Option<&'static str>,
 }
 
-const ROWS: [Row; 16] = [
+const ROWS: [Row; 18] = [
     // A response.
     Row {
         asked: GET_LABEL,
@@ -163,6 +168,23 @@ const ROWS: [Row; 16] = [
             (5, "00CC01187FF0000000027FF0000000010600020000310403000406"),
         ],
         heard: Some(MESSAGE),
+    },
+    // The last message again may be a queued one.
+    Row {
+        asked: LAST,
+        label: 7,
+        came: &[(5, "00CC01187FF0000000027FF0000000010600020000310403000406")],
+        heard: Some(MESSAGE),
+    },
+    // Status entries never are.
+    Row {
+        asked: ADVISORY,
+        label: 7,
+        came: &[
+            (5, "00CC01187FF0000000027FF0000000010600020000310403000406"),
+            (12, ""),
+        ],
+        heard: None,
     },
     // DISC_UNIQUE_BRANCH: any bytes, and the end.
     Row {

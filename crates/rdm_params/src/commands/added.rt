@@ -4,14 +4,12 @@ ghost use Rattle.std.specs.Prelude.{◌≡◌, ◌≢◌, ◌↔◌, ◌==◌, �
 ghost use Rattle.std.specs.List.{list_any};
 ghost use Rattle.std.specs.Option.{option_copied};
 ghost use Rattle.rdm_params.specs.declared.kind.Verb.TheVariants.{Get, Set};
-ghost use Rattle.rdm_params.specs.declared.verdict.Verdict.TheVariants.{Reply, Refuse};
 ghost use Rattle.rdm_device.specs.Columns.Added.{has_makers_pid, is_pid_of};
 ghost use Rattle.rdm_device.specs.Device.Spot.{Spot};
 ghost use Rattle.rdm_device.specs.Views.State.{own_entries, added_entries};
 ghost use Rattle.rdm_params.specs.Commands.Added.{row_here, handed_here, reply_here, after_here};
-ghost use Rattle.rdm_params.specs.Commands.Commands.{addressed, is_some_device, root_spot, got, answer_to_set, after_set};
-ghost use Rattle.rdm_params.specs.Table.Rows.{row_of, is_left_out, description_row, added_row};
-ghost use Rattle.rdm_params.specs.Table.Uses.{access};
+ghost use Rattle.rdm_params.specs.Commands.Commands.{root_spot};
+ghost use Rattle.rdm_params.specs.Table.Rows.{description_row, added_row};
 
 use super::Devices;
 use crate::{Nack, Profile};
@@ -21,38 +19,12 @@ use rdm_frame::Body;
 use rdm_frame::standard::PARAMETER_DESCRIPTION;
 
 impl Devices {
-    /// What a GET answers of which the table has no command, or the first reason to reject it.
+    /// What a GET of the root answers, by what the profile adds.
     // A call, so that the commands of the table don't make room for it.
     #[cold]
     #[inline(never)]
-    pub(super) fn get_added(
-        &self,
-        sub: u16,
-        pid: u16,
-        data: &[u8],
-        nack: Nack,
-        body: &mut Body,
-    ) -> Result<(), Nack>
-        requires empty { body.old ≡ [] }
-        requires device { is_some_device (addressed self.now sub Get) ≡ true }
-        requires stays { is_left_out self.now.profile pid ≡ false }
-        requires refused { access (row_of pid) (sub == 0) Get ≡ Err nack }
-        ensures ok { IfOk result (λ u. Reply body.new ≡ got self.now sub pid data.now) }
-        ensures err { IfErr result (λ reason. got self.now sub pid data.now ≡ Refuse reason) }
-        ensures empty { result ≢ Ok tt → body.new ≡ [] }
-    {
-        if sub != 0 {
-            return Err(nack);
-        }
-        if nack != Nack::UnknownPid {
-            return Err(nack);
-        }
-        self.get_at_root(pid, data, body)
-    }
-
-    /// What a GET of the root answers, by what the profile adds.
     #[tactic(auto, using(crate::proofs::AddedRows::description_here, crate::proofs::AddedRows::parameter_here, crate::proofs::AddedRows::nothing_here))]
-    fn get_at_root(&self, pid: u16, data: &[u8], body: &mut Body) -> Result<(), Nack>
+    pub(super) fn get_at_root(&self, pid: u16, data: &[u8], body: &mut Body) -> Result<(), Nack>
         requires { body.old ≡ [] }
         ensures ok { IfOk result (λ u. reply_here (root_spot self.now) (row_here self.now.profile pid) Get data.now ≡ Ok body.new) }
         ensures err { IfErr result (λ nack. reply_here (root_spot self.now) (row_here self.now.profile pid) Get data.now ≡ Err nack) }
@@ -68,38 +40,12 @@ impl Devices {
         }
     }
 
-    /// What a SET answers of which the table has no command, or the first reason to reject it; and whether it changed a value.
+    /// What a SET of the root changes, by what the profile adds, and whether that is another value.
     // A call, as that for a GET.
     #[cold]
     #[inline(never)]
-    pub(super) fn set_added(
-        &mut self,
-        sub: u16,
-        pid: u16,
-        data: &[u8],
-        nack: Nack,
-    ) -> Result<bool, Nack>
-        requires device { is_some_device (addressed self.old sub Set) ≡ true }
-        requires stays { is_left_out self.old.profile pid ≡ false }
-        requires refused { access (row_of pid) (sub == 0) Set ≡ Err nack }
-        ensures ok { IfOk result (λ differs. Reply [] ≡ answer_to_set self.old sub pid data.now) }
-        ensures err { IfErr result (λ reason. answer_to_set self.old sub pid data.now ≡ Refuse reason) }
-        ensures after { self.new ≡ after_set self.old sub pid data.now }
-        ensures same { IfOk result (λ differs. (differs ≡ false) ↔ (self.new ≡ self.old)) }
-        ensures unchanged { IfErr result (λ reason. self.new ≡ self.old) }
-    {
-        if sub != 0 {
-            return Err(nack);
-        }
-        if nack != Nack::UnknownPid {
-            return Err(nack);
-        }
-        self.set_at_root(pid, data)
-    }
-
-    /// What a SET of the root changes, by what the profile adds, and whether that is another value.
     #[tactic(auto, using(crate::proofs::AddedRows::description_here, crate::proofs::AddedRows::parameter_here, crate::proofs::AddedRows::nothing_here))]
-    fn set_at_root(&mut self, pid: u16, data: &[u8]) -> Result<bool, Nack>
+    pub(super) fn set_at_root(&mut self, pid: u16, data: &[u8]) -> Result<bool, Nack>
         ensures ok { IfOk result (λ differs. is_ok (handed_here (root_spot self.old) (row_here self.old.profile pid) Set data.now) ≡ true) }
         ensures err { IfErr result (λ nack. handed_here (root_spot self.old) (row_here self.old.profile pid) Set data.now ≡ Err nack) }
         ensures after { self.new ≡ record self.old { added = after_here (root_spot self.old) (row_here self.old.profile pid) data.now } }

@@ -1,10 +1,10 @@
 //! What is answered to a request: a frame that was heard.
 
-ghost use Rattle.std.specs.Prelude.{◌≡◌, ◌↔◌, Option, None, IfSome};
+ghost use Rattle.std.specs.Prelude.{◌≡◌, ◌↔◌, None, IfSome};
 ghost use Rattle.std.specs.Bool.{OnFalse};
 ghost use Rattle.std.specs.Int.{w16, to_be_bytes};
 ghost use Rattle.rdm_params.specs.Commands.Changed.{change_of};
-ghost use Rattle.rdm_responder.specs.Requests.{Branch, Muting, Set, request_of, get_of, discovery_of};
+ghost use Rattle.rdm_responder.specs.Requests.{Branch, Muting, Set, IsFrom, request_of, get_of, discovery_of};
 ghost use Rattle.rdm_responder.specs.Rules.{answered, Account, answer_to, job_with, account_with, control_field};
 ghost use Rattle.rdm_responder.specs.StandsFor.{Shows};
 ghost use Rattle.rdm_responder.specs.Started.{job_in, IsAsInProfile};
@@ -22,8 +22,14 @@ use rdm_frame::{FrameView, Uid, Wire, disc_reply, uid_at};
 const HAS_SUB_DEVICES: u16 = 0x0002;
 
 impl Responder {
-    /// Writes what is answered to a frame, and says whether anything is, which job started, and what changed.
-    pub(super) fn answer(&mut self, request: &FrameView<'_>, wire: &mut Wire) -> Stepped
+    /// Writes what is answered to a frame, of which these are the bytes, and says whether anything is, which job started, and what changed.
+    pub(super) fn answer(
+        &mut self,
+        bytes: &[u8],
+        request: &FrameView<'_>,
+        wire: &mut Wire,
+    ) -> Stepped
+        requires { IsFrom bytes.now request.now }
         ensures reply { (a : Account) → Shows self.old a →
             answered result.replied wire.new ≡ answer_to a (request_of a.setup.uid request.now) }
         ensures silent { OnFalse result.replied (wire.new ≡ wire.old) }
@@ -38,19 +44,20 @@ impl Responder {
         }
         match request.class {
             DISCOVERY_COMMAND => Stepped {
-                replied: self.answer_discovery(request, wire),
+                replied: self.answer_discovery(bytes, request, wire),
                 started: None,
                 changed: None,
             },
-            GET_COMMAND => self.answer_get(request, wire),
-            SET_COMMAND => self.answer_set(request, wire),
+            GET_COMMAND => self.answer_get(bytes, request, wire),
+            SET_COMMAND => self.answer_set(bytes, request, wire),
             _ => Stepped::silent(),
         }
     }
 
     /// Answers a GET. One to more than one device is ignored.
-    fn answer_get(&mut self, request: &FrameView<'_>, wire: &mut Wire) -> Stepped
-        requires { request.now.class ≡ 0x20 }
+    fn answer_get(&mut self, bytes: &[u8], request: &FrameView<'_>, wire: &mut Wire) -> Stepped
+        requires from { IsFrom bytes.now request.now }
+        requires class { request.now.class ≡ 0x20 }
         ensures reply { (a : Account) → Shows self.old a → answered result.replied wire.new ≡ answer_to a (get_of request.now) }
         ensures silent { OnFalse result.replied (wire.new ≡ wire.old) }
         ensures job { (a : Account) → Shows self.old a → job_in result.started ≡ job_with a (get_of request.now) }
@@ -65,12 +72,21 @@ impl Responder {
             .devices
             .get_into(request.sub, request.pid, request.body, &mut self.body);
         let body = &mut self.body;
-        carry_out(self.uid, request, answer, body, &mut self.outbox, wire)
+        carry_out(
+            self.uid,
+            bytes,
+            request,
+            answer,
+            body,
+            &mut self.outbox,
+            wire,
+        )
     }
 
     /// Answers a SET.
-    fn answer_set(&mut self, request: &FrameView<'_>, wire: &mut Wire) -> Stepped
-        requires { request.now.class ≡ 0x30 }
+    fn answer_set(&mut self, bytes: &[u8], request: &FrameView<'_>, wire: &mut Wire) -> Stepped
+        requires from { IsFrom bytes.now request.now }
+        requires class { request.now.class ≡ 0x30 }
         ensures reply { (a : Account) → Shows self.old a → answered result.replied wire.new ≡ answer_to a (Set request.now) }
         ensures silent { OnFalse result.replied (wire.new ≡ wire.old) }
         ensures job { (a : Account) → Shows self.old a → job_in result.started ≡ job_with a (Set request.now) }
@@ -83,7 +99,15 @@ impl Responder {
             .devices
             .set_into(request.sub, request.pid, request.body, &mut self.body);
         let body = &mut self.body;
-        let mut stepped = carry_out(self.uid, request, answer, body, &mut self.outbox, wire);
+        let mut stepped = carry_out(
+            self.uid,
+            bytes,
+            request,
+            answer,
+            body,
+            &mut self.outbox,
+            wire,
+        );
         stepped.changed = changed;
         stepped
     }
@@ -92,8 +116,9 @@ impl Responder {
     #[tactic(auto, unfolding(crate::specs::Requests::discovery_of))]
     // Inlined, with `answer_muting`: a call would keep the request in memory for every command.
     #[inline(always)]
-    fn answer_discovery(&mut self, request: &FrameView<'_>, wire: &mut Wire) -> bool
-        requires { request.now.class ≡ 0x10 }
+    fn answer_discovery(&mut self, bytes: &[u8], request: &FrameView<'_>, wire: &mut Wire) -> bool
+        requires from { IsFrom bytes.now request.now }
+        requires class { request.now.class ≡ 0x10 }
         ensures reply { (a : Account) → Shows self.old a → answered result wire.new ≡ answer_to a (discovery_of request.now) }
         ensures silent { OnFalse result (wire.new ≡ wire.old) }
         ensures job { (a : Account) → job_with a (discovery_of request.now) ≡ None }
@@ -108,8 +133,8 @@ impl Responder {
             DISC_UNIQUE_BRANCH if bounds.len() == 12 => {
                 self.answer_branch(uid_at(bounds, 0), uid_at(bounds, 6), wire)
             }
-            DISC_MUTE if bounds.is_empty() => self.answer_muting(request, true, wire),
-            DISC_UN_MUTE if bounds.is_empty() => self.answer_muting(request, false, wire),
+            DISC_MUTE if bounds.is_empty() => self.answer_muting(bytes, request, true, wire),
+            DISC_UN_MUTE if bounds.is_empty() => self.answer_muting(bytes, request, false, wire),
             _ => false,
         }
     }
@@ -133,8 +158,15 @@ impl Responder {
     /// Mutes or un-mutes the device, and answers that.
     // Inlined, as `answer_discovery` says.
     #[inline(always)]
-    fn answer_muting(&mut self, request: &FrameView<'_>, muted: bool, wire: &mut Wire) -> bool
-        requires { request.now.class ≡ 0x10 }
+    fn answer_muting(
+        &mut self,
+        bytes: &[u8],
+        request: &FrameView<'_>,
+        muted: bool,
+        wire: &mut Wire,
+    ) -> bool
+        requires from { IsFrom bytes.now request.now }
+        requires class { request.now.class ≡ 0x10 }
         ensures reply { (a : Account) → Shows self.old a → answered result wire.new ≡ answer_to a (Muting muted request.now) }
         ensures silent { OnFalse result (wire.new ≡ wire.old) }
         ensures after { (a : Account) → Shows self.old a → Shows self.new (account_with a (Muting muted request.now)) }
@@ -143,7 +175,15 @@ impl Responder {
         self.muted = muted;
         let field = self.control_field();
         let heading = Heading::of_own(request, ACK);
-        send(self.uid, request, heading, &field.to_be_bytes(), 0, wire)
+        send(
+            self.uid,
+            bytes,
+            request,
+            heading,
+            &field.to_be_bytes(),
+            0,
+            wire,
+        )
     }
 
     /// Tells whether there are sub-devices (E1.20 section 7.6).

@@ -212,31 +212,49 @@ fn a_queue_of_255_is_used_up_to_its_end(rt: HostRuntime) -> Result<(), Fail> {
     Ok(())
 }
 
+/// A responder whose jobs are numbered from this number on.
+fn numbered_from(alloc: Global, first: u32) -> Result<Responder, Fail> {
+    Ok(Responder::new_numbered(alloc, DEVICE, Profile::demo(0), 8, 64, first)?)
+}
+
+/// The jobs of a responder have these numbers. While each is done, a report on a job of the responder before is astray.
+fn does(
+    rt: &impl Abort,
+    responder: &mut Responder,
+    numbers: [u32; 2],
+    before: Job,
+) -> Result<(), Fail> {
+    for number in numbers {
+        let job = started(responder, &lamp(0)?)?;
+        assert_eq!(rt; job.number, number);
+        let late = Report {
+            job: before,
+            outcome: Outcome::Done,
+        };
+        assert!(rt; responder.arrive(late).is_err(), "{number}");
+        ends(responder, job, Outcome::Done)?;
+    }
+    Ok(())
+}
+
 #[test]
 fn a_report_for_the_responder_before_is_astray(rt: HostRuntime) -> Result<(), Fail> {
-    let set = lamp(0)?;
-    let outcome = Outcome::Done;
-    let made = |first| Responder::new_numbered(rt.alloc(), DEVICE, Profile::demo(0), 8, 64, first);
-    let mut former = made(7)?;
-    let before = started(&mut former, &set)?;
+    let mut former = numbered_from(rt.alloc(), 7)?;
+    let before = started(&mut former, &lamp(0)?)?;
     assert_eq!(rt; before.number, 7);
-    // The first number of the next responder, and that of its second job.
-    for (first, second) in [(8, 9), (0, 1), (0xFFFF_FFFF, 0)] {
-        let mut responder = made(first)?;
-        let job = started(&mut responder, &set)?;
-        assert_eq!(rt; job.number, first);
-        let report = Report {
-            job: before,
-            outcome,
-        };
-        assert!(rt; responder.arrive(report).is_err(), "{first}");
-        ends(&mut responder, job, outcome)?;
-        assert_eq!(rt; started(&mut responder, &set)?.number, second, "{first}");
+    for numbers in [[8, 9], [0, 1], [0xFFFF_FFFF, 0]] {
+        let mut responder = numbered_from(rt.alloc(), numbers[0])?;
+        does(&rt, &mut responder, numbers, before)?;
     }
-    // One that begins at the same number can't tell the two apart, here one whose profile has its place already.
+    Ok(())
+}
+
+/// The place of a profile is handed on. With the same first number no report can be told from one on a job before.
+#[test]
+fn a_profile_may_have_its_place_already(rt: HostRuntime) -> Result<(), Fail> {
     let profile = Box::new(rt.alloc(), Profile::demo(0))?;
-    let mut again = Responder::new_boxed(rt.alloc(), DEVICE, profile, 8, 64, 7)?;
-    assert_eq!(rt; started(&mut again, &set)?, before);
+    let mut responder = Responder::new_boxed(rt.alloc(), DEVICE, profile, 8, 64, 7)?;
+    assert_eq!(rt; started(&mut responder, &lamp(0)?)?.number, 7);
     Ok(())
 }
 

@@ -14,7 +14,7 @@ const DEVICE: Uid = Uid {
 };
 
 /// A parameter of this PID and name.
-fn named(pid: u16, name: &[u8]) -> ParameterDef {
+fn named(pid: u16, name: Text) -> ParameterDef {
     ParameterDef {
         pid,
         rights: Rights::Both,
@@ -24,7 +24,7 @@ fn named(pid: u16, name: &[u8]) -> ParameterDef {
         start: Text::of(&[0]),
         unit: 0,
         prefix: 0,
-        name: Text::of(name),
+        name,
         resets: true,
     }
 }
@@ -32,10 +32,10 @@ fn named(pid: u16, name: &[u8]) -> ParameterDef {
 /// Four parameters, of which two have one name and one has a name of the standard.
 fn parameters() -> [ParameterDef; 4] {
     [
-        named(0x8001, b"Fan mode"),
-        named(0x8002, b"F"),
-        named(0x8003, b"Fan mode"),
-        named(0x8004, b"LAMP_STATE"),
+        named(0x8001, Text::of(b"Fan mode")),
+        named(0x8002, Text::of(b"F")),
+        named(0x8003, Text::of(b"Fan mode")),
+        named(0x8004, Text::of(b"LAMP_STATE")),
     ]
 }
 

@@ -1,0 +1,65 @@
+-- Requests that are sent one after another, as a session.
+use Rattle.std.proofs.Common.{◌≡◌, ℕ, List, [], ◌∷◌, map, Option, Some, None, refl, sym, ap, subst, append-nil}
+use Rattle.std.specs.List.{AllByRecursion}
+use Rattle.std.specs.Io.KnownBytes.{Appends, Consumes}
+use Rattle.std.proofs.KnownBytes.{Consumes-nil, Consumes-trans}
+use Rattle.rdm_messages.specs.Framing.{bytes_of, message_bytes}
+use Rattle.rdm_interface.specs.Answers.{request_message}
+use Rattle.rdm_interface.specs.Sessions.{Exchange, IsSession, requests_of, heard_of, inputs_of}
+use Rattle.rdm_interface.proofs.Sessions.{answered_is_in_time}
+use Rattle.rdm_widget.proofs.Turns.{appends_then}
+use Rattle.rdm_line_ends.specs.Ends.{Host, Asked, requests_in, heard_in, AreAnswered, RequestsAreWritten}
+use Rattle.rdm_line_ends.proofs.Streams.{CanBeSent}
+
+-- ---- what is written
+
+appends_none : (old : Option (List ℕ)) → Appends old old []
+appends_none None = tt
+appends_none (Some xs) = sym (append-nil xs)
+
+pub requests_are_written : {C : Type 0} (tells : C → ℕ → C → Type 0) → RequestsAreWritten tells
+requests_are_written {C} tells limit before after [] is = subst (λ (h : Host C). Appends before.written h.written []) (sym is) (appends_none before.written)
+requests_are_written {C} tells limit before after (x ∷ xs) is =
+    appends_then before.written is.0.written after.written (message_bytes (request_message x.request)) (bytes_of (map request_message (requests_in xs)))
+    is.1.exchanged.asked.written (requests_are_written tells limit is.0 after xs is.2)
+
+-- ---- what is read
+
+-- what requests that were answered are, as exchanges in time
+pub record AreExchanged {C : Type 0} (before after : Host C) (xs : List Asked) : Type 0 where
+  pub exchanges : List Exchange
+  pub requests : requests_of exchanges ≡ requests_in xs
+  pub heard : heard_of exchanges ≡ heard_in xs
+  pub read : Consumes before.unread after.unread (inputs_of exchanges)
+  pub session : IsSession before.held exchanges after.held
+
+abbrev exchange : List ℕ → List ℕ → Option (List ℕ) → Exchange
+exchange request input heard = record { request = request; input = input; heard = heard }
+
+pub exchanged : {C : Type 0} (tells : C → ℕ → C → Type 0) (limit : ℕ) (before after : Host C) (xs : List Asked) → AreAnswered tells limit before xs after → AreExchanged before after xs
+exchanged {C} tells limit before after [] is = record {
+  exchanges = [];
+  requests = refl;
+  heard = refl;
+  read = subst (λ (h : Host C). Consumes before.unread h.unread []) (sym is) (Consumes-nil before.unread);
+  session = ap (λ (h : Host C). h.held) (sym is);
+}
+exchanged {C} tells limit before after (x ∷ xs) is =
+    let mid : Host C = is.0 in
+    let one = is.1 in
+    let first =
+    answered_is_in_time tells limit before.clock mid.clock before.unread mid.unread before.written mid.written before.held mid.held x.request x.heard
+    one.exchanged one.came one.ended in
+    let others = exchanged tells limit mid after xs is.2 in
+    record {
+      exchanges = exchange x.request first.0 x.heard ∷ others.exchanges;
+      requests = ap (λ (l : List (List ℕ)). x.request ∷ l) others.requests;
+      heard = ap (λ (l : List (Option (List ℕ))). x.heard ∷ l) others.heard;
+      read = Consumes-trans before.unread mid.unread after.unread first.0 (inputs_of others.exchanges) first.1 others.read;
+      session = (mid.held, first.2, others.session);
+    }
+
+pub all_sent : {C : Type 0} (tells : C → ℕ → C → Type 0) (limit : ℕ) (before after : Host C) (xs : List Asked) → AreAnswered tells limit before xs after → AllByRecursion CanBeSent (requests_in xs)
+all_sent tells limit before after [] is = tt
+all_sent tells limit before after (x ∷ xs) is =
+    (record { bytes = is.1.bytes; fits = is.1.fits }, all_sent tells limit is.0 after xs is.2)

@@ -1,0 +1,10 @@
+pub mod Rereading
+pub mod Messages
+pub mod StatusAsks
+pub mod Responding
+pub mod Replying
+pub mod Wires
+pub mod Streams
+pub mod Asking
+pub mod Together
+pub mod Fixtures

@@ -1,0 +1,31 @@
+//! Laws of replies and of both ends of a line. Each is the contract of a call that does nothing.
+
+ghost use Rattle.rdm_line_ends.specs.Ends.{FixtureIsHeard, OneIsHeard, RequestsAreWritten, RigIsHeard};
+ghost use Rattle.rdm_line_ends.specs.Replies.{BranchesAreAnswered, RepliesAreResponses, RepliesBelong, WhatIsOnTheWireBelongs};
+
+use rdm_messages::Clock;
+
+/// Each reply belongs to its request, after any history of the fixture: it is a response to it (E1.20 section 6.2), and one to
+/// DISC_UNIQUE_BRANCH is the UID, coded (section 7.5). What is on the wire of a line of fixtures belongs to the request, too.
+///
+/// A response has the parameter of its request, but where this fetches a message: GET QUEUED_MESSAGE, and GET STATUS_MESSAGES of
+/// the last message again, which may be a queued one (sections 10.3.1 and 10.3.2).
+pub fn replies_belong_to_their_requests()
+    ensures responses { RepliesAreResponses }
+    ensures branches { BranchesAreAnswered }
+    ensures belong { RepliesBelong }
+    ensures wire { WhatIsOnTheWireBelongs }
+{}
+
+/// A host hears just what fixtures reply. Requests are sent by `Interface::send`, one after another, and each is answered before
+/// the limit is over; at the other end of the line `serve` reads what the host writes, and writes what the host reads. Then what is
+/// heard of each request is what was replied, or nothing if nothing was, and what is written later is all that is left over.
+///
+/// On the line is a fixture, whose replies are those of the reply rules, after any history; or a rig of fixtures of different UIDs,
+/// and what is heard is what all of them make, each after its own history. Whatever is asked.
+pub fn what_is_replied_is_heard<H: Clock, F: Clock>()
+    ensures written { RequestsAreWritten H.tells }
+    ensures fixture { FixtureIsHeard H.tells F.tells }
+    ensures one { OneIsHeard H.tells F.tells }
+    ensures rig { RigIsHeard H.tells F.tells }
+{}

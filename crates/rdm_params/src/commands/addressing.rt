@@ -1,0 +1,44 @@
+//! The devices that a command is for.
+
+ghost use Rattle.std.specs.Prelude.{◌≡◌, slice_get};
+ghost use Rattle.std.specs.Option.{option_map};
+ghost use Rattle.rdm_params.specs.Commands.Commands.{addressed, root_spot, sub_spot};
+
+use super::{Devices, is_all_call};
+use crate::Verb;
+use rdm_device::Place;
+
+impl Devices {
+    /// The first device that a command is for, if there is one.
+    #[tactic(auto, using(crate::proofs::Places::first_of_subs, crate::proofs::Places::first_of_one))]
+    pub(super) fn first_place(&self, sub: u16, verb: Verb) -> Option<Place<'_>>
+        ensures { result ≡ slice_get (addressed self.now sub verb) 0 }
+    {
+        if sub == 0 {
+            return Some(self.root_place());
+        }
+        if is_all_call(sub, verb) {
+            return self.sub_place(0);
+        }
+        self.sub_place(sub as usize - 1)
+    }
+
+    /// The sub-device at this place, from 0, if there is one.
+    #[tactic(auto, using(crate::proofs::Places::at_place))]
+    pub(super) fn sub_place(&self, index: usize) -> Option<Place<'_>>
+        ensures { result ≡ option_map (sub_spot self.now) (slice_get self.now.subs index) }
+    {
+        match self.subs.get(index) {
+            Some(common) => Some(Place::of_sub(&self.profile, common)),
+            None => None,
+        }
+    }
+
+    /// The root.
+    #[inline(always)]
+    pub(super) fn root_place(&self) -> Place<'_>
+        ensures { result ≡ root_spot self.now }
+    {
+        Place::of_root(&self.profile, &self.root, &self.own)
+    }
+}
