@@ -8,7 +8,7 @@ ghost use Rattle.std.specs.Option.{option_copied, option_map_or};
 ghost use Rattle.rdm_params.specs.declared.kind.Verb.TheVariants.{Set};
 ghost use Rattle.rdm_params.specs.declared.verdict.Verdict.TheVariants.{Refuse};
 ghost use Rattle.rdm_params.specs.Commands.Commands.{got, answer_to_set, after_set, in_range, answered, work};
-ghost use Rattle.rdm_params.specs.Commands.Commands.{addressed, command_of, carried_out, is_all_call, reply_at};
+ghost use Rattle.rdm_params.specs.Commands.Commands.{addressed, command_of, carried_out, reply_at};
 ghost use Rattle.rdm_params.specs.Commands.Changed.{change_of};
 ghost use Rattle.rdm_params.specs.Table.Kinds.{pid_of};
 ghost use Rattle.rdm_params.specs.Table.Rows.{is_left_out};
@@ -30,6 +30,7 @@ mod saving;
 mod starting;
 mod thresholds;
 
+use crate::commands::addressing::is_all_call;
 use crate::commands::sub_devices::{all_in_range, store_at, store_each};
 use crate::jobs::{Way, estimate_by};
 use crate::table::find::{Found, find};
@@ -387,15 +388,5 @@ fn answer(
         Way::FromQueue => Answer::Queues(Ask::of(arg)),
         Way::FromStatus => Answer::Statuses(Ask::of(arg)),
         Way::Clears => Answer::Clears,
-    }
-}
-
-/// Whether a command is a SET of every sub-device.
-fn is_all_call(sub: u16, verb: Verb) -> bool
-    ensures { result ≡ is_all_call sub verb }
-{
-    match verb {
-        Verb::Get => false,
-        Verb::Set => sub == SUB_DEVICE_ALL_CALL,
     }
 }
