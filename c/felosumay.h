@@ -107,6 +107,7 @@ typedef struct {
     uint8_t prefix;  /* FELOSUMAY_PREFIX_.. */
     uint8_t support; /* bit 0: values can be recorded; bit 1: the lowest and the highest are kept */
     felosumay_text name;
+    uint8_t at_once; /* 1 if SENSOR_VALUE is answered at once, with the value that was placed last; 0 if a job measures */
 } felosumay_sensor;
 
 typedef struct {
@@ -162,6 +163,14 @@ typedef struct {
     felosumay_personality personalities[8]; /* the first is number 1, and the one that it starts with */
 } felosumay_unit;
 
+/* How long slow commands take, in tenths of a second, as a controller is told (section 6.3.3). 0 stands for the usual time. */
+typedef struct {
+    uint16_t lamp;      /* a SET of LAMP_STATE: usually 50 */
+    uint16_t power;     /* a SET of POWER_STATE: usually 20 */
+    uint16_t self_test; /* a SET of PERFORM_SELFTEST: usually 100 */
+    uint16_t sensor;    /* a GET of SENSOR_VALUE, if a job measures: usually 5 */
+} felosumay_estimates;
+
 typedef struct {
     felosumay_unit root;
     felosumay_unit sub; /* what each sub-device starts as */
@@ -185,6 +194,7 @@ typedef struct {
     size_t parameter_count;                /* 0 to 16 */
     const uint16_t *without;               /* the PIDs of those of docs/PARAMETERS.md that the fixture hasn't, in any order */
     size_t without_count;                  /* 0 to 36 */
+    felosumay_estimates estimates;         /* how long slow commands take */
 } felosumay_profile;
 
 /* The rules of a profile, in the order in which they are tested. BAD_PROFILE says that one of them is broken. */
@@ -286,7 +296,7 @@ felosumay_result felosumay_responder_fits(uintptr_t address, size_t bytes, uint1
 #define FELOSUMAY_ROUNDED(bytes) (((size_t)(bytes) + 15) / 16 * 16)
 #define FELOSUMAY_OWN_PARAMETERS_BYTES ((size_t)3280)
 #define FELOSUMAY_RESPONDER_BYTES(queue_size, entries, sub_devices)                                                             \
-    (FELOSUMAY_ROUNDED(5968) + FELOSUMAY_ROUNDED(64 * (size_t)(sub_devices)) + 2 * FELOSUMAY_ROUNDED(12 * (size_t)(queue_size)) + \
+    (FELOSUMAY_ROUNDED(6032) + FELOSUMAY_ROUNDED(64 * (size_t)(sub_devices)) + 2 * FELOSUMAY_ROUNDED(12 * (size_t)(queue_size)) + \
      FELOSUMAY_ROUNDED(248 * (size_t)(queue_size)) + FELOSUMAY_ROUNDED(10 * (size_t)(entries)))
 
 /* Hears bytes. If there is a reply, it stands at the front of `reply`; the answer to discovery is a reply like any other,

@@ -21,13 +21,15 @@ static const felosumay_profile PROFILE = {
     1, 2, 1, 1, 3,
     {0x656E},
     {{0x0001, 0, 0x00, FELOSUMAY_TEXT("Intensity")}, {0x0101, 0, 0x80, FELOSUMAY_TEXT("Pan")}},
-    {{-20, 120, 0, 80, 0x00, 0x01, 0x00, 0x03, FELOSUMAY_TEXT("Lamp temperature")}},
+    {{-20, 120, 0, 80, 0x00, 0x01, 0x00, 0x03, FELOSUMAY_TEXT("Lamp temperature"), 0}},
     {{1, FELOSUMAY_TEXT("Lamp")}},
     {{0x8001, FELOSUMAY_TEXT("Lamp failed to strike")},
      {0x8002, FELOSUMAY_TEXT("Fan %d stands still")},
      {0x8003, FELOSUMAY_TEXT("Overheated: %d degrees C")}},
     /* no more slots, no parameters of the maker's own, and none that are left out: c/own.c has some */
     0, NULL, 0, NULL, 0,
+    /* the usual times of slow commands */
+    {0, 0, 0, 0},
 };
 
 static void print_bytes(const char *what, const uint8_t *bytes, size_t count) {

@@ -16,10 +16,11 @@ static const felosumay_profile PROFILE = {
     1, 2, 0, 0, 0,
     {0x656E},
     {{0x0001, 0, 0x00, FELOSUMAY_TEXT("Intensity")}, {0x0101, 0, 0x80, FELOSUMAY_TEXT("Pan")}},
-    {{0, 0, 0, 0, 0, 0, 0, 0, {0, {0}}}},
+    {{0, 0, 0, 0, 0, 0, 0, 0, {0, {0}}, 0}},
     {{0, {0, {0}}}},
     {{0, {0, {0}}}},
     0, NULL, 0, NULL, 0,
+    {0, 0, 0, 0},
 };
 
 /* A request, and the reply that it is to have. */

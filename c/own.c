@@ -36,11 +36,13 @@ static const felosumay_profile PROFILE = {
     1, 1, 0, 0, 0,
     {0x656E},
     {{0x0001, 0, 0x00, FELOSUMAY_TEXT("Intensity")}},
-    {{0, 0, 0, 0, 0, 0, 0, 0, {0, {0}}}},
+    {{0, 0, 0, 0, 0, 0, 0, 0, {0, {0}}, 0}},
     {{0, {0, {0}}}},
     {{0, {0, {0}}}},
     /* 39 slots of pixels, which nothing describes; its own parameters, and what it hasn't */
     39, PARAMETERS, sizeof PARAMETERS / sizeof *PARAMETERS, WITHOUT, sizeof WITHOUT / sizeof *WITHOUT,
+    /* the usual times of slow commands */
+    {0, 0, 0, 0},
 };
 
 /* Asks the fixture, and prints its reply. */

@@ -14,7 +14,8 @@ use own::put_own;
 use rdm_frame::digits::word_in;
 use rdm_frame::standard::ROOT_DEVICE;
 use rdm_params::{
-    Devices, Kind, Nack, NewError, Profile, Verb, Verdict, Work, estimate_of, worker_of,
+    Devices, Kind, Nack, NewError, Outcome, Profile, Severity, Verb, Verdict, Work, fits,
+    worker_of,
 };
 use std::alloc::{AllocError, Global};
 use std::fmt::Write;
@@ -118,24 +119,36 @@ fn put_parameter(
         if is_at_each && at_each.as_str() != at_root.as_str() {
             write!(text, "; at a sub-device {at_each}")?;
         }
-        put_job(text, pid, verb)?;
+        put_job(text, devices, pid, verb)?;
         text.push_str("\n")?;
     }
     Ok(())
 }
 
 /// Which worker has the job of a command that is slow, and how long that takes.
-fn put_job(text: &mut String, pid: u16, verb: Verb) -> Result<(), AllocError> {
+fn put_job(
+    text: &mut String,
+    devices: &Devices,
+    pid: u16,
+    verb: Verb,
+) -> Result<(), AllocError> {
     let work = Work {
         sub: 0,
         pid,
         verb,
         arg: 0,
     };
-    let estimate = estimate_of(&work);
-    if estimate == 0 {
+    // The job of any slow command may fail.
+    let failed = Outcome::Failed {
+        severity: Severity::Error,
+        id: 0,
+        v1: 0,
+        v2: 0,
+    };
+    if !fits(&work, &failed) {
         return Ok(());
     }
+    let estimate = devices.estimate_of(&work);
     let worker = worker_of(&work);
     let seconds = estimate / 10;
     let tenths = estimate % 10;

@@ -327,7 +327,7 @@ taken : (a : Account) (own : Uid) (f : Frame) (ask : Ask) → request_of own f �
 taken a own f ask e one is =
     let count : ℕ = message_count (after_dispense a.outbox ask) in
     Answered (response a.setup.uid f count (ack_message (dispensed a.outbox ask)))
-    (ap (answer_to a) e ∙ ap (reply_with a.setup.uid a.outbox f) is ∙ answered_one a.setup.uid f count (ack_message (dispensed a.outbox ask)) one)
+    (ap (answer_to a) e ∙ ap (reply_with a.setup.uid a.parameters.profile a.outbox f) is ∙ answered_one a.setup.uid f count (ack_message (dispensed a.outbox ask)) one)
     refl
     (ap (λ (q : Request). (account_with a q).outbox) e ∙ ap (outbox_after a.outbox) is)
 

@@ -7,7 +7,7 @@ ghost use Rattle.rdm_responder.specs.History.{History, Heard as HeardBytes, then
 ghost use Rattle.rdm_responder.specs.Lawful.{IsLawful, MayArrive};
 ghost use Rattle.rdm_responder.specs.Rules.{account_of, reply_of, job_of};
 ghost use Rattle.rdm_responder.specs.StandsFor.{StandsFor};
-ghost use Rattle.rdm_responder.specs.Started.{job_in, IsAsInTable};
+ghost use Rattle.rdm_responder.specs.Started.{job_in, IsAsInProfile};
 ghost use Rattle.rdm_collector.specs.Collecting.{heard_in, after_hearing};
 ghost use Rattle.rdm_bus.specs.Faults.{reply_heard};
 ghost use Rattle.rdm_bus.specs.BusLaws.{BusLaws, recorded_by};
@@ -125,7 +125,7 @@ impl System {
             × ((start : Start) (steps : List Step) →
             IsTrace start steps self.old → IsPlayed (after_all start self.old.trace) step.now event)
             × (started_in event ≡ option_to_list (job_in started))) }
-        ensures table { IfOk result (λ started. IfSome started IsAsInTable) }
+        ensures table { IfOk result (λ started. IfSome started (IsAsInProfile self.old.responder.parameters.profile)) }
         ensures laws { OnOk result ((start : Start) (steps : List Step) →
             IsTrace start steps self.old → BusLaws start self.new.trace) }
         ensures headline { OnOk result ((start : Start) (steps : List Step) →
@@ -224,7 +224,7 @@ fn happen(
     ensures altered { IfOk result (λ made. (s : Start) (messages : List Message) →
         Stands responder.old collector.old s messages → IsAlteredInVain made.event) }
     ensures started { IfOk result (λ made. started_in made.event ≡ option_to_list (job_in made.started)) }
-    ensures table { IfOk result (λ made. IfSome made.started IsAsInTable) }
+    ensures table { IfOk result (λ made. IfSome made.started (IsAsInProfile responder.old.parameters.profile)) }
     ensures idle { collector.new.transaction ≡ None }
     ensures refused { IfErr result (λ e. (e ≢ PlayError.Reserved) × (e ≢ PlayError.TooLong)) }
     ensures astray { IsErrOf result PlayError.Astray → IsAstray responder.old step.now }
@@ -275,7 +275,7 @@ fn carry(
     ensures fault { raise_of fault ≢ Some 0 → IsFault fault }
     ensures slots { IfSome (reply_in result.event) (λ slots. (i : ℕ) → slice_index slots i < 256) }
     ensures started { started_in result.event ≡ option_to_list (job_in result.started) }
-    ensures table { IfSome result.started IsAsInTable }
+    ensures table { IfSome result.started (IsAsInProfile responder.old.parameters.profile) }
 {
     // A slot is raised by less than 256.
     let _ = fault.raise();
@@ -304,7 +304,7 @@ fn carry(
 fn answer_heard(responder: &mut Responder, heard: Option<Wire>) -> (Option<Wire>, Option<Started>)
     ensures reply { (h : History) → StandsFor responder.old h → result.0 ≡ option_and_then (reply_of h) heard }
     ensures job { (h : History) → StandsFor responder.old h → job_in result.1 ≡ option_and_then (job_of h) heard }
-    ensures table { IfSome result.1 IsAsInTable }
+    ensures table { IfSome result.1 (IsAsInProfile responder.old.parameters.profile) }
     ensures stands { (h : History) → StandsFor responder.old h →
         StandsFor responder.new (option_map_or (λ bytes. then_event h (HeardBytes bytes)) heard h) }
 {
@@ -318,7 +318,7 @@ fn answer_heard(responder: &mut Responder, heard: Option<Wire>) -> (Option<Wire>
 fn answer(responder: &mut Responder, bytes: &Wire) -> (Option<Wire>, Option<Started>)
     ensures reply { (h : History) → StandsFor responder.old h → result.0 ≡ reply_of h bytes.now }
     ensures job { (h : History) → StandsFor responder.old h → job_in result.1 ≡ job_of h bytes.now }
-    ensures table { IfSome result.1 IsAsInTable }
+    ensures table { IfSome result.1 (IsAsInProfile responder.old.parameters.profile) }
     ensures stands { (h : History) → StandsFor responder.old h → StandsFor responder.new (then_event h (HeardBytes bytes.now)) }
 {
     let mut reply = Wire::new();

@@ -1,6 +1,7 @@
 -- Jobs as the numbers that C has of them.
 use Rattle.std.specs.Prelude.{ℕ, ◌==◌, if◌then◌else◌, Option, Some, None}
 use Rattle.std.specs.Option.{option_map}
+use Rattle.rdm_device.specs.declared.profile.Profile.{Profile}
 use Rattle.rdm_params.specs.declared.kind.Verb.{Verb}
 use Rattle.rdm_params.specs.declared.kind.Verb.TheVariants.{Get, Set}
 use Rattle.rdm_params.specs.Jobs.Work.{worker_of, estimate_of}
@@ -16,10 +17,11 @@ class_of Set = 0x30
 abbrev pub verb_in : ℕ → Option Verb
 verb_in class = if class == 0x20 then Some Get else if class == 0x30 then Some Set else None
 
-abbrev pub numbers_of : Job → JobNumbers
-numbers_of job = record {
+-- the numbers of a job at the devices of a profile
+abbrev pub numbers_of : Profile → Job → JobNumbers
+numbers_of p job = record {
   number = job.number;
-  estimate = estimate_of job.work;
+  estimate = estimate_of p job.work;
   sub = job.work.sub;
   pid = job.work.pid;
   command_class = class_of job.work.verb;

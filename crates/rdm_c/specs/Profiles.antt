@@ -1,6 +1,6 @@
 -- The profile that a plain struct of C's stands for. A count that is greater than its array stands for the whole array. The parameters
 -- of the maker's own and the PIDs of those that are left out lie outside of it, as many as it says.
-use Rattle.std.specs.Prelude.{map, take}
+use Rattle.std.specs.Prelude.{ℕ, ◌==◌, not, map, take, if◌then◌else◌}
 use Rattle.rdm_device.specs.declared.profile.Personality.{Personality}
 use Rattle.rdm_device.specs.declared.profile.Profile.{Profile}
 use Rattle.rdm_device.specs.declared.profile.SelfTest.{SelfTest}
@@ -8,11 +8,14 @@ use Rattle.rdm_device.specs.declared.profile.SensorDef.{SensorDef}
 use Rattle.rdm_device.specs.declared.profile.Slot.{Slot}
 use Rattle.rdm_device.specs.declared.profile.StatusText.{StatusText}
 use Rattle.rdm_device.specs.declared.profile.Unit.{Unit as DeviceUnit}
+use Rattle.rdm_device.specs.declared.profile.estimates.Estimates.{Estimates}
+use Rattle.rdm_device.specs.Device.Estimates.{usual}
 use Rattle.rdm_c.specs.declared.profile.PersonalityNumbers.{PersonalityNumbers}
 use Rattle.rdm_c.specs.declared.profile.SlotNumbers.{SlotNumbers}
 use Rattle.rdm_c.specs.declared.profile.SensorNumbers.{SensorNumbers}
 use Rattle.rdm_c.specs.declared.profile.SelfTestNumbers.{SelfTestNumbers}
 use Rattle.rdm_c.specs.declared.profile.StatusTextNumbers.{StatusTextNumbers}
+use Rattle.rdm_c.specs.declared.profile.EstimatesNumbers.{EstimatesNumbers}
 use Rattle.rdm_c.specs.declared.profile.UnitNumbers.{UnitNumbers}
 use Rattle.rdm_c.specs.declared.profile.ProfileNumbers.{ProfileNumbers}
 use Rattle.rdm_c.specs.Parameters.{parameter_in}
@@ -35,6 +38,7 @@ sensor_in s = record {
   normal_high = s.normal_high;
   support = s.support;
   name = text_in s.name;
+  at_once = not (s.at_once == 0);
 }
 
 abbrev pub test_in : SelfTestNumbers → SelfTest
@@ -42,6 +46,18 @@ test_in t = record { number = t.number; name = text_in t.name }
 
 abbrev pub status_text_in : StatusTextNumbers → StatusText
 status_text_in s = record { id = s.id; text = text_in s.text }
+
+-- a time, or for 0 the usual one
+abbrev pub or_usual : ℕ → ℕ → ℕ
+or_usual time usual_time = if time == 0 then usual_time else time
+
+abbrev pub estimates_in : EstimatesNumbers → Estimates
+estimates_in e = record {
+  lamp = or_usual e.lamp usual.lamp;
+  power = or_usual e.power usual.power;
+  self_test = or_usual e.self_test usual.self_test;
+  sensor = or_usual e.sensor usual.sensor;
+}
 
 abbrev pub unit_in : UnitNumbers → DeviceUnit
 unit_in u = record {
@@ -72,4 +88,5 @@ profile_in p = record {
   own = map parameter_in p.parameters.now;
   without = record { items = p.without.now };
   more_slots = p.more_slots;
+  estimates = estimates_in p.estimates;
 }

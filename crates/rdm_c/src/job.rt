@@ -2,7 +2,8 @@
 
 ghost use Rattle.std.specs.Prelude.{◌≡◌, None, Some, IfSome, is_some};
 ghost use Rattle.std.specs.Option.{option_map};
-ghost use Rattle.rdm_responder.specs.Started.{job_in as the_job_in, IsAsInTable};
+ghost use Rattle.rdm_device.specs.declared.profile.Profile.{Profile};
+ghost use Rattle.rdm_responder.specs.Started.{job_in as the_job_in, IsAsInProfile};
 ghost use Rattle.rdm_c.specs.Changes.{with_change};
 ghost use Rattle.rdm_c.specs.Jobs.{job_in, numbers_of, class_of, verb_in, started_in};
 ghost use Rattle.rdm_c.specs.Endpoints.{flag};
@@ -55,8 +56,7 @@ pub struct SteppedNumbers {
 impl JobNumbers {
     /// The numbers of a job that started. They stand for just this job.
     pub(crate) fn of(started: &Started) -> JobNumbers
-        requires { IsAsInTable started.now }
-        ensures numbers { result ≡ numbers_of started.now.job }
+        ensures numbers { (p : Profile) → IsAsInProfile p started.now → result ≡ numbers_of p started.now.job }
         ensures same { job_in result ≡ Some started.now.job }
     {
         let job = started.job;
@@ -116,8 +116,7 @@ impl SteppedNumbers {
 
     /// Tells of the job that started, if one did.
     pub(crate) fn tell_job(&mut self, started: Option<Started>)
-        requires { IfSome started IsAsInTable }
-        ensures job { started_in self.new ≡ option_map numbers_of (the_job_in started) }
+        ensures job { (p : Profile) → IfSome started (IsAsInProfile p) → started_in self.new ≡ option_map (numbers_of p) (the_job_in started) }
         ensures flag { self.new.started ≡ flag (is_some (the_job_in started)) }
         ensures reply { (self.new.count ≡ self.old.count) × (self.new.replied ≡ self.old.replied) }
     {

@@ -9,8 +9,8 @@ use crate::names::NameNumbers;
 use crate::outcome::OutcomeNumbers;
 use crate::profile::parameters::ParameterNumbers;
 use crate::profile::{
-    PersonalityNumbers, ProfileNumbers, SelfTestNumbers, SensorNumbers, SlotNumbers,
-    StatusTextNumbers, TextNumbers, UnitNumbers,
+    EstimatesNumbers, PersonalityNumbers, ProfileNumbers, SelfTestNumbers, SensorNumbers,
+    SlotNumbers, StatusTextNumbers, TextNumbers, UnitNumbers,
 };
 use crate::reply::ReplyNumbers;
 use std::mem::size_of;
@@ -29,11 +29,13 @@ const _: () = prove!(size_of::<SelfTestNumbers>() == 34);
 
 const _: () = prove!(size_of::<StatusTextNumbers>() == 36);
 
+const _: () = prove!(size_of::<EstimatesNumbers>() == 8);
+
 const _: () = prove!(size_of::<UnitNumbers>() == 432);
 
 const _: () = prove!(size_of::<ParameterNumbers>() == 96);
 
-const _: () = prove!(size_of::<ProfileNumbers<'static>>() == 3640);
+const _: () = prove!(size_of::<ProfileNumbers<'static>>() == 3648);
 
 const _: () = prove!(size_of::<JobNumbers>() == 16);
 

@@ -1,4 +1,5 @@
 pub mod Demo
+pub mod Estimates
 pub mod Faults
 pub mod LeftOut
 pub mod Map

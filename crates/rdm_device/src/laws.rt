@@ -3,8 +3,8 @@
 ghost use Rattle.std.specs.Prelude.{◌≡◌, ◌↔◌, IsTrue};
 
 use crate::{
-    ParameterDef, Personality, Profile, ProfileFault, Rights, SelfTest, SensorDef, Shape, Slot,
-    StatusText, Unit, Value,
+    Estimates, ParameterDef, Personality, Profile, ProfileFault, Rights, SelfTest, SensorDef,
+    Shape, Slot, StatusText, Unit, Value,
 };
 
 /// Two personalities are equal by `==` exactly when their footprints and their names are.
@@ -57,6 +57,11 @@ pub fn parameter_defs_are_equal_by_value()
     shapes_are_equal_by_value();
 }
 
+/// Two values of `Estimates` are equal by `==` exactly when each of their fields is.
+pub fn estimates_are_equal_by_value()
+    ensures { (a b : Estimates) → IsTrue (⟦<Estimates as PartialEq>⟧.eq a b) ↔ (a ≡ b) }
+{}
+
 /// Two profiles are equal by `==` exactly when each of their fields is.
 pub fn profiles_are_equal_by_value()
     ensures { (p q : Profile) → IsTrue (⟦<Profile as PartialEq>⟧.eq p q) ↔ (p ≡ q) }
@@ -67,6 +72,7 @@ pub fn profiles_are_equal_by_value()
     self_tests_are_equal_by_value();
     status_texts_are_equal_by_value();
     parameter_defs_are_equal_by_value();
+    estimates_are_equal_by_value();
 }
 
 /// Two values are equal by `==` exactly when they have the same form and all that they hold is equal.

@@ -3,6 +3,7 @@
 mod blank;
 pub(crate) mod checks;
 mod demo;
+pub(crate) mod estimates;
 pub(crate) mod faults;
 pub(crate) mod left_out;
 mod making;
@@ -11,7 +12,7 @@ pub(crate) mod own_checks;
 
 ghost use Rattle.std.specs.Prelude.{◌≡◌};
 
-use crate::OwnParameters;
+use crate::{Estimates, OwnParameters};
 use arrayvec::ArrayVec;
 use rdm_frame::Text;
 
@@ -58,6 +59,8 @@ pub struct SensorDef {
     pub support: u8,
     /// What the sensor is called.
     pub name: Text,
+    /// Whether SENSOR_VALUE is answered at once with what the firmware placed last, and no job measures (section 10.7.2).
+    pub at_once: bool,
 }
 
 impl SensorDef {
@@ -75,6 +78,7 @@ impl SensorDef {
             normal_high: self.normal_high,
             support: self.support,
             name: self.name.copy(),
+            at_once: self.at_once,
         }
     }
 }
@@ -151,4 +155,6 @@ pub struct Profile {
     pub without: ArrayVec<u16, 36>,
     /// How many DMX512 slots the root device uses beside those that `slots` describes.
     pub more_slots: u16,
+    /// How long its slow commands take.
+    pub estimates: Estimates,
 }

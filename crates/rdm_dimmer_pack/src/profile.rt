@@ -26,6 +26,7 @@ pub(crate) fn dimmer_pack() -> Profile {
         normal_high: 75,
         support: 0x03,
         name: Text::of(b"Heat sink"),
+        at_once: false,
     });
     profile.tests.push(SelfTest {
         number: 1,

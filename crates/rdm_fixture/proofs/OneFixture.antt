@@ -3,6 +3,7 @@ use Rattle.std.proofs.Common.{◌≡◌, ℕ, ℤ, Bool, List, [], ◌∷◌, Op
 use Rattle.std.proofs.lemmas.Option.{same_Some}
 use Rattle.arrayvec.specs.declared.array_vec.ArrayVec.{ArrayVec}
 use Rattle.rdm_frame.specs.declared.uid.Uid.{Uid}
+use Rattle.rdm_device.specs.declared.profile.estimates.Estimates.{Estimates}
 use Rattle.rdm_device.specs.declared.profile.Personality.{Personality}
 use Rattle.rdm_device.specs.declared.profile.Profile.{Profile}
 use Rattle.rdm_device.specs.declared.profile.own.ParameterDef.{ParameterDef}
@@ -25,7 +26,7 @@ use Rattle.rdm_fixture.specs.Keys.{may, must, OfTable, EachIs, ListAt, Lists}
 use Rattle.rdm_fixture.specs.Parameters.{IsParameter, low_in, high_in, start, flag}
 use Rattle.rdm_fixture.specs.Values.{language}
 use Rattle.rdm_fixture.specs.Outcomes.{IsOutcome}
-use Rattle.rdm_fixture.specs.Format.{IsPersonality, IsSlot, IsSensor, IsSelfTest, IsStatus, IsUnit, SubDevices, LanguagesAt, IsProfile, IsFixture, parameter_named}
+use Rattle.rdm_fixture.specs.Format.{IsPersonality, IsSlot, IsSensor, IsSelfTest, IsStatus, IsUnit, SubDevices, IsEstimates, EstimatesAt, LanguagesAt, IsProfile, IsFixture, parameter_named}
 
 -- what is said is one thing
 abbrev pub SaysOne : {S A : Type 0} → (S → A → Type 0) → Type 0
@@ -103,17 +104,17 @@ same_slot e0 e1 e2 e3 = rw (e0, e1, e2, e3) refl
 pub one_slot : SaysOne IsSlot
 one_slot t x y p q = same_slot (one p.kind q.kind) (one p.label q.label) (one p.value q.value) (one p.name q.name)
 
-abbrev pub sensor_of : ℕ → ℕ → ℕ → ℤ → ℤ → ℤ → ℤ → ℕ → List ℕ → SensorDef
-sensor_of a0 a1 a2 a3 a4 a5 a6 a7 a8 = record { kind = a0; unit = a1; prefix = a2; low = a3; high = a4; normal_low = a5; normal_high = a6; support = a7; name = a8 }
+abbrev pub sensor_of : ℕ → ℕ → ℕ → ℤ → ℤ → ℤ → ℤ → ℕ → List ℕ → Bool → SensorDef
+sensor_of a0 a1 a2 a3 a4 a5 a6 a7 a8 a9 = record { kind = a0; unit = a1; prefix = a2; low = a3; high = a4; normal_low = a5; normal_high = a6; support = a7; name = a8; at_once = a9 }
 
-pub same_sensor : {a0 b0 : ℕ} {a1 b1 : ℕ} {a2 b2 : ℕ} {a3 b3 : ℤ} {a4 b4 : ℤ} {a5 b5 : ℤ} {a6 b6 : ℤ} {a7 b7 : ℕ} {a8 b8 : List ℕ}
-    → a0 ≡ b0 → a1 ≡ b1 → a2 ≡ b2 → a3 ≡ b3 → a4 ≡ b4 → a5 ≡ b5 → a6 ≡ b6 → a7 ≡ b7 → a8 ≡ b8
-    → sensor_of a0 a1 a2 a3 a4 a5 a6 a7 a8 ≡ sensor_of b0 b1 b2 b3 b4 b5 b6 b7 b8
-same_sensor e0 e1 e2 e3 e4 e5 e6 e7 e8 = rw (e0, e1, e2, e3, e4, e5, e6, e7, e8) refl
+pub same_sensor : {a0 b0 : ℕ} {a1 b1 : ℕ} {a2 b2 : ℕ} {a3 b3 : ℤ} {a4 b4 : ℤ} {a5 b5 : ℤ} {a6 b6 : ℤ} {a7 b7 : ℕ} {a8 b8 : List ℕ} {a9 b9 : Bool}
+    → a0 ≡ b0 → a1 ≡ b1 → a2 ≡ b2 → a3 ≡ b3 → a4 ≡ b4 → a5 ≡ b5 → a6 ≡ b6 → a7 ≡ b7 → a8 ≡ b8 → a9 ≡ b9
+    → sensor_of a0 a1 a2 a3 a4 a5 a6 a7 a8 a9 ≡ sensor_of b0 b1 b2 b3 b4 b5 b6 b7 b8 b9
+same_sensor e0 e1 e2 e3 e4 e5 e6 e7 e8 e9 = rw (e0, e1, e2, e3, e4, e5, e6, e7, e8, e9) refl
 
 pub one_sensor : SaysOne IsSensor
 one_sensor t x y p q =
-    same_sensor (one p.kind q.kind) (one p.unit q.unit) (one p.prefix q.prefix) (one p.low q.low) (one p.high q.high) (one p.normal_low q.normal_low) (one p.normal_high q.normal_high) (one p.support q.support) (one p.name q.name)
+    same_sensor (one p.kind q.kind) (one p.unit q.unit) (one p.prefix q.prefix) (one p.low q.low) (one p.high q.high) (one p.normal_low q.normal_low) (one p.normal_high q.normal_high) (one p.support q.support) (one p.name q.name) (one p.at_once q.at_once)
 
 abbrev pub self_test_of : ℕ → List ℕ → SelfTest
 self_test_of a0 a1 = record { number = a0; name = a1 }
@@ -202,13 +203,32 @@ one_sub slots t (Some (float f)) m n x y p q = absurd p
 one_sub slots t (Some (boolean b)) m n x y p q = absurd p
 one_sub slots t (Some (datetime dt)) m n x y p q = absurd p
 
-abbrev pub profile_of : DeviceUnit → DeviceUnit → ℕ → ℕ → List ℕ → ArrayVec ℕ 8 (Unit {0}) → ArrayVec Slot 46 (Unit {0}) → ArrayVec SensorDef 8 (Unit {0}) → ArrayVec SelfTest 8 (Unit {0}) → ArrayVec StatusText 8 (Unit {0}) → ℕ → List ParameterDef → ArrayVec ℕ 36 (Unit {0}) → ℕ → Profile
-profile_of a0 a1 a2 a3 a4 a5 a6 a7 a8 a9 a10 a11 a12 a13 = record { root = a0; sub = a1; subs = a2; boot = a3; boot_text = a4; languages = a5; slots = a6; sensors = a7; tests = a8; status_texts = a9; presets = a10; own = a11; without = a12; more_slots = a13 }
+abbrev estimates_of : ℕ → ℕ → ℕ → ℕ → Estimates
+estimates_of a0 a1 a2 a3 = record { lamp = a0; power = a1; self_test = a2; sensor = a3 }
 
-pub same_profile : {a0 b0 : DeviceUnit} {a1 b1 : DeviceUnit} {a2 b2 : ℕ} {a3 b3 : ℕ} {a4 b4 : List ℕ} {a5 b5 : ArrayVec ℕ 8 (Unit {0})} {a6 b6 : ArrayVec Slot 46 (Unit {0})} {a7 b7 : ArrayVec SensorDef 8 (Unit {0})} {a8 b8 : ArrayVec SelfTest 8 (Unit {0})} {a9 b9 : ArrayVec StatusText 8 (Unit {0})} {a10 b10 : ℕ} {a11 b11 : List ParameterDef} {a12 b12 : ArrayVec ℕ 36 (Unit {0})} {a13 b13 : ℕ}
-    → a0 ≡ b0 → a1 ≡ b1 → a2 ≡ b2 → a3 ≡ b3 → a4 ≡ b4 → a5 ≡ b5 → a6 ≡ b6 → a7 ≡ b7 → a8 ≡ b8 → a9 ≡ b9 → a10 ≡ b10 → a11 ≡ b11 → a12 ≡ b12 → a13 ≡ b13
-    → profile_of a0 a1 a2 a3 a4 a5 a6 a7 a8 a9 a10 a11 a12 a13 ≡ profile_of b0 b1 b2 b3 b4 b5 b6 b7 b8 b9 b10 b11 b12 b13
-same_profile e0 e1 e2 e3 e4 e5 e6 e7 e8 e9 e10 e11 e12 e13 = rw (e0, e1, e2, e3, e4, e5, e6, e7, e8, e9, e10, e11, e12, e13) refl
+same_estimates : {a0 b0 a1 b1 a2 b2 a3 b3 : ℕ} → a0 ≡ b0 → a1 ≡ b1 → a2 ≡ b2 → a3 ≡ b3 → estimates_of a0 a1 a2 a3 ≡ estimates_of b0 b1 b2 b3
+same_estimates e0 e1 e2 e3 = rw (e0, e1, e2, e3) refl
+
+pub one_estimates : SaysOne IsEstimates
+one_estimates t x y p q = same_estimates (one p.lamp q.lamp) (one p.power q.power) (one p.self_test q.self_test) (one p.sensor q.sensor)
+
+one_times : (found : Option Data) (x y : Estimates) → EstimatesAt found x → EstimatesAt found y → x ≡ y
+one_times None x y p q = p ∙ sym q
+one_times (Some (table t)) x y p q = one_estimates t x y p q
+one_times (Some (array ds)) x y p q = absurd p
+one_times (Some (string s)) x y p q = absurd p
+one_times (Some (integer z)) x y p q = absurd p
+one_times (Some (float f)) x y p q = absurd p
+one_times (Some (boolean b)) x y p q = absurd p
+one_times (Some (datetime dt)) x y p q = absurd p
+
+abbrev pub profile_of : DeviceUnit → DeviceUnit → ℕ → ℕ → List ℕ → ArrayVec ℕ 8 (Unit {0}) → ArrayVec Slot 46 (Unit {0}) → ArrayVec SensorDef 8 (Unit {0}) → ArrayVec SelfTest 8 (Unit {0}) → ArrayVec StatusText 8 (Unit {0}) → ℕ → List ParameterDef → ArrayVec ℕ 36 (Unit {0}) → ℕ → Estimates → Profile
+profile_of a0 a1 a2 a3 a4 a5 a6 a7 a8 a9 a10 a11 a12 a13 a14 = record { root = a0; sub = a1; subs = a2; boot = a3; boot_text = a4; languages = a5; slots = a6; sensors = a7; tests = a8; status_texts = a9; presets = a10; own = a11; without = a12; more_slots = a13; estimates = a14 }
+
+pub same_profile : {a0 b0 : DeviceUnit} {a1 b1 : DeviceUnit} {a2 b2 : ℕ} {a3 b3 : ℕ} {a4 b4 : List ℕ} {a5 b5 : ArrayVec ℕ 8 (Unit {0})} {a6 b6 : ArrayVec Slot 46 (Unit {0})} {a7 b7 : ArrayVec SensorDef 8 (Unit {0})} {a8 b8 : ArrayVec SelfTest 8 (Unit {0})} {a9 b9 : ArrayVec StatusText 8 (Unit {0})} {a10 b10 : ℕ} {a11 b11 : List ParameterDef} {a12 b12 : ArrayVec ℕ 36 (Unit {0})} {a13 b13 : ℕ} {a14 b14 : Estimates}
+    → a0 ≡ b0 → a1 ≡ b1 → a2 ≡ b2 → a3 ≡ b3 → a4 ≡ b4 → a5 ≡ b5 → a6 ≡ b6 → a7 ≡ b7 → a8 ≡ b8 → a9 ≡ b9 → a10 ≡ b10 → a11 ≡ b11 → a12 ≡ b12 → a13 ≡ b13 → a14 ≡ b14
+    → profile_of a0 a1 a2 a3 a4 a5 a6 a7 a8 a9 a10 a11 a12 a13 a14 ≡ profile_of b0 b1 b2 b3 b4 b5 b6 b7 b8 b9 b10 b11 b12 b13 b14
+same_profile e0 e1 e2 e3 e4 e5 e6 e7 e8 e9 e10 e11 e12 e13 e14 = rw (e0, e1, e2, e3, e4, e5, e6, e7, e8, e9, e10, e11, e12, e13, e14) refl
 
 pub one_profile : SaysOne IsProfile
 one_profile t x y p q =
@@ -228,6 +248,7 @@ one_profile t x y p q =
     (one_list t _ IsParameter 0 16 _ _ one_parameter p.own q.own)
     (ap (listed 36) (one_names t _ _ p.without q.without))
     (one p.more_slots q.more_slots)
+    (one_times _ _ _ p.estimates q.estimates)
 
 -- ---- the outcomes
 

@@ -1,7 +1,7 @@
 -- What a key of the fields says.
-use Rattle.std.proofs.Common.{◌≡◌, ℕ, ℤ, ◌≤◌, pos, List, [], ◌∷◌, Option, Some, None, refl, ap, ◌∙◌, arith}
+use Rattle.std.proofs.Common.{◌≡◌, Bool, ℕ, ℤ, ◌≤◌, pos, List, [], ◌∷◌, Option, Some, None, refl, ap, ◌∙◌, arith}
 use Rattle.std.proofs.lemmas.Bool.{le-leb}
-use Rattle.toml.specs.Data.{Data, integer}
+use Rattle.toml.specs.Data.{Data, integer, boolean}
 use Rattle.rdm_fixture.specs.Keys.{must, may, Must, May}
 use Rattle.rdm_fixture.specs.Values.{number, text}
 use Rattle.rdm_fixture.specs.Writing.{text_field, IsPlain}
@@ -29,6 +29,9 @@ module _ (key : List ℕ) (fs : List Field) where
 
 pub number_plain : (n : ℕ) (z : ℤ) → IsPlain n (integer z)
 number_plain n z = record { shallow = omega arith; dates = refl }
+
+pub flag_plain : (n : ℕ) (b : Bool) → IsPlain n (boolean b)
+flag_plain n b = record { shallow = omega arith; dates = refl }
 
 pub text_plain : (n : ℕ) (key s : List ℕ) (fs : List Field) → ArePlain n fs → ArePlain n ((key, text_field s) ∷ fs)
 text_plain n key [] fs h = h

@@ -1,17 +1,19 @@
 -- What is written of the entries of lists.
-use Rattle.std.proofs.Common.{◌≡◌, ℕ, ◌≤◌, ◌<◌, ℤ, pos, neg_ℤ, List, [], ◌∷◌, Some, refl, arith, codes}
+use Rattle.std.proofs.Common.{◌≡◌, false, ℕ, ◌≤◌, ◌<◌, ℤ, pos, neg_ℤ, List, [], ◌∷◌, Some, refl, arith, codes}
+use Rattle.rdm_device.specs.declared.profile.estimates.Estimates.{Estimates}
 use Rattle.rdm_device.specs.declared.profile.Personality.{Personality}
 use Rattle.rdm_device.specs.declared.profile.SelfTest.{SelfTest}
 use Rattle.rdm_device.specs.declared.profile.SensorDef.{SensorDef}
 use Rattle.rdm_device.specs.declared.profile.Slot.{Slot}
 use Rattle.rdm_device.specs.declared.profile.StatusText.{StatusText}
-use Rattle.toml.specs.Data.{integer, table}
-use Rattle.rdm_fixture.specs.Format.{IsPersonality, IsSlot, IsSensor, IsSelfTest, IsStatus, personality_keys, slot_keys, sensor_keys, self_test_keys, status_keys}
+use Rattle.toml.specs.Data.{integer, boolean, table}
+use Rattle.rdm_fixture.specs.Format.{IsPersonality, IsSlot, IsSensor, IsSelfTest, IsStatus, IsEstimates, estimates_keys, personality_keys, slot_keys, sensor_keys, self_test_keys, status_keys}
 use Rattle.rdm_fixture.specs.Keys.{may}
+use Rattle.rdm_fixture.specs.Parameters.{flag}
 use Rattle.rdm_fixture.specs.Values.{number, signed, text}
 use Rattle.rdm_fixture.specs.Writing.{text_field, IsPlain}
 use Rattle.rdm_fixture.proofs.Fields.{Field, members_from, only_from, plain_from}
-use Rattle.rdm_fixture.proofs.Said.{number_says, must_say, may_say, may_text, number_plain, text_plain}
+use Rattle.rdm_fixture.proofs.Said.{number_says, must_say, may_say, may_text, number_plain, flag_plain, text_plain}
 
 -- ---- slots
 
@@ -48,7 +50,8 @@ slot_plain s = plain_from 0 (slot_fields s) (text_plain 0 (codes "description") 
 
 abbrev pub sensor_fields : SensorDef → List Field
 sensor_fields s =
-    (codes "description", text_field s.name) ∷ (codes "recorded_value_support", Some (integer (pos s.support)))
+    (codes "answered_at_once", Some (boolean s.at_once)) ∷ (codes "description", text_field s.name)
+    ∷ (codes "recorded_value_support", Some (integer (pos s.support)))
     ∷ (codes "normal_maximum_value", Some (integer s.normal_high)) ∷ (codes "normal_minimum_value", Some (integer s.normal_low))
     ∷ (codes "range_maximum_value", Some (integer s.high)) ∷ (codes "range_minimum_value", Some (integer s.low))
     ∷ (codes "prefix", Some (integer (pos s.prefix))) ∷ (codes "unit", Some (integer (pos s.unit)))
@@ -67,12 +70,13 @@ sensor_says s kind unit prefix low high normal_low normal_high support name = le
   normal_high = may_say (codes "normal_maximum_value") fs (pos 32767) signed _ _ refl normal_high;
   support = may_say (codes "recorded_value_support") fs 0 (number 0 0xFF) _ _ refl support;
   name = may_text (codes "description") fs s.name refl name;
+  at_once = may_say (codes "answered_at_once") fs false flag _ _ refl refl;
 }
 
 pub sensor_plain : (s : SensorDef) → IsPlain 1 (table (members_from (sensor_fields s)))
 sensor_plain s =
     plain_from 0 (sensor_fields s)
-    (text_plain 0 (codes "description") s.name _ (number_plain 0 _, (number_plain 0 _, (number_plain 0 _, (number_plain 0 _, (number_plain 0 _, (number_plain 0 _, (number_plain 0 _, (number_plain 0 _, tt)))))))))
+    (flag_plain 0 _, text_plain 0 (codes "description") s.name _ (number_plain 0 _, (number_plain 0 _, (number_plain 0 _, (number_plain 0 _, (number_plain 0 _, (number_plain 0 _, (number_plain 0 _, (number_plain 0 _, tt)))))))))
 
 -- ---- entries with a number and a text
 
@@ -103,3 +107,22 @@ status_says s id name = let fs = pair_fields (codes "id") s.id s.text in record 
   id = must_say (codes "id") fs (number 0 0xFFFF) _ _ refl id;
   text = may_text (codes "description") fs s.text refl name;
 }
+
+-- ---- the times of slow commands
+
+abbrev pub estimates_fields : Estimates → List Field
+estimates_fields e =
+    (codes "sensor_value", Some (integer (pos e.sensor))) ∷ (codes "perform_selftest", Some (integer (pos e.self_test)))
+    ∷ (codes "power_state", Some (integer (pos e.power))) ∷ (codes "lamp_state", Some (integer (pos e.lamp))) ∷ []
+
+pub estimates_say : (e : Estimates) → says_word e.lamp → says_word e.power → says_word e.self_test → says_word e.sensor → IsEstimates (members_from (estimates_fields e)) e
+estimates_say e lamp power self_test sensor = let fs = estimates_fields e in record {
+  keys = only_from estimates_keys fs refl;
+  lamp = may_say (codes "lamp_state") fs 50 (number 0 0xFFFF) _ _ refl lamp;
+  power = may_say (codes "power_state") fs 20 (number 0 0xFFFF) _ _ refl power;
+  self_test = may_say (codes "perform_selftest") fs 100 (number 0 0xFFFF) _ _ refl self_test;
+  sensor = may_say (codes "sensor_value") fs 5 (number 0 0xFFFF) _ _ refl sensor;
+}
+
+pub estimates_plain : (e : Estimates) → IsPlain 1 (table (members_from (estimates_fields e)))
+estimates_plain e = plain_from 0 (estimates_fields e) (number_plain 0 _, (number_plain 0 _, (number_plain 0 _, (number_plain 0 _, tt))))

@@ -21,7 +21,7 @@ use Rattle.rdm_fixture.specs.Writing.{text_field, rights_name, shape_name, IsPla
 use Rattle.rdm_fixture.proofs.Fields.{Field, members_from, get_from, only_from, plain_from}
 use Rattle.rdm_fixture.proofs.ListEntries.{EachIs-last}
 use Rattle.rdm_fixture.proofs.NumberSlots.{le_through, integer_again}
-use Rattle.rdm_fixture.proofs.Said.{must_say, may_say, may_text, number_plain, text_plain}
+use Rattle.rdm_fixture.proofs.Said.{must_say, may_say, may_text, number_plain, flag_plain, text_plain}
 use Rattle.rdm_fixture.proofs.Starts.{type_again, rights_again, start_sized}
 use Rattle.rdm_fixture.proofs.WrittenEntries.{says_byte, says_word, says_text}
 
@@ -84,14 +84,11 @@ string_plain s = record { shallow = omega arith; dates = refl }
 pub string_is_plain : (d : Data) (s : List ℕ) → d ≡ string s → IsPlain 0 d
 string_is_plain d s e = subst (IsPlain 0) (sym e) (string_plain s)
 
-flag_plain : (b : Bool) → IsPlain 0 (boolean b)
-flag_plain b = record { shallow = omega arith; dates = refl }
-
 pub parameter_plain : (d : ParameterDef) (given : Data) → IsPlain 0 given → IsPlain 1 (table (members_from (parameter_fields d given)))
 parameter_plain d given is =
     plain_from 0 (parameter_fields d given)
     (text_plain 0 (codes "description") d.name _
-    (flag_plain _, (number_plain 0 _, (number_plain 0 _, (is, (number_plain 0 _, (number_plain 0 _, (string_plain _, (string_plain _, (number_plain 0 _, tt))))))))))
+    (flag_plain 0 _, (number_plain 0 _, (number_plain 0 _, (is, (number_plain 0 _, (number_plain 0 _, (string_plain _, (string_plain _, (number_plain 0 _, tt))))))))))
 
 -- ---- parameters that the fixture lacks
 

@@ -1,7 +1,9 @@
 -- What a refusal tells of a document: all of it but the line.
-use Rattle.std.specs.Prelude.{ℕ, ◌-◌, Bool, true, false, if◌then◌else◌, nat_le, List, [], ◌∷◌, ◌++◌, length, map, chars, encode_utf8, codes, Option, Some, None, option_map}
+use Rattle.std.specs.Prelude.{ℕ, ◌-◌, if◌then◌else◌, nat_le, List, [], ◌∷◌, ◌++◌, length, map, chars, encode_utf8, codes, Option, Some, None, option_map}
 use Rattle.std.specs.Char.{is_control}
 use Rattle.rdm_fixture.specs.declared.refusal.Refusal.{Refusal}
+use Rattle.rdm_fixture.specs.declared.refusal.Section.{Section}
+use Rattle.rdm_fixture.specs.declared.refusal.Section.TheVariants.{Top}
 use Rattle.rdm_fixture.specs.declared.refusal.Wanted.{Wanted}
 
 -- ---- the names of keys
@@ -24,29 +26,29 @@ shown key =
 
 -- ---- the faults
 
--- Something is wanted of a key: in the table of the sub-devices or not, in an entry of a list (of this name and number) or in none.
+-- Something is wanted of a key: in this table, in an entry of a list (of this name and number) or in none.
 pub record Fault : Type 0 where
-  pub in_subs : Bool
+  pub section : Section
   pub entry : Option (List ℕ × ℕ)
   pub key : List ℕ
   pub wanted : Wanted
 
 -- of a key of the very table that is looked at
 abbrev pub fault : List ℕ → Wanted → Fault
-fault key wanted = record { in_subs = false; entry = None; key = shown key; wanted = wanted }
+fault key wanted = record { section = Top; entry = None; key = shown key; wanted = wanted }
 
 -- the same in an entry of a list
 abbrev pub in_entry : List ℕ → ℕ → Fault → Fault
 in_entry list number f = record f { entry = Some (shown list, number) }
 
--- the same in the table of the sub-devices
-abbrev pub in_sub_devices : Fault → Fault
-in_sub_devices f = record f { in_subs = true }
+-- the same in another table
+abbrev pub in_section : Section → Fault → Fault
+in_section section f = record f { section = section }
 
 -- what the refusal tells
 abbrev pub told : Refusal → Fault
 told e = record {
-  in_subs = e.in_sub_devices;
+  section = e.section;
   entry = option_map (λ x. (x.list.bytes, x.number)) e.entry;
   key = e.key.bytes;
   wanted = e.wanted;

@@ -1,6 +1,7 @@
 -- What the tables of a fixture are looked at for, part by part, in the order in which it is done.
 use Rattle.std.specs.Prelude.{◌≡◌, ◌≢◌, ℕ, ◌+◌, ◌<◌, ◌≤◌, ℤ, pos, neg_ℤ, true, false, ◌⊎◌, IsTrue, List, [], ◌∷◌, ◌++◌, length, slice_index_or, Option, Some, None, IsSome, AllPairs, codes}
 use Rattle.toml.specs.Data.{Data, table, array, Members, get_member}
+use Rattle.rdm_device.specs.declared.profile.estimates.Estimates.{Estimates}
 use Rattle.rdm_device.specs.declared.profile.Unit.{Unit as DeviceUnit}
 use Rattle.rdm_device.specs.declared.profile.own.ParameterDef.{ParameterDef}
 use Rattle.rdm_device.specs.declared.profile.own.Shape.{Shape}
@@ -13,8 +14,9 @@ use Rattle.rdm_outcomes.specs.declared.rule.Task.{Task}
 use Rattle.rdm_outcomes.specs.Outcomes as rules
 use Rattle.rdm_fixture.specs.declared.refusal.Wanted.{Wanted}
 use Rattle.rdm_fixture.specs.declared.refusal.Wanted.TheVariants as wanted
-use Rattle.rdm_fixture.specs.Faults.{Fault, fault, in_entry, in_sub_devices}
-use Rattle.rdm_fixture.specs.Format.{IsPersonality, IsSlot, IsSensor, IsSelfTest, IsStatus, IsUnit, SubDevices, LanguagesAt, IsProfile, personality_keys, slot_keys, sensor_keys, self_test_keys, status_keys, unit_keys, fixture_keys, root_slots, parameter_named}
+use Rattle.rdm_fixture.specs.declared.refusal.Section.TheVariants as sections
+use Rattle.rdm_fixture.specs.Faults.{Fault, fault, in_entry, in_section}
+use Rattle.rdm_fixture.specs.Format.{IsPersonality, IsSlot, IsSensor, IsSelfTest, IsStatus, IsUnit, SubDevices, EstimatesAt, LanguagesAt, IsProfile, personality_keys, slot_keys, sensor_keys, self_test_keys, status_keys, estimates_keys, unit_keys, fixture_keys, root_slots, parameter_named}
 use Rattle.rdm_fixture.specs.Keys.{must, has_only, OfTable, EachIs, Lists, items_count}
 use Rattle.rdm_fixture.specs.Outcomes.{IsOutcome, task, severity, outcome_in, and_job_keys, rule_keys}
 use Rattle.rdm_fixture.specs.Parameters.{IsParameter, parameter_keys, own_pid, command_class, data_type, slots_of, shape_in, least_of, greatest_of, limit, integer_from, low_in, high_in, start, flag}
@@ -36,7 +38,8 @@ sensor_parts =
     only sensor_keys ∷ needed_number (codes "type") 0 0xFF ∷ free_number (codes "unit") 0 0xFF ∷ free_number (codes "prefix") 0 0xFF
     ∷ free_signed (codes "range_minimum_value") ∷ free_signed (codes "range_maximum_value")
     ∷ free_signed (codes "normal_minimum_value") ∷ free_signed (codes "normal_maximum_value")
-    ∷ free_number (codes "recorded_value_support") 0 0xFF ∷ free_text (codes "description") ∷ []
+    ∷ free_number (codes "recorded_value_support") 0 0xFF ∷ free_text (codes "description")
+    ∷ free (codes "answered_at_once") flag wanted.Boolean ∷ []
 
 abbrev pub self_test_parts : List Part
 self_test_parts = only self_test_keys ∷ needed_number (codes "number") 1 254 ∷ free_text (codes "description") ∷ []
@@ -150,13 +153,29 @@ sub_parts = only (codes "count" ∷ unit_keys) ∷ needed_number (codes "count")
 
 abbrev pub WrongSubs : Option Data → Fault → Type 0
 WrongSubs None f = ⊥
-WrongSubs (Some (table s)) f = (g : Fault) × FirstWrong sub_parts s g × (f ≡ in_sub_devices g)
+WrongSubs (Some (table s)) f = (g : Fault) × FirstWrong sub_parts s g × (f ≡ in_section sections.SubDevices g)
 WrongSubs (Some _) f = f ≡ fault (codes "sub_devices") wanted.Table
 
 abbrev pub sub_devices : Part
 sub_devices =
     says_one (λ t (s : ℕ × DeviceUnit). SubDevices (root_slots t) t (get_member (codes "sub_devices") t) s.0 s.1)
     (λ t f. WrongSubs (get_member (codes "sub_devices") t) f)
+
+-- ---- the times of slow commands
+
+abbrev pub estimates_parts : List Part
+estimates_parts =
+    only estimates_keys ∷ free_number (codes "lamp_state") 0 0xFFFF ∷ free_number (codes "power_state") 0 0xFFFF
+    ∷ free_number (codes "perform_selftest") 0 0xFFFF ∷ free_number (codes "sensor_value") 0 0xFFFF ∷ []
+
+abbrev pub WrongEstimates : Option Data → Fault → Type 0
+WrongEstimates None f = ⊥
+WrongEstimates (Some (table t)) f = (g : Fault) × FirstWrong estimates_parts t g × (f ≡ in_section sections.Estimates g)
+WrongEstimates (Some _) f = f ≡ fault (codes "estimates") wanted.Table
+
+abbrev pub times : Part
+times =
+    says_one (λ t (e : Estimates). EstimatesAt (get_member (codes "estimates") t) e) (λ t f. WrongEstimates (get_member (codes "estimates") t) f)
 
 -- ---- the whole
 
@@ -230,7 +249,7 @@ profile_parts =
     ∷ entries (codes "self_test") IsSelfTest (FirstWrong self_test_parts) 0 8 ∷ differing (codes "self_test") (codes "number") IsSelfTest (λ a. a.number)
     ∷ entries (codes "status") IsStatus (FirstWrong status_parts) 0 8 ∷ differing (codes "status") (codes "id") IsStatus (λ a. a.id)
     ∷ names ∷ optional ∷ unneeded
-    ∷ entries (codes "parameter") IsParameter (FirstWrong parameter_parts) 0 16 ∷ ascending ∷ []
+    ∷ entries (codes "parameter") IsParameter (FirstWrong parameter_parts) 0 16 ∷ ascending ∷ times ∷ []
 
 abbrev pub fixture_parts : List Part
 fixture_parts =

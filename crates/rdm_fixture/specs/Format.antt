@@ -1,6 +1,6 @@
 -- Which table is a fixture: each key, what it says, and its default. A key is named as the parameter or the field of
 -- E1.20 that it sets, in small letters.
-use Rattle.std.specs.Prelude.{◌≡◌, ◌≢◌, ℕ, ◌+◌, ◌<◌, ◌≤◌, min, pos, neg_ℤ, IsTrue, List, [], ◌∷◌, length, Option, Some, None, option_map, unwrap_or, AllPairs, codes}
+use Rattle.std.specs.Prelude.{◌≡◌, ◌≢◌, false, ℕ, ◌+◌, ◌<◌, ◌≤◌, min, pos, neg_ℤ, IsTrue, List, [], ◌∷◌, length, Option, Some, None, option_map, unwrap_or, AllPairs, codes}
 use Rattle.toml.specs.Data.{Data, string, table, array, Members, get_member}
 use Rattle.rdm_device.specs.declared.profile.Personality.{Personality}
 use Rattle.rdm_device.specs.declared.profile.Profile.{Profile}
@@ -9,11 +9,13 @@ use Rattle.rdm_device.specs.declared.profile.SensorDef.{SensorDef}
 use Rattle.rdm_device.specs.declared.profile.Slot.{Slot}
 use Rattle.rdm_device.specs.declared.profile.StatusText.{StatusText}
 use Rattle.rdm_device.specs.declared.profile.Unit.{Unit as DeviceUnit}
+use Rattle.rdm_device.specs.declared.profile.estimates.Estimates.{Estimates}
+use Rattle.rdm_device.specs.Device.Estimates.{usual}
 use Rattle.rdm_device.specs.Device.Profiles.{MayBeLeftOut}
 use Rattle.rdm_params.specs.Table.Kinds.{pid_of, kind_named}
 use Rattle.rdm_fixture.specs.declared.fixture.Fixture.{Fixture}
 use Rattle.rdm_fixture.specs.Outcomes.{IsOutcome}
-use Rattle.rdm_fixture.specs.Parameters.{IsParameter}
+use Rattle.rdm_fixture.specs.Parameters.{IsParameter, flag}
 use Rattle.rdm_fixture.specs.Values.{number, signed, text, language, uid}
 use Rattle.rdm_fixture.specs.Keys.{may, Must, May, has_only, OfTable, EachIs, Lists, items_count}
 
@@ -43,9 +45,9 @@ abbrev pub sensor_keys : List (List ℕ)
 sensor_keys =
     codes "type" ∷ codes "unit" ∷ codes "prefix" ∷ codes "range_minimum_value" ∷ codes "range_maximum_value"
     ∷ codes "normal_minimum_value" ∷ codes "normal_maximum_value" ∷ codes "recorded_value_support"
-    ∷ codes "description" ∷ []
+    ∷ codes "description" ∷ codes "answered_at_once" ∷ []
 
--- Section 10.7.1.
+-- Sections 10.7.1 and 10.7.2.
 pub record IsSensor (t : Members) (s : SensorDef) : Type 0 where
   pub keys : IsTrue (has_only sensor_keys t)
   pub kind : Must t (codes "type") (number 0 0xFF) s.kind
@@ -57,6 +59,7 @@ pub record IsSensor (t : Members) (s : SensorDef) : Type 0 where
   pub normal_high : May t (codes "normal_maximum_value") (pos 32767) signed s.normal_high
   pub support : May t (codes "recorded_value_support") 0 (number 0 0xFF) s.support
   pub name : May t (codes "description") [] text s.name
+  pub at_once : May t (codes "answered_at_once") false flag s.at_once
 
 abbrev pub self_test_keys : List (List ℕ)
 self_test_keys = codes "number" ∷ codes "description" ∷ []
@@ -109,6 +112,25 @@ SubDevices slots t None count u = (count ≡ 0) × IsUnit slots t u
 SubDevices slots t (Some (table s)) count u = IsSub s count u
 SubDevices slots t (Some _) count u = ⊥
 
+-- ---- the times of slow commands
+
+abbrev pub estimates_keys : List (List ℕ)
+estimates_keys = codes "lamp_state" ∷ codes "power_state" ∷ codes "perform_selftest" ∷ codes "sensor_value" ∷ []
+
+-- In tenths of a second. Section 6.3.3.
+pub record IsEstimates (t : Members) (e : Estimates) : Type 0 where
+  pub keys : IsTrue (has_only estimates_keys t)
+  pub lamp : May t (codes "lamp_state") 50 (number 0 0xFFFF) e.lamp
+  pub power : May t (codes "power_state") 20 (number 0 0xFFFF) e.power
+  pub self_test : May t (codes "perform_selftest") 100 (number 0 0xFFFF) e.self_test
+  pub sensor : May t (codes "sensor_value") 5 (number 0 0xFFFF) e.sensor
+
+-- Without their table they are the usual ones.
+abbrev pub EstimatesAt : Option Data → Estimates → Type 0
+EstimatesAt None e = e ≡ usual
+EstimatesAt (Some (table t)) e = IsEstimates t e
+EstimatesAt (Some _) e = ⊥
+
 -- ---- the whole
 
 -- how many slots are described
@@ -135,7 +157,7 @@ abbrev pub fixture_keys : List (List ℕ)
 fixture_keys =
     codes "uid" ∷ codes "boot_software_version_id" ∷ codes "boot_software_version_label" ∷ codes "languages"
     ∷ codes "presets" ∷ codes "more_slots" ∷ codes "slot" ∷ codes "sensor" ∷ codes "self_test" ∷ codes "status"
-    ∷ codes "without" ∷ codes "parameter" ∷ codes "outcome" ∷ codes "sub_devices" ∷ unit_keys
+    ∷ codes "without" ∷ codes "parameter" ∷ codes "outcome" ∷ codes "sub_devices" ∷ codes "estimates" ∷ unit_keys
 
 -- What the devices are made with. The parameters of the maker's own are in the order of their PIDs. Those that the fixture lacks are ones
 -- that it may lack, and none that another one needs.
@@ -157,6 +179,7 @@ pub record IsProfile (t : Members) (p : Profile) : Type 0 where
   pub may_lack : MayBeLeftOut p.without.items
   pub own : Lists t (codes "parameter") (OfTable IsParameter) 0 16 p.own
   pub own_ascend : AllPairs (λ a b. a.pid < b.pid) p.own
+  pub estimates : EstimatesAt (get_member (codes "estimates") t) p.estimates
 
 pub record IsFixture (t : Members) (f : Fixture) : Type 0 where
   pub keys : IsTrue (has_only fixture_keys t)

@@ -15,7 +15,7 @@ IsSamePlace _ _ = ⊥
 
 -- the same of the same key, in the same place
 pub record IsSameRefusal (a b : Refusal) : Type 0 where
-  pub in_sub_devices : a.in_sub_devices ≡ b.in_sub_devices
+  pub section : a.section ≡ b.section
   pub entry : IsSamePlace a.entry b.entry
   pub key : a.key.bytes ≡ b.key.bytes
   pub wanted : a.wanted ≡ b.wanted

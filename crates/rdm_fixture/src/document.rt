@@ -125,7 +125,8 @@ fn fixture_of(table: &Table) -> Result<(Fixture, ArrayVec<ParameterDef, 16>), Re
             "without",
             "parameter",
             "outcome",
-            "sub_devices"
+            "sub_devices",
+            "estimates"
         ),
     )?;
     let uid = own_uid(table, "uid")?;

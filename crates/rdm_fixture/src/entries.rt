@@ -4,7 +4,7 @@ ghost use Rattle.rdm_fixture.specs.FirstWrong as parts;
 ghost use Rattle.rdm_fixture.specs.Format.{IsPersonality, IsSlot, IsSensor, IsSelfTest, IsStatus};
 ghost use Rattle.rdm_fixture.specs.Wrong.{FirstWrong};
 
-use crate::keys::{number, number_or, only, signed_or, text_or_none};
+use crate::keys::{flag_or, number, number_or, only, signed_or, text_or_none};
 use crate::lists::FromEntry;
 use crate::refusal::Refusal;
 use rdm_device::{Personality, SelfTest, SensorDef, Slot, StatusText};
@@ -58,6 +58,7 @@ impl FromEntry for SensorDef {
                 "normal_maximum_value",
                 "recorded_value_support",
                 "description",
+                "answered_at_once",
             ],
         )?;
         Ok(SensorDef {
@@ -70,6 +71,7 @@ impl FromEntry for SensorDef {
             normal_high: signed_or(table, "normal_maximum_value", 32767)?,
             support: number_or(table, "recorded_value_support", 0, 0, 0xFF)? as u8,
             name: text_or_none(table, "description")?,
+            at_once: flag_or(table, "answered_at_once", false)?,
         })
     }
 }

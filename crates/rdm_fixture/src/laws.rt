@@ -4,7 +4,7 @@ ghost use Rattle.std.specs.Prelude.{◌≡◌, ◌↔◌, ℕ, List, IsTrue};
 ghost use Rattle.rdm_fixture.specs.Describes.{Describes};
 ghost use Rattle.rdm_fixture.specs.Refusals.{IsSameEntry, IsSameRefusal};
 
-use crate::{Entry, Fixture, Refusal, Wanted, WriteError};
+use crate::{Entry, Fixture, Refusal, Section, Wanted, WriteError};
 use rdm_device::profiles_are_equal_by_value;
 use rdm_frame::uids_are_equal_by_value;
 use rdm_outcomes::rules_are_equal_by_value;
@@ -28,6 +28,11 @@ pub fn wanteds_are_equal_by_value()
     ensures { (a b : Wanted) → IsTrue (⟦<Wanted as PartialEq>⟧.eq a b) ↔ (a ≡ b) }
 {}
 
+/// Two values of `Section` are equal by `==` exactly when they are the same.
+pub fn sections_are_equal_by_value()
+    ensures { (a b : Section) → IsTrue (⟦<Section as PartialEq>⟧.eq a b) ↔ (a ≡ b) }
+{}
+
 /// Two entries of lists are equal by `==` exactly when the names of their lists and their numbers are.
 pub fn entries_are_equal_by_value()
     ensures { (a b : Entry) → IsTrue (⟦<Entry as PartialEq>⟧.eq a b) ↔ IsSameEntry a b }
@@ -38,6 +43,7 @@ pub fn entries_are_equal_by_value()
 pub fn refusals_are_equal_by_value()
     ensures { (a b : Refusal) → IsTrue (⟦<Refusal as PartialEq>⟧.eq a b) ↔ IsSameRefusal a b }
 {
+    sections_are_equal_by_value();
     entries_are_equal_by_value();
     wanteds_are_equal_by_value();
 }

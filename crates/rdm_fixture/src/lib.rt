@@ -7,6 +7,7 @@
 
 mod document;
 mod entries;
+mod estimates;
 mod fixture;
 mod keys;
 mod laws;
@@ -23,7 +24,8 @@ pub use document::FixtureError;
 pub use fixture::Fixture;
 pub use laws::{
     entries_are_equal_by_value, fixtures_are_equal_by_value, refusals_are_equal_by_value,
-    text_describes_one_fixture, wanteds_are_equal_by_value, write_errors_are_equal_by_value,
+    sections_are_equal_by_value, text_describes_one_fixture, wanteds_are_equal_by_value,
+    write_errors_are_equal_by_value,
 };
-pub use refusal::{Entry, Name, Refusal, Wanted};
+pub use refusal::{Entry, Name, Refusal, Section, Wanted};
 pub use writing::WriteError;

@@ -15,6 +15,7 @@ ghost use Rattle.rdm_fixture.specs.declared.refusal.Wanted.TheVariants as wanted
 
 mod added;
 
+use crate::estimates::estimates;
 use crate::keys::{find, number_or, text_or_none};
 use crate::lists::list;
 use crate::refusal::{Refusal, Wanted};
@@ -45,6 +46,7 @@ pub(crate) fn profile(table: &Table) -> Result<(Profile, ArrayVec<ParameterDef, 
     let status_texts = status_texts(table)?;
     let without = without(table)?;
     let parameters = own_parameters(table)?;
+    let estimates = estimates(table)?;
     let profile = Profile {
         root,
         sub,
@@ -60,6 +62,7 @@ pub(crate) fn profile(table: &Table) -> Result<(Profile, ArrayVec<ParameterDef, 
         own: OwnParameters::none(),
         without,
         more_slots,
+        estimates,
     };
     Ok((profile, parameters))
 }

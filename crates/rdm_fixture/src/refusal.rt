@@ -2,7 +2,7 @@
 
 ghost use Rattle.std.specs.Prelude.{◌≡◌, ◌≤◌, length, map, chars};
 ghost use Rattle.rdm_fixture.specs.Faults as says;
-ghost use Rattle.rdm_fixture.specs.Faults.{shown, kept, fault, in_entry, in_sub_devices, told};
+ghost use Rattle.rdm_fixture.specs.Faults.{shown, kept, fault, in_entry, in_section, told};
 ghost use Rattle.rdm_fixture.specs.declared.refusal.Wanted.TheVariants as wanted_as;
 
 use arrayvec::ArrayString;
@@ -73,11 +73,22 @@ pub struct Entry {
     pub number: usize,
 }
 
+/// A table of a fixture.
+#[derive(Clone, Copy, Debug, PartialEq, Eq)]
+pub enum Section {
+    /// The one at the top.
+    Top,
+    /// That of the sub-devices.
+    SubDevices,
+    /// That of the times of slow commands.
+    Estimates,
+}
+
 /// Why a table isn't a valid fixture.
 #[derive(Debug, Drop, PartialEq, Eq)]
 pub struct Refusal {
-    /// Whether it is in the table of the sub-devices.
-    pub in_sub_devices: bool,
+    /// In which table it is.
+    pub section: Section,
     /// In which entry of which list it is, if in any.
     pub entry: Option<Entry>,
     /// The key.
@@ -95,7 +106,7 @@ impl Refusal {
         ensures { told result ≡ fault key.now wanted }
     {
         Refusal {
-            in_sub_devices: false,
+            section: Section::Top,
             entry: None,
             key: name_of(key),
             wanted,
@@ -114,14 +125,11 @@ impl Refusal {
         }
     }
 
-    /// The same in the table of the sub-devices.
-    pub(crate) fn in_sub_devices(self) -> Refusal
-        ensures { told result ≡ in_sub_devices (told self) }
+    /// The same in this table.
+    pub(crate) fn in_section(self, section: Section) -> Refusal
+        ensures { told result ≡ in_section section (told self) }
     {
-        Refusal {
-            in_sub_devices: true,
-            ..self
-        }
+        Refusal { section, ..self }
     }
 
     /// The same, if the key is one of another outcome than that of its entry.
@@ -183,8 +191,10 @@ impl fmt::Display for Refusal {
         if let Some(line) = self.line {
             write!(f, "line {line}: ")?;
         }
-        if self.in_sub_devices {
-            f.write_str("in [sub_devices], ")?;
+        match self.section {
+            Section::Top => {}
+            Section::SubDevices => f.write_str("in [sub_devices], ")?,
+            Section::Estimates => f.write_str("in [estimates], ")?,
         }
         if let Some(entry) = &self.entry {
             let list = entry.list.as_str();

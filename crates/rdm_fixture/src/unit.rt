@@ -11,7 +11,7 @@ ghost use Rattle.rdm_fixture.specs.Wrong.{FirstWrong};
 
 use crate::keys::{find, number, number_or, only, text_or_none};
 use crate::lists::list;
-use crate::refusal::{Refusal, Wanted};
+use crate::refusal::{Refusal, Section, Wanted};
 use rdm_device::Unit;
 use rdm_frame::standard::{MOST_DMX_SLOTS, MOST_SUB_DEVICES};
 use toml::{Table, Value};
@@ -72,7 +72,7 @@ pub(crate) fn sub_devices(table: &Table, slots: u16) -> Result<(u16, Unit), Refu
     };
     match counted_unit(sub) {
         Ok(read) => Ok(read),
-        Err(refusal) => Err(refusal.in_sub_devices()),
+        Err(refusal) => Err(refusal.in_section(Section::SubDevices)),
     }
 }
 

@@ -1,5 +1,6 @@
 //! What no clause says: that the keys are those of docs/FIXTURE.md, and the words of the refusals.
 
+mod estimates;
 mod lines;
 mod outcomes;
 mod parameters;

@@ -134,12 +134,12 @@ answered_with a f (Muting muted g) reply are addressed stem e =
 answered_with a f (Get g) reply are addressed stem e =
     let v : Verdict = got a.parameters g.sub g.pid g.body in
     inr (of_itself f g reply stem.0 stem.1.0
-    (responded a.setup.uid g _ (response_of a.outbox g v) reply (addressed_too a.setup.uid f g stem.0 addressed)
+    (responded a.setup.uid g _ (response_of a.parameters.profile a.outbox g v) reply (addressed_too a.setup.uid f g stem.0 addressed)
     (get_responds a.parameters a.outbox g v (ap (λ (x : Frame). x.class) stem.0 ∙ stem.1.1) are refl) e))
 answered_with a f (Set g) reply are addressed stem e =
     let v : Verdict = answer_to_set a.parameters g.sub g.pid g.body in
     inr (of_itself f g reply stem.0 stem.1
-    (responded a.setup.uid g _ (response_of a.outbox g v) reply (addressed_too a.setup.uid f g stem.0 addressed) (set_responds a.parameters a.outbox g v refl) e))
+    (responded a.setup.uid g _ (response_of a.parameters.profile a.outbox g v) reply (addressed_too a.setup.uid f g stem.0 addressed) (set_responds a.parameters a.outbox g v refl) e))
 
 answer_at : (a : Account) (f : Frame) (here : Bool) (reply : List ℕ) → is_addressed a.setup.uid f.dst ≡ here → AreResponses a.outbox → answer_to a (cond here (taken_up f) Ignored) ≡ Some reply → IsAnswer a.setup.uid f reply
 answer_at a f true reply e are is = answered_with a f (taken_up f) reply are e (stems f) is

@@ -107,8 +107,8 @@ status_responds b f ask false e class pid sub again are =
     subst (λ t. Responds f (ack_message (cond t (last_of b) (status_now b ask)))) (sym e)
     (own_responds f (ack_message (status_now b ask)) (sym (ap (λ n. n + 1) class)) (sym sub) (sym pid))
 
-pub get_responds : (p : Parameters) (b : outbox.Account) (f : Frame) (v : Verdict) → f.class ≡ 0x20 → AreResponses b → got p f.sub f.pid f.body ≡ v → Responds f (response_of b f v)
-get_responds p b f (Refuse nack) class are e = own_responds f (response_of b f (Refuse nack)) refl refl refl
+pub get_responds : (p : Parameters) (b : outbox.Account) (f : Frame) (v : Verdict) → f.class ≡ 0x20 → AreResponses b → got p f.sub f.pid f.body ≡ v → Responds f (response_of p.profile b f v)
+get_responds p b f (Refuse nack) class are e = own_responds f (response_of p.profile b f (Refuse nack)) refl refl refl
 get_responds p b f (Start work) class are e =
     either f (has_room b work) _ _ (own_responds f (own_response f 1 _) refl refl refl) (own_responds f (own_response f 2 _) refl refl refl)
 get_responds p b f (Queue ask) class are e =
@@ -117,16 +117,16 @@ get_responds p b f (Status ask) class are e =
     let asked = status_asked p f.sub f.pid f.body ask e in
     let pid = get_statuses p f.sub f.pid f.body ask e in
     status_responds b f ask (is_last ask) refl class pid asked.root (again_is f.body asked.byte ask asked.body asked.ask_is) are
-get_responds p b f Clear class are e = own_responds f (response_of b f Clear) refl refl refl
-get_responds p b f (Reply bytes) class are e = own_responds f (response_of b f (Reply bytes)) refl refl refl
+get_responds p b f Clear class are e = own_responds f (response_of p.profile b f Clear) refl refl refl
+get_responds p b f (Reply bytes) class are e = own_responds f (response_of p.profile b f (Reply bytes)) refl refl refl
 
 -- ---- a SET
 
-pub set_responds : (p : Parameters) (b : outbox.Account) (f : Frame) (v : Verdict) → answer_to_set p f.sub f.pid f.body ≡ v → Responds f (response_of b f v)
-set_responds p b f (Refuse nack) e = own_responds f (response_of b f (Refuse nack)) refl refl refl
+pub set_responds : (p : Parameters) (b : outbox.Account) (f : Frame) (v : Verdict) → answer_to_set p f.sub f.pid f.body ≡ v → Responds f (response_of p.profile b f v)
+set_responds p b f (Refuse nack) e = own_responds f (response_of p.profile b f (Refuse nack)) refl refl refl
 set_responds p b f (Start work) e =
     either f (has_room b work) _ _ (own_responds f (own_response f 1 _) refl refl refl) (own_responds f (own_response f 2 _) refl refl refl)
 set_responds p b f (Queue ask) e = absurd ((set_fetches_nothing p f.sub f.pid f.body ask).0 e)
 set_responds p b f (Status ask) e = absurd ((set_fetches_nothing p f.sub f.pid f.body ask).1 e)
-set_responds p b f Clear e = own_responds f (response_of b f Clear) refl refl refl
-set_responds p b f (Reply bytes) e = own_responds f (response_of b f (Reply bytes)) refl refl refl
+set_responds p b f Clear e = own_responds f (response_of p.profile b f Clear) refl refl refl
+set_responds p b f (Reply bytes) e = own_responds f (response_of p.profile b f (Reply bytes)) refl refl refl

@@ -1,5 +1,5 @@
 -- Commands of PIDs that the table doesn't have, or that a profile leaves out.
-use Rattle.std.proofs.Common.{◌≡◌, ◌≢◌, ℕ, ◌==◌, Bool, true, false, cond, List, [], ◌∷◌, length, Option, Some, None, Result, Ok, Err, refl, sym, ap, subst, ◌∙◌}
+use Rattle.std.proofs.Common.{◌≡◌, ◌≢◌, ℕ, ◌==◌, Bool, true, false, cond, List, [], length, Option, Some, None, Result, Ok, Err, refl, sym, ap, subst, ◌∙◌}
 use Rattle.std.specs.Prelude.{is_some, is_ok, IfOk, IfErr}
 use Rattle.std.proofs.lemmas.Bool.{ne_eqb}
 use Rattle.rdm_params.specs.declared.kind.Verb.{Verb}
@@ -20,13 +20,13 @@ use Rattle.rdm_device.specs.Device.Map.{Entry, update}
 use Rattle.rdm_device.specs.Device.Parameters.{Parameters}
 use Rattle.rdm_device.specs.Device.Spot.{Spot}
 use Rattle.rdm_params.specs.Commands.Added.{row_here, handed_here, reply_here, after_here, stored_here}
-use Rattle.rdm_params.specs.Commands.Commands.{command_at, accepted, read_data, read_data_at, addressed, is_some_device, is_all_call, root_spot, verdict, answered, work, got, answer_to_set, after_set, after_accepted, carried_out, written, added_written, check, ◌>>=◌}
+use Rattle.rdm_params.specs.Commands.Commands.{command_at, accepted, read_data, read_data_at, addressed, is_some_device, is_all_call, root_spot, verdict, answered, work, got, answer_to_set, after_set, after_accepted, carried_out, added_written, check, ◌>>=◌}
 use Rattle.rdm_params.specs.Jobs.Asks.{ask_of}
-use Rattle.rdm_params.specs.Table.Rows.{Command, Row, row_of, row_in, row_or, row_at, is_left_out, added_rows, added_row, takes_added, command_in}
-use Rattle.rdm_params.specs.Table.Uses.{access, change, reply, way_of, is_by_job, is_slow}
+use Rattle.rdm_params.specs.Table.Rows.{Command, Row, row_of, row_or, row_at, is_left_out, added_row, takes_added, command_in}
+use Rattle.rdm_params.specs.Table.Uses.{access, change, reply, way_of, way_at, way_here, is_by_job}
 use Rattle.rdm_device.specs.Device.Values.{byte_or_0}
-use Rattle.rdm_params.proofs.AddedRows.{MayBeAdded, here_is, update_leaves}
-use Rattle.rdm_params.proofs.ReadData.{one_device, bind_alike}
+use Rattle.rdm_params.proofs.AddedRows.{here_is, update_leaves}
+use Rattle.rdm_params.proofs.ReadData.{one_device}
 use Rattle.rdm_params.proofs.Supported.{nothing_added, row_alone}
 
 -- ---- the row of a PID
@@ -162,10 +162,18 @@ bytes_are a b e = cc
 abbrev told : Option Command → Spot → Result Value Nack → Result (List ℕ) Nack
 told command spot r = r >>= (λ value. Ok (reply command spot value))
 
+-- what is answered at once is so at every profile
+at_once_here : (p : Profile) (verb : Verb) (arg : ℕ) → way_here p AtOnce verb arg ≡ AtOnce
+at_once_here p Get arg = refl
+at_once_here p Set arg = refl
+
+at_once_at : (p : Profile) (command : Option Command) (verb : Verb) (v : Value) → way_of command ≡ AtOnce → way_at p command verb v ≡ AtOnce
+at_once_at p command verb v e = ap (λ (way : Way). way_here p way verb (byte_or_0 v)) e ∙ at_once_here p verb (byte_or_0 v)
+
 replies : (p : Parameters) (pid : ℕ) (command : Option Command) (verb : Verb) (r : Result Value Nack) (body : List ℕ) → way_of command ≡ AtOnce → told command (root_spot p) r ≡ Ok body → verdict p 0 pid command verb r ≡ Reply body
 replies p pid command verb (Err nack) body at_once e = absurd cc
 replies p pid command verb (Ok v) body at_once e =
-    ap (λ (way : Way). answered way (reply command (root_spot p) v) (work 0 pid verb v) (ask_of (byte_or_0 v))) at_once ∙ ap reply_of (bytes_are (reply command (root_spot p) v) body e)
+    ap (λ (way : Way). answered way (reply command (root_spot p) v) (work 0 pid verb v) (ask_of (byte_or_0 v))) (at_once_at p.profile command verb v at_once) ∙ ap reply_of (bytes_are (reply command (root_spot p) v) body e)
 
 told_err : (r : Result Value Nack) (command : Option Command) (spot : Spot) (nack : Nack) → told command spot r ≡ Err nack → r ≡ Err nack
 told_err (Err n) command spot nack e = cc

@@ -1,5 +1,5 @@
 -- The rows that a profile adds to the table, and the row of a PID at a profile.
-use Rattle.std.proofs.Common.{◌≡◌, ℕ, ◌==◌, ◌&&◌, ◌||◌, Bool, true, false, cond, List, [], ◌∷◌, ◌++◌, map, Option, Some, None, Ok, Err, refl, sym, ap, subst, ◌∙◌}
+use Rattle.std.proofs.Common.{◌≡◌, ℕ, ◌==◌, ◌&&◌, Bool, true, false, cond, List, [], ◌∷◌, ◌++◌, map, Option, Some, None, Err, refl, sym, ap, subst, ◌∙◌}
 use Rattle.std.specs.Prelude.{find}
 use Rattle.std.specs.List.{AllByRecursion, list_any}
 use Rattle.std.specs.Option.{option_map}
@@ -17,7 +17,7 @@ use Rattle.rdm_device.specs.Device.OwnParameters.{form_of, has_get, has_set}
 use Rattle.rdm_device.specs.Device.Spot.{Spot}
 use Rattle.rdm_params.specs.Commands.Added.{row_here}
 use Rattle.rdm_params.specs.Commands.Commands.{command_of}
-use Rattle.rdm_params.specs.Table.Rows.{Command, Row, table, row_of, row_in, row_or, row_at, is_left_out, added_rows, added_row, description_row, shows_added, takes_added, command_in}
+use Rattle.rdm_params.specs.Table.Rows.{Row, table, row_of, row_in, row_or, added_rows, added_row, description_row, shows_added, takes_added, command_in}
 use Rattle.rdm_params.specs.Table.Uses.{access, change, added_change, reply, way_of}
 use Rattle.rdm_params.proofs.Rows.{found}
 

@@ -12,6 +12,7 @@ use Rattle.rdm_params.specs.declared.jobs.ask.Ask.TheVariants as asks
 use Rattle.rdm_params.specs.declared.jobs.way.Way.{Way}
 use Rattle.rdm_params.specs.declared.jobs.way.Way.TheVariants.{AtOnce, ByJob, FromQueue, FromStatus, Clears}
 use Rattle.rdm_params.specs.declared.jobs.work.Work.{Work}
+use Rattle.rdm_device.specs.declared.profile.Profile.{Profile}
 use Rattle.rdm_device.specs.declared.value.Value.{Value}
 use Rattle.rdm_device.specs.declared.value.Value.TheVariants.{Byte}
 use Rattle.rdm_params.specs.declared.verdict.Verdict.{Verdict}
@@ -24,7 +25,7 @@ use Rattle.rdm_params.specs.Jobs.Asks.{ask_of}
 use Rattle.rdm_params.specs.Jobs.Laws.{IsWorkOf, GetStartsItsWork, SetStartsItsWork, GetQueues, GetStatuses, SetFetchesNothing, SetClears, GetClearsNothing}
 use Rattle.rdm_device.specs.Device.Spot.{Spot}
 use Rattle.rdm_params.specs.Table.Rows.{Command, Row, row_at}
-use Rattle.rdm_params.specs.Table.Uses.{read_as, read, way_of, is_by_job, is_slow, in_range_of}
+use Rattle.rdm_params.specs.Table.Uses.{read_as, read, way_of, way_at, way_here, needs_no_job, is_by_job, is_slow, in_range_of}
 use Rattle.rdm_device.specs.Device.Values.{byte_or_0}
 use Rattle.rdm_params.proofs.RowFacts.{FactsOfWay, Facts, facts_at, slow_at}
 
@@ -44,37 +45,64 @@ queue_is a b e = cc
 
 started_by : (way : Way) (bytes : List ℕ) (job : Work) (ask : Ask) (w : Work) → answered way bytes job ask ≡ Start w → (is_by_job way ≡ true) × (job ≡ w)
 started_by AtOnce bytes job ask w e = absurd cc
-started_by (ByJob worker estimate) bytes job ask w e = (refl, start_is job w e)
+started_by (ByJob slow) bytes job ask w e = (refl, start_is job w e)
 started_by FromQueue bytes job ask w e = absurd cc
 started_by FromStatus bytes job ask w e = absurd cc
 started_by Clears bytes job ask w e = absurd cc
 
 queued_by : (way : Way) (bytes : List ℕ) (job : Work) (ask a : Ask) → answered way bytes job ask ≡ Queue a → (way ≡ FromQueue) × (ask ≡ a)
 queued_by AtOnce bytes job ask a e = absurd cc
-queued_by (ByJob worker estimate) bytes job ask a e = absurd cc
+queued_by (ByJob slow) bytes job ask a e = absurd cc
 queued_by FromQueue bytes job ask a e = (refl, queue_is ask a e)
 queued_by FromStatus bytes job ask a e = absurd cc
 queued_by Clears bytes job ask a e = absurd cc
 
 status_by : (way : Way) (bytes : List ℕ) (job : Work) (ask a : Ask) → answered way bytes job ask ≡ Status a → way ≡ FromStatus
 status_by AtOnce bytes job ask a e = absurd cc
-status_by (ByJob worker estimate) bytes job ask a e = absurd cc
+status_by (ByJob slow) bytes job ask a e = absurd cc
 status_by FromQueue bytes job ask a e = absurd cc
 status_by FromStatus bytes job ask a e = refl
 status_by Clears bytes job ask a e = absurd cc
 
 cleared_by : (way : Way) (bytes : List ℕ) (job : Work) (ask : Ask) → answered way bytes job ask ≡ Clear → way ≡ Clears
 cleared_by AtOnce bytes job ask e = absurd cc
-cleared_by (ByJob worker estimate) bytes job ask e = absurd cc
+cleared_by (ByJob slow) bytes job ask e = absurd cc
 cleared_by FromQueue bytes job ask e = absurd cc
 cleared_by FromStatus bytes job ask e = absurd cc
 cleared_by Clears bytes job ask e = refl
+
+-- ---- the way at a profile is that of the row, or at once
+
+by_job_if : (quick : Bool) (way : Way) → is_by_job (cond quick AtOnce way) ≡ true → is_by_job way ≡ true
+by_job_if true way e = absurd cc
+by_job_if false way e = e
+
+by_job_of_row : (p : Profile) (way : Way) (verb : Verb) (arg : ℕ) → is_by_job (way_here p way verb arg) ≡ true → is_by_job way ≡ true
+by_job_of_row p way Get arg e = by_job_if (needs_no_job p way arg) way e
+by_job_of_row p way Set arg e = e
+
+as_if : (quick : Bool) (way other : Way) → other ≢ AtOnce → cond quick AtOnce way ≡ other → way ≡ other
+as_if true way other later e = absurd (later (sym e))
+as_if false way other later e = e
+
+as_row : (p : Profile) (way other : Way) (verb : Verb) (arg : ℕ) → other ≢ AtOnce → way_here p way verb arg ≡ other → way ≡ other
+as_row p way other Get arg later e = as_if (needs_no_job p way arg) way other later e
+as_row p way other Set arg later e = e
+
+queue_later : FromQueue ≢ AtOnce
+queue_later e = absurd cc
+
+status_later : FromStatus ≢ AtOnce
+status_later e = absurd cc
+
+clears_later : Clears ≢ AtOnce
+clears_later e = absurd cc
 
 -- ---- what the rows say of each way
 
 takes_byte_in : (pid : ℕ) (verb : Verb) (c : Command) (way : Way) → FactsOfWay pid verb c way → is_by_job way ≡ true → c.form ≡ byte
 takes_byte_in pid verb c AtOnce facts slow = absurd cc
-takes_byte_in pid verb c (ByJob worker estimate) facts slow = facts.1.0
+takes_byte_in pid verb c (ByJob kind) facts slow = facts.1.0
 takes_byte_in pid verb c FromQueue facts slow = absurd cc
 takes_byte_in pid verb c FromStatus facts slow = absurd cc
 takes_byte_in pid verb c Clears facts slow = absurd cc
@@ -173,8 +201,8 @@ starts_its_work : (p now : Parameters) (sub pid : ℕ) (verb : Verb) (bytes : Li
 starts_its_work p now sub pid verb bytes w (Err nack) e answer = absurd cc
 starts_its_work p now sub pid verb bytes w (Ok v) e answer =
     let command = command_at p pid verb in
-    let by = started_by (way_of command) (reply_at command (addressed now sub verb) v) (work sub pid verb v) (ask_of (byte_or_0 v)) w answer in
-    subst (IsWorkOf p sub pid verb) by.1 (job_of p sub pid verb bytes v e by.0)
+    let by = started_by (way_at now.profile command verb v) (reply_at command (addressed now sub verb) v) (work sub pid verb v) (ask_of (byte_or_0 v)) w answer in
+    subst (IsWorkOf p sub pid verb) by.1 (job_of p sub pid verb bytes v e (by_job_of_row now.profile (way_of command) verb (byte_or_0 v) by.0))
 
 pub get_starts_its_work : GetStartsItsWork
 unfolding got
@@ -213,8 +241,8 @@ queues : (p now : Parameters) (sub pid : ℕ) (verb : Verb) (bytes : List ℕ) (
 queues p now sub pid verb bytes ask (Err nack) e answer = absurd cc
 queues p now sub pid verb bytes ask (Ok v) e answer =
     let command = command_at p pid verb in
-    let by = queued_by (way_of command) (reply_at command (addressed now sub verb) v) (work sub pid verb v) (ask_of (byte_or_0 v)) ask answer in
-    let row = in_queue pid verb command (facts_at p pid verb) by.0 in
+    let by = queued_by (way_at now.profile command verb v) (reply_at command (addressed now sub verb) v) (work sub pid verb v) (ask_of (byte_or_0 v)) ask answer in
+    let row = in_queue pid verb command (facts_at p pid verb) (as_row now.profile (way_of command) FromQueue verb (byte_or_0 v) queue_later by.0) in
     let says = accepts p sub pid verb bytes v e in
     let one = first_within (λ spot. in_range_of command spot v) (addressed p sub verb) says.device says.range in
     (row.0, (row.1.0, subst (λ (a : Ask). a ≢ asks.None) by.1 (asks_something one.0 v (sym (row.1.1 one.0 v) ∙ one.1))))
@@ -223,7 +251,7 @@ statuses : (p now : Parameters) (sub pid : ℕ) (verb : Verb) (ask : Ask) (value
 statuses p now sub pid verb ask (Err nack) answer = absurd cc
 statuses p now sub pid verb ask (Ok v) answer =
     let command = command_at p pid verb in
-    in_status pid verb command (facts_at p pid verb) (status_by (way_of command) (reply_at command (addressed now sub verb) v) (work sub pid verb v) (ask_of (byte_or_0 v)) ask answer)
+    in_status pid verb command (facts_at p pid verb) (as_row now.profile (way_of command) FromStatus verb (byte_or_0 v) status_later (status_by (way_at now.profile command verb v) (reply_at command (addressed now sub verb) v) (work sub pid verb v) (ask_of (byte_or_0 v)) ask answer))
 
 pub get_queues : GetQueues
 unfolding got
@@ -251,7 +279,7 @@ clearing : (p now : Parameters) (sub pid : ℕ) (verb : Verb) (value : Result Va
 clearing p now sub pid verb (Err nack) answer = absurd cc
 clearing p now sub pid verb (Ok v) answer =
     let command = command_at p pid verb in
-    in_clearing pid verb command (facts_at p pid verb) (cleared_by (way_of command) (reply_at command (addressed now sub verb) v) (work sub pid verb v) (ask_of (byte_or_0 v)) answer)
+    in_clearing pid verb command (facts_at p pid verb) (as_row now.profile (way_of command) Clears verb (byte_or_0 v) clears_later (cleared_by (way_at now.profile command verb v) (reply_at command (addressed now sub verb) v) (work sub pid verb v) (ask_of (byte_or_0 v)) answer))
 
 pub set_clears : SetClears
 unfolding answer_to_set

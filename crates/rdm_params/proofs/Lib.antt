@@ -26,3 +26,4 @@ pub mod SubSteps
 pub mod Supported
 pub mod Told
 pub mod TwoWorkers
+pub mod UsualSlow

@@ -16,7 +16,7 @@ use Rattle.rdm_device.specs.Device.Map.{Entry, has_key, lookup, update}
 use Rattle.rdm_device.specs.Device.Parameters.{Parameters}
 use Rattle.rdm_device.specs.Columns.Replies.{factory_pids, reset_pids}
 use Rattle.rdm_device.specs.Device.Spot.{Spot}
-use Rattle.rdm_params.specs.Table.Rows.{Command, Row, table, row_of, row_in, row_at, is_left_out, added_rows, takes_added, command_in}
+use Rattle.rdm_params.specs.Table.Rows.{Command, Row, table, row_of, row_in, is_left_out, added_rows, takes_added, command_in}
 use Rattle.rdm_params.specs.Table.Uses.{is_slow, change, added_change}
 use Rattle.rdm_device.specs.Device.Values.{bytes_of, byte_or_0}
 use Rattle.rdm_device.specs.declared.profile.own.ParameterDef.{ParameterDef}

@@ -8,7 +8,7 @@ use Rattle.rdm_params.specs.declared.kind.Verb.TheVariants.{Get, Set}
 use Rattle.rdm_params.specs.declared.nack.Nack.{Nack}
 use Rattle.rdm_params.specs.declared.nack.Nack.TheVariants.{DataOutOfRange, SubDeviceOutOfRange}
 use Rattle.rdm_params.specs.declared.placing.PlaceError.{PlaceError}
-use Rattle.rdm_params.specs.declared.placing.PlaceError.TheVariants.{NoDevice, NoValue, OutOfRange}
+use Rattle.rdm_params.specs.declared.placing.PlaceError.TheVariants.{NoDevice, OutOfRange}
 use Rattle.rdm_params.specs.declared.jobs.ask.Ask.{Ask}
 use Rattle.rdm_params.specs.declared.jobs.way.Way.{Way}
 use Rattle.rdm_params.specs.declared.jobs.way.Way.TheVariants.{AtOnce, ByJob, FromQueue, FromStatus, Clears}
@@ -53,7 +53,7 @@ head_all f (s ∷ spots) some all = (both_true (f s) (list_all f spots) all).0
 
 no_reply : (way : Way) (body : List ℕ) (job : Work) (ask : Ask) (reply : List ℕ) → answered way body job ask ≡ Reply reply → is_by_job way ≡ false
 no_reply AtOnce body job ask reply e = refl
-no_reply (ByJob worker estimate) body job ask reply e = absurd cc
+no_reply (ByJob slow) body job ask reply e = absurd cc
 no_reply FromQueue body job ask reply e = refl
 no_reply FromStatus body job ask reply e = refl
 no_reply Clears body job ask reply e = refl

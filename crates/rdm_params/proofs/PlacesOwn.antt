@@ -4,7 +4,6 @@ use Rattle.std.specs.Prelude.{is_some, find}
 use Rattle.std.specs.Option.{option_map_or}
 use Rattle.std.proofs.lemmas.Bool.{ne_eqb}
 use Rattle.rdm_device.specs.declared.profile.own.ParameterDef.{ParameterDef}
-use Rattle.rdm_device.specs.declared.profile.Profile.{Profile}
 use Rattle.rdm_device.specs.declared.value.Value.{Value}
 use Rattle.rdm_device.specs.Columns.Added.{added_stored, is_pid_of}
 use Rattle.rdm_device.specs.Columns.Forms.{value_of}

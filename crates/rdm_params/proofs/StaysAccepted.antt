@@ -32,7 +32,7 @@ use Rattle.rdm_params.proofs.RowFacts.{FactsOfWay, Facts, ByProfile, facts_of}
 
 profile_decides_in : (pid : ℕ) (verb : Verb) (c : Command) (way : Way) → FactsOfWay pid verb c way → is_by_job way ≡ true → ByProfile c
 profile_decides_in pid verb c AtOnce facts slow = absurd cc
-profile_decides_in pid verb c (ByJob worker estimate) facts slow = facts.0
+profile_decides_in pid verb c (ByJob kind) facts slow = facts.0
 profile_decides_in pid verb c FromQueue facts slow = absurd cc
 profile_decides_in pid verb c FromStatus facts slow = absurd cc
 profile_decides_in pid verb c Clears facts slow = absurd cc

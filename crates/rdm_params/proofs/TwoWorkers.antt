@@ -1,25 +1,26 @@
--- The table names two workers.
-use Rattle.std.proofs.Common.{ℕ, ◌<◌, Option, Some, None, arith}
-use Rattle.rdm_params.specs.declared.kind.Verb.{Verb}
+-- There are two workers.
+use Rattle.std.proofs.Common.{◌<◌, lit<}
+use Rattle.rdm_params.specs.declared.jobs.slow.Slow.{Slow}
+use Rattle.rdm_params.specs.declared.jobs.slow.Slow.TheVariants.{Lamp, Power, SelfTest, Sensor}
 use Rattle.rdm_params.specs.declared.jobs.way.Way.{Way}
 use Rattle.rdm_params.specs.declared.jobs.way.Way.TheVariants.{AtOnce, ByJob, FromQueue, FromStatus, Clears}
 use Rattle.rdm_params.specs.declared.jobs.work.Work.{Work}
 use Rattle.rdm_params.specs.Commands.Commands.{command_of}
 use Rattle.rdm_params.specs.Jobs.Work.{worker_in, worker_of}
-use Rattle.rdm_params.specs.Table.Rows.{Command}
-use Rattle.rdm_params.specs.Table.Uses.{way_of}
-use Rattle.rdm_params.proofs.RowFacts.{FactsOfWay, Facts, facts_of}
+use Rattle.rdm_params.specs.Table.Uses.{way_of, worker_for}
 
-in_way : (pid : ℕ) (verb : Verb) (c : Command) (way : Way) → FactsOfWay pid verb c way → worker_in way < 2
-in_way pid verb c AtOnce facts = omega arith
-in_way pid verb c (ByJob worker estimate) facts = facts.1.1
-in_way pid verb c FromQueue facts = omega arith
-in_way pid verb c FromStatus facts = omega arith
-in_way pid verb c Clears facts = omega arith
+for_slow : (slow : Slow) → worker_for slow < 2
+for_slow Lamp = lit< tt
+for_slow Power = lit< tt
+for_slow SelfTest = lit< tt
+for_slow Sensor = lit< tt
 
-in_command : (pid : ℕ) (verb : Verb) (o : Option Command) → Facts pid verb o → worker_in (way_of o) < 2
-in_command pid verb None facts = omega arith
-in_command pid verb (Some c) facts = in_way pid verb c c.way facts
+in_way : (way : Way) → worker_in way < 2
+in_way AtOnce = lit< tt
+in_way (ByJob slow) = for_slow slow
+in_way FromQueue = lit< tt
+in_way FromStatus = lit< tt
+in_way Clears = lit< tt
 
 pub there_are_two_workers : (w : Work) → worker_of w < 2
-there_are_two_workers w = in_command w.pid w.verb (command_of w.pid w.verb) (facts_of w.pid w.verb)
+there_are_two_workers w = in_way (way_of (command_of w.pid w.verb))

@@ -4,4 +4,5 @@ pub mod Laws
 pub mod Outcome
 pub mod Severities
 pub mod Thresholds
+pub mod Usual
 pub mod Work

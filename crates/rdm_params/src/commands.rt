@@ -8,7 +8,7 @@ ghost use Rattle.std.specs.Option.{option_copied, option_map_or};
 ghost use Rattle.rdm_params.specs.declared.kind.Verb.TheVariants.{Set};
 ghost use Rattle.rdm_params.specs.declared.verdict.Verdict.TheVariants.{Refuse};
 ghost use Rattle.rdm_params.specs.Commands.Commands.{got, answer_to_set, after_set, in_range, answered, work};
-ghost use Rattle.rdm_params.specs.Commands.Commands.{addressed, command_of, carried_out, is_all_call, reply_at};
+ghost use Rattle.rdm_params.specs.Commands.Commands.{addressed, command_of, carried_out, reply_at};
 ghost use Rattle.rdm_params.specs.Commands.Changed.{change_of};
 ghost use Rattle.rdm_params.specs.Table.Kinds.{pid_of};
 ghost use Rattle.rdm_params.specs.Table.Rows.{is_left_out};
@@ -16,8 +16,9 @@ ghost use Rattle.rdm_device.specs.Device.Spot.{Spot};
 ghost use Rattle.rdm_device.specs.Device.Values.{byte_or_0};
 ghost use Rattle.rdm_device.specs.declared.value.Value.{Value};
 ghost use Rattle.rdm_params.specs.Views.Verdicts.{verdict_with, NamesItsJob};
-ghost use Rattle.rdm_params.specs.Table.Uses.{way_of, in_range_of, is_bare, reply};
+ghost use Rattle.rdm_params.specs.Table.Uses.{way_of, way_at, in_range_of, is_bare, reply};
 ghost use Rattle.rdm_params.specs.Jobs.Asks.{ask_of};
+ghost use Rattle.rdm_params.specs.Jobs.Work.{estimate_of};
 
 mod added;
 mod addressing;
@@ -29,8 +30,9 @@ mod saving;
 mod starting;
 mod thresholds;
 
+use crate::commands::addressing::is_all_call;
 use crate::commands::sub_devices::{all_in_range, store_at, store_each};
-use crate::jobs::Way;
+use crate::jobs::{Way, estimate_by};
 use crate::table::find::{Found, find};
 use crate::table::respond::{reply_into, state_into};
 use crate::table::store::{store_added, store_common, store_own};
@@ -87,6 +89,14 @@ impl Devices {
         self.subs.len()
     }
 
+    /// How long the job of a slow command takes, in tenths of a second, for ACK_TIMER (E1.20 section 6.3.3): what the profile
+    /// estimates. It is 0 if the work isn't a slow command.
+    pub fn estimate_of(&self, work: &Work) -> u16
+        ensures { result ≡ estimate_of self.now.profile work.now }
+    {
+        estimate_by(&self.profile.estimates, work)
+    }
+
     /// What a GET answers: the value, the job that it starts, or the first reason to reject it.
     pub fn get(&self, sub: u16, pid: u16, data: &[u8]) -> Verdict
         ensures { result ≡ got self.now sub pid data.now }
@@ -102,7 +112,7 @@ impl Devices {
     #[inline(always)]
     pub fn get_into(&self, sub: u16, pid: u16, data: &[u8], body: &mut Body) -> Answer
         ensures answer { verdict_with result body.new ≡ got self.now sub pid data.now }
-        ensures job { NamesItsJob result }
+        ensures job { NamesItsJob self.now.profile result }
         ensures empty { result ≢ Answer.Done → body.new ≡ [] }
     {
         body.clear();
@@ -135,7 +145,7 @@ impl Devices {
         body: &mut Body,
     ) -> (Answer, Option<Changed>)
         ensures answer { verdict_with result.0 body.new ≡ answer_to_set self.old sub pid data.now }
-        ensures job { NamesItsJob result.0 }
+        ensures job { NamesItsJob self.old.profile result.0 }
         ensures empty { result.0 ≢ Answer.Done → body.new ≡ [] }
         ensures after { self.new ≡ after_set self.old sub pid data.now }
         ensures unchanged { (result.1 ≡ None) ↔ (self.new ≡ self.old) }
@@ -185,7 +195,7 @@ impl Devices {
         requires { body.old ≡ [] }
         ensures ok { IfOk result (λ answer. verdict_with answer body.new ≡ got self.now sub pid data.now) }
         ensures err { IfErr result (λ nack. got self.now sub pid data.now ≡ Refuse nack) }
-        ensures job { IfOk result (λ answer. NamesItsJob answer) }
+        ensures job { IfOk result (λ answer. NamesItsJob self.now.profile answer) }
         ensures empty { result ≢ Ok Answer.Done → body.new ≡ [] }
     {
         let place = self
@@ -212,7 +222,9 @@ impl Devices {
             Err(nack) => return Err(nack),
         };
         let value = self.read_data(sub, Verb::Get, found, &place, data)?;
-        Ok(answer(sub, Verb::Get, found, Some(&place), &value, body))
+        let profile = &self.profile;
+        let place = Some(&place);
+        Ok(answer(profile, sub, Verb::Get, found, place, &value, body))
     }
 
     /// What a SET answers, or the first reason to reject it. `changed` tells whether it changed a value.
@@ -230,7 +242,7 @@ impl Devices {
         requires changed { changed.old ≡ false }
         ensures ok { IfOk result (λ answer. verdict_with answer body.new ≡ answer_to_set self.old sub pid data.now) }
         ensures err { IfErr result (λ nack. answer_to_set self.old sub pid data.now ≡ Refuse nack) }
-        ensures job { IfOk result (λ answer. NamesItsJob answer) }
+        ensures job { IfOk result (λ answer. NamesItsJob self.old.profile answer) }
         ensures empty { result ≢ Ok Answer.Done → body.new ≡ [] }
         ensures after { self.new ≡ after_set self.old sub pid data.now }
         ensures same { (changed.new ≡ false) ↔ (self.new ≡ self.old) }
@@ -275,18 +287,19 @@ impl Devices {
         requires way { found.way ≡ way_of (command_of (pid_of found.kind) Set) }
         requires bare { found.is_bare ≡ is_bare (command_of (pid_of found.kind) Set) }
         requires silent { found.has_reply ≡ false → (spot : Spot) (value : Value) → reply (command_of (pid_of found.kind) Set) spot value ≡ [] }
-        ensures answer { verdict_with result body.new ≡ answered found.way
+        ensures answer { verdict_with result body.new ≡ answered (way_at self.now.profile (command_of (pid_of found.kind) Set) Set value.now)
             (reply_at (command_of (pid_of found.kind) Set) (addressed self.now sub Set) value.now)
             (work sub (pid_of found.kind) Set value.now) (ask_of (byte_or_0 value.now)) }
-        ensures job { NamesItsJob result }
+        ensures job { NamesItsJob self.now.profile result }
         ensures empty { result ≢ Answer.Done → body.new ≡ [] }
     {
+        let profile = &self.profile;
         // Few replies tell what the write left, and the write had to end the borrow of the first place.
         if !found.has_reply {
-            return answer(sub, Verb::Set, found, None, value, body);
+            return answer(profile, sub, Verb::Set, found, None, value, body);
         }
         let place = self.first_place(sub, Verb::Set);
-        answer(sub, Verb::Set, found, place.as_ref(), value, body)
+        answer(profile, sub, Verb::Set, found, place.as_ref(), value, body)
     }
 
     /// Whether a value is in range at each device that a command is for, of which this is the first place.
@@ -334,6 +347,7 @@ impl Devices {
 /// What an accepted command answers, if this is the first device that it is for.
 #[inline(always)]
 fn answer(
+    profile: &Profile,
     sub: u16,
     verb: Verb,
     found: Found,
@@ -344,14 +358,14 @@ fn answer(
     requires empty { body.old ≡ [] }
     requires way { found.way ≡ way_of (command_of (pid_of found.kind) verb) }
     requires bare { found.is_bare ≡ is_bare (command_of (pid_of found.kind) verb) }
-    ensures answer { verdict_with result body.new ≡ answered found.way
+    ensures answer { verdict_with result body.new ≡ answered (way_at profile.now (command_of (pid_of found.kind) verb) verb value.now)
         (option_map_or (λ spot. reply (command_of (pid_of found.kind) verb) spot value.now) (option_copied place.entry) [])
         (work sub (pid_of found.kind) verb value.now) (ask_of (byte_or_0 value.now)) }
-    ensures job { NamesItsJob result }
+    ensures job { NamesItsJob profile.now result }
     ensures empty { result ≢ Answer.Done → body.new ≡ [] }
 {
     let arg = value.byte().unwrap_or(0);
-    match found.way {
+    match found.way.at(profile, verb, arg) {
         Way::AtOnce => {
             if let Some(place) = place {
                 match verb {
@@ -361,28 +375,18 @@ fn answer(
             }
             Answer::Done
         }
-        Way::ByJob { worker, estimate } => Answer::Starts {
+        Way::ByJob(slow) => Answer::Starts {
             work: Work {
                 sub,
                 pid: found.kind.pid(),
                 verb,
                 arg,
             },
-            worker,
-            estimate,
+            worker: slow.worker(),
+            estimate: slow.estimate(&profile.estimates),
         },
         Way::FromQueue => Answer::Queues(Ask::of(arg)),
         Way::FromStatus => Answer::Statuses(Ask::of(arg)),
         Way::Clears => Answer::Clears,
-    }
-}
-
-/// Whether a command is a SET of every sub-device.
-fn is_all_call(sub: u16, verb: Verb) -> bool
-    ensures { result ≡ is_all_call sub verb }
-{
-    match verb {
-        Verb::Get => false,
-        Verb::Set => sub == SUB_DEVICE_ALL_CALL,
     }
 }

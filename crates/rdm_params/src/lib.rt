@@ -21,8 +21,9 @@ pub use changed::Changed;
 pub use commands::{Devices, NewError};
 pub use jobs::{
     Ask, Entry, Message, Outcome, Severity, Work, estimate_of, fits, fitting_worker,
-    one_command_clears, slow_command_stays_accepted, started_work_is_its_command,
-    two_commands_fetch, worker_of,
+    one_command_clears, sensor_is_answered_at_once, slow_command_stays_accepted,
+    started_work_is_its_command, two_commands_fetch, usual_profile_is_as_slow_as_the_table,
+    worker_of,
 };
 pub use kind::{Kind, Verb, kind_of};
 pub use laws::{
@@ -39,8 +40,8 @@ pub use nack::{Nack, reason_name, reason_name_for_c};
 pub use panel::{Change, Plate};
 pub use placing::PlaceError;
 pub use rdm_device::{
-    OwnParameters, ParameterDef, Personality, Profile, Rights, SelfTest, SensorDef, Shape, Slot,
-    StatusText, Unit, Value, write_value,
+    Estimates, OwnParameters, ParameterDef, Personality, Profile, Rights, SelfTest, SensorDef,
+    Shape, Slot, StatusText, Unit, Value, write_value,
 };
 pub use rdm_saved::{RestoreError, SaveError};
 pub use table::names::{other_name, parameter_name, parameter_name_for_c, pid_named};

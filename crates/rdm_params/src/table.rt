@@ -4,13 +4,12 @@
 //! GET and its SET. `rows!(use! (arguments))` hands the rows to the macro of one use.
 //!
 //! - GET: `none`; `(reads SOURCE)`; `(asks FORM (RANGE) REPLY)`, which hands in data;
-//!   `(measures FORM (RANGE) WORKER ESTIMATE REPLY)`, which a job of that worker carries out, with an estimate in
-//!   tenths of a second; `(fetches FORM (RANGE) WAY)`, which is answered from what waits for the controller. A source
+//!   `(measures FORM (RANGE) SLOW REPLY)`, which a job of that kind carries out; `(fetches FORM (RANGE) WAY)`, which is answered from what waits for the controller. A source
 //!   is a field of the device's values, of its unit, of the root's own values or of the profile, with the form of the
 //!   value, `computed` by a function of `replies`, or `listed` from the rows.
 //! - SET: `none`; `(takes FORM (RANGE) FIELD)`, which writes that field; `(sets FORM (RANGE) (COMMON OWN) REPLY)`,
-//!   which changes a device by these functions of `changes`; `(starts FORM (RANGE) WORKER ESTIMATE FIELD)`, which
-//!   writes that field at the end of a job of that worker; `(clears FORM (RANGE))`, which clears the list of status
+//!   which changes a device by these functions of `changes`; `(starts FORM (RANGE) SLOW FIELD)`, which
+//!   writes that field at the end of a job of that kind; `(clears FORM (RANGE))`, which clears the list of status
 //!   entries that wait.
 
 pub(crate) mod chosen;
@@ -49,12 +48,12 @@ macro_rules! rows {
             (SlotDescription 0x0121 root (asks word (a_slot) slot_described) none)
             (DefaultSlotValue 0x0122 root (reads (computed slot_defaults)) none)
             (SensorDefinition 0x0200 root (asks byte (a_sensor) sensor_described) none)
-            (SensorValue 0x0201 root (measures byte (a_sensor) 1 5 sensor_measured) (sets byte (sensors) (none sensors_reset) sensor_measured))
+            (SensorValue 0x0201 root (measures byte (a_sensor) Sensor sensor_measured) (sets byte (sensors) (none sensors_reset) sensor_measured))
             (RecordSensors 0x0202 root none (sets byte (sensors) (none sensors_recorded) none))
             (DeviceHours 0x0400 root (reads (own long device_hours)) (takes long (any) (own device_hours)))
             (LampHours 0x0401 both (reads (common long lamp_hours)) (takes long (any) (common lamp_hours)))
             (LampStrikes 0x0402 both (reads (common long lamp_strikes)) (takes long (any) (common lamp_strikes)))
-            (LampState 0x0403 both (reads (common byte lamp_state)) (starts byte (below 4) 0 50 (common lamp_state)))
+            (LampState 0x0403 both (reads (common byte lamp_state)) (starts byte (below 4) Lamp (common lamp_state)))
             (LampOnMode 0x0404 both (reads (common byte lamp_on_mode)) (takes byte (below 4) (common lamp_on_mode)))
             (DevicePowerCycles 0x0405 root (reads (own long power_cycles)) (takes long (any) (own power_cycles)))
             (DisplayInvert 0x0500 root (reads (own byte display_invert)) (takes byte (below 3) (own display_invert)))
@@ -63,8 +62,8 @@ macro_rules! rows {
             (TiltInvert 0x0601 root (reads (own byte tilt_invert)) (takes byte (below 2) (own tilt_invert)))
             (PanTiltSwap 0x0602 root (reads (own byte pan_tilt_swap)) (takes byte (below 2) (own pan_tilt_swap)))
             (IdentifyDevice 0x1000 both (reads (common byte identify)) (takes byte (below 2) (common identify)))
-            (PowerState 0x1010 both (reads (common byte power_state)) (starts byte (a_power_state) 0 20 (common power_state)))
-            (PerformSelfTest 0x1020 root (reads (computed self_test_runs)) (starts byte (a_self_test) 1 100 (own self_test)))
+            (PowerState 0x1010 both (reads (common byte power_state)) (starts byte (a_power_state) Power (common power_state)))
+            (PerformSelfTest 0x1020 root (reads (computed self_test_runs)) (starts byte (a_self_test) SelfTest (own self_test)))
             (SelfTestDescription 0x1021 root (asks byte (a_test) self_test_described) none)
             (PresetPlayback 0x1031 root (reads (own preset preset)) (takes preset (a_preset) (own preset)))
         }

@@ -34,7 +34,7 @@ pub enum Answer {
         work: Work,
         /// The worker that has the job, as `worker_of` tells.
         worker: u8,
-        /// How long it takes, in tenths of a second, as `estimate_of` tells.
+        /// How long it takes, in tenths of a second, as `Devices::estimate_of` tells.
         estimate: u16,
     },
     /// It asks for the next message that waits, or for the last one again (section 10.3.1).

@@ -5,7 +5,6 @@ use Rattle.std.proofs.lemmas.List.Sums.{fold_push}
 use Rattle.rdm_frame.specs.declared.frame.Frame.{Frame}
 use Rattle.rdm_frame.specs.Reading.{frame_in}
 use Rattle.rdm_responder.specs.History.{Setup, Event, Heard, Arrived, Changed, Placed, Noted, Restored, History, empty_history, then_event}
-use Rattle.rdm_frame.specs.declared.uid.Uid.{Uid}
 use Rattle.rdm_responder.specs.Requests.{Request, Ignored, Branch, Muting, Get, Set, request_in}
 use Rattle.rdm_responder.specs.Rules.{Account, account_of, account_before, account_after, account_with}
 use Rattle.rdm_responder.specs.StandsFor.{State, Shows, StandsFor}

@@ -9,6 +9,7 @@ use Rattle.rdm_frame.specs.FrameText.{frame_text}
 use Rattle.rdm_frame.specs.UidNumber.{uid_number}
 use Rattle.rdm_frame.specs.Reading.{frame_in}
 use Rattle.rdm_frame.specs.Discovery.{branch_reply}
+use Rattle.rdm_device.specs.declared.profile.Profile.{Profile}
 use Rattle.rdm_params.specs.declared.nack.Nack.{Nack}
 use Rattle.rdm_params.specs.declared.nack.Nack.TheVariants.{BufferFull}
 use Rattle.rdm_params.specs.declared.panel.Change.{Change}
@@ -81,14 +82,14 @@ abbrev pub ack_message : Message → Response
 ack_message m = record { port = 0; class = m.class; sub = m.sub; pid = m.pid; body = m.body }
 
 -- Rules 6 to 11 are those of the table, and refuse or give the way in which a command is answered. Rule 12: a slow
--- command for which there is no room is rejected. Rule 13: else the command is carried out.
-abbrev pub response_of : outbox.Account → Frame → Verdict → Response
-response_of b f (Refuse nack) = nack_reason f nack
-response_of b f (Start work) = if has_room b work then ack_timer f (estimate_of work) else nack_reason f BufferFull
-response_of b f (Queue ask) = ack_message (dispensed b ask)
-response_of b f (Status ask) = ack_message (status_dispensed b ask)
-response_of b f Clear = ack f []
-response_of b f (Reply bytes) = ack f bytes
+-- command for which there is no room is rejected. Rule 13: else the command is carried out. A profile says how long jobs take.
+abbrev pub response_of : Profile → outbox.Account → Frame → Verdict → Response
+response_of p b f (Refuse nack) = nack_reason f nack
+response_of p b f (Start work) = if has_room b work then ack_timer f (estimate_of p work) else nack_reason f BufferFull
+response_of p b f (Queue ask) = ack_message (dispensed b ask)
+response_of p b f (Status ask) = ack_message (status_dispensed b ask)
+response_of p b f Clear = ack f []
+response_of p b f (Reply bytes) = ack f bytes
 
 -- the job that starts
 abbrev pub started_by : outbox.Account → Verdict → Option Job
@@ -139,8 +140,8 @@ abbrev pub is_between : Uid → Uid → Uid → Bool
 is_between lower own upper = nat_le (uid_number lower) (uid_number own) && nat_le (uid_number own) (uid_number upper)
 
 -- The bytes of the response to a GET or a SET that comes to this. The messages are counted after it was carried out.
-abbrev pub reply_with : Uid → outbox.Account → Frame → Verdict → Option (List ℕ)
-reply_with own b f verdict = answer_with own f (message_count (outbox_after b verdict)) (response_of b f verdict)
+abbrev pub reply_with : Uid → Profile → outbox.Account → Frame → Verdict → Option (List ℕ)
+reply_with own p b f verdict = answer_with own f (message_count (outbox_after b verdict)) (response_of p b f verdict)
 
 -- The bytes of the answer. In discovery no messages are counted.
 abbrev pub answer_to : Account → Request → Option (List ℕ)
@@ -148,8 +149,8 @@ answer_to a Ignored = None
 answer_to a (Branch lower upper) =
     if not (is_muted a.mutings) && is_between lower a.setup.uid upper then Some (branch_reply a.setup.uid) else None
 answer_to a (Muting muted f) = answer_with a.setup.uid f 0 (ack f (control_field a.parameters))
-answer_to a (Get f) = reply_with a.setup.uid a.outbox f (got a.parameters f.sub f.pid f.body)
-answer_to a (Set f) = reply_with a.setup.uid a.outbox f (answer_to_set a.parameters f.sub f.pid f.body)
+answer_to a (Get f) = reply_with a.setup.uid a.parameters.profile a.outbox f (got a.parameters f.sub f.pid f.body)
+answer_to a (Set f) = reply_with a.setup.uid a.parameters.profile a.outbox f (answer_to_set a.parameters f.sub f.pid f.body)
 
 -- the job that starts
 abbrev pub job_with : Account → Request → Option Job

@@ -1,5 +1,6 @@
 -- A job that started, as it is handed on.
 use Rattle.std.specs.Prelude.{◌≡◌, Option, option_map}
+use Rattle.rdm_device.specs.declared.profile.Profile.{Profile}
 use Rattle.rdm_params.specs.Jobs.Work.{worker_of, estimate_of}
 use Rattle.rdm_outbox.specs.declared.job.Job.{Job}
 use Rattle.rdm_responder.specs.declared.stepped.Started.{Started}
@@ -8,6 +9,6 @@ use Rattle.rdm_responder.specs.declared.stepped.Started.{Started}
 abbrev pub job_in : Option Started → Option Job
 job_in started = option_map (λ s. s.job) started
 
--- The worker and the estimate are those that the table has for the job's command. Section 6.3.3.
-abbrev pub IsAsInTable : Started → Type 0
-IsAsInTable s = (s.worker ≡ worker_of s.job.work) × (s.estimate ≡ estimate_of s.job.work)
+-- The worker and the estimate are those that devices of this profile have for the job's command. Section 6.3.3.
+abbrev pub IsAsInProfile : Profile → Started → Type 0
+IsAsInProfile p s = (s.worker ≡ worker_of s.job.work) × (s.estimate ≡ estimate_of p s.job.work)

@@ -4,6 +4,7 @@ ghost use Rattle.std.specs.Prelude.{◌≡◌, ◌<◌, None, IfSome};
 ghost use Rattle.std.specs.Int.{w16, to_be_bytes};
 ghost use Rattle.std.specs.Bool.{OnFalse};
 ghost use Rattle.rdm_frame.specs.declared.frame.Frame.{Frame};
+ghost use Rattle.rdm_device.specs.declared.profile.Profile.{Profile};
 ghost use Rattle.rdm_outbox.specs.Account.{Account};
 ghost use Rattle.rdm_outbox.specs.Shows.{Shows};
 ghost use Rattle.rdm_params.specs.Views.Verdicts.{verdict_with, NamesItsJob};
@@ -12,7 +13,7 @@ ghost use Rattle.rdm_params.specs.declared.verdict.Verdict.TheVariants.{Start};
 ghost use Rattle.rdm_params.specs.Commands.Nacks.{nack_code};
 ghost use Rattle.rdm_responder.specs.Headings.{response_with, own_heading};
 ghost use Rattle.rdm_responder.specs.Requests.{IsFrom};
-ghost use Rattle.rdm_responder.specs.Started.{job_in, IsAsInTable};
+ghost use Rattle.rdm_responder.specs.Started.{job_in, IsAsInProfile};
 ghost use Rattle.rdm_responder.specs.Rules.{response_of, answered, outbox_after, reply_with, started_by};
 
 use crate::reply::{Heading, send, send_last};
@@ -37,12 +38,12 @@ pub(crate) fn carry_out(
 ) -> Stepped
     requires from { IsFrom bytes.now request.now }
     requires class { request.now.class < 255 }
-    requires job { NamesItsJob answer }
-    ensures reply { (b : Account) → Shows outbox.old b →
-        answered result.replied wire.new ≡ reply_with own b request.now (verdict_with answer body.old) }
+    requires job { (p : Profile) × NamesItsJob p answer }
+    ensures reply { (p : Profile) (b : Account) → NamesItsJob p answer → Shows outbox.old b →
+        answered result.replied wire.new ≡ reply_with own p b request.now (verdict_with answer body.old) }
     ensures silent { OnFalse result.replied (wire.new ≡ wire.old) }
     ensures job { (b : Account) → Shows outbox.old b → job_in result.started ≡ started_by b (verdict_with answer body.old) }
-    ensures table { IfSome result.started IsAsInTable }
+    ensures table { (p : Profile) → NamesItsJob p answer → IfSome result.started (IsAsInProfile p) }
     ensures changed { result.changed ≡ None }
     ensures after { (b : Account) → Shows outbox.old b → Shows outbox.new (outbox_after b (verdict_with answer body.old)) }
 {
@@ -123,12 +124,11 @@ fn start(
     body: &mut Body,
     started: &mut Option<Started>,
 ) -> u8
-    requires worker { worker ≡ worker_of work }
-    requires estimate { estimate ≡ estimate_of work }
-    ensures response { (b : Account) → Shows outbox.old b → (f : Frame) →
-        response_with (own_heading f result) body.new ≡ response_of b f (Start work) }
+    requires { worker ≡ worker_of work }
+    ensures response { (p : Profile) (b : Account) → estimate ≡ estimate_of p work → Shows outbox.old b → (f : Frame) →
+        response_with (own_heading f result) body.new ≡ response_of p b f (Start work) }
     ensures job { (b : Account) → Shows outbox.old b → job_in started.new ≡ started_by b (Start work) }
-    ensures table { IfSome started.new IsAsInTable }
+    ensures table { (p : Profile) → estimate ≡ estimate_of p work → IfSome started.new (IsAsInProfile p) }
     ensures after { (b : Account) → Shows outbox.old b → Shows outbox.new (outbox_after b (Start work)) }
 {
     match outbox.reserve_for(worker, work) {

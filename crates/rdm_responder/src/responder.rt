@@ -18,7 +18,7 @@ ghost use Rattle.rdm_responder.specs.Lawful.{IsLawful, MayArrive};
 ghost use Rattle.rdm_responder.specs.Rules.{Account, account_of, after_outcome, answered, reply_of, job_of};
 ghost use Rattle.rdm_responder.specs.Runs.{IsArrival, outbox_of};
 ghost use Rattle.rdm_responder.specs.StandsFor.{Shows, StandsFor, IsQueueSize};
-ghost use Rattle.rdm_responder.specs.Started.{job_in, IsAsInTable};
+ghost use Rattle.rdm_responder.specs.Started.{job_in, IsAsInProfile};
 
 mod firmware;
 mod hear;
@@ -153,7 +153,7 @@ impl Responder {
     }
 
     /// A responder as of `new_numbered`, of a profile that has its place already: for a caller with little stack, since a profile
-    /// has 4,776 bytes.
+    /// has 4,848 bytes.
     pub fn new_boxed(
         alloc: Global,
         uid: Uid,
@@ -242,7 +242,7 @@ impl Responder {
         ensures reply { (h : History) → StandsFor self.old h → answered result.replied wire.new ≡ reply_of h bytes.now }
         ensures silent { OnFalse result.replied (wire.new ≡ wire.old) }
         ensures job { (h : History) → StandsFor self.old h → job_in result.started ≡ job_of h bytes.now }
-        ensures table { IfSome result.started IsAsInTable }
+        ensures table { IfSome result.started (IsAsInProfile self.old.parameters.profile) }
         ensures stands { (h : History) → StandsFor self.old h → StandsFor self.new (then_event h (Heard bytes.now)) }
         ensures unchanged { (h : History) → StandsFor self.old h → ((result.changed ≡ None)
             ↔ ((account_of (then_event h (Heard bytes.now))).parameters ≡ (account_of h).parameters)) }

@@ -6,7 +6,7 @@ ghost use Rattle.rdm_responder.specs.Started.{job_in};
 use rdm_outbox::Job;
 use rdm_params::Changed;
 
-/// A job that started, with what the table of parameters says of its command: so nobody needs to ask it again.
+/// A job that started, with what the table of parameters and the profile say of its command: so nobody needs to ask them again.
 #[derive(Clone, Copy, Debug, PartialEq, Eq)]
 pub struct Started {
     /// The job.

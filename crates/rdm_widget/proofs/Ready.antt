@@ -7,12 +7,14 @@ use Rattle.rdm_outbox.specs.declared.job.Job.{Job}
 use Rattle.rdm_outbox.specs.Account as outbox
 use Rattle.rdm_outbox.specs.Jobs.{jobs_of, ended_of, outstanding_of, outstanding_count}
 use Rattle.rdm_responder.specs.History.{Arrived, History, then_event}
+use Rattle.rdm_responder.specs.Laws.{values_of}
 use Rattle.rdm_responder.specs.Rules.{Account, account_of}
 use Rattle.rdm_responder.specs.Runs.{outbox_of}
 use Rattle.rdm_responder.specs.declared.report.Report.{Report}
 use Rattle.rdm_responder.proofs.Accounts.{account_of-then}
 use Rattle.rdm_responder.proofs.Growth.{Grows, event_grows}
 use Rattle.rdm_widget.specs.declared.live_fixture.ending.Ended.{Ended}
+use Rattle.rdm_params.specs.Device.Parameters.{Parameters}
 use Rattle.rdm_widget.specs.LiveFixtures.{Situation, oldest_of, ended_by, earlier, first_ended, report_of, after_report, after_ended, after_next, after_several, since_when, begun, ready, NoneHasEnded}
 use Rattle.rdm_widget.proofs.Reports.{first_is, which}
 
@@ -86,10 +88,10 @@ report_less now s e is =
 
 -- ---- so in the end none has ended
 
-none_of_lists : (now f g : ℕ) (js ks : List Job) → length js + length ks ≡ 0 → earlier (ended_by now 0 f (slice_get js 0)) (ended_by now 1 g (slice_get ks 0)) ≡ None
-none_of_lists now f g [] [] e = refl
-none_of_lists now f g [] (k ∷ ks) e = absurd (omega (arith, e))
-none_of_lists now f g (j ∷ js) ks e = absurd (omega (arith, e))
+none_of_lists : (values : Parameters) (now f g : ℕ) (js ks : List Job) → length js + length ks ≡ 0 → earlier (ended_by values now 0 f (slice_get js 0)) (ended_by values now 1 g (slice_get ks 0)) ≡ None
+none_of_lists values now f g [] [] e = refl
+none_of_lists values now f g [] (k ∷ ks) e = absurd (omega (arith, e))
+none_of_lists values now f g (j ∷ js) ks e = absurd (omega (arith, e))
 
 step : (n now : ℕ) (s : Situation) (o : Option Ended) → first_ended now s ≡ o → outstanding_count (outbox_of s.history) ≤ suc n
     → ((t : Situation) → outstanding_count (outbox_of t.history) ≤ n → first_ended now (after_several n now t) ≡ None)
@@ -102,19 +104,19 @@ step n now s (Some e) is most rest =
 
 all_reported : (n now : ℕ) (s : Situation) → outstanding_count (outbox_of s.history) ≤ n → first_ended now (after_several n now s) ≡ None
 all_reported zero now s most =
-    none_of_lists now s.first_since s.second_since (outstanding_of (outbox_of s.history) 0) (outstanding_of (outbox_of s.history) 1) (omega (arith, most))
+    none_of_lists (values_of s.history) now s.first_since s.second_since (outstanding_of (outbox_of s.history) 0) (outstanding_of (outbox_of s.history) 1) (omega (arith, most))
 all_reported (suc n) now s most = step n now s (first_ended now s) refl most (λ t. all_reported n now t)
 
-since_none : (now worker since : ℕ) (o : Option Job) → ended_by now worker since o ≡ None → ended_by now worker (since_when now since o) o ≡ None
-since_none now worker since None e = refl
-since_none now worker since (Some j) e = e
+since_none : (values : Parameters) (now worker since : ℕ) (o : Option Job) → ended_by values now worker since o ≡ None → ended_by values now worker (since_when now since o) o ≡ None
+since_none values now worker since None e = refl
+since_none values now worker since (Some j) e = e
 
 begun_none : (now : ℕ) (s : Situation) → first_ended now s ≡ None → NoneHasEnded now (begun now s)
 begun_none now s none =
-    let both = neither (ended_by now 0 s.first_since (oldest_of s.history 0)) (ended_by now 1 s.second_since (oldest_of s.history 1)) none in
+    let both = neither (ended_by (values_of s.history) now 0 s.first_since (oldest_of s.history 0)) (ended_by (values_of s.history) now 1 s.second_since (oldest_of s.history 1)) none in
     record {
-      first = since_none now 0 s.first_since (oldest_of s.history 0) both.0;
-      second = since_none now 1 s.second_since (oldest_of s.history 1) both.1;
+      first = since_none (values_of s.history) now 0 s.first_since (oldest_of s.history 0) both.0;
+      second = since_none (values_of s.history) now 1 s.second_since (oldest_of s.history 1) both.1;
     }
 
 pub none_has_ended : (now : ℕ) (s : Situation) → NoneHasEnded now (ready now s)

@@ -11,6 +11,7 @@ use Rattle.rdm_params.specs.declared.verdict.Verdict.{Verdict}
 use Rattle.rdm_params.specs.declared.verdict.Verdict.TheVariants as verdict
 use Rattle.rdm_params.specs.Commands.Commands.{command_of}
 use Rattle.rdm_params.specs.Jobs.Laws.{GetStartsItsWork, SetStartsItsWork}
+use Rattle.rdm_responder.specs.Laws.{values_of}
 use Rattle.rdm_params.specs.Jobs.Work.{worker_of}
 use Rattle.rdm_params.specs.Table.Uses.{is_slow}
 use Rattle.rdm_outbox.specs.declared.job.Job.{Job}
@@ -26,6 +27,7 @@ use Rattle.rdm_responder.specs.Rules.{Account, account_of, account_before, accou
 use Rattle.rdm_responder.specs.Runs.{outbox_of}
 use Rattle.rdm_responder.proofs.Growth.{job_at, event_grows}
 use Rattle.rdm_widget.specs.declared.live_fixture.ending.Ended.{Ended}
+use Rattle.rdm_params.specs.Device.Parameters.{Parameters}
 use Rattle.rdm_widget.specs.LiveFixtures.{Situation, oldest_of, ended_by, end_of, earlier, first_ended, reported_in}
 
 -- ---- lists of jobs
@@ -136,10 +138,10 @@ ended_if false x e is = absurd cc
 abbrev some_job : Job → Option Job
 some_job j = Some j
 
-ended_job : (now worker since : ℕ) (o : Option Job) (e : Ended) → ended_by now worker since o ≡ Some e → o ≡ Some e.job
-ended_job now worker since None e is = absurd cc
-ended_job now worker since (Some j) e is =
-    ap (λ (x : Ended). some_job x.job) (ended_if (nat_le (end_of since j) now) (record { job = j; worker = worker; at = end_of since j }) e is)
+ended_job : (values : Parameters) (now worker since : ℕ) (o : Option Job) (e : Ended) → ended_by values now worker since o ≡ Some e → o ≡ Some e.job
+ended_job values now worker since None e is = absurd cc
+ended_job values now worker since (Some j) e is =
+    ap (λ (x : Ended). some_job x.job) (ended_if (nat_le (end_of values since j) now) (record { job = j; worker = worker; at = end_of values since j }) e is)
 
 abbrev some_end : Ended → Option Ended
 some_end e = Some e
@@ -159,17 +161,17 @@ of_worker h worker j e = subst (λ w. oldest_of h w ≡ Some j) (sym (worker_is 
 
 pub first_is : (now : ℕ) (s : Situation) (e : Ended) → first_ended now s ≡ Some e → oldest_of s.history (worker_of e.job.work) ≡ Some e.job
 first_is now s e is =
-    elim (earlier_is (ended_by now 0 s.first_since (oldest_of s.history 0)) (ended_by now 1 s.second_since (oldest_of s.history 1)) e is) [
-      | inl k ↦ of_worker s.history 0 e.job (ended_job now 0 s.first_since (oldest_of s.history 0) e k)
-      | inr k ↦ of_worker s.history 1 e.job (ended_job now 1 s.second_since (oldest_of s.history 1) e k)
+    elim (earlier_is (ended_by (values_of s.history) now 0 s.first_since (oldest_of s.history 0)) (ended_by (values_of s.history) now 1 s.second_since (oldest_of s.history 1)) e is) [
+      | inl k ↦ of_worker s.history 0 e.job (ended_job (values_of s.history) now 0 s.first_since (oldest_of s.history 0) e k)
+      | inr k ↦ of_worker s.history 1 e.job (ended_job (values_of s.history) now 1 s.second_since (oldest_of s.history 1) e k)
     ]
 
 -- there are two workers
 pub which : (now : ℕ) (s : Situation) (e : Ended) → first_ended now s ≡ Some e → (worker_of e.job.work ≡ 0) ⊎ (worker_of e.job.work ≡ 1)
 which now s e is =
-    elim (earlier_is (ended_by now 0 s.first_since (oldest_of s.history 0)) (ended_by now 1 s.second_since (oldest_of s.history 1)) e is) [
-      | inl k ↦ inl (worker_is s.history 0 e.job (ended_job now 0 s.first_since (oldest_of s.history 0) e k))
-      | inr k ↦ inr (worker_is s.history 1 e.job (ended_job now 1 s.second_since (oldest_of s.history 1) e k))
+    elim (earlier_is (ended_by (values_of s.history) now 0 s.first_since (oldest_of s.history 0)) (ended_by (values_of s.history) now 1 s.second_since (oldest_of s.history 1)) e is) [
+      | inl k ↦ inl (worker_is s.history 0 e.job (ended_job (values_of s.history) now 0 s.first_since (oldest_of s.history 0) e k))
+      | inr k ↦ inr (worker_is s.history 1 e.job (ended_job (values_of s.history) now 1 s.second_since (oldest_of s.history 1) e k))
     ]
 
 -- ---- a report

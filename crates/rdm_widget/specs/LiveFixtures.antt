@@ -1,6 +1,7 @@
 -- The fixture in time: a worker has one job at a time, which ends when its estimate has passed. Times are in milliseconds.
 use Rattle.std.specs.Prelude.{◌≡◌, ℕ, zero, suc, ◌+◌, ◌*◌, ◌==◌, List, [], ◌∷◌, nat_lt, nat_le, slice_get, Option, Some, None, if◌then◌else◌}
 use Rattle.rdm_params.specs.declared.panel.Change.{Change}
+use Rattle.rdm_params.specs.Device.Parameters.{Parameters}
 use Rattle.rdm_params.specs.Jobs.Work.{estimate_of}
 use Rattle.rdm_outbox.specs.declared.job.Job.{Job}
 use Rattle.rdm_outbox.specs.Jobs.{outstanding_of, outstanding_count}
@@ -8,6 +9,7 @@ use Rattle.rdm_outcomes.specs.declared.rule.Rule.{Rule}
 use Rattle.rdm_outcomes.specs.Outcomes.{outcome_of, HasEnded}
 use Rattle.rdm_responder.specs.declared.report.Report.{Report}
 use Rattle.rdm_responder.specs.History.{Setup, Event, Heard, Arrived, Changed, Placed, Noted, Restored, History, empty_history, then_event}
+use Rattle.rdm_responder.specs.Laws.{values_of}
 use Rattle.rdm_responder.specs.Rules.{reply_of}
 use Rattle.rdm_responder.specs.Runs.{outbox_of}
 use Rattle.rdm_responder.specs.StandsFor.{StandsFor}
@@ -33,15 +35,16 @@ switched_on rules setup = record { rules = rules; history = empty_history setup;
 abbrev pub oldest_of : History → ℕ → Option Job
 oldest_of h worker = slice_get (outstanding_of (outbox_of h) worker) 0
 
--- when a job ends at which its worker is since then: estimates are in tenths of a second (E1.20 section 6.3.3)
-abbrev pub end_of : ℕ → Job → ℕ
-end_of since job = since + 100 * estimate_of job.work
+-- when a job ends at which its worker is since then, at devices with these values: the estimates of their profile are in tenths of
+-- a second (E1.20 section 6.3.3)
+abbrev pub end_of : Parameters → ℕ → Job → ℕ
+end_of values since job = since + 100 * estimate_of values.profile job.work
 
 -- the job of a worker that has ended by now, if it has, and when
-abbrev pub ended_by : ℕ → ℕ → ℕ → Option Job → Option Ended
-ended_by now worker since None = None
-ended_by now worker since (Some job) =
-    if nat_le (end_of since job) now then Some (record { job = job; worker = worker; at = end_of since job }) else None
+abbrev pub ended_by : Parameters → ℕ → ℕ → ℕ → Option Job → Option Ended
+ended_by values now worker since None = None
+ended_by values now worker since (Some job) =
+    if nat_le (end_of values since job) now then Some (record { job = job; worker = worker; at = end_of values since job }) else None
 
 -- the one that ended first, and that of the first worker if both ended at once
 abbrev pub earlier : Option Ended → Option Ended → Option Ended
@@ -51,7 +54,9 @@ earlier None second = second
 
 -- of both workers the job that ended first, if one has ended by now
 abbrev pub first_ended : ℕ → Situation → Option Ended
-first_ended now s = earlier (ended_by now 0 s.first_since (oldest_of s.history 0)) (ended_by now 1 s.second_since (oldest_of s.history 1))
+first_ended now s =
+    earlier (ended_by (values_of s.history) now 0 s.first_since (oldest_of s.history 0))
+    (ended_by (values_of s.history) now 1 s.second_since (oldest_of s.history 1))
 
 -- ---- what is reported
 
@@ -144,8 +149,8 @@ fixture_hearing = record {
 
 -- No job that is outstanding has ended by now.
 pub record NoneHasEnded (now : ℕ) (s : Situation) : Type 0 where
-  pub first : ended_by now 0 s.first_since (oldest_of s.history 0) ≡ None
-  pub second : ended_by now 1 s.second_since (oldest_of s.history 1) ≡ None
+  pub first : ended_by (values_of s.history) now 0 s.first_since (oldest_of s.history 0) ≡ None
+  pub second : ended_by (values_of s.history) now 1 s.second_since (oldest_of s.history 1) ≡ None
 
 -- Once the reports are handed in, that is so.
 abbrev pub ReportsAreHandedIn : Type 0

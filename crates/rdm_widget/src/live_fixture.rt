@@ -152,8 +152,9 @@ impl LiveFixture {
     fn first_ended(&self, now: u64) -> Option<Ended>
         ensures { (s : Situation) → IsIn self.now s → result ≡ first_ended now s }
     {
-        let first = ended_by(now, 0, self.first_since, self.responder.oldest(0));
-        let second = ended_by(now, 1, self.second_since, self.responder.oldest(1));
+        let devices = self.responder.devices();
+        let first = ended_by(devices, now, 0, self.first_since, self.responder.oldest(0));
+        let second = ended_by(devices, now, 1, self.second_since, self.responder.oldest(1));
         earlier(first, second)
     }
 

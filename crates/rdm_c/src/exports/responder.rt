@@ -160,7 +160,7 @@ pub extern "C" fn felosumay_responder_step(
     ensures status { result ≡ code_of (found (holds_responder responder.old.held)) }
     ensures reply { (h : History) → HeldFor responder.old.held h → told stepped.new.replied stepped.new.count reply.new ≡ reply_of h bytes.now }
     ensures count { (h : History) → HeldFor responder.old.held h → IfSome (reply_of h bytes.now) (λ r. stepped.new.count ≡ length r) }
-    ensures job { (h : History) → HeldFor responder.old.held h → started_in stepped.new ≡ option_map numbers_of (job_of h bytes.now) }
+    ensures job { (h : History) → HeldFor responder.old.held h → started_in stepped.new ≡ option_map (numbers_of (account_of h).parameters.profile) (job_of h bytes.now) }
     ensures flags { (h : History) → HeldFor responder.old.held h → (stepped.new.replied ≡ flag (is_some (reply_of h bytes.now)))
         × (stepped.new.started ≡ flag (is_some (job_of h bytes.now))) }
     ensures stands { (h : History) → HeldFor responder.old.held h → HeldFor responder.new.held (then_event h (Heard bytes.now)) }

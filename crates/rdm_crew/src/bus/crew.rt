@@ -4,7 +4,6 @@ ghost use Rattle.std.specs.Prelude.{◌≡◌, ◌≢◌, ◌<◌, ◌++◌, ◌
 ghost use Rattle.std.specs.Option.{option_to_list};
 ghost use Rattle.rdm_outbox.specs.Jobs.{jobs_of, has_place};
 ghost use Rattle.rdm_responder.specs.Runs.{outbox_of};
-ghost use Rattle.rdm_responder.specs.Started.{IsAsInTable};
 ghost use Rattle.rdm_lane.specs.Ends.{with_item, IsSameTake};
 ghost use Rattle.rdm_lane.specs.Lane.{items_from};
 ghost use Rattle.rdm_params.specs.Jobs.Work.{worker_of};
@@ -167,7 +166,7 @@ impl Crew {
 
     /// Puts a job into its worker's lane.
     fn hand_out<R: Wait>(&mut self, rt: &R, started: Started) -> Result<(), Stop>
-        requires table { IsAsInTable started }
+        requires table { started.worker ≡ worker_of started.job.work }
         requires two { started.worker < 2 }
         requires first { worker_of started.job.work ≡ 0 → length self.old.first.items < self.old.first.limit }
         requires second { worker_of started.job.work ≡ 1 → length self.old.second.items < self.old.second.limit }

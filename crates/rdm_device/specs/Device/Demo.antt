@@ -1,5 +1,5 @@
 -- The profile of a demonstration device.
-use Rattle.std.specs.Prelude.{ℕ, pos, neg_ℤ, List, [], ◌∷◌, codes}
+use Rattle.std.specs.Prelude.{ℕ, false, pos, neg_ℤ, List, [], ◌∷◌, codes}
 use Rattle.rdm_device.specs.declared.profile.Personality.{Personality}
 use Rattle.rdm_device.specs.declared.profile.Profile.{Profile}
 use Rattle.rdm_device.specs.declared.profile.SelfTest.{SelfTest}
@@ -7,6 +7,7 @@ use Rattle.rdm_device.specs.declared.profile.SensorDef.{SensorDef}
 use Rattle.rdm_device.specs.declared.profile.Slot.{Slot}
 use Rattle.rdm_device.specs.declared.profile.StatusText.{StatusText}
 use Rattle.rdm_device.specs.declared.profile.Unit.{Unit as DeviceUnit}
+use Rattle.rdm_device.specs.Device.Estimates.{usual}
 
 abbrev personality : ℕ → List ℕ → Personality
 personality footprint name = record { footprint = footprint; name = name }
@@ -32,6 +33,7 @@ demo_sensor name = record {
   normal_high = pos 80;
   support = 0x03;
   name = name;
+  at_once = false;
 }
 
 unfoldable pub demo_root : DeviceUnit
@@ -95,4 +97,5 @@ demo subs = record {
   own = [];
   without = record { items = [] };
   more_slots = 0;
+  estimates = usual;
 }

@@ -2,6 +2,7 @@
 use Rattle.std.specs.Prelude.{ℕ, List, []}
 use Rattle.rdm_device.specs.declared.profile.Profile.{Profile}
 use Rattle.rdm_device.specs.declared.profile.Unit.{Unit as DeviceUnit}
+use Rattle.rdm_device.specs.Device.Estimates.{usual}
 
 -- a device with these texts, no personality and no software version, labelled as its model, with start address 1
 abbrev pub plain_unit : ℕ → ℕ → List ℕ → List ℕ → DeviceUnit
@@ -17,7 +18,7 @@ plain_unit model category model_text maker_text = record {
   start = 1;
 }
 
--- these devices, with nothing else
+-- these devices, with nothing else, and the usual estimates
 abbrev pub plain_profile : DeviceUnit → DeviceUnit → ℕ → Profile
 plain_profile root sub subs = record {
   root = root;
@@ -34,4 +35,5 @@ plain_profile root sub subs = record {
   own = [];
   without = record { items = [] };
   more_slots = 0;
+  estimates = usual;
 }

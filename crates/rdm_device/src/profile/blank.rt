@@ -32,7 +32,7 @@ impl Default for Slot {
 }
 
 impl Default for SensorDef {
-    ghost is_default = { λ blank. blank ≡ record { kind = 0; unit = 0; prefix = 0; low = pos 0; high = pos 0; normal_low = pos 0; normal_high = pos 0; support = 0; name = [] } };
+    ghost is_default = { λ blank. blank ≡ record { kind = 0; unit = 0; prefix = 0; low = pos 0; high = pos 0; normal_low = pos 0; normal_high = pos 0; support = 0; name = []; at_once = false } };
 
     fn default() -> SensorDef {
         SensorDef {
@@ -45,6 +45,7 @@ impl Default for SensorDef {
             normal_high: 0,
             support: 0,
             name: Text::new(),
+            at_once: false,
         }
     }
 }

@@ -4,7 +4,9 @@ ghost use Rattle.std.specs.Prelude.{◌≡◌, ◌≤◌, length};
 ghost use Rattle.rdm_device.specs.Device.Profiles.{CanBeMade};
 ghost use Rattle.rdm_device.specs.Device.Demo.{demo, demo_root, demo_sub, demo_sensor, demo_slots, demo_sensors, demo_tests, demo_statuses};
 
-use crate::{OwnParameters, Personality, Profile, SelfTest, SensorDef, Slot, StatusText, Unit};
+use crate::{
+    Estimates, OwnParameters, Personality, Profile, SelfTest, SensorDef, Slot, StatusText, Unit,
+};
 use arrayvec::ArrayVec;
 use rdm_frame::Text;
 
@@ -40,6 +42,7 @@ fn moving_head(subs: u16) -> Profile
         own: OwnParameters::none(),
         without: ArrayVec::new(),
         more_slots: 0,
+        estimates: Estimates::usual(),
     }
 }
 
@@ -119,6 +122,7 @@ fn thermometer(name: &[u8]) -> SensorDef
         normal_high: 80,
         support: 0x03,
         name: Text::of(name),
+        at_once: false,
     }
 }
 

@@ -3,7 +3,7 @@
 ghost use Rattle.std.specs.Prelude.{◌≡◌, ◌≤◌, length};
 ghost use Rattle.rdm_device.specs.Device.Plain.{plain_unit, plain_profile};
 
-use crate::{OwnParameters, Personality, Profile, Slot, Unit};
+use crate::{Estimates, OwnParameters, Personality, Profile, Slot, Unit};
 use arrayvec::ArrayVec;
 use rdm_frame::Text;
 
@@ -59,7 +59,8 @@ impl Unit {
 
 impl Profile {
     /// These devices, with nothing else that a profile can have: neither boot software nor languages, slots, sensors, self
-    /// tests, status texts, presets or parameters of the maker's own.
+    /// tests, status texts, presets or parameters of the maker's own. Its
+    /// slow commands take the usual time.
     pub fn of(root: Unit, sub: Unit, subs: u16) -> Self
         ensures { result ≡ plain_profile root sub subs }
     {
@@ -78,6 +79,7 @@ impl Profile {
             own: OwnParameters::none(),
             without: ArrayVec::new(),
             more_slots: 0,
+            estimates: Estimates::usual(),
         }
     }
 }

@@ -1,7 +1,7 @@
 //! The way from the top of a document to what a refusal is about.
 
 use crate::Refusal;
-use crate::refusal::{Wanted, name_of};
+use crate::refusal::{Section, Wanted, name_of};
 use arrayvec::ArrayVec;
 
 /// A step of the way.
@@ -29,14 +29,20 @@ impl Step<'_> {
     }
 }
 
-/// The steps of a way: at most the sub-devices, a list, its entry, a key, and an entry of what that holds.
+/// The steps of a way: at most the table of a section, a list, its entry, a key, and an entry of what that holds.
 pub(super) type Way<'a> = ArrayVec<Step<'a>, 5>;
 
 /// The way to what is wrong: if a list is too long, to the first entry that is too many.
 pub(super) fn way_to(refusal: &Refusal) -> Way<'_> {
     let mut way = Way::new();
-    if refusal.in_sub_devices {
-        let _ = way.try_push(Step::Key("sub_devices"));
+    match refusal.section {
+        Section::Top => {}
+        Section::SubDevices => {
+            let _ = way.try_push(Step::Key("sub_devices"));
+        }
+        Section::Estimates => {
+            let _ = way.try_push(Step::Key("estimates"));
+        }
     }
     if let Some(entry) = &refusal.entry {
         let _ = way.try_push(Step::Key(entry.list.as_str()));

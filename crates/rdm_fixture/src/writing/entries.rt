@@ -4,7 +4,7 @@ ghost use Rattle.std.specs.Prelude.{◌≡◌, ◌≤◌, ◌<◌, IsTrue};
 ghost use Rattle.rdm_fixture.specs.Describable.{are_printable};
 ghost use Rattle.rdm_fixture.specs.Format.{IsPersonality, IsSlot, IsSensor, IsSelfTest, IsStatus};
 
-use super::fields::{ToEntry, put_byte, put_signed, put_text, put_word};
+use super::fields::{ToEntry, put_byte, put_flag, put_signed, put_text, put_word};
 use rdm_device::{Personality, SelfTest, SensorDef, Slot, StatusText};
 use std::alloc::{AllocError, Global};
 use toml::Table;
@@ -53,6 +53,7 @@ impl ToEntry for SensorDef {
         put_signed(alloc, &mut table, "normal_maximum_value", self.normal_high)?;
         put_byte(alloc, &mut table, "recorded_value_support", self.support)?;
         put_text(alloc, &mut table, "description", &self.name)?;
+        put_flag(alloc, &mut table, "answered_at_once", self.at_once)?;
         Ok(table)
     }
 }

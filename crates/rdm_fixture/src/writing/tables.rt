@@ -8,7 +8,7 @@ ghost use Rattle.rdm_device.specs.Device.LeftOut.{is_optional};
 ghost use Rattle.rdm_device.specs.Device.Profiles.{IsGoodUnit, CanBeMade};
 ghost use Rattle.rdm_params.specs.Table.Kinds.{pid_of, kind_named};
 ghost use Rattle.rdm_fixture.specs.Describable.{HasPrintableUnit, CanBeDescribed, is_coded};
-ghost use Rattle.rdm_fixture.specs.Format.{IsFixture, IsUnit, SubDevices, LanguagesAt, parameter_named};
+ghost use Rattle.rdm_fixture.specs.Format.{IsFixture, IsUnit, SubDevices, EstimatesAt, LanguagesAt, parameter_named};
 ghost use Rattle.rdm_fixture.specs.Keys.{ListAt};
 ghost use Rattle.rdm_fixture.specs.Values as says;
 ghost use Rattle.rdm_fixture.specs.Writing.{with_field, IsPlain};
@@ -17,7 +17,7 @@ use super::fields::{list_of, put, put_long, put_text, put_word};
 use super::units::unit_table;
 use crate::fixture::Fixture;
 use arrayvec::ArrayVec;
-use rdm_device::{Profile, units_are_equal_by_value};
+use rdm_device::{Estimates, Profile, estimates_are_equal_by_value, units_are_equal_by_value};
 use rdm_frame::Uid;
 use rdm_params::kind_of;
 use std::alloc::{AllocError, Global};
@@ -94,6 +94,12 @@ pub(super) fn table_of(alloc: Global, fixture: &Fixture) -> Result<Table, AllocE
         "sub_devices",
         sub_devices_of(alloc, profile)?,
     )?;
+    put(
+        alloc,
+        &mut table,
+        "estimates",
+        estimates_of(alloc, &profile.estimates)?,
+    )?;
     Ok(table)
 }
 
@@ -166,5 +172,22 @@ fn sub_devices_of(alloc: Global, profile: &Profile) -> Result<Option<Value>, All
     }
     let mut table = unit_table(alloc, &profile.sub)?;
     put_word(alloc, &mut table, "count", profile.subs)?;
+    Ok(Some(Value::Table(table)))
+}
+
+/// The table of the times of slow commands. Without it they are the usual ones.
+fn estimates_of(alloc: Global, estimates: &Estimates) -> Result<Option<Value>, AllocError>
+    ensures says { IfOk result (λ v. EstimatesAt (option_map view v) estimates.now) }
+    ensures plain { IfOk result (λ v. IfSome v (λ x. IsPlain 1 (view x))) }
+{
+    estimates_are_equal_by_value();
+    if *estimates == Estimates::usual() {
+        return Ok(None);
+    }
+    let mut table = Table::new(alloc);
+    put_word(alloc, &mut table, "lamp_state", estimates.lamp)?;
+    put_word(alloc, &mut table, "power_state", estimates.power)?;
+    put_word(alloc, &mut table, "perform_selftest", estimates.self_test)?;
+    put_word(alloc, &mut table, "sensor_value", estimates.sensor)?;
     Ok(Some(Value::Table(table)))
 }

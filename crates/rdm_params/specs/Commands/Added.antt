@@ -1,5 +1,5 @@
 -- A command of a parameter that the maker adds, at the root: rules 7 to 10, its reply, and what it leaves.
-use Rattle.std.specs.Prelude.{ℕ, true, List, Option, Some, Result, Ok, Err}
+use Rattle.std.specs.Prelude.{ℕ, true, List, Option, Result, Ok, Err}
 use Rattle.rdm_params.specs.declared.kind.Verb.{Verb}
 use Rattle.rdm_params.specs.declared.kind.Verb.TheVariants.{Set}
 use Rattle.rdm_params.specs.declared.nack.Nack.{Nack}

@@ -20,7 +20,7 @@ use Rattle.rdm_device.specs.Device.Map.{Entry, update}
 use Rattle.rdm_device.specs.Device.Parameters.{Parameters}
 use Rattle.rdm_device.specs.Device.Spot.{Spot}
 use Rattle.rdm_params.specs.Table.Rows.{Command, Row, row_of, row_at, is_left_out, command_in}
-use Rattle.rdm_params.specs.Table.Uses.{access, read, way_of, is_slow, in_range_of, change, added_change, reply}
+use Rattle.rdm_params.specs.Table.Uses.{access, read, way_at, is_slow, in_range_of, change, added_change, reply}
 use Rattle.rdm_params.specs.Jobs.Asks.{ask_of}
 use Rattle.rdm_device.specs.Device.Values.{byte_or_0}
 
@@ -126,7 +126,7 @@ work sub pid verb value = record { sub = sub; pid = pid; verb = verb; arg = byte
 -- what is answered in this way: these bytes at once, this job, what a controller asks for, or that entries are cleared
 abbrev pub answered : Way → List ℕ → Work → Ask → Verdict
 answered AtOnce bytes job ask = Reply bytes
-answered (ByJob worker estimate) bytes job ask = Start job
+answered (ByJob slow) bytes job ask = Start job
 answered FromQueue bytes job ask = Queue ask
 answered FromStatus bytes job ask = Status ask
 answered Clears bytes job ask = Clear
@@ -135,7 +135,7 @@ answered Clears bytes job ask = Clear
 abbrev pub verdict : Parameters → ℕ → ℕ → Option Command → Verb → Result Value Nack → Verdict
 verdict p sub pid command verb (Err nack) = Refuse nack
 verdict p sub pid command verb (Ok value) =
-    answered (way_of command) (reply_at command (addressed p sub verb) value) (work sub pid verb value) (ask_of (byte_or_0 value))
+    answered (way_at p.profile command verb value) (reply_at command (addressed p sub verb) value) (work sub pid verb value) (ask_of (byte_or_0 value))
 
 -- the values of a device after a command that is carried out there
 abbrev pub written : Option Command → Value → Spot → List Entry

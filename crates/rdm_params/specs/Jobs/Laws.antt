@@ -1,5 +1,5 @@
 -- Laws of slow commands and of what is fetched, for all devices and commands.
-use Rattle.std.specs.Prelude.{◌≡◌, ◌≢◌, ℕ, true, List, length}
+use Rattle.std.specs.Prelude.{◌≡◌, ◌≢◌, ℕ, true, false, ◌==◌, if◌then◌else◌, List, [], ◌∷◌, length, Option}
 use Rattle.rdm_params.specs.declared.kind.Verb.{Verb}
 use Rattle.rdm_params.specs.declared.kind.Verb.TheVariants.{Get, Set}
 use Rattle.rdm_params.specs.declared.jobs.ask.Ask.{Ask}
@@ -7,14 +7,20 @@ use Rattle.rdm_params.specs.declared.jobs.ask.Ask.TheVariants as asks
 use Rattle.rdm_params.specs.declared.jobs.outcome.Outcome.{Outcome}
 use Rattle.rdm_params.specs.declared.jobs.work.Work.{Work}
 use Rattle.rdm_params.specs.declared.panel.Change.{Change}
-use Rattle.rdm_params.specs.declared.verdict.Verdict.TheVariants.{Start, Queue, Status, Clear}
-use Rattle.rdm_params.specs.Commands.Commands.{command_of, accepted, got, answer_to_set, after_set}
+use Rattle.rdm_params.specs.declared.verdict.Verdict.TheVariants.{Reply, Start, Queue, Status, Clear}
+use Rattle.rdm_device.specs.declared.profile.Profile.{Profile}
+use Rattle.rdm_device.specs.declared.value.Value.{Value}
+use Rattle.rdm_device.specs.declared.value.Value.TheVariants.{Byte}
+use Rattle.rdm_device.specs.Columns.Replies.{sensor_measured}
+use Rattle.rdm_device.specs.Device.Estimates.{usual}
+use Rattle.rdm_params.specs.Commands.Commands.{command_of, accepted, got, answer_to_set, after_set, root_spot}
 use Rattle.rdm_params.specs.Commands.Panel.{after_change}
 use Rattle.rdm_params.specs.Commands.Placing.{after_place}
 use Rattle.rdm_device.specs.Device.Parameters.{Parameters}
 use Rattle.rdm_params.specs.Jobs.Commit.{after_commit}
-use Rattle.rdm_params.specs.Jobs.Work.{IsAccepted}
-use Rattle.rdm_params.specs.Table.Uses.{is_slow}
+use Rattle.rdm_params.specs.Jobs.Work.{IsAccepted, estimate_of}
+use Rattle.rdm_params.specs.Table.Rows.{Command, is_left_out}
+use Rattle.rdm_params.specs.Table.Uses.{is_slow, is_at_once, way_of, way_at}
 
 -- They have one profile and as many sub-devices, whatever their values are.
 pub record SameDevices (p q : Parameters) : Type 0 where
@@ -54,6 +60,29 @@ GetStartsItsWork = (p : Parameters) (sub pid : ℕ) (bytes : List ℕ) (w : Work
 abbrev pub SetStartsItsWork : Type 0
 SetStartsItsWork =
     (p : Parameters) (sub pid : ℕ) (bytes : List ℕ) (w : Work) → answer_to_set p sub pid bytes ≡ Start w → IsWorkOf p sub pid Set w
+
+-- how long the commands of the table take where a profile says nothing else: LAMP_STATE, POWER_STATE, PERFORM_SELFTEST and
+-- SENSOR_VALUE
+abbrev pub table_estimate : ℕ → ℕ
+table_estimate pid = if pid == 0x0403 then 50 else if pid == 0x1010 then 20 else if pid == 0x1020 then 100 else 5
+
+-- Devices with the usual estimates take the times of the table.
+abbrev pub UsualTakesTheTablesTime : Type 0
+UsualTakesTheTablesTime =
+    (p : Profile) (w : Work) → p.estimates ≡ usual → is_slow (command_of w.pid w.verb) ≡ true → estimate_of p w ≡ table_estimate w.pid
+
+-- Where no sensor is answered at once, each command is answered in the way of its row.
+abbrev pub UsualIsAnsweredByTheTable : Type 0
+UsualIsAnsweredByTheTable =
+    (p : Profile) (command : Option Command) (verb : Verb) (v : Value)
+    → ((number : ℕ) → is_at_once p number ≡ false) → way_at p command verb v ≡ way_of command
+
+-- A sensor that is answered at once is so, with what it shows. Section 10.7.2.
+abbrev pub SensorIsAnsweredAtOnce : Type 0
+SensorIsAnsweredAtOnce =
+    (p : Parameters) (number : ℕ)
+    → is_at_once p.profile number ≡ true → is_left_out p.profile 0x0201 ≡ false
+    → got p 0 0x0201 (number ∷ []) ≡ Reply (sensor_measured (root_spot p) (Byte number))
 
 -- QUEUED_MESSAGE alone asks for what waits, and never for nothing. Section 10.3.1.
 abbrev pub GetQueues : Type 0

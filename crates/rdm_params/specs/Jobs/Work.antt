@@ -1,28 +1,30 @@
--- Slow commands: which worker has the job, how long it takes, and which work is accepted. E1.20 section 6.3.3.
+-- Slow commands: which worker has the job, how long it takes at the devices of a profile, and which work is accepted. E1.20 section 6.3.3.
 use Rattle.std.specs.Prelude.{◌≡◌, ℕ, true, [], ◌∷◌, Ok}
 use Rattle.rdm_params.specs.declared.jobs.way.Way.{Way}
 use Rattle.rdm_params.specs.declared.jobs.way.Way.TheVariants.{ByJob}
 use Rattle.rdm_params.specs.declared.jobs.work.Work.{Work}
+use Rattle.rdm_device.specs.declared.profile.estimates.Estimates.{Estimates}
+use Rattle.rdm_device.specs.declared.profile.Profile.{Profile}
 use Rattle.rdm_device.specs.declared.value.Value.TheVariants.{Byte}
 use Rattle.rdm_params.specs.Commands.Commands.{command_of, accepted}
 use Rattle.rdm_device.specs.Device.Parameters.{Parameters}
-use Rattle.rdm_params.specs.Table.Uses.{way_of, is_slow}
+use Rattle.rdm_params.specs.Table.Uses.{way_of, is_slow, worker_for, estimate_for}
 
 abbrev pub worker_in : Way → ℕ
-worker_in (ByJob worker estimate) = worker
+worker_in (ByJob slow) = worker_for slow
 worker_in _ = 1
 
-abbrev pub estimate_in : Way → ℕ
-estimate_in (ByJob worker estimate) = estimate
-estimate_in _ = 0
+abbrev pub estimate_in : Estimates → Way → ℕ
+estimate_in e (ByJob slow) = estimate_for e slow
+estimate_in e _ = 0
 
 -- the worker that has the job, and 1 if the work isn't a slow command
 abbrev pub worker_of : Work → ℕ
 worker_of w = worker_in (way_of (command_of w.pid w.verb))
 
--- how long the job takes, in tenths of a second, and 0 if the work isn't a slow command
-abbrev pub estimate_of : Work → ℕ
-estimate_of w = estimate_in (way_of (command_of w.pid w.verb))
+-- how long the job takes by the estimates of a profile, in tenths of a second, and 0 if the work isn't a slow command
+abbrev pub estimate_of : Profile → Work → ℕ
+estimate_of p w = estimate_in p.estimates (way_of (command_of w.pid w.verb))
 
 -- The work is a slow command that these devices accept.
 pub record IsAccepted (p : Parameters) (w : Work) : Type 0 where

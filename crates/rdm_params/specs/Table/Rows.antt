@@ -3,6 +3,8 @@ use Rattle.std.specs.Prelude.{ℕ, Bool, true, false, ◌==◌, ◌&&◌, ◌||�
 use Rattle.std.specs.List.{list_any}
 use Rattle.rdm_params.specs.declared.kind.Verb.{Verb}
 use Rattle.rdm_params.specs.declared.kind.Verb.TheVariants.{Get, Set}
+use Rattle.rdm_params.specs.declared.jobs.slow.Slow.{Slow}
+use Rattle.rdm_params.specs.declared.jobs.slow.Slow.TheVariants.{Lamp, Power, SelfTest, Sensor}
 use Rattle.rdm_params.specs.declared.jobs.way.Way.{Way}
 use Rattle.rdm_params.specs.declared.jobs.way.Way.TheVariants.{AtOnce, ByJob, FromQueue, FromStatus, Clears}
 use Rattle.rdm_device.specs.declared.profile.own.ParameterDef.{ParameterDef}
@@ -81,15 +83,15 @@ abbrev pub takes : Form → (Form → Range) → Cell
 takes form range pid =
     Some (record { form = form; range = range form; way = AtOnce; change = stored_at pid form; added_change = unchanged; reply = λ spot v. []; keeps = true })
 
--- a SET by a job of a worker, with an estimate in tenths of a second, which keeps its data at the key of its PID
-abbrev pub starts : ℕ → ℕ → (Form → Range) → Cell
-starts worker estimate range pid =
-    Some (record { form = byte; range = range byte; way = ByJob worker estimate; change = stored_at pid byte; added_change = unchanged; reply = λ spot v. []; keeps = true })
+-- a SET by a job of this kind, which keeps its data at the key of its PID
+abbrev pub starts : Slow → (Form → Range) → Cell
+starts slow range pid =
+    Some (record { form = byte; range = range byte; way = ByJob slow; change = stored_at pid byte; added_change = unchanged; reply = λ spot v. []; keeps = true })
 
--- a GET by a job of a worker, with an estimate in tenths of a second, which shows what it has measured
-abbrev pub measures : ℕ → ℕ → (Form → Range) → (Spot → Value → List ℕ) → Cell
-measures worker estimate range reply pid =
-    Some (record { form = byte; range = range byte; way = ByJob worker estimate; change = unchanged; added_change = unchanged; reply = reply; keeps = false })
+-- a GET by a job of this kind, which shows what it has measured
+abbrev pub measures : Slow → (Form → Range) → (Spot → Value → List ℕ) → Cell
+measures slow range reply pid =
+    Some (record { form = byte; range = range byte; way = ByJob slow; change = unchanged; added_change = unchanged; reply = reply; keeps = false })
 
 -- a GET that is answered from what waits for the controller
 abbrev pub fetches : Way → (Form → Range) → Cell
@@ -148,7 +150,7 @@ dmx =
 abbrev pub sensing : List Row
 sensing =
     row 0x0200 root (asks byte a_sensor sensor_described) none  -- SENSOR_DEFINITION
-    ∷ row 0x0201 root (measures 1 5 a_sensor sensor_measured) (sets byte sensors sensors_reset unchanged sensor_measured)  -- SENSOR_VALUE
+    ∷ row 0x0201 root (measures Sensor a_sensor sensor_measured) (sets byte sensors sensors_reset unchanged sensor_measured)  -- SENSOR_VALUE
     ∷ row 0x0202 root none (sets byte sensors sensors_recorded unchanged (λ spot v. []))  -- RECORD_SENSORS
     ∷ []
 
@@ -158,7 +160,7 @@ usage =
     kept 0x0400 root long any  -- DEVICE_HOURS
     ∷ kept 0x0401 both long any  -- LAMP_HOURS
     ∷ kept 0x0402 both long any  -- LAMP_STRIKES
-    ∷ row 0x0403 both stored (starts 0 50 (below 4))  -- LAMP_STATE
+    ∷ row 0x0403 both stored (starts Lamp (below 4))  -- LAMP_STATE
     ∷ kept 0x0404 both byte (below 4)  -- LAMP_ON_MODE
     ∷ kept 0x0405 root long any  -- DEVICE_POWER_CYCLES
     ∷ []
@@ -177,8 +179,8 @@ display =
 abbrev pub control : List Row
 control =
     kept 0x1000 both byte (below 2)  -- IDENTIFY_DEVICE
-    ∷ row 0x1010 both stored (starts 0 20 a_power_state)  -- POWER_STATE
-    ∷ row 0x1020 root (reads self_test_runs) (starts 1 100 a_self_test)  -- PERFORM_SELFTEST
+    ∷ row 0x1010 both stored (starts Power a_power_state)  -- POWER_STATE
+    ∷ row 0x1020 root (reads self_test_runs) (starts SelfTest a_self_test)  -- PERFORM_SELFTEST
     ∷ row 0x1021 root (asks byte a_test self_test_described) none  -- SELF_TEST_DESCRIPTION
     ∷ kept 0x1031 root preset a_preset  -- PRESET_PLAYBACK
     ∷ []

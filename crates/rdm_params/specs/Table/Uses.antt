@@ -1,16 +1,22 @@
 -- What a row says of a command, even if there is no such row or command.
-use Rattle.std.specs.Prelude.{ℕ, Bool, true, false, List, [], length, Option, Some, None, Result, Ok, Err, if◌then◌else◌, is_some}
+use Rattle.std.specs.Prelude.{ℕ, Bool, true, false, List, [], length, Option, Some, None, Result, Ok, Err, if◌then◌else◌, is_some, slice_get}
+use Rattle.std.specs.Option.{option_map_or}
 use Rattle.rdm_params.specs.declared.kind.Verb.{Verb}
-use Rattle.rdm_params.specs.declared.kind.Verb.TheVariants.{Set}
+use Rattle.rdm_params.specs.declared.kind.Verb.TheVariants.{Get, Set}
 use Rattle.rdm_params.specs.declared.nack.Nack.{Nack}
 use Rattle.rdm_params.specs.declared.nack.Nack.TheVariants.{FormatError, UnknownPid, UnsupportedCommandClass}
+use Rattle.rdm_params.specs.declared.jobs.slow.Slow.{Slow}
+use Rattle.rdm_params.specs.declared.jobs.slow.Slow.TheVariants.{Lamp, Power, SelfTest, Sensor}
 use Rattle.rdm_params.specs.declared.jobs.way.Way.{Way}
 use Rattle.rdm_params.specs.declared.jobs.way.Way.TheVariants.{AtOnce, ByJob}
+use Rattle.rdm_device.specs.declared.profile.estimates.Estimates.{Estimates}
+use Rattle.rdm_device.specs.declared.profile.Profile.{Profile}
 use Rattle.rdm_device.specs.declared.value.Value.{Value}
 use Rattle.rdm_device.specs.Columns.Changes.{Change}
 use Rattle.rdm_device.specs.Device.Map.{Entry, update}
 use Rattle.rdm_device.specs.Device.Spot.{Spot}
 use Rattle.rdm_device.specs.Columns.Forms.{Form, nothing, has_length, value_in}
+use Rattle.rdm_device.specs.Device.Values.{byte_or_0}
 use Rattle.rdm_params.specs.Table.Rows.{Row, Command, command_in}
 
 -- whether the device has the parameter, and the parameter the command
@@ -46,8 +52,41 @@ way_of None = AtOnce
 way_of (Some c) = c.way
 
 abbrev pub is_by_job : Way → Bool
-is_by_job (ByJob worker estimate) = true
+is_by_job (ByJob slow) = true
 is_by_job _ = false
+
+-- the worker that has the jobs of each kind
+abbrev pub worker_for : Slow → ℕ
+worker_for Lamp = 0
+worker_for Power = 0
+worker_for SelfTest = 1
+worker_for Sensor = 1
+
+-- how long they take by these estimates, in tenths of a second. Section 6.3.3.
+abbrev pub estimate_for : Estimates → Slow → ℕ
+estimate_for e Lamp = e.lamp
+estimate_for e Power = e.power
+estimate_for e SelfTest = e.self_test
+estimate_for e Sensor = e.sensor
+
+-- whether a profile has a sensor of this number, and says that it is answered at once. Section 10.7.2.
+abbrev pub is_at_once : Profile → ℕ → Bool
+is_at_once p number = option_map_or (λ d. d.at_once) (slice_get p.sensors.items number) false
+
+-- whether a GET that hands in this byte is that of such a sensor
+abbrev pub needs_no_job : Profile → Way → ℕ → Bool
+needs_no_job p (ByJob Sensor) arg = is_at_once p arg
+needs_no_job p _ arg = false
+
+-- The way at the devices of a profile in which a command with this byte is answered, where the table has this way: a GET of a
+-- sensor that is answered at once starts no job.
+abbrev pub way_here : Profile → Way → Verb → ℕ → Way
+way_here p way Get arg = if needs_no_job p way arg then AtOnce else way
+way_here p way Set arg = way
+
+-- the way in which a command with this value is answered at the devices of a profile
+abbrev pub way_at : Profile → Option Command → Verb → Value → Way
+way_at p command verb v = way_here p (way_of command) verb (byte_or_0 v)
 
 -- whether the command is slow: a job carries it out
 abbrev pub is_slow : Option Command → Bool

@@ -1,5 +1,6 @@
 -- What a command answers, in two parts.
 use Rattle.std.specs.Prelude.{◌≡◌, ℕ, List}
+use Rattle.rdm_device.specs.declared.profile.Profile.{Profile}
 use Rattle.rdm_params.specs.declared.verdict.Answer.{Answer}
 use Rattle.rdm_params.specs.declared.verdict.Answer.TheVariants.{Done, Starts, Queues, Statuses, Clears, Refused}
 use Rattle.rdm_params.specs.declared.verdict.Verdict.{Verdict}
@@ -15,7 +16,7 @@ verdict_with (Statuses ask) body = Status ask
 verdict_with Clears body = Clear
 verdict_with (Refused nack) body = Refuse nack
 
--- the worker and the estimate that an answer names beside its work are those of the work
-abbrev pub NamesItsJob : Answer → Type 0
-NamesItsJob (Starts work worker estimate) = (worker ≡ worker_of work) × (estimate ≡ estimate_of work)
-NamesItsJob _ = Unit {0}
+-- the worker and the estimate that an answer names beside its work are those of the work, at the devices of this profile
+abbrev pub NamesItsJob : Profile → Answer → Type 0
+NamesItsJob p (Starts work worker estimate) = (worker ≡ worker_of work) × (estimate ≡ estimate_of p work)
+NamesItsJob p _ = Unit {0}

@@ -2,11 +2,12 @@
 
 ghost use Rattle.std.specs.Prelude.{◌≡◌, slice_get};
 ghost use Rattle.std.specs.Option.{option_map};
-ghost use Rattle.rdm_params.specs.Commands.Commands.{addressed, root_spot, sub_spot};
+ghost use Rattle.rdm_params.specs.Commands.Commands.{addressed, is_all_call, root_spot, sub_spot};
 
-use super::{Devices, is_all_call};
+use super::Devices;
 use crate::Verb;
 use rdm_device::Place;
+use rdm_frame::standard::SUB_DEVICE_ALL_CALL;
 
 impl Devices {
     /// The first device that a command is for, if there is one.
@@ -40,5 +41,15 @@ impl Devices {
         ensures { result ≡ root_spot self.now }
     {
         Place::of_root(&self.profile, &self.root, &self.own)
+    }
+}
+
+/// Whether a command is a SET of every sub-device.
+pub(super) fn is_all_call(sub: u16, verb: Verb) -> bool
+    ensures { result ≡ is_all_call sub verb }
+{
+    match verb {
+        Verb::Get => false,
+        Verb::Set => sub == SUB_DEVICE_ALL_CALL,
     }
 }

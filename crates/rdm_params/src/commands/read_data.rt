@@ -6,7 +6,8 @@ ghost use Rattle.rdm_params.specs.Commands.Commands.{read_data, suits, read_data
 ghost use Rattle.rdm_params.specs.Table.Kinds.{pid_of};
 ghost use Rattle.rdm_params.specs.Table.Uses.{way_of, is_bare, in_range_of};
 
-use super::{Devices, is_all_call};
+use super::Devices;
+use super::addressing::is_all_call;
 use crate::commands::sub_devices::all_in_range;
 use crate::table::find::Found;
 use crate::table::read::read_argument;

@@ -2,6 +2,7 @@
 
 ghost use Rattle.rdm_params.specs.Jobs.Laws.{StaysAccepted, SetKeepsDevices, CommitKeepsDevices, GetStartsItsWork};
 ghost use Rattle.rdm_params.specs.Jobs.Laws.{SetStartsItsWork, GetQueues, GetStatuses, SetFetchesNothing};
+ghost use Rattle.rdm_params.specs.Jobs.Laws.{UsualTakesTheTablesTime, UsualIsAnsweredByTheTable, SensorIsAnsweredAtOnce};
 ghost use Rattle.rdm_params.specs.Jobs.Laws.{PanelKeepsDevices, PlaceKeepsDevices, SetClears, GetClearsNothing};
 
 /// A slow command that is accepted stays so, whatever is set, whatever jobs end, whatever a person changes and whatever
@@ -18,6 +19,18 @@ pub fn slow_command_stays_accepted()
 pub fn started_work_is_its_command()
     ensures get { GetStartsItsWork }
     ensures set { SetStartsItsWork }
+{}
+
+/// The slow commands of devices that say nothing of them are those of the table: with the usual estimates their jobs take the
+/// table's times, and where no sensor is answered at once every command is answered in the way of its row.
+pub fn usual_profile_is_as_slow_as_the_table()
+    ensures time { UsualTakesTheTablesTime }
+    ensures way { UsualIsAnsweredByTheTable }
+{}
+
+/// A GET of a sensor that is answered at once starts no job: the reply tells what the sensor shows.
+pub fn sensor_is_answered_at_once()
+    ensures { SensorIsAnsweredAtOnce }
 {}
 
 /// QUEUED_MESSAGE and STATUS_MESSAGES are the GETs that fetch what waits for the controller; no SET does.

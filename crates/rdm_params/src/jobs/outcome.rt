@@ -43,7 +43,7 @@ pub fn fitting_worker(work: &Work, outcome: &Outcome) -> Option<u8>
     ensures two { IfSome result (λ worker. worker < 2) }
 {
     match way(work) {
-        Way::ByJob { worker, .. } if ends(work.verb, outcome) => Some(worker),
+        Way::ByJob(slow) if ends(work.verb, outcome) => Some(slow.worker()),
         _ => None,
     }
 }

@@ -1,20 +1,18 @@
 //! How a command is answered.
 
 ghost use Rattle.std.specs.Prelude.{◌≡◌};
-ghost use Rattle.rdm_params.specs.Table.Uses.{is_by_job};
+ghost use Rattle.rdm_params.specs.Table.Uses.{is_by_job, is_at_once, way_here};
+
+use crate::jobs::slow::Slow;
+use crate::{Profile, Verb};
 
 /// The way in which a command is answered.
 #[derive(Clone, Copy)]
 pub(crate) enum Way {
     /// At once, with the data of the reply (E1.20 section 6.3.1).
     AtOnce,
-    /// With a timer: a job carries it out (section 6.3.3).
-    ByJob {
-        /// The worker whose jobs these are: 0 or 1.
-        worker: u8,
-        /// How long it takes, in tenths of a second.
-        estimate: u16,
-    },
+    /// With a timer: a job of this kind carries it out (section 6.3.3).
+    ByJob(Slow),
     /// With the next message that waits (section 10.3.1).
     FromQueue,
     /// With status entries (section 10.3.2).
@@ -29,8 +27,30 @@ impl Way {
         ensures { result ≡ is_by_job self }
     {
         match self {
-            Way::ByJob { .. } => true,
+            Way::ByJob(_) => true,
             Way::AtOnce | Way::FromQueue | Way::FromStatus | Way::Clears => false,
         }
+    }
+
+    /// The way at the devices of a profile, where the table has this one: a GET with this byte, of a sensor that is answered at
+    /// once, starts no job.
+    #[inline(always)]
+    pub(crate) fn at(self, profile: &Profile, verb: Verb, arg: u8) -> Way
+        ensures { result ≡ way_here profile.now self verb arg }
+    {
+        match (self, verb) {
+            (Way::ByJob(Slow::Sensor), Verb::Get) if is_at_once(profile, arg) => Way::AtOnce,
+            _ => self,
+        }
+    }
+}
+
+/// Whether there is a sensor of this number, and it is answered at once.
+fn is_at_once(profile: &Profile, number: u8) -> bool
+    ensures { result ≡ is_at_once profile.now number }
+{
+    match profile.sensors.as_slice().get(usize::from(number)) {
+        Some(sensor) => sensor.at_once,
+        None => false,
     }
 }

@@ -2,12 +2,13 @@
 
 ghost use Rattle.std.specs.Prelude.{◌≡◌, ◌<◌};
 ghost use Rattle.rdm_params.specs.Commands.Commands.{command_of};
-ghost use Rattle.rdm_params.specs.Jobs.Work.{worker_of, estimate_of};
+ghost use Rattle.rdm_params.specs.Jobs.Usual.{usual_estimate_of};
+ghost use Rattle.rdm_params.specs.Jobs.Work.{worker_of, estimate_in};
 ghost use Rattle.rdm_params.specs.Table.Uses.{way_of, is_slow};
 
-use crate::Verb;
 use crate::jobs::Way;
 use crate::table::find::find;
+use crate::{Estimates, Verb};
 
 /// A slow command that was accepted.
 #[derive(Clone, Copy, Debug, PartialEq, Eq)]
@@ -28,18 +29,25 @@ pub fn worker_of(work: &Work) -> u8
     ensures two { result < 2 }
 {
     match way(work) {
-        Way::ByJob { worker, .. } => worker,
+        Way::ByJob(slow) => slow.worker(),
         Way::AtOnce | Way::FromQueue | Way::FromStatus | Way::Clears => 1,
     }
 }
 
-/// How long the job of this work takes, in tenths of a second, for ACK_TIMER (E1.20 section 6.3.3). It is 0 if the
-/// work isn't a slow command.
+/// How long the job of this work takes by the usual estimates, in tenths of a second: `Devices::estimate_of` tells it of
+/// devices whose profile may have others. It is 0 if the work isn't a slow command.
 pub fn estimate_of(work: &Work) -> u16
-    ensures { result ≡ estimate_of work.now }
+    ensures { result ≡ usual_estimate_of work.now }
+{
+    estimate_by(&Estimates::usual(), work)
+}
+
+/// The same by these estimates.
+pub(crate) fn estimate_by(estimates: &Estimates, work: &Work) -> u16
+    ensures { result ≡ estimate_in estimates.now (way_of (command_of work.now.pid work.now.verb)) }
 {
     match way(work) {
-        Way::ByJob { estimate, .. } => estimate,
+        Way::ByJob(slow) => slow.estimate(estimates),
         Way::AtOnce | Way::FromQueue | Way::FromStatus | Way::Clears => 0,
     }
 }

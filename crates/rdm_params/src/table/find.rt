@@ -8,7 +8,7 @@ ghost use Rattle.rdm_params.specs.Table.Kinds.{pid_of};
 ghost use Rattle.rdm_params.specs.Table.Rows.{row_of};
 ghost use Rattle.rdm_params.specs.Table.Uses.{access, way_of, is_bare, reply};
 
-use crate::jobs::Way;
+use crate::jobs::{Slow, Way};
 use crate::table::rows;
 use crate::{Kind, Nack, Verb};
 
@@ -55,11 +55,11 @@ macro_rules! at_place {
 }
 
 macro_rules! way_command {
-    ((starts $form:ident $range:tt $worker:literal $estimate:literal $field:tt)) => {
-        Way::ByJob { worker: $worker, estimate: $estimate }
+    ((starts $form:ident $range:tt $slow:ident $field:tt)) => {
+        Way::ByJob(Slow::$slow)
     };
-    ((measures $form:ident $range:tt $worker:literal $estimate:literal $reply:ident)) => {
-        Way::ByJob { worker: $worker, estimate: $estimate }
+    ((measures $form:ident $range:tt $slow:ident $reply:ident)) => {
+        Way::ByJob(Slow::$slow)
     };
     ((fetches $form:ident $range:tt $way:ident)) => { Way::$way };
     ((clears $form:ident $range:tt)) => { Way::Clears };

@@ -19,7 +19,7 @@ macro_rules! keep_rows {
 
 macro_rules! keep_command {
     ((takes $form:ident $range:tt $field:tt)) => { true };
-    ((starts $form:ident $range:tt $worker:literal $estimate:literal $field:tt)) => { true };
+    ((starts $form:ident $range:tt $slow:ident $field:tt)) => { true };
     ($command:tt) => { false };
 }
 

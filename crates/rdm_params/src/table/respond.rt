@@ -31,7 +31,7 @@ macro_rules! reply_command {
     ((asks $form:ident $range:tt $reply:ident) $place:ident $value:ident $body:ident) => {
         replies::$reply($place, $value, $body)
     };
-    ((measures $form:ident $range:tt $worker:literal $estimate:literal $reply:ident) $place:ident $value:ident $body:ident) => {
+    ((measures $form:ident $range:tt $slow:ident $reply:ident) $place:ident $value:ident $body:ident) => {
         replies::$reply($place, $value, $body)
     };
     ((sets $form:ident $range:tt $change:tt none) $place:ident $value:ident $body:ident) => { {} };

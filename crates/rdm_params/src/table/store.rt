@@ -33,7 +33,7 @@ macro_rules! write_common {
             None => false,
         }
     };
-    ((starts $form:ident $range:tt $worker:literal $estimate:literal (common $field:ident)) $value:ident $profile:ident $common:ident) => {
+    ((starts $form:ident $range:tt $slow:ident (common $field:ident)) $value:ident $profile:ident $common:ident) => {
         match $value.$form() {
             Some(written) => writes::$form(&mut $common.$field, written),
             None => false,
@@ -65,7 +65,7 @@ macro_rules! write_own {
             None => false,
         }
     };
-    ((starts $form:ident $range:tt $worker:literal $estimate:literal (own $field:ident)) $value:ident $profile:ident $own:ident) => {
+    ((starts $form:ident $range:tt $slow:ident (own $field:ident)) $value:ident $profile:ident $own:ident) => {
         match $value.$form() {
             Some(written) => writes::$form(&mut $own.$field, written),
             None => false,

@@ -128,6 +128,7 @@ fn outcomes_of(work: &Work) -> [bool; 3] {
 
 #[test]
 fn each_work_has_its_worker_and_its_outcomes(rt: HostRuntime) {
+    let devices = demo(&rt, rt.alloc(), 0);
     for (pid, verb, worker, estimate, fitting) in WORKS {
         let work = Work {
             sub: 0,
@@ -135,9 +136,73 @@ fn each_work_has_its_worker_and_its_outcomes(rt: HostRuntime) {
             verb,
             arg: 0,
         };
-        let told = (worker_of(&work), estimate_of(&work), outcomes_of(&work));
+        let told = (
+            worker_of(&work),
+            devices.estimate_of(&work),
+            outcomes_of(&work),
+        );
         assert_eq!(rt; told, (worker, estimate, fitting), "{pid:04X}");
     }
+}
+
+/// Other estimates than the usual ones.
+const OTHER: Estimates = Estimates {
+    lamp: 1,
+    power: 0,
+    self_test: 65535,
+    sensor: 7,
+};
+
+/// The estimates of slow commands, as a controller is told: the command, its data and the estimate.
+const TIMES: [(Verb, u16, u8, u16); 4] = [
+    (Set, 0x0403, 1, 1),
+    (Set, 0x1010, 0, 0),
+    (Set, 0x1020, 1, 65535),
+    (Get, 0x0201, 0, 7),
+];
+
+#[test]
+fn a_job_takes_as_long_as_the_profile_says(rt: HostRuntime) {
+    let mut profile = Profile::demo(0);
+    profile.estimates = OTHER;
+    let mut devices = made(&rt, rt.alloc(), profile);
+    for (verb, pid, arg, expected) in TIMES {
+        let mut body = Body::new();
+        let told = match verb {
+            Get => devices.get_into(0, pid, &[arg], &mut body),
+            Set => devices.set_into(0, pid, &[arg], &mut body).0,
+        };
+        match told {
+            Answer::Starts { estimate, .. } => assert_eq!(rt; estimate, expected, "{pid:04X}"),
+            _ => assert!(rt; false, "{pid:04X}: {told:?}"),
+        }
+    }
+}
+
+/// Sensor 1 is answered at once, sensor 0 isn't.
+const QUICK: [Step<'static>; 4] = [
+    (Get, 0, 0x0201, &[0], Start(0)),
+    (
+        Get,
+        0,
+        0x0201,
+        &[1],
+        Reply(&[1, 0, 25, 0xFF, 0xF6, 1, 0x2C, 0, 0]),
+    ),
+    (Get, 0, 0x0201, &[2], Refuse(DataOutOfRange)),
+    (Set, 0, 0x0403, &[1], Start(1)),
+];
+
+#[test]
+fn a_sensor_is_answered_at_once_with_what_was_placed(rt: HostRuntime) {
+    let mut profile = Profile::demo(0);
+    if let Some(sensor) = profile.sensors.as_mut_slice().get_mut(1) {
+        sensor.at_once = true;
+    }
+    let mut devices = made(&rt, rt.alloc(), profile);
+    let placed = devices.place(0, 0x0201, &[1, 0, 25, 0xFF, 0xF6, 1, 0x2C, 0, 0]);
+    assert_eq!(rt; placed, Ok(()));
+    plays(&rt, &mut devices, &QUICK);
 }
 
 /// Two parameters ask for what waits.

@@ -125,6 +125,7 @@ fn sensor() -> Value {
             normal_high: 32767,
             support: 4,
             name: Text::of(b"S"),
+            at_once: false,
         },
     }
 }

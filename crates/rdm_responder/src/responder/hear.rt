@@ -7,7 +7,7 @@ ghost use Rattle.rdm_params.specs.Commands.Changed.{change_of};
 ghost use Rattle.rdm_responder.specs.Requests.{Branch, Muting, Set, IsFrom, request_of, get_of, discovery_of};
 ghost use Rattle.rdm_responder.specs.Rules.{answered, Account, answer_to, job_with, account_with, control_field};
 ghost use Rattle.rdm_responder.specs.StandsFor.{Shows};
-ghost use Rattle.rdm_responder.specs.Started.{job_in, IsAsInTable};
+ghost use Rattle.rdm_responder.specs.Started.{job_in, IsAsInProfile};
 
 use crate::Responder;
 use crate::carry_out::carry_out;
@@ -34,7 +34,7 @@ impl Responder {
             answered result.replied wire.new ≡ answer_to a (request_of a.setup.uid request.now) }
         ensures silent { OnFalse result.replied (wire.new ≡ wire.old) }
         ensures job { (a : Account) → Shows self.old a → job_in result.started ≡ job_with a (request_of a.setup.uid request.now) }
-        ensures table { IfSome result.started IsAsInTable }
+        ensures table { IfSome result.started (IsAsInProfile self.old.parameters.profile) }
         ensures after { (a : Account) → Shows self.old a → Shows self.new (account_with a (request_of a.setup.uid request.now)) }
         ensures unchanged { (result.changed ≡ None) ↔ (self.new.parameters ≡ self.old.parameters) }
         ensures what { IfSome result.changed (λ c. c ≡ change_of request.now.sub request.now.pid) }
@@ -61,7 +61,7 @@ impl Responder {
         ensures reply { (a : Account) → Shows self.old a → answered result.replied wire.new ≡ answer_to a (get_of request.now) }
         ensures silent { OnFalse result.replied (wire.new ≡ wire.old) }
         ensures job { (a : Account) → Shows self.old a → job_in result.started ≡ job_with a (get_of request.now) }
-        ensures table { IfSome result.started IsAsInTable }
+        ensures table { IfSome result.started (IsAsInProfile self.old.parameters.profile) }
         ensures after { (a : Account) → Shows self.old a → Shows self.new (account_with a (get_of request.now)) }
         ensures unchanged { (result.changed ≡ None) × (self.new.parameters ≡ self.old.parameters) }
     {
@@ -90,7 +90,7 @@ impl Responder {
         ensures reply { (a : Account) → Shows self.old a → answered result.replied wire.new ≡ answer_to a (Set request.now) }
         ensures silent { OnFalse result.replied (wire.new ≡ wire.old) }
         ensures job { (a : Account) → Shows self.old a → job_in result.started ≡ job_with a (Set request.now) }
-        ensures table { IfSome result.started IsAsInTable }
+        ensures table { IfSome result.started (IsAsInProfile self.old.parameters.profile) }
         ensures after { (a : Account) → Shows self.old a → Shows self.new (account_with a (Set request.now)) }
         ensures unchanged { (result.changed ≡ None) ↔ (self.new.parameters ≡ self.old.parameters) }
         ensures what { IfSome result.changed (λ c. c ≡ change_of request.now.sub request.now.pid) }

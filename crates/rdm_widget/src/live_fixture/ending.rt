@@ -4,7 +4,7 @@ ghost use Rattle.std.specs.Prelude.{◌≡◌};
 ghost use Rattle.rdm_widget.specs.LiveFixtures as says;
 
 use rdm_outbox::Job;
-use rdm_params::estimate_of;
+use rdm_params::Devices;
 
 /// A job that has ended.
 #[derive(Clone, Copy, Debug)]
@@ -17,22 +17,28 @@ pub(crate) struct Ended {
     pub(crate) at: u64,
 }
 
-/// The job at which this worker is since then, if it has ended by now.
-pub(crate) fn ended_by(now: u64, worker: u8, since: u64, job: Option<Job>) -> Option<Ended>
-    ensures { result ≡ says.ended_by now worker since job }
+/// The job at which this worker of these devices is since then, if it has ended by now.
+pub(crate) fn ended_by(
+    devices: &Devices,
+    now: u64,
+    worker: u8,
+    since: u64,
+    job: Option<Job>,
+) -> Option<Ended>
+    ensures { result ≡ says.ended_by devices.now now worker since job }
 {
     match job {
-        Some(job) => end_by(now, worker, since, job),
+        Some(job) => end_by(devices, now, worker, since, job),
         None => None,
     }
 }
 
 /// This job, if it has ended by now.
-fn end_by(now: u64, worker: u8, since: u64, job: Job) -> Option<Ended>
-    ensures { result ≡ says.ended_by now worker since (Some job) }
+fn end_by(devices: &Devices, now: u64, worker: u8, since: u64, job: Job) -> Option<Ended>
+    ensures { result ≡ says.ended_by devices.now now worker since (Some job) }
 {
     // It may have started long before it began, behind others of its worker, and no list of what `Started` told is kept here.
-    let span = 100 * u64::from(estimate_of(&job.work));
+    let span = 100 * u64::from(devices.estimate_of(&job.work));
     if since > now || now - since < span {
         return None;
     }

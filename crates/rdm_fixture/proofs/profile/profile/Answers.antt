@@ -3,7 +3,7 @@ use Rattle.toml.specs.Data.{get_member}
 use Rattle.toml.specs.View.{table_view}
 use Rattle.rdm_fixture.specs.Drafts.{with_parameters}
 use Rattle.rdm_fixture.specs.Faults.{told}
-use Rattle.rdm_fixture.specs.FirstWrong.{profile_parts, unit_parts, self_test_parts, status_parts, parameter_parts, differing, names, optional, unneeded, ascending}
+use Rattle.rdm_fixture.specs.FirstWrong.{profile_parts, unit_parts, self_test_parts, status_parts, parameter_parts, differing, names, optional, unneeded, ascending, times}
 use Rattle.rdm_fixture.specs.Format.{IsProfile, IsSelfTest, IsStatus, root_slots}
 use Rattle.rdm_fixture.specs.Keys.{may}
 use Rattle.rdm_fixture.specs.Parameters.{IsParameter}
@@ -26,8 +26,11 @@ without_parts = names ∷ optional ∷ unneeded ∷ []
 abbrev own_parts : List Part
 own_parts = entries (codes "parameter") IsParameter (FirstWrong parameter_parts) 0 16 ∷ ascending ∷ []
 
+abbrev after_without : List Part
+after_without = own_parts ++ times ∷ []
+
 abbrev after_statuses : List Part
-after_statuses = without_parts ++ own_parts
+after_statuses = without_parts ++ after_without
 
 abbrev after_tests : List Part
 after_tests = statuses_parts ++ after_statuses
@@ -54,6 +57,10 @@ pub returns-in_err-parameters-clause-read : goal.returns-in_err-parameters-claus
 returns-in_err-parameters-clause-read c =
     Reads-err (λ t r. IsProfile t (with_parameters r.0 r.1.items)) _ _ c.from_residual-in_err-parameters.ensures.0 (λ r h. c.in_err-parameters.ensures.read r.1 (h.own, h.own_ascend))
 
+pub returns-in_err-estimates-clause-read : goal.returns-in_err-estimates-clause-read
+returns-in_err-estimates-clause-read c =
+    Reads-err (λ t r. IsProfile t (with_parameters r.0 r.1.items)) _ _ c.from_residual-in_err-estimates.ensures.0 (λ r h. c.in_err-estimates.ensures.read r.0.estimates h.estimates)
+
 pub returns-clause-read : goal.returns-clause-read
 returns-clause-read c =
     let more : Some c.in_ok-more_slots.more_slots ≡ may 0 (number 0 512) (get_member (codes "more_slots") (table_view c.args.table.now)) = c.in_ok-more_slots.ensures.value in
@@ -77,6 +84,7 @@ returns-clause-read c =
       may_lack = c.in_ok-without.ensures.read.1;
       own = c.in_ok-parameters.ensures.read.0;
       own_ascend = c.in_ok-parameters.ensures.read.1;
+      estimates = c.in_ok-estimates.ensures.read;
     }
 
 pub sub_devices-requires : goal.sub_devices-requires
@@ -157,7 +165,7 @@ returns-in_err-without-clause-wrong c =
     let count : c.root_slots-count.result ≡ root_slots (table_view c.args.table.now) =
     c.root_slots-count.ensures ∙ slots_counted _ _ _ _ more (c.len.ensures.value ∙ c.in_ok-slots.ensures.count) in
     exit (FirstWrong profile_parts (table_view c.args.table.now)) _ _ c.from_residual-in_err-without.ensures.1
-    (inr (free_right 0 (number 0 0xFFFFFFFF) (get_member (codes "boot_software_version_id") (table_view c.args.table.now)) _ c.in_ok-boot.ensures.value, inr (free_right [] text (get_member (codes "boot_software_version_label") (table_view c.args.table.now)) _ c.in_ok-boot_text.ensures.value, inr ((c.in_ok-languages.languages.items, c.in_ok-languages.ensures.read), inr (free_right 0 (number 0 65534) (get_member (codes "presets") (table_view c.args.table.now)) _ c.in_ok-presets.ensures.value, inr (free_right 0 (number 0 512) (get_member (codes "more_slots") (table_view c.args.table.now)) _ c.in_ok-more_slots.ensures.value, inr ((c.in_ok-slots.slots.items, c.in_ok-slots.ensures.read), inr ((c.in_ok-root.root, rw (← count) c.in_ok-root.ensures.read), inr (((c.in_ok-subs.subs, c.in_ok-subs.sub), rw (← count) c.in_ok-subs.ensures.read), inr ((_, c.in_ok-sensors.ensures.read), inr ((_, c.in_ok-tests.ensures.read.0), inr ((_, c.in_ok-tests.ensures.read), inr ((_, c.in_ok-status_texts.ensures.read.0), inr ((_, c.in_ok-status_texts.ensures.read), among without_parts own_parts (table_view c.args.table.now) _ c.in_err-without.ensures.wrong))))))))))))))
+    (inr (free_right 0 (number 0 0xFFFFFFFF) (get_member (codes "boot_software_version_id") (table_view c.args.table.now)) _ c.in_ok-boot.ensures.value, inr (free_right [] text (get_member (codes "boot_software_version_label") (table_view c.args.table.now)) _ c.in_ok-boot_text.ensures.value, inr ((c.in_ok-languages.languages.items, c.in_ok-languages.ensures.read), inr (free_right 0 (number 0 65534) (get_member (codes "presets") (table_view c.args.table.now)) _ c.in_ok-presets.ensures.value, inr (free_right 0 (number 0 512) (get_member (codes "more_slots") (table_view c.args.table.now)) _ c.in_ok-more_slots.ensures.value, inr ((c.in_ok-slots.slots.items, c.in_ok-slots.ensures.read), inr ((c.in_ok-root.root, rw (← count) c.in_ok-root.ensures.read), inr (((c.in_ok-subs.subs, c.in_ok-subs.sub), rw (← count) c.in_ok-subs.ensures.read), inr ((_, c.in_ok-sensors.ensures.read), inr ((_, c.in_ok-tests.ensures.read.0), inr ((_, c.in_ok-tests.ensures.read), inr ((_, c.in_ok-status_texts.ensures.read.0), inr ((_, c.in_ok-status_texts.ensures.read), among without_parts after_without (table_view c.args.table.now) _ c.in_err-without.ensures.wrong))))))))))))))
 
 pub returns-in_err-parameters-clause-wrong : goal.returns-in_err-parameters-clause-wrong
 returns-in_err-parameters-clause-wrong c =
@@ -165,4 +173,12 @@ returns-in_err-parameters-clause-wrong c =
     let count : c.root_slots-count.result ≡ root_slots (table_view c.args.table.now) =
     c.root_slots-count.ensures ∙ slots_counted _ _ _ _ more (c.len.ensures.value ∙ c.in_ok-slots.ensures.count) in
     exit (FirstWrong profile_parts (table_view c.args.table.now)) _ _ c.from_residual-in_err-parameters.ensures.1
-    (inr (free_right 0 (number 0 0xFFFFFFFF) (get_member (codes "boot_software_version_id") (table_view c.args.table.now)) _ c.in_ok-boot.ensures.value, inr (free_right [] text (get_member (codes "boot_software_version_label") (table_view c.args.table.now)) _ c.in_ok-boot_text.ensures.value, inr ((c.in_ok-languages.languages.items, c.in_ok-languages.ensures.read), inr (free_right 0 (number 0 65534) (get_member (codes "presets") (table_view c.args.table.now)) _ c.in_ok-presets.ensures.value, inr (free_right 0 (number 0 512) (get_member (codes "more_slots") (table_view c.args.table.now)) _ c.in_ok-more_slots.ensures.value, inr ((c.in_ok-slots.slots.items, c.in_ok-slots.ensures.read), inr ((c.in_ok-root.root, rw (← count) c.in_ok-root.ensures.read), inr (((c.in_ok-subs.subs, c.in_ok-subs.sub), rw (← count) c.in_ok-subs.ensures.read), inr ((_, c.in_ok-sensors.ensures.read), inr ((_, c.in_ok-tests.ensures.read.0), inr ((_, c.in_ok-tests.ensures.read), inr ((_, c.in_ok-status_texts.ensures.read.0), inr ((_, c.in_ok-status_texts.ensures.read), inr ((_, c.in_ok-without.ensures.read.0), inr ((_, (c.in_ok-without.ensures.read.0, c.in_ok-without.ensures.read.1.optional)), inr ((_, (c.in_ok-without.ensures.read.0, c.in_ok-without.ensures.read.1.needs)), c.in_err-parameters.ensures.wrong)))))))))))))))))
+    (inr (free_right 0 (number 0 0xFFFFFFFF) (get_member (codes "boot_software_version_id") (table_view c.args.table.now)) _ c.in_ok-boot.ensures.value, inr (free_right [] text (get_member (codes "boot_software_version_label") (table_view c.args.table.now)) _ c.in_ok-boot_text.ensures.value, inr ((c.in_ok-languages.languages.items, c.in_ok-languages.ensures.read), inr (free_right 0 (number 0 65534) (get_member (codes "presets") (table_view c.args.table.now)) _ c.in_ok-presets.ensures.value, inr (free_right 0 (number 0 512) (get_member (codes "more_slots") (table_view c.args.table.now)) _ c.in_ok-more_slots.ensures.value, inr ((c.in_ok-slots.slots.items, c.in_ok-slots.ensures.read), inr ((c.in_ok-root.root, rw (← count) c.in_ok-root.ensures.read), inr (((c.in_ok-subs.subs, c.in_ok-subs.sub), rw (← count) c.in_ok-subs.ensures.read), inr ((_, c.in_ok-sensors.ensures.read), inr ((_, c.in_ok-tests.ensures.read.0), inr ((_, c.in_ok-tests.ensures.read), inr ((_, c.in_ok-status_texts.ensures.read.0), inr ((_, c.in_ok-status_texts.ensures.read), inr ((_, c.in_ok-without.ensures.read.0), inr ((_, (c.in_ok-without.ensures.read.0, c.in_ok-without.ensures.read.1.optional)), inr ((_, (c.in_ok-without.ensures.read.0, c.in_ok-without.ensures.read.1.needs)), among own_parts (times ∷ []) (table_view c.args.table.now) _ c.in_err-parameters.ensures.wrong)))))))))))))))))
+
+pub returns-in_err-estimates-clause-wrong : goal.returns-in_err-estimates-clause-wrong
+returns-in_err-estimates-clause-wrong c =
+    let more : Some c.in_ok-more_slots.more_slots ≡ may 0 (number 0 512) (get_member (codes "more_slots") (table_view c.args.table.now)) = c.in_ok-more_slots.ensures.value in
+    let count : c.root_slots-count.result ≡ root_slots (table_view c.args.table.now) =
+    c.root_slots-count.ensures ∙ slots_counted _ _ _ _ more (c.len.ensures.value ∙ c.in_ok-slots.ensures.count) in
+    exit (FirstWrong profile_parts (table_view c.args.table.now)) _ _ c.from_residual-in_err-estimates.ensures.1
+    (inr (free_right 0 (number 0 0xFFFFFFFF) (get_member (codes "boot_software_version_id") (table_view c.args.table.now)) _ c.in_ok-boot.ensures.value, inr (free_right [] text (get_member (codes "boot_software_version_label") (table_view c.args.table.now)) _ c.in_ok-boot_text.ensures.value, inr ((c.in_ok-languages.languages.items, c.in_ok-languages.ensures.read), inr (free_right 0 (number 0 65534) (get_member (codes "presets") (table_view c.args.table.now)) _ c.in_ok-presets.ensures.value, inr (free_right 0 (number 0 512) (get_member (codes "more_slots") (table_view c.args.table.now)) _ c.in_ok-more_slots.ensures.value, inr ((c.in_ok-slots.slots.items, c.in_ok-slots.ensures.read), inr ((c.in_ok-root.root, rw (← count) c.in_ok-root.ensures.read), inr (((c.in_ok-subs.subs, c.in_ok-subs.sub), rw (← count) c.in_ok-subs.ensures.read), inr ((_, c.in_ok-sensors.ensures.read), inr ((_, c.in_ok-tests.ensures.read.0), inr ((_, c.in_ok-tests.ensures.read), inr ((_, c.in_ok-status_texts.ensures.read.0), inr ((_, c.in_ok-status_texts.ensures.read), inr ((_, c.in_ok-without.ensures.read.0), inr ((_, (c.in_ok-without.ensures.read.0, c.in_ok-without.ensures.read.1.optional)), inr ((_, (c.in_ok-without.ensures.read.0, c.in_ok-without.ensures.read.1.needs)), inr ((_, c.in_ok-parameters.ensures.read.0), inr ((_, c.in_ok-parameters.ensures.read), inl c.in_err-estimates.ensures.wrong)))))))))))))))))))

@@ -24,4 +24,4 @@ pub returns-in-Err-clause-wrong : goal.returns-in-Err-clause-wrong
 returns-in-Err-clause-wrong c =
     let found : get_member (codes "sub_devices") (table_view c.args.table.now) ≡ Some (table (table_view c.in-Table.sub)) =
     found_table _ _ _ _ c.find.ensures c.in-Some.is c.in-Table.is in
-    rw found (told c.in-Err.refusal, c.in-Err.ensures.wrong, c.in_sub_devices.ensures)
+    rw found (told c.in-Err.refusal, c.in-Err.ensures.wrong, c.in_section.ensures)

@@ -1,6 +1,5 @@
 use Rattle.std.proofs.Common.{ap, ◌∙◌}
 use Rattle.rdm_params.specs.Commands.Saving.{powered_on}
-use Rattle.rdm_params.specs.Device.Parameters.{Parameters}
 use Rattle.rdm_responder.specs.History.{Restored}
 use Rattle.rdm_responder.specs.Laws.{values_of}
 use Rattle.rdm_responder.specs.Rules.{Account}

@@ -1,4 +1,4 @@
-use Rattle.std.proofs.Common.{rules, ◌≡◌, ◌∙◌, Some, Option, OnOk, ap, List, ◌++◌, map, refl, subst}
+use Rattle.std.proofs.Common.{rules, ◌≡◌, ◌∙◌, Some, Option, OnOk, ap, ◌++◌, map, subst}
 use Rattle.std.specs.Prelude.{find}
 use Rattle.std.specs.Option.{option_map_or}
 use Rattle.rdm_device.specs.declared.profile.own.ParameterDef.{ParameterDef}

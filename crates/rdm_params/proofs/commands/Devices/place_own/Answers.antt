@@ -3,7 +3,7 @@ use Rattle.std.specs.Option.{option_map_or}
 use Rattle.rdm_device.specs.declared.profile.own.ParameterDef.{ParameterDef}
 use Rattle.rdm_params.specs.declared.nack.Nack.TheVariants.{UnknownPid}
 use Rattle.rdm_params.specs.declared.placing.PlaceError.TheVariants.{NoValue}
-use Rattle.rdm_params.specs.Commands.Placing.{own_refusal, own_placed, own_at}
+use Rattle.rdm_params.specs.Commands.Placing.{own_refusal, own_placed}
 use Rattle.rdm_params.specs.Table.Rows.{is_left_out}
 use Rattle.rdm_params.proofs.PlacesOwn.{own_root}
 use Rattle.rdm_params.proofs.commands.Devices.place_own.Goals as goal

@@ -1,5 +1,4 @@
-use Rattle.std.proofs.Common.{rules, ◌≡◌, Some, List, ◌++◌, map, refl, subst}
-use Rattle.rdm_device.specs.Device.Map.{Entry}
+use Rattle.std.proofs.Common.{rules, ◌≡◌, Some, ◌++◌, map, refl, subst}
 use Rattle.rdm_device.specs.Device.Parameters.{Parameters}
 use Rattle.rdm_device.specs.Views.State.{common_entries, own_entries, added_entries}
 use Rattle.rdm_params.specs.Commands.Added.{row_here, after_here}

@@ -1,4 +1,4 @@
-use Rattle.std.proofs.Common.{rules, ◌≡◌, ◌∙◌, Some, true, sym}
+use Rattle.std.proofs.Common.{rules, ◌≡◌, Some, true}
 use Rattle.rdm_device.specs.Columns.Forms.{value_of}
 use Rattle.rdm_device.specs.Device.OwnParameters.{form_of, is_within, has_set}
 use Rattle.rdm_device.specs.Views.State.{added_entries}

@@ -1,9 +1,9 @@
 use Rattle.std.proofs.Common.{ap, ◌∙◌, sym}
 use Rattle.rdm_params.specs.Commands.Saving.{powered_on}
 use Rattle.rdm_params.specs.Device.Parameters.{Parameters}
-use Rattle.rdm_responder.specs.History.{History, Restored, then_event}
+use Rattle.rdm_responder.specs.History.{Restored}
 use Rattle.rdm_responder.specs.Rules.{account_of}
-use Rattle.rdm_responder.specs.StandsFor.{State, StandsFor}
+use Rattle.rdm_responder.specs.StandsFor.{State}
 use Rattle.rdm_responder.proofs.Accounts.{stands_for_event}
 use Rattle.rdm_responder.proofs.Changes.{shows_restore, ok_unless_refused, on_ok, on_err}
 use Rattle.rdm_responder.proofs.Lawfulness.{lawful_then, may_happen}

@@ -13,6 +13,7 @@ returns-clause-says c = λ slots can.
     let normal_low = to_z-of_z w16 c.args.self.now.normal_low (search rules) in
     let normal_high = to_z-of_z w16 c.args.self.now.normal_high (search rules) in
     rw (
+      c.in_ok-put_flag.ensures refl,
       c.in_ok-put_text.ensures.put refl,
       c.in_ok-put_byte-4.ensures.put refl,
       c.in_ok-put_signed-4.ensures.put refl,
@@ -39,6 +40,7 @@ returns-clause-plain c =
     let normal_low = to_z-of_z w16 c.args.self.now.normal_low (search rules) in
     let normal_high = to_z-of_z w16 c.args.self.now.normal_high (search rules) in
     rw (
+      c.in_ok-put_flag.ensures refl,
       c.in_ok-put_text.ensures.put refl,
       c.in_ok-put_byte-4.ensures.put refl,
       c.in_ok-put_signed-4.ensures.put refl,

@@ -1,0 +1,44 @@
+//! The kinds of slow commands.
+
+ghost use Rattle.std.specs.Prelude.{◌≡◌, ◌<◌};
+ghost use Rattle.rdm_params.specs.Table.Uses.{worker_for, estimate_for};
+
+use rdm_device::Estimates;
+
+/// What the job of a slow command does.
+#[derive(Clone, Copy)]
+pub(crate) enum Slow {
+    /// It changes the state of the lamp (E1.20 section 10.8.4).
+    Lamp,
+    /// It changes the power state (section 10.11).
+    Power,
+    /// It switches a self test on or off (section 10.11).
+    SelfTest,
+    /// A sensor measures (section 10.7.2).
+    Sensor,
+}
+
+impl Slow {
+    /// The worker whose jobs these are: 0 or 1.
+    pub(crate) fn worker(self) -> u8
+        ensures worker { result ≡ worker_for self }
+        ensures two { result < 2 }
+    {
+        match self {
+            Slow::Lamp | Slow::Power => 0,
+            Slow::SelfTest | Slow::Sensor => 1,
+        }
+    }
+
+    /// How long they take, by these estimates.
+    pub(crate) fn estimate(self, estimates: &Estimates) -> u16
+        ensures { result ≡ estimate_for estimates.now self }
+    {
+        match self {
+            Slow::Lamp => estimates.lamp,
+            Slow::Power => estimates.power,
+            Slow::SelfTest => estimates.self_test,
+            Slow::Sensor => estimates.sensor,
+        }
+    }
+}
