@@ -190,12 +190,69 @@ static void left_out(void) {
     judge("NULL");
 }
 
+/* Which worker has the job of each slow command, and how long it takes; or that there is no job. */
+static felosumay_result jobs(const char *what) {
+    static const felosumay_command commands[4] = {
+        {1, 0x7FF0, 0, FELOSUMAY_PID_LAMP_STATE, FELOSUMAY_SET},
+        {1, 0x7FF0, 0, FELOSUMAY_PID_POWER_STATE, FELOSUMAY_SET},
+        {1, 0x7FF0, 0, FELOSUMAY_PID_PERFORM_SELFTEST, FELOSUMAY_SET},
+        {1, 0x7FF0, 0, FELOSUMAY_PID_SENSOR_VALUE, FELOSUMAY_GET},
+    };
+    static const uint8_t bytes[4] = {1, 1, 1, 0};
+    felosumay_responder fixture = {0};
+    felosumay_collector console = {0};
+    felosumay_stepped stepped;
+    uint8_t frame[FELOSUMAY_FRAME_BYTES], reply[FELOSUMAY_FRAME_BYTES];
+    size_t count = 0;
+    felosumay_result result = felosumay_responder_new(&fixture, 0x7FF0, 1, &profile, 8);
+    if (result == FELOSUMAY_DONE)
+        result = felosumay_collector_new(&console, 0x7FF0, 2, 0x7FF0, 1, FELOSUMAY_STATUS_ADVISORY);
+    if (result == FELOSUMAY_DONE) {
+        printf("%s:", what);
+        for (int i = 0; i < 4; i++) {
+            felosumay_collector_ask(&console, &commands[i], &bytes[i], 1, frame, &count);
+            felosumay_responder_step(&fixture, frame, count, reply, &stepped);
+            felosumay_collector_over(&console);
+            if (stepped.started)
+                printf(" %u of worker %u,", stepped.job.estimate, stepped.job.worker);
+            else
+                printf(" no job,");
+        }
+        printf(" and that is all\n");
+    }
+    felosumay_collector_free(&console);
+    felosumay_responder_free(&fixture);
+    return result;
+}
+
+/* Times and workers of slow commands, and a sensor that is answered at once. */
+static felosumay_result slow(void) {
+    const felosumay_estimates times = {1, 2, 65535, 0};
+    const felosumay_workers workers = {FELOSUMAY_WORKER_1, FELOSUMAY_WORKER_0, FELOSUMAY_WORKER_0, FELOSUMAY_WORKER_USUAL};
+    const felosumay_workers others = {FELOSUMAY_WORKER_0, FELOSUMAY_WORKER_1, FELOSUMAY_WORKER_1, 255};
+    profile.test_count = profile.sensor_count = 1;
+    profile.tests[0].number = 1;
+    felosumay_result result = jobs("usual times and workers");
+    profile.estimates = times;
+    profile.workers = workers;
+    if (result == FELOSUMAY_DONE)
+        result = jobs("other ones");
+    profile.workers = others;
+    profile.sensors[0].at_once = 1;
+    if (result == FELOSUMAY_DONE)
+        result = jobs("a sensor at once");
+    begin();
+    return result;
+}
+
 int main(void) {
     felosumay_result result = nothing();
     names();
     replies();
     own_parameters();
     left_out();
+    if (result == FELOSUMAY_DONE)
+        result = slow();
     if (result != FELOSUMAY_DONE)
         printf("status %u\n", result);
     return result;

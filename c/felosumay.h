@@ -171,6 +171,20 @@ typedef struct {
     uint16_t sensor;    /* a GET of SENSOR_VALUE, if a job measures: usually 5 */
 } felosumay_estimates;
 
+/* Which worker carries out which slow command: each has its jobs one after the other, in the order in which they were accepted. */
+enum {
+    FELOSUMAY_WORKER_USUAL = 0, /* the worker that the table has for it */
+    FELOSUMAY_WORKER_0 = 1,
+    FELOSUMAY_WORKER_1 = 2 /* so is every greater number */
+};
+
+typedef struct {
+    uint8_t lamp;      /* FELOSUMAY_WORKER_.. of a SET of LAMP_STATE: usually worker 0 */
+    uint8_t power;     /* of a SET of POWER_STATE: usually worker 0 */
+    uint8_t self_test; /* of a SET of PERFORM_SELFTEST: usually worker 1 */
+    uint8_t sensor;    /* of a GET of SENSOR_VALUE, if a job measures: usually worker 1 */
+} felosumay_workers;
+
 typedef struct {
     felosumay_unit root;
     felosumay_unit sub; /* what each sub-device starts as */
@@ -195,6 +209,7 @@ typedef struct {
     const uint16_t *without;               /* the PIDs of those of docs/PARAMETERS.md that the fixture hasn't, in any order */
     size_t without_count;                  /* 0 to 36 */
     felosumay_estimates estimates;         /* how long slow commands take */
+    felosumay_workers workers;             /* and which worker carries them out */
 } felosumay_profile;
 
 /* The rules of a profile, in the order in which they are tested. BAD_PROFILE says that one of them is broken. */
@@ -296,7 +311,7 @@ felosumay_result felosumay_responder_fits(uintptr_t address, size_t bytes, uint1
 #define FELOSUMAY_ROUNDED(bytes) (((size_t)(bytes) + 15) / 16 * 16)
 #define FELOSUMAY_OWN_PARAMETERS_BYTES ((size_t)3280)
 #define FELOSUMAY_RESPONDER_BYTES(queue_size, entries, sub_devices)                                                             \
-    (FELOSUMAY_ROUNDED(6032) + FELOSUMAY_ROUNDED(64 * (size_t)(sub_devices)) + 2 * FELOSUMAY_ROUNDED(12 * (size_t)(queue_size)) + \
+    (FELOSUMAY_ROUNDED(5968) + FELOSUMAY_ROUNDED(64 * (size_t)(sub_devices)) + 2 * FELOSUMAY_ROUNDED(12 * (size_t)(queue_size)) + \
      FELOSUMAY_ROUNDED(248 * (size_t)(queue_size)) + FELOSUMAY_ROUNDED(10 * (size_t)(entries)))
 
 /* Hears bytes. If there is a reply, it stands at the front of `reply`; the answer to discovery is a reply like any other,

@@ -28,7 +28,8 @@ static const felosumay_profile PROFILE = {
      {0x8003, FELOSUMAY_TEXT("Overheated: %d degrees C")}},
     /* no more slots, no parameters of the maker's own, and none that are left out: c/own.c has some */
     0, NULL, 0, NULL, 0,
-    /* the usual times of slow commands */
+    /* the usual times and workers of slow commands */
+    {0, 0, 0, 0},
     {0, 0, 0, 0},
 };
 

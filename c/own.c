@@ -41,7 +41,8 @@ static const felosumay_profile PROFILE = {
     {{0, {0, {0}}}},
     /* 39 slots of pixels, which nothing describes; its own parameters, and what it hasn't */
     39, PARAMETERS, sizeof PARAMETERS / sizeof *PARAMETERS, WITHOUT, sizeof WITHOUT / sizeof *WITHOUT,
-    /* the usual times of slow commands */
+    /* the usual times and workers of slow commands */
+    {0, 0, 0, 0},
     {0, 0, 0, 0},
 };
 

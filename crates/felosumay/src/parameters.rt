@@ -15,7 +15,6 @@ use rdm_frame::digits::word_in;
 use rdm_frame::standard::ROOT_DEVICE;
 use rdm_params::{
     Devices, Kind, Nack, NewError, Outcome, Profile, Severity, Verb, Verdict, Work, fits,
-    worker_of,
 };
 use std::alloc::{AllocError, Global};
 use std::fmt::Write;
@@ -126,12 +125,7 @@ fn put_parameter(
 }
 
 /// Which worker has the job of a command that is slow, and how long that takes.
-fn put_job(
-    text: &mut String,
-    devices: &Devices,
-    pid: u16,
-    verb: Verb,
-) -> Result<(), AllocError> {
+fn put_job(text: &mut String, devices: &Devices, pid: u16, verb: Verb) -> Result<(), AllocError> {
     let work = Work {
         sub: 0,
         pid,
@@ -149,8 +143,24 @@ fn put_job(
         return Ok(());
     }
     let estimate = devices.estimate_of(&work);
-    let worker = worker_of(&work);
+    let worker = devices.worker_of(&work);
     let seconds = estimate / 10;
     let tenths = estimate % 10;
-    write!(text, "; slow: worker {worker}, about {seconds}.{tenths} s")
+    write!(text, "; slow: worker {worker}, about {seconds}.{tenths} s")?;
+    match verb {
+        Verb::Get => put_quick(text, devices, pid),
+        Verb::Set => Ok(()),
+    }
+}
+
+/// The data with which a GET that is slow otherwise is answered at once, if there are such: the numbers of sensors that say so.
+fn put_quick(text: &mut String, devices: &Devices, pid: u16) -> Result<(), AllocError> {
+    let mut before = "; at once: ";
+    for number in 0..u8::MAX {
+        if let Verdict::Reply(_) = devices.get(ROOT_DEVICE, pid, &[number]) {
+            write!(text, "{before}{number:02X}")?;
+            before = ", ";
+        }
+    }
+    Ok(())
 }

@@ -7,7 +7,7 @@ ghost use Rattle.rdm_responder.specs.History.{History, Heard as HeardBytes, then
 ghost use Rattle.rdm_responder.specs.Lawful.{IsLawful, MayArrive};
 ghost use Rattle.rdm_responder.specs.Rules.{account_of, reply_of, job_of};
 ghost use Rattle.rdm_responder.specs.StandsFor.{StandsFor};
-ghost use Rattle.rdm_responder.specs.Started.{job_in, IsAsInProfile};
+ghost use Rattle.rdm_responder.specs.Started.{job_in, IsAsInProfile, IsForItsWorker};
 ghost use Rattle.rdm_collector.specs.Collecting.{heard_in, after_hearing};
 ghost use Rattle.rdm_bus.specs.Faults.{reply_heard};
 ghost use Rattle.rdm_bus.specs.BusLaws.{BusLaws, recorded_by};
@@ -126,6 +126,7 @@ impl System {
             IsTrace start steps self.old → IsPlayed (after_all start self.old.trace) step.now event)
             × (started_in event ≡ option_to_list (job_in started))) }
         ensures table { IfOk result (λ started. IfSome started (IsAsInProfile self.old.responder.parameters.profile)) }
+        ensures worker { IfOk result (λ started. IfSome started (IsForItsWorker self.old.responder.outbox.workers)) }
         ensures laws { OnOk result ((start : Start) (steps : List Step) →
             IsTrace start steps self.old → BusLaws start self.new.trace) }
         ensures headline { OnOk result ((start : Start) (steps : List Step) →
@@ -225,6 +226,7 @@ fn happen(
         Stands responder.old collector.old s messages → IsAlteredInVain made.event) }
     ensures started { IfOk result (λ made. started_in made.event ≡ option_to_list (job_in made.started)) }
     ensures table { IfOk result (λ made. IfSome made.started (IsAsInProfile responder.old.parameters.profile)) }
+    ensures worker { IfOk result (λ made. IfSome made.started (IsForItsWorker responder.old.outbox.workers)) }
     ensures idle { collector.new.transaction ≡ None }
     ensures refused { IfErr result (λ e. (e ≢ PlayError.Reserved) × (e ≢ PlayError.TooLong)) }
     ensures astray { IsErrOf result PlayError.Astray → IsAstray responder.old step.now }
@@ -276,6 +278,7 @@ fn carry(
     ensures slots { IfSome (reply_in result.event) (λ slots. (i : ℕ) → slice_index slots i < 256) }
     ensures started { started_in result.event ≡ option_to_list (job_in result.started) }
     ensures table { IfSome result.started (IsAsInProfile responder.old.parameters.profile) }
+    ensures worker { IfSome result.started (IsForItsWorker responder.old.outbox.workers) }
 {
     // A slot is raised by less than 256.
     let _ = fault.raise();
@@ -305,6 +308,7 @@ fn answer_heard(responder: &mut Responder, heard: Option<Wire>) -> (Option<Wire>
     ensures reply { (h : History) → StandsFor responder.old h → result.0 ≡ option_and_then (reply_of h) heard }
     ensures job { (h : History) → StandsFor responder.old h → job_in result.1 ≡ option_and_then (job_of h) heard }
     ensures table { IfSome result.1 (IsAsInProfile responder.old.parameters.profile) }
+    ensures worker { IfSome result.1 (IsForItsWorker responder.old.outbox.workers) }
     ensures stands { (h : History) → StandsFor responder.old h →
         StandsFor responder.new (option_map_or (λ bytes. then_event h (HeardBytes bytes)) heard h) }
 {
@@ -319,6 +323,7 @@ fn answer(responder: &mut Responder, bytes: &Wire) -> (Option<Wire>, Option<Star
     ensures reply { (h : History) → StandsFor responder.old h → result.0 ≡ reply_of h bytes.now }
     ensures job { (h : History) → StandsFor responder.old h → job_in result.1 ≡ job_of h bytes.now }
     ensures table { IfSome result.1 (IsAsInProfile responder.old.parameters.profile) }
+    ensures worker { IfSome result.1 (IsForItsWorker responder.old.outbox.workers) }
     ensures stands { (h : History) → StandsFor responder.old h → StandsFor responder.new (then_event h (HeardBytes bytes.now)) }
 {
     let mut reply = Wire::new();

@@ -4,7 +4,7 @@ use Rattle.std.specs.Option.{option_map}
 use Rattle.rdm_device.specs.declared.profile.Profile.{Profile}
 use Rattle.rdm_params.specs.declared.kind.Verb.{Verb}
 use Rattle.rdm_params.specs.declared.kind.Verb.TheVariants.{Get, Set}
-use Rattle.rdm_params.specs.Jobs.Work.{worker_of, estimate_of}
+use Rattle.rdm_params.specs.Jobs.Work.{worker_at, estimate_of}
 use Rattle.rdm_outbox.specs.declared.job.Job.{Job}
 use Rattle.rdm_c.specs.declared.job.JobNumbers.{JobNumbers}
 use Rattle.rdm_c.specs.declared.job.SteppedNumbers.{SteppedNumbers}
@@ -26,7 +26,7 @@ numbers_of p job = record {
   pid = job.work.pid;
   command_class = class_of job.work.verb;
   argument = job.work.arg;
-  worker = worker_of job.work;
+  worker = worker_at p.workers job.work;
 }
 
 -- The job that numbers stand for, if the command class is one of the two. The estimate and the worker follow from the

@@ -9,13 +9,18 @@ use Rattle.rdm_device.specs.declared.profile.Slot.{Slot}
 use Rattle.rdm_device.specs.declared.profile.StatusText.{StatusText}
 use Rattle.rdm_device.specs.declared.profile.Unit.{Unit as DeviceUnit}
 use Rattle.rdm_device.specs.declared.profile.estimates.Estimates.{Estimates}
+use Rattle.rdm_device.specs.declared.profile.workers.Worker.{Worker}
+use Rattle.rdm_device.specs.declared.profile.workers.Worker.TheVariants.{First, Second}
+use Rattle.rdm_device.specs.declared.profile.workers.Workers.{Workers}
 use Rattle.rdm_device.specs.Device.Estimates.{usual}
+use Rattle.rdm_device.specs.Device.Workers.{usual_workers}
 use Rattle.rdm_c.specs.declared.profile.PersonalityNumbers.{PersonalityNumbers}
 use Rattle.rdm_c.specs.declared.profile.SlotNumbers.{SlotNumbers}
 use Rattle.rdm_c.specs.declared.profile.SensorNumbers.{SensorNumbers}
 use Rattle.rdm_c.specs.declared.profile.SelfTestNumbers.{SelfTestNumbers}
 use Rattle.rdm_c.specs.declared.profile.StatusTextNumbers.{StatusTextNumbers}
-use Rattle.rdm_c.specs.declared.profile.EstimatesNumbers.{EstimatesNumbers}
+use Rattle.rdm_c.specs.declared.profile.slow.EstimatesNumbers.{EstimatesNumbers}
+use Rattle.rdm_c.specs.declared.profile.slow.WorkersNumbers.{WorkersNumbers}
 use Rattle.rdm_c.specs.declared.profile.UnitNumbers.{UnitNumbers}
 use Rattle.rdm_c.specs.declared.profile.ProfileNumbers.{ProfileNumbers}
 use Rattle.rdm_c.specs.Parameters.{parameter_in}
@@ -59,6 +64,18 @@ estimates_in e = record {
   sensor = or_usual e.sensor usual.sensor;
 }
 
+-- the worker of a number, or for 0 the usual one
+abbrev pub worker_or : ℕ → Worker → Worker
+worker_or number usual_worker = if number == 0 then usual_worker else if number == 1 then First else Second
+
+abbrev pub workers_in : WorkersNumbers → Workers
+workers_in ws = record {
+  lamp = worker_or ws.lamp usual_workers.lamp;
+  power = worker_or ws.power usual_workers.power;
+  self_test = worker_or ws.self_test usual_workers.self_test;
+  sensor = worker_or ws.sensor usual_workers.sensor;
+}
+
 abbrev pub unit_in : UnitNumbers → DeviceUnit
 unit_in u = record {
   model = u.model;
@@ -89,4 +106,5 @@ profile_in p = record {
   without = record { items = p.without.now };
   more_slots = p.more_slots;
   estimates = estimates_in p.estimates;
+  workers = workers_in p.workers;
 }

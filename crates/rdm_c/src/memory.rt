@@ -6,7 +6,7 @@ ghost use Rattle.rdm_c.specs.Memory.{memory_size, memory_status, rounded};
 use crate::status::Status;
 
 /// How many bytes the profile takes.
-const PROFILE: usize = 4848;
+const PROFILE: usize = 4784;
 
 /// How many bytes a sub-device takes.
 const SUB_DEVICE: usize = 64;

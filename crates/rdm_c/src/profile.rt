@@ -3,15 +3,17 @@
 mod lists;
 pub(crate) mod making;
 pub(crate) mod parameters;
+pub(crate) mod slow;
 
 ghost use Rattle.std.specs.Prelude.{◌≡◌};
 ghost use Rattle.rdm_device.specs.Device.Faults.{with_parameters};
-ghost use Rattle.rdm_c.specs.Profiles.{or_usual, estimates_in, personality_in, slot_in, sensor_in, test_in, status_text_in, unit_in, profile_in};
+ghost use Rattle.rdm_c.specs.Profiles.{personality_in, slot_in, sensor_in, test_in, status_text_in, unit_in, profile_in};
 ghost use Rattle.rdm_c.specs.Texts.{text_in};
 
 use crate::profile::parameters::ParameterNumbers;
+use crate::profile::slow::{EstimatesNumbers, WorkersNumbers};
 use rdm_frame::Text;
-use rdm_params::{Estimates, Personality, Profile, SelfTest, SensorDef, Slot, StatusText, Unit};
+use rdm_params::{Personality, Profile, SelfTest, SensorDef, Slot, StatusText, Unit};
 
 /// A text. The header calls it `felosumay_text`.
 #[repr(C)]
@@ -93,21 +95,6 @@ pub struct StatusTextNumbers {
     pub text: TextNumbers,
 }
 
-/// How long slow commands take, in tenths of a second, and 0 for the usual time (section 6.3.3). The header calls it
-/// `felosumay_estimates`.
-#[repr(C)]
-#[derive(Clone, Copy)]
-pub struct EstimatesNumbers {
-    /// A SET of LAMP_STATE (section 10.8.4).
-    pub lamp: u16,
-    /// A SET of POWER_STATE (section 10.11).
-    pub power: u16,
-    /// A SET of PERFORM_SELFTEST (section 10.11).
-    pub self_test: u16,
-    /// A GET of SENSOR_VALUE, of a sensor that isn't answered at once (section 10.7.2).
-    pub sensor: u16,
-}
-
 /// What the root device and a sub-device each have (section 9). The header calls it `felosumay_unit`.
 #[repr(C)]
 #[derive(Clone, Copy)]
@@ -178,6 +165,8 @@ pub struct ProfileNumbers<'a> {
     pub without: &'a [u16],
     /// How long its slow commands take.
     pub estimates: EstimatesNumbers,
+    /// Which worker carries out which of them.
+    pub workers: WorkersNumbers,
 }
 
 impl TextNumbers {
@@ -259,28 +248,6 @@ impl StatusTextNumbers {
     }
 }
 
-impl EstimatesNumbers {
-    /// The estimates.
-    fn estimates(&self) -> Estimates
-        ensures { result ≡ estimates_in self.now }
-    {
-        let usual = Estimates::usual();
-        Estimates {
-            lamp: or_usual(self.lamp, usual.lamp),
-            power: or_usual(self.power, usual.power),
-            self_test: or_usual(self.self_test, usual.self_test),
-            sensor: or_usual(self.sensor, usual.sensor),
-        }
-    }
-}
-
-/// A time, or for 0 the usual one.
-fn or_usual(time: u16, usual: u16) -> u16
-    ensures { result ≡ or_usual time usual }
-{
-    if time == 0 { usual } else { time }
-}
-
 impl UnitNumbers {
     /// Makes a unit this one.
     fn write(&self, unit: &mut Unit)
@@ -313,6 +280,7 @@ impl ProfileNumbers<'_> {
         profile.presets = self.presets;
         profile.more_slots = self.more_slots;
         profile.estimates = self.estimates.estimates();
+        profile.workers = self.workers.workers();
     }
 
     /// Makes the lists of a profile those of this one.

@@ -8,9 +8,10 @@ use crate::message::{CommandNumbers, MessageNumbers};
 use crate::names::NameNumbers;
 use crate::outcome::OutcomeNumbers;
 use crate::profile::parameters::ParameterNumbers;
+use crate::profile::slow::{EstimatesNumbers, WorkersNumbers};
 use crate::profile::{
-    EstimatesNumbers, PersonalityNumbers, ProfileNumbers, SelfTestNumbers, SensorNumbers,
-    SlotNumbers, StatusTextNumbers, TextNumbers, UnitNumbers,
+    PersonalityNumbers, ProfileNumbers, SelfTestNumbers, SensorNumbers, SlotNumbers,
+    StatusTextNumbers, TextNumbers, UnitNumbers,
 };
 use crate::reply::ReplyNumbers;
 use std::mem::size_of;
@@ -31,11 +32,13 @@ const _: () = prove!(size_of::<StatusTextNumbers>() == 36);
 
 const _: () = prove!(size_of::<EstimatesNumbers>() == 8);
 
+const _: () = prove!(size_of::<WorkersNumbers>() == 4);
+
 const _: () = prove!(size_of::<UnitNumbers>() == 432);
 
 const _: () = prove!(size_of::<ParameterNumbers>() == 96);
 
-const _: () = prove!(size_of::<ProfileNumbers<'static>>() == 3648);
+const _: () = prove!(size_of::<ProfileNumbers<'static>>() == 3656);
 
 const _: () = prove!(size_of::<JobNumbers>() == 16);
 

@@ -1,59 +1,47 @@
 -- What a run of the bus makes of the account of jobs: the jobs that its events start are accepted, and as many of each
 -- worker have ended as reports on them have arrived.
-use Rattle.std.proofs.Common.{◌≡◌, ℕ, zero, suc, ◌+◌, ◌<◌, ◌==◌, Bool, true, false, cond, List, [], ◌∷◌, ◌++◌, length, map, drop, Option, Some, None, refl, sym, ap, subst, ◌∙◌, arith, append_assoc, append-nil}
-use Rattle.std.specs.Prelude.{filter, slice_get, nat_lt, Ok, Err}
-use Rattle.std.specs.Option.{option_map_or, option_and_then, option_to_list}
+use Rattle.std.proofs.Common.{◌≡◌, ℕ, zero, suc, ◌<◌, Bool, true, false, cond, List, [], ◌∷◌, ◌++◌, length, drop, Option, Some, None, refl, sym, ap, subst, ◌∙◌}
+use Rattle.std.specs.Prelude.{filter, slice_get, Ok, Err}
+use Rattle.std.specs.Option.{option_and_then, option_to_list}
 use Rattle.std.specs.Result.{result_ok}
 use Rattle.std.proofs.lemmas.Bool.{and_parts, ltb-true}
-use Rattle.std.proofs.lemmas.List.Sums.{fold_push, sum_by-cons}
 use Rattle.rdm_frame.specs.FrameText.{frame_text}
 use Rattle.rdm_frame.specs.Reading.{frame_in}
-use Rattle.rdm_params.specs.declared.panel.Change.{Change}
-use Rattle.rdm_params.specs.declared.jobs.ask.Ask.{Ask}
-use Rattle.rdm_params.specs.declared.jobs.message.Message.{Message}
-use Rattle.rdm_params.specs.declared.jobs.outcome.Outcome.{Outcome}
-use Rattle.rdm_params.specs.declared.jobs.outcome.Outcome.TheVariants.{Done, Reading, Failed}
 use Rattle.rdm_params.specs.declared.jobs.work.Work.{Work}
 use Rattle.rdm_params.specs.declared.verdict.Verdict.{Verdict}
 use Rattle.rdm_params.specs.declared.verdict.Verdict.TheVariants as verdict
-use Rattle.rdm_params.specs.Commands.Commands.{command_of, got, answer_to_set}
-use Rattle.rdm_params.specs.Commands.Panel.{change_message}
-use Rattle.rdm_params.specs.Device.Parameters.{Parameters}
+use Rattle.rdm_params.specs.Commands.Commands.{command_of}
 use Rattle.rdm_params.specs.Jobs.Laws.{GetStartsItsWork, SetStartsItsWork}
-use Rattle.rdm_params.specs.Jobs.Work.{worker_of}
+use Rattle.rdm_params.specs.Jobs.Work.{Choice, worker_at}
 use Rattle.rdm_params.specs.Table.Uses.{is_slow}
 use Rattle.rdm_outbox.specs.declared.job.Job.{Job}
 use Rattle.rdm_outbox.specs.declared.job.Full.TheVariants.{NoRoom}
 use Rattle.rdm_outbox.specs.Account as outbox
-use Rattle.rdm_outbox.specs.Jobs.{jobs_of, ended_of, outstanding_of, next_job, has_room, after_arrive}
-use Rattle.rdm_outbox.specs.Messages.{is_last, next_of, after_next, after_post}
-use Rattle.rdm_outbox.specs.Statuses.{after_clear, can_note, after_status_now}
-use Rattle.rdm_responder.specs.declared.report.Report.{Report}
-use Rattle.rdm_responder.specs.History as history
-use Rattle.rdm_responder.specs.History.{History, then_event}
+use Rattle.rdm_outbox.specs.Jobs.{jobs_of, ended_of, outstanding_of, next_job, has_room}
+use Rattle.rdm_responder.specs.History.{History}
 use Rattle.rdm_responder.specs.Requests.{Request, Ignored, Branch, Muting, Get, Set, request_in}
-use Rattle.rdm_responder.specs.Rules.{Account, account_of, account_before, account_after, account_with, job_with, job_of, outbox_after, started_by, after_message, after_outcome}
+use Rattle.rdm_responder.specs.Rules.{Account, account_of, job_with, job_of, started_by}
 use Rattle.rdm_responder.specs.Runs.{outbox_of}
 use Rattle.rdm_bus.specs.declared.event.Event.{Event}
 use Rattle.rdm_bus.specs.declared.event.Event.TheVariants.{Bus, Arrived, Changed}
 use Rattle.rdm_bus.specs.declared.event.Step.{Step}
 use Rattle.rdm_bus.specs.declared.event.Step.TheVariants as step
-use Rattle.rdm_bus.specs.declared.fault.Fault.{Fault}
-use Rattle.rdm_collector.specs.Collecting.{State, after_ask, after_poll, command_request, poll_request}
+use Rattle.rdm_collector.specs.Collecting.{command_request, poll_request}
 use Rattle.rdm_bus.specs.Faults.{request_heard}
-use Rattle.rdm_bus.specs.BusRun.{Start, controller_at, transaction, IsPlayed, after, after_all, IsBusRun}
-use Rattle.rdm_bus.specs.Happened.{started_in, arrived_in, jobs_in, reports_in, reports_of}
+use Rattle.rdm_bus.specs.BusRun.{Start, controller_at, IsPlayed, after, after_all, IsBusRun}
+use Rattle.rdm_bus.specs.Happened.{started_in, jobs_in, reports_in, reports_of}
 use Rattle.rdm_bus.proofs.Accounts.{workers_of, run_grows, ended_count}
 use Rattle.rdm_crew.specs.Setups.{switched_on}
 use Rattle.rdm_crew.specs.declared.setup.Setup.{Setup}
 
 -- ---- from the moment that the device is switched on
 
--- all that a run tells of the account
-pub record Tells (a : outbox.Account) (es : List Event) : Type 0 where
+-- all that a run of a device with this choice of workers tells of the account
+pub record Tells (ws : Choice) (a : outbox.Account) (es : List Event) : Type 0 where
   pub accepted : a.accepted ≡ jobs_in es
-  pub ended : a.ended ≡ workers_of (reports_in es)
+  pub ended : a.ended ≡ workers_of ws (reports_in es)
   pub most : a.jobs ≡ 4294967295
+  pub workers : a.workers ≡ ws
 
 no_jobs : (setup : Setup) → (outbox_of (switched_on setup).history).accepted ≡ []
 unfolding account_of
@@ -67,28 +55,38 @@ most_given : (setup : Setup) → (outbox_of (switched_on setup).history).jobs �
 unfolding account_of
 most_given setup = refl
 
-pub run_tells : (setup : Setup) (steps : List Step) (es : List Event) → IsBusRun (switched_on setup) steps es → Tells (outbox_of (after_all (switched_on setup) es).history) es
+pub first_choice : (setup : Setup) → (outbox_of (switched_on setup).history).workers ≡ setup.profile.workers
+unfolding account_of
+first_choice setup = refl
+
+pub run_tells : (setup : Setup) (steps : List Step) (es : List Event) → IsBusRun (switched_on setup) steps es → Tells setup.profile.workers (outbox_of (after_all (switched_on setup) es).history) es
 run_tells setup steps es run =
     let all = run_grows (switched_on setup) steps es run in
+    let before : Choice = (outbox_of (switched_on setup).history).workers in
     record {
       accepted = all.accepted ∙ ap (λ (l : List Job). l ++ jobs_in es) (no_jobs setup);
-      ended = all.ended ∙ ap (λ (l : List ℕ). l ++ workers_of (reports_in es)) (none_ended setup);
+      ended =
+          all.ended
+          ∙ ap (λ (l : List ℕ). l ++ workers_of before (reports_in es)) (none_ended setup)
+          ∙ ap (λ (ws : Choice). workers_of ws (reports_in es)) (first_choice setup);
       most = all.most ∙ most_given setup;
+      workers = all.workers ∙ first_choice setup;
     }
 
 -- ---- outstanding jobs
 
-pub outstanding_is : (a : outbox.Account) (es : List Event) (p : ℕ) → Tells a es → outstanding_of a p ≡ drop (length (reports_of p (reports_in es))) (jobs_of p (jobs_in es))
-outstanding_is a es p tells =
-    ap (λ (l : List ℕ). drop (ended_of p l) (jobs_of p a.accepted)) tells.ended
-    ∙ ap (λ (l : List Job). drop (ended_of p (workers_of (reports_in es))) (jobs_of p l)) tells.accepted
-    ∙ ap (λ n. drop n (jobs_of p (jobs_in es))) (ended_count p (reports_in es))
+pub outstanding_is : (ws : Choice) (a : outbox.Account) (es : List Event) (p : ℕ) → Tells ws a es → outstanding_of a p ≡ drop (length (reports_of ws p (reports_in es))) (jobs_of ws p (jobs_in es))
+outstanding_is ws a es p tells =
+    ap (λ (l : List ℕ). drop (ended_of p l) (jobs_of a.workers p a.accepted)) tells.ended
+    ∙ ap (λ (v : Choice). drop (ended_of p (workers_of ws (reports_in es))) (jobs_of v p a.accepted)) tells.workers
+    ∙ ap (λ (l : List Job). drop (ended_of p (workers_of ws (reports_in es))) (jobs_of ws p l)) tells.accepted
+    ∙ ap (λ n. drop n (jobs_of ws p (jobs_in es))) (ended_count ws p (reports_in es))
 
 -- ---- the jobs that start
 
 -- A slow command, for whose job its worker's number had room.
 pub record IsNextJob (a : outbox.Account) (j : Job) : Type 0 where
-  pub below : length (jobs_of (worker_of j.work) a.accepted) < a.jobs
+  pub below : length (jobs_of a.workers (worker_at a.workers j.work) a.accepted) < a.jobs
   pub slow : is_slow (command_of j.work.pid j.work.verb) ≡ true
 
 abbrev IfJob : (Job → Type 0) → Option Job → Type 0

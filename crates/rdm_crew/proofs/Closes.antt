@@ -4,7 +4,7 @@ use Rattle.std.specs.List.{list_any}
 use Rattle.std.proofs.lemmas.Bool.{eqb-true, eq-eqb}
 use Rattle.std.proofs.lemmas.Bool.Decides.{eqb_tells}
 use Rattle.std.proofs.lemmas.List.Elements.{filter-append}
-use Rattle.rdm_params.specs.Jobs.Work.{worker_of}
+use Rattle.rdm_params.specs.Jobs.Work.{Choice, worker_at}
 use Rattle.rdm_responder.specs.declared.report.Report.{Report}
 use Rattle.rdm_bus.specs.Happened.{reports_of}
 use Rattle.rdm_bus.specs.Headline.{Handed, Result as Came, Close, results_in, NothingAfterClose}
@@ -16,6 +16,7 @@ use Rattle.rdm_crew.specs.declared.bus.desk.Desk.{Desk}
 use Rattle.rdm_crew.specs.Closes.{handed_by, HasClosed, IsHandedOver, AfterTheMarkIsRuledOut}
 use Rattle.rdm_crew.specs.Desks.{OfTwo, IsDrawn}
 use Rattle.rdm_crew.specs.Settling.{IsTakenOf}
+use Rattle.rdm_crew.proofs.Accounts.{first_choice}
 use Rattle.rdm_crew.proofs.Sorted.{EachOwn, sorted}
 
 -- ---- what is handed over
@@ -80,21 +81,21 @@ none_after p es rs before after (rest, prefix) parts =
     (sym (append_assoc (of p before) (Mark p ∷ of p after) rest) ∙ ap (λ (l : List (Taken Report)). l ++ rest) (sym split) ∙ prefix))
 
 -- Where nothing is taken of a worker after its mark, nothing is handed over after its close.
-closes : (es before : List (Taken Report)) (all : List (Taken Report)) → all ≡ before ++ es
-    → ((p : ℕ) (front after : List (Taken Report)) → all ≡ front ++ Mark p ∷ after → reports_of p (items_of after) ≡ []) → NothingAfterClose (handed_by es)
-closes [] before all parts none = tt
-closes (Item q n r ∷ es) before all parts none = closes es (before ++ Item q n r ∷ []) all (parts ∙ sym (append_assoc before (Item q n r ∷ []) es)) none
-closes (Mark q ∷ es) before all parts none =
-    (ap (reports_of q) (handed_items es) ∙ none q before es parts, closes es (before ++ Mark q ∷ []) all (parts ∙ sym (append_assoc before (Mark q ∷ []) es)) none)
-closes (Empty ∷ es) before all parts none = closes es (before ++ Empty ∷ []) all (parts ∙ sym (append_assoc before (Empty ∷ []) es)) none
-closes (Closed ∷ es) before all parts none = closes es (before ++ Closed ∷ []) all (parts ∙ sym (append_assoc before (Closed ∷ []) es)) none
+closes : (ws : Choice) (es before : List (Taken Report)) (all : List (Taken Report)) → all ≡ before ++ es
+    → ((p : ℕ) (front after : List (Taken Report)) → all ≡ front ++ Mark p ∷ after → reports_of ws p (items_of after) ≡ []) → NothingAfterClose ws (handed_by es)
+closes ws [] before all parts none = tt
+closes ws (Item q n r ∷ es) before all parts none = closes ws es (before ++ Item q n r ∷ []) all (parts ∙ sym (append_assoc before (Item q n r ∷ []) es)) none
+closes ws (Mark q ∷ es) before all parts none =
+    (ap (reports_of ws q) (handed_items es) ∙ none q before es parts, closes ws es (before ++ Mark q ∷ []) all (parts ∙ sym (append_assoc before (Mark q ∷ []) es)) none)
+closes ws (Empty ∷ es) before all parts none = closes ws es (before ++ Empty ∷ []) all (parts ∙ sym (append_assoc before (Empty ∷ []) es)) none
+closes ws (Closed ∷ es) before all parts none = closes ws es (before ++ Closed ∷ []) all (parts ∙ sym (append_assoc before (Closed ∷ []) es)) none
 
-back_own : (front es : List (Taken Report)) → EachOwn (front ++ es) → EachOwn es
-back_own [] es own = own
-back_own (Item q n r ∷ front) es own = back_own front es own.1
-back_own (Mark q ∷ front) es own = back_own front es own
-back_own (Empty ∷ front) es own = back_own front es own
-back_own (Closed ∷ front) es own = back_own front es own
+back_own : (ws : Choice) (front es : List (Taken Report)) → EachOwn ws (front ++ es) → EachOwn ws es
+back_own ws [] es own = own
+back_own ws (Item q n r ∷ front) es own = back_own ws front es own.1
+back_own ws (Mark q ∷ front) es own = back_own ws front es own
+back_own ws (Empty ∷ front) es own = back_own ws front es own
+back_own ws (Closed ∷ front) es own = back_own ws front es own
 
 back_two : (front es : List (Taken Report)) → OfTwo (front ++ es) → OfTwo es
 back_two [] es two = two
@@ -104,65 +105,68 @@ back_two (Empty ∷ front) es two = back_two front es two
 back_two (Closed ∷ front) es two = back_two front es two
 
 -- there is no third worker
-not_third : (p q : ℕ) (r : Report) (rs : List Report) → q < 2 → reports_of (suc (suc p)) rs ≡ [] → cond (q == suc (suc p)) (r ∷ reports_of (suc (suc p)) rs) (reports_of (suc (suc p)) rs) ≡ []
-not_third p q r rs below none = ⊎_elim
+not_third : (ws : Choice) (p q : ℕ) (r : Report) (rs : List Report) → q < 2 → reports_of ws (suc (suc p)) rs ≡ [] → cond (q == suc (suc p)) (r ∷ reports_of ws (suc (suc p)) rs) (reports_of ws (suc (suc p)) rs) ≡ []
+not_third ws p q r rs below none = ⊎_elim
     (λ (y : ((q == suc (suc p)) ≡ true) × (q ≡ suc (suc p))). absurd (omega (arith, below, y.1)))
-    (λ (n : ((q == suc (suc p)) ≡ false) × (q ≢ suc (suc p))). ap (λ (own : Bool). cond own (r ∷ reports_of (suc (suc p)) rs) (reports_of (suc (suc p)) rs)) n.0 ∙ none)
+    (λ (n : ((q == suc (suc p)) ≡ false) × (q ≢ suc (suc p))). ap (λ (own : Bool). cond own (r ∷ reports_of ws (suc (suc p)) rs) (reports_of ws (suc (suc p)) rs)) n.0 ∙ none)
     (eqb_tells q (suc (suc p)))
 
-no_third : (p : ℕ) (es : List (Taken Report)) → OfTwo es → EachOwn es → reports_of (suc (suc p)) (items_of es) ≡ []
+no_third : (ws : Choice) (p : ℕ) (es : List (Taken Report)) → OfTwo es → EachOwn ws es → reports_of ws (suc (suc p)) (items_of es) ≡ []
 unfolding items_of
-no_third p [] two own = refl
-no_third p (Item q n r ∷ es) two own =
-    ap (λ w. cond (w == suc (suc p)) (r ∷ reports_of (suc (suc p)) (items_of es)) (reports_of (suc (suc p)) (items_of es))) own.0
-    ∙ not_third p q r (items_of es) two.0 (no_third p es two.1 own.1)
-no_third p (Mark q ∷ es) two own = no_third p es two own
-no_third p (Empty ∷ es) two own = no_third p es two own
-no_third p (Closed ∷ es) two own = no_third p es two own
+no_third ws p [] two own = refl
+no_third ws p (Item q n r ∷ es) two own =
+    ap (λ w. cond (w == suc (suc p)) (r ∷ reports_of ws (suc (suc p)) (items_of es)) (reports_of ws (suc (suc p)) (items_of es))) own.0
+    ∙ not_third ws p q r (items_of es) two.0 (no_third ws p es two.1 own.1)
+no_third ws p (Mark q ∷ es) two own = no_third ws p es two own
+no_third ws p (Empty ∷ es) two own = no_third ws p es two own
+no_third ws p (Closed ∷ es) two own = no_third ws p es two own
 
-module _ (d : Desk) (first second : List Report) (own : EachOwn d.reports.taken) (two : OfTwo d.reports.taken) (of_first : IsTakenOf 0 d.reports.taken first) (of_second : IsTakenOf 1 d.reports.taken second) where
-  none_later : (p : ℕ) (front after : List (Taken Report)) → d.reports.taken ≡ front ++ Mark p ∷ after → reports_of p (items_of after) ≡ []
-  none_later zero front after parts = sorted 0 after (back_own front (Mark 0 ∷ after) (subst EachOwn parts own)) ∙ none_after 0 d.reports.taken first front after of_first parts
-  none_later (suc zero) front after parts = sorted 1 after (back_own front (Mark 1 ∷ after) (subst EachOwn parts own)) ∙ none_after 1 d.reports.taken second front after of_second parts
-  none_later (suc (suc p)) front after parts = no_third p after (back_two front (Mark (suc (suc p)) ∷ after) (subst OfTwo parts two)) (back_own front (Mark (suc (suc p)) ∷ after) (subst EachOwn parts own))
+module _ (ws : Choice) (d : Desk) (first second : List Report) (own : EachOwn ws d.reports.taken) (two : OfTwo d.reports.taken) (of_first : IsTakenOf 0 d.reports.taken first) (of_second : IsTakenOf 1 d.reports.taken second) where
+  none_later : (p : ℕ) (front after : List (Taken Report)) → d.reports.taken ≡ front ++ Mark p ∷ after → reports_of ws p (items_of after) ≡ []
+  none_later zero front after parts = sorted ws 0 after (back_own ws front (Mark 0 ∷ after) (subst (EachOwn ws) parts own)) ∙ none_after 0 d.reports.taken first front after of_first parts
+  none_later (suc zero) front after parts = sorted ws 1 after (back_own ws front (Mark 1 ∷ after) (subst (EachOwn ws) parts own)) ∙ none_after 1 d.reports.taken second front after of_second parts
+  none_later (suc (suc p)) front after parts = no_third ws p after (back_two front (Mark (suc (suc p)) ∷ after) (subst OfTwo parts two)) (back_own ws front (Mark (suc (suc p)) ∷ after) (subst (EachOwn ws) parts own))
 
   -- what was taken, with both marks, is what was handed over
-  pub handed_over : IsDrawn d → IsOver d.reports → IsHandedOver d.system.trace (handed_by d.reports.taken)
+  pub handed_over : IsDrawn d → IsOver d.reports → IsHandedOver ws d.system.trace (handed_by d.reports.taken)
   handed_over is over =
       let posts : d.reports.posts ≡ 2 = is.posts in
       record {
         enters = sym is.all ∙ sym (handed_items d.reports.taken);
-        nothing_after_close = closes d.reports.taken [] d.reports.taken refl none_later;
+        nothing_after_close = closes ws d.reports.taken [] d.reports.taken refl none_later;
         first_closed = has_closed 0 d.reports.taken (over 0 (omega arith));
         second_closed = has_closed 1 d.reports.taken (over 1 (omega arith));
       }
 
 -- ---- what the headline rules out
 
-kept_none : (w : ℕ) (x : Report) (rs : List Report) (own? : Bool) → cond own? (x ∷ reports_of w rs) (reports_of w rs) ≡ [] → reports_of w rs ≡ []
-kept_none w x rs true e = absurd cc
-kept_none w x rs false e = e
+kept_none : (ws : Choice) (w : ℕ) (x : Report) (rs : List Report) (own? : Bool) → cond own? (x ∷ reports_of ws w rs) (reports_of ws w rs) ≡ [] → reports_of ws w rs ≡ []
+kept_none ws w x rs true e = absurd cc
+kept_none ws w x rs false e = e
 
 one_is_none : (r : Report) (rs : List Report) → r ∷ rs ≡ [] → ⊥
 one_is_none r rs e = cc
 
-has_later : (between after : List (Taken Report)) (p n : ℕ) (r : Report) → reports_of (worker_of r.job.work) (results_in (handed_by (between ++ Item p n r ∷ after))) ≡ [] → ⊥
-has_later [] after p n r none =
-    let w : ℕ = worker_of r.job.work in
-    let rest : List Report = reports_of w (results_in (handed_by after)) in
+has_later : (ws : Choice) (between after : List (Taken Report)) (p n : ℕ) (r : Report) → reports_of ws (worker_at ws r.job.work) (results_in (handed_by (between ++ Item p n r ∷ after))) ≡ [] → ⊥
+has_later ws [] after p n r none =
+    let w : ℕ = worker_at ws r.job.work in
+    let rest : List Report = reports_of ws w (results_in (handed_by after)) in
     one_is_none r rest (ap (λ (own : Bool). cond own (r ∷ rest) rest) (sym (eq-eqb w w refl)) ∙ none)
-has_later (Item q m x ∷ between) after p n r none =
-    has_later between after p n r (kept_none (worker_of r.job.work) x (results_in (handed_by (between ++ Item p n r ∷ after))) _ none)
-has_later (Mark q ∷ between) after p n r none = has_later between after p n r none
-has_later (Empty ∷ between) after p n r none = has_later between after p n r none
-has_later (Closed ∷ between) after p n r none = has_later between after p n r none
+has_later ws (Item q m x ∷ between) after p n r none =
+    has_later ws between after p n r (kept_none ws (worker_at ws r.job.work) x (results_in (handed_by (between ++ Item p n r ∷ after))) _ none)
+has_later ws (Mark q ∷ between) after p n r none = has_later ws between after p n r none
+has_later ws (Empty ∷ between) after p n r none = has_later ws between after p n r none
+has_later ws (Closed ∷ between) after p n r none = has_later ws between after p n r none
 
-not_later : (before between after : List (Taken Report)) (p n : ℕ) (r : Report) → NothingAfterClose (handed_by (before ++ Mark (worker_of r.job.work) ∷ between ++ Item p n r ∷ after)) → ⊥
-not_later [] between after p n r closed = has_later between after p n r closed.0
-not_later (Item q m x ∷ before) between after p n r closed = not_later before between after p n r closed
-not_later (Mark q ∷ before) between after p n r closed = not_later before between after p n r closed.1
-not_later (Empty ∷ before) between after p n r closed = not_later before between after p n r closed
-not_later (Closed ∷ before) between after p n r closed = not_later before between after p n r closed
+not_later : (ws : Choice) (before between after : List (Taken Report)) (p n : ℕ) (r : Report) → NothingAfterClose ws (handed_by (before ++ Mark (worker_at ws r.job.work) ∷ between ++ Item p n r ∷ after)) → ⊥
+not_later ws [] between after p n r closed = has_later ws between after p n r closed.0
+not_later ws (Item q m x ∷ before) between after p n r closed = not_later ws before between after p n r closed
+not_later ws (Mark q ∷ before) between after p n r closed = not_later ws before between after p n r closed.1
+not_later ws (Empty ∷ before) between after p n r closed = not_later ws before between after p n r closed
+not_later ws (Closed ∷ before) between after p n r closed = not_later ws before between after p n r closed
 
 pub after_the_mark : AfterTheMarkIsRuledOut
-after_the_mark setup steps before between after p n r events collected law = not_later before between after p n r law.headline.nothing_after_close
+after_the_mark setup steps before between after p n r events collected law =
+    let ws : Choice = setup.profile.workers in
+    not_later ws before between after p n r
+    (subst (λ (v : Choice). NothingAfterClose v (handed_by (before ++ Mark (worker_at ws r.job.work) ∷ between ++ Item p n r ∷ after))) (first_choice setup) law.headline.nothing_after_close)

@@ -4,7 +4,7 @@ use Rattle.std.specs.Prelude.{Ok, Err}
 use Rattle.std.proofs.lemmas.List.Concat.{flat_map-append}
 use Rattle.std.proofs.lemmas.List.Sums.{fold-append}
 use Rattle.rdm_outbox.specs.declared.job.Job.{Job}
-use Rattle.rdm_outbox.specs.Jobs.{outstanding_count}
+use Rattle.rdm_outbox.specs.Jobs.{jobs_of, outstanding_count}
 use Rattle.rdm_responder.specs.declared.report.Report.{Report}
 use Rattle.rdm_responder.specs.History.{History}
 use Rattle.rdm_responder.specs.Lawful.{MayArrive}
@@ -26,7 +26,8 @@ use Rattle.rdm_crew.specs.declared.bus.desk.Drawn.{Drawn}
 use Rattle.rdm_crew.specs.declared.bus.desk.Drawn.TheVariants as drawn
 use Rattle.rdm_crew.specs.declared.bus.stop.Stop.{Stop}
 use Rattle.rdm_crew.specs.declared.bus.stop.Stop.TheVariants as stop
-use Rattle.rdm_crew.specs.Desks.{began, stands_at, HasRun, OfTwo, IsDrawn, IsSuspect, IsSameDesk, HasArrived, HaveArrived, HaveSettled, IsCutShort, AfterDraw, nones_in}
+use Rattle.rdm_crew.specs.Crews.{jobs_for}
+use Rattle.rdm_crew.specs.Desks.{chosen, began, stands_at, HasRun, OfTwo, IsDrawn, IsSuspect, IsSameDesk, HasArrived, HaveArrived, HaveSettled, IsCutShort, AfterDraw, nones_in}
 use Rattle.rdm_bus.specs.Happened.{started_in, arrived_in, jobs_in, reports_in}
 use Rattle.rdm_crew.specs.RunTrace.{AreArrivals}
 use Rattle.rdm_crew.specs.Setups.{switched_on}
@@ -224,6 +225,10 @@ module _ (d e : Desk) (t : Taken Report) (is : IsSuspect d) (same : e.setup ≡ 
 
 pub none_arrived : (d : Desk) → HaveArrived d d
 none_arrived d = ([], sym (append-nil d.system.trace), tt)
+
+-- the jobs of a worker, where the setup stays and no further job has started
+pub jobs_stay : (p : ℕ) (d e : Desk) → e.setup ≡ d.setup → jobs_in e.system.trace ≡ jobs_in d.system.trace → jobs_for p d ≡ jobs_for p e
+jobs_stay p d e same jobs = ap (λ s. jobs_of s.value.profile.workers p (jobs_in d.system.trace)) (sym same) ∙ ap (jobs_of (chosen e) p) (sym jobs)
 
 pub stands_after : (d e : Desk) (es : List Event) → e.setup ≡ d.setup → e.system.trace ≡ d.system.trace ++ es → stands_at e ≡ after_all (stands_at d) es
 stands_after d e es same longer =

@@ -3,7 +3,7 @@ use Rattle.std.proofs.Common.{◌≡◌, ℕ, zero, suc, ◌<◌, ◌==◌, fals
 use Rattle.std.specs.Prelude.{slice_get, slice_index_or}
 use Rattle.rdm_params.specs.declared.jobs.outcome.Outcome.{Outcome}
 use Rattle.rdm_params.specs.Jobs.Laws.{GetStartsItsWork, SetStartsItsWork}
-use Rattle.rdm_params.specs.Jobs.Work.{worker_of}
+use Rattle.rdm_params.specs.Jobs.Work.{Choice, worker_at}
 use Rattle.rdm_outbox.specs.declared.job.Job.{Job}
 use Rattle.rdm_outbox.specs.Jobs.{jobs_of, outstanding_of, outstanding_count}
 use Rattle.rdm_responder.specs.declared.report.Report.{Report}
@@ -20,8 +20,8 @@ use Rattle.rdm_lane.proofs.ThreeSentences.{takes_a_prefix, whole_at_its_mark}
 use Rattle.rdm_crew.specs.declared.bus.desk.Desk.{Desk}
 use Rattle.rdm_crew.specs.declared.threads.worker.Worked.{Worked}
 use Rattle.rdm_crew.specs.Closes.{handed_by, IsHandedOver}
-use Rattle.rdm_crew.specs.Crews.{HasJobs}
-use Rattle.rdm_crew.specs.Desks.{stands_at, OfTwo, IsDrawn, IsSuspect}
+use Rattle.rdm_crew.specs.Crews.{HasJobs, jobs_for}
+use Rattle.rdm_crew.specs.Desks.{stands_at, chosen, OfTwo, IsDrawn, IsSuspect}
 use Rattle.rdm_bus.specs.Happened.{jobs_in, reports_in, reports_of}
 use Rattle.rdm_crew.specs.Law.{FourLists}
 use Rattle.rdm_crew.specs.RunTrace.{IsAnswered, FitsFor}
@@ -29,6 +29,7 @@ use Rattle.rdm_crew.specs.Settling.{IsTakenOf, IsSettled, IsLaneOfOne, IsLaneOfR
 use Rattle.rdm_crew.specs.Workers.{Answers, IsWorked}
 use Rattle.rdm_crew.proofs.Accounts.{Tells, run_tells, outstanding_is, IsSlowJob, all_slow, at_filter, first_left}
 use Rattle.rdm_crew.proofs.Closes.{handed_over}
+use Rattle.rdm_crew.proofs.Drawing.{jobs_stay}
 use Rattle.rdm_crew.proofs.Items.{from-append}
 use Rattle.rdm_crew.proofs.Law.{none_astray, none_missing}
 use Rattle.rdm_crew.proofs.Sorted.{EachOwn, AreOn, sorted, each_own, reports_on, own_job, own_item}
@@ -50,9 +51,9 @@ module _ (p : ℕ) (gives : Job → Outcome → Type 0) (t : TakeState Job) (q :
       ∙ drawn_front.1
 
   -- each is on a job of this worker
-  pub on_own : (accepted : List Job) (front more : List (Taken Report)) → post.items ≡ jobs_of p accepted → reports.taken ≡ front ++ more → AreOn p (items_from p front)
-  on_own accepted front more has parts =
-      reports_on gives p accepted (items_from 0 w.jobs.taken) took_front.0 w.reports.items (items_from p front) (items_from p more ++ drawn_front.0) worked.answers (took_front.1 ∙ has) (front_parts front more parts)
+  pub on_own : (ws : Choice) (accepted : List Job) (front more : List (Taken Report)) → post.items ≡ jobs_of ws p accepted → reports.taken ≡ front ++ more → AreOn ws p (items_from p front)
+  on_own ws accepted front more has parts =
+      reports_on ws gives p accepted (items_from 0 w.jobs.taken) took_front.0 w.reports.items (items_from p front) (items_from p more ++ drawn_front.0) worked.answers (took_front.1 ∙ has) (front_parts front more parts)
 
   -- its four lists are those of the law
   pub four_lists : FourLists gives post.items (items_from 0 w.jobs.taken) w.reports.items (items_from p reports.taken) (has_mark 0 w.jobs.taken) (has_mark p reports.taken) w.refused
@@ -92,65 +93,69 @@ length-none n js e = omega (arith, length-drop n js)
 module _ (g0 g1 : Job → Outcome → Type 0) (t u : TakeState Job) (v x : PostState Report) (first second : PostState Job) (d : Desk) (a b : Worked)
     (first_worked : IsWorked g0 t v a) (second_worked : IsWorked g1 u x b) (first_settled : IsSettled 0 first d.reports a) (second_settled : IsSettled 1 second d.reports b)
     (jobs : HasJobs d first second) where
+  abbrev ws : Choice
+  ws = chosen d
+
   -- each report that was taken first is on a job of the worker that sent it
-  front_own : (front more : List (Taken Report)) → d.reports.taken ≡ front ++ more → OfTwo front → EachOwn front
+  front_own : (front more : List (Taken Report)) → d.reports.taken ≡ front ++ more → OfTwo front → EachOwn ws front
   front_own front more parts two =
-      each_own front two (below_two (λ p. AreOn p (items_from p front))
-      (on_own 0 g0 t v first d.reports a first_worked first_settled (jobs_in d.system.trace) front more jobs.0 parts)
-      (on_own 1 g1 u x second d.reports b second_worked second_settled (jobs_in d.system.trace) front more jobs.1 parts))
+      each_own ws front two (below_two (λ p. AreOn ws p (items_from p front))
+      (on_own 0 g0 t v first d.reports a first_worked first_settled ws (jobs_in d.system.trace) front more jobs.0 parts)
+      (on_own 1 g1 u x second d.reports b second_worked second_settled ws (jobs_in d.system.trace) front more jobs.1 parts))
 
   -- the reports of a worker that arrived are those that it sent
-  arrived_from : (p : ℕ) (front more : List (Taken Report)) → d.reports.taken ≡ front ++ more → OfTwo front → items_of front ≡ reports_in d.system.trace → reports_of p (reports_in d.system.trace) ≡ items_from p front
-  arrived_from p front more parts two all = ap (reports_of p) (sym all) ∙ sorted p front (front_own front more parts two)
+  arrived_from : (p : ℕ) (front more : List (Taken Report)) → d.reports.taken ≡ front ++ more → OfTwo front → items_of front ≡ reports_in d.system.trace → reports_of ws p (reports_in d.system.trace) ≡ items_from p front
+  arrived_from p front more parts two all = ap (reports_of ws p) (sym all) ∙ sorted ws p front (front_own front more parts two)
 
-  answered : (p : ℕ) (gives : Job → Outcome → Type 0) (post : PostState Job) → IsDrawn d → post.items ≡ jobs_of p (jobs_in d.system.trace)
-      → Answers gives post.items (items_from p d.reports.taken) × (length post.items ≡ length (items_from p d.reports.taken)) → IsAnswered p gives d.system.trace
+  answered : (p : ℕ) (gives : Job → Outcome → Type 0) (post : PostState Job) → IsDrawn d → post.items ≡ jobs_of ws p (jobs_in d.system.trace)
+      → Answers gives post.items (items_from p d.reports.taken) × (length post.items ≡ length (items_from p d.reports.taken)) → IsAnswered ws p gives d.system.trace
   answered p gives post is has all =
-      let same : reports_of p (reports_in d.system.trace) ≡ items_from p d.reports.taken = arrived_from p d.reports.taken [] (sym (append-nil d.reports.taken)) is.two is.all in
+      let same : reports_of ws p (reports_in d.system.trace) ≡ items_from p d.reports.taken = arrived_from p d.reports.taken [] (sym (append-nil d.reports.taken)) is.two is.all in
       record {
-        answers = subst (Answers gives (jobs_of p (jobs_in d.system.trace))) (sym same) (subst (λ (l : List Job). Answers gives l (items_from p d.reports.taken)) has all.0);
+        answers = subst (Answers gives (jobs_of ws p (jobs_in d.system.trace))) (sym same) (subst (λ (l : List Job). Answers gives l (items_from p d.reports.taken)) has all.0);
         all = ap length (sym has) ∙ all.1 ∙ ap length (sym same);
       }
 
   -- every job of both workers has its report
-  pub first_answered : IsDrawn d → IsOver d.reports → t.posts ≡ 1 → a.refused ≡ false → IsAnswered 0 g0 d.system.trace
+  pub first_answered : IsDrawn d → IsOver d.reports → t.posts ≡ 1 → a.refused ≡ false → IsAnswered ws 0 g0 d.system.trace
   first_answered is over one not_refused =
       let posts : d.reports.posts ≡ 2 = is.posts in
       answered 0 g0 first is jobs.0 (all_answered 0 g0 t v first d.reports a first_worked first_settled one (omega arith) over not_refused)
 
-  pub second_answered : IsDrawn d → IsOver d.reports → u.posts ≡ 1 → b.refused ≡ false → IsAnswered 1 g1 d.system.trace
+  pub second_answered : IsDrawn d → IsOver d.reports → u.posts ≡ 1 → b.refused ≡ false → IsAnswered ws 1 g1 d.system.trace
   second_answered is over one not_refused =
       let posts : d.reports.posts ≡ 2 = is.posts in
       answered 1 g1 second is jobs.1 (all_answered 1 g1 u x second d.reports b second_worked second_settled one (omega arith) over not_refused)
 
   -- what both workers handed over, with their closes
-  pub handed : IsDrawn d → IsOver d.reports → IsHandedOver d.system.trace (handed_by d.reports.taken)
+  pub handed : IsDrawn d → IsOver d.reports → IsHandedOver ws d.system.trace (handed_by d.reports.taken)
   handed is over =
-      handed_over d a.reports.items b.reports.items (front_own d.reports.taken [] (sym (append-nil d.reports.taken)) is.two) is.two first_settled.sent second_settled.sent is over
+      handed_over ws d a.reports.items b.reports.items (front_own d.reports.taken [] (sym (append-nil d.reports.taken)) is.two) is.two first_settled.sent second_settled.sent is over
 
   -- a suspected report may arrive after all
-  may_arrive : (gets : GetStartsItsWork) (sets : SetStartsItsWork) (p : ℕ) (gives : Job → Outcome → Type 0) (post : PostState Job) (is : IsSuspect d) → FitsFor p gives → post.items ≡ jobs_of p (jobs_in d.system.trace)
+  may_arrive : (gets : GetStartsItsWork) (sets : SetStartsItsWork) (p : ℕ) (gives : Job → Outcome → Type 0) (post : PostState Job) (is : IsSuspect d) → FitsFor ws p gives → post.items ≡ jobs_of ws p (jobs_in d.system.trace)
       → (slice_get post.items (length (items_from p is.before)) ≡ Some is.report.job) × gives is.report.job is.report.outcome → MayArrive (account_of (stands_at d).history) is.report
   may_arrive gets sets p gives post is fits has next =
       let es = d.system.trace in
       let j : Job = is.report.job in
-      let tells : Tells (outbox_of (stands_at d).history) es = run_tells d.setup.value is.run.0 es is.run.1.run in
-      let many : length (reports_of p (reports_in es)) ≡ length (items_from p is.before) = ap length (arrived_from p is.before (Item is.producer is.number is.report ∷ is.after) is.taken is.two is.all) in
-      let at : slice_get (jobs_of p (jobs_in es)) (length (items_from p is.before)) ≡ Some j = ap (λ (l : List Job). slice_get l (length (items_from p is.before))) (sym has) ∙ next.0 in
-      let own : worker_of j.work ≡ p = own_job p (jobs_in es) (length (items_from p is.before)) j at in
-      let slow : IsSlowJob j = (at_filter IsSlowJob (λ k. worker_of k.work == p) (jobs_in es) (length (items_from p is.before)) j (all_slow gets sets _ is.run.0 es is.run.1.run) at).0 in
+      let tells : Tells ws (outbox_of (stands_at d).history) es = run_tells d.setup.value is.run.0 es is.run.1.run in
+      let many : length (reports_of ws p (reports_in es)) ≡ length (items_from p is.before) = ap length (arrived_from p is.before (Item is.producer is.number is.report ∷ is.after) is.taken is.two is.all) in
+      let at : slice_get (jobs_of ws p (jobs_in es)) (length (items_from p is.before)) ≡ Some j = ap (λ (l : List Job). slice_get l (length (items_from p is.before))) (sym has) ∙ next.0 in
+      let own : worker_at ws j.work ≡ p = own_job ws p (jobs_in es) (length (items_from p is.before)) j at in
+      let slow : IsSlowJob j = (at_filter IsSlowJob (λ k. worker_at ws k.work == p) (jobs_in es) (length (items_from p is.before)) j (all_slow gets sets _ is.run.0 es is.run.1.run) at).0 in
       let first_of : slice_get (outstanding_of (outbox_of (stands_at d).history) p) 0 ≡ Some j =
-      ap (λ (l : List Job). slice_get l 0) (outstanding_is (outbox_of (stands_at d).history) es p tells)
-      ∙ first_left (length (reports_of p (reports_in es))) (jobs_of p (jobs_in es))
-      ∙ ap (slice_get (jobs_of p (jobs_in es))) many
+      ap (λ (l : List Job). slice_get l 0) (outstanding_is ws (outbox_of (stands_at d).history) es p tells)
+      ∙ first_left (length (reports_of ws p (reports_in es))) (jobs_of ws p (jobs_in es))
+      ∙ ap (slice_get (jobs_of ws p (jobs_in es))) many
       ∙ at in
       record {
-        oldest = subst (λ (w : ℕ). slice_get (outstanding_of (outbox_of (stands_at d).history) w) 0 ≡ Some j) (sym own) first_of;
+        oldest = subst (λ (v : Choice). slice_get (outstanding_of (outbox_of (stands_at d).history) (worker_at v j.work)) 0 ≡ Some j) (sym tells.workers)
+            (subst (λ (w : ℕ). slice_get (outstanding_of (outbox_of (stands_at d).history) w) 0 ≡ Some j) (sym own) first_of);
         fits = fits j is.report.outcome slow own next.1;
       }
 
   -- so none is astray
-  pub not_astray : GetStartsItsWork → SetStartsItsWork → FitsFor 0 g0 → FitsFor 1 g1 → IsSuspect d → ⊥
+  pub not_astray : GetStartsItsWork → SetStartsItsWork → FitsFor ws 0 g0 → FitsFor ws 1 g1 → IsSuspect d → ⊥
   not_astray gets sets fits_0 fits_1 is =
       is.astray (below_two (λ p. is.producer ≡ p → MayArrive (account_of (stands_at d).history) is.report)
       (λ e. may_arrive gets sets 0 g0 first is fits_0 jobs.0 (next_is 0 g0 t v first d.reports a first_worked first_settled is.number is.report is.before is.after (subst (λ (p : ℕ). d.reports.taken ≡ is.before ++ Item p is.number is.report ∷ is.after) e is.taken)))
@@ -158,23 +163,23 @@ module _ (g0 g1 : Job → Outcome → Type 0) (t u : TakeState Job) (v x : PostS
       is.producer is.below refl)
 
 -- no job is outstanding where each has its report
-pub none_outstanding : (d : Desk) (g0 g1 : Job → Outcome → Type 0) → IsDrawn d → IsAnswered 0 g0 d.system.trace → IsAnswered 1 g1 d.system.trace → outstanding_count (outbox_of (stands_at d).history) ≡ 0
+pub none_outstanding : (d : Desk) (g0 g1 : Job → Outcome → Type 0) → IsDrawn d → IsAnswered (chosen d) 0 g0 d.system.trace → IsAnswered (chosen d) 1 g1 d.system.trace → outstanding_count (outbox_of (stands_at d).history) ≡ 0
 none_outstanding d g0 g1 is one two =
+    let ws : Choice = chosen d in
     let es = d.system.trace in
-    let tells : Tells (outbox_of (stands_at d).history) es = run_tells d.setup.value is.run.0 es is.run.1.run in
-    let none : (p : ℕ) → length (jobs_of p (jobs_in es)) ≡ length (reports_of p (reports_in es)) → length (outstanding_of (outbox_of (stands_at d).history) p) ≡ 0 = λ p all.
-    ap length (outstanding_is (outbox_of (stands_at d).history) es p tells) ∙ length-none (length (reports_of p (reports_in es))) (jobs_of p (jobs_in es)) all in
+    let tells : Tells ws (outbox_of (stands_at d).history) es = run_tells d.setup.value is.run.0 es is.run.1.run in
+    let none : (p : ℕ) → length (jobs_of ws p (jobs_in es)) ≡ length (reports_of ws p (reports_in es)) → length (outstanding_of (outbox_of (stands_at d).history) p) ≡ 0 = λ p all.
+    ap length (outstanding_is ws (outbox_of (stands_at d).history) es p tells) ∙ length-none (length (reports_of ws p (reports_in es))) (jobs_of ws p (jobs_in es)) all in
     omega (arith, none 0 one.all, none 1 two.all)
 
 pub never_missing : (n m : ℕ) → n ≡ m → m ≡ 0 → 0 < n → ⊥
 never_missing n m same none some = omega arith
 
 -- the jobs are the same where nothing has happened
-pub still_has_jobs : (d e : Desk) (first second : PostState Job) → e.system ≡ d.system → HasJobs d first second → HasJobs e first second
-still_has_jobs d e first second still has = (
-  has.0 ∙ ap (λ (p : Played). jobs_of 0 (jobs_in p.trace)) (sym still),
-  has.1 ∙ ap (λ (p : Played). jobs_of 1 (jobs_in p.trace)) (sym still),
-)
+pub still_has_jobs : (d e : Desk) (first second : PostState Job) → e.setup ≡ d.setup → e.system ≡ d.system → HasJobs d first second → HasJobs e first second
+still_has_jobs d e first second same still has =
+    let stay : (p : ℕ) → jobs_for p d ≡ jobs_for p e = λ p. jobs_stay p d e same (ap (λ (s : Played). jobs_in s.trace) still) in
+    (has.0 ∙ stay 0, has.1 ∙ stay 1)
 
 -- ---- a lane with one post
 

@@ -1,15 +1,17 @@
 -- What each step makes of a crew.
 use Rattle.std.proofs.Common.{◌≡◌, ℕ, ◌+◌, ◌<◌, ◌==◌, List, [], ◌∷◌, ◌++◌, length, drop, get_or, Some, refl, sym, ap, subst, ◌∙◌, arith, append_assoc, append-nil, add-one}
-use Rattle.std.specs.Prelude.{Result, Ok, Err, MatchResult}
+use Rattle.std.specs.Prelude.{Option, Result, Ok, Err, IfSome, MatchResult}
 use Rattle.std.proofs.Math.Seq.{drop-cons}
 use Rattle.std.proofs.lemmas.List.Elements.{filter-append}
 use Rattle.rdm_params.specs.declared.panel.Change.{Change}
 use Rattle.rdm_params.specs.Jobs.Laws.{GetStartsItsWork, SetStartsItsWork}
-use Rattle.rdm_params.specs.Jobs.Work.{worker_of}
+use Rattle.rdm_params.specs.Jobs.Work.{Choice, worker_at}
 use Rattle.rdm_outbox.specs.declared.job.Job.{Job}
 use Rattle.rdm_outbox.specs.Jobs.{jobs_of}
 use Rattle.rdm_responder.specs.declared.report.Report.{Report}
 use Rattle.rdm_responder.specs.Runs.{outbox_of}
+use Rattle.rdm_responder.specs.Started.{IsForItsWorker}
+use Rattle.rdm_responder.specs.declared.stepped.Started.{Started}
 use Rattle.rdm_bus.specs.declared.event.Event.{Event}
 use Rattle.rdm_bus.specs.declared.event.Step.{Step}
 use Rattle.rdm_bus.specs.declared.event.Step.TheVariants as bus
@@ -29,15 +31,15 @@ use Rattle.rdm_crew.specs.declared.step.CrewStep.{CrewStep}
 use Rattle.rdm_crew.specs.declared.step.CrewStep.TheVariants.{Ask, Collect, Draw, Settle}
 use Rattle.rdm_crew.specs.declared.bus.stop.Stop.{Stop}
 use Rattle.rdm_crew.specs.declared.bus.stop.Stop.TheVariants as stop
-use Rattle.rdm_crew.specs.Crews.{HasJobs, HasChanged, IsTied, IsSameCrew, IsSent, HasSent, HasPlayed, HavePlayed, IsRefused, IsStopped}
-use Rattle.rdm_crew.specs.Desks.{stands_at, HasRun, OfTwo, IsDrawn, IsSameDesk, HasArrived, HaveArrived, HaveSettled, IsCutShort, AfterDraw}
+use Rattle.rdm_crew.specs.Crews.{HasJobs, jobs_for, HasChanged, IsTied, IsSameCrew, IsSent, HasSent, HasPlayed, HavePlayed, IsRefused, IsStopped}
+use Rattle.rdm_crew.specs.Desks.{stands_at, chosen, HasRun, OfTwo, IsDrawn, IsSameDesk, HasArrived, HaveArrived, HaveSettled, IsCutShort, AfterDraw}
 use Rattle.rdm_bus.specs.Happened.{started_in, arrived_in, jobs_in, reports_in}
 use Rattle.rdm_crew.specs.RunTrace.{AreArrivals, IsCut, refusal_at}
 use Rattle.rdm_crew.specs.Stops.{stop_of}
 use Rattle.rdm_crew.specs.Workers.{most}
 use Rattle.rdm_crew.proofs.Accounts.{IsNextJob, Each, Tells, event_starts, run_tells}
 use Rattle.rdm_crew.proofs.Changing.{change_quiet, change_starts}
-use Rattle.rdm_crew.proofs.Drawing.{jobs-more, reports-more, same_jobs, stands_after, same_desk}
+use Rattle.rdm_crew.proofs.Drawing.{jobs-more, reports-more, same_jobs, jobs_stay, stands_after, same_desk}
 
 -- ---- a command or a poll
 
@@ -73,47 +75,59 @@ sent_desk d e p event is quiet done = record {
 
 -- ---- the job that starts
 
-jobs_of-more : (p : ℕ) (es : List Event) (e : Event) → jobs_of p (jobs_in (es ++ e ∷ [])) ≡ jobs_of p (jobs_in es) ++ jobs_of p (started_in e)
-jobs_of-more p es e = ap (jobs_of p) (jobs-more es e) ∙ filter-append (λ (j : Job). worker_of j.work == p) (jobs_in es) (started_in e)
+jobs_of-more : (ws : Choice) (p : ℕ) (es : List Event) (e : Event) → jobs_of ws p (jobs_in (es ++ e ∷ [])) ≡ jobs_of ws p (jobs_in es) ++ jobs_of ws p (started_in e)
+jobs_of-more ws p es e = ap (jobs_of ws p) (jobs-more es e) ∙ filter-append (λ (j : Job). worker_at ws j.work == p) (jobs_in es) (started_in e)
 
 -- the lanes where a job started, and where none did
-pub has_jobs : (d e : Desk) (event : Event) (js : List Job) (f1 s1 f2 s2 : PostState Job) → HasJobs d f1 s1 → e.system.trace ≡ d.system.trace ++ event ∷ [] → js ≡ started_in event
-    → f2.items ≡ f1.items ++ jobs_of 0 js → s2.items ≡ s1.items ++ jobs_of 1 js → HasJobs e f2 s2
-has_jobs d e event js f1 s1 f2 s2 has longer started first second =
-    let more : (p : ℕ) → jobs_of p (jobs_in d.system.trace) ++ jobs_of p js ≡ jobs_of p (jobs_in e.system.trace) = λ p.
-    ap (λ (l : List Job). jobs_of p (jobs_in d.system.trace) ++ jobs_of p l) started ∙ sym (ap (λ (l : List Event). jobs_of p (jobs_in l)) longer ∙ jobs_of-more p d.system.trace event) in (
-      first ∙ ap (λ (l : List Job). l ++ jobs_of 0 js) has.0 ∙ more 0,
-      second ∙ ap (λ (l : List Job). l ++ jobs_of 1 js) has.1 ∙ more 1,
+pub has_jobs : (d e : Desk) (event : Event) (js : List Job) (f1 s1 f2 s2 : PostState Job) → HasJobs d f1 s1 → e.setup ≡ d.setup → e.system.trace ≡ d.system.trace ++ event ∷ [] → js ≡ started_in event
+    → f2.items ≡ f1.items ++ jobs_of (chosen d) 0 js → s2.items ≡ s1.items ++ jobs_of (chosen d) 1 js → HasJobs e f2 s2
+has_jobs d e event js f1 s1 f2 s2 has same longer started first second =
+    let ws : Choice = chosen d in
+    let more : (p : ℕ) → jobs_for p d ++ jobs_of ws p js ≡ jobs_for p e = λ p.
+    ap (λ (l : List Job). jobs_for p d ++ jobs_of ws p l) started
+    ∙ sym (ap (λ s. jobs_of s.value.profile.workers p (jobs_in e.system.trace)) same ∙ ap (λ (l : List Event). jobs_of ws p (jobs_in l)) longer ∙ jobs_of-more ws p d.system.trace event) in (
+      first ∙ ap (λ (l : List Job). l ++ jobs_of ws 0 js) has.0 ∙ more 0,
+      second ∙ ap (λ (l : List Job). l ++ jobs_of ws 1 js) has.1 ∙ more 1,
     )
+
+-- the worker by whose number a job that starts is handed on is the one that has it by the choice of the run
+pub own_worker : (d : Desk) (o : Option Started) (s : Started) → HasRun d → IfSome o (IsForItsWorker d.system.responder.outbox.workers) → o ≡ Some s → IsForItsWorker (chosen d) s
+own_worker d o s run its is =
+    let tells : Tells (chosen d) (outbox_of (stands_at d).history) d.system.trace = run_tells d.setup.value run.0 d.system.trace run.1.run in
+    subst (λ (ws : Choice). IsForItsWorker ws s) (run.1.stands.responder.outbox.workers ∙ tells.workers)
+    (subst (λ (x : Option Started). IfSome x (IsForItsWorker d.system.responder.outbox.workers)) is its)
 
 -- there is room in its lane for a job that starts
 below_most : GetStartsItsWork → SetStartsItsWork → (d : Desk) (p : Step) (event : Event) (j : Job) → HasRun d → IsPlayed (stands_at d) p event → j ∷ [] ≡ started_in event
-    → length (jobs_of (worker_of j.work) (jobs_in d.system.trace)) < most
+    → length (jobs_for (worker_at (chosen d) j.work) d) < most
 below_most gets sets d p event j run is started =
     let next : IsNextJob (outbox_of (stands_at d).history) j = (subst (Each (IsNextJob (outbox_of (stands_at d).history))) (sym started) (event_starts gets sets (stands_at d) p event is)).0 in
-    let tells : Tells (outbox_of (stands_at d).history) d.system.trace = run_tells d.setup.value run.0 d.system.trace run.1.run in
-    subst (λ (n : ℕ). length (jobs_of (worker_of j.work) (jobs_in d.system.trace)) < n) tells.most
-    (subst (λ (l : List Job). length (jobs_of (worker_of j.work) l) < (outbox_of (stands_at d).history).jobs) tells.accepted next.below)
+    let ws : Choice = chosen d in
+    let a = outbox_of (stands_at d).history in
+    let tells : Tells ws a d.system.trace = run_tells d.setup.value run.0 d.system.trace run.1.run in
+    subst (λ (n : ℕ). length (jobs_for (worker_at ws j.work) d) < n) tells.most
+    (subst (λ (l : List Job). length (jobs_of ws (worker_at ws j.work) l) < a.jobs) tells.accepted
+    (subst (λ (v : Choice). length (jobs_of v (worker_at v j.work) a.accepted) < a.jobs) tells.workers next.below))
 
-pub first_has_room : GetStartsItsWork → SetStartsItsWork → (c : Crew) (p : Step) (event : Event) (j : Job) → IsTied c → IsPlayed (stands_at c.desk) p event → j ∷ [] ≡ started_in event → worker_of j.work ≡ 0 → length c.first.items < c.first.limit
+pub first_has_room : GetStartsItsWork → SetStartsItsWork → (c : Crew) (p : Step) (event : Event) (j : Job) → IsTied c → IsPlayed (stands_at c.desk) p event → j ∷ [] ≡ started_in event → worker_at (chosen c.desk) j.work ≡ 0 → length c.first.items < c.first.limit
 first_has_room gets sets c p event j tied is started own =
     let below = below_most gets sets c.desk p event j tied.drawn.run is started in
-    let many : length c.first.items ≡ length (jobs_of (worker_of j.work) (jobs_in c.desk.system.trace)) = ap length tied.jobs.0 ∙ ap (λ (w : ℕ). length (jobs_of w (jobs_in c.desk.system.trace))) (sym own) in
+    let many : length c.first.items ≡ length (jobs_for (worker_at (chosen c.desk) j.work) c.desk) = ap length tied.jobs.0 ∙ ap (λ (w : ℕ). length (jobs_for w c.desk)) (sym own) in
     subst (λ (n : ℕ). length c.first.items < n) (sym tied.first_limit) (subst (λ (n : ℕ). n < most) (sym many) below)
 
-pub second_has_room : GetStartsItsWork → SetStartsItsWork → (c : Crew) (p : Step) (event : Event) (j : Job) → IsTied c → IsPlayed (stands_at c.desk) p event → j ∷ [] ≡ started_in event → worker_of j.work ≡ 1 → length c.second.items < c.second.limit
+pub second_has_room : GetStartsItsWork → SetStartsItsWork → (c : Crew) (p : Step) (event : Event) (j : Job) → IsTied c → IsPlayed (stands_at c.desk) p event → j ∷ [] ≡ started_in event → worker_at (chosen c.desk) j.work ≡ 1 → length c.second.items < c.second.limit
 second_has_room gets sets c p event j tied is started own =
     let below = below_most gets sets c.desk p event j tied.drawn.run is started in
-    let many : length c.second.items ≡ length (jobs_of (worker_of j.work) (jobs_in c.desk.system.trace)) = ap length tied.jobs.1 ∙ ap (λ (w : ℕ). length (jobs_of w (jobs_in c.desk.system.trace))) (sym own) in
+    let many : length c.second.items ≡ length (jobs_for (worker_at (chosen c.desk) j.work) c.desk) = ap length tied.jobs.1 ∙ ap (λ (w : ℕ). length (jobs_for w c.desk)) (sym own) in
     subst (λ (n : ℕ). length c.second.items < n) (sym tied.second_limit) (subst (λ (n : ℕ). n < most) (sym many) below)
 
 -- the crew after the job was put into its lane, and after an event that starts none
 tied_after : (c f : Crew) (p : Step) (event : Event) (js : List Job) → IsTied c → arrived_in event ≡ [] → IsSentTo p event c.desk f.desk → js ≡ started_in event
-    → f.first.items ≡ c.first.items ++ jobs_of 0 js → f.second.items ≡ c.second.items ++ jobs_of 1 js → f.first.limit ≡ c.first.limit → f.second.limit ≡ c.second.limit → IsTied f × HasSent p c.desk f.desk
+    → f.first.items ≡ c.first.items ++ jobs_of (chosen c.desk) 0 js → f.second.items ≡ c.second.items ++ jobs_of (chosen c.desk) 1 js → f.first.limit ≡ c.first.limit → f.second.limit ≡ c.second.limit → IsTied f × HasSent p c.desk f.desk
 tied_after c f p event js tied quiet done started first second first_limit second_limit = (
   record {
     drawn = sent_desk c.desk f.desk p event tied.drawn quiet done;
-    jobs = has_jobs c.desk f.desk event js c.first c.second f.first f.second tied.jobs done.2 started first second;
+    jobs = has_jobs c.desk f.desk event js c.first c.second f.first f.second tied.jobs done.0 done.2 started first second;
     first_limit = first_limit ∙ tied.first_limit;
     second_limit = second_limit ∙ tied.second_limit;
   },
@@ -121,7 +135,7 @@ tied_after c f p event js tied quiet done started first second first_limit secon
 )
 
 pub handed : (c f : Crew) (m : Desk) (p : Step) (event : Event) (j : Job) (r : Result Unit Stop) → IsTied c → IsSent p → IsSentTo p event c.desk m → j ∷ [] ≡ started_in event
-    → MatchResult r (λ _. (f.first.items ≡ c.first.items ++ jobs_of 0 (j ∷ [])) × (f.second.items ≡ c.second.items ++ jobs_of 1 (j ∷ []))) (λ why. why ≡ stop.OutOfMemory)
+    → MatchResult r (λ _. (f.first.items ≡ c.first.items ++ jobs_of (chosen c.desk) 0 (j ∷ [])) × (f.second.items ≡ c.second.items ++ jobs_of (chosen c.desk) 1 (j ∷ []))) (λ why. why ≡ stop.OutOfMemory)
     → f.desk ≡ m → IsSamePost c.first f.first → IsSamePost c.second f.second
     → MatchResult r (λ _. IsTied f × HasSent p c.desk f.desk) (λ why. IsRefused p why)
 handed c f m p event j (Ok u) tied sent done started put same first second =
@@ -164,44 +178,41 @@ ask_piece c f d e is = (is.0 ∷ [], is.1, (is.0, refl, is.2))
 pub collect_piece : (f : Fault) (d e : Desk) → HasSent (bus.Collect f) d e → HasPlayed (Collect f) d e
 collect_piece f d e is = (is.0 ∷ [], is.1, (is.0, refl, is.2))
 
+-- what was put into the lanes is what has started, where no further job has
+lanes_stay : (c d : Crew) → IsTied c → d.desk.setup ≡ c.desk.setup → jobs_in d.desk.system.trace ≡ jobs_in c.desk.system.trace → d.first ≡ c.first → d.second ≡ c.second → HasJobs d.desk d.first d.second
+lanes_stay c d tied same jobs first second = (
+  ap (λ (p : PostState Job). p.items) first ∙ tied.jobs.0 ∙ jobs_stay 0 c.desk d.desk same jobs,
+  ap (λ (p : PostState Job). p.items) second ∙ tied.jobs.1 ∙ jobs_stay 1 c.desk d.desk same jobs,
+)
+
 -- the crew after reports have arrived
-still_tied : (c d : Crew) → IsTied c → IsDrawn d.desk → HaveArrived c.desk d.desk → d.first ≡ c.first → d.second ≡ c.second → IsTied d
-still_tied c d tied drawn arrived first second =
-    let jobs : jobs_in d.desk.system.trace ≡ jobs_in c.desk.system.trace = same_jobs c.desk d.desk arrived in
+still_tied : (c d : Crew) → IsTied c → IsDrawn d.desk → d.desk.setup ≡ c.desk.setup → HaveArrived c.desk d.desk → d.first ≡ c.first → d.second ≡ c.second → IsTied d
+still_tied c d tied drawn same arrived first second =
     record {
       drawn = drawn;
-      jobs = (
-        ap (λ (p : PostState Job). p.items) first ∙ tied.jobs.0 ∙ ap (jobs_of 0) (sym jobs),
-        ap (λ (p : PostState Job). p.items) second ∙ tied.jobs.1 ∙ ap (jobs_of 1) (sym jobs),
-      );
+      jobs = lanes_stay c d tied same (same_jobs c.desk d.desk arrived) first second;
       first_limit = ap (λ (p : PostState Job). p.limit) first ∙ tied.first_limit;
       second_limit = ap (λ (p : PostState Job). p.limit) second ∙ tied.second_limit;
     }
 
-cut_stops : (c d : Crew) (n : ℕ) (why : Stop) → IsTied c → d.first ≡ c.first → d.second ≡ c.second → IsCutShort c.desk d.desk why → IsStopped (Settle n) d why
-cut_stops c d n stop.OutOfMemory tied first second is = tt
-cut_stops c d n stop.Unsettled tied first second is = (n, refl)
-cut_stops c d n stop.Astray tied first second is = (
-  is.0,
-  (
-    ap (λ (p : PostState Job). p.items) first ∙ tied.jobs.0 ∙ ap (jobs_of 0) (sym is.1),
-    ap (λ (p : PostState Job). p.items) second ∙ tied.jobs.1 ∙ ap (jobs_of 1) (sym is.1),
-  ),
-)
-cut_stops c d n stop.Reserved tied first second is = absurd is
-cut_stops c d n stop.TooLong tied first second is = absurd is
+cut_stops : (c d : Crew) (n : ℕ) (why : Stop) → IsTied c → d.desk.setup ≡ c.desk.setup → d.first ≡ c.first → d.second ≡ c.second → IsCutShort c.desk d.desk why → IsStopped (Settle n) d why
+cut_stops c d n stop.OutOfMemory tied same first second is = tt
+cut_stops c d n stop.Unsettled tied same first second is = (n, refl)
+cut_stops c d n stop.Astray tied same first second is = (is.0, lanes_stay c d tied same is.1 first second)
+cut_stops c d n stop.Reserved tied same first second is = absurd is
+cut_stops c d n stop.TooLong tied same first second is = absurd is
 
-pub settled : (c d : Crew) (n : ℕ) (r : Result Unit Stop) → IsTied c → d.first ≡ c.first → d.second ≡ c.second
+pub settled : (c d : Crew) (n : ℕ) (r : Result Unit Stop) → IsTied c → d.desk.setup ≡ c.desk.setup → d.first ≡ c.first → d.second ≡ c.second
     → MatchResult r (λ _. IsDrawn d.desk × HaveSettled c.desk d.desk) (λ why. IsCutShort c.desk d.desk why)
     → MatchResult r (λ _. IsTied d × HasPlayed (Settle n) c.desk d.desk) (λ why. IsStopped (Settle n) d why)
-settled c d n (Ok u) tied first second is = (still_tied c d tied is.0 (is.1.0, is.1.1, is.1.2.0) first second, (is.1.0, is.1.1, is.1.2))
-settled c d n (Err why) tied first second is = cut_stops c d n why tied first second is
+settled c d n (Ok u) tied same first second is = (still_tied c d tied is.0 same (is.1.0, is.1.1, is.1.2.0) first second, (is.1.0, is.1.1, is.1.2))
+settled c d n (Err why) tied same first second is = cut_stops c d n why tied same first second is
 
-pub settled_step : (c d : Crew) (s : CrewStep) (n : ℕ) (r : Result Unit Stop) → s ≡ Settle n → IsTied c → d.first ≡ c.first → d.second ≡ c.second
+pub settled_step : (c d : Crew) (s : CrewStep) (n : ℕ) (r : Result Unit Stop) → s ≡ Settle n → IsTied c → d.desk.setup ≡ c.desk.setup → d.first ≡ c.first → d.second ≡ c.second
     → MatchResult r (λ _. IsDrawn d.desk × HaveSettled c.desk d.desk) (λ why. IsCutShort c.desk d.desk why)
     → MatchResult r (λ _. IsTied d × HasPlayed s c.desk d.desk) (λ why. IsStopped s d why)
-settled_step c d s n r is tied first second after =
-    subst (λ (t : CrewStep). MatchResult r (λ _. IsTied d × HasPlayed t c.desk d.desk) (λ why. IsStopped t d why)) (sym is) (settled c d n r tied first second after)
+settled_step c d s n r is tied same first second after =
+    subst (λ (t : CrewStep). MatchResult r (λ _. IsTied d × HasPlayed t c.desk d.desk) (λ why. IsStopped t d why)) (sym is) (settled c d n r tied same first second after)
 
 pub asked_step : (c d : Crew) (s : CrewStep) (q : Command) (f : Fault) (r : Result Unit Stop) → s ≡ Ask q f
     → MatchResult r (λ _. IsTied d × HasSent (bus.Ask q f) c.desk d.desk) (λ why. IsRefused (bus.Ask q f) why)
@@ -224,29 +235,23 @@ pub empty_is : (d e : Desk) (x : Drawn) → x ≡ drawn.Empty → AfterDraw d e 
 empty_is d e x is after = subst (λ (y : Drawn). AfterDraw d e (Ok y)) is after
 
 -- a draw that ends early
-pub draw_stops : (c d : Crew) (why : Stop) → IsTied c → d.first ≡ c.first → d.second ≡ c.second → AfterDraw c.desk d.desk (Err why) → IsStopped Draw d why
-draw_stops c d stop.OutOfMemory tied first second is = tt
-draw_stops c d stop.Unsettled tied first second is = absurd is
-draw_stops c d stop.Astray tied first second is = (
-  is.0,
-  (
-    ap (λ (p : PostState Job). p.items) first ∙ tied.jobs.0 ∙ ap (λ (p : Played). jobs_of 0 (jobs_in p.trace)) (sym is.1),
-    ap (λ (p : PostState Job). p.items) second ∙ tied.jobs.1 ∙ ap (λ (p : Played). jobs_of 1 (jobs_in p.trace)) (sym is.1),
-  ),
-)
-draw_stops c d stop.Reserved tied first second is = absurd is
-draw_stops c d stop.TooLong tied first second is = absurd is
+pub draw_stops : (c d : Crew) (why : Stop) → IsTied c → d.desk.setup ≡ c.desk.setup → d.first ≡ c.first → d.second ≡ c.second → AfterDraw c.desk d.desk (Err why) → IsStopped Draw d why
+draw_stops c d stop.OutOfMemory tied same first second is = tt
+draw_stops c d stop.Unsettled tied same first second is = absurd is
+draw_stops c d stop.Astray tied same first second is = (is.0, lanes_stay c d tied same (ap (λ (p : Played). jobs_in p.trace) is.1) first second)
+draw_stops c d stop.Reserved tied same first second is = absurd is
+draw_stops c d stop.TooLong tied same first second is = absurd is
 
 -- one draw
-pub drawn_one : (c d : Crew) → IsTied c → IsDrawn d.desk → HasArrived c.desk d.desk → d.first ≡ c.first → d.second ≡ c.second → IsTied d × HasPlayed Draw c.desk d.desk
-drawn_one c d tied drawn one first second =
+pub drawn_one : (c d : Crew) → IsTied c → IsDrawn d.desk → d.desk.setup ≡ c.desk.setup → HasArrived c.desk d.desk → d.first ≡ c.first → d.second ≡ c.second → IsTied d × HasPlayed Draw c.desk d.desk
+drawn_one c d tied drawn same one first second =
     let arrivals : AreArrivals (stands_at c.desk) (one.0 ∷ []) = ((one.1, one.3), tt) in
-    (still_tied c d tied drawn (one.0 ∷ [], one.2, arrivals) first second, (one.0 ∷ [], one.2, (arrivals, omega arith)))
+    (still_tied c d tied drawn same (one.0 ∷ [], one.2, arrivals) first second, (one.0 ∷ [], one.2, (arrivals, omega arith)))
 
-pub drawn_none : (c d : Crew) → IsTied c → IsDrawn d.desk → d.desk.system ≡ c.desk.system → d.first ≡ c.first → d.second ≡ c.second → IsTied d × HasPlayed Draw c.desk d.desk
-drawn_none c d tied drawn still first second =
+pub drawn_none : (c d : Crew) → IsTied c → IsDrawn d.desk → d.desk.setup ≡ c.desk.setup → d.desk.system ≡ c.desk.system → d.first ≡ c.first → d.second ≡ c.second → IsTied d × HasPlayed Draw c.desk d.desk
+drawn_none c d tied drawn same still first second =
     let trace : d.desk.system.trace ≡ c.desk.system.trace ++ [] = ap (λ (p : Played). p.trace) still ∙ sym (append-nil c.desk.system.trace) in
-    (still_tied c d tied drawn ([], trace, tt) first second, ([], trace, (tt, omega arith)))
+    (still_tied c d tied drawn same ([], trace, tt) first second, ([], trace, (tt, omega arith)))
 
 -- ---- all steps
 

@@ -3,6 +3,7 @@ use Rattle.std.proofs.Common.{◌≡◌, ◌↔◌, ℕ, List, [], ◌∷◌, re
 use Rattle.std.specs.Prelude.{Result, Ok, Err, IsErrOf}
 use Rattle.rdm_params.specs.declared.panel.Change.{Change}
 use Rattle.rdm_outbox.specs.declared.job.Job.{Job}
+use Rattle.rdm_params.specs.Jobs.Work.{Choice}
 use Rattle.rdm_outbox.specs.Jobs.{jobs_of}
 use Rattle.rdm_responder.specs.declared.report.Report.{Report}
 use Rattle.rdm_bus.specs.declared.event.Event.{Event}
@@ -18,7 +19,7 @@ use Rattle.rdm_crew.specs.declared.stopped.Stopped.{Stopped}
 use Rattle.rdm_crew.specs.declared.stopped.Stopped.TheVariants.{OutOfMemory, BadSetup, Reserved, TooLong, Unsettled}
 use Rattle.rdm_crew.specs.Stops.{error_of}
 use Rattle.rdm_crew.specs.Crews.{HasChanges, IsTied}
-use Rattle.rdm_crew.specs.Desks.{began, OfTwo, IsDrawn}
+use Rattle.rdm_crew.specs.Desks.{began, chosen, OfTwo, IsDrawn}
 use Rattle.rdm_bus.specs.Happened.{changes_in, jobs_in, reports_in}
 use Rattle.rdm_crew.specs.Settling.{IsLaneOfOne, IsNewLaneOfOne, IsReportLane}
 use Rattle.rdm_crew.specs.Watchers.{most_changes}
@@ -44,8 +45,8 @@ drawn d a b trace lane =
       all = ap items_of taken ∙ no_items ∙ sym (ap reports_in (nothing (began d) d.system.trace trace.run) ∙ no_reports);
     }
 
-none_put : (p : ℕ) (es : List Event) (post : PostState Job) → es ≡ [] → post.items ≡ [] → post.items ≡ jobs_of p (jobs_in es)
-none_put p es post none items = items ∙ sym (ap (λ (l : List Event). jobs_of p (jobs_in l)) none ∙ ap (jobs_of p) no_jobs)
+none_put : (ws : Choice) (p : ℕ) (es : List Event) (post : PostState Job) → es ≡ [] → post.items ≡ [] → post.items ≡ jobs_of ws p (jobs_in es)
+none_put ws p es post none items = items ∙ sym (ap (λ (l : List Event). jobs_of ws p (jobs_in l)) none ∙ ap (jobs_of ws p) no_jobs)
 
 pub tied : (c : Crew) (first_jobs second_jobs : TakeState Job) (a b : PostState Report)
     → IsTrace (began c.desk) [] c.desk.system → IsNewLaneOfOne most first_jobs c.first → IsNewLaneOfOne most second_jobs c.second → IsReportLane c.desk.reports a b
@@ -55,8 +56,8 @@ tied c first_jobs second_jobs a b trace one two reports =
       record {
         drawn = drawn c.desk a b trace reports;
         jobs = (
-          none_put 0 c.desk.system.trace c.first none (ap (λ (p : PostState Job). p.items) one.1),
-          none_put 1 c.desk.system.trace c.second none (ap (λ (p : PostState Job). p.items) two.1),
+          none_put (chosen c.desk) 0 c.desk.system.trace c.first none (ap (λ (p : PostState Job). p.items) one.1),
+          none_put (chosen c.desk) 1 c.desk.system.trace c.second none (ap (λ (p : PostState Job). p.items) two.1),
         );
         first_limit = ap (λ (p : PostState Job). p.limit) one.1;
         second_limit = ap (λ (p : PostState Job). p.limit) two.1;

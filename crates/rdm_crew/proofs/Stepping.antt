@@ -3,13 +3,14 @@ use Rattle.std.proofs.Common.{◌≡◌, List, [], ◌∷◌, ◌++◌, refl, sy
 use Rattle.std.specs.List.{flat_map}
 use Rattle.std.proofs.lemmas.List.Concat.{flat_map-append}
 use Rattle.rdm_params.specs.declared.jobs.message.Message.{Message}
+use Rattle.rdm_params.specs.Jobs.Work.{Choice}
 use Rattle.rdm_responder.specs.declared.report.Report.{Report}
 use Rattle.rdm_bus.specs.declared.event.Event.{Event}
 use Rattle.rdm_bus.specs.declared.event.Step.{Step}
 use Rattle.rdm_bus.specs.declared.event.Step.TheVariants.{Ask, Collect, Arrive, Change}
 use Rattle.rdm_bus.specs.BusRun.{Start, IsBusRun, after, after_all}
 use Rattle.rdm_bus.specs.BusLaws.{BusLawsHold, recorded}
-use Rattle.rdm_bus.specs.Headline.{Headline}
+use Rattle.rdm_bus.specs.Headline.{Headline, NothingAfterClose}
 use Rattle.rdm_bus.specs.Messages.{KeepingHolds}
 use Rattle.rdm_bus.proofs.Headlines.{headline_of}
 use Rattle.rdm_lane.specs.declared.taken.Taken.{Taken}
@@ -19,6 +20,7 @@ use Rattle.rdm_crew.specs.declared.step.CrewStep.TheVariants as crew
 use Rattle.rdm_crew.specs.Closes.{asked_at, asked_on, handed_by, IsHandedOver, HeadlineOfRun}
 use Rattle.rdm_crew.specs.RunTrace.{AreArrivals, AreChanges, IsPiece, IsCut}
 use Rattle.rdm_crew.specs.Setups.{switched_on}
+use Rattle.rdm_crew.proofs.Accounts.{first_choice}
 
 -- steps of the bus by which this happens, with these commands and polls
 pub record Steps (s : Start) (es : List Event) (asked : List Step) : Type 0 where
@@ -77,12 +79,14 @@ bus_of s steps es cut = let found = of_cut s steps es cut in (found.steps, found
 pub cut_at : (s s' : Setup) (steps : List CrewStep) (es es' : List Event) → s ≡ s' → es' ≡ es → IsCut (switched_on s) steps es → IsCut (switched_on s') steps es'
 cut_at s s' steps es es' e1 e2 cut = subst (λ (x : Setup). IsCut (switched_on x) steps es') e1 (subst (IsCut (switched_on s) steps) (sym e2) cut)
 
-pub over_at : (es es' : List Event) (taken taken' : List (Taken Report)) → es' ≡ es → taken' ≡ taken → IsHandedOver es (handed_by taken) → IsHandedOver es' (handed_by taken')
-over_at es es' taken taken' e1 e2 over =
-    subst (λ (l : List (Taken Report)). IsHandedOver es' (handed_by l)) (sym e2) (subst (λ (l : List Event). IsHandedOver l (handed_by taken)) (sym e1) over)
+pub over_at : (s s' : Setup) (es es' : List Event) (taken taken' : List (Taken Report)) → s ≡ s' → es' ≡ es → taken' ≡ taken
+    → IsHandedOver s.profile.workers es (handed_by taken) → IsHandedOver s'.profile.workers es' (handed_by taken')
+over_at s s' es es' taken taken' e1 e2 e3 over =
+    subst (λ (x : Setup). IsHandedOver x.profile.workers es' (handed_by taken')) e1
+    (subst (λ (l : List (Taken Report)). IsHandedOver s.profile.workers es' (handed_by l)) (sym e3) (subst (λ (l : List Event). IsHandedOver s.profile.workers l (handed_by taken)) (sym e2) over))
 
 pub headline_of_run : BusLawsHold → KeepingHolds → (setup : Setup) (steps : List CrewStep) (taken : List (Taken Report)) (es : List Event) (collected : List Message)
-    → IsCut (switched_on setup) steps es → IsHandedOver es (handed_by taken) → collected ≡ recorded es → HeadlineOfRun setup steps taken es collected
+    → IsCut (switched_on setup) steps es → IsHandedOver setup.profile.workers es (handed_by taken) → collected ≡ recorded es → HeadlineOfRun setup steps taken es collected
 headline_of_run hold keeping setup steps taken es collected cut over same =
     let found = of_cut (switched_on setup) steps es cut in
     record {
@@ -91,5 +95,6 @@ headline_of_run hold keeping setup steps taken es collected cut over same =
       bus = found.steps;
       asked = found.asked_are;
       headline = subst (Headline (switched_on setup) found.steps (handed_by taken) es) (sym same)
-          (headline_of hold keeping (switched_on setup) found.steps es (handed_by taken) tt found.run over.enters over.nothing_after_close);
+          (headline_of hold keeping (switched_on setup) found.steps es (handed_by taken) tt found.run over.enters
+          (subst (λ (ws : Choice). NothingAfterClose ws (handed_by taken)) (sym (first_choice setup)) over.nothing_after_close));
     }

@@ -1,6 +1,6 @@
 -- Where steps end early, and what is told of it.
 use Rattle.std.proofs.Common.{◌≡◌, ℕ, zero, suc, ◌+◌, ◌<◌, List, [], ◌∷◌, length, take, get_or, Option, Some, None, refl, sym, subst, ◌∙◌}
-use Rattle.std.specs.Prelude.{All, IfSome, IfErr, Result, Ok, Err}
+use Rattle.std.specs.Prelude.{IfSome, IfErr, Result, Ok, Err}
 use Rattle.std.specs.Option.{option_or}
 use Rattle.std.proofs.lemmas.List.Elements.{All-head, All-tail, All-more}
 use Rattle.std.proofs.lemmas.Option.{slice_get_within}

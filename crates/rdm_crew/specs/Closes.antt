@@ -3,7 +3,7 @@ use Rattle.std.specs.Prelude.{◌≡◌, ℕ, List, [], ◌∷◌, ◌++◌}
 use Rattle.rdm_params.specs.declared.jobs.message.Message.{Message}
 use Rattle.rdm_responder.specs.declared.report.Report.{Report}
 use Rattle.std.specs.List.{flat_map}
-use Rattle.rdm_params.specs.Jobs.Work.{worker_of}
+use Rattle.rdm_params.specs.Jobs.Work.{Choice, worker_at}
 use Rattle.rdm_bus.specs.declared.event.Event.{Event}
 use Rattle.rdm_bus.specs.declared.event.Step.{Step}
 use Rattle.rdm_bus.specs.declared.event.Step.TheVariants.{Ask, Collect, Arrive, Change}
@@ -29,10 +29,11 @@ handed_by (Closed ∷ es) = handed_by es
 abbrev pub HasClosed : ℕ → List Handed → Type 0
 HasClosed worker handed = (before after : List Handed) × (handed ≡ before ++ Close worker ∷ after)
 
--- What was handed over in a run that has ended with these events: their results, with the close of both workers.
-pub record IsHandedOver (events : List Event) (handed : List Handed) : Type 0 where
+-- What was handed over in a run that has ended with these events, with this choice of workers: their results, with the close of
+-- both workers.
+pub record IsHandedOver (ws : Choice) (events : List Event) (handed : List Handed) : Type 0 where
   pub enters : reports_in events ≡ results_in handed
-  pub nothing_after_close : NothingAfterClose handed
+  pub nothing_after_close : NothingAfterClose ws handed
   pub first_closed : HasClosed 0 handed
   pub second_closed : HasClosed 1 handed
 
@@ -65,4 +66,4 @@ abbrev pub AfterTheMarkIsRuledOut : Type 0
 AfterTheMarkIsRuledOut =
     (setup : Setup) (steps : List CrewStep) (before between after : List (Taken Report)) (producer number : ℕ) (r : Report)
     (events : List Event) (collected : List Message)
-    → ¬ HeadlineOfRun setup steps (before ++ Mark (worker_of r.job.work) ∷ between ++ Item producer number r ∷ after) events collected
+    → ¬ HeadlineOfRun setup steps (before ++ Mark (worker_at setup.profile.workers r.job.work) ∷ between ++ Item producer number r ∷ after) events collected

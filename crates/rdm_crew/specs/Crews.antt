@@ -18,15 +18,19 @@ use Rattle.rdm_crew.specs.declared.step.CrewStep.TheVariants.{Settle}
 use Rattle.rdm_crew.specs.declared.bus.stop.Stop.{Stop}
 use Rattle.rdm_crew.specs.declared.bus.stop.Stop.TheVariants as stop
 use Rattle.rdm_crew.specs.declared.bus.stop.StopAt.{StopAt}
-use Rattle.rdm_crew.specs.Desks.{IsDrawn, IsSuspect, IsSameDesk, stands_at}
+use Rattle.rdm_crew.specs.Desks.{chosen, IsDrawn, IsSuspect, IsSameDesk, stands_at}
 use Rattle.rdm_bus.specs.Happened.{jobs_in, changes_in}
 use Rattle.rdm_crew.specs.RunTrace.{AreLast, IsPiece, IsCut, refusal_at}
 use Rattle.rdm_crew.specs.Stops.{IsReached}
 use Rattle.rdm_crew.specs.Workers.{most}
 
+-- the jobs of a worker that have started in the run, by the choice of the device's profile
+abbrev pub jobs_for : ℕ → Desk → List Job
+jobs_for worker d = jobs_of (chosen d) worker (jobs_in d.system.trace)
+
 -- Each worker's jobs were put into its lane, in order.
 abbrev pub HasJobs : Desk → PostState Job → PostState Job → Type 0
-HasJobs d first second = (first.items ≡ jobs_of 0 (jobs_in d.system.trace)) × (second.items ≡ jobs_of 1 (jobs_in d.system.trace))
+HasJobs d first second = (first.items ≡ jobs_for 0 d) × (second.items ≡ jobs_for 1 d)
 
 -- The changes that were taken from the panel's lane are those that have happened, in order.
 abbrev pub HasChanges : Desk → TakeState Change → Type 0

@@ -1,5 +1,6 @@
 -- The bus thread's side of the report lane: what it has taken, and what has arrived on the bus.
 use Rattle.std.specs.Prelude.{◌≡◌, ℕ, ◌<◌, List, [], ◌∷◌, ◌++◌, Result, Ok, Err}
+use Rattle.rdm_params.specs.Jobs.Work.{Choice}
 use Rattle.rdm_responder.specs.declared.report.Report.{Report}
 use Rattle.rdm_responder.specs.Lawful.{MayArrive}
 use Rattle.rdm_responder.specs.Rules.{account_of}
@@ -27,6 +28,10 @@ began d = switched_on d.setup.value
 
 abbrev pub stands_at : Desk → Start
 stands_at d = after_all (began d) d.system.trace
+
+-- which worker has which jobs: what the device's profile says
+abbrev pub chosen : Desk → Choice
+chosen d = d.setup.value.profile.workers
 
 -- the trace is a run of the bus
 abbrev pub HasRun : Desk → Type 0

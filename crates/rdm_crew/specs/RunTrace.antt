@@ -7,7 +7,7 @@ use Rattle.rdm_params.specs.declared.panel.Change.{Change}
 use Rattle.rdm_params.specs.declared.jobs.outcome.Outcome.{Outcome}
 use Rattle.rdm_params.specs.Commands.Commands.{command_of}
 use Rattle.rdm_params.specs.Jobs.Outcome.{fits}
-use Rattle.rdm_params.specs.Jobs.Work.{worker_of}
+use Rattle.rdm_params.specs.Jobs.Work.{Choice, worker_at}
 use Rattle.rdm_params.specs.Table.Uses.{is_slow}
 use Rattle.rdm_outbox.specs.declared.job.Job.{Job}
 use Rattle.rdm_outbox.specs.Jobs.{jobs_of, outstanding_count}
@@ -62,11 +62,11 @@ IsCut s (step ∷ steps) es =
 
 -- ---- jobs and reports
 
--- The reports of a worker that arrived are on its jobs, in their order, each with an outcome that its part gives, and
+-- The reports of a worker, by this choice, that arrived are on its jobs, in their order, each with an outcome that its part gives, and
 -- every job has one.
-pub record IsAnswered (worker : ℕ) (gives : Job → Outcome → Type 0) (events : List Event) : Type 0 where
-  pub answers : Answers gives (jobs_of worker (jobs_in events)) (reports_of worker (reports_in events))
-  pub all : length (jobs_of worker (jobs_in events)) ≡ length (reports_of worker (reports_in events))
+pub record IsAnswered (ws : Choice) (worker : ℕ) (gives : Job → Outcome → Type 0) (events : List Event) : Type 0 where
+  pub answers : Answers gives (jobs_of ws worker (jobs_in events)) (reports_of ws worker (reports_in events))
+  pub all : length (jobs_of ws worker (jobs_in events)) ≡ length (reports_of ws worker (reports_in events))
 
 -- ---- runs
 
@@ -74,8 +74,8 @@ pub record IsAnswered (worker : ℕ) (gives : Job → Outcome → Type 0) (event
 -- moment that the device is switched on. The changes that happened are offered for 0, 1, 2 and so on.
 pub record IsRunTrace (setup : Setup) (gives_0 gives_1 : Job → Outcome → Type 0) (offers : ℕ → Change → Type 0) (steps : List CrewStep) (events : List Event) : Type 0 where
   pub cut : IsCut (switched_on setup) steps events
-  pub first : IsAnswered 0 gives_0 events
-  pub second : IsAnswered 1 gives_1 events
+  pub first : IsAnswered setup.profile.workers 0 gives_0 events
+  pub second : IsAnswered setup.profile.workers 1 gives_1 events
   pub changes : AreOffered offers 0 (changes_in events)
 
 -- ---- refusals
@@ -111,7 +111,7 @@ HaveFaults steps = All (λ step. raise_of (fault_at step) ≢ Some 0) steps
 
 -- ---- parts
 
--- A part gives only outcomes that fit, for the slow commands of a worker.
-abbrev pub FitsFor : ℕ → (Job → Outcome → Type 0) → Type 0
-FitsFor worker gives =
-    (j : Job) (o : Outcome) → is_slow (command_of j.work.pid j.work.verb) ≡ true → worker_of j.work ≡ worker → gives j o → fits j.work o ≡ true
+-- A part gives only outcomes that fit, for the slow commands that a worker has by this choice.
+abbrev pub FitsFor : Choice → ℕ → (Job → Outcome → Type 0) → Type 0
+FitsFor ws worker gives =
+    (j : Job) (o : Outcome) → is_slow (command_of j.work.pid j.work.verb) ≡ true → worker_at ws j.work ≡ worker → gives j o → fits j.work o ≡ true

@@ -8,7 +8,7 @@ ghost use Rattle.rdm_responder.specs.StandsFor.{IsQueueSize};
 ghost use Rattle.rdm_lane.specs.Lane.{LaneLaw};
 ghost use Rattle.rdm_crew.specs.Closes.{handed_by, IsHandedOver, HeadlineOfRun};
 ghost use Rattle.rdm_crew.specs.Crews.{IsTied, HasJobs, HasChanges};
-ghost use Rattle.rdm_crew.specs.Desks.{IsDrawn, HasRun};
+ghost use Rattle.rdm_crew.specs.Desks.{chosen, IsDrawn, HasRun};
 ghost use Rattle.rdm_crew.specs.RunTrace.{IsRunTrace, HaveFaults, HasSettle, FitsFor, first_refusal};
 ghost use Rattle.rdm_crew.specs.Settling.{IsLaneOfOne, AreLanes};
 ghost use Rattle.rdm_crew.specs.Setups.{switched_on, IsBadSetup};
@@ -57,7 +57,7 @@ where
     Q: Part + Send + 'static,
     N: Panel + Send + 'static,
     R: Threads + Wait + Copy + Send + 'static,
-    requires fits { FitsFor 0 (P.gives part0) × FitsFor 1 (Q.gives part1) }
+    requires fits { FitsFor setup.profile.workers 0 (P.gives part0) × FitsFor setup.profile.workers 1 (Q.gives part1) }
     requires faults { HaveFaults steps.now }
     ensures trace { IfOk result (λ trace. IsRunTrace setup (P.gives part0) (Q.gives part1) (N.offers panel) steps.now trace.events) }
     ensures recorded { IfOk result (λ trace. trace.recorded ≡ recorded trace.events) }
@@ -94,7 +94,7 @@ where
     Q: Part + Send + 'static,
     N: Panel + Send + 'static,
     R: Threads + Wait + Copy + Send + 'static,
-    requires fits { FitsFor 0 (P.gives part0) × FitsFor 1 (Q.gives part1) }
+    requires fits { FitsFor setup.profile.workers 0 (P.gives part0) × FitsFor setup.profile.workers 1 (Q.gives part1) }
     requires faults { HaveFaults steps.now }
     ensures trace { IfOk result (λ trace. IsRunTrace setup (P.gives part0) (Q.gives part1) (N.offers panel) steps.now trace.events) }
     ensures recorded { IfOk result (λ trace. trace.recorded ≡ recorded trace.events) }
@@ -170,7 +170,8 @@ fn play<P: Part, Q: Part, N: Panel, R: Threads + Wait>(
     watcher: Started<Watched, Watches<N>>,
     rooms: Rooms,
 ) -> Result<Ended, Stopped>
-    requires fits { FitsFor 0 (P.gives first_worker.part.value) × FitsFor 1 (Q.gives second_worker.part.value) }
+    requires fits { FitsFor (chosen crew.desk) 0 (P.gives first_worker.part.value)
+        × FitsFor (chosen crew.desk) 1 (Q.gives second_worker.part.value) }
     requires faults { HaveFaults steps.now }
     requires new { IsTied crew × (crew.desk.system.trace ≡ []) }
     requires changes { HasChanges crew.desk crew.changes × IsLaneOfOne crew.changes watcher.changes.value }
@@ -181,7 +182,7 @@ fn play<P: Part, Q: Part, N: Panel, R: Threads + Wait>(
         (P.gives first_worker.part.value) (Q.gives second_worker.part.value)
         (N.offers watcher.panel.value) steps.now ended.system.trace) }
     ensures recorded { IfOk result (λ ended. ended.system.collector.recorded ≡ recorded ended.system.trace) }
-    ensures handed { IfOk result (λ ended. IsHandedOver ended.system.trace (handed_by ended.reports.taken)) }
+    ensures handed { IfOk result (λ ended. IsHandedOver (chosen crew.desk) ended.system.trace (handed_by ended.reports.taken)) }
     ensures lane { IfOk result (λ ended. LaneLaw 2 ended.reports.taken ended.reports.posted) }
     ensures stop { IfErr result (λ stopped. IsStopAt steps.now stopped) }
     ensures set_up { IfErr result (λ stopped. stopped ≢ Stopped.BadSetup) }

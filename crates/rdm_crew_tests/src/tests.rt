@@ -14,7 +14,7 @@ use menu::Menu;
 use rdm_bus::{Action, Command, Event, Fault, Want};
 use rdm_crew::{CrewStep, RunError, Setup, Trace, run};
 use rdm_frame::{Load, Uid};
-use rdm_params::{Outcome, Profile, worker_of};
+use rdm_params::{Outcome, Profile, Workers, worker_at};
 use rows::{DRAWN_AND_POLLED, REFUSALS, THREE_COMMANDS, THREE_REPORTS, TRACES};
 use std::alloc::{AllocError, Global};
 use std::process::Abort;
@@ -67,6 +67,8 @@ struct Row {
     device: Uid,
     controller: Uid,
     subs: u16,
+    /// Which worker carries out which slow command.
+    workers: Workers,
     queue_size: u16,
     acts: &'static [Act],
     /// How often each part looks whether the other comes, where they wait for each other.
@@ -77,7 +79,7 @@ struct Row {
 fn runs_end_with_these_traces(rt: HostRuntime) -> Result<(), Fail> {
     for (row, told) in TRACES {
         let trace = run_of(rt, rt.alloc(), &row)??;
-        tells(&rt, rt.alloc(), row.name, &trace, told)?;
+        tells(&rt, rt.alloc(), &row, &trace, told)?;
     }
     Ok(())
 }
@@ -96,7 +98,7 @@ fn a_thousand_runs_come_to_an_end(rt: HostRuntime) -> Result<(), Fail> {
     let row = THREE_COMMANDS;
     for _ in 0..1_000 {
         let trace = run_of(rt, rt.alloc(), &row)??;
-        tells(&rt, rt.alloc(), row.name, &trace, THREE_REPORTS)?;
+        tells(&rt, rt.alloc(), &row, &trace, THREE_REPORTS)?;
     }
     Ok(())
 }
@@ -126,11 +128,13 @@ where
 
 /// The setup of a row.
 fn setup_of(row: &Row) -> Setup {
+    let mut profile = Profile::demo(row.subs);
+    profile.workers = row.workers;
     Setup {
         device: row.device,
         controller: row.controller,
         want: Want::Advisory,
-        profile: Profile::demo(row.subs),
+        profile,
         queue_size: row.queue_size,
     }
 }
@@ -175,18 +179,13 @@ fn command(action: Action, pid: u16, data: &[u8]) -> Result<Command, Fail> {
     })
 }
 
-/// A trace tells this.
-fn tells(
-    rt: &impl Abort,
-    alloc: Global,
-    name: &str,
-    trace: &Trace,
-    told: Told,
-) -> Result<(), Fail> {
+/// The trace of a row tells this.
+fn tells(rt: &impl Abort, alloc: Global, row: &Row, trace: &Trace, told: Told) -> Result<(), Fail> {
+    let name = row.name;
     assert_eq!(rt; trace.events().len(), told.events, "{name}");
-    let first = arrived(alloc, trace, 0)?;
+    let first = arrived(alloc, trace, &row.workers, 0)?;
     assert_eq!(rt; first.as_slice(), told.first, "{name}");
-    let second = arrived(alloc, trace, 1)?;
+    let second = arrived(alloc, trace, &row.workers, 1)?;
     assert_eq!(rt; second.as_slice(), told.second, "{name}");
     were_handed_over(rt, trace, told);
     are_collected(rt, trace, told.collected);
@@ -194,11 +193,16 @@ fn tells(
 }
 
 /// The reports on a worker's jobs, in the order in which they arrived: the number of each job, and how it ended.
-fn arrived(alloc: Global, trace: &Trace, worker: u8) -> Result<Vec<(u32, Outcome)>, AllocError> {
+fn arrived(
+    alloc: Global,
+    trace: &Trace,
+    workers: &Workers,
+    worker: u8,
+) -> Result<Vec<(u32, Outcome)>, AllocError> {
     let mut reports = Vec::new(alloc);
     for event in trace.events() {
         if let Event::Arrived { report, .. } = event {
-            if worker_of(&report.job.work) == worker {
+            if worker_at(workers, &report.job.work) == worker {
                 reports.push((report.job.number, report.outcome))?;
             }
         }

@@ -6,6 +6,8 @@ use Rattle.rdm_frame.specs.declared.uid.Uid.{Uid}
 use Rattle.rdm_device.specs.declared.profile.estimates.Estimates.{Estimates}
 use Rattle.rdm_device.specs.declared.profile.Personality.{Personality}
 use Rattle.rdm_device.specs.declared.profile.Profile.{Profile}
+use Rattle.rdm_device.specs.declared.profile.workers.Worker.{Worker}
+use Rattle.rdm_device.specs.declared.profile.workers.Workers.{Workers}
 use Rattle.rdm_device.specs.declared.profile.own.ParameterDef.{ParameterDef}
 use Rattle.rdm_device.specs.declared.profile.own.Rights.{Rights}
 use Rattle.rdm_device.specs.declared.profile.own.Shape.{Shape}
@@ -26,7 +28,7 @@ use Rattle.rdm_fixture.specs.Keys.{may, must, OfTable, EachIs, ListAt, Lists}
 use Rattle.rdm_fixture.specs.Parameters.{IsParameter, low_in, high_in, start, flag}
 use Rattle.rdm_fixture.specs.Values.{language}
 use Rattle.rdm_fixture.specs.Outcomes.{IsOutcome}
-use Rattle.rdm_fixture.specs.Format.{IsPersonality, IsSlot, IsSensor, IsSelfTest, IsStatus, IsUnit, SubDevices, IsEstimates, EstimatesAt, LanguagesAt, IsProfile, IsFixture, parameter_named}
+use Rattle.rdm_fixture.specs.Format.{IsPersonality, IsSlot, IsSensor, IsSelfTest, IsStatus, IsUnit, SubDevices, IsEstimates, EstimatesAt, IsWorkers, WorkersAt, LanguagesAt, IsProfile, IsFixture, parameter_named}
 
 -- what is said is one thing
 abbrev pub SaysOne : {S A : Type 0} → (S → A → Type 0) → Type 0
@@ -222,13 +224,32 @@ one_times (Some (float f)) x y p q = absurd p
 one_times (Some (boolean b)) x y p q = absurd p
 one_times (Some (datetime dt)) x y p q = absurd p
 
-abbrev pub profile_of : DeviceUnit → DeviceUnit → ℕ → ℕ → List ℕ → ArrayVec ℕ 8 (Unit {0}) → ArrayVec Slot 46 (Unit {0}) → ArrayVec SensorDef 8 (Unit {0}) → ArrayVec SelfTest 8 (Unit {0}) → ArrayVec StatusText 8 (Unit {0}) → ℕ → List ParameterDef → ArrayVec ℕ 36 (Unit {0}) → ℕ → Estimates → Profile
-profile_of a0 a1 a2 a3 a4 a5 a6 a7 a8 a9 a10 a11 a12 a13 a14 = record { root = a0; sub = a1; subs = a2; boot = a3; boot_text = a4; languages = a5; slots = a6; sensors = a7; tests = a8; status_texts = a9; presets = a10; own = a11; without = a12; more_slots = a13; estimates = a14 }
+abbrev workers_of : Worker → Worker → Worker → Worker → Workers
+workers_of a0 a1 a2 a3 = record { lamp = a0; power = a1; self_test = a2; sensor = a3 }
 
-pub same_profile : {a0 b0 : DeviceUnit} {a1 b1 : DeviceUnit} {a2 b2 : ℕ} {a3 b3 : ℕ} {a4 b4 : List ℕ} {a5 b5 : ArrayVec ℕ 8 (Unit {0})} {a6 b6 : ArrayVec Slot 46 (Unit {0})} {a7 b7 : ArrayVec SensorDef 8 (Unit {0})} {a8 b8 : ArrayVec SelfTest 8 (Unit {0})} {a9 b9 : ArrayVec StatusText 8 (Unit {0})} {a10 b10 : ℕ} {a11 b11 : List ParameterDef} {a12 b12 : ArrayVec ℕ 36 (Unit {0})} {a13 b13 : ℕ} {a14 b14 : Estimates}
-    → a0 ≡ b0 → a1 ≡ b1 → a2 ≡ b2 → a3 ≡ b3 → a4 ≡ b4 → a5 ≡ b5 → a6 ≡ b6 → a7 ≡ b7 → a8 ≡ b8 → a9 ≡ b9 → a10 ≡ b10 → a11 ≡ b11 → a12 ≡ b12 → a13 ≡ b13 → a14 ≡ b14
-    → profile_of a0 a1 a2 a3 a4 a5 a6 a7 a8 a9 a10 a11 a12 a13 a14 ≡ profile_of b0 b1 b2 b3 b4 b5 b6 b7 b8 b9 b10 b11 b12 b13 b14
-same_profile e0 e1 e2 e3 e4 e5 e6 e7 e8 e9 e10 e11 e12 e13 e14 = rw (e0, e1, e2, e3, e4, e5, e6, e7, e8, e9, e10, e11, e12, e13, e14) refl
+same_workers : {a0 b0 a1 b1 a2 b2 a3 b3 : Worker} → a0 ≡ b0 → a1 ≡ b1 → a2 ≡ b2 → a3 ≡ b3 → workers_of a0 a1 a2 a3 ≡ workers_of b0 b1 b2 b3
+same_workers e0 e1 e2 e3 = rw (e0, e1, e2, e3) refl
+
+pub one_workers : SaysOne IsWorkers
+one_workers t x y p q = same_workers (one p.lamp q.lamp) (one p.power q.power) (one p.self_test q.self_test) (one p.sensor q.sensor)
+
+one_choice : (found : Option Data) (x y : Workers) → WorkersAt found x → WorkersAt found y → x ≡ y
+one_choice None x y p q = p ∙ sym q
+one_choice (Some (table t)) x y p q = one_workers t x y p q
+one_choice (Some (array ds)) x y p q = absurd p
+one_choice (Some (string s)) x y p q = absurd p
+one_choice (Some (integer z)) x y p q = absurd p
+one_choice (Some (float f)) x y p q = absurd p
+one_choice (Some (boolean b)) x y p q = absurd p
+one_choice (Some (datetime dt)) x y p q = absurd p
+
+abbrev pub profile_of : DeviceUnit → DeviceUnit → ℕ → ℕ → List ℕ → ArrayVec ℕ 8 (Unit {0}) → ArrayVec Slot 46 (Unit {0}) → ArrayVec SensorDef 8 (Unit {0}) → ArrayVec SelfTest 8 (Unit {0}) → ArrayVec StatusText 8 (Unit {0}) → ℕ → List ParameterDef → ArrayVec ℕ 36 (Unit {0}) → ℕ → Estimates → Workers → Profile
+profile_of a0 a1 a2 a3 a4 a5 a6 a7 a8 a9 a10 a11 a12 a13 a14 a15 = record { root = a0; sub = a1; subs = a2; boot = a3; boot_text = a4; languages = a5; slots = a6; sensors = a7; tests = a8; status_texts = a9; presets = a10; own = a11; without = a12; more_slots = a13; estimates = a14; workers = a15 }
+
+pub same_profile : {a0 b0 : DeviceUnit} {a1 b1 : DeviceUnit} {a2 b2 : ℕ} {a3 b3 : ℕ} {a4 b4 : List ℕ} {a5 b5 : ArrayVec ℕ 8 (Unit {0})} {a6 b6 : ArrayVec Slot 46 (Unit {0})} {a7 b7 : ArrayVec SensorDef 8 (Unit {0})} {a8 b8 : ArrayVec SelfTest 8 (Unit {0})} {a9 b9 : ArrayVec StatusText 8 (Unit {0})} {a10 b10 : ℕ} {a11 b11 : List ParameterDef} {a12 b12 : ArrayVec ℕ 36 (Unit {0})} {a13 b13 : ℕ} {a14 b14 : Estimates} {a15 b15 : Workers}
+    → a0 ≡ b0 → a1 ≡ b1 → a2 ≡ b2 → a3 ≡ b3 → a4 ≡ b4 → a5 ≡ b5 → a6 ≡ b6 → a7 ≡ b7 → a8 ≡ b8 → a9 ≡ b9 → a10 ≡ b10 → a11 ≡ b11 → a12 ≡ b12 → a13 ≡ b13 → a14 ≡ b14 → a15 ≡ b15
+    → profile_of a0 a1 a2 a3 a4 a5 a6 a7 a8 a9 a10 a11 a12 a13 a14 a15 ≡ profile_of b0 b1 b2 b3 b4 b5 b6 b7 b8 b9 b10 b11 b12 b13 b14 b15
+same_profile e0 e1 e2 e3 e4 e5 e6 e7 e8 e9 e10 e11 e12 e13 e14 e15 = rw (e0, e1, e2, e3, e4, e5, e6, e7, e8, e9, e10, e11, e12, e13, e14, e15) refl
 
 pub one_profile : SaysOne IsProfile
 one_profile t x y p q =
@@ -249,6 +270,7 @@ one_profile t x y p q =
     (ap (listed 36) (one_names t _ _ p.without q.without))
     (one p.more_slots q.more_slots)
     (one_times _ _ _ p.estimates q.estimates)
+    (one_choice _ _ _ p.workers q.workers)
 
 -- ---- the outcomes
 

@@ -6,11 +6,15 @@ use Rattle.rdm_device.specs.declared.profile.SelfTest.{SelfTest}
 use Rattle.rdm_device.specs.declared.profile.SensorDef.{SensorDef}
 use Rattle.rdm_device.specs.declared.profile.Slot.{Slot}
 use Rattle.rdm_device.specs.declared.profile.StatusText.{StatusText}
+use Rattle.rdm_device.specs.declared.profile.workers.Worker.{Worker}
+use Rattle.rdm_device.specs.declared.profile.workers.Worker.TheVariants.{First, Second}
+use Rattle.rdm_device.specs.declared.profile.workers.Workers.{Workers}
+use Rattle.rdm_device.specs.Device.Workers.{worker_number}
 use Rattle.toml.specs.Data.{integer, boolean, table}
-use Rattle.rdm_fixture.specs.Format.{IsPersonality, IsSlot, IsSensor, IsSelfTest, IsStatus, IsEstimates, estimates_keys, personality_keys, slot_keys, sensor_keys, self_test_keys, status_keys}
+use Rattle.rdm_fixture.specs.Format.{IsPersonality, IsSlot, IsSensor, IsSelfTest, IsStatus, IsEstimates, IsWorkers, estimates_keys, workers_keys, personality_keys, slot_keys, sensor_keys, self_test_keys, status_keys}
 use Rattle.rdm_fixture.specs.Keys.{may}
 use Rattle.rdm_fixture.specs.Parameters.{flag}
-use Rattle.rdm_fixture.specs.Values.{number, signed, text}
+use Rattle.rdm_fixture.specs.Values.{number, worker, signed, text}
 use Rattle.rdm_fixture.specs.Writing.{text_field, IsPlain}
 use Rattle.rdm_fixture.proofs.Fields.{Field, members_from, only_from, plain_from}
 use Rattle.rdm_fixture.proofs.Said.{number_says, must_say, may_say, may_text, number_plain, flag_plain, text_plain}
@@ -126,3 +130,26 @@ estimates_say e lamp power self_test sensor = let fs = estimates_fields e in rec
 
 pub estimates_plain : (e : Estimates) → IsPlain 1 (table (members_from (estimates_fields e)))
 estimates_plain e = plain_from 0 (estimates_fields e) (number_plain 0 _, (number_plain 0 _, (number_plain 0 _, (number_plain 0 _, tt))))
+
+-- ---- their workers
+
+abbrev pub workers_fields : Workers → List Field
+workers_fields ws =
+    (codes "sensor_value", Some (integer (pos (worker_number ws.sensor)))) ∷ (codes "perform_selftest", Some (integer (pos (worker_number ws.self_test))))
+    ∷ (codes "power_state", Some (integer (pos (worker_number ws.power)))) ∷ (codes "lamp_state", Some (integer (pos (worker_number ws.lamp)))) ∷ []
+
+worker_says : (w : Worker) → worker (integer (pos (worker_number w))) ≡ Some w
+worker_says First = refl
+worker_says Second = refl
+
+pub workers_say : (ws : Workers) → IsWorkers (members_from (workers_fields ws)) ws
+workers_say ws = let fs = workers_fields ws in record {
+  keys = only_from workers_keys fs refl;
+  lamp = may_say (codes "lamp_state") fs First worker _ _ refl (worker_says ws.lamp);
+  power = may_say (codes "power_state") fs First worker _ _ refl (worker_says ws.power);
+  self_test = may_say (codes "perform_selftest") fs Second worker _ _ refl (worker_says ws.self_test);
+  sensor = may_say (codes "sensor_value") fs Second worker _ _ refl (worker_says ws.sensor);
+}
+
+pub workers_plain : (ws : Workers) → IsPlain 1 (table (members_from (workers_fields ws)))
+workers_plain ws = plain_from 0 (workers_fields ws) (number_plain 0 _, (number_plain 0 _, (number_plain 0 _, (number_plain 0 _, tt))))

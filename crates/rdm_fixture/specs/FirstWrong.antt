@@ -3,6 +3,7 @@ use Rattle.std.specs.Prelude.{◌≡◌, ◌≢◌, ℕ, ◌+◌, ◌<◌, ◌�
 use Rattle.toml.specs.Data.{Data, table, array, Members, get_member}
 use Rattle.rdm_device.specs.declared.profile.estimates.Estimates.{Estimates}
 use Rattle.rdm_device.specs.declared.profile.Unit.{Unit as DeviceUnit}
+use Rattle.rdm_device.specs.declared.profile.workers.Workers.{Workers}
 use Rattle.rdm_device.specs.declared.profile.own.ParameterDef.{ParameterDef}
 use Rattle.rdm_device.specs.declared.profile.own.Shape.{Shape}
 use Rattle.rdm_device.specs.declared.profile.own.Shape.TheVariants as shapes
@@ -16,11 +17,11 @@ use Rattle.rdm_fixture.specs.declared.refusal.Wanted.{Wanted}
 use Rattle.rdm_fixture.specs.declared.refusal.Wanted.TheVariants as wanted
 use Rattle.rdm_fixture.specs.declared.refusal.Section.TheVariants as sections
 use Rattle.rdm_fixture.specs.Faults.{Fault, fault, in_entry, in_section}
-use Rattle.rdm_fixture.specs.Format.{IsPersonality, IsSlot, IsSensor, IsSelfTest, IsStatus, IsUnit, SubDevices, EstimatesAt, LanguagesAt, IsProfile, personality_keys, slot_keys, sensor_keys, self_test_keys, status_keys, estimates_keys, unit_keys, fixture_keys, root_slots, parameter_named}
+use Rattle.rdm_fixture.specs.Format.{IsPersonality, IsSlot, IsSensor, IsSelfTest, IsStatus, IsUnit, SubDevices, EstimatesAt, WorkersAt, LanguagesAt, IsProfile, personality_keys, slot_keys, sensor_keys, self_test_keys, status_keys, estimates_keys, workers_keys, unit_keys, fixture_keys, root_slots, parameter_named}
 use Rattle.rdm_fixture.specs.Keys.{must, has_only, OfTable, EachIs, Lists, items_count}
 use Rattle.rdm_fixture.specs.Outcomes.{IsOutcome, task, severity, outcome_in, and_job_keys, rule_keys}
 use Rattle.rdm_fixture.specs.Parameters.{IsParameter, parameter_keys, own_pid, command_class, data_type, slots_of, shape_in, least_of, greatest_of, limit, integer_from, low_in, high_in, start, flag}
-use Rattle.rdm_fixture.specs.Values.{within, number, language, uid}
+use Rattle.rdm_fixture.specs.Values.{within, number, worker, language, uid}
 use Rattle.rdm_fixture.specs.Wrong.{Part, FirstWrong, says_one, given, FirstOther, only, needed_as, needed, free, needed_number, free_number, free_signed, free_text, entries}
 
 -- ---- the entries of lists
@@ -177,6 +178,25 @@ abbrev pub times : Part
 times =
     says_one (λ t (e : Estimates). EstimatesAt (get_member (codes "estimates") t) e) (λ t f. WrongEstimates (get_member (codes "estimates") t) f)
 
+-- ---- their workers
+
+abbrev pub free_worker : List ℕ → Part
+free_worker key = free key worker (wanted.Number (pos 0) (pos 1))
+
+abbrev pub workers_parts : List Part
+workers_parts =
+    only workers_keys ∷ free_worker (codes "lamp_state") ∷ free_worker (codes "power_state") ∷ free_worker (codes "perform_selftest")
+    ∷ free_worker (codes "sensor_value") ∷ []
+
+abbrev pub WrongWorkers : Option Data → Fault → Type 0
+WrongWorkers None f = ⊥
+WrongWorkers (Some (table t)) f = (g : Fault) × FirstWrong workers_parts t g × (f ≡ in_section sections.Workers g)
+WrongWorkers (Some _) f = f ≡ fault (codes "workers") wanted.Table
+
+abbrev pub choice : Part
+choice =
+    says_one (λ t (ws : Workers). WorkersAt (get_member (codes "workers") t) ws) (λ t f. WrongWorkers (get_member (codes "workers") t) f)
+
 -- ---- the whole
 
 abbrev pub WrongLanguages : Option Data → Fault → Type 0
@@ -249,7 +269,7 @@ profile_parts =
     ∷ entries (codes "self_test") IsSelfTest (FirstWrong self_test_parts) 0 8 ∷ differing (codes "self_test") (codes "number") IsSelfTest (λ a. a.number)
     ∷ entries (codes "status") IsStatus (FirstWrong status_parts) 0 8 ∷ differing (codes "status") (codes "id") IsStatus (λ a. a.id)
     ∷ names ∷ optional ∷ unneeded
-    ∷ entries (codes "parameter") IsParameter (FirstWrong parameter_parts) 0 16 ∷ ascending ∷ times ∷ []
+    ∷ entries (codes "parameter") IsParameter (FirstWrong parameter_parts) 0 16 ∷ ascending ∷ times ∷ choice ∷ []
 
 abbrev pub fixture_parts : List Part
 fixture_parts =

@@ -10,13 +10,16 @@ use Rattle.rdm_device.specs.declared.profile.Slot.{Slot}
 use Rattle.rdm_device.specs.declared.profile.StatusText.{StatusText}
 use Rattle.rdm_device.specs.declared.profile.Unit.{Unit as DeviceUnit}
 use Rattle.rdm_device.specs.declared.profile.estimates.Estimates.{Estimates}
+use Rattle.rdm_device.specs.declared.profile.workers.Worker.TheVariants.{First, Second}
+use Rattle.rdm_device.specs.declared.profile.workers.Workers.{Workers}
 use Rattle.rdm_device.specs.Device.Estimates.{usual}
 use Rattle.rdm_device.specs.Device.Profiles.{MayBeLeftOut}
+use Rattle.rdm_device.specs.Device.Workers.{usual_workers}
 use Rattle.rdm_params.specs.Table.Kinds.{pid_of, kind_named}
 use Rattle.rdm_fixture.specs.declared.fixture.Fixture.{Fixture}
 use Rattle.rdm_fixture.specs.Outcomes.{IsOutcome}
 use Rattle.rdm_fixture.specs.Parameters.{IsParameter, flag}
-use Rattle.rdm_fixture.specs.Values.{number, signed, text, language, uid}
+use Rattle.rdm_fixture.specs.Values.{number, worker, signed, text, language, uid}
 use Rattle.rdm_fixture.specs.Keys.{may, Must, May, has_only, OfTable, EachIs, Lists, items_count}
 
 -- ---- the entries of lists
@@ -131,6 +134,25 @@ EstimatesAt None e = e ≡ usual
 EstimatesAt (Some (table t)) e = IsEstimates t e
 EstimatesAt (Some _) e = ⊥
 
+-- ---- their workers
+
+abbrev pub workers_keys : List (List ℕ)
+workers_keys = codes "lamp_state" ∷ codes "power_state" ∷ codes "perform_selftest" ∷ codes "sensor_value" ∷ []
+
+-- The number of the worker that carries out each. Section 6.3.3.
+pub record IsWorkers (t : Members) (ws : Workers) : Type 0 where
+  pub keys : IsTrue (has_only workers_keys t)
+  pub lamp : May t (codes "lamp_state") First worker ws.lamp
+  pub power : May t (codes "power_state") First worker ws.power
+  pub self_test : May t (codes "perform_selftest") Second worker ws.self_test
+  pub sensor : May t (codes "sensor_value") Second worker ws.sensor
+
+-- Without their table they are the usual ones.
+abbrev pub WorkersAt : Option Data → Workers → Type 0
+WorkersAt None ws = ws ≡ usual_workers
+WorkersAt (Some (table t)) ws = IsWorkers t ws
+WorkersAt (Some _) ws = ⊥
+
 -- ---- the whole
 
 -- how many slots are described
@@ -157,7 +179,7 @@ abbrev pub fixture_keys : List (List ℕ)
 fixture_keys =
     codes "uid" ∷ codes "boot_software_version_id" ∷ codes "boot_software_version_label" ∷ codes "languages"
     ∷ codes "presets" ∷ codes "more_slots" ∷ codes "slot" ∷ codes "sensor" ∷ codes "self_test" ∷ codes "status"
-    ∷ codes "without" ∷ codes "parameter" ∷ codes "outcome" ∷ codes "sub_devices" ∷ codes "estimates" ∷ unit_keys
+    ∷ codes "without" ∷ codes "parameter" ∷ codes "outcome" ∷ codes "sub_devices" ∷ codes "estimates" ∷ codes "workers" ∷ unit_keys
 
 -- What the devices are made with. The parameters of the maker's own are in the order of their PIDs. Those that the fixture lacks are ones
 -- that it may lack, and none that another one needs.
@@ -180,6 +202,7 @@ pub record IsProfile (t : Members) (p : Profile) : Type 0 where
   pub own : Lists t (codes "parameter") (OfTable IsParameter) 0 16 p.own
   pub own_ascend : AllPairs (λ a b. a.pid < b.pid) p.own
   pub estimates : EstimatesAt (get_member (codes "estimates") t) p.estimates
+  pub workers : WorkersAt (get_member (codes "workers") t) p.workers
 
 pub record IsFixture (t : Members) (f : Fixture) : Type 0 where
   pub keys : IsTrue (has_only fixture_keys t)

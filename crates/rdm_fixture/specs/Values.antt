@@ -1,7 +1,9 @@
--- What one value of a file says: a number, a text, a UID or a language, or nothing that a fixture can be made with.
-use Rattle.std.specs.Prelude.{ℕ, ◌+◌, ◌*◌, ℤ, pos, neg_ℤ, Bool, ◌&&◌, if◌then◌else◌, nat_le, List, [], ◌∷◌, length, Option, Some, None, option_and_then}
+-- What one value of a file says: a number, a worker, a text, a UID or a language, or nothing that a fixture can be made with.
+use Rattle.std.specs.Prelude.{ℕ, ◌+◌, ◌*◌, ◌==◌, ℤ, pos, neg_ℤ, Bool, ◌&&◌, if◌then◌else◌, nat_le, List, [], ◌∷◌, length, Option, Some, None, option_map, option_and_then}
 use Rattle.std.specs.List.{list_all}
 use Rattle.std.specs.Int.Signed.{le_z}
+use Rattle.rdm_device.specs.declared.profile.workers.Worker.{Worker}
+use Rattle.rdm_device.specs.declared.profile.workers.Worker.TheVariants.{First, Second}
 use Rattle.rdm_frame.specs.declared.uid.Uid.{Uid}
 use Rattle.rdm_frame.specs.Addressing.{is_broadcast}
 use Rattle.rdm_frame.specs.DigitReading.{uid_in}
@@ -15,6 +17,14 @@ within least most n = nat_le least n && nat_le n most
 abbrev pub number : ℕ → ℕ → Data → Option ℕ
 number least most (integer (pos n)) = if within least most n then Some n else None
 number least most _ = None
+
+-- the worker of a number
+abbrev pub numbered : ℕ → Worker
+numbered n = if n == 0 then First else Second
+
+-- the worker, if it is 0 or 1
+abbrev pub worker : Data → Option Worker
+worker d = option_map numbered (number 0 1 d)
 
 -- the signed number of 16 bits, if it is one
 abbrev pub signed : Data → Option ℤ

@@ -126,7 +126,8 @@ fn fixture_of(table: &Table) -> Result<(Fixture, ArrayVec<ParameterDef, 16>), Re
             "parameter",
             "outcome",
             "sub_devices",
-            "estimates"
+            "estimates",
+            "workers"
         ),
     )?;
     let uid = own_uid(table, "uid")?;

@@ -18,6 +18,7 @@ mod parameters;
 mod profile;
 mod refusal;
 mod unit;
+mod workers;
 mod writing;
 
 pub use document::FixtureError;

@@ -20,6 +20,7 @@ use crate::keys::{find, number_or, text_or_none};
 use crate::lists::list;
 use crate::refusal::{Refusal, Wanted};
 use crate::unit::{sub_devices, unit};
+use crate::workers::workers;
 use added::{own_parameters, without};
 use arrayvec::ArrayVec;
 use rdm_device::{OwnParameters, ParameterDef, Profile, SelfTest, Slot, StatusText};
@@ -47,6 +48,7 @@ pub(crate) fn profile(table: &Table) -> Result<(Profile, ArrayVec<ParameterDef, 
     let without = without(table)?;
     let parameters = own_parameters(table)?;
     let estimates = estimates(table)?;
+    let workers = workers(table)?;
     let profile = Profile {
         root,
         sub,
@@ -63,6 +65,7 @@ pub(crate) fn profile(table: &Table) -> Result<(Profile, ArrayVec<ParameterDef, 
         without,
         more_slots,
         estimates,
+        workers,
     };
     Ok((profile, parameters))
 }

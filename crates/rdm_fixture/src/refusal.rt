@@ -82,6 +82,8 @@ pub enum Section {
     SubDevices,
     /// That of the times of slow commands.
     Estimates,
+    /// That of their workers.
+    Workers,
 }
 
 /// Why a table isn't a valid fixture.
@@ -195,6 +197,7 @@ impl fmt::Display for Refusal {
             Section::Top => {}
             Section::SubDevices => f.write_str("in [sub_devices], ")?,
             Section::Estimates => f.write_str("in [estimates], ")?,
+            Section::Workers => f.write_str("in [workers], ")?,
         }
         if let Some(entry) = &self.entry {
             let list = entry.list.as_str();

@@ -5,7 +5,9 @@ mod lines;
 mod outcomes;
 mod parameters;
 mod refusals;
+mod spot;
 mod values;
+mod workers;
 mod writing;
 
 use rdm_fixture::Fixture;

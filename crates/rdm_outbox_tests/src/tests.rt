@@ -3,7 +3,7 @@
 
 use rdm_frame::Body;
 use rdm_outbox::*;
-use rdm_params::{Ask, Entry, Message, Severity, Verb, Work};
+use rdm_params::{Ask, Entry, Message, Severity, Verb, Work, Worker, Workers};
 use std::process::Abort;
 use std::test::Fail;
 
@@ -147,6 +147,29 @@ fn numbers_begin_where_they_are_told_to(rt: HostRuntime) -> Result<(), Fail> {
         );
         assert_eq!(rt; number(&mut outbox, SELF_TEST), None, "{first}");
     }
+    Ok(())
+}
+
+/// A choice by which the lamp is worker 1's, and the self tests are worker 0's: the other way round than usual.
+const TURNED: Workers = Workers {
+    lamp: Worker::Second,
+    power: Worker::Second,
+    self_test: Worker::First,
+    sensor: Worker::First,
+};
+
+#[test]
+fn jobs_have_the_workers_of_the_choice(rt: HostRuntime) -> Result<(), Fail> {
+    let mut outbox = Outbox::new_for(rt.alloc(), 8, 3, 1, 5, TURNED)
+        .ok()
+        .ok_or("a good size")?;
+    assert_eq!(rt; number(&mut outbox, LAMP), Some(5));
+    assert!(rt; outbox.oldest(0).is_none());
+    assert!(rt; matches!(outbox.oldest(1), Some(job) if job.work == LAMP));
+    assert_eq!(rt; number(&mut outbox, SELF_TEST), Some(5));
+    assert!(rt; matches!(outbox.oldest(0), Some(job) if job.work == SELF_TEST));
+    finish(&rt, &mut outbox, 1, 0x0403);
+    assert!(rt; outbox.oldest(1).is_none());
     Ok(())
 }
 

@@ -13,6 +13,7 @@ pub mod OwnKeys
 pub mod Places
 pub mod PlacesAsSet
 pub mod PlacesOwn
+pub mod PlainGets
 pub mod PlateEquality
 pub mod Plates
 pub mod PowerOns

@@ -16,25 +16,26 @@ ghost use Rattle.rdm_device.specs.Device.Spot.{Spot};
 ghost use Rattle.rdm_device.specs.Device.Values.{byte_or_0};
 ghost use Rattle.rdm_device.specs.declared.value.Value.{Value};
 ghost use Rattle.rdm_params.specs.Views.Verdicts.{verdict_with, NamesItsJob};
-ghost use Rattle.rdm_params.specs.Table.Uses.{way_of, way_at, in_range_of, is_bare, reply};
+ghost use Rattle.rdm_params.specs.Table.Uses.{way_of, way_at, in_range_of, reply};
 ghost use Rattle.rdm_params.specs.Jobs.Asks.{ask_of};
-ghost use Rattle.rdm_params.specs.Jobs.Work.{estimate_of};
 
 mod added;
 mod addressing;
 mod commit;
 mod panel;
 mod placing;
+mod plain;
 mod read_data;
 mod saving;
+mod slow;
 mod starting;
 mod thresholds;
 
 use crate::commands::addressing::is_all_call;
 use crate::commands::sub_devices::{all_in_range, store_at, store_each};
-use crate::jobs::{Way, estimate_by};
+use crate::jobs::Way;
 use crate::table::find::{Found, find};
-use crate::table::respond::{reply_into, state_into};
+use crate::table::respond::reply_into;
 use crate::table::store::{store_added, store_common, store_own};
 use crate::table::within::is_in_range;
 use crate::{Answer, Ask, Changed, Kind, Nack, Profile, Value, Verb, Verdict, Work};
@@ -87,14 +88,6 @@ impl Devices {
         ensures { result ≡ length self.now.subs }
     {
         self.subs.len()
-    }
-
-    /// How long the job of a slow command takes, in tenths of a second, for ACK_TIMER (E1.20 section 6.3.3): what the profile
-    /// estimates. It is 0 if the work isn't a slow command.
-    pub fn estimate_of(&self, work: &Work) -> u16
-        ensures { result ≡ estimate_of self.now.profile work.now }
-    {
-        estimate_by(&self.profile.estimates, work)
     }
 
     /// What a GET answers: the value, the job that it starts, or the first reason to reject it.
@@ -198,9 +191,9 @@ impl Devices {
         ensures job { IfOk result (λ answer. NamesItsJob self.now.profile answer) }
         ensures empty { result ≢ Ok Answer.Done → body.new ≡ [] }
     {
-        let place = self
-            .first_place(sub, Verb::Get)
-            .ok_or(Nack::SubDeviceOutOfRange)?;
+        if self.first_place(sub, Verb::Get).is_none() {
+            return Err(Nack::SubDeviceOutOfRange);
+        }
         if self.lacks(pid) {
             return Err(Nack::UnknownPid);
         }
@@ -221,6 +214,12 @@ impl Devices {
             }
             Err(nack) => return Err(nack),
         };
+        if found.is_plain_get() {
+            return self.get_plain(sub, found.kind, data, body);
+        }
+        let place = self
+            .first_place(sub, Verb::Get)
+            .ok_or(Nack::SubDeviceOutOfRange)?;
         let value = self.read_data(sub, Verb::Get, found, &place, data)?;
         let profile = &self.profile;
         let place = Some(&place);
@@ -285,7 +284,6 @@ impl Devices {
     fn answer_to_set(&self, sub: u16, found: Found, value: &Argument<'_>, body: &mut Body) -> Answer
         requires empty { body.old ≡ [] }
         requires way { found.way ≡ way_of (command_of (pid_of found.kind) Set) }
-        requires bare { found.is_bare ≡ is_bare (command_of (pid_of found.kind) Set) }
         requires silent { found.has_reply ≡ false → (spot : Spot) (value : Value) → reply (command_of (pid_of found.kind) Set) spot value ≡ [] }
         ensures answer { verdict_with result body.new ≡ answered (way_at self.now.profile (command_of (pid_of found.kind) Set) Set value.now)
             (reply_at (command_of (pid_of found.kind) Set) (addressed self.now sub Set) value.now)
@@ -357,7 +355,6 @@ fn answer(
 ) -> Answer
     requires empty { body.old ≡ [] }
     requires way { found.way ≡ way_of (command_of (pid_of found.kind) verb) }
-    requires bare { found.is_bare ≡ is_bare (command_of (pid_of found.kind) verb) }
     ensures answer { verdict_with result body.new ≡ answered (way_at profile.now (command_of (pid_of found.kind) verb) verb value.now)
         (option_map_or (λ spot. reply (command_of (pid_of found.kind) verb) spot value.now) (option_copied place.entry) [])
         (work sub (pid_of found.kind) verb value.now) (ask_of (byte_or_0 value.now)) }
@@ -368,10 +365,7 @@ fn answer(
     match found.way.at(profile, verb, arg) {
         Way::AtOnce => {
             if let Some(place) = place {
-                match verb {
-                    Verb::Get if found.is_bare => state_into(found.kind, place, body),
-                    _ => reply_into(found.kind, verb, place, value, body),
-                }
+                reply_into(found.kind, verb, place, value, body);
             }
             Answer::Done
         }
@@ -382,7 +376,7 @@ fn answer(
                 verb,
                 arg,
             },
-            worker: slow.worker(),
+            worker: slow.worker(&profile.workers),
             estimate: slow.estimate(&profile.estimates),
         },
         Way::FromQueue => Answer::Queues(Ask::of(arg)),

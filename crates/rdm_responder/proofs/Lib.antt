@@ -1,6 +1,7 @@
 pub mod Accounts
 pub mod Arrivals
 pub mod Changes
+pub mod Choices
 pub mod Growth
 pub mod Lawfulness
 pub mod Options

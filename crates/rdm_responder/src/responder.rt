@@ -12,13 +12,13 @@ ghost use Rattle.rdm_device.specs.declared.profile.Profile.{Profile};
 ghost use Rattle.rdm_device.specs.Device.Parameters.{parameters_of};
 ghost use Rattle.rdm_params.specs.Device.Profiles.{CanBeMade};
 ghost use Rattle.rdm_params.specs.Jobs.Outcome.{fits};
-ghost use Rattle.rdm_params.specs.Jobs.Work.{worker_of};
+ghost use Rattle.rdm_params.specs.Jobs.Work.{worker_at};
 ghost use Rattle.rdm_responder.specs.History.{History, Heard, Arrived, empty_history, then_event};
 ghost use Rattle.rdm_responder.specs.Lawful.{IsLawful, MayArrive};
 ghost use Rattle.rdm_responder.specs.Rules.{Account, account_of, after_outcome, answered, reply_of, job_of};
 ghost use Rattle.rdm_responder.specs.Runs.{IsArrival, outbox_of};
 ghost use Rattle.rdm_responder.specs.StandsFor.{Shows, StandsFor, IsQueueSize};
-ghost use Rattle.rdm_responder.specs.Started.{job_in, IsAsInProfile};
+ghost use Rattle.rdm_responder.specs.Started.{job_in, IsAsInProfile, IsForItsWorker};
 
 mod firmware;
 mod hear;
@@ -67,11 +67,15 @@ pub struct Responder {
 }
 
 impl Model for Responder {
+    ghost use Rattle.std.specs.Prelude.{◌≡◌};
     ghost use Rattle.rdm_responder.specs.StandsFor.{State};
 
     ghost Value = { State };
 
     ghost view = { λ r. record { uid = r.uid; parameters = r.devices; muted = r.muted; outbox = r.outbox } };
+
+    // The outbox has the profile's choice of workers.
+    ghost invariant = { λ r. r.outbox.workers ≡ r.devices.profile.workers };
 }
 
 impl Responder {
@@ -153,7 +157,7 @@ impl Responder {
     }
 
     /// A responder as of `new_numbered`, of a profile that has its place already: for a caller with little stack, since a profile
-    /// has 4,848 bytes.
+    /// has 4,784 bytes.
     pub fn new_boxed(
         alloc: Global,
         uid: Uid,
@@ -198,7 +202,8 @@ impl Responder {
             (record { uid = uid; profile = profile; queue_size = queue_size; entries = entries; first_job = first_job }))) }
         ensures err { IfErr result (λ e. e ≡ NewError.OutOfMemory) }
     {
-        let Ok(outbox) = Outbox::new_numbered(alloc, queue_size, MOST_JOBS, entries, first_job)
+        let workers = devices.workers();
+        let Ok(outbox) = Outbox::new_for(alloc, queue_size, MOST_JOBS, entries, first_job, workers)
         else {
             return Err(NewError::OutOfMemory);
         };
@@ -243,6 +248,7 @@ impl Responder {
         ensures silent { OnFalse result.replied (wire.new ≡ wire.old) }
         ensures job { (h : History) → StandsFor self.old h → job_in result.started ≡ job_of h bytes.now }
         ensures table { IfSome result.started (IsAsInProfile self.old.parameters.profile) }
+        ensures worker { IfSome result.started (IsForItsWorker self.old.outbox.workers) }
         ensures stands { (h : History) → StandsFor self.old h → StandsFor self.new (then_event h (Heard bytes.now)) }
         ensures unchanged { (h : History) → StandsFor self.old h → ((result.changed ≡ None)
             ↔ ((account_of (then_event h (Heard bytes.now))).parameters ≡ (account_of h).parameters)) }
@@ -313,12 +319,13 @@ impl Responder {
 
     /// The worker whose report this is, if it may arrive now.
     fn awaits(&self, report: &Report) -> Option<u8>
-        ensures worker { IfSome result (λ worker. worker ≡ worker_of report.now.job.work) }
+        ensures worker { IfSome result (λ worker. worker ≡ worker_at self.now.outbox.workers report.now.job.work) }
         ensures oldest { IfSome result (λ worker. slice_get (jobs_at self.now.outbox worker) 0 ≡ Some report.now.job) }
         ensures fits { IsSome result → fits report.now.job.work report.now.outcome ≡ true }
         ensures account { (a : Account) → Shows self.now a → (IsSome result ↔ MayArrive a report.now) }
     {
-        let worker = fitting_worker(&report.job.work, &report.outcome)?;
+        let workers = self.devices.workers();
+        let worker = fitting_worker(&workers, &report.job.work, &report.outcome)?;
         let job = self.outbox.oldest(worker)?;
         if is_same(job, &report.job) {
             Some(worker)
@@ -342,6 +349,7 @@ fn note_failure(devices: &Devices, outbox: &mut Outbox, work: &Work, outcome: Ou
         result ≡ nat_lt (length b.noted) (length (after_outcome devices.now b work.now outcome).noted) }
     ensures shows { (b : OutboxAccount) → OutboxShows outbox.old b →
         OutboxShows outbox.new (after_outcome devices.now b work.now outcome) }
+    ensures workers { outbox.new.workers ≡ outbox.old.workers }
 {
     match outcome {
         Outcome::Failed {

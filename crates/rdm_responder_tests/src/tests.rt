@@ -3,6 +3,7 @@
 //! The device is 7FF0:00000001, the controller 7FF0:00000002.
 
 mod changes;
+mod chosen;
 mod clear;
 mod cuts;
 mod discovery;

@@ -6,6 +6,7 @@ use Rattle.rdm_frame.specs.declared.uid.Uid.{Uid}
 use Rattle.rdm_device.specs.declared.profile.Profile.{Profile}
 use Rattle.rdm_params.specs.declared.panel.Change.{Change}
 use Rattle.rdm_params.specs.declared.jobs.outcome.Outcome.{Outcome}
+use Rattle.rdm_params.specs.Jobs.Work.{Choice}
 use Rattle.rdm_outbox.specs.declared.job.Job.{Job}
 use Rattle.rdm_responder.specs.declared.report.Report.{Report}
 use Rattle.rdm_bus.specs.declared.event.Event.{Event}
@@ -17,6 +18,7 @@ use Rattle.rdm_crew.specs.RunTrace.{IsCut, IsAnswered}
 use Rattle.rdm_crew.specs.Setups.{IsBadSetup, switched_on}
 use Rattle.rdm_crew.specs.Watchers.{AreOffered}
 use Rattle.rdm_crew.specs.Workers.{Answers}
+use Rattle.rdm_trace.specs.declared.found.Finds.{Finds}
 use Rattle.rdm_trace.specs.declared.line.Line.{Line}
 use Rattle.rdm_trace.specs.LineText.{lines_text}
 use Rattle.rdm_trace.specs.RunLines.{trace_lines}
@@ -47,6 +49,13 @@ pub record IsWider (s t : Scene) : Type 0 where
 moved : (P : Uid → Profile → Type 0) (s t : Scene) → IsWider s t → P s.device s.profile → P t.device t.profile
 moved P s t w h = subst (P t.device) w.profile (subst (λ (d : Uid). P d s.profile) w.device h)
 
+-- the lines are those of the device's workers
+retraced : (s t : Scene) → IsWider s t → (finds : Spelling → Finds) (events : List Event) (P : List Line → Type 0)
+    → P (trace_lines s.profile.workers (finds s.spelling) events (recorded events)) → P (trace_lines t.profile.workers (finds t.spelling) events (recorded events))
+retraced s t w finds events P h =
+    subst (λ (p : Profile). P (trace_lines p.workers (finds t.spelling) events (recorded events))) w.profile
+    (subst (λ (k : Spelling). P (trace_lines s.profile.workers (finds k) events (recorded events))) w.spelling h)
+
 -- what hangs on the dialect alone
 retold : (P : Dialect → Type 0) (s t : Scene) → IsWider s t → P (spoken_at s) → P (spoken_at t)
 retold P s t w h =
@@ -60,8 +69,8 @@ answers_wider f g wider js [] h = tt
 answers_wider f g wider [] (r ∷ rs) h = absurd h
 answers_wider f g wider (j ∷ js) (r ∷ rs) h = (h.0, wider j r.outcome h.1, answers_wider f g wider js rs h.2)
 
-answered_wider : (worker : ℕ) (f g : Job → Outcome → Type 0) → ((j : Job) (o : Outcome) → f j o → g j o) → (events : List Event) → IsAnswered worker f events → IsAnswered worker g events
-answered_wider worker f g wider events a = record { answers = answers_wider f g wider _ _ a.answers; all = a.all }
+answered_wider : (ws : Choice) (worker : ℕ) (f g : Job → Outcome → Type 0) → ((j : Job) (o : Outcome) → f j o → g j o) → (events : List Event) → IsAnswered ws worker f events → IsAnswered ws worker g events
+answered_wider ws worker f g wider events a = record { answers = answers_wider f g wider _ _ a.answers; all = a.all }
 
 offered_wider : (f g : ℕ → Change → Type 0) → ((n : ℕ) (c : Change) → f n c → g n c) → (n : ℕ) (cs : List Change) → AreOffered f n cs → AreOffered g n cs
 offered_wider f g wider n [] h = tt
@@ -76,8 +85,8 @@ bad_wider s t setup w h = moved (λ (d : Uid) (p : Profile). (p.subs < setup.sub
 run_wider : (s t : Scene) (setup : ScriptSetup) (steps : List CrewStep) (events : List Event) → IsWider s t → IsScriptRun s setup steps events → IsScriptRun t setup steps events
 run_wider s t setup steps events w run = record {
   cut = moved (λ (d : Uid) (p : Profile). IsCut (switched_on (crew_setup d p setup)) steps events) s t w run.cut;
-  first = answered_wider 0 s.first t.first w.first events run.first;
-  second = answered_wider 1 s.second t.second w.second events run.second;
+  first = subst (λ (p : Profile). IsAnswered p.workers 0 t.first events) w.profile (answered_wider s.profile.workers 0 s.first t.first w.first events run.first);
+  second = subst (λ (p : Profile). IsAnswered p.workers 1 t.second events) w.profile (answered_wider s.profile.workers 1 s.second t.second w.second events run.second);
   changes = offered_wider s.offers t.offers w.offers 0 _ run.changes;
 }
 
@@ -89,7 +98,7 @@ trace_wider s t w input text h = record {
   spelled = retold (λ (d : Dialect). IsScript d input h.setup h.steps) s t w h.spelled;
   good = good_wider s t h.setup w h.good;
   run = run_wider s t h.setup h.steps h.events w h.run;
-  written = subst (λ (k : Spelling). text ≡ lines_text (trace_lines (finds_of k input) h.events (recorded h.events))) w.spelling h.written;
+  written = retraced s t w (λ k. finds_of k input) h.events (λ (ls : List Line). text ≡ lines_text ls) h.written;
 }
 
 play_wider : (s t : Scene) → IsWider s t → (text : List ℕ) (lines : List Line) → IsPlayOf s text lines → IsPlayOf t text lines
@@ -100,7 +109,7 @@ play_wider s t w text lines h = record {
   spelled = retold (λ (d : Dialect). IsScript d text h.setup h.steps) s t w h.spelled;
   good = good_wider s t h.setup w h.good;
   run = run_wider s t h.setup h.steps h.events w h.run;
-  told = subst (λ (k : Spelling). lines ≡ trace_lines (finds_of k text) h.events (recorded h.events)) w.spelling h.told;
+  told = retraced s t w (λ k. finds_of k text) h.events (λ (ls : List Line). lines ≡ ls) h.told;
 }
 
 stops_wider : (s t : Scene) (e : RunError) (setup : ScriptSetup) (steps : List CrewStep) → IsWider s t → Stops s e setup steps → Stops t e setup steps

@@ -88,7 +88,7 @@ where
     P: Part + Send + 'static,
     Q: Part + Send + 'static,
     N: Panel + Send + 'static,
-    requires fits { FitsFor 0 (P.gives stage.first) × FitsFor 1 (Q.gives stage.second) }
+    requires fits { FitsFor stage.profile.workers 0 (P.gives stage.first) × FitsFor stage.profile.workers 1 (Q.gives stage.second) }
     // The lines are those of a run of this script, and of what was recorded then.
     ensures ok { IfOk result (λ lines. IsPlayOf (scene_of P.gives Q.gives N.offers stage) text.now lines.items) }
     // So their text is its trace.
@@ -105,8 +105,9 @@ where
     };
     let script = parse_as(alloc, &dialect, text)?;
     let finds = finds_of(stage.spelling, text);
+    let workers = stage.profile.workers;
     match play_steps(rt, alloc, script.setup, &script.steps, stage) {
-        Ok(trace) => Ok(trace_lines(alloc, finds, trace.events(), trace.recorded())?),
+        Ok(trace) => Ok(trace_lines(alloc, &workers, finds, trace.events(), trace.recorded())?),
         Err(stopped) => Err(stop_in(&script, stopped)),
     }
 }

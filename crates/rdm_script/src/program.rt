@@ -200,7 +200,7 @@ where
     P: Part + Send + 'static,
     Q: Part + Send + 'static,
     N: Panel + Send + 'static,
-    requires fits { FitsFor 0 (P.gives stage.first) × FitsFor 1 (Q.gives stage.second) }
+    requires fits { FitsFor stage.profile.workers 0 (P.gives stage.first) × FitsFor stage.profile.workers 1 (Q.gives stage.second) }
     ensures ok { OnOk result (IfSome (R.remaining reader.old) (λ input. (text : List ℕ) ×
         IsTraceOf (scene_of P.gives Q.gives N.offers stage) input text ×
         Appends (W.contents writer.old) (W.contents writer.new) text)) }
@@ -230,7 +230,7 @@ where
     P: Part + Send + 'static,
     Q: Part + Send + 'static,
     N: Panel + Send + 'static,
-    requires fits { FitsFor 0 (P.gives stage.first) × FitsFor 1 (Q.gives stage.second) }
+    requires fits { FitsFor stage.profile.workers 0 (P.gives stage.first) × FitsFor stage.profile.workers 1 (Q.gives stage.second) }
     ensures ok { IfOk result (λ text. IsTraceOf (scene_of P.gives Q.gives N.offers stage) input.now text.items) }
     ensures err { IfErr result (λ e. IsFailure (scene_of P.gives Q.gives N.offers stage) e input.now ×
         (e ≢ ReadFault) × (e ≢ WriteFault)) }

@@ -3,6 +3,7 @@
 ghost use Rattle.std.specs.Prelude.{◌≡◌};
 ghost use Rattle.rdm_crew.specs.RunTrace.{FitsFor};
 ghost use Rattle.rdm_outcomes.specs.Outcomes.{CanEnd};
+ghost use Rattle.rdm_params.specs.Jobs.Work.{Choice};
 ghost use Rattle.rdm_script.specs.Rules.{rules_of};
 ghost use Rattle.rdm_script.specs.declared.rules.RuledPart.{RuledPart as ThePart};
 
@@ -40,10 +41,10 @@ impl Part for RuledPart {
     }
 }
 
-/// Whatever its rules, a part gives outcomes that fit the jobs of either worker. It is the contract of a call that does
-/// nothing.
+/// Whatever its rules, a part gives outcomes that fit the jobs of either worker, whichever these are. It is the contract of a call that
+/// does nothing.
 pub fn ruled_parts_fit()
-    ensures { (part : ThePart) → FitsFor 0 (CanEnd (rules_of part)) × FitsFor 1 (CanEnd (rules_of part)) }
+    ensures { (part : ThePart) (ws : Choice) → FitsFor ws 0 (CanEnd (rules_of part)) × FitsFor ws 1 (CanEnd (rules_of part)) }
 {
     outcomes_fit();
 }

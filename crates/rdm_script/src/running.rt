@@ -33,7 +33,7 @@ where
     P: Part + Send + 'static,
     Q: Part + Send + 'static,
     N: Panel + Send + 'static,
-    requires fits { FitsFor 0 (P.gives stage.first) × FitsFor 1 (Q.gives stage.second) }
+    requires fits { FitsFor stage.profile.workers 0 (P.gives stage.first) × FitsFor stage.profile.workers 1 (Q.gives stage.second) }
     requires faults { HaveFaults steps.now }
     // What happened is a run of these steps, and both laws of a collector hold of it.
     ensures trace { IfOk result (λ trace. IsScriptRun (scene_of P.gives Q.gives N.offers stage) setup steps.now trace.events) }

@@ -1,5 +1,6 @@
 //! What no contract says: that scripts print what they should, and that the words of each fault are right.
 
+mod chosen;
 mod collecting;
 mod endings;
 mod finds;

@@ -11,41 +11,53 @@ use crate::{Finds, JobName, Line};
 use rdm_bus::Event;
 use rdm_frame::{Uid, Wire};
 use rdm_outbox::Job;
-use rdm_params::{Message, worker_of};
+use rdm_params::{Message, Workers, worker_at};
 use std::alloc::{AllocError, Global};
 
 /// The lines of a trace: those of its events, one for each message that was recorded, and the end; and if finds are told, one
-/// behind each transaction that finds a fixture. Fails only if memory is refused.
+/// behind each transaction that finds a fixture. A job is named by its worker, by what the profile of the devices says of workers,
+/// and its number. Fails only if memory is refused.
 pub fn trace_lines(
     alloc: Global,
+    workers: &Workers,
     finds: Finds,
     events: &[Event],
     recorded: &[Message],
 ) -> Result<Vec<Line>, AllocError>
-    ensures { IfOk result (λ lines. lines.items ≡ trace_lines finds events.now recorded.now) }
+    ensures { IfOk result (λ lines. lines.items ≡ trace_lines workers.now finds events.now recorded.now) }
 {
     let mut lines = Vec::new(alloc);
-    put_events(&mut lines, finds, events)?;
+    put_events(&mut lines, workers, finds, events)?;
     put_messages(&mut lines, recorded)?;
     put(&mut lines, Line::End)?;
     Ok(lines)
 }
 
 /// The lines of the events.
-fn put_events(lines: &mut Vec<Line>, finds: Finds, events: &[Event]) -> Result<(), AllocError>
-    ensures { OnOk result (lines.new.items ≡ lines.old.items ++ flat_map (told_lines finds) events.now) }
+fn put_events(
+    lines: &mut Vec<Line>,
+    workers: &Workers,
+    finds: Finds,
+    events: &[Event],
+) -> Result<(), AllocError>
+    ensures { OnOk result (lines.new.items ≡ lines.old.items ++ flat_map (told_lines workers.now finds) events.now) }
 {
     for event in events {
-        put_told(lines, finds, event)?;
+        put_told(lines, workers, finds, event)?;
     }
     Ok(())
 }
 
 /// Puts the lines of an event behind others, and if finds are told, that of the fixture that it finds.
-fn put_told(lines: &mut Vec<Line>, finds: Finds, event: &Event) -> Result<(), AllocError>
-    ensures { OnOk result (lines.new.items ≡ lines.old.items ++ told_lines finds event.now) }
+fn put_told(
+    lines: &mut Vec<Line>,
+    workers: &Workers,
+    finds: Finds,
+    event: &Event,
+) -> Result<(), AllocError>
+    ensures { OnOk result (lines.new.items ≡ lines.old.items ++ told_lines workers.now finds event.now) }
 {
-    put_event(lines, event)?;
+    put_event(lines, workers, event)?;
     match finds {
         Finds::Untold => Ok(()),
         Finds::Told => put_found(lines, found_in(event)),
@@ -74,8 +86,8 @@ fn put_messages(lines: &mut Vec<Line>, recorded: &[Message]) -> Result<(), Alloc
 
 /// Puts the lines of an event behind others (E1.20 sections 6.2 and 10.3.1). Fails only if memory is refused.
 #[tactic(auto, unfolding(crate::specs::RunLines::event_lines))]
-fn put_event(lines: &mut Vec<Line>, event: &Event) -> Result<(), AllocError>
-    ensures { OnOk result (lines.new.items ≡ lines.old.items ++ event_lines event.now) }
+fn put_event(lines: &mut Vec<Line>, workers: &Workers, event: &Event) -> Result<(), AllocError>
+    ensures { OnOk result (lines.new.items ≡ lines.old.items ++ event_lines workers.now event.now) }
 {
     match event {
         Event::Bus {
@@ -96,12 +108,12 @@ fn put_event(lines: &mut Vec<Line>, event: &Event) -> Result<(), AllocError>
             )?;
             put(lines, Line::Reply(copy_of(reply)))?;
             if let Some(job) = job {
-                put(lines, Line::Job(name_of(job)))?;
+                put(lines, Line::Job(name_of(workers, job)))?;
             }
             put(lines, Line::Heard(*heard))
         }
         Event::Arrived { report, .. } => {
-            let job = name_of(&report.job);
+            let job = name_of(workers, &report.job);
             put(
                 lines,
                 Line::Arrive {
@@ -141,11 +153,11 @@ fn copy_of(reply: &Option<Wire>) -> Option<Wire>
 }
 
 /// The name of a job: its worker and its number.
-fn name_of(job: &Job) -> JobName
-    ensures { result ≡ name_of job.now }
+fn name_of(workers: &Workers, job: &Job) -> JobName
+    ensures { result ≡ name_of workers.now job.now }
 {
     JobName {
-        worker: worker_of(&job.work),
+        worker: worker_at(workers, &job.work),
         number: job.number,
     }
 }

@@ -2,7 +2,7 @@
 use Rattle.std.proofs.Common.{◌≡◌, ℕ, zero, suc, ◌+◌, ◌≤◌, ◌==◌, ◌⊎◌, inl, inr, Bool, true, false, cond, List, [], ◌∷◌, ◌++◌, length, drop, Option, Some, None, refl, sym, ap, subst, ◌∙◌, arith, append-nil, add-zero, add-one}
 use Rattle.std.specs.Prelude.{slice_get}
 use Rattle.std.proofs.lemmas.List.Sums.{sum_by-append, sum_by-cons}
-use Rattle.rdm_params.specs.Jobs.Work.{worker_of}
+use Rattle.rdm_params.specs.Jobs.Work.{Choice}
 use Rattle.rdm_outbox.specs.declared.job.Job.{Job}
 use Rattle.rdm_outbox.specs.Account as outbox
 use Rattle.rdm_outbox.specs.Jobs.{jobs_of, ended_of, outstanding_of, outstanding_count}
@@ -15,7 +15,7 @@ use Rattle.rdm_responder.proofs.Accounts.{account_of-then}
 use Rattle.rdm_responder.proofs.Growth.{Grows, event_grows}
 use Rattle.rdm_widget.specs.declared.live_fixture.ending.Ended.{Ended}
 use Rattle.rdm_params.specs.Device.Parameters.{Parameters}
-use Rattle.rdm_widget.specs.LiveFixtures.{Situation, oldest_of, ended_by, earlier, first_ended, report_of, after_report, after_ended, after_next, after_several, since_when, begun, ready, NoneHasEnded}
+use Rattle.rdm_widget.specs.LiveFixtures.{Situation, worker_in, oldest_of, ended_by, earlier, first_ended, report_of, after_report, after_ended, after_next, after_several, since_when, begun, ready, NoneHasEnded}
 use Rattle.rdm_widget.proofs.Reports.{first_is, which}
 
 -- ---- where none has ended
@@ -44,47 +44,49 @@ ended_more : (w v : ℕ) (ended : List ℕ) (hit : Bool) → (v == w) ≡ hit �
 ended_more w v ended hit e =
     sum_by-append (λ x. cond (x == w) 1 0) ended (v ∷ []) ∙ ap (λ n. ended_of w ended + n) (sum_by-cons (λ x. cond (x == w) 1 0) v [] ∙ ap (λ (b : Bool). cond b 1 0 + 0) e ∙ add-zero (cond hit 1 0))
 
-same_jobs : (a b : outbox.Account) (w v : ℕ) → b.accepted ≡ a.accepted → b.ended ≡ a.ended ++ v ∷ [] → (v == w) ≡ false → outstanding_of b w ≡ outstanding_of a w
-same_jobs a b w v e f other =
-    ap (λ (l : List Job). drop (ended_of w b.ended) (jobs_of w l)) e
-    ∙ ap (λ (l : List ℕ). drop (ended_of w l) (jobs_of w a.accepted)) f
-    ∙ ap (λ n. drop n (jobs_of w a.accepted)) (ended_more w v a.ended false other ∙ add-zero (ended_of w a.ended))
+same_jobs : (a b : outbox.Account) (w v : ℕ) → b.accepted ≡ a.accepted → b.ended ≡ a.ended ++ v ∷ [] → b.workers ≡ a.workers → (v == w) ≡ false → outstanding_of b w ≡ outstanding_of a w
+same_jobs a b w v e f same other =
+    ap (λ (c : Choice). drop (ended_of w b.ended) (jobs_of c w b.accepted)) same
+    ∙ ap (λ (l : List Job). drop (ended_of w b.ended) (jobs_of a.workers w l)) e
+    ∙ ap (λ (l : List ℕ). drop (ended_of w l) (jobs_of a.workers w a.accepted)) f
+    ∙ ap (λ n. drop n (jobs_of a.workers w a.accepted)) (ended_more w v a.ended false other ∙ add-zero (ended_of w a.ended))
 
-fewer_jobs : (a b : outbox.Account) (w v : ℕ) (j : Job) → b.accepted ≡ a.accepted → b.ended ≡ a.ended ++ v ∷ [] → (v == w) ≡ true → slice_get (outstanding_of a w) 0 ≡ Some j
+fewer_jobs : (a b : outbox.Account) (w v : ℕ) (j : Job) → b.accepted ≡ a.accepted → b.ended ≡ a.ended ++ v ∷ [] → b.workers ≡ a.workers → (v == w) ≡ true → slice_get (outstanding_of a w) 0 ≡ Some j
     → suc (length (outstanding_of b w)) ≡ length (outstanding_of a w)
-fewer_jobs a b w v j e f own at =
-    let less : outstanding_of b w ≡ drop (suc (ended_of w a.ended)) (jobs_of w a.accepted) =
-    ap (λ (l : List Job). drop (ended_of w b.ended) (jobs_of w l)) e
-    ∙ ap (λ (l : List ℕ). drop (ended_of w l) (jobs_of w a.accepted)) f
-    ∙ ap (λ n. drop n (jobs_of w a.accepted)) (ended_more w v a.ended true own ∙ add-one (ended_of w a.ended)) in
-    ap (λ (l : List Job). suc (length l)) less ∙ one_less (ended_of w a.ended) (jobs_of w a.accepted) j at
+fewer_jobs a b w v j e f same own at =
+    let less : outstanding_of b w ≡ drop (suc (ended_of w a.ended)) (jobs_of a.workers w a.accepted) =
+    ap (λ (c : Choice). drop (ended_of w b.ended) (jobs_of c w b.accepted)) same
+    ∙ ap (λ (l : List Job). drop (ended_of w b.ended) (jobs_of a.workers w l)) e
+    ∙ ap (λ (l : List ℕ). drop (ended_of w l) (jobs_of a.workers w a.accepted)) f
+    ∙ ap (λ n. drop n (jobs_of a.workers w a.accepted)) (ended_more w v a.ended true own ∙ add-one (ended_of w a.ended)) in
+    ap (λ (l : List Job). suc (length l)) less ∙ one_less (ended_of w a.ended) (jobs_of a.workers w a.accepted) j at
 
-account_less : (a b : outbox.Account) (v : ℕ) (j : Job) → b.accepted ≡ a.accepted → b.ended ≡ a.ended ++ v ∷ []
+account_less : (a b : outbox.Account) (v : ℕ) (j : Job) → b.accepted ≡ a.accepted → b.ended ≡ a.ended ++ v ∷ [] → b.workers ≡ a.workers
     → slice_get (outstanding_of a v) 0 ≡ Some j → (v ≡ 0) ⊎ (v ≡ 1) → suc (outstanding_count b) ≡ outstanding_count a
-account_less a b v j e f at (inl zeroth) =
+account_less a b v j e f same at (inl zeroth) =
     let own : (v == 0) ≡ true = ap (λ n. n == 0) zeroth in
     let other : (v == 1) ≡ false = ap (λ n. n == 1) zeroth in
-    let one : suc (length (outstanding_of b 0)) ≡ length (outstanding_of a 0) = fewer_jobs a b 0 v j e f own (subst (λ w. slice_get (outstanding_of a w) 0 ≡ Some j) zeroth at) in
-    let two : length (outstanding_of b 1) ≡ length (outstanding_of a 1) = ap (λ (l : List Job). length l) (same_jobs a b 1 v e f other) in
+    let one : suc (length (outstanding_of b 0)) ≡ length (outstanding_of a 0) = fewer_jobs a b 0 v j e f same own (subst (λ w. slice_get (outstanding_of a w) 0 ≡ Some j) zeroth at) in
+    let two : length (outstanding_of b 1) ≡ length (outstanding_of a 1) = ap (λ (l : List Job). length l) (same_jobs a b 1 v e f same other) in
     omega (arith, one, two)
-account_less a b v j e f at (inr oneth) =
+account_less a b v j e f same at (inr oneth) =
     let own : (v == 1) ≡ true = ap (λ n. n == 1) oneth in
     let other : (v == 0) ≡ false = ap (λ n. n == 0) oneth in
-    let one : suc (length (outstanding_of b 1)) ≡ length (outstanding_of a 1) = fewer_jobs a b 1 v j e f own (subst (λ w. slice_get (outstanding_of a w) 0 ≡ Some j) oneth at) in
-    let two : length (outstanding_of b 0) ≡ length (outstanding_of a 0) = ap (λ (l : List Job). length l) (same_jobs a b 0 v e f other) in
+    let one : suc (length (outstanding_of b 1)) ≡ length (outstanding_of a 1) = fewer_jobs a b 1 v j e f same own (subst (λ w. slice_get (outstanding_of a w) 0 ≡ Some j) oneth at) in
+    let two : length (outstanding_of b 0) ≡ length (outstanding_of a 0) = ap (λ (l : List Job). length l) (same_jobs a b 0 v e f same other) in
     omega (arith, one, two)
 
-report_grows : (h : History) (r : Report) → Grows (outbox_of h) (outbox_of (then_event h (Arrived r))) [] (worker_of r.job.work ∷ [])
+report_grows : (h : History) (r : Report) → Grows (outbox_of h) (outbox_of (then_event h (Arrived r))) [] (worker_in h r.job ∷ [])
 report_grows h r =
-    subst (λ (a : Account). Grows (outbox_of h) a.outbox [] (worker_of r.job.work ∷ [])) (sym (account_of-then h (Arrived r)))
+    subst (λ (a : Account). Grows (outbox_of h) a.outbox [] (worker_in h r.job ∷ [])) (sym (account_of-then h (Arrived r)))
     (event_grows (account_of h) (Arrived r))
 
 report_less : (now : ℕ) (s : Situation) (e : Ended) → first_ended now s ≡ Some e
     → suc (outstanding_count (outbox_of (after_report s e).history)) ≡ outstanding_count (outbox_of s.history)
 report_less now s e is =
-    let grows : Grows (outbox_of s.history) (outbox_of (after_report s e).history) [] (worker_of e.job.work ∷ []) = report_grows s.history (report_of s e.job) in
-    account_less (outbox_of s.history) (outbox_of (after_report s e).history) (worker_of e.job.work) e.job
-    (grows.accepted ∙ append-nil (outbox_of s.history).accepted) grows.ended (first_is now s e is) (which now s e is)
+    let grows : Grows (outbox_of s.history) (outbox_of (after_report s e).history) [] (worker_in s.history e.job ∷ []) = report_grows s.history (report_of s e.job) in
+    account_less (outbox_of s.history) (outbox_of (after_report s e).history) (worker_in s.history e.job) e.job
+    (grows.accepted ∙ append-nil (outbox_of s.history).accepted) grows.ended grows.workers (first_is now s e is) (which now s e is)
 
 -- ---- so in the end none has ended
 

@@ -12,7 +12,6 @@ use Rattle.rdm_params.specs.declared.verdict.Verdict.TheVariants as verdict
 use Rattle.rdm_params.specs.Commands.Commands.{command_of}
 use Rattle.rdm_params.specs.Jobs.Laws.{GetStartsItsWork, SetStartsItsWork}
 use Rattle.rdm_responder.specs.Laws.{values_of}
-use Rattle.rdm_params.specs.Jobs.Work.{worker_of}
 use Rattle.rdm_params.specs.Table.Uses.{is_slow}
 use Rattle.rdm_outbox.specs.declared.job.Job.{Job}
 use Rattle.rdm_outbox.specs.declared.job.Full.TheVariants.{NoRoom}
@@ -28,7 +27,7 @@ use Rattle.rdm_responder.specs.Runs.{outbox_of}
 use Rattle.rdm_responder.proofs.Growth.{job_at, event_grows}
 use Rattle.rdm_widget.specs.declared.live_fixture.ending.Ended.{Ended}
 use Rattle.rdm_params.specs.Device.Parameters.{Parameters}
-use Rattle.rdm_widget.specs.LiveFixtures.{Situation, oldest_of, ended_by, end_of, earlier, first_ended, reported_in}
+use Rattle.rdm_widget.specs.LiveFixtures.{Situation, worker_in, oldest_of, ended_by, end_of, earlier, first_ended, reported_in}
 
 -- ---- lists of jobs
 
@@ -111,10 +110,10 @@ accepted_slow gets sets h = all_slow gets sets (account_before h.setup) h.events
 
 -- ---- the job that a worker is at
 
-pub oldest_is : GetStartsItsWork → SetStartsItsWork → (h : History) (worker : ℕ) (j : Job) → oldest_of h worker ≡ Some j → IsSlowJob j × ((worker_of j.work == worker) ≡ true)
+pub oldest_is : GetStartsItsWork → SetStartsItsWork → (h : History) (worker : ℕ) (j : Job) → oldest_of h worker ≡ Some j → IsSlowJob j × ((worker_in h j == worker) ≡ true)
 oldest_is gets sets h worker j e =
-    at_filter IsSlowJob (λ job. worker_of job.work == worker) (outbox_of h).accepted (ended_of worker (outbox_of h).ended) j (accepted_slow gets sets h)
-    (sym (first_left (ended_of worker (outbox_of h).ended) (jobs_of worker (outbox_of h).accepted)) ∙ e)
+    at_filter IsSlowJob (λ job. worker_in h job == worker) (outbox_of h).accepted (ended_of worker (outbox_of h).ended) j (accepted_slow gets sets h)
+    (sym (first_left (ended_of worker (outbox_of h).ended) (jobs_of (outbox_of h).workers worker (outbox_of h).accepted)) ∙ e)
 
 abbrev Any : Job → Type 0
 Any j = Unit {0}
@@ -123,11 +122,11 @@ each_any : (js : List Job) → Each Any js
 each_any [] = tt
 each_any (j ∷ js) = (tt, each_any js)
 
-pub worker_is : (h : History) (worker : ℕ) (j : Job) → oldest_of h worker ≡ Some j → worker_of j.work ≡ worker
+pub worker_is : (h : History) (worker : ℕ) (j : Job) → oldest_of h worker ≡ Some j → worker_in h j ≡ worker
 worker_is h worker j e =
-    eqb-true (worker_of j.work) worker
-    (at_filter Any (λ job. worker_of job.work == worker) (outbox_of h).accepted (ended_of worker (outbox_of h).ended) j (each_any (outbox_of h).accepted)
-    (sym (first_left (ended_of worker (outbox_of h).ended) (jobs_of worker (outbox_of h).accepted)) ∙ e)).1
+    eqb-true (worker_in h j) worker
+    (at_filter Any (λ job. worker_in h job == worker) (outbox_of h).accepted (ended_of worker (outbox_of h).ended) j (each_any (outbox_of h).accepted)
+    (sym (first_left (ended_of worker (outbox_of h).ended) (jobs_of (outbox_of h).workers worker (outbox_of h).accepted)) ∙ e)).1
 
 -- ---- the job that ended first
 
@@ -156,10 +155,10 @@ earlier_is (Some x) (Some y) e is =
 earlier_is (Some x) None e is = inl is
 earlier_is None q e is = inr is
 
-of_worker : (h : History) (worker : ℕ) (j : Job) → oldest_of h worker ≡ Some j → oldest_of h (worker_of j.work) ≡ Some j
+of_worker : (h : History) (worker : ℕ) (j : Job) → oldest_of h worker ≡ Some j → oldest_of h (worker_in h j) ≡ Some j
 of_worker h worker j e = subst (λ w. oldest_of h w ≡ Some j) (sym (worker_is h worker j e)) e
 
-pub first_is : (now : ℕ) (s : Situation) (e : Ended) → first_ended now s ≡ Some e → oldest_of s.history (worker_of e.job.work) ≡ Some e.job
+pub first_is : (now : ℕ) (s : Situation) (e : Ended) → first_ended now s ≡ Some e → oldest_of s.history (worker_in s.history e.job) ≡ Some e.job
 first_is now s e is =
     elim (earlier_is (ended_by (values_of s.history) now 0 s.first_since (oldest_of s.history 0)) (ended_by (values_of s.history) now 1 s.second_since (oldest_of s.history 1)) e is) [
       | inl k ↦ of_worker s.history 0 e.job (ended_job (values_of s.history) now 0 s.first_since (oldest_of s.history 0) e k)
@@ -167,7 +166,7 @@ first_is now s e is =
     ]
 
 -- there are two workers
-pub which : (now : ℕ) (s : Situation) (e : Ended) → first_ended now s ≡ Some e → (worker_of e.job.work ≡ 0) ⊎ (worker_of e.job.work ≡ 1)
+pub which : (now : ℕ) (s : Situation) (e : Ended) → first_ended now s ≡ Some e → (worker_in s.history e.job ≡ 0) ⊎ (worker_in s.history e.job ≡ 1)
 which now s e is =
     elim (earlier_is (ended_by (values_of s.history) now 0 s.first_since (oldest_of s.history 0)) (ended_by (values_of s.history) now 1 s.second_since (oldest_of s.history 1)) e is) [
       | inl k ↦ inl (worker_is s.history 0 e.job (ended_job (values_of s.history) now 0 s.first_since (oldest_of s.history 0) e k))

@@ -2,7 +2,7 @@
 use Rattle.std.specs.Prelude.{◌≡◌, ℕ, zero, suc, ◌+◌, ◌*◌, ◌==◌, List, [], ◌∷◌, nat_lt, nat_le, slice_get, Option, Some, None, if◌then◌else◌}
 use Rattle.rdm_params.specs.declared.panel.Change.{Change}
 use Rattle.rdm_params.specs.Device.Parameters.{Parameters}
-use Rattle.rdm_params.specs.Jobs.Work.{estimate_of}
+use Rattle.rdm_params.specs.Jobs.Work.{worker_at, estimate_of}
 use Rattle.rdm_outbox.specs.declared.job.Job.{Job}
 use Rattle.rdm_outbox.specs.Jobs.{outstanding_of, outstanding_count}
 use Rattle.rdm_outcomes.specs.declared.rule.Rule.{Rule}
@@ -30,6 +30,10 @@ abbrev pub switched_on : List Rule → Setup → Situation
 switched_on rules setup = record { rules = rules; history = empty_history setup; first_since = 0; second_since = 0 }
 
 -- ---- when jobs end
+
+-- the worker that has a job, as the profile chose
+abbrev pub worker_in : History → Job → ℕ
+worker_in h job = worker_at (outbox_of h).workers job.work
 
 -- the job that a worker is at
 abbrev pub oldest_of : History → ℕ → Option Job

@@ -3,7 +3,6 @@
 ghost use Rattle.std.specs.Prelude.{◌≡◌, ◌≢◌, ◌↔◌, ℕ, Some, IsOk, IfOk, OnOk, OnErr, IfErr, IsErrOf};
 ghost use Rattle.std.specs.Result.{result_err};
 ghost use Rattle.rdm_params.specs.Device.Profiles.{CanBeMade};
-ghost use Rattle.rdm_params.specs.Jobs.Work.{worker_of};
 ghost use Rattle.rdm_outbox.specs.Jobs.{outstanding_count};
 ghost use Rattle.rdm_outbox.specs.State.{most_entries};
 ghost use Rattle.rdm_responder.specs.History.{Changed, Restored, then_event};
@@ -13,7 +12,7 @@ ghost use Rattle.rdm_responder.specs.Rules.{account_of, answered, reply_of};
 ghost use Rattle.rdm_responder.specs.Runs.{IsChange, outbox_of};
 ghost use Rattle.rdm_responder.specs.StandsFor.{IsQueueSize, StandsFor};
 ghost use Rattle.rdm_saved.specs.Restoring.{restore_refusal};
-ghost use Rattle.rdm_widget.specs.LiveFixtures.{Situation, IsIn, switched_on, oldest_of, first_ended, after_report, after_next, after_several, begun, ready, after_heard, after_panel, after_restore};
+ghost use Rattle.rdm_widget.specs.LiveFixtures.{Situation, IsIn, switched_on, worker_in, oldest_of, first_ended, after_report, after_next, after_several, begun, ready, after_heard, after_panel, after_restore};
 
 mod ending;
 mod on_rig;
@@ -161,7 +160,7 @@ impl LiveFixture {
     /// Hands in the report of the oldest job of a worker, which has ended. The worker goes on with its next one.
     fn report(&mut self, ended: &Ended)
         ensures { (s : Situation) → IsIn self.old s →
-            oldest_of s.history (worker_of ended.now.job.work) ≡ Some ended.now.job → IsIn self.new (after_report s ended.now) }
+            oldest_of s.history (worker_in s.history ended.now.job) ≡ Some ended.now.job → IsIn self.new (after_report s ended.now) }
     {
         started_work_is_its_command();
         outcomes_fit();

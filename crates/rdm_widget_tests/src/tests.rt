@@ -61,11 +61,16 @@ fn fixture(rt: &(impl AllocGlobal + Abort)) -> LiveFixture {
 
 /// The demonstration fixture with this device ID.
 fn fixture_with(rt: &(impl AllocGlobal + Abort), device: u32) -> LiveFixture {
+    fixture_of(rt, device, Profile::demo(0))
+}
+
+/// A fixture of this profile with this device ID, whose jobs end as in the demonstration.
+fn fixture_of(rt: &(impl AllocGlobal + Abort), device: u32, profile: Profile) -> LiveFixture {
     let uid = Uid {
         maker: 0x7FF0,
         device,
     };
-    LiveFixture::new(rt.alloc(), uid, Profile::demo(0), 8, &demo_rules()).expect(rt, "memory")
+    LiveFixture::new(rt.alloc(), uid, profile, 8, &demo_rules()).expect(rt, "memory")
 }
 
 /// Serves what is read by a clock that tells these times.

@@ -4,6 +4,8 @@ ghost use Rattle.std.specs.Prelude.{◌≡◌, ℕ, List, ◌++◌, OnOk, string
 ghost use Rattle.rdm_words.specs.FixtureWords.{SaysFixture, uid_line, model_words, subs_line};
 ghost use Rattle.rdm_words.specs.Plain.{IsPlain};
 
+mod slow;
+
 use crate::data::own::put_added;
 use crate::data::sensors::put_range;
 use crate::tables::parameters::parameter;
@@ -11,11 +13,12 @@ use crate::tables::products::PRODUCT_CATEGORIES;
 use crate::tables::sensors::{SENSOR_TYPES, SENSOR_UNITS, UNIT_PREFIXES};
 use crate::tables::slots::{SLOT_LABELS, SLOT_TYPES};
 use crate::text::put_shown;
-use rdm_device::{Estimates, Profile, SensorDef, Slot, Unit};
+use rdm_device::{Profile, SensorDef, Slot, Unit};
 use rdm_frame::digits::put_digits;
 use rdm_frame::{Text, Uid};
 use rdm_outcomes::Rule;
-use rdm_params::{Kind, Outcome};
+use rdm_params::Outcome;
+use slow::{put_estimates, put_workers};
 use std::alloc::AllocError;
 use std::fmt::Write;
 use std::str;
@@ -220,38 +223,8 @@ fn put_rest(text: &mut String, profile: &Profile) -> Result<(), AllocError> {
     writeln!(text, "  boot software version {boot:08X}, \"{version}\"")
 }
 
-/// How long slow commands take, if that isn't the usual time.
-fn put_estimates(text: &mut String, estimates: &Estimates) -> Result<(), AllocError> {
-    let usual = Estimates::usual();
-    put_estimate(text, Kind::LampState, estimates.lamp, usual.lamp)?;
-    put_estimate(text, Kind::PowerState, estimates.power, usual.power)?;
-    put_estimate(
-        text,
-        Kind::PerformSelfTest,
-        estimates.self_test,
-        usual.self_test,
-    )?;
-    put_estimate(text, Kind::SensorValue, estimates.sensor, usual.sensor)
-}
-
-/// How long the slow command of a parameter takes, in tenths of a second, if that isn't the usual time.
-fn put_estimate(
-    text: &mut String,
-    kind: Kind,
-    estimate: u16,
-    usual: u16,
-) -> Result<(), AllocError> {
-    if estimate == usual {
-        return Ok(());
-    }
-    let name = kind.name();
-    let seconds = estimate / 10;
-    let tenths = estimate % 10;
-    writeln!(text, "  {name} takes about {seconds}.{tenths} s")
-}
-
-/// The slots that aren't described, the parameters that the maker adds, unusual times of slow commands, and the parameters of the
-/// standard that the fixture lacks.
+/// The slots that aren't described, the parameters that the maker adds, unusual times and workers of slow commands, and the parameters
+/// of the standard that the fixture lacks.
 fn put_own_parts(text: &mut String, profile: &Profile) -> Result<(), AllocError> {
     let more = profile.more_slots;
     if more > 0 {
@@ -261,6 +234,7 @@ fn put_own_parts(text: &mut String, profile: &Profile) -> Result<(), AllocError>
         put_added(text, def)?;
     }
     put_estimates(text, &profile.estimates)?;
+    put_workers(text, &profile.workers)?;
     for pid in profile.without.iter() {
         let name = parameter(*pid).unwrap_or("parameter");
         writeln!(text, "  no {name} ({pid:04X})")?;

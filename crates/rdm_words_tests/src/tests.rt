@@ -5,6 +5,7 @@ mod own;
 mod requests;
 mod responses;
 mod short;
+mod slow;
 mod texts;
 
 use rdm_device::Profile;

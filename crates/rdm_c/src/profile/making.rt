@@ -11,7 +11,7 @@ use crate::profile::{ProfileNumbers, lists};
 use arrayvec::ArrayVec;
 use rdm_device::{ProfileFault, profile_fault, profile_fault_with};
 use rdm_frame::Text;
-use rdm_params::{Estimates, OwnParameters, ParameterDef, Profile, Unit};
+use rdm_params::{Estimates, OwnParameters, ParameterDef, Profile, Unit, Workers};
 use std::alloc::Global;
 
 /// How many parameters of the maker's own there can be.
@@ -103,6 +103,7 @@ fn blank() -> Profile {
         without: ArrayVec::new(),
         more_slots: 0,
         estimates: Estimates::usual(),
+        workers: Workers::usual(),
     }
 }
 

@@ -6,11 +6,11 @@ ghost use Rattle.rdm_outbox.specs.Jobs.{jobs_of, has_place};
 ghost use Rattle.rdm_responder.specs.Runs.{outbox_of};
 ghost use Rattle.rdm_lane.specs.Ends.{with_item, IsSameTake};
 ghost use Rattle.rdm_lane.specs.Lane.{items_from};
-ghost use Rattle.rdm_params.specs.Jobs.Work.{worker_of};
+ghost use Rattle.rdm_params.specs.Jobs.Work.{worker_at};
 ghost use Rattle.rdm_bus.specs.BusRun.{raise_of, fault_of};
 ghost use Rattle.rdm_bus.specs.Systems.{refusal_in};
 ghost use Rattle.rdm_crew.specs.Crews.{IsTied, HasChanges, HasChanged, IsSameCrew, IsSent, HasSent, HasPlayed, HavePlayed, IsStopped, AreStopped, IsRefused};
-ghost use Rattle.rdm_crew.specs.Desks.{IsDrawn, IsSameDesk, stands_at};
+ghost use Rattle.rdm_crew.specs.Desks.{chosen, IsDrawn, IsSameDesk, stands_at};
 ghost use Rattle.rdm_crew.specs.RunTrace.{HaveFaults, fault_at, refusal_at};
 
 use crate::bus::desk::{Desk, Drawn};
@@ -166,13 +166,13 @@ impl Crew {
 
     /// Puts a job into its worker's lane.
     fn hand_out<R: Wait>(&mut self, rt: &R, started: Started) -> Result<(), Stop>
-        requires table { started.worker ≡ worker_of started.job.work }
+        requires choice { started.worker ≡ worker_at (chosen self.old.desk) started.job.work }
         requires two { started.worker < 2 }
-        requires first { worker_of started.job.work ≡ 0 → length self.old.first.items < self.old.first.limit }
-        requires second { worker_of started.job.work ≡ 1 → length self.old.second.items < self.old.second.limit }
+        requires first { worker_at (chosen self.old.desk) started.job.work ≡ 0 → length self.old.first.items < self.old.first.limit }
+        requires second { worker_at (chosen self.old.desk) started.job.work ≡ 1 → length self.old.second.items < self.old.second.limit }
         ensures put { MatchResult result
-            (λ _. (self.new.first.items ≡ self.old.first.items ++ jobs_of 0 (started.job ∷ []))
-            × (self.new.second.items ≡ self.old.second.items ++ jobs_of 1 (started.job ∷ [])))
+            (λ _. (self.new.first.items ≡ self.old.first.items ++ jobs_of (chosen self.old.desk) 0 (started.job ∷ []))
+            × (self.new.second.items ≡ self.old.second.items ++ jobs_of (chosen self.old.desk) 1 (started.job ∷ [])))
             (λ stop. stop ≡ Stop.OutOfMemory) }
         ensures desk { self.new.desk ≡ self.old.desk }
         ensures changes { self.new.changes ≡ self.old.changes }

@@ -8,7 +8,7 @@ ghost use Rattle.rdm_responder.specs.Runs.{outbox_of};
 ghost use Rattle.rdm_outbox.specs.Jobs.{outstanding_count};
 ghost use Rattle.rdm_crew.specs.Closes.{handed_by, IsHandedOver};
 ghost use Rattle.rdm_crew.specs.Crews.{HasJobs, HasChanges};
-ghost use Rattle.rdm_crew.specs.Desks.{IsDrawn, IsSuspect, stands_at};
+ghost use Rattle.rdm_crew.specs.Desks.{chosen, IsDrawn, IsSuspect, stands_at};
 ghost use Rattle.rdm_bus.specs.Happened.{changes_in};
 ghost use Rattle.rdm_crew.specs.RunTrace.{IsAnswered, FitsFor};
 ghost use Rattle.rdm_crew.specs.Settling.{AreLanes, IsLaneOfOne};
@@ -54,9 +54,11 @@ impl<P: Part, Q: Part, N: Panel> Closing<P, Q, N> {
         ensures events { IfOk result (λ ended. ended.system.trace ≡ self.desk.system.trace) }
         ensures recorded { IfOk result (λ ended. ended.system.collector.recorded ≡ recorded self.desk.system.trace) }
         ensures last { IfOk result (λ ended. outstanding_count (outbox_of (stands_at self.desk).history) ≡ 0) }
-        ensures first { IfOk result (λ ended. IsAnswered 0 (P.gives self.first_worker.part.value) self.desk.system.trace) }
-        ensures second { IfOk result (λ ended. IsAnswered 1 (Q.gives self.second_worker.part.value) self.desk.system.trace) }
-        ensures handed { IfOk result (λ ended. IsHandedOver self.desk.system.trace (handed_by self.desk.reports.taken)) }
+        ensures first { IfOk result (λ ended.
+            IsAnswered (chosen self.desk) 0 (P.gives self.first_worker.part.value) self.desk.system.trace) }
+        ensures second { IfOk result (λ ended.
+            IsAnswered (chosen self.desk) 1 (Q.gives self.second_worker.part.value) self.desk.system.trace) }
+        ensures handed { IfOk result (λ ended. IsHandedOver (chosen self.desk) self.desk.system.trace (handed_by self.desk.reports.taken)) }
         ensures taken { IfOk result (λ ended. ended.reports.taken ≡ self.desk.reports.taken) }
         ensures lane { IfOk result (λ ended. LaneLaw 2 ended.reports.taken ended.reports.posted) }
         ensures changes { IfOk result (λ ended. AreOffered (N.offers self.watcher.panel.value) 0 (changes_in self.desk.system.trace)) }
@@ -97,7 +99,8 @@ impl<P: Part, Q: Part, N: Panel> Closing<P, Q, N> {
 
     /// Ends a run whose steps, or whose drawing of reports, ended early.
     pub(crate) fn give_up<R: Threads + Wait>(self, rt: &R, stop: Stop)
-        requires fits { FitsFor 0 (P.gives self.first_worker.part.value) × FitsFor 1 (Q.gives self.second_worker.part.value) }
+        requires fits { FitsFor (chosen self.desk) 0 (P.gives self.first_worker.part.value)
+            × FitsFor (chosen self.desk) 1 (Q.gives self.second_worker.part.value) }
         requires lanes { AreLanes self.desk.reports self.first self.second
             self.first_worker.jobs.value self.first_worker.reports.value
             self.second_worker.jobs.value self.second_worker.reports.value }
@@ -124,7 +127,8 @@ impl<P: Part, Q: Part, N: Panel> Closing<P, Q, N> {
     /// Ends a run in which a report seemed astray. The lists of all lanes tell that it wasn't, unless memory is refused before
     /// they are complete.
     fn look_into<R: Threads + Wait>(self, rt: &R)
-        requires fits { FitsFor 0 (P.gives self.first_worker.part.value) × FitsFor 1 (Q.gives self.second_worker.part.value) }
+        requires fits { FitsFor (chosen self.desk) 0 (P.gives self.first_worker.part.value)
+            × FitsFor (chosen self.desk) 1 (Q.gives self.second_worker.part.value) }
         requires lanes { AreLanes self.desk.reports self.first self.second
             self.first_worker.jobs.value self.first_worker.reports.value
             self.second_worker.jobs.value self.second_worker.reports.value }

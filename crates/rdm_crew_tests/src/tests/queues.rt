@@ -8,7 +8,7 @@ use super::menu::Menu;
 use super::{CONTROLLER, DEVICE, arrived, command};
 use rdm_bus::{Action, Fault, Want};
 use rdm_crew::{CrewStep, Setup, run};
-use rdm_params::{Outcome, Profile};
+use rdm_params::{Outcome, Profile, Workers};
 use std::alloc::Global;
 use std::test::Fail;
 
@@ -53,7 +53,7 @@ fn a_thousand_jobs_are_outstanding(rt: HostRuntime) -> Result<(), Fail> {
         Menu { changes: 0 },
     )?;
     assert_eq!(rt; trace.events().len(), 2 * usize::from(LONGEST));
-    let reports = arrived(rt.alloc(), &trace, 0)?;
+    let reports = arrived(rt.alloc(), &trace, &Workers::usual(), 0)?;
     assert_eq!(rt; reports.len(), usize::from(LONGEST));
     assert_eq!(rt; reports.last(), Some(&(1_023, Outcome::Done)));
     Ok(())

@@ -5,7 +5,7 @@ use super::{Act, CONTROLLER, DEVICE, Row, Told};
 use rdm_bus::Action;
 use rdm_crew::RunError;
 use rdm_frame::Uid;
-use rdm_params::Outcome;
+use rdm_params::{Outcome, Worker, Workers};
 
 pub(super) const QUEUED_MESSAGE: u16 = 0x0020;
 
@@ -41,6 +41,14 @@ const ALL_OF_MAKER: Uid = Uid {
     device: u32::MAX,
 };
 
+/// The workers of a profile that says nothing of them.
+const USUAL: Workers = Workers {
+    lamp: Worker::First,
+    power: Worker::First,
+    self_test: Worker::Second,
+    sensor: Worker::Second,
+};
+
 /// Nothing happens.
 const NOTHING: Told = Told {
     events: 0,
@@ -55,6 +63,7 @@ pub(super) const PLAIN: Row = Row {
     device: DEVICE,
     controller: CONTROLLER,
     subs: 0,
+    workers: USUAL,
     queue_size: 8,
     acts: &[],
     gate: None,
@@ -88,8 +97,44 @@ pub(super) const DRAWN_AND_POLLED: Row = Row {
 };
 
 /// Runs that end with a trace.
-pub(super) const TRACES: [(Row, Told); 6] = [
+pub(super) const TRACES: [(Row, Told); 8] = [
     (PLAIN, NOTHING),
+    // The same commands with other workers: both have other jobs than usual, and one has all.
+    (
+        Row {
+            name: "each worker reports on the jobs that it was chosen for",
+            workers: Workers {
+                lamp: Worker::Second,
+                sensor: Worker::First,
+                ..USUAL
+            },
+            ..THREE_COMMANDS
+        },
+        Told {
+            first: &[(0, Outcome::Reading(MEASURED))],
+            second: &[(0, Outcome::Done), (1, Outcome::Done)],
+            ..THREE_REPORTS
+        },
+    ),
+    (
+        Row {
+            name: "one worker reports on all jobs in their order",
+            workers: Workers {
+                sensor: Worker::First,
+                ..USUAL
+            },
+            ..THREE_COMMANDS
+        },
+        Told {
+            first: &[
+                (0, Outcome::Done),
+                (1, Outcome::Done),
+                (2, Outcome::Reading(MEASURED)),
+            ],
+            second: &[],
+            ..THREE_REPORTS
+        },
+    ),
     // A report and three transactions, and of these the two polls were answered with messages.
     (
         Row {

@@ -159,7 +159,7 @@ impl RootValues {
 fn start_added(alloc: Global, defs: &[ParameterDef]) -> Result<Vec<Kept>, AllocError>
     ensures { IfOk result (λ added. added_entries added.items ≡ added_at_start defs.now) }
 {
-    let mut added = Vec::new(alloc);
+    let mut added = Vec::with_capacity(alloc, defs.len())?;
     for i in 0..defs.len() {
         let def = &defs[i];
         added.push(Kept {

@@ -43,6 +43,9 @@ pub(super) fn way_to(refusal: &Refusal) -> Way<'_> {
         Section::Estimates => {
             let _ = way.try_push(Step::Key("estimates"));
         }
+        Section::Workers => {
+            let _ = way.try_push(Step::Key("workers"));
+        }
     }
     if let Some(entry) = &refusal.entry {
         let _ = way.try_push(Step::Key(entry.list.as_str()));

@@ -3,11 +3,13 @@
 ghost use Rattle.std.specs.Prelude.{◌≡◌, ◌≤◌, ℕ, pos, [], Some, IsOk, IfOk, IfSome, IsTrue, All, length, option_map};
 ghost use Rattle.toml.specs.Data.{Members, table as table_data, string, integer, boolean};
 ghost use Rattle.toml.specs.View.{view, table_view};
+ghost use Rattle.rdm_device.specs.Device.Workers.{worker_number};
 ghost use Rattle.rdm_fixture.specs.Describable.{are_printable};
 ghost use Rattle.rdm_fixture.specs.Keys.{may, OfTable, ListAt};
 ghost use Rattle.rdm_fixture.specs.Values as says;
 ghost use Rattle.rdm_fixture.specs.Writing.{with_field, text_field, IsPlain};
 
+use rdm_device::Worker;
 use rdm_frame::Text;
 use std::alloc::{AllocError, Global};
 use toml::{Table, Value};
@@ -114,6 +116,18 @@ pub(super) fn put_flag(
     ensures { IsOk result → table_view table.new ≡ with_field key.now (Some (boolean flag)) (table_view table.old) }
 {
     put(alloc, table, key, Some(Value::from(flag)))
+}
+
+/// Puts the number of a worker at the key.
+pub(super) fn put_worker(
+    alloc: Global,
+    table: &mut Table,
+    key: &str,
+    worker: Worker,
+) -> Result<(), AllocError>
+    ensures { IsOk result → table_view table.new ≡ with_field key.now (Some (integer (pos (worker_number worker)))) (table_view table.old) }
+{
+    put(alloc, table, key, Some(Value::from(worker.number())))
 }
 
 /// Puts a name at the key.

@@ -8,16 +8,19 @@ ghost use Rattle.rdm_device.specs.Device.LeftOut.{is_optional};
 ghost use Rattle.rdm_device.specs.Device.Profiles.{IsGoodUnit, CanBeMade};
 ghost use Rattle.rdm_params.specs.Table.Kinds.{pid_of, kind_named};
 ghost use Rattle.rdm_fixture.specs.Describable.{HasPrintableUnit, CanBeDescribed, is_coded};
-ghost use Rattle.rdm_fixture.specs.Format.{IsFixture, IsUnit, SubDevices, EstimatesAt, LanguagesAt, parameter_named};
+ghost use Rattle.rdm_fixture.specs.Format.{IsFixture, IsUnit, SubDevices, EstimatesAt, WorkersAt, LanguagesAt, parameter_named};
 ghost use Rattle.rdm_fixture.specs.Keys.{ListAt};
 ghost use Rattle.rdm_fixture.specs.Values as says;
 ghost use Rattle.rdm_fixture.specs.Writing.{with_field, IsPlain};
 
-use super::fields::{list_of, put, put_long, put_text, put_word};
+use super::fields::{list_of, put, put_long, put_text, put_word, put_worker};
 use super::units::unit_table;
 use crate::fixture::Fixture;
 use arrayvec::ArrayVec;
-use rdm_device::{Estimates, Profile, estimates_are_equal_by_value, units_are_equal_by_value};
+use rdm_device::{
+    Estimates, Profile, Workers, choices_of_workers_are_equal_by_value,
+    estimates_are_equal_by_value, units_are_equal_by_value,
+};
 use rdm_frame::Uid;
 use rdm_params::kind_of;
 use std::alloc::{AllocError, Global};
@@ -99,6 +102,12 @@ pub(super) fn table_of(alloc: Global, fixture: &Fixture) -> Result<Table, AllocE
         &mut table,
         "estimates",
         estimates_of(alloc, &profile.estimates)?,
+    )?;
+    put(
+        alloc,
+        &mut table,
+        "workers",
+        workers_of(alloc, &profile.workers)?,
     )?;
     Ok(table)
 }
@@ -189,5 +198,22 @@ fn estimates_of(alloc: Global, estimates: &Estimates) -> Result<Option<Value>, A
     put_word(alloc, &mut table, "power_state", estimates.power)?;
     put_word(alloc, &mut table, "perform_selftest", estimates.self_test)?;
     put_word(alloc, &mut table, "sensor_value", estimates.sensor)?;
+    Ok(Some(Value::Table(table)))
+}
+
+/// The table of the workers of slow commands. Without it they are the usual ones.
+fn workers_of(alloc: Global, workers: &Workers) -> Result<Option<Value>, AllocError>
+    ensures says { IfOk result (λ v. WorkersAt (option_map view v) workers.now) }
+    ensures plain { IfOk result (λ v. IfSome v (λ x. IsPlain 1 (view x))) }
+{
+    choices_of_workers_are_equal_by_value();
+    if *workers == Workers::usual() {
+        return Ok(None);
+    }
+    let mut table = Table::new(alloc);
+    put_worker(alloc, &mut table, "lamp_state", workers.lamp)?;
+    put_worker(alloc, &mut table, "power_state", workers.power)?;
+    put_worker(alloc, &mut table, "perform_selftest", workers.self_test)?;
+    put_worker(alloc, &mut table, "sensor_value", workers.sensor)?;
     Ok(Some(Value::Table(table)))
 }

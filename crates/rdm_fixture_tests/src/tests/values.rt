@@ -5,7 +5,7 @@ use std::process::Abort;
 use std::test::Fail;
 
 /// A key that holds an integer: what stands before it in its table, nothing for the table at the top, and its range.
-const NUMBERS: [(&str, &str, i64, i64); 31] = [
+const NUMBERS: [(&str, &str, i64, i64); 35] = [
     ("", "product_category", 0, 0xFFFF),
     ("", "software_version_id", 0, 0xFFFF_FFFF),
     ("", "boot_software_version_id", 0, 0xFFFF_FFFF),
@@ -42,6 +42,10 @@ const NUMBERS: [(&str, &str, i64, i64); 31] = [
     ("[estimates]", "power_state", 0, 0xFFFF),
     ("[estimates]", "perform_selftest", 0, 0xFFFF),
     ("[estimates]", "sensor_value", 0, 0xFFFF),
+    ("[workers]", "lamp_state", 0, 1),
+    ("[workers]", "power_state", 0, 1),
+    ("[workers]", "perform_selftest", 0, 1),
+    ("[workers]", "sensor_value", 0, 1),
     ("[[self_test]]", "number", 1, 254),
     ("[[status]]", "id", 0, 0xFFFF),
     (

@@ -1,6 +1,7 @@
 //! The parameter of a PID, which the device must have, and which must have the command.
 
-ghost use Rattle.std.specs.Prelude.{◌≡◌, [], false, IfOk, IfErr, Ok, Err};
+ghost use Rattle.std.specs.Prelude.{◌≡◌, [], true, false, IsTrue, IfOk, IfErr, Ok, Err};
+ghost use Rattle.rdm_params.specs.declared.jobs.way.Way.TheVariants.{AtOnce};
 ghost use Rattle.rdm_device.specs.declared.value.Value.{Value};
 ghost use Rattle.rdm_device.specs.Device.Spot.{Spot};
 ghost use Rattle.rdm_params.specs.Commands.Commands.{command_of};
@@ -23,6 +24,20 @@ pub(crate) struct Found {
     pub(crate) is_bare: bool,
     /// Whether its reply can have data, and so needs the device.
     pub(crate) has_reply: bool,
+}
+
+impl Found {
+    /// Whether the command hands in no data and is answered at once, as most GETs.
+    #[inline(always)]
+    pub(crate) fn is_plain_get(&self) -> bool
+        ensures bare { IsTrue result → self.now.is_bare ≡ true }
+        ensures way { IsTrue result → self.now.way ≡ AtOnce }
+    {
+        match self.way {
+            Way::AtOnce => self.is_bare,
+            Way::ByJob(_) | Way::FromQueue | Way::FromStatus | Way::Clears => false,
+        }
+    }
 }
 
 macro_rules! found_rows {

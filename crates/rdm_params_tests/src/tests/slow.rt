@@ -142,6 +142,7 @@ fn each_work_has_its_worker_and_its_outcomes(rt: HostRuntime) {
             outcomes_of(&work),
         );
         assert_eq!(rt; told, (worker, estimate, fitting), "{pid:04X}");
+        assert_eq!(rt; estimate_of(&work), estimate, "{pid:04X}");
     }
 }
 
@@ -176,6 +177,51 @@ fn a_job_takes_as_long_as_the_profile_says(rt: HostRuntime) {
             Answer::Starts { estimate, .. } => assert_eq!(rt; estimate, expected, "{pid:04X}"),
             _ => assert!(rt; false, "{pid:04X}: {told:?}"),
         }
+    }
+}
+
+/// Both workers have jobs of the other one, too.
+const SHUFFLED: Workers = Workers {
+    lamp: Worker::Second,
+    power: Worker::First,
+    self_test: Worker::First,
+    sensor: Worker::Second,
+};
+
+/// The workers of slow commands: the command, its data and the worker.
+const HANDS: [(Verb, u16, u8, u8); 4] = [
+    (Set, 0x0403, 1, 1),
+    (Set, 0x1010, 0, 0),
+    (Set, 0x1020, 1, 0),
+    (Get, 0x0201, 0, 1),
+];
+
+#[test]
+fn a_job_has_the_worker_that_the_profile_says(rt: HostRuntime) {
+    let mut profile = Profile::demo(0);
+    profile.workers = SHUFFLED;
+    let mut devices = made(&rt, rt.alloc(), profile);
+    assert_eq!(rt; devices.workers(), SHUFFLED);
+    for (verb, pid, arg, expected) in HANDS {
+        let work = Work {
+            sub: 0,
+            pid,
+            verb,
+            arg,
+        };
+        let mut body = Body::new();
+        let told = match verb {
+            Get => devices.get_into(0, pid, &[arg], &mut body),
+            Set => devices.set_into(0, pid, &[arg], &mut body).0,
+        };
+        match told {
+            Answer::Starts { worker, .. } => assert_eq!(rt; worker, expected, "{pid:04X}"),
+            _ => assert!(rt; false, "{pid:04X}: {told:?}"),
+        }
+        assert_eq!(rt; devices.worker_of(&work), expected, "{pid:04X}");
+        assert_eq!(rt; worker_at(&SHUFFLED, &work), expected, "{pid:04X}");
+        let fitting = fitting_worker(&SHUFFLED, &work, &FAILED);
+        assert_eq!(rt; fitting, Some(expected), "{pid:04X}");
     }
 }
 

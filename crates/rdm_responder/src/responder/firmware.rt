@@ -55,6 +55,7 @@ pub(crate) fn note_entry(devices: &Devices, outbox: &mut Outbox, entry: Entry) -
         result ≡ nat_lt (length b.noted) (length (after_entry devices.now b entry).noted) }
     ensures shows { (b : OutboxAccount) → OutboxShows outbox.old b →
         OutboxShows outbox.new (after_entry devices.now b entry) }
+    ensures workers { outbox.new.workers ≡ outbox.old.workers }
 {
     devices.notes(&entry) && outbox.note(entry)
 }

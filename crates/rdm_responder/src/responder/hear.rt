@@ -7,7 +7,7 @@ ghost use Rattle.rdm_params.specs.Commands.Changed.{change_of};
 ghost use Rattle.rdm_responder.specs.Requests.{Branch, Muting, Set, IsFrom, request_of, get_of, discovery_of};
 ghost use Rattle.rdm_responder.specs.Rules.{answered, Account, answer_to, job_with, account_with, control_field};
 ghost use Rattle.rdm_responder.specs.StandsFor.{Shows};
-ghost use Rattle.rdm_responder.specs.Started.{job_in, IsAsInProfile};
+ghost use Rattle.rdm_responder.specs.Started.{job_in, IsAsInProfile, IsForItsWorker};
 
 use crate::Responder;
 use crate::carry_out::carry_out;
@@ -35,6 +35,7 @@ impl Responder {
         ensures silent { OnFalse result.replied (wire.new ≡ wire.old) }
         ensures job { (a : Account) → Shows self.old a → job_in result.started ≡ job_with a (request_of a.setup.uid request.now) }
         ensures table { IfSome result.started (IsAsInProfile self.old.parameters.profile) }
+        ensures worker { IfSome result.started (IsForItsWorker self.old.outbox.workers) }
         ensures after { (a : Account) → Shows self.old a → Shows self.new (account_with a (request_of a.setup.uid request.now)) }
         ensures unchanged { (result.changed ≡ None) ↔ (self.new.parameters ≡ self.old.parameters) }
         ensures what { IfSome result.changed (λ c. c ≡ change_of request.now.sub request.now.pid) }
@@ -62,6 +63,7 @@ impl Responder {
         ensures silent { OnFalse result.replied (wire.new ≡ wire.old) }
         ensures job { (a : Account) → Shows self.old a → job_in result.started ≡ job_with a (get_of request.now) }
         ensures table { IfSome result.started (IsAsInProfile self.old.parameters.profile) }
+        ensures worker { IfSome result.started (IsForItsWorker self.old.outbox.workers) }
         ensures after { (a : Account) → Shows self.old a → Shows self.new (account_with a (get_of request.now)) }
         ensures unchanged { (result.changed ≡ None) × (self.new.parameters ≡ self.old.parameters) }
     {
@@ -91,6 +93,7 @@ impl Responder {
         ensures silent { OnFalse result.replied (wire.new ≡ wire.old) }
         ensures job { (a : Account) → Shows self.old a → job_in result.started ≡ job_with a (Set request.now) }
         ensures table { IfSome result.started (IsAsInProfile self.old.parameters.profile) }
+        ensures worker { IfSome result.started (IsForItsWorker self.old.outbox.workers) }
         ensures after { (a : Account) → Shows self.old a → Shows self.new (account_with a (Set request.now)) }
         ensures unchanged { (result.changed ≡ None) ↔ (self.new.parameters ≡ self.old.parameters) }
         ensures what { IfSome result.changed (λ c. c ≡ change_of request.now.sub request.now.pid) }

@@ -50,7 +50,8 @@ impl Responder {
 /// Queues a message, if there is one. There must be room for it.
 fn announce(outbox: &mut Outbox, message: &Option<Message>)
     requires { IsTrue (place_in outbox.old) }
-    ensures { (b : OutboxAccount) → OutboxShows outbox.old b → OutboxShows outbox.new (after_message b message.now) }
+    ensures shows { (b : OutboxAccount) → OutboxShows outbox.old b → OutboxShows outbox.new (after_message b message.now) }
+    ensures workers { outbox.new.workers ≡ outbox.old.workers }
 {
     if let Some(message) = message {
         outbox.post(message.copy());

@@ -15,7 +15,7 @@ use std::process::Abort;
 use std::sync::Wait;
 use std::thread::Threads;
 
-const DEVICE: Uid = Uid {
+pub(super) const DEVICE: Uid = Uid {
     maker: 0x1234,
     device: 0x5678_9ABC,
 };
@@ -146,15 +146,21 @@ pub(super) fn stage(device: Uid) -> Stage<RuledPart, RuledPart, DemoPanel> {
     }
 }
 
-/// A script is played on the fixture with this UID, and ends so.
-fn ends_so<T>(rt: T, alloc: Global, device: Uid, script: &str, ends: Ends)
+/// A script is played on a fixture, and ends so.
+pub(super) fn ends_so<T>(
+    rt: T,
+    alloc: Global,
+    stage: Stage<RuledPart, RuledPart, DemoPanel>,
+    script: &str,
+    ends: Ends,
+)
 where
     T: Threads + Wait + Abort + Copy + Send + 'static,
 {
     ruled_parts_fit();
     let mut reader = script.as_bytes();
     let mut written = Vec::new(alloc);
-    let outcome = run_script_on(rt, alloc, &mut reader, &mut written, stage(device));
+    let outcome = run_script_on(rt, alloc, &mut reader, &mut written, stage);
     assert_eq!(rt; outcome, outcome_of(ends), "{script:?}");
     assert!(rt; is_written(&written, ends), "{script:?} {written:?}");
 }
@@ -162,9 +168,9 @@ where
 #[test]
 fn scripts_play_on_a_fixture_of_ones_own(rt: HostRuntime) {
     for (script, ends) in STAGED {
-        ends_so(rt, rt.alloc(), DEVICE, script, ends);
+        ends_so(rt, rt.alloc(), stage(DEVICE), script, ends);
     }
     for device in OTHERS {
-        ends_so(rt, rt.alloc(), device, "", BAD_SETUP);
+        ends_so(rt, rt.alloc(), stage(device), "", BAD_SETUP);
     }
 }

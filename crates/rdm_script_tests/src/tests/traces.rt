@@ -3,7 +3,7 @@
 use rdm_bus::Event;
 use rdm_frame::Body;
 use rdm_outbox::Job;
-use rdm_params::{Message, Outcome, Severity, Verb, Work};
+use rdm_params::{Message, Outcome, Severity, Verb, Work, Worker, Workers};
 use rdm_responder::Report;
 use rdm_script::trace_text;
 use std::alloc::Global;
@@ -87,7 +87,7 @@ fn prints(
     messages: &[Message],
     trace: &str,
 ) -> Result<(), Fail> {
-    let text = trace_text(alloc, events, messages)?;
+    let text = trace_text(alloc, &Workers::usual(), events, messages)?;
     assert_eq!(rt; text.as_slice(), trace.as_bytes());
     Ok(())
 }
@@ -124,6 +124,22 @@ fn prints_reports(rt: HostRuntime) -> Result<(), Fail> {
     for (work, number, outcome, trace) in REPORTS {
         prints_event(&rt, rt.alloc(), event_of(work, number, outcome), trace)?;
     }
+    Ok(())
+}
+
+/// A choice by which the second worker has all jobs.
+const SECOND: Workers = Workers {
+    lamp: Worker::Second,
+    power: Worker::Second,
+    self_test: Worker::Second,
+    sensor: Worker::Second,
+};
+
+#[test]
+fn a_job_is_named_by_the_worker_that_has_it(rt: HostRuntime) -> Result<(), Fail> {
+    let events = [event_of(LAMP, 7, Outcome::Done)];
+    let text = trace_text(rt.alloc(), &SECOND, &events, &[])?;
+    assert_eq!(rt; text.as_slice(), b"arrive 1 7 done\nend\n".as_slice());
     Ok(())
 }
 

@@ -1,7 +1,10 @@
 //! Slow commands and the clock.
 
-use super::{answers, put};
-use rdm_widget::{Clock, RealClock};
+use super::{Told, fixture, fixture_of, put};
+use rdm_params::{Estimates, Profile, Worker, Workers};
+use rdm_widget::{Clock, LiveFixture, RealClock, serve};
+use std::process::Abort;
+use std::test::Fail;
 use std::time::{Duration, Instant};
 
 /// A request, when it comes, and the reply, both in hexadecimal digits.
@@ -60,29 +63,105 @@ const STANDS_STILL: [Turn; 3] = [
     },
 ];
 
-#[test]
-fn jobs_end_when_their_time_is_up(rt: HostRuntime) -> Result<(), std::test::Fail> {
-    for turns in [BOTH_END_AT_ONCE.as_slice(), STANDS_STILL.as_slice()] {
-        let mut input = Vec::new(rt.alloc());
-        let mut told = Vec::new(rt.alloc());
-        let mut times = Vec::new(rt.alloc());
-        for turn in turns {
-            put(&rt, &mut input, 7, "", turn.asked);
-            put(&rt, &mut told, 5, "00", turn.told);
-            times.push(turn.at)?;
-        }
-        let output = answers(&rt, input.as_slice(), times.as_slice());
-        assert_eq!(rt; output.as_slice(), told.as_slice());
+/// What a fixture is asked in these turns is answered so.
+fn answers_in_time(
+    rt: &(impl AllocGlobal + Abort),
+    mut fixture: LiveFixture,
+    turns: &[Turn],
+) -> Result<(), Fail> {
+    let mut input = Vec::new(rt.alloc());
+    let mut told = Vec::new(rt.alloc());
+    let mut times = Vec::new(rt.alloc());
+    for turn in turns {
+        put(rt, &mut input, 7, "", turn.asked);
+        put(rt, &mut told, 5, "00", turn.told);
+        times.push(turn.at)?;
     }
+    let mut output = Vec::new(rt.alloc());
+    let mut reader = input.as_slice();
+    let times = times.as_slice();
+    serve(&mut reader, &mut output, &mut Told { times }, &mut fixture)?;
+    assert_eq!(rt; output.as_slice(), told.as_slice());
     Ok(())
+}
+
+#[test]
+fn jobs_end_when_their_time_is_up(rt: HostRuntime) -> Result<(), Fail> {
+    answers_in_time(&rt, fixture(&rt), &BOTH_END_AT_ONCE)?;
+    answers_in_time(&rt, fixture(&rt), &STANDS_STILL)
+}
+
+/// The lamp takes a second, a self test half of one.
+const QUICK: Estimates = Estimates {
+    lamp: 10,
+    power: 20,
+    self_test: 5,
+    sensor: 5,
+};
+
+/// All jobs are one worker's.
+const ALONE: Workers = Workers {
+    lamp: Worker::First,
+    power: Worker::First,
+    self_test: Worker::First,
+    sensor: Worker::First,
+};
+
+/// SET LAMP_STATE and PERFORM_SELFTEST at once: the test begins when the lamp burns. Polls before the end of each job, which find
+/// nothing, and then, which find the message; and GET SENSOR_VALUE of a sensor that is answered at once.
+const ONE_BY_ONE: [Turn; 7] = [
+    Turn {
+        at: 0,
+        asked: "CC01197FF0000000017FF000000002000100000030040301010401",
+        told: "CC011A7FF0000000027FF000000001000100000031040302000A040D",
+    },
+    Turn {
+        at: 0,
+        asked: "CC01197FF0000000017FF00000000201010000003010200101042B",
+        told: "CC011A7FF0000000027FF00000000101010000003110200200050432",
+    },
+    Turn {
+        at: 999,
+        asked: "CC01197FF0000000017FF00000000202010000002000200104040F",
+        told: "CC01187FF0000000027FF0000000010200000000210030000419",
+    },
+    Turn {
+        at: 1000,
+        asked: "CC01197FF0000000017FF000000002030100000020002001040410",
+        told: "CC01187FF0000000027FF0000000010300000000310403000401",
+    },
+    Turn {
+        at: 1499,
+        asked: "CC01197FF0000000017FF000000002040100000020002001040411",
+        told: "CC01187FF0000000027FF000000001040000000021003000041B",
+    },
+    Turn {
+        at: 1500,
+        asked: "CC01197FF0000000017FF000000002050100000020002001040412",
+        told: "CC01187FF0000000027FF000000001050000000031102000042C",
+    },
+    Turn {
+        at: 1500,
+        asked: "CC01197FF0000000017FF0000000020601000000200201010103F3",
+        told: "CC01217FF0000000027FF0000000010600000000210201090100000000000000000403",
+    },
+];
+
+#[test]
+fn jobs_take_the_time_and_the_worker_of_the_profile(rt: HostRuntime) -> Result<(), Fail> {
+    let mut profile = Profile::demo(0);
+    profile.estimates = QUICK;
+    profile.workers = ALONE;
+    if let Some(sensor) = profile.sensors.as_mut_slice().get_mut(1) {
+        sensor.at_once = true;
+    }
+    answers_in_time(&rt, fixture_of(&rt, 1, profile), &ONE_BY_ONE)
 }
 
 /// A clock lies between two of the system's that were started before and after it, as fast as it is told to be: so it isn't in
 /// microseconds, and no speed is forgotten.
 #[test]
-fn a_clock_is_in_milliseconds_and_as_fast_as_it_is_told(
-    rt: HostRuntime,
-) -> Result<(), std::test::Fail> {
+fn a_clock_is_in_milliseconds_and_as_fast_as_it_is_told(rt: HostRuntime) -> Result<(), Fail> {
     for speed in [1, 1000] {
         let before = Instant::now(&rt)?;
         let mut clock = RealClock::start(&rt, speed)?;

@@ -5,7 +5,7 @@ use Rattle.felosumay.proofs.Settings.{on_fixture}
 use Rattle.felosumay.proofs.play.play_on.Goals as goal
 
 pub play_script-requires-clause-fits : goal.play_script-requires-clause-fits
-play_script-requires-clause-fits g c = λ live lives. ((c.ruled_parts_fit.ensures c.stage_of.result.first).0, (c.ruled_parts_fit.ensures c.stage_of.result.second).1)
+play_script-requires-clause-fits g c = λ live lives. ((c.ruled_parts_fit.ensures c.stage_of.result.first c.stage_of.result.profile.workers).0, (c.ruled_parts_fit.ensures c.stage_of.result.second c.stage_of.result.profile.workers).1)
 
 pub returns-clause-ok : goal.returns-clause-ok
 returns-clause-ok g c =

@@ -8,12 +8,12 @@ use Rattle.rdm_crew.proofs.running.play.Goals as goal
 
 pub finish-requires-clause-jobs : goal.finish-requires-clause-jobs
 finish-requires-clause-jobs g c =
-    closing_jobs c.play_all-played.new.self c.draw_all.new.self c.close-first.result c.close-second.result c.in-Ok.ensures.played.0 c.in-Ok-draw_all.ensures.drawn.1 c.close-first.ensures c.close-second.ensures
+    closing_jobs c.play_all-played.new.self c.draw_all.new.self c.close-first.result c.close-second.result c.in-Ok.ensures.played.0 c.draw_all.ensures.same.0 c.in-Ok-draw_all.ensures.drawn.1 c.close-first.ensures c.close-second.ensures
 
 pub returns-in-Ok-draw_all-clause-trace : goal.returns-in-Ok-draw_all-clause-trace
 returns-in-Ok-draw_all-clause-trace g c =
     run_trace c.args.steps.now c.args.crew.desk c.play_all-played.new.self.desk c.draw_all.new.self (g.P.Part.gives c.args.first_worker.part.value) (g.Q.Part.gives c.args.second_worker.part.value) (g.N.Panel.offers c.args.watcher.panel.value) c.in_ok-finish-in-Ok-draw_all.field-0
-    c.requires.new.1 c.draw_all.ensures.same c.in-Ok.ensures.played.1 c.in-Ok-draw_all.ensures.drawn.1 c.in_ok-finish-in-Ok-draw_all.ensures.events c.in_ok-finish-in-Ok-draw_all.ensures.last c.in_ok-finish-in-Ok-draw_all.ensures.first c.in_ok-finish-in-Ok-draw_all.ensures.second c.in_ok-finish-in-Ok-draw_all.ensures.changes
+    c.requires.new.1 c.play_all-played.ensures.same.0.0 c.draw_all.ensures.same c.in-Ok.ensures.played.1 c.in-Ok-draw_all.ensures.drawn.1 c.in_ok-finish-in-Ok-draw_all.ensures.events c.in_ok-finish-in-Ok-draw_all.ensures.last c.in_ok-finish-in-Ok-draw_all.ensures.first c.in_ok-finish-in-Ok-draw_all.ensures.second c.in_ok-finish-in-Ok-draw_all.ensures.changes
 
 pub finish-requires-clause-changes : goal.finish-requires-clause-changes
 finish-requires-clause-changes g c =

@@ -46,7 +46,7 @@ returns-clause-headline g c =
     let trace = c.of.result in
     headline_of_run c.bus_recording_laws_hold.ensures c.messages_are_kept.ensures c.args.setup c.args.steps.now trace.reports.taken trace.events trace.recorded
     (cut_at c.of-began.result.value c.args.setup c.args.steps.now ended.system.trace trace.events c.of-began.ensures c.of.ensures.events c.in_ok-ended.ensures.trace.cut)
-    (over_at ended.system.trace trace.events ended.reports.taken trace.reports.taken c.of.ensures.events (ap (λ (s : SettledState Report). s.taken) c.of.ensures.reports) c.in_ok-ended.ensures.handed)
+    (over_at c.of-began.result.value c.args.setup ended.system.trace trace.events ended.reports.taken trace.reports.taken c.of-began.ensures c.of.ensures.events (ap (λ (s : SettledState Report). s.taken) c.of.ensures.reports) c.in_ok-ended.ensures.handed)
     (c.of.ensures.recorded ∙ c.in_ok-ended.ensures.recorded ∙ ap recorded (sym c.of.ensures.events))
 
 pub returns-clause-lane : goal.returns-clause-lane

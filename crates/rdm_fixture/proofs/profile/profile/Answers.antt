@@ -3,7 +3,7 @@ use Rattle.toml.specs.Data.{get_member}
 use Rattle.toml.specs.View.{table_view}
 use Rattle.rdm_fixture.specs.Drafts.{with_parameters}
 use Rattle.rdm_fixture.specs.Faults.{told}
-use Rattle.rdm_fixture.specs.FirstWrong.{profile_parts, unit_parts, self_test_parts, status_parts, parameter_parts, differing, names, optional, unneeded, ascending, times}
+use Rattle.rdm_fixture.specs.FirstWrong.{profile_parts, unit_parts, self_test_parts, status_parts, parameter_parts, differing, names, optional, unneeded, ascending, times, choice}
 use Rattle.rdm_fixture.specs.Format.{IsProfile, IsSelfTest, IsStatus, root_slots}
 use Rattle.rdm_fixture.specs.Keys.{may}
 use Rattle.rdm_fixture.specs.Parameters.{IsParameter}
@@ -27,7 +27,7 @@ abbrev own_parts : List Part
 own_parts = entries (codes "parameter") IsParameter (FirstWrong parameter_parts) 0 16 ∷ ascending ∷ []
 
 abbrev after_without : List Part
-after_without = own_parts ++ times ∷ []
+after_without = own_parts ++ (times ∷ choice ∷ [])
 
 abbrev after_statuses : List Part
 after_statuses = without_parts ++ after_without
@@ -61,6 +61,10 @@ pub returns-in_err-estimates-clause-read : goal.returns-in_err-estimates-clause-
 returns-in_err-estimates-clause-read c =
     Reads-err (λ t r. IsProfile t (with_parameters r.0 r.1.items)) _ _ c.from_residual-in_err-estimates.ensures.0 (λ r h. c.in_err-estimates.ensures.read r.0.estimates h.estimates)
 
+pub returns-in_err-workers-clause-read : goal.returns-in_err-workers-clause-read
+returns-in_err-workers-clause-read c =
+    Reads-err (λ t r. IsProfile t (with_parameters r.0 r.1.items)) _ _ c.from_residual-in_err-workers.ensures.0 (λ r h. c.in_err-workers.ensures.read r.0.workers h.workers)
+
 pub returns-clause-read : goal.returns-clause-read
 returns-clause-read c =
     let more : Some c.in_ok-more_slots.more_slots ≡ may 0 (number 0 512) (get_member (codes "more_slots") (table_view c.args.table.now)) = c.in_ok-more_slots.ensures.value in
@@ -85,6 +89,7 @@ returns-clause-read c =
       own = c.in_ok-parameters.ensures.read.0;
       own_ascend = c.in_ok-parameters.ensures.read.1;
       estimates = c.in_ok-estimates.ensures.read;
+      workers = c.in_ok-workers.ensures.read;
     }
 
 pub sub_devices-requires : goal.sub_devices-requires
@@ -173,7 +178,7 @@ returns-in_err-parameters-clause-wrong c =
     let count : c.root_slots-count.result ≡ root_slots (table_view c.args.table.now) =
     c.root_slots-count.ensures ∙ slots_counted _ _ _ _ more (c.len.ensures.value ∙ c.in_ok-slots.ensures.count) in
     exit (FirstWrong profile_parts (table_view c.args.table.now)) _ _ c.from_residual-in_err-parameters.ensures.1
-    (inr (free_right 0 (number 0 0xFFFFFFFF) (get_member (codes "boot_software_version_id") (table_view c.args.table.now)) _ c.in_ok-boot.ensures.value, inr (free_right [] text (get_member (codes "boot_software_version_label") (table_view c.args.table.now)) _ c.in_ok-boot_text.ensures.value, inr ((c.in_ok-languages.languages.items, c.in_ok-languages.ensures.read), inr (free_right 0 (number 0 65534) (get_member (codes "presets") (table_view c.args.table.now)) _ c.in_ok-presets.ensures.value, inr (free_right 0 (number 0 512) (get_member (codes "more_slots") (table_view c.args.table.now)) _ c.in_ok-more_slots.ensures.value, inr ((c.in_ok-slots.slots.items, c.in_ok-slots.ensures.read), inr ((c.in_ok-root.root, rw (← count) c.in_ok-root.ensures.read), inr (((c.in_ok-subs.subs, c.in_ok-subs.sub), rw (← count) c.in_ok-subs.ensures.read), inr ((_, c.in_ok-sensors.ensures.read), inr ((_, c.in_ok-tests.ensures.read.0), inr ((_, c.in_ok-tests.ensures.read), inr ((_, c.in_ok-status_texts.ensures.read.0), inr ((_, c.in_ok-status_texts.ensures.read), inr ((_, c.in_ok-without.ensures.read.0), inr ((_, (c.in_ok-without.ensures.read.0, c.in_ok-without.ensures.read.1.optional)), inr ((_, (c.in_ok-without.ensures.read.0, c.in_ok-without.ensures.read.1.needs)), among own_parts (times ∷ []) (table_view c.args.table.now) _ c.in_err-parameters.ensures.wrong)))))))))))))))))
+    (inr (free_right 0 (number 0 0xFFFFFFFF) (get_member (codes "boot_software_version_id") (table_view c.args.table.now)) _ c.in_ok-boot.ensures.value, inr (free_right [] text (get_member (codes "boot_software_version_label") (table_view c.args.table.now)) _ c.in_ok-boot_text.ensures.value, inr ((c.in_ok-languages.languages.items, c.in_ok-languages.ensures.read), inr (free_right 0 (number 0 65534) (get_member (codes "presets") (table_view c.args.table.now)) _ c.in_ok-presets.ensures.value, inr (free_right 0 (number 0 512) (get_member (codes "more_slots") (table_view c.args.table.now)) _ c.in_ok-more_slots.ensures.value, inr ((c.in_ok-slots.slots.items, c.in_ok-slots.ensures.read), inr ((c.in_ok-root.root, rw (← count) c.in_ok-root.ensures.read), inr (((c.in_ok-subs.subs, c.in_ok-subs.sub), rw (← count) c.in_ok-subs.ensures.read), inr ((_, c.in_ok-sensors.ensures.read), inr ((_, c.in_ok-tests.ensures.read.0), inr ((_, c.in_ok-tests.ensures.read), inr ((_, c.in_ok-status_texts.ensures.read.0), inr ((_, c.in_ok-status_texts.ensures.read), inr ((_, c.in_ok-without.ensures.read.0), inr ((_, (c.in_ok-without.ensures.read.0, c.in_ok-without.ensures.read.1.optional)), inr ((_, (c.in_ok-without.ensures.read.0, c.in_ok-without.ensures.read.1.needs)), among own_parts (times ∷ choice ∷ []) (table_view c.args.table.now) _ c.in_err-parameters.ensures.wrong)))))))))))))))))
 
 pub returns-in_err-estimates-clause-wrong : goal.returns-in_err-estimates-clause-wrong
 returns-in_err-estimates-clause-wrong c =
@@ -182,3 +187,11 @@ returns-in_err-estimates-clause-wrong c =
     c.root_slots-count.ensures ∙ slots_counted _ _ _ _ more (c.len.ensures.value ∙ c.in_ok-slots.ensures.count) in
     exit (FirstWrong profile_parts (table_view c.args.table.now)) _ _ c.from_residual-in_err-estimates.ensures.1
     (inr (free_right 0 (number 0 0xFFFFFFFF) (get_member (codes "boot_software_version_id") (table_view c.args.table.now)) _ c.in_ok-boot.ensures.value, inr (free_right [] text (get_member (codes "boot_software_version_label") (table_view c.args.table.now)) _ c.in_ok-boot_text.ensures.value, inr ((c.in_ok-languages.languages.items, c.in_ok-languages.ensures.read), inr (free_right 0 (number 0 65534) (get_member (codes "presets") (table_view c.args.table.now)) _ c.in_ok-presets.ensures.value, inr (free_right 0 (number 0 512) (get_member (codes "more_slots") (table_view c.args.table.now)) _ c.in_ok-more_slots.ensures.value, inr ((c.in_ok-slots.slots.items, c.in_ok-slots.ensures.read), inr ((c.in_ok-root.root, rw (← count) c.in_ok-root.ensures.read), inr (((c.in_ok-subs.subs, c.in_ok-subs.sub), rw (← count) c.in_ok-subs.ensures.read), inr ((_, c.in_ok-sensors.ensures.read), inr ((_, c.in_ok-tests.ensures.read.0), inr ((_, c.in_ok-tests.ensures.read), inr ((_, c.in_ok-status_texts.ensures.read.0), inr ((_, c.in_ok-status_texts.ensures.read), inr ((_, c.in_ok-without.ensures.read.0), inr ((_, (c.in_ok-without.ensures.read.0, c.in_ok-without.ensures.read.1.optional)), inr ((_, (c.in_ok-without.ensures.read.0, c.in_ok-without.ensures.read.1.needs)), inr ((_, c.in_ok-parameters.ensures.read.0), inr ((_, c.in_ok-parameters.ensures.read), inl c.in_err-estimates.ensures.wrong)))))))))))))))))))
+
+pub returns-in_err-workers-clause-wrong : goal.returns-in_err-workers-clause-wrong
+returns-in_err-workers-clause-wrong c =
+    let more : Some c.in_ok-more_slots.more_slots ≡ may 0 (number 0 512) (get_member (codes "more_slots") (table_view c.args.table.now)) = c.in_ok-more_slots.ensures.value in
+    let count : c.root_slots-count.result ≡ root_slots (table_view c.args.table.now) =
+    c.root_slots-count.ensures ∙ slots_counted _ _ _ _ more (c.len.ensures.value ∙ c.in_ok-slots.ensures.count) in
+    exit (FirstWrong profile_parts (table_view c.args.table.now)) _ _ c.from_residual-in_err-workers.ensures.1
+    (inr (free_right 0 (number 0 0xFFFFFFFF) (get_member (codes "boot_software_version_id") (table_view c.args.table.now)) _ c.in_ok-boot.ensures.value, inr (free_right [] text (get_member (codes "boot_software_version_label") (table_view c.args.table.now)) _ c.in_ok-boot_text.ensures.value, inr ((c.in_ok-languages.languages.items, c.in_ok-languages.ensures.read), inr (free_right 0 (number 0 65534) (get_member (codes "presets") (table_view c.args.table.now)) _ c.in_ok-presets.ensures.value, inr (free_right 0 (number 0 512) (get_member (codes "more_slots") (table_view c.args.table.now)) _ c.in_ok-more_slots.ensures.value, inr ((c.in_ok-slots.slots.items, c.in_ok-slots.ensures.read), inr ((c.in_ok-root.root, rw (← count) c.in_ok-root.ensures.read), inr (((c.in_ok-subs.subs, c.in_ok-subs.sub), rw (← count) c.in_ok-subs.ensures.read), inr ((_, c.in_ok-sensors.ensures.read), inr ((_, c.in_ok-tests.ensures.read.0), inr ((_, c.in_ok-tests.ensures.read), inr ((_, c.in_ok-status_texts.ensures.read.0), inr ((_, c.in_ok-status_texts.ensures.read), inr ((_, c.in_ok-without.ensures.read.0), inr ((_, (c.in_ok-without.ensures.read.0, c.in_ok-without.ensures.read.1.optional)), inr ((_, (c.in_ok-without.ensures.read.0, c.in_ok-without.ensures.read.1.needs)), inr ((_, c.in_ok-parameters.ensures.read.0), inr ((_, c.in_ok-parameters.ensures.read), inr ((c.in_ok-estimates.estimates, c.in_ok-estimates.ensures.read), inl c.in_err-workers.ensures.wrong))))))))))))))))))))

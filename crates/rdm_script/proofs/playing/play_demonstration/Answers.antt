@@ -4,7 +4,7 @@ use Rattle.rdm_script.proofs.Widening.{played_wider, played_text_wider, unplayed
 use Rattle.rdm_script.proofs.playing.play_demonstration.Goals as goal
 
 pub play_script-requires-clause-fits : goal.play_script-requires-clause-fits
-play_script-requires-clause-fits g c = λ live lives. ((c.ruled_parts_fit.ensures c.demo_stage.result.first).0, (c.ruled_parts_fit.ensures c.demo_stage.result.second).1)
+play_script-requires-clause-fits g c = λ live lives. ((c.ruled_parts_fit.ensures c.demo_stage.result.first c.demo_stage.result.profile.workers).0, (c.ruled_parts_fit.ensures c.demo_stage.result.second c.demo_stage.result.profile.workers).1)
 
 pub returns-clause-ok : goal.returns-clause-ok
 returns-clause-ok g c =

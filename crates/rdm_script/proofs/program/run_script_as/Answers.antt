@@ -4,7 +4,7 @@ use Rattle.rdm_script.proofs.Widening.{traced_wider, front_wider, failed_wider}
 use Rattle.rdm_script.proofs.program.run_script_as.Goals as goal
 
 pub run_script_on-requires-clause-fits : goal.run_script_on-requires-clause-fits
-run_script_on-requires-clause-fits g c = λ live lives. ((c.ruled_parts_fit.ensures c.demo_stage.result.first).0, (c.ruled_parts_fit.ensures c.demo_stage.result.second).1)
+run_script_on-requires-clause-fits g c = λ live lives. ((c.ruled_parts_fit.ensures c.demo_stage.result.first c.demo_stage.result.profile.workers).0, (c.ruled_parts_fit.ensures c.demo_stage.result.second c.demo_stage.result.profile.workers).1)
 
 pub returns-clause-ok : goal.returns-clause-ok
 returns-clause-ok g c =

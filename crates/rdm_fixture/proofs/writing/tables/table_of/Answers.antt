@@ -37,30 +37,30 @@ returns-clause-says c = λ can.
     rw c.as_slice-7.ensures.value at (c.in_ok-list_of-6.ensures.says 0 (rw c.as_slice-7.ensures.value (can.outcomes))) in
     let outcomes_fit : length f.outcomes.items ≤ 32 = omega (arith, ap length c.as_slice-7.ensures.value, c.as_slice-7.ensures.fits) in
     let whole = fixture_members f (table_view c.in_ok-table.table) (view c.in_ok-uid_of.field-0) (view c.in_ok-languages_of.field-0)
-    (option_map view c.in_ok-list_of.field-0) (option_map view c.in_ok-list_of-2.field-0) (option_map view c.in_ok-list_of-3.field-0) (option_map view c.in_ok-list_of-4.field-0) (option_map view c.in_ok-names_of.field-0) (option_map view c.in_ok-list_of-5.field-0) (option_map view c.in_ok-list_of-6.field-0) (option_map view c.in_ok-sub_devices_of.field-0) (option_map view c.in_ok-estimates_of.field-0)
-    _ _ _ _ _ _ _ _ _ _ _ _ _ _ _ (c.in_ok-put.ensures refl) (c.in_ok-put_long.ensures.put refl) (c.in_ok-put_text.ensures.put refl) (c.in_ok-put-2.ensures refl)
+    (option_map view c.in_ok-list_of.field-0) (option_map view c.in_ok-list_of-2.field-0) (option_map view c.in_ok-list_of-3.field-0) (option_map view c.in_ok-list_of-4.field-0) (option_map view c.in_ok-names_of.field-0) (option_map view c.in_ok-list_of-5.field-0) (option_map view c.in_ok-list_of-6.field-0) (option_map view c.in_ok-sub_devices_of.field-0) (option_map view c.in_ok-estimates_of.field-0) (option_map view c.in_ok-workers_of.field-0)
+    _ _ _ _ _ _ _ _ _ _ _ _ _ _ _ _ (c.in_ok-put.ensures refl) (c.in_ok-put_long.ensures.put refl) (c.in_ok-put_text.ensures.put refl) (c.in_ok-put-2.ensures refl)
     (c.in_ok-put_word.ensures.put refl) (c.in_ok-put_word-2.ensures.put refl) (c.in_ok-put-3.ensures refl) (c.in_ok-put-4.ensures refl) (c.in_ok-put-5.ensures refl)
-    (c.in_ok-put-6.ensures refl) (c.in_ok-put-7.ensures refl) (c.in_ok-put-8.ensures refl) (c.in_ok-put-9.ensures refl) (c.in_ok-put-10.ensures refl) (c.in_ok-put-11.ensures refl) in
+    (c.in_ok-put-6.ensures refl) (c.in_ok-put-7.ensures refl) (c.in_ok-put-8.ensures refl) (c.in_ok-put-9.ensures refl) (c.in_ok-put-10.ensures refl) (c.in_ok-put-11.ensures refl) (c.in_ok-put-12.ensures refl) in
     subst (λ (t : Members). IsFixture t f) (sym whole)
     (fixture_says f (table_view c.in_ok-table.table) (view c.in_ok-uid_of.field-0) (view c.in_ok-languages_of.field-0)
-    (option_map view c.in_ok-list_of.field-0) (option_map view c.in_ok-list_of-2.field-0) (option_map view c.in_ok-list_of-3.field-0) (option_map view c.in_ok-list_of-4.field-0) (option_map view c.in_ok-names_of.field-0) (option_map view c.in_ok-list_of-5.field-0) (option_map view c.in_ok-list_of-6.field-0) (option_map view c.in_ok-sub_devices_of.field-0) (option_map view c.in_ok-estimates_of.field-0)
+    (option_map view c.in_ok-list_of.field-0) (option_map view c.in_ok-list_of-2.field-0) (option_map view c.in_ok-list_of-3.field-0) (option_map view c.in_ok-list_of-4.field-0) (option_map view c.in_ok-names_of.field-0) (option_map view c.in_ok-list_of-5.field-0) (option_map view c.in_ok-list_of-6.field-0) (option_map view c.in_ok-sub_devices_of.field-0) (option_map view c.in_ok-estimates_of.field-0) (option_map view c.in_ok-workers_of.field-0)
     can c.in_ok-table.ensures.keys (λ n same. c.in_ok-table.ensures.says n (rw same made.root) texts.root)
     (c.in_ok-uid_of.ensures.says can.own) c.put_long.ensures.says (c.put_text.ensures.says texts.boot)
     (c.in_ok-languages_of.ensures.says made.language can.languages)
     slots slots_fit sensors sensors_fit tests tests_fit statuses statuses_fit lacked lacked_fit own own_fit outcomes outcomes_fit
-    (c.in_ok-sub_devices_of.ensures.says can.made texts.sub) c.in_ok-estimates_of.ensures.says)
+    (c.in_ok-sub_devices_of.ensures.says can.made texts.sub) c.in_ok-estimates_of.ensures.says c.in_ok-workers_of.ensures.says)
 
 pub returns-clause-plain : goal.returns-clause-plain
 returns-clause-plain c =
     let f = c.args.fixture.now in
     let whole = fixture_members f (table_view c.in_ok-table.table) (view c.in_ok-uid_of.field-0) (view c.in_ok-languages_of.field-0)
-    (option_map view c.in_ok-list_of.field-0) (option_map view c.in_ok-list_of-2.field-0) (option_map view c.in_ok-list_of-3.field-0) (option_map view c.in_ok-list_of-4.field-0) (option_map view c.in_ok-names_of.field-0) (option_map view c.in_ok-list_of-5.field-0) (option_map view c.in_ok-list_of-6.field-0) (option_map view c.in_ok-sub_devices_of.field-0) (option_map view c.in_ok-estimates_of.field-0)
-    _ _ _ _ _ _ _ _ _ _ _ _ _ _ _ (c.in_ok-put.ensures refl) (c.in_ok-put_long.ensures.put refl) (c.in_ok-put_text.ensures.put refl) (c.in_ok-put-2.ensures refl)
+    (option_map view c.in_ok-list_of.field-0) (option_map view c.in_ok-list_of-2.field-0) (option_map view c.in_ok-list_of-3.field-0) (option_map view c.in_ok-list_of-4.field-0) (option_map view c.in_ok-names_of.field-0) (option_map view c.in_ok-list_of-5.field-0) (option_map view c.in_ok-list_of-6.field-0) (option_map view c.in_ok-sub_devices_of.field-0) (option_map view c.in_ok-estimates_of.field-0) (option_map view c.in_ok-workers_of.field-0)
+    _ _ _ _ _ _ _ _ _ _ _ _ _ _ _ _ (c.in_ok-put.ensures refl) (c.in_ok-put_long.ensures.put refl) (c.in_ok-put_text.ensures.put refl) (c.in_ok-put-2.ensures refl)
     (c.in_ok-put_word.ensures.put refl) (c.in_ok-put_word-2.ensures.put refl) (c.in_ok-put-3.ensures refl) (c.in_ok-put-4.ensures refl) (c.in_ok-put-5.ensures refl)
-    (c.in_ok-put-6.ensures refl) (c.in_ok-put-7.ensures refl) (c.in_ok-put-8.ensures refl) (c.in_ok-put-9.ensures refl) (c.in_ok-put-10.ensures refl) (c.in_ok-put-11.ensures refl) in
+    (c.in_ok-put-6.ensures refl) (c.in_ok-put-7.ensures refl) (c.in_ok-put-8.ensures refl) (c.in_ok-put-9.ensures refl) (c.in_ok-put-10.ensures refl) (c.in_ok-put-11.ensures refl) (c.in_ok-put-12.ensures refl) in
     subst (λ (t : Members). IsPlain 4 (table t)) (sym whole)
     (fixture_plain f (table_view c.in_ok-table.table) (view c.in_ok-uid_of.field-0) (view c.in_ok-languages_of.field-0)
-    (option_map view c.in_ok-list_of.field-0) (option_map view c.in_ok-list_of-2.field-0) (option_map view c.in_ok-list_of-3.field-0) (option_map view c.in_ok-list_of-4.field-0) (option_map view c.in_ok-names_of.field-0) (option_map view c.in_ok-list_of-5.field-0) (option_map view c.in_ok-list_of-6.field-0) (option_map view c.in_ok-sub_devices_of.field-0) (option_map view c.in_ok-estimates_of.field-0)
+    (option_map view c.in_ok-list_of.field-0) (option_map view c.in_ok-list_of-2.field-0) (option_map view c.in_ok-list_of-3.field-0) (option_map view c.in_ok-list_of-4.field-0) (option_map view c.in_ok-names_of.field-0) (option_map view c.in_ok-list_of-5.field-0) (option_map view c.in_ok-list_of-6.field-0) (option_map view c.in_ok-sub_devices_of.field-0) (option_map view c.in_ok-estimates_of.field-0) (option_map view c.in_ok-workers_of.field-0)
     (deeper 3 4 _ (omega arith) c.in_ok-table.ensures.plain)
     (deeper 0 3 _ (omega arith) c.in_ok-uid_of.ensures.plain) (deeper 1 3 _ (omega arith) c.in_ok-languages_of.ensures.plain)
     (deeper_some 2 3 _ (omega arith) (some_plain 2 c.in_ok-list_of.field-0 c.in_ok-list_of.ensures.plain))
@@ -71,4 +71,5 @@ returns-clause-plain c =
     (deeper_some 2 3 _ (omega arith) (some_plain 2 c.in_ok-list_of-5.field-0 c.in_ok-list_of-5.ensures.plain))
     (deeper_some 2 3 _ (omega arith) (some_plain 2 c.in_ok-list_of-6.field-0 c.in_ok-list_of-6.ensures.plain))
     (some_plain 3 c.in_ok-sub_devices_of.field-0 c.in_ok-sub_devices_of.ensures.plain)
-    (deeper_some 1 3 _ (omega arith) (some_plain 1 c.in_ok-estimates_of.field-0 c.in_ok-estimates_of.ensures.plain)))
+    (deeper_some 1 3 _ (omega arith) (some_plain 1 c.in_ok-estimates_of.field-0 c.in_ok-estimates_of.ensures.plain))
+    (deeper_some 1 3 _ (omega arith) (some_plain 1 c.in_ok-workers_of.field-0 c.in_ok-workers_of.ensures.plain)))

@@ -7,6 +7,7 @@ use Rattle.rdm_responder.specs.StandsFor.{State}
 use Rattle.rdm_responder.proofs.Accounts.{stands_for_event}
 use Rattle.rdm_responder.proofs.Changes.{shows_change}
 use Rattle.rdm_responder.proofs.Lawfulness.{lawful_then, may_happen}
+use Rattle.rdm_responder.proofs.Choices.{chosen_after_change}
 use Rattle.rdm_responder.proofs.responder.Responder.change.Goals as goal
 
 pub returns-then-not-room-clause-lawful : goal.returns-then-not-room-clause-lawful
@@ -29,4 +30,7 @@ returns-clause-stands c h stands =
     let after = c.change-message.ensures.after ∙ ap (λ (s : State). after_change s.parameters c.args.change) c.self.view_is in
     stands_for_event _ h (Changed c.args.change)
     (shows_change c.args.self.now _ (account_of h) c.args.change c.change-message.result stands message
-    (ap (λ (s : State). s.uid) c.self.view_is) after (ap (λ (s : State). s.muted) c.self.view_is) (c.announce.ensures b shows))
+    (ap (λ (s : State). s.uid) c.self.view_is) after (ap (λ (s : State). s.muted) c.self.view_is) (c.announce.ensures.shows b shows))
+
+pub invariant_of-self : goal.invariant_of-self
+invariant_of-self c = c.announce.ensures.workers ∙ chosen_after_change _ c.self.inside.devices _ c.args.change c.self.invariant c.change-message.ensures.after

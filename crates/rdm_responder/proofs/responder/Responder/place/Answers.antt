@@ -7,6 +7,7 @@ use Rattle.rdm_responder.specs.StandsFor.{State}
 use Rattle.rdm_responder.proofs.Accounts.{stands_for_event}
 use Rattle.rdm_responder.proofs.Changes.{shows_place, ok_unless_refused, always_ok, on_err}
 use Rattle.rdm_responder.proofs.Lawfulness.{lawful_then, may_happen}
+use Rattle.rdm_responder.proofs.Choices.{chosen_after_place}
 use Rattle.rdm_responder.proofs.responder.Responder.place.Goals as goal
 
 pub returns-clause-lawful : goal.returns-clause-lawful
@@ -33,3 +34,6 @@ returns-clause-same c =
     on_err c.place.result _ _
     (λ e. ap (λ (p : Parameters). record { uid = c.self.inside.uid; parameters = p; muted = c.self.inside.muted; outbox = c.self.inside.outbox }) e ∙ c.self.view_is)
     c.place.ensures.same
+
+pub invariant_of-self : goal.invariant_of-self
+invariant_of-self c = chosen_after_place _ c.self.inside.devices _ c.args.sub c.args.pid c.args.data.now c.self.invariant c.place.ensures.after

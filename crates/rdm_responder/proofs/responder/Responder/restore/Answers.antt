@@ -7,6 +7,7 @@ use Rattle.rdm_responder.specs.StandsFor.{State}
 use Rattle.rdm_responder.proofs.Accounts.{stands_for_event}
 use Rattle.rdm_responder.proofs.Changes.{shows_restore, ok_unless_refused, on_ok, on_err}
 use Rattle.rdm_responder.proofs.Lawfulness.{lawful_then, may_happen}
+use Rattle.rdm_responder.proofs.Choices.{chosen_after_restore}
 use Rattle.rdm_responder.proofs.responder.Responder.restore.Goals as goal
 use Rattle.rdm_saved.specs.Restoring.{restored, restore_refusal}
 
@@ -35,3 +36,6 @@ returns-clause-same c =
     on_err c.power_on.result _ _
     (λ e. ap (λ (p : Parameters). record { uid = c.self.inside.uid; parameters = p; muted = c.self.inside.muted; outbox = c.self.inside.outbox }) e ∙ c.self.view_is)
     c.power_on.ensures.same
+
+pub invariant_of-self : goal.invariant_of-self
+invariant_of-self c = chosen_after_restore c.power_on.result _ c.self.inside.devices _ c.args.image.now c.self.invariant c.power_on.ensures.after c.power_on.ensures.same

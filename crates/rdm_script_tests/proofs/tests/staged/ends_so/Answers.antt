@@ -2,4 +2,4 @@ use Rattle.rdm_script_tests.proofs.tests.staged.ends_so.Goals as goal
 
 pub run_script_on-outcome-requires-clause-fits : goal.run_script_on-outcome-requires-clause-fits
 run_script_on-outcome-requires-clause-fits g c =
-    λ live lives. ((c.ruled_parts_fit.ensures c.stage.result.first).0, (c.ruled_parts_fit.ensures c.stage.result.second).1)
+    λ live lives. ((c.ruled_parts_fit.ensures c.args.stage.first c.args.stage.profile.workers).0, (c.ruled_parts_fit.ensures c.args.stage.second c.args.stage.profile.workers).1)

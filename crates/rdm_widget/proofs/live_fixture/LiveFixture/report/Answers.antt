@@ -1,7 +1,6 @@
 use Rattle.std.proofs.Common.{◌≡◌, ◌∙◌, true, List, sym, ap, subst}
 use Rattle.rdm_params.specs.declared.jobs.outcome.Outcome.{Outcome}
 use Rattle.rdm_params.specs.Jobs.Outcome.{fits}
-use Rattle.rdm_params.specs.Jobs.Work.{worker_of}
 use Rattle.rdm_outbox.specs.declared.job.Job.{Job}
 use Rattle.rdm_responder.specs.declared.report.Report.{Report}
 use Rattle.rdm_responder.specs.declared.report.Astray.{Astray}
@@ -10,7 +9,7 @@ use Rattle.rdm_responder.specs.Lawful.{MayArrive}
 use Rattle.rdm_responder.specs.Rules.{account_of}
 use Rattle.rdm_responder.specs.StandsFor.{StandsFor}
 use Rattle.rdm_outcomes.specs.Outcomes.{CanEnd, HasEnded}
-use Rattle.rdm_widget.specs.LiveFixtures.{reported_in, report_of, since_after}
+use Rattle.rdm_widget.specs.LiveFixtures.{worker_in, reported_in, report_of, since_after}
 use Rattle.rdm_widget.proofs.Ends.{can_end}
 use Rattle.rdm_widget.proofs.Reports.{IsSlowJob, oldest_is, reported-then, never_astray}
 use Rattle.rdm_widget.proofs.live_fixture.LiveFixture.report.Goals as goal
@@ -21,7 +20,7 @@ returns c = λ s is oldest.
     let report : Report = record { job = c.args.ended.now.job; outcome = c.end-outcome.result } in
     let counts = c.end-outcome.ensures.counts s.rules (reported_in s.history.events) is.planned in
     let slow : IsSlowJob c.args.ended.now.job =
-    (oldest_is c.started_work_is_its_command.ensures.get c.started_work_is_its_command.ensures.set s.history (worker_of c.args.ended.now.job.work) c.args.ended.now.job oldest).0 in
+    (oldest_is c.started_work_is_its_command.ensures.get c.started_work_is_its_command.ensures.set s.history (worker_in s.history c.args.ended.now.job) c.args.ended.now.job oldest).0 in
     let fit : fits c.args.ended.now.job.work c.end-outcome.result ≡ true =
     c.outcomes_fit.ensures s.rules c.args.ended.now.job c.end-outcome.result slow
     (subst (λ (o : Outcome). CanEnd s.rules c.args.ended.now.job o) (sym counts.0) (can_end s.rules (reported_in s.history.events) c.args.ended.now.job)) in

@@ -5,7 +5,7 @@ use Rattle.rdm_crew.proofs.Changing.{sent_keeps, drawn_keeps, settled_keeps}
 use Rattle.rdm_crew.proofs.bus.crew.Crew.play.Goals as goal
 
 pub returns-in-Settle-clause-played : goal.returns-in-Settle-clause-played
-returns-in-Settle-clause-played g c = settled_step c.args.self.now _ c.args.step.now c.in-Settle.empties c.settle.result c.in-Settle.is c.requires.tied refl refl c.settle.ensures.settled
+returns-in-Settle-clause-played g c = settled_step c.args.self.now _ c.args.step.now c.in-Settle.empties c.settle.result c.in-Settle.is c.requires.tied c.settle.ensures.same.0 refl refl c.settle.ensures.settled
 
 pub returns-in-Ask-clause-changes : goal.returns-in-Ask-clause-changes
 returns-in-Ask-clause-changes g c = sent_keeps (bus.Ask c.copy.result c.in-Ask.fault) c.args.self.now c.send.new.self c.send.result tt c.send.ensures.played c.send.ensures.changes c.requires.changes

@@ -1,11 +1,10 @@
 use Rattle.std.proofs.Common.{ℕ, ◌<◌, refl, sym, ap, subst, ◌∷◌, ◌++◌, [], ◌∙◌, Option}
-use Rattle.std.specs.Prelude.{IfSome}
 use Rattle.std.specs.Option.{option_to_list}
 use Rattle.rdm_params.proofs.TwoWorkers.{there_are_two_workers}
 use Rattle.rdm_responder.specs.declared.stepped.Started.{Started}
-use Rattle.rdm_responder.specs.Started.{job_in, IsAsInProfile}
-use Rattle.rdm_crew.specs.Desks.{began}
-use Rattle.rdm_crew.proofs.Playing.{first_has_room, second_has_room, handed, none_handed}
+use Rattle.rdm_responder.specs.Started.{job_in}
+use Rattle.rdm_crew.specs.Desks.{began, chosen}
+use Rattle.rdm_crew.proofs.Playing.{own_worker, first_has_room, second_has_room, handed, none_handed}
 use Rattle.rdm_crew.proofs.bus.crew.Crew.send.Goals as goal
 
 pub hand_out-requires-clause-first : goal.hand_out-requires-clause-first
@@ -41,6 +40,8 @@ returns-in-None-clause-played g c =
 
 pub hand_out-requires-clause-two : goal.hand_out-requires-clause-two
 hand_out-requires-clause-two g c =
-    let as_profiled : Started → Type 0 = IsAsInProfile c.args.self.now.desk.system.responder.parameters.profile in
-    let table : as_profiled c.in-Some.started = subst (λ (o : Option Started). IfSome o as_profiled) c.in-Some.is c.in_ok-started.ensures.table in
-    subst (λ (n : ℕ). n < 2) (sym table.0) (there_are_two_workers c.in-Some.started.job.work)
+    let own = own_worker c.args.self.now.desk _ c.in-Some.started c.requires.tied.drawn.run c.in_ok-started.ensures.worker c.in-Some.is in
+    subst (λ (n : ℕ). n < 2) (sym own) (there_are_two_workers (chosen c.args.self.now.desk) c.in-Some.started.job.work)
+
+pub hand_out-requires-clause-choice : goal.hand_out-requires-clause-choice
+hand_out-requires-clause-choice g c = own_worker c.args.self.now.desk _ c.in-Some.started c.requires.tied.drawn.run c.in_ok-started.ensures.worker c.in-Some.is

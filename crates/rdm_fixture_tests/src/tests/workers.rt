@@ -1,0 +1,67 @@
+//! The workers of slow commands.
+
+use super::{LEAST, try_rows};
+use rdm_device::Workers;
+use rdm_fixture::Fixture;
+use std::process::Abort;
+use std::test::Fail;
+
+/// What is told of a table of workers.
+const ROWS: [(&str, &str, &str); 7] = [
+    ("", "[workers]", ""),
+    ("workers = {}", "", ""),
+    ("workers = 1", "", "line 1: `workers` isn't a table"),
+    ("workers.sensor_value = 0", "", ""),
+    (
+        "workers = { lamp_state = 2 }",
+        "",
+        "line 1: in [workers], `lamp_state` isn't an integer from 0 to 1",
+    ),
+    (
+        "",
+        "[workers]\npower_state = 1\nperform_selftest = \"0\"",
+        "line 8: in [workers], `perform_selftest` isn't an integer from 0 to 1",
+    ),
+    (
+        "",
+        "[estimates]\nlamp_state = 1\n[workers]\nlamp = 1",
+        "line 9: in [workers], unknown key `lamp`",
+    ),
+];
+
+#[test]
+fn what_is_told_of_workers(rt: HostRuntime) -> Result<(), Fail> {
+    try_rows(&rt, &ROWS)
+}
+
+/// The numbers of the workers of a text: of the lamp, the power state, self tests and sensors.
+fn workers_of(rt: &(impl Abort + AllocGlobal), workers: &str) -> Result<(u8, u8, u8, u8), Fail> {
+    let text = format!(in rt.alloc(); "{LEAST}{workers}")?;
+    let fixture = Fixture::from_toml(rt.alloc(), text.as_str())?;
+    let written = fixture.to_toml(rt.alloc())?;
+    let again = Fixture::from_toml(rt.alloc(), written.as_str())?;
+    assert!(rt; again == fixture);
+    let Workers {
+        lamp,
+        power,
+        self_test,
+        sensor,
+    } = fixture.profile.workers;
+    Ok((
+        lamp.number(),
+        power.number(),
+        self_test.number(),
+        sensor.number(),
+    ))
+}
+
+#[test]
+fn workers_that_are_not_said_are_usual(rt: HostRuntime) -> Result<(), Fail> {
+    assert_eq!(rt; workers_of(&rt, "")?, (0, 0, 1, 1));
+    assert_eq!(rt; workers_of(&rt, "[workers]\n")?, (0, 0, 1, 1));
+    let some = "[workers]\nlamp_state = 1\nperform_selftest = 0\n";
+    assert_eq!(rt; workers_of(&rt, some)?, (1, 0, 0, 1));
+    let others = "[workers]\npower_state = 1\nsensor_value = 0\n";
+    assert_eq!(rt; workers_of(&rt, others)?, (0, 1, 1, 0));
+    Ok(())
+}
