@@ -21,7 +21,11 @@ pid_told _ = 0
 
 -- the same numbers, but telling of this change
 abbrev pub with_change : SteppedNumbers → Option Changed → SteppedNumbers
-with_change s changed = record s { changed = change_code changed; changed_sub_device = sub_told changed; changed_parameter = pid_told changed }
+with_change s changed = record s {
+  changed = change_code changed;
+  changed_sub_device = sub_told changed;
+  changed_parameter = pid_told changed;
+}
 
 -- the change that C is told of
 abbrev pub change_in : SteppedNumbers → Option Changed

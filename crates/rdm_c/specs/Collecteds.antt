@@ -1,5 +1,5 @@
 -- What a collector for any device takes and gives, as the numbers that C has of it.
-use Rattle.std.specs.Prelude.{◌≡◌, ℕ, ◌==◌, length, take}
+use Rattle.std.specs.Prelude.{◌≡◌, ℕ, length, take}
 use Rattle.rdm_collector.specs.declared.any_device.collected.Collected.{Collected}
 use Rattle.rdm_collector.specs.declared.any_device.heard.DeviceHeard.{DeviceHeard}
 use Rattle.rdm_collector.specs.declared.any_device.heard.DeviceHeard.TheVariants as heard

@@ -116,7 +116,8 @@ impl SteppedNumbers {
 
     /// Tells of the job that started, if one did.
     pub(crate) fn tell_job(&mut self, started: Option<Started>)
-        ensures job { (p : Profile) → IfSome started (IsAsInProfile p) → started_in self.new ≡ option_map (numbers_of p) (the_job_in started) }
+        ensures job { (p : Profile) → IfSome started (IsAsInProfile p) →
+            started_in self.new ≡ option_map (numbers_of p) (the_job_in started) }
         ensures flag { self.new.started ≡ flag (is_some (the_job_in started)) }
         ensures reply { (self.new.count ≡ self.old.count) × (self.new.replied ≡ self.old.replied) }
     {

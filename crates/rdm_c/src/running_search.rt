@@ -50,7 +50,8 @@ impl RunningSearch {
 
     /// Hears what came after the frame. Only memory can be refused, and nothing changes then.
     pub(crate) fn hear(&mut self, bytes: &[u8]) -> Result<(), SearchError>
-        ensures hears { OnOk result (Hears self.old.stage (found_uids self.old.found) bytes.now self.new.stage (found_uids self.new.found)) }
+        ensures hears { OnOk result
+            (Hears self.old.stage (found_uids self.old.found) bytes.now self.new.stage (found_uids self.new.found)) }
         ensures found { OnOk result (self.new.found ≡ found_after self.old.stage self.old.found bytes.now) }
         ensures left { OnOk result (self.new.left ≡ self.old.left - 1) }
         ensures tn { OnOk result (self.new.tn ≡ (self.old.tn + 1) % 256) }

@@ -28,7 +28,8 @@ pub(crate) fn ask(
         take count.new request.new ≡ frame_text (command_request s.collector command.now) }
     ensures count { (s : CollectorState) → IsIn endpoint.old s → result ≡ Status.Done →
         count.new ≡ length (frame_text (command_request s.collector command.now)) }
-    ensures is_frame { (s : CollectorState) → IsIn endpoint.old s → result ≡ Status.Done → IsFrame (command_request s.collector command.now) }
+    ensures is_frame { (s : CollectorState) → IsIn endpoint.old s → result ≡ Status.Done →
+        IsFrame (command_request s.collector command.now) }
     ensures after { (s : CollectorState) → IsIn endpoint.old s → result ≡ Status.Done → IsIn endpoint.new (asked s command.now) }
     ensures same { result ≢ Status.Done → endpoint.new ≡ endpoint.old }
     ensures absent { (result ≡ Status.Absent) ↔ (is_collector endpoint.old ≡ false) }
@@ -75,8 +76,10 @@ pub(crate) fn poll(
     count: &mut usize,
 ) -> Status
     ensures busy { (s : CollectorState) → IsIn endpoint.old s → ((result ≡ Status.Busy) ↔ IsSome s.collector.transaction) }
-    ensures sent { (s : CollectorState) → IsIn endpoint.old s → result ≡ Status.Done → take count.new request.new ≡ frame_text (poll_request s.collector) }
-    ensures count { (s : CollectorState) → IsIn endpoint.old s → result ≡ Status.Done → count.new ≡ length (frame_text (poll_request s.collector)) }
+    ensures sent { (s : CollectorState) → IsIn endpoint.old s → result ≡ Status.Done →
+        take count.new request.new ≡ frame_text (poll_request s.collector) }
+    ensures count { (s : CollectorState) → IsIn endpoint.old s → result ≡ Status.Done →
+        count.new ≡ length (frame_text (poll_request s.collector)) }
     ensures is_frame { (s : CollectorState) → IsIn endpoint.old s → result ≡ Status.Done → IsFrame (poll_request s.collector) }
     ensures after { (s : CollectorState) → IsIn endpoint.old s → result ≡ Status.Done → IsIn endpoint.new (polled s) }
     ensures same { result ≢ Status.Done → endpoint.new ≡ endpoint.old }

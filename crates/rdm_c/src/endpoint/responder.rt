@@ -34,7 +34,8 @@ pub(crate) fn step(
     ensures status { result ≡ found (is_responder endpoint.old) }
     ensures reply { (h : History) → IsFor endpoint.old h → told stepped.new.replied stepped.new.count reply.new ≡ reply_of h bytes.now }
     ensures count { (h : History) → IsFor endpoint.old h → IfSome (reply_of h bytes.now) (λ r. stepped.new.count ≡ length r) }
-    ensures job { (h : History) → IsFor endpoint.old h → started_in stepped.new ≡ option_map (numbers_of (account_of h).parameters.profile) (job_of h bytes.now) }
+    ensures job { (h : History) → IsFor endpoint.old h →
+        started_in stepped.new ≡ option_map (numbers_of (account_of h).parameters.profile) (job_of h bytes.now) }
     ensures flags { (h : History) → IsFor endpoint.old h → (stepped.new.replied ≡ flag (is_some (reply_of h bytes.now)))
         × (stepped.new.started ≡ flag (is_some (job_of h bytes.now))) }
     ensures stands { (h : History) → IsFor endpoint.old h → IsFor endpoint.new (then_event h (Heard bytes.now)) }

@@ -11,7 +11,7 @@ use crate::profile::{ProfileNumbers, lists};
 use arrayvec::ArrayVec;
 use rdm_device::{ProfileFault, profile_fault, profile_fault_with};
 use rdm_frame::Text;
-use rdm_params::{Estimates, OwnParameters, ParameterDef, Profile, Unit, Workers};
+use rdm_params::{ParameterDef, Profile, Unit};
 use std::alloc::Global;
 
 /// How many parameters of the maker's own there can be.
@@ -87,24 +87,7 @@ pub(crate) fn fault_of_demo(subs: u16) -> Option<ProfileFault>
 /// A profile in which nothing is said yet.
 #[inline(always)]
 fn blank() -> Profile {
-    Profile {
-        root: blank_unit(),
-        sub: blank_unit(),
-        subs: 0,
-        boot: 0,
-        boot_text: Text::new(),
-        languages: ArrayVec::new(),
-        slots: ArrayVec::new(),
-        sensors: ArrayVec::new(),
-        tests: ArrayVec::new(),
-        status_texts: ArrayVec::new(),
-        presets: 0,
-        own: OwnParameters::none(),
-        without: ArrayVec::new(),
-        more_slots: 0,
-        estimates: Estimates::usual(),
-        workers: Workers::usual(),
-    }
+    Profile::of(blank_unit(), blank_unit(), 0)
 }
 
 /// A unit in which nothing is said yet.

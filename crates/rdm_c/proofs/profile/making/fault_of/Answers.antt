@@ -1,4 +1,4 @@
-use Rattle.std.proofs.Common.{rules, ℕ, ◌≡◌, ◌<◌, length, subst, sym}
+use Rattle.std.proofs.Common.{rules, ℕ, ◌<◌, length, subst, sym}
 use Rattle.std.proofs.lemmas.List.{length-map}
 use Rattle.rdm_c.specs.Parameters.{parameter_in}
 use Rattle.rdm_c.specs.Profiles.{profile_in}
