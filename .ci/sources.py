@@ -8,7 +8,7 @@ from dataclasses import dataclass, field
 
 TOP = pathlib.Path(__file__).resolve().parent.parent
 FUNCTION = re.compile(r'( *)(pub(?:\([a-z]+\))? )?((?:const |unsafe |extern "C" )*)fn (\w+)')
-ITEM = r"(?m)^pub (?:const fn|extern \"C\" fn|fn|struct|enum|trait|type|const|static) %s\b"
+ITEM = r"(?m)^pub (?:const fn|(?:unsafe )?extern \"C\" fn|fn|struct|enum|trait|type|const|static) %s\b"
 
 
 @dataclass

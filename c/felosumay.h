@@ -244,7 +244,7 @@ typedef struct {
     uint32_t number;   /* counts the jobs of its worker, from the first number of the responder; 0 comes after the greatest */
     uint16_t estimate; /* tenths of a second, as the controller was told */
     uint16_t sub;      /* the sub-device, 1 to 512, or 0 for the root */
-    uint16_t pid;
+    uint16_t pid;      /* FELOSUMAY_PID_.. of the slow command */
     uint8_t command_class; /* FELOSUMAY_GET or FELOSUMAY_SET */
     uint8_t argument;      /* the byte of data: the state of the lamp or the power, the self test, or the sensor, from 0 */
     uint8_t worker;        /* 0 or 1: each worker's jobs end in order */
@@ -255,7 +255,7 @@ typedef struct {
     uint8_t replied; /* 1 if there is a reply, else 0 */
     uint8_t started; /* 1 if a job started, else 0 */
     uint8_t changed; /* FELOSUMAY_NOTHING_CHANGED and so on */
-    felosumay_job job;
+    felosumay_job job; /* the job that started, if one did; else without meaning */
     uint16_t changed_sub_device; /* if one value changed, the sub-device, or 0 for the root; else 0 */
     uint16_t changed_parameter;  /* if one value changed, its PID; else 0 */
 } felosumay_stepped;
@@ -301,15 +301,15 @@ felosumay_result felosumay_responder_demo(felosumay_responder *responder, uint16
 
 /* How many bytes of memory a responder takes with room for so many messages and jobs and status entries, and with so many
  * sub-devices, each block rounded up to 16 bytes: `new` asks the heap for no more, and no later call asks it for any.
- * FELOSUMAY_RESPONDER_BYTES is the same as a constant, for the size of an array. A profile with parameters of the maker's own takes
- * up to FELOSUMAY_OWN_PARAMETERS_BYTES more. `fits` says whether a responder of this size has
+ * FELOSUMAY_RESPONDER_BYTES is the same as a constant, for the size of an array. A profile with so many parameters of
+ * the maker's own takes FELOSUMAY_OWN_PARAMETERS_BYTES more. `fits` says whether a responder of this size has
  * room in so many bytes of memory from this address on, as felosumay_memory.h makes one: UNALIGNED, SHORT_MEMORY, in this order.
  * Any sizes are reckoned with, and it is `new` that calls one a BAD_SIZE. */
 size_t felosumay_responder_size(uint16_t queue_size, uint16_t entries, uint16_t sub_devices);
 felosumay_result felosumay_responder_fits(uintptr_t address, size_t bytes, uint16_t queue_size, uint16_t entries,
                                           uint16_t sub_devices);
 #define FELOSUMAY_ROUNDED(bytes) (((size_t)(bytes) + 15) / 16 * 16)
-#define FELOSUMAY_OWN_PARAMETERS_BYTES ((size_t)3280)
+#define FELOSUMAY_OWN_PARAMETERS_BYTES(count) ((count) == 0 ? (size_t)0 : FELOSUMAY_ROUNDED(1928) + 48 * (size_t)(count))
 #define FELOSUMAY_RESPONDER_BYTES(queue_size, entries, sub_devices)                                                             \
     (FELOSUMAY_ROUNDED(5968) + FELOSUMAY_ROUNDED(64 * (size_t)(sub_devices)) + 2 * FELOSUMAY_ROUNDED(12 * (size_t)(queue_size)) + \
      FELOSUMAY_ROUNDED(248 * (size_t)(queue_size)) + FELOSUMAY_ROUNDED(10 * (size_t)(entries)))
@@ -378,12 +378,8 @@ felosumay_result felosumay_responder_get(const felosumay_responder *responder, u
 felosumay_result felosumay_responder_waiting(const felosumay_responder *responder, size_t *count);
 felosumay_result felosumay_responder_outstanding(const felosumay_responder *responder, size_t *count);
 
-/* Gives up what the handle holds, if anything. The handle is {0} again. `free` takes NULL too, and does nothing then. */
-void felosumay_responder_release(felosumay_responder *responder);
-static inline void felosumay_responder_free(felosumay_responder *responder) {
-    if (responder != NULL)
-        felosumay_responder_release(responder);
-}
+/* Gives up what the handle holds, if anything. The handle is {0} again. NULL is no handle, and nothing happens then. */
+void felosumay_responder_free(felosumay_responder *responder);
 
 /* ---- the collector */
 
@@ -397,7 +393,7 @@ typedef struct {
 
 typedef struct {
     size_t count; /* how many bytes of data it has: 0 to 231 */
-    uint16_t pid;
+    uint16_t pid;          /* what it tells of, FELOSUMAY_PID_.. or one of the maker's own */
     uint16_t sub;          /* the sub-device, 1 to 512, or 0 for the root */
     uint8_t command_class; /* that of the response: 0x21 of a GET, 0x31 of a SET */
     uint8_t may_repeat;    /* 1 if it was asked for again, so that it may be the message before it once more; else 0 */
@@ -410,7 +406,7 @@ typedef struct {
     uint32_t device; /* the device ID and the manufacturer ID of the device that answers */
     uint16_t maker;
     uint16_t sub; /* the sub-device, 1 to 512, or 0 for the root */
-    uint16_t pid;
+    uint16_t pid; /* FELOSUMAY_PID_.. or one of the maker's own */
     uint16_t reason; /* of a NACK_REASON why the request is rejected, FELOSUMAY_NR_..; else 0 */
     uint16_t tenths; /* of an ACK_TIMER in how many tenths of a second the result is there; else 0 */
     uint8_t type;    /* FELOSUMAY_ACK and so on */
@@ -464,19 +460,15 @@ felosumay_result felosumay_collector_over(felosumay_collector *collector);
  * answers such a poll is 1. ABSENT, NO_MORE, in this order; nothing changes then. */
 felosumay_result felosumay_collector_next(felosumay_collector *collector, felosumay_message *message);
 
-/* Gives up what the handle holds, if anything. The handle is {0} again. `free` takes NULL too, and does nothing then. */
-void felosumay_collector_release(felosumay_collector *collector);
-static inline void felosumay_collector_free(felosumay_collector *collector) {
-    if (collector != NULL)
-        felosumay_collector_release(collector);
-}
+/* Gives up what the handle holds, if anything. The handle is {0} again. NULL is no handle, and nothing happens then. */
+void felosumay_collector_free(felosumay_collector *collector);
 
 /* ---- the collector for any device: it takes whatever a device answers a poll by, where a `felosumay_collector` takes ACK alone */
 
 /* A message, or a part of one (E1.20 section 10.3.1). */
 typedef struct {
     size_t count; /* how many bytes of data it has: 0 to 231 */
-    uint16_t pid;
+    uint16_t pid;    /* what it tells of, FELOSUMAY_PID_.. or one of the maker's own */
     uint16_t sub;    /* the sub-device, 1 to 512, or 0 for the root */
     uint16_t reason; /* of a NACK_REASON why an earlier command was rejected, FELOSUMAY_NR_..; else 0 */
     uint16_t tenths; /* of an ACK_TIMER in how many tenths of a second a result is there; else 0 */
@@ -521,18 +513,14 @@ felosumay_result felosumay_device_collector_hear(felosumay_device_collector *col
  * in this order; nothing changes then. */
 felosumay_result felosumay_device_collector_next(felosumay_device_collector *collector, felosumay_collected *collected);
 
-/* Gives up what the handle holds, if anything. The handle is {0} again. `free` takes NULL too, and does nothing then. */
-void felosumay_device_collector_release(felosumay_device_collector *collector);
-static inline void felosumay_device_collector_free(felosumay_device_collector *collector) {
-    if (collector != NULL)
-        felosumay_device_collector_release(collector);
-}
+/* Gives up what the handle holds, if anything. The handle is {0} again. NULL is no handle, and nothing happens then. */
+void felosumay_device_collector_free(felosumay_device_collector *collector);
 
 /* ---- the search for the fixtures of a line */
 
 /* A fixture that was found, and what its answer to DISC_MUTE says. */
 typedef struct {
-    uint32_t device;
+    uint32_t device;         /* its UID: the device ID, below 0xFFFFFFFF, and the manufacturer ID */
     uint32_t binding_device; /* 0 if it told no binding UID, and so is binding_maker */
     uint16_t maker;
     uint16_t binding_maker;
@@ -565,12 +553,8 @@ felosumay_result felosumay_search_count(const felosumay_search *search, size_t *
 /* The fixture with this index, from 0, in the order in which they were found. ABSENT; NO_MORE if no more were found. */
 felosumay_result felosumay_search_found(const felosumay_search *search, size_t index, felosumay_found *found);
 
-/* Gives up what the handle holds, if anything. The handle is {0} again. `free` takes NULL too, and does nothing then. */
-void felosumay_search_release(felosumay_search *search);
-static inline void felosumay_search_free(felosumay_search *search) {
-    if (search != NULL)
-        felosumay_search_release(search);
-}
+/* Gives up what the handle holds, if anything. The handle is {0} again. NULL is no handle, and nothing happens then. */
+void felosumay_search_free(felosumay_search *search);
 
 /* ---- names and the version. They last as long as the program, and end with a NUL; what has no name is "unknown". The calls
  * `felosumay_tell_..` are for languages without inline functions: `letters` points to any byte before them. */

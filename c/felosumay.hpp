@@ -77,21 +77,21 @@ template <class Pids> void lend_without(felosumay_profile &profile, const Pids &
 }
 
 // A handle of C's that frees what it holds.
-template <class Handle, void (*Release)(Handle *)> class owner {
+template <class Handle, void (*Free)(Handle *)> class owner {
 public:
     owner() noexcept = default;
     owner(owner &&other) noexcept : handle_(std::exchange(other.handle_, Handle{})) {}
     owner &operator=(owner &&other) noexcept {
         if (this != &other) {
-            Release(&handle_);
+            Free(&handle_);
             handle_ = std::exchange(other.handle_, Handle{});
         }
         return *this;
     }
     owner(const owner &) = delete;
     owner &operator=(const owner &) = delete;
-    ~owner() { Release(&handle_); }
-    void free() noexcept { Release(&handle_); }
+    ~owner() { Free(&handle_); }
+    void free() noexcept { Free(&handle_); }
     // For the calls of felosumay.h itself.
     Handle *get() noexcept { return &handle_; }
     const Handle *get() const noexcept { return &handle_; }
@@ -100,7 +100,7 @@ private:
     Handle handle_{};
 };
 
-class responder : public owner<felosumay_responder, felosumay_responder_release> {
+class responder : public owner<felosumay_responder, felosumay_responder_free> {
 public:
     [[nodiscard]] result make(uid own, const felosumay_profile &profile, std::uint16_t queue_size,
                               std::uint16_t entries = 1024, std::uint32_t first_job = 0) noexcept {
@@ -158,7 +158,7 @@ public:
     [[nodiscard]] result outstanding(std::size_t &count) const noexcept { return felosumay_responder_outstanding(get(), &count); }
 };
 
-class collector : public owner<felosumay_collector, felosumay_collector_release> {
+class collector : public owner<felosumay_collector, felosumay_collector_free> {
 public:
     [[nodiscard]] result make(uid own, uid target, std::uint8_t wants) noexcept {
         return felosumay_collector_new(get(), own.maker, own.device, target.maker, target.device, wants);
@@ -176,7 +176,7 @@ public:
     [[nodiscard]] result next(felosumay_message &message) noexcept { return felosumay_collector_next(get(), &message); }
 };
 
-class device_collector : public owner<felosumay_device_collector, felosumay_device_collector_release> {
+class device_collector : public owner<felosumay_device_collector, felosumay_device_collector_free> {
 public:
     [[nodiscard]] result make(uid own, uid target, std::uint8_t wants) noexcept {
         return felosumay_device_collector_new(get(), own.maker, own.device, target.maker, target.device, wants);
@@ -194,7 +194,7 @@ public:
     [[nodiscard]] result next(felosumay_collected &collected) noexcept { return felosumay_device_collector_next(get(), &collected); }
 };
 
-class search : public owner<felosumay_search, felosumay_search_release> {
+class search : public owner<felosumay_search, felosumay_search_free> {
 public:
     [[nodiscard]] result make(uid own, std::uint32_t limit) noexcept {
         return felosumay_search_new(get(), own.maker, own.device, limit);

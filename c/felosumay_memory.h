@@ -25,7 +25,7 @@ extern "C" {
  *
  *     FELOSUMAY_ALIGNED static uint8_t memory[FELOSUMAY_RESPONDER_BYTES(8, 64, 0)];
  *
- * If the profile has parameters of the maker's own, add FELOSUMAY_OWN_PARAMETERS_BYTES.
+ * If the profile has parameters of the maker's own, add FELOSUMAY_OWN_PARAMETERS_BYTES(their number).
  *
  * UNALIGNED; SHORT_MEMORY, if there are fewer bytes than FELOSUMAY_RESPONDER_BYTES of these sizes and the profile's sub-devices;
  * IN_USE, if a responder lies in some of it; and then as `new_with`, in this order, where OUT_OF_MEMORY says that the parameters of the

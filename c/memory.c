@@ -63,26 +63,27 @@ static void sizes(void) {
         }
 }
 
-/* A profile with parameters of the maker's own takes more: with as many as there can be, exactly what is said. */
+/* A profile with parameters of the maker's own takes more: for each number of them exactly what is said. */
 static void own_parameters(void) {
     static felosumay_parameter own[16];
-    const size_t bytes = FELOSUMAY_RESPONDER_BYTES(2, 1, 0), more = bytes + FELOSUMAY_OWN_PARAMETERS_BYTES;
+    const size_t bytes = FELOSUMAY_RESPONDER_BYTES(2, 1, 0);
     felosumay_responder responder = {0};
-    for (uint16_t i = 0; i < 16; i++) {
-        own[i].pid = (uint16_t)(0x8000 + i);
-        own[i].kind = FELOSUMAY_DS_UNSIGNED_BYTE;
-        own[i].commands = FELOSUMAY_CC_GET;
-        own[i].start.count = 1;
-    }
     profile.subs = 0;
     profile.parameters = own;
-    profile.parameter_count = 16;
-    expect("own parameters, without more", make(&responder, memory, bytes, 2, 1), FELOSUMAY_OUT_OF_MEMORY);
-    expect("own parameters, a byte less", make(&responder, memory, more - 1, 2, 1), FELOSUMAY_OUT_OF_MEMORY);
-    expect("own parameters", make(&responder, memory, more, 2, 1), FELOSUMAY_DONE);
-    if (felosumay_arenas != NULL)
-        expect("what own parameters leave", (unsigned)(felosumay_arenas->end - felosumay_arenas->free), 0);
-    felosumay_responder_free(&responder);
+    for (uint16_t count = 1; count <= 16; count++) {
+        const size_t more = bytes + FELOSUMAY_OWN_PARAMETERS_BYTES(count);
+        own[count - 1].pid = (uint16_t)(0x8000 + count);
+        own[count - 1].kind = FELOSUMAY_DS_UNSIGNED_BYTE;
+        own[count - 1].commands = FELOSUMAY_CC_GET;
+        own[count - 1].start.count = 1;
+        profile.parameter_count = count;
+        expect("own parameters, without more", make(&responder, memory, bytes, 2, 1), FELOSUMAY_OUT_OF_MEMORY);
+        expect("own parameters, a byte less", make(&responder, memory, more - 1, 2, 1), FELOSUMAY_OUT_OF_MEMORY);
+        expect("own parameters", make(&responder, memory, more, 2, 1), FELOSUMAY_DONE);
+        if (felosumay_arenas != NULL)
+            expect("what own parameters leave", (unsigned)(felosumay_arenas->end - felosumay_arenas->free), 0);
+        felosumay_responder_free(&responder);
+    }
     profile.parameters = NULL;
     profile.parameter_count = 0;
 }

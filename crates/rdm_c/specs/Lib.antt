@@ -1,4 +1,5 @@
 pub mod Held
+pub mod Places
 pub mod Statuses
 pub mod Changes
 pub mod Jobs

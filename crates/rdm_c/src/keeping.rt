@@ -2,6 +2,9 @@
 
 ghost use Rattle.std.specs.Prelude.{◌≡◌, ◌≢◌, Option, Some, None};
 ghost use Rattle.std.specs.Option.{option_map};
+ghost use denote.RawPtr.{Testable};
+ghost use types.Logic.{sem};
+ghost use Rattle.rdm_c.specs.Places.{handle_at, nobody};
 
 use crate::endpoint::Endpoint;
 use crate::handle::Handle;
@@ -51,4 +54,17 @@ pub(crate) fn free(alloc: Global, handle: &mut Handle)
     ensures { handle.new.held ≡ None }
 {
     drop(take(alloc, handle));
+}
+
+/// Gives up what the handle at this place holds, if anything. At null there is no handle, and nothing happens.
+pub(crate) unsafe fn free_at(alloc: Global, place: *mut Handle)
+    ghost handle: { Handle }
+    requires address { Testable place }
+    requires* lent { sem 𝓛 (handle_at place handle) }
+    ensures* empty { sem 𝓛 (handle_at place nobody) }
+{
+    if place.is_null() {
+        return;
+    }
+    free(alloc, unsafe { &mut *place });
 }

@@ -2,7 +2,8 @@
 //! or a search for the fixtures of a line, behind a handle.
 //!
 //! Each export says by its contract what the call of the library below says, over the history, the collector or the search
-//! that stands behind the handle. None has a condition. What a handle owns stands in `specs/Held.antt`.
+//! that stands behind the handle. The only conditions are of addresses that may be NULL, and say what C lends there: a handle that is
+//! to be freed, or bytes (`specs/Places.antt`). What a handle owns stands in `specs/Held.antt`.
 //! The calls of C stand in `exports/`; what each does to what the handle holds, in the file of the same name in `endpoint/`.
 #![tactic(auto)]
 
@@ -14,6 +15,7 @@ mod front;
 mod handle;
 mod job;
 mod keeping;
+mod lent;
 mod memory;
 mod message;
 mod names;
@@ -32,15 +34,15 @@ pub use exports::change::{
     felosumay_responder_change_start,
 };
 pub use exports::collector::{
-    felosumay_collector_ask, felosumay_collector_hear, felosumay_collector_new,
-    felosumay_collector_next, felosumay_collector_over, felosumay_collector_poll,
-    felosumay_collector_release,
+    felosumay_collector_ask, felosumay_collector_free, felosumay_collector_hear,
+    felosumay_collector_new, felosumay_collector_next, felosumay_collector_over,
+    felosumay_collector_poll,
 };
 pub use exports::device_collector::{
-    felosumay_device_collector_ask, felosumay_device_collector_hear,
-    felosumay_device_collector_new, felosumay_device_collector_next,
-    felosumay_device_collector_over, felosumay_device_collector_poll,
-    felosumay_device_collector_release,
+    felosumay_device_collector_ask, felosumay_device_collector_free,
+    felosumay_device_collector_hear, felosumay_device_collector_new,
+    felosumay_device_collector_next, felosumay_device_collector_over,
+    felosumay_device_collector_poll,
 };
 pub use exports::firmware::{felosumay_responder_note, felosumay_responder_place};
 pub use exports::memory::{felosumay_responder_fits, felosumay_responder_size};
@@ -54,15 +56,15 @@ pub use exports::reading::{
 };
 pub use exports::reply::felosumay_reply_read;
 pub use exports::responder::{
-    felosumay_responder_arrive, felosumay_responder_demo, felosumay_responder_new,
-    felosumay_responder_new_with, felosumay_responder_release, felosumay_responder_step,
+    felosumay_responder_arrive, felosumay_responder_demo, felosumay_responder_free,
+    felosumay_responder_new, felosumay_responder_new_with, felosumay_responder_step,
 };
 pub use exports::saving::{
     felosumay_responder_restore, felosumay_responder_save, felosumay_responder_saved_size,
 };
 pub use exports::search::{
-    felosumay_search_count, felosumay_search_found, felosumay_search_hear, felosumay_search_new,
-    felosumay_search_next, felosumay_search_release, felosumay_search_resume,
+    felosumay_search_count, felosumay_search_found, felosumay_search_free, felosumay_search_hear,
+    felosumay_search_new, felosumay_search_next, felosumay_search_resume,
 };
 pub use found::FoundNumbers;
 pub use handle::Handle;

@@ -2,6 +2,8 @@
 
 ghost use Rattle.std.specs.Prelude.{◌≡◌, ◌≢◌, ◌↔◌, ◌⊎◌, ◌≤◌, ◌==◌, None, Some, Err, false, IfSome, IsSomeAnd, IfOk, IfErr, length, is_some};
 ghost use Rattle.std.specs.Option.{option_map};
+ghost use denote.RawPtr.{Testable};
+ghost use types.Logic.{sem};
 ghost use Rattle.rdm_frame.specs.Reading.{frame_in};
 ghost use Rattle.rdm_params.specs.Commands.Changed.{change_of};
 ghost use Rattle.rdm_device.specs.Device.Demo.{demo};
@@ -11,6 +13,7 @@ ghost use Rattle.rdm_responder.specs.History.{History, Heard, Arrived, empty_his
 ghost use Rattle.rdm_responder.specs.Lawful.{IsLawful};
 ghost use Rattle.rdm_responder.specs.Rules.{account_of, reply_of, job_of};
 ghost use Rattle.rdm_responder.specs.StandsFor.{IsQueueSize, StandsFor};
+ghost use Rattle.rdm_c.specs.Places.{Lent, handle_at, lends, nobody, returns};
 ghost use Rattle.rdm_c.specs.Statuses.{code_of};
 ghost use Rattle.rdm_c.specs.Changes.{change_in, IsPlainly};
 ghost use Rattle.rdm_c.specs.Jobs.{numbers_of, started_in};
@@ -22,7 +25,8 @@ use crate::endpoint::responder::{arrive, step};
 use crate::endpoint::{Endpoint, RunningResponder};
 use crate::handle::Handle;
 use crate::job::{JobNumbers, SteppedNumbers};
-use crate::keeping::{free, put, replace, take};
+use crate::keeping::{free_at, put, replace, take};
+use crate::lent::address_of;
 use crate::outcome::{OutcomeNumbers, report_in};
 use crate::profile::ProfileNumbers;
 use crate::profile::making::{boxed, boxed_demo, fault_of, fault_of_demo};
@@ -33,6 +37,7 @@ use rdm_outbox::{MOST_ENTRIES, MOST_WAITING};
 use rdm_params::Profile;
 use rdm_responder::{NewError, Responder};
 use std::alloc::Global;
+use std::slice;
 
 /// Makes a responder of this profile, in the place of what the handle held.
 ///
@@ -150,7 +155,44 @@ pub extern "C" fn felosumay_responder_demo(
 /// Hears bytes, and tells of the reply, whose bytes stand at the front of `reply` then, of the job that started, and of what
 /// changed of the parameters. The answer to discovery is a reply as any other.
 #[unsafe(no_mangle)]
-pub extern "C" fn felosumay_responder_step(
+pub unsafe extern "C" fn felosumay_responder_step(
+    alloc: Global,
+    responder: &mut Handle,
+    bytes: *const u8,
+    len: usize,
+    reply: &mut [u8; MOST_SLOTS],
+    stepped: &mut SteppedNumbers,
+) -> u8
+    ghost lent: { Lent }
+    requires* lent { sem 𝓛 (lends lent bytes len) }
+    ensures* back { sem 𝓛 (returns lent) }
+    ensures status { result ≡ code_of (found (holds_responder responder.old.held)) }
+    ensures reply { (h : History) → HeldFor responder.old.held h →
+        told stepped.new.replied stepped.new.count reply.new ≡ reply_of h lent.bytes }
+    ensures count { (h : History) → HeldFor responder.old.held h → IfSome (reply_of h lent.bytes) (λ r. stepped.new.count ≡ length r) }
+    ensures job { (h : History) → HeldFor responder.old.held h →
+        started_in stepped.new ≡ option_map (numbers_of (account_of h).parameters.profile) (job_of h lent.bytes) }
+    ensures flags { (h : History) → HeldFor responder.old.held h → (stepped.new.replied ≡ flag (is_some (reply_of h lent.bytes)))
+        × (stepped.new.started ≡ flag (is_some (job_of h lent.bytes))) }
+    ensures stands { (h : History) → HeldFor responder.old.held h → HeldFor responder.new.held (then_event h (Heard lent.bytes)) }
+    ensures unchanged { (h : History) → HeldFor responder.old.held h → ((change_in stepped.new ≡ None)
+        ↔ ((account_of (then_event h (Heard lent.bytes))).parameters ≡ (account_of h).parameters)) }
+    ensures what { IfSome (change_in stepped.new) (λ c. IsSomeAnd (frame_in lent.bytes) (λ f. c ≡ change_of f.sub f.pid)) }
+    ensures plainly { IsPlainly stepped.new }
+    ensures absent { holds_responder responder.old.held ≡ false → (responder.new.held ≡ responder.old.held)
+        × (stepped.new.replied ≡ 0) × (stepped.new.started ≡ 0) × (stepped.new.changed ≡ 0) }
+{
+    step_slice(
+        alloc,
+        responder,
+        slice::from_raw_parts(address_of(bytes, len), len),
+        reply,
+        stepped,
+    )
+}
+
+/// As `felosumay_responder_step`, of a slice.
+fn step_slice(
     alloc: Global,
     responder: &mut Handle,
     bytes: &[u8],
@@ -158,9 +200,11 @@ pub extern "C" fn felosumay_responder_step(
     stepped: &mut SteppedNumbers,
 ) -> u8
     ensures status { result ≡ code_of (found (holds_responder responder.old.held)) }
-    ensures reply { (h : History) → HeldFor responder.old.held h → told stepped.new.replied stepped.new.count reply.new ≡ reply_of h bytes.now }
+    ensures reply { (h : History) → HeldFor responder.old.held h →
+        told stepped.new.replied stepped.new.count reply.new ≡ reply_of h bytes.now }
     ensures count { (h : History) → HeldFor responder.old.held h → IfSome (reply_of h bytes.now) (λ r. stepped.new.count ≡ length r) }
-    ensures job { (h : History) → HeldFor responder.old.held h → started_in stepped.new ≡ option_map (numbers_of (account_of h).parameters.profile) (job_of h bytes.now) }
+    ensures job { (h : History) → HeldFor responder.old.held h →
+        started_in stepped.new ≡ option_map (numbers_of (account_of h).parameters.profile) (job_of h bytes.now) }
     ensures flags { (h : History) → HeldFor responder.old.held h → (stepped.new.replied ≡ flag (is_some (reply_of h bytes.now)))
         × (stepped.new.started ≡ flag (is_some (job_of h bytes.now))) }
     ensures stands { (h : History) → HeldFor responder.old.held h → HeldFor responder.new.held (then_event h (Heard bytes.now)) }
@@ -217,12 +261,16 @@ pub extern "C" fn felosumay_responder_arrive(
     status.code()
 }
 
-/// Gives up the responder that the handle holds, if any, and its memory.
+/// Gives up the responder that the handle holds, if any, and its memory; the handle is {0} then. NULL is no handle, and nothing
+/// happens then.
 #[unsafe(no_mangle)]
-pub extern "C" fn felosumay_responder_release(alloc: Global, responder: &mut Handle)
-    ensures { responder.new.held ≡ None }
+pub unsafe extern "C" fn felosumay_responder_free(alloc: Global, responder: *mut Handle)
+    ghost handle: { Handle }
+    requires address { Testable responder }
+    requires* lent { sem 𝓛 (handle_at responder handle) }
+    ensures* empty { sem 𝓛 (handle_at responder nobody) }
 {
-    free(alloc, responder);
+    free_at(alloc, responder);
 }
 
 /// Why no responder has this UID and these sizes, if so.

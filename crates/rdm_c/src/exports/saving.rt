@@ -1,19 +1,23 @@
 //! Values of a responder that outlive power-off, as C saves and restores them.
 
 ghost use Rattle.std.specs.Prelude.{◌≡◌, ◌≢◌, ◌↔◌, ◌++◌, min, nat_le, false, length, drop, if◌then◌else◌};
+ghost use types.Logic.{sem};
 ghost use Rattle.rdm_responder.specs.History.{History, Restored, then_event};
 ghost use Rattle.rdm_responder.specs.Lawful.{IsLawful};
 ghost use Rattle.rdm_responder.specs.Laws.{values_of};
 ghost use Rattle.rdm_saved.specs.Restoring.{restore_refusal, saved_len};
 ghost use Rattle.rdm_saved.specs.SavedText.{saved_text};
+ghost use Rattle.rdm_c.specs.Places.{Lent, lends, returns};
 ghost use Rattle.rdm_c.specs.Statuses.{code_of, of_restore_refusal};
 ghost use Rattle.rdm_c.specs.Endpoints.{HeldFor, found, holds_responder};
 
 use crate::endpoint;
 use crate::handle::Handle;
 use crate::keeping::{put, take};
+use crate::lent::address_of;
 use crate::status::Status;
 use std::alloc::Global;
+use std::slice;
 
 /// Tells how many bytes an image of the values has that outlive power-off.
 #[unsafe(no_mangle)]
@@ -66,11 +70,33 @@ pub extern "C" fn felosumay_responder_save(
 /// If the image has another length than one of these values, that comes first, then that it is altered, and last that it is of
 /// another profile. Nothing changes then.
 #[unsafe(no_mangle)]
-pub extern "C" fn felosumay_responder_restore(
+pub unsafe extern "C" fn felosumay_responder_restore(
     alloc: Global,
     responder: &mut Handle,
-    image: &[u8],
+    image: *const u8,
+    len: usize,
 ) -> u8
+    ghost lent: { Lent }
+    requires* lent { sem 𝓛 (lends lent image len) }
+    ensures* back { sem 𝓛 (returns lent) }
+    ensures told { (h : History) → HeldFor responder.old.held h →
+        result ≡ code_of (of_restore_refusal (restore_refusal (values_of h) lent.bytes)) }
+    ensures lawful { (h : History) → IsLawful h → HeldFor responder.old.held h →
+        ((result ≡ code_of Status.Done) ↔ IsLawful (then_event h (Restored lent.bytes))) }
+    ensures stands { (h : History) → HeldFor responder.old.held h → result ≡ code_of Status.Done →
+        HeldFor responder.new.held (then_event h (Restored lent.bytes)) }
+    ensures absent { (result ≡ code_of Status.Absent) ↔ (holds_responder responder.old.held ≡ false) }
+    ensures same { result ≢ code_of Status.Done → responder.new.held ≡ responder.old.held }
+{
+    restore_slice(
+        alloc,
+        responder,
+        slice::from_raw_parts(address_of(image, len), len),
+    )
+}
+
+/// As `felosumay_responder_restore`, of a slice.
+fn restore_slice(alloc: Global, responder: &mut Handle, image: &[u8]) -> u8
     ensures told { (h : History) → HeldFor responder.old.held h →
         result ≡ code_of (of_restore_refusal (restore_refusal (values_of h) image.now)) }
     ensures lawful { (h : History) → IsLawful h → HeldFor responder.old.held h →

@@ -1,0 +1,39 @@
+-- A handle that holds nothing is {0}. Assumes `Logic`.
+--     null_or_block     an address is null, or lies in a block
+--     emptied           what lies at a place is {0}, if it is a handle that holds nothing
+use Rattle.std.proofs.Common.{◌≡◌, ℕ, zero, suc, List, [], ◌∷◌, refl, ap, ◌∙◌}
+use seplogic.Ra.Ura.{Ura}
+use base.Fraction.{full_share}
+use base.Logic.{ent}
+use base.Fml.{fsep}
+use types.Logic.{Logic, sem}
+use mir.Val.{Val}
+use types.Kit.{‵, ◌$◌, ◌∵◌, !, qed, move, fsplit, fpick, fpack, fjoin, feq_l, feq_i, rewrite, done}
+use denote.Memory.{cell_at, part_at, part_of}
+use denote.RattleType.{RattleType}
+use denote.RawPtr.{Ptr, block_ptr, null_ptr}
+use Rattle.std.specs.Prelude.{Option, None}
+use Rattle.rdm_c.specs.Held.{held_at}
+use Rattle.rdm_c.specs.Places.{nobody}
+use Rattle.rdm_c.specs.contracts.endpoint.Endpoint as endpoint
+use Rattle.rdm_c.specs.contracts.handle.Handle as handle
+use Rattle.rdm_c.proofs.Values.{word, handle_opens, handle_closes}
+
+pub null_or_block {ℓ} : (P : Ptr → Type ℓ) (p : Ptr) → P null_ptr → ((b o : ℕ) → P (block_ptr b o)) → P p
+null_or_block P (block_ptr b o) null block = block b o
+null_or_block P null_ptr null block = null
+
+pub none_or_more {ℓ} : (P : ℕ → Type ℓ) (n : ℕ) → P 0 → ((k : ℕ) → P (suc k)) → P n
+none_or_more P zero none more = none
+none_or_more P (suc k) none more = more k
+
+pub emptied : {M : Type 1} {𝓤 : Ura M} (𝓛 : Logic 𝓤) (h : (handle.the_row).Denot) (b o : ℕ) → h.held ≡ None
+    → ent 𝓤 (sem 𝓛 (part_at handle.the_row full_share h b o)) (sem 𝓛 (part_at handle.the_row full_share nobody b o))
+unfolding part_of
+emptied {𝓤 = 𝓤} 𝓛 h b o nothing_held =
+    let R : RattleType = handle.the_row in
+    qed 𝓛 (‵ (part_at R full_share h b o) ∷ []) ∵ fpick ! (λ vs. fsplit ! $ move ! (1 ∷ []) $ handle_opens ! h vs (λ ws.
+    rewrite ! 0 (λ (m : Option (endpoint.the_row).Denot). ‵ (held_at h.at m)) nothing_held refl $ feq_l ! (λ null.
+    rewrite ! 0 (λ (us : List Val). ‵ (cell_at full_share R.mir us b o)) (ws ∙ ap (λ (p : Ptr). word p ∷ []) null) refl $
+    feq_i ! Ptr null_ptr null_ptr refl $ handle_closes ! null_ptr None $ move ! (1 ∷ []) $ fjoin ! $
+    fpack ! (List Val) (λ us. fsep (cell_at full_share R.mir us b o) (R.own_val nobody us)) (word null_ptr ∷ []) $ done !)))

@@ -1,0 +1,19 @@
+//! What C lends for a call.
+
+ghost use types.Logic.{sem};
+ghost use Rattle.rdm_c.specs.Places.{Lent, bytes_at, slice_at};
+
+/// What lies at the address of no bytes.
+const NOTHING: u8 = 0;
+
+/// The address of the bytes that are lent. If there are none, it is one that isn't null.
+pub(crate) unsafe fn address_of(at: *const u8, count: usize) -> *const u8
+    ghost lent: { Lent }
+    requires* lent { sem 𝓛 (bytes_at lent.lifetime at count lent.bytes) }
+    ensures* same { sem 𝓛 (slice_at lent.lifetime result count lent.bytes) }
+{
+    if count == 0 {
+        return &NOTHING;
+    }
+    at
+}
