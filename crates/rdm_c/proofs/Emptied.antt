@@ -1,20 +1,21 @@
 -- A handle that holds nothing is {0}. Assumes `Logic`.
 --     null_or_block     an address is null, or lies in a block
+--     lent_again        what lies at the address that a slice was made of lies at the one that was passed
 --     emptied           what lies at a place is {0}, if it is a handle that holds nothing
-use Rattle.std.proofs.Common.{◌≡◌, ℕ, zero, suc, List, [], ◌∷◌, refl, ap, ◌∙◌}
+use Rattle.std.proofs.Common.{◌≡◌, ℕ, zero, suc, List, [], ◌∷◌, refl, ap, ◌∙◌, subst, inl, inr, arith}
 use seplogic.Ra.Ura.{Ura}
 use base.Fraction.{full_share}
-use base.Logic.{ent}
+use base.Logic.{ent, id⊢, never_e}
 use base.Fml.{fsep}
 use types.Logic.{Logic, sem}
 use mir.Val.{Val}
-use types.Kit.{‵, ◌$◌, ◌∵◌, !, qed, move, fsplit, fpick, fpack, fjoin, feq_l, feq_i, rewrite, done}
+use types.Kit.{‵, ◌$◌, ◌∵◌, !, qed, move, drop, fsplit, fpick, fpack, fjoin, feq_l, feq_i, rewrite, done}
 use denote.Memory.{cell_at, part_at, part_of}
 use denote.RattleType.{RattleType}
 use denote.RawPtr.{Ptr, block_ptr, null_ptr}
-use Rattle.std.specs.Prelude.{Option, None}
+use Rattle.std.specs.Prelude.{◌⊎◌, Option, None}
 use Rattle.rdm_c.specs.Held.{held_at}
-use Rattle.rdm_c.specs.Places.{nobody}
+use Rattle.rdm_c.specs.Places.{array_at, nobody, writable_at}
 use Rattle.rdm_c.specs.contracts.endpoint.Endpoint as endpoint
 use Rattle.rdm_c.specs.contracts.handle.Handle as handle
 use Rattle.rdm_c.proofs.Values.{word, handle_opens, handle_closes}
@@ -37,3 +38,18 @@ emptied {𝓤 = 𝓤} 𝓛 h b o nothing_held =
     rewrite ! 0 (λ (us : List Val). ‵ (cell_at full_share R.mir us b o)) (ws ∙ ap (λ (p : Ptr). word p ∷ []) null) refl $
     feq_i ! Ptr null_ptr null_ptr refl $ handle_closes ! null_ptr None $ move ! (1 ∷ []) $ fjoin ! $
     fpack ! (List Val) (λ us. fsep (cell_at full_share R.mir us b o) (R.own_val nobody us)) (word null_ptr ∷ []) $ done !)))
+
+never_array : {M : Type 1} {𝓤 : Ura M} (𝓛 : Logic 𝓤) (at : Ptr) (n : ℕ) (bs : List ℕ) → ent 𝓤 (sem 𝓛 (array_at null_ptr n bs)) (sem 𝓛 (writable_at at n bs))
+never_array {𝓤 = 𝓤} 𝓛 at n bs = never_e 𝓤 _
+
+suc-not-zero : {k : ℕ} → suc k ≡ 0 → ⊥
+suc-not-zero e = omega arith
+
+pub lent_again : {M : Type 1} {𝓤 : Ura M} (𝓛 : Logic 𝓤) (at r : Ptr) (n : ℕ) (bs : List ℕ) → (n ≡ 0) ⊎ (r ≡ at)
+    → ent 𝓤 (sem 𝓛 (array_at r n bs)) (sem 𝓛 (writable_at at n bs))
+lent_again 𝓛 at null_ptr n bs place = never_array 𝓛 at n bs
+lent_again 𝓛 at (block_ptr b o) zero [] place = qed 𝓛 (‵ (array_at (block_ptr b o) 0 []) ∷ []) ∵ drop ! $ feq_i ! (List ℕ) [] [] refl $ done !
+lent_again 𝓛 at (block_ptr b o) zero (x ∷ xs) place =
+    qed 𝓛 (‵ (array_at (block_ptr b o) 0 (x ∷ xs)) ∷ []) ∵ fsplit ! $ drop ! $ fsplit ! $ feq_l ! (λ e. absurd (suc-not-zero e))
+lent_again 𝓛 at (block_ptr b o) (suc k) bs (inl e) = absurd (suc-not-zero e)
+lent_again {𝓤 = 𝓤} 𝓛 at (block_ptr b o) (suc k) bs (inr e) = subst (λ (q : Ptr). ent 𝓤 (sem 𝓛 (array_at (block_ptr b o) (suc k) bs)) (sem 𝓛 (array_at q (suc k) bs))) e (id⊢ 𝓤 _)

@@ -4,7 +4,9 @@ use mir.Syntax.{named}
 use denote.RawPtr.{Ptr, block_ptr, null_ptr}
 use Rattle.std.specs.Prelude.{◌∷◌, [], List, None, ℕ, suc, zero}
 use denote.Builtin.{u8}
-use denote.Slice.{ShrSlice, slice_val}
+use denote.Memory.{mem}
+use denote.Slice.{ShrSlice, room, slice_val}
+use types.SemTy.{Arr}
 use Rattle.std.specs.Ptr.{points_to}
 use Rattle.rdm_c.specs.contracts.handle.Handle.{the_row}
 
@@ -40,3 +42,13 @@ lends lent at n = fsep (flft lent.lifetime lent.share) (bytes_at lent.lifetime a
 -- what it has back
 abbrev pub returns : Lent → Fml
 returns lent = flft lent.lifetime lent.share
+
+-- So many bytes that lie there and are the call's own until it returns, so that it may write them.
+abbrev pub array_at : Ptr → ℕ → List ℕ → Fml
+array_at null_ptr n bytes = ffalse
+array_at (block_ptr b o) n bytes = fsep (room u8 n) ((Arr (mem u8) n).own_at bytes b o)
+
+-- The same, but if there are none nothing lies there, and the address may be NULL.
+abbrev pub writable_at : Ptr → ℕ → List ℕ → Fml
+writable_at at zero bytes = feq (List ℕ) bytes []
+writable_at at (suc n) bytes = array_at at (suc n) bytes

@@ -1,20 +1,20 @@
 //! Values of a responder that outlive power-off, as C saves and restores them.
 
-ghost use Rattle.std.specs.Prelude.{◌≡◌, ◌≢◌, ◌↔◌, ◌++◌, min, nat_le, false, length, drop, if◌then◌else◌};
+ghost use Rattle.std.specs.Prelude.{◌≡◌, ◌≢◌, ◌↔◌, ◌++◌, min, nat_le, false, length, drop, if◌then◌else◌, List, ℕ};
 ghost use types.Logic.{sem};
 ghost use Rattle.rdm_responder.specs.History.{History, Restored, then_event};
 ghost use Rattle.rdm_responder.specs.Lawful.{IsLawful};
 ghost use Rattle.rdm_responder.specs.Laws.{values_of};
 ghost use Rattle.rdm_saved.specs.Restoring.{restore_refusal, saved_len};
 ghost use Rattle.rdm_saved.specs.SavedText.{saved_text};
-ghost use Rattle.rdm_c.specs.Places.{Lent, lends, returns};
+ghost use Rattle.rdm_c.specs.Places.{Lent, lends, returns, writable_at};
 ghost use Rattle.rdm_c.specs.Statuses.{code_of, of_restore_refusal};
 ghost use Rattle.rdm_c.specs.Endpoints.{HeldFor, found, holds_responder};
 
 use crate::endpoint;
 use crate::handle::Handle;
 use crate::keeping::{put, take};
-use crate::lent::address_of;
+use crate::lent::{address_of, writable_address_of};
 use crate::status::Status;
 use std::alloc::Global;
 use std::slice;
@@ -42,12 +42,34 @@ pub extern "C" fn felosumay_responder_saved_size(
 ///
 /// If there are fewer bytes, there is no room for the image, and nothing is written.
 #[unsafe(no_mangle)]
-pub extern "C" fn felosumay_responder_save(
+pub unsafe extern "C" fn felosumay_responder_save(
     alloc: Global,
     responder: &mut Handle,
-    image: &mut [u8],
+    image: *mut u8,
+    len: usize,
     count: &mut usize,
 ) -> u8
+    ghost before: { List ℕ }
+    requires* lent { sem 𝓛 (writable_at image len before) }
+    ensures* saved { ∃ₛ (λ (after : List ℕ). sem 𝓛 (writable_at image len after)
+        ∗ ⌜ ((h : History) → HeldFor responder.old.held h →
+        result ≡ code_of (if nat_le (saved_len (values_of h)) (length before) then Status.Done else Status.ShortImage)) ⌝
+        ∗ ⌜ ((h : History) → HeldFor responder.old.held h → result ≡ code_of Status.Done →
+        (count.new ≡ saved_len (values_of h)) × (after ≡ saved_text (values_of h) ++ drop count.new before)) ⌝
+        ∗ ⌜ (result ≡ code_of Status.Absent) ↔ (holds_responder responder.old.held ≡ false) ⌝
+        ∗ ⌜ (result ≢ code_of Status.Done → after ≡ before) ⌝
+        ∗ ⌜ responder.new.held ≡ responder.old.held ⌝) }
+{
+    save_slice(
+        alloc,
+        responder,
+        slice::from_raw_parts_mut(writable_address_of(image, len), len),
+        count,
+    )
+}
+
+/// As `felosumay_responder_save`, of a slice.
+fn save_slice(alloc: Global, responder: &mut Handle, image: &mut [u8], count: &mut usize) -> u8
     ensures told { (h : History) → HeldFor responder.old.held h →
         result ≡ code_of (if nat_le (saved_len (values_of h)) (length image.old) then Status.Done else Status.ShortImage) }
     ensures written { (h : History) → HeldFor responder.old.held h → result ≡ code_of Status.Done →
