@@ -9,6 +9,7 @@ mod cuts;
 mod discovery;
 mod firmware;
 mod identify;
+mod making;
 mod panel;
 mod parameters;
 mod play;
@@ -17,7 +18,7 @@ mod slow;
 mod waiting;
 mod words;
 
-use play::plays;
+use play::{Run, plays};
 use rdm_frame::standard::{DISCOVERY_COMMAND as DISCOVERY, GET_COMMAND as GET, SET_COMMAND as SET};
 use rdm_frame::{Body, Frame, Uid, Wire, encode};
 use rdm_params::Profile;
@@ -85,60 +86,61 @@ fn responder_with(alloc: Global, subs: u16, queue_size: u16) -> Result<Responder
 
 #[test]
 fn runs_go_as_printed(rt: HostRuntime) -> Result<(), Fail> {
-    for runs in [
-        discovery::RUNS.as_slice(),
-        identify::RUNS.as_slice(),
-        parameters::RUNS.as_slice(),
-        waiting::RUNS.as_slice(),
-        clear::RUNS.as_slice(),
-        panel::RUNS.as_slice(),
-    ] {
-        for run in runs {
-            plays(&rt, rt.alloc(), *run)?;
-        }
+    play_all(&rt, rt.alloc(), &discovery::RUNS)?;
+    play_all(&rt, rt.alloc(), &identify::RUNS)?;
+    play_all(&rt, rt.alloc(), &parameters::RUNS)?;
+    play_all(&rt, rt.alloc(), &waiting::RUNS)?;
+    play_all(&rt, rt.alloc(), &clear::RUNS)?;
+    play_all(&rt, rt.alloc(), &panel::RUNS)
+}
+
+fn play_all(rt: &impl Abort, alloc: Global, runs: &[Run<'_>]) -> Result<(), Fail> {
+    for run in runs {
+        plays(rt, alloc, *run)?;
     }
     Ok(())
 }
 
 #[test]
 fn requests_have_the_printed_bytes(rt: HostRuntime) -> Result<(), Fail> {
-    // IDENTIFY_DEVICE, and a branch of the device alone.
-    let own: &[u8] = &[0x7F, 0xF0, 0, 0, 0, 1, 0x7F, 0xF0, 0, 0, 0, 1];
-    let rows: [(Uid, u8, u16, &[u8], &str); 3] = [
-        (
-            DEVICE,
-            GET,
-            IDENTIFY_DEVICE,
-            &[],
-            "CC0118 7FF000000001 7FF000000002 00 01 00 0000 20 1000 00 03F7",
-        ),
-        (
-            Uid::ALL,
-            SET,
-            IDENTIFY_DEVICE,
-            &[1],
-            "CC0119 FFFFFFFFFFFF 7FF000000002 00 01 00 0000 30 1000 01 01 0894",
-        ),
-        (
-            Uid::ALL,
-            DISCOVERY,
-            0x0001,
-            own,
-            "CC0124 FFFFFFFFFFFF 7FF000000002 00 01 00 0000 10 0001 0C 7FF000000001 7FF000000001 0B5A",
-        ),
-    ];
-    for (dst, class, pid, slots, text) in rows {
-        assert_eq!(rt;
-            request(dst, 0, class, pid, slots)?,
-            printed(&rt, text),
-            "{text}"
-        );
+    for (dst, class, pid, slots, text) in &REQUESTS {
+        let bytes = request(*dst, 0, *class, *pid, slots)?;
+        assert_eq!(rt; bytes, printed(&rt, text), "{text}");
     }
     Ok(())
 }
 
+/// A request: to which device, the class, the PID, the slots, and its bytes.
+type Request = (Uid, u8, u16, &'static [u8], &'static str);
+
+/// IDENTIFY_DEVICE, and a branch of the device alone.
+const REQUESTS: [Request; 3] = [
+    (
+        DEVICE,
+        GET,
+        IDENTIFY_DEVICE,
+        &[],
+        "CC0118 7FF000000001 7FF000000002 00 01 00 0000 20 1000 00 03F7",
+    ),
+    (
+        Uid::ALL,
+        SET,
+        IDENTIFY_DEVICE,
+        &[1],
+        "CC0119 FFFFFFFFFFFF 7FF000000002 00 01 00 0000 30 1000 01 01 0894",
+    ),
+    (
+        Uid::ALL,
+        DISCOVERY,
+        0x0001,
+        &[0x7F, 0xF0, 0, 0, 0, 1, 0x7F, 0xF0, 0, 0, 0, 1],
+        "CC0124 FFFFFFFFFFFF 7FF000000002 00 01 00 0000 10 0001 0C 7FF000000001 7FF000000001 0B5A",
+    ),
+];
+
 #[test]
 fn a_whole_run_is_answered_in_order(rt: HostRuntime) -> Result<(), Fail> {
+    let mut responder = responder_with(rt.alloc(), 0, 8)?;
     let set = printed(
         &rt,
         "CC0119 FFFFFFFFFFFF 7FF000000002 00 01 00 0000 30 1000 01 01 0894",
@@ -147,70 +149,16 @@ fn a_whole_run_is_answered_in_order(rt: HostRuntime) -> Result<(), Fail> {
         &rt,
         "CC0118 7FF000000001 7FF000000002 02 01 00 0000 20 1000 00 03F9",
     );
+    let inputs = [Input::Heard(set.as_slice()), Input::Heard(get.as_slice())];
+    let outputs = responder.step_all(rt.alloc(), &inputs)?;
     let on = printed(
         &rt,
         "CC0119 7FF000000002 7FF000000001 02 00 00 0000 21 1000 01 01 03FC",
     );
-    let mut responder = responder_with(rt.alloc(), 0, 8)?;
-    let inputs = [Input::Heard(set.as_slice()), Input::Heard(get.as_slice())];
-    let outputs = responder.step_all(rt.alloc(), &inputs)?;
     let expected = [
         Output::Answered(None, None),
         Output::Answered(Some(on), None),
     ];
     assert_eq!(rt; outputs.as_slice(), expected.as_slice());
     Ok(())
-}
-
-#[test]
-fn a_responder_is_made_or_refused(rt: HostRuntime) {
-    let broadcast = Uid::all_of(0x7FF0);
-    let of_maker = |maker| Uid { maker, device: 0 };
-    for (uid, queue_size, refusal) in [
-        (DEVICE, 1, None),
-        (DEVICE, 8, None),
-        (DEVICE, 1024, None),
-        (of_maker(0x7FF0), 8, None),
-        (of_maker(0), 8, None),
-        (DEVICE, 0, Some(NewError::BadSize)),
-        (DEVICE, 1025, Some(NewError::BadSize)),
-        (broadcast, 8, Some(NewError::BadUid)),
-        (broadcast, 0, Some(NewError::BadUid)),
-    ] {
-        let made = Responder::new(rt.alloc(), uid, Profile::demo(0), queue_size);
-        assert_eq!(rt; made.err(), refusal, "{uid:?} {queue_size}");
-    }
-    for (uid, queue_size, entries, refusal) in [
-        (DEVICE, 8, 1, None),
-        (DEVICE, 8, 64, None),
-        (DEVICE, 8, 1024, None),
-        (DEVICE, 8, 0, Some(NewError::BadSize)),
-        (DEVICE, 8, 1025, Some(NewError::BadSize)),
-        (DEVICE, 0, 64, Some(NewError::BadSize)),
-        (broadcast, 8, 0, Some(NewError::BadUid)),
-    ] {
-        let made = Responder::with_entries(rt.alloc(), uid, Profile::demo(0), queue_size, entries);
-        assert_eq!(rt; made.err(), refusal, "{uid:?} {queue_size} {entries}");
-    }
-    let made = |subs| Responder::new(rt.alloc(), DEVICE, Profile::demo(subs), 8);
-    assert_eq!(rt; made(2).err(), None);
-    assert_eq!(rt; made(512).err(), None);
-    assert_eq!(rt; made(513).err(), Some(NewError::BadProfile));
-    let no_start = || {
-        let mut profile = Profile::demo(0);
-        profile.root.start = 0;
-        profile
-    };
-    for (uid, queue_size, refusal) in [
-        (DEVICE, 8, NewError::BadProfile),
-        (DEVICE, 0, NewError::BadSize),
-        (broadcast, 0, NewError::BadUid),
-    ] {
-        let made = Responder::new(rt.alloc(), uid, no_start(), queue_size);
-        assert_eq!(rt; made.err(), Some(refusal), "{uid:?} {queue_size}");
-    }
-    for (entries, refusal) in [(1, NewError::BadProfile), (1025, NewError::BadSize)] {
-        let made = Responder::with_entries(rt.alloc(), DEVICE, no_start(), 8, entries);
-        assert_eq!(rt; made.err(), Some(refusal), "{entries}");
-    }
 }

@@ -99,10 +99,10 @@ const TOLD: [Told; 17] = [
 fn a_request_tells_what_it_changed(rt: HostRuntime) -> Result<(), Fail> {
     let mut responder = responder_with(rt.alloc(), 2, 8)?;
     let mut wire = Wire::new();
-    for (request, expected) in TOLD {
+    for (request, expected) in &TOLD {
         let heard = printed(&rt, request);
         let stepped = responder.step_into(heard.as_slice(), &mut wire);
-        assert_eq!(rt; stepped.changed, expected, "{request}");
+        assert_eq!(rt; stepped.changed, *expected, "{request}");
     }
     Ok(())
 }

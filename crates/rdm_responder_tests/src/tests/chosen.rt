@@ -67,8 +67,11 @@ fn reply(kind: u8, class: u8, pid: u16, slots: &[u8]) -> Result<Wire, Fail> {
     }))
 }
 
-/// Slow commands: the class, the PID, the slot, the slots of ACK_TIMER, the worker of the job and its number.
-const COMMANDS: [(u8, u16, u8, [u8; 2], u8, u32); 4] = [
+/// A slow command: the class, the PID, the slot, the slots of ACK_TIMER, the worker of the job and its number.
+type SlowCommand = (u8, u16, u8, [u8; 2], u8, u32);
+
+/// Slow commands of each kind.
+const COMMANDS: [SlowCommand; 4] = [
     (SET, LAMP_STATE, 1, [0x01, 0x02], 1, 0),
     (SET, POWER_STATE, 0, [0, 0], 0, 0),
     (SET, PERFORM_SELFTEST, 1, [0xFF, 0xFF], 1, 1),
@@ -78,18 +81,26 @@ const COMMANDS: [(u8, u16, u8, [u8; 2], u8, u32); 4] = [
 #[test]
 fn a_job_has_the_time_and_the_worker_of_the_profile(rt: HostRuntime) -> Result<(), Fail> {
     let mut responder = responder(rt.alloc(), TIMES, SHUFFLED)?;
-    let mut wire = Wire::new();
-    for (class, pid, slot, time, worker, number) in COMMANDS {
-        let heard = request(DEVICE, 0, class, pid, &[slot])?;
-        let stepped = responder.step_into(heard.as_slice(), &mut wire);
-        assert!(rt; stepped.replied, "{pid:04X}");
-        assert_eq!(rt; wire, reply(1, class + 1, pid, &time)?, "{pid:04X}");
-        let started = stepped.started.ok_or("a job")?;
-        assert_eq!(rt; started.worker, worker, "{pid:04X}");
-        assert_eq!(rt; started.estimate, u16::from_be_bytes(time), "{pid:04X}");
-        assert_eq!(rt; started.job.number, number, "{pid:04X}");
-        assert_eq!(rt; responder.oldest(worker).is_some(), true, "{pid:04X}");
+    for command in &COMMANDS {
+        is_slow(&rt, &mut responder, *command)?;
     }
+    Ok(())
+}
+
+/// A command is answered by ACK_TIMER, and its job starts.
+fn is_slow(rt: &impl Abort, responder: &mut Responder, command: SlowCommand) -> Result<(), Fail> {
+    let (class, pid, slot, time, worker, number) = command;
+    let heard = request(DEVICE, 0, class, pid, &[slot])?;
+    let expected = reply(1, class + 1, pid, &time)?;
+    let mut wire = Wire::new();
+    let stepped = responder.step_into(heard.as_slice(), &mut wire);
+    assert!(rt; stepped.replied, "{pid:04X}");
+    assert_eq!(rt; wire, expected, "{pid:04X}");
+    let started = stepped.started.ok_or("a job")?;
+    assert_eq!(rt; started.worker, worker, "{pid:04X}");
+    assert_eq!(rt; started.estimate, u16::from_be_bytes(time), "{pid:04X}");
+    assert_eq!(rt; started.job.number, number, "{pid:04X}");
+    assert_eq!(rt; responder.oldest(worker).is_some(), true, "{pid:04X}");
     Ok(())
 }
 
@@ -103,8 +114,13 @@ fn started(responder: &mut Responder, pid: u16, slot: u8) -> Result<Job, Fail> {
 /// Whether a self test may be done before the lamp, which was switched before it.
 fn tests_first(alloc: Global, workers: Workers) -> Result<bool, Fail> {
     let mut responder = responder(alloc, Estimates::usual(), workers)?;
-    let lamp = started(&mut responder, LAMP_STATE, 1)?;
-    let test = started(&mut responder, PERFORM_SELFTEST, 1)?;
+    does_both(&mut responder)
+}
+
+/// Switches the lamp and tests, and reports on the test first, if that may be.
+fn does_both(responder: &mut Responder) -> Result<bool, Fail> {
+    let lamp = started(responder, LAMP_STATE, 1)?;
+    let test = started(responder, PERFORM_SELFTEST, 1)?;
     let outcome = Outcome::Done;
     let is_first = responder.arrive(Report { job: test, outcome }).is_ok();
     responder.arrive(Report { job: lamp, outcome })?;
@@ -127,11 +143,12 @@ const SHOWN: [u8; 9] = [1, 0, 25, 0xFF, 0xF6, 1, 0x2C, 0, 0];
 
 #[test]
 fn a_sensor_at_once_shows_what_the_firmware_placed(rt: HostRuntime) -> Result<(), Fail> {
+    let heard = request(DEVICE, 0, GET, SENSOR_VALUE, &[1])?;
+    let expected = reply(0, GET + 1, SENSOR_VALUE, &SHOWN)?;
     let mut responder = responder(rt.alloc(), TIMES, SHUFFLED)?;
     assert_eq!(rt; responder.place(0, SENSOR_VALUE, &SHOWN), Ok(()));
-    let heard = request(DEVICE, 0, GET, SENSOR_VALUE, &[1])?;
     let (answer, job) = responder.step(heard.as_slice());
-    assert_eq!(rt; answer, Some(reply(0, GET + 1, SENSOR_VALUE, &SHOWN)?));
+    assert_eq!(rt; answer, Some(expected));
     assert_eq!(rt; job, None);
     assert_eq!(rt; (responder.waiting(), responder.outstanding()), (0, 0));
     Ok(())

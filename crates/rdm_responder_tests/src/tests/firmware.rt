@@ -1,6 +1,7 @@
 //! What the firmware of a fixture does beside answering.
 
 use super::{DEVICE, GET, printed, request, responder_with};
+use rdm_frame::Body;
 use rdm_params::{Change, Entry, Outcome, PlaceError, Severity};
 use rdm_responder::{Report, Responder};
 use std::process::Abort;
@@ -65,20 +66,27 @@ fn a_sensor_tells_what_is_placed(rt: HostRuntime) -> Result<(), Fail> {
     let slots = [1, 0, 25, 0xFF, 0xF6, 1, 0x2C, 0xFF, 0xFF];
     let mut responder = responder_with(rt.alloc(), 0, 1)?;
     assert_eq!(rt; responder.place(0, 0x0201, &slots), Ok(()));
-    let (_, job) = responder.step(request(DEVICE, 0, GET, 0x0201, &[1])?.as_slice());
-    let job = job.ok_or("a job")?;
+    let body = body_of_failure(&mut responder)?;
+    assert_eq!(rt; body.as_slice(), slots.as_slice());
+    Ok(())
+}
+
+/// The data of the message where a GET of sensor 1 fails.
+fn body_of_failure(responder: &mut Responder) -> Result<Body, Fail> {
+    let heard = request(DEVICE, 0, GET, 0x0201, &[1])?;
+    let (_, job) = responder.step(heard.as_slice());
     let outcome = Outcome::Failed {
         severity: Severity::Advisory,
         id: 1,
         v1: 0,
         v2: 0,
     };
-    let arrival = responder
-        .arrive(Report { job, outcome })
-        .ok()
-        .ok_or("a message")?;
-    assert_eq!(rt; arrival.message.body.as_slice(), slots.as_slice());
-    Ok(())
+    let report = Report {
+        job: job.ok_or("a job")?,
+        outcome,
+    };
+    let arrival = responder.arrive(report)?;
+    Ok(arrival.message.body)
 }
 
 /// An entry is shown once, if its device is there and reports of it.

@@ -4,7 +4,7 @@ use super::{printed, responder_with};
 use rdm_frame::Wire;
 use rdm_outbox::Job;
 use rdm_params::{Change, Outcome, Plate, Severity};
-use rdm_responder::{Report, Responder, Started};
+use rdm_responder::{Report, Responder, Started, Stepped};
 use std::alloc::{AllocError, Global};
 use std::process::Abort;
 use std::test::Fail;
@@ -29,10 +29,7 @@ pub(super) fn plays(
     (subs, queue_size, lines): Run<'_>,
 ) -> Result<(), Fail> {
     let mut play = Play::new(alloc, subs, queue_size)?;
-    for line in lines.lines() {
-        play.goes_on(rt, alloc, line)?;
-    }
-    ends_as(rt, alloc, &play.told, lines)
+    play.goes_as(rt, alloc, lines)
 }
 
 /// The lines that came are those of the run.
@@ -67,11 +64,19 @@ impl Play {
         })
     }
 
+    /// What comes of each line is what the next lines say.
+    fn goes_as(&mut self, rt: &impl Abort, alloc: Global, lines: &str) -> Result<(), Fail> {
+        for line in lines.lines() {
+            self.goes_on(rt, alloc, line)?;
+        }
+        ends_as(rt, alloc, &self.told, lines)
+    }
+
     /// Does what a line says, where it says what is done.
     fn goes_on(&mut self, rt: &impl Abort, alloc: Global, line: &str) -> Result<(), Fail> {
         if let Some(bytes) = line.strip_prefix("send ") {
             self.tells(line)?;
-            self.hears(rt, alloc, printed(rt, bytes))
+            self.hears(rt, alloc, &printed(rt, bytes))
         } else if let Some(report) = line.strip_prefix("arrive ") {
             self.tells(line)?;
             self.takes(rt, report)
@@ -89,8 +94,8 @@ impl Play {
         self.told.push_str("\n")
     }
 
-    /// Hears a frame.
-    fn hears(&mut self, rt: &impl Abort, alloc: Global, heard: Wire) -> Result<(), Fail> {
+    /// Hears a frame. Both responders answer the same.
+    fn hears(&mut self, rt: &impl Abort, alloc: Global, heard: &Wire) -> Result<(), Fail> {
         let (reply, job) = self.responder.step(heard.as_slice());
         let mut wire = Wire::new();
         let stepped = self.other.step_into(heard.as_slice(), &mut wire);
@@ -99,15 +104,27 @@ impl Play {
             (reply.is_some(), job),
             "{heard:?}"
         );
-        match reply {
-            Some(bytes) => {
-                assert_eq!(rt; wire.as_slice(), bytes.as_slice(), "{heard:?}");
-                self.tells_reply(alloc, &bytes)?;
-            }
-            None => self.tells("reply none")?,
+        if let Some(bytes) = &reply {
+            assert_eq!(rt; wire.as_slice(), bytes.as_slice(), "{heard:?}");
+        }
+        self.tells_answer(rt, alloc, stepped, &wire)
+    }
+
+    /// Tells of what was heard: the reply, if there is one, and the job that started, if one did.
+    fn tells_answer(
+        &mut self,
+        rt: &impl Abort,
+        alloc: Global,
+        stepped: Stepped,
+        wire: &Wire,
+    ) -> Result<(), Fail> {
+        if stepped.replied {
+            self.tells_reply(alloc, wire)?;
+        } else {
+            self.tells("reply none")?;
         }
         match stepped.started {
-            Some(started) => self.starts(rt, alloc, started, &wire),
+            Some(started) => self.starts(rt, alloc, started, wire),
             None => Ok(()),
         }
     }
@@ -144,22 +161,25 @@ impl Play {
         let report = self.report_in(report)?;
         let counts = (self.responder.waiting(), self.responder.outstanding());
         let is_other_astray = self.other.arrive(report).is_err();
-        match self.responder.arrive(report) {
-            Ok(arrival) => {
-                assert!(rt; !is_other_astray, "{report:?}");
-                if arrival.kept {
-                    self.tells("kept")?;
-                }
-            }
+        let (is_astray, told) = match self.responder.arrive(report) {
+            Ok(arrival) => (false, if arrival.kept { "kept" } else { "" }),
             Err(astray) => {
-                assert!(rt; is_other_astray, "{report:?}");
                 assert_eq!(rt; astray.report, report);
                 assert_eq!(rt;
                     (self.responder.waiting(), self.responder.outstanding()),
                     counts
                 );
-                self.tells("astray")?;
+                (true, "astray")
             }
+        };
+        assert_eq!(rt; is_other_astray, is_astray, "{report:?}");
+        self.tells_of(told)
+    }
+
+    /// Puts a line at the end, if there is something to tell.
+    fn tells_of(&mut self, told: &str) -> Result<(), Fail> {
+        if !told.is_empty() {
+            self.tells(told)?;
         }
         Ok(())
     }
@@ -169,20 +189,15 @@ impl Play {
         let change = change_in(rt, text)?;
         let has_room = self.responder.room();
         assert_eq!(rt; self.other.change(change).is_ok(), has_room, "{change:?}");
-        match self.responder.change(change) {
-            Ok(message) => {
-                assert!(rt; has_room, "{change:?}");
-                if message.is_some() {
-                    self.tells("queued")?;
-                }
-            }
+        let (is_taken, told) = match self.responder.change(change) {
+            Ok(message) => (true, if message.is_some() { "queued" } else { "" }),
             Err(refused) => {
-                assert!(rt; !has_room, "{change:?}");
                 assert_eq!(rt; refused.change, change);
-                self.tells("no room")?;
+                (false, "no room")
             }
-        }
-        Ok(())
+        };
+        assert_eq!(rt; is_taken, has_room, "{change:?}");
+        self.tells_of(told)
     }
 
     /// The report that words say.

@@ -3,6 +3,7 @@
 use super::{DEVICE, GET, SET, request, responder_with};
 use rdm_params::{RestoreError, SaveError, Verdict};
 use rdm_responder::Responder;
+use std::alloc::Global;
 use std::process::Abort;
 use std::test::Fail;
 
@@ -41,12 +42,9 @@ fn an_image_has_its_length(rt: HostRuntime) -> Result<(), Fail> {
 /// The values that last are back, with one more power cycle; what identifies itself goes on, and what waits stays.
 #[test]
 fn what_was_saved_is_restored(rt: HostRuntime) -> Result<(), Fail> {
-    let mut image = [0; IMAGE];
-    let mut saved = responder_with(rt.alloc(), 1, 1)?;
-    place_all(&rt, &mut saved, 101, &[0, 0, 0, 41]);
-    assert_eq!(rt; saved.save_into(&mut image), Ok(IMAGE));
-    let mut restored = responder_with(rt.alloc(), 1, 1)?;
     let identify = request(DEVICE, 0, SET, 0x1000, &[1])?;
+    let image = saved_image(&rt, rt.alloc())?;
+    let mut restored = responder_with(rt.alloc(), 1, 1)?;
     assert!(rt; restored.step(identify.as_slice()).0.is_some());
     assert!(rt; restored.change(rdm_params::Change::Personality(2)).is_ok());
     assert_eq!(rt; restored.restore(&image), Ok(()));
@@ -59,49 +57,78 @@ fn what_was_saved_is_restored(rt: HostRuntime) -> Result<(), Fail> {
     Ok(())
 }
 
+/// What is saved of a responder that was switched on 41 times.
+fn saved_image(rt: &impl Abort, alloc: Global) -> Result<[u8; IMAGE], Fail> {
+    let mut saved = responder_with(alloc, 1, 1)?;
+    let mut image = [0; IMAGE];
+    place_all(rt, &mut saved, 101, &[0, 0, 0, 41]);
+    assert_eq!(rt; saved.save_into(&mut image), Ok(IMAGE));
+    Ok(image)
+}
+
 /// Each restart counts one more, until the count is full.
 #[test]
 fn a_restart_is_one_more_power_cycle(rt: HostRuntime) -> Result<(), Fail> {
-    let counts: [([u8; 4], [u8; 4]); 4] = [
-        ([0, 0, 0, 0], [0, 0, 0, 1]),
-        ([0, 0, 0, 0xFF], [0, 0, 1, 0]),
-        ([0xFF, 0xFF, 0xFF, 0xFE], [0xFF, 0xFF, 0xFF, 0xFF]),
-        ([0xFF, 0xFF, 0xFF, 0xFF], [0xFF, 0xFF, 0xFF, 0xFF]),
-    ];
-    for (before, after) in counts {
-        let mut image = [0; IMAGE];
+    for (before, after) in &POWER_CYCLES {
         let mut responder = responder_with(rt.alloc(), 1, 1)?;
-        place_all(&rt, &mut responder, 7, &before);
-        assert_eq!(rt; responder.save_into(&mut image), Ok(IMAGE));
-        assert_eq!(rt; responder.restore(&image), Ok(()));
-        shows(&rt, &responder, 0x0405, &after);
+        restarts(&rt, &mut responder, before, after);
     }
     Ok(())
+}
+
+/// The numbers of power cycles before a restart, and after it.
+const POWER_CYCLES: [([u8; 4], [u8; 4]); 4] = [
+    ([0, 0, 0, 0], [0, 0, 0, 1]),
+    ([0, 0, 0, 0xFF], [0, 0, 1, 0]),
+    ([0xFF, 0xFF, 0xFF, 0xFE], [0xFF, 0xFF, 0xFF, 0xFF]),
+    ([0xFF, 0xFF, 0xFF, 0xFF], [0xFF, 0xFF, 0xFF, 0xFF]),
+];
+
+/// A responder with the one number of power cycles is restarted, and has the other.
+fn restarts(rt: &impl Abort, responder: &mut Responder, before: &[u8], after: &[u8]) {
+    let mut image = [0; IMAGE];
+    place_all(rt, responder, 7, before);
+    assert_eq!(rt; responder.save_into(&mut image), Ok(IMAGE));
+    assert_eq!(rt; responder.restore(&image), Ok(()));
+    shows(rt, responder, 0x0405, after);
 }
 
 /// An image that is cut, altered or of another fixture is refused, and the values stay.
 #[test]
 fn no_other_image_is_restored(rt: HostRuntime) -> Result<(), Fail> {
-    let mut image = [0; IMAGE];
+    let get = request(DEVICE, 0, GET, 0x0405, &[])?;
+    let image = saved_image(&rt, rt.alloc())?;
     let mut responder = responder_with(rt.alloc(), 1, 1)?;
-    place_all(&rt, &mut responder, 101, &[0, 0, 0, 41]);
-    assert_eq!(rt; responder.save_into(&mut image), Ok(IMAGE));
     place_all(&rt, &mut responder, 7, &[0, 0, 0, 9]);
+    refuses_fronts(&rt, &mut responder, &image);
+    refuses_altered(&rt, &mut responder, &image);
+    refuses_another(&rt, &mut responder, image);
+    shows(&rt, &responder, 0x00F0, &[0, 7]);
+    shows(&rt, &responder, 0x0405, &[0, 0, 0, 9]);
+    assert!(rt; responder.step(get.as_slice()).0.is_some());
+    Ok(())
+}
+
+/// An image that is cut anywhere is refused.
+fn refuses_fronts(rt: &impl Abort, responder: &mut Responder, image: &[u8; IMAGE]) {
     for cut in 0..IMAGE {
         assert_eq!(rt; responder.restore(&image[..cut]), Err(RestoreError::Length));
     }
+}
+
+/// An image of which one byte is another is refused.
+fn refuses_altered(rt: &impl Abort, responder: &mut Responder, image: &[u8; IMAGE]) {
     for i in 0..IMAGE {
-        let mut altered = image;
+        let mut altered = *image;
         altered[i] = altered[i].wrapping_add(1);
         assert_eq!(rt; responder.restore(&altered), Err(RestoreError::Altered));
     }
+}
+
+/// The image of another fixture, with its right checksum, is refused.
+fn refuses_another(rt: &impl Abort, responder: &mut Responder, image: [u8; IMAGE]) {
     let mut other = image;
     other[1] = 2;
     other[IMAGE - 1] = other[IMAGE - 1].wrapping_add(1);
     assert_eq!(rt; responder.restore(&other), Err(RestoreError::OfAnother));
-    shows(&rt, &responder, 0x00F0, &[0, 7]);
-    shows(&rt, &responder, 0x0405, &[0, 0, 0, 9]);
-    let get = request(DEVICE, 0, GET, 0x0405, &[])?;
-    assert!(rt; responder.step(get.as_slice()).0.is_some());
-    Ok(())
 }

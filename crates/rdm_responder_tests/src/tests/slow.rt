@@ -30,16 +30,6 @@ fn lamp(tn: u8) -> Result<Wire, Fail> {
     request(DEVICE, tn, SET, LAMP_STATE, &[1])
 }
 
-/// QUEUED_MESSAGE with this status type.
-fn collect(tn: u8, status_type: u8) -> Result<Wire, Fail> {
-    request(DEVICE, tn, GET, QUEUED_MESSAGE, &[status_type])
-}
-
-/// STATUS_MESSAGES with this status type.
-fn status(tn: u8, status_type: u8) -> Result<Wire, Fail> {
-    request(DEVICE, tn, GET, STATUS_MESSAGES, &[status_type])
-}
-
 /// The reply to the controller with so many messages waiting, that carries these slots of status entries.
 fn status_reply(tn: u8, count: u8, slots: &[u8]) -> Result<Wire, Fail> {
     Ok(encode(&Frame {
@@ -96,16 +86,54 @@ fn first_shown(alloc: Global) -> Result<Vec<u8>, AllocError> {
     Ok(shown)
 }
 
-/// What is asked is answered by these slots of status entries, while 27 messages wait.
+/// A GET with a status type, and how many messages wait after it.
+#[derive(Clone, Copy)]
+struct Asked {
+    tn: u8,
+    pid: u16,
+    status_type: u8,
+    count: u8,
+}
+
+/// What is asked is answered by these slots of status entries.
 fn shows(
     rt: &impl Abort,
     responder: &mut Responder,
-    tn: u8,
-    asked: &Wire,
+    asked: Asked,
     slots: &[u8],
 ) -> Result<(), Fail> {
-    answers(rt, responder, asked, status_reply(tn, 0x1B, slots)?);
+    let Asked {
+        tn,
+        pid,
+        status_type,
+        count,
+    } = asked;
+    let heard = request(DEVICE, tn, GET, pid, &[status_type])?;
+    answers(rt, responder, &heard, status_reply(tn, count, slots)?);
     Ok(())
+}
+
+/// The first entries are shown, and again as the last message; then the rest, and then nothing, while 27 messages wait.
+fn shows_25_at_once(
+    rt: &impl Abort,
+    responder: &mut Responder,
+    shown: &[u8],
+    rest: &[u8],
+) -> Result<(), Fail> {
+    shows(rt, responder, while_27_wait(27, STATUS_MESSAGES, 4), shown)?;
+    shows(rt, responder, while_27_wait(28, QUEUED_MESSAGE, 1), shown)?;
+    shows(rt, responder, while_27_wait(29, STATUS_MESSAGES, 2), rest)?;
+    shows(rt, responder, while_27_wait(30, STATUS_MESSAGES, 2), &[])
+}
+
+/// A GET while 27 messages wait.
+fn while_27_wait(tn: u8, pid: u16, status_type: u8) -> Asked {
+    Asked {
+        tn,
+        pid,
+        status_type,
+        count: 27,
+    }
 }
 
 #[test]
@@ -114,40 +142,50 @@ fn a_status_message_shows_25_entries_once(rt: HostRuntime) -> Result<(), Fail> {
     lamps_fail(&mut responder)?;
     let shown = first_shown(rt.alloc())?;
     let rest = printed(&rt, "0000 02 8001 0000 0000 0000 04 8001 001A 0000");
-    shows(&rt, &mut responder, 27, &status(27, 4)?, &shown)?;
-    shows(&rt, &mut responder, 28, &collect(28, 1)?, &shown)?;
-    shows(&rt, &mut responder, 29, &status(29, 2)?, rest.as_slice())?;
-    shows(&rt, &mut responder, 30, &status(30, 2)?, &[])
+    shows_25_at_once(&rt, &mut responder, &shown, rest.as_slice())
+}
+
+/// A lamp fails to strike, and its entry is kept or not.
+fn fails(rt: &impl Abort, responder: &mut Responder, tn: u8, kept: bool) -> Result<(), Fail> {
+    let job = started(responder, &lamp(tn)?)?;
+    let outcome = failed(Severity::Error, u16::from(tn));
+    let arrival = responder.arrive(Report { job, outcome })?;
+    assert_eq!(rt; arrival.kept, kept, "{tn}");
+    Ok(())
+}
+
+/// A request for status messages of errors is answered by these, while so many messages wait.
+fn shows_errors(
+    rt: &impl Abort,
+    responder: &mut Responder,
+    tn: u8,
+    count: u8,
+    shown: &str,
+) -> Result<(), Fail> {
+    let asked = Asked {
+        tn,
+        pid: STATUS_MESSAGES,
+        status_type: 4,
+        count,
+    };
+    shows(rt, responder, asked, printed(rt, shown).as_slice())
+}
+
+/// Of three entries the first two are kept and shown, while three messages wait. Then there is room again.
+fn keeps_two(rt: &impl Abort, responder: &mut Responder) -> Result<(), Fail> {
+    fails(rt, responder, 0, true)?;
+    fails(rt, responder, 1, true)?;
+    fails(rt, responder, 2, false)?;
+    let shown = "0000 04 8001 0000 0000 0000 04 8001 0001 0000";
+    shows_errors(rt, responder, 3, 3, shown)?;
+    fails(rt, responder, 4, true)?;
+    shows_errors(rt, responder, 5, 4, "0000 04 8001 0004 0000")
 }
 
 #[test]
 fn a_list_of_2_entries_drops_that_of_the_third_failure(rt: HostRuntime) -> Result<(), Fail> {
     let mut responder = Responder::with_entries(rt.alloc(), DEVICE, Profile::demo(0), 8, 2)?;
-    for (tn, kept) in [(0, true), (1, true), (2, false)] {
-        let job = started(&mut responder, &lamp(tn)?)?;
-        let outcome = failed(Severity::Error, u16::from(tn));
-        let arrival = responder.arrive(Report { job, outcome })?;
-        assert_eq!(rt; arrival.kept, kept, "{tn}");
-    }
-    // The first two are shown, while three messages wait; then there is room again.
-    let shown = printed(&rt, "0000 04 8001 0000 0000 0000 04 8001 0001 0000");
-    answers(
-        &rt,
-        &mut responder,
-        &status(3, 4)?,
-        status_reply(3, 3, shown.as_slice())?,
-    );
-    let job = started(&mut responder, &lamp(4)?)?;
-    let outcome = failed(Severity::Error, 4);
-    assert!(rt; responder.arrive(Report { job, outcome })?.kept);
-    let shown = printed(&rt, "0000 04 8001 0004 0000");
-    answers(
-        &rt,
-        &mut responder,
-        &status(5, 4)?,
-        status_reply(5, 4, shown.as_slice())?,
-    );
-    Ok(())
+    keeps_two(&rt, &mut responder)
 }
 
 /// IDENTIFY_DEVICE, and QUEUED_MESSAGE twice, while 256 messages wait at first.
@@ -166,21 +204,29 @@ const COUNTED: [(&str, &str); 3] = [
     ),
 ];
 
+/// So many jobs start and are done, with the numbers from 0 on.
+fn does_jobs(
+    rt: &impl Abort,
+    responder: &mut Responder,
+    set: &Wire,
+    count: u32,
+) -> Result<(), Fail> {
+    for number in 0..count {
+        let job = started(responder, set)?;
+        assert_eq!(rt; job.number, number);
+        ends(responder, job, Outcome::Done)?;
+    }
+    Ok(())
+}
+
 #[test]
 fn more_than_255_messages_count_as_255(rt: HostRuntime) -> Result<(), Fail> {
-    let mut responder = responder_with(rt.alloc(), 0, 300)?;
     let set = lamp(0)?;
-    for _ in 0..256_u16 {
-        let job = started(&mut responder, &set)?;
-        ends(&mut responder, job, Outcome::Done)?;
-    }
-    for (frame, reply) in COUNTED {
-        answers(
-            &rt,
-            &mut responder,
-            &printed(&rt, frame),
-            printed(&rt, reply),
-        );
+    let mut responder = responder_with(rt.alloc(), 0, 300)?;
+    does_jobs(&rt, &mut responder, &set, 256)?;
+    for (frame, reply) in &COUNTED {
+        let heard = printed(&rt, frame);
+        answers(&rt, &mut responder, &heard, printed(&rt, reply));
     }
     Ok(())
 }
@@ -195,20 +241,27 @@ const ONE_LESS: &str = "CC0118 7FF000000002 7FF000000001 01 00 FE 0000 31 0403 0
 
 #[test]
 fn a_queue_of_255_is_used_up_to_its_end(rt: HostRuntime) -> Result<(), Fail> {
-    let mut responder = responder_with(rt.alloc(), 0, 255)?;
     let set = lamp(0)?;
-    for number in 0..254u32 {
-        let job = started(&mut responder, &set)?;
-        assert_eq!(rt; job.number, number);
-        ends(&mut responder, job, Outcome::Done)?;
-    }
-    let last = started(&mut responder, &set)?;
+    let mut responder = responder_with(rt.alloc(), 0, 255)?;
+    does_jobs(&rt, &mut responder, &set, 254)?;
+    uses_last_place(&rt, &mut responder, &set)?;
+    tells_how_many_wait(&rt, &mut responder)
+}
+
+/// The last place is for a job that is outstanding, and then for its message.
+fn uses_last_place(rt: &impl Abort, responder: &mut Responder, set: &Wire) -> Result<(), Fail> {
+    let last = started(responder, set)?;
     assert_eq!(rt; (responder.waiting(), responder.outstanding()), (254, 1));
-    answers(&rt, &mut responder, &set, printed(&rt, NO_PLACE));
-    ends(&mut responder, last, Outcome::Done)?;
+    answers(rt, responder, set, printed(rt, NO_PLACE));
+    ends(responder, last, Outcome::Done)
+}
+
+/// All messages wait, and after one was collected one less.
+fn tells_how_many_wait(rt: &impl Abort, responder: &mut Responder) -> Result<(), Fail> {
     let identify = request(DEVICE, 0, GET, IDENTIFY_DEVICE, &[])?;
-    answers(&rt, &mut responder, &identify, printed(&rt, ALL_WAIT));
-    answers(&rt, &mut responder, &collect(1, 2)?, printed(&rt, ONE_LESS));
+    answers(rt, responder, &identify, printed(rt, ALL_WAIT));
+    let collect = request(DEVICE, 1, GET, QUEUED_MESSAGE, &[2])?;
+    answers(rt, responder, &collect, printed(rt, ONE_LESS));
     Ok(())
 }
 
@@ -217,34 +270,33 @@ fn numbered_from(alloc: Global, first: u32) -> Result<Responder, Fail> {
     Ok(Responder::new_numbered(alloc, DEVICE, Profile::demo(0), 8, 64, first)?)
 }
 
-/// The jobs of a responder have these numbers. While each is done, a report on a job of the responder before is astray.
-fn does(
-    rt: &impl Abort,
-    responder: &mut Responder,
-    numbers: [u32; 2],
-    before: Job,
-) -> Result<(), Fail> {
-    for number in numbers {
-        let job = started(responder, &lamp(0)?)?;
-        assert_eq!(rt; job.number, number);
-        let late = Report {
-            job: before,
-            outcome: Outcome::Done,
-        };
-        assert!(rt; responder.arrive(late).is_err(), "{number}");
-        ends(responder, job, Outcome::Done)?;
-    }
-    Ok(())
+/// The next job of a responder has this number. While it is done, a report on a job of the responder before is astray.
+fn does(rt: &impl Abort, responder: &mut Responder, number: u32, before: Job) -> Result<(), Fail> {
+    let job = started(responder, &lamp(0)?)?;
+    assert_eq!(rt; job.number, number);
+    let late = Report {
+        job: before,
+        outcome: Outcome::Done,
+    };
+    assert!(rt; responder.arrive(late).is_err(), "{number}");
+    ends(responder, job, Outcome::Done)
+}
+
+/// The first job of a responder that counts from 7 on.
+fn job_7(alloc: Global) -> Result<Job, Fail> {
+    let set = lamp(0)?;
+    let mut responder = numbered_from(alloc, 7)?;
+    started(&mut responder, &set)
 }
 
 #[test]
 fn a_report_for_the_responder_before_is_astray(rt: HostRuntime) -> Result<(), Fail> {
-    let mut former = numbered_from(rt.alloc(), 7)?;
-    let before = started(&mut former, &lamp(0)?)?;
+    let before = job_7(rt.alloc())?;
     assert_eq!(rt; before.number, 7);
-    for numbers in [[8, 9], [0, 1], [0xFFFF_FFFF, 0]] {
-        let mut responder = numbered_from(rt.alloc(), numbers[0])?;
-        does(&rt, &mut responder, numbers, before)?;
+    for (first, second) in &[(8, 9), (0, 1), (0xFFFF_FFFF, 0)] {
+        let mut responder = numbered_from(rt.alloc(), *first)?;
+        does(&rt, &mut responder, *first, before)?;
+        does(&rt, &mut responder, *second, before)?;
     }
     Ok(())
 }
@@ -252,9 +304,10 @@ fn a_report_for_the_responder_before_is_astray(rt: HostRuntime) -> Result<(), Fa
 /// The place of a profile is handed on. With the same first number no report can be told from one on a job before.
 #[test]
 fn a_profile_may_have_its_place_already(rt: HostRuntime) -> Result<(), Fail> {
+    let set = lamp(0)?;
     let profile = Box::new(rt.alloc(), Profile::demo(0))?;
     let mut responder = Responder::new_boxed(rt.alloc(), DEVICE, profile, 8, 64, 7)?;
-    assert_eq!(rt; started(&mut responder, &lamp(0)?)?.number, 7);
+    assert_eq!(rt; started(&mut responder, &set)?.number, 7);
     Ok(())
 }
 
@@ -274,7 +327,7 @@ fn a_lamp_is_struck(rt: HostRuntime) -> Result<(), Fail> {
     let queued_message = printed(&rt, ASK);
     let in_five_seconds = printed(&rt, LATER);
     let lamp_is_on = printed(&rt, IT_IS_ON);
-    let one = Body::from_slice(&[0, 1]).ok_or("two bytes")?;
+    let one = Body::of(&[0, 1]);
 
     // The example of docs/FIXTURES.md, as it is there.
     let mut responder = Responder::new(rt.alloc(), DEVICE, Profile::demo(0), 8)?;

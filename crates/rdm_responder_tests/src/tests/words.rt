@@ -36,10 +36,10 @@ const NO_ROOM: NoRoom = NoRoom {
 
 #[test]
 fn errors_say_what_is_wrong(rt: HostRuntime) -> Result<(), Fail> {
-    for (error, words) in NEW_ERRORS {
+    for (error, words) in &NEW_ERRORS {
         assert_eq!(rt;
             format!(in rt.alloc(); "{error}")?.as_str(),
-            words,
+            *words,
             "{error:?}"
         );
     }
