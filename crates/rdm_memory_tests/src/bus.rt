@@ -68,20 +68,30 @@ const TURNS: [Turn; 6] = [
 pub(crate) fn play(alloc: Global) -> Result<Tally, Fault> {
     let mut tally = Tally::NONE;
     let mut system = system(alloc, &mut tally)?;
-    let reserved = Step::Ask(command(0x0020, 2), Goes::None);
+    plays_all(&mut system, &mut tally).map(|()| tally)
+}
+
+/// All turns are played.
+fn plays_all(system: &mut System, tally: &mut Tally) -> Result<(), Fault> {
     for turn in &TURNS {
-        let refusal = system.play(&reserved);
-        check(
-            refusal == Err(PlayError::Reserved),
-            "a command for QUEUED_MESSAGE",
-        )?;
-        let step = step_of(&system, turn.step)?;
-        plays(&mut system, &step, &mut tally)?;
-        check(has_happened(&system, turn), "other bytes")?;
+        check(is_reserved(system), "a command for QUEUED_MESSAGE")?;
+        plays_turn(system, turn, tally)?;
+        check(has_happened(system, turn), "other bytes")?;
     }
     check(system.trace().len() == TURNS.len(), "other events")?;
-    check(system.recorded().len() == 3, "other messages")?;
-    Ok(tally)
+    check(system.recorded().len() == 3, "other messages")
+}
+
+/// Whether a command for QUEUED_MESSAGE is told as reserved.
+fn is_reserved(system: &mut System) -> bool {
+    let step = Step::Ask(command(0x0020, 2), Goes::None);
+    system.play(&step) == Err(PlayError::Reserved)
+}
+
+/// The step of a turn is played.
+fn plays_turn(system: &mut System, turn: &Turn, tally: &mut Tally) -> Result<(), Fault> {
+    let step = step_of(system, turn.step)?;
+    plays(system, &step, tally)
 }
 
 /// A system of a device that has just been switched on.

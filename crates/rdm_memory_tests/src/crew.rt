@@ -88,30 +88,49 @@ struct Parties {
 
 impl Parties {
     fn new(alloc: Global, pace: Pace) -> Result<Parties, AllocError> {
-        let (front, back) = match pace {
-            Pace::AtOnce => (None, None),
-            Pace::Together => {
-                let (front, back) = Gate::pair(alloc)?;
-                (Some(front), Some(back))
-            }
-        };
-        let first = Arc::new(alloc, AtomicBool::new(false))?;
-        let second = Arc::new(alloc, AtomicBool::new(false))?;
-        let panel = Arc::new(alloc, AtomicBool::new(false))?;
+        let first = Flag::new(alloc)?;
+        let second = Flag::new(alloc)?;
+        let panel = Flag::new(alloc)?;
+        let (front, back) = gates(alloc, pace)?;
         Ok(Parties {
             first: Hand {
                 gate: front,
-                gone: Arc::try_clone(&first)?,
+                gone: first.told,
             },
             second: Hand {
                 gate: back,
-                gone: Arc::try_clone(&second)?,
+                gone: second.told,
             },
-            panel: Nobody {
-                gone: Arc::try_clone(&panel)?,
-            },
-            gone: [first, second, panel],
+            panel: Nobody { gone: panel.told },
+            gone: [first.read, second.read, panel.read],
         })
+    }
+}
+
+/// By what somebody says that it is gone, and by what that is read.
+#[derive(Drop)]
+struct Flag {
+    told: Arc<AtomicBool, Global>,
+    read: Arc<AtomicBool, Global>,
+}
+
+impl Flag {
+    /// Of somebody who isn't gone.
+    fn new(alloc: Global) -> Result<Flag, AllocError> {
+        let told = Arc::new(alloc, AtomicBool::new(false))?;
+        let read = Arc::try_clone(&told)?;
+        Ok(Flag { told, read })
+    }
+}
+
+/// The gates of both hands, where they wait for each other.
+fn gates(alloc: Global, pace: Pace) -> Result<(Option<Gate>, Option<Gate>), AllocError> {
+    match pace {
+        Pace::AtOnce => Ok((None, None)),
+        Pace::Together => {
+            let (front, back) = Gate::pair(alloc)?;
+            Ok((Some(front), Some(back)))
+        }
     }
 }
 
@@ -178,15 +197,28 @@ where
     T: Threads + Wait + Copy + Send + 'static,
 {
     let mut tally = Tally::NONE;
+    let trace = lamp_and_status(rt, alloc, &mut tally)?;
+    has_collected(&trace).map(|()| tally)
+}
+
+/// The trace of a run that collects both.
+fn lamp_and_status<T>(rt: T, alloc: Global, tally: &mut Tally) -> Result<Trace, Fault>
+where
+    T: Threads + Wait + Copy + Send + 'static,
+{
     let steps = [
         CrewStep::Ask(command(0x0403, 1), Goes::None),
         CrewStep::Settle(PATIENCE),
         CrewStep::Collect(Goes::None),
         CrewStep::Collect(Goes::None),
     ];
-    let trace = ended(rt, alloc, &steps, Pace::AtOnce, &mut tally)?
+    ended(rt, alloc, &steps, Pace::AtOnce, tally)?
         .ok()
-        .ok_or(OTHER)?;
+        .ok_or(OTHER)
+}
+
+/// Both were collected, the message of the lamp first.
+fn has_collected(trace: &Trace) -> Result<(), Fault> {
     check(trace.events().len() == 4, "other events")?;
     let [lamp, status] = trace.recorded() else {
         return Err(Fault::Wrong("other messages"));
@@ -195,8 +227,7 @@ where
         (lamp.class, lamp.pid) == (0x31, 0x0403),
         "the lamp's message",
     )?;
-    check((status.class, status.pid) == (0x21, 0x0030), "the status")?;
-    Ok(tally)
+    check((status.class, status.pid) == (0x21, 0x0030), "the status")
 }
 
 /// Each worker reports on each of its jobs, in order.
@@ -205,22 +236,36 @@ where
     T: Threads + Wait + Copy + Send + 'static,
 {
     let mut tally = Tally::NONE;
+    let trace = three_jobs(rt, alloc, &mut tally)?;
+    has_arrived(&trace, 6, (2, Outcome::Done), (1, Outcome::Reading(25))).map(|()| tally)
+}
+
+/// The trace of a run with two jobs of worker 0 and one of worker 1.
+fn three_jobs<T>(rt: T, alloc: Global, tally: &mut Tally) -> Result<Trace, Fault>
+where
+    T: Threads + Wait + Copy + Send + 'static,
+{
     let steps = [
         CrewStep::Ask(command(0x0403, 1), Goes::None),
         CrewStep::Ask(command(0x0403, 0), Goes::None),
         CrewStep::Ask(command(0x0201, 0), Goes::None),
         CrewStep::Settle(PATIENCE),
     ];
-    let trace = ended(rt, alloc, &steps, Pace::AtOnce, &mut tally)?
+    ended(rt, alloc, &steps, Pace::AtOnce, tally)?
         .ok()
-        .ok_or(OTHER)?;
-    check(trace.events().len() == 6, "other events")?;
-    check(arrived(&trace, 0, Outcome::Done) == Some(2), "worker 0")?;
-    check(
-        arrived(&trace, 1, Outcome::Reading(25)) == Some(1),
-        "worker 1",
-    )?;
-    Ok(tally)
+        .ok_or(OTHER)
+}
+
+/// A trace has so many events, among them these reports of worker 0 and of worker 1.
+fn has_arrived(
+    trace: &Trace,
+    events: usize,
+    zero: (u32, Outcome),
+    one: (u32, Outcome),
+) -> Result<(), Fault> {
+    check(trace.events().len() == events, "other events")?;
+    check(arrived(trace, 0, zero.1) == Some(zero.0), "worker 0")?;
+    check(arrived(trace, 1, one.1) == Some(one.0), "worker 1")
 }
 
 /// Both workers are at work at once: each waits for the other.
@@ -229,19 +274,24 @@ where
     T: Threads + Wait + Copy + Send + 'static,
 {
     let mut tally = Tally::NONE;
+    let trace = two_at_once(rt, alloc, &mut tally)?;
+    has_arrived(&trace, 4, (1, Outcome::Done), (1, Outcome::Done)).map(|()| tally)
+}
+
+/// The trace of a run in which both workers meet.
+fn two_at_once<T>(rt: T, alloc: Global, tally: &mut Tally) -> Result<Trace, Fault>
+where
+    T: Threads + Wait + Copy + Send + 'static,
+{
     let steps = [
         CrewStep::Ask(command(0x0403, 1), Goes::None),
         CrewStep::Draw,
         CrewStep::Ask(command(0x1020, 1), Goes::None),
         CrewStep::Settle(u32::MAX),
     ];
-    let trace = ended(rt, alloc, &steps, Pace::Together, &mut tally)?
+    ended(rt, alloc, &steps, Pace::Together, tally)?
         .ok()
-        .ok_or(OTHER)?;
-    check(trace.events().len() == 4, "other events")?;
-    check(arrived(&trace, 0, Outcome::Done) == Some(1), "worker 0")?;
-    check(arrived(&trace, 1, Outcome::Done) == Some(1), "worker 1")?;
-    Ok(tally)
+        .ok_or(OTHER)
 }
 
 /// How many reports of a worker arrived, where they are in order and each has this outcome.
@@ -287,9 +337,9 @@ where
         CrewStep::Ask(command(0x0201, 0), Goes::None),
         CrewStep::Ask(command(0x0020, 2), Goes::None),
     ];
-    let answer = ended(rt, alloc, &steps, Pace::AtOnce, tally)?;
+    let refusal = ended(rt, alloc, &steps, Pace::AtOnce, tally)?.err();
     check(
-        matches!(&answer, Err(RunError::Reserved)),
+        refusal == Some(RunError::Reserved),
         "a command for QUEUED_MESSAGE",
     )
 }

@@ -36,9 +36,13 @@ pub(crate) fn devices(alloc: Global) -> Result<Tally, Fault> {
 
 /// There are no devices with 513 sub-devices, and none that begin at no address.
 fn no_devices(alloc: Global) -> bool {
-    let many = Devices::new(alloc, Profile::demo(513));
-    let bad = Devices::new(alloc, without_start());
-    matches!(&many, Err(DevicesError::TooManySubs)) && matches!(&bad, Err(DevicesError::BadProfile))
+    no_devices_of(alloc, Profile::demo(513)) == Some(DevicesError::TooManySubs)
+        && no_devices_of(alloc, without_start()) == Some(DevicesError::BadProfile)
+}
+
+/// Why there are no devices of a profile.
+fn no_devices_of(alloc: Global, profile: Profile) -> Option<DevicesError> {
+    Devices::new(alloc, profile).err()
 }
 
 /// Whether the second of two sub-devices is there.
@@ -77,7 +81,7 @@ pub(crate) fn outbox(alloc: Global) -> Result<Tally, Fault> {
     for _ in 0..TRIES {
         check(no_outboxes(alloc), "an outbox of a bad size")?;
         match Outbox::new(alloc, 2, 1) {
-            Ok(outbox) => return serves(outbox).map(|()| tally),
+            Ok(mut outbox) => return serves(&mut outbox).map(|()| tally),
             Err(OutboxError::OutOfMemory) => tally.refused(),
             Err(OutboxError::BadSize) => return Err(OTHER),
         }
@@ -96,14 +100,13 @@ fn is_bad_size(alloc: Global, queue_size: u16, jobs: u32) -> bool {
 }
 
 /// The outbox takes a job, gives its message, and has then no job left for that worker, but one for the other.
-fn serves(outbox: Outbox) -> Result<(), Fault> {
-    let mut outbox = outbox;
+fn serves(outbox: &mut Outbox) -> Result<(), Fault> {
     check(
-        number(&mut outbox, LAMP) == Some(0) && gives(&mut outbox),
+        number(outbox, LAMP) == Some(0) && gives(outbox),
         "the first job and its message",
     )?;
-    check(number(&mut outbox, LAMP).is_none(), "a second job")?;
-    check(number(&mut outbox, SELF_TEST) == Some(0), "worker 1")
+    check(number(outbox, LAMP).is_none(), "a second job")?;
+    check(number(outbox, SELF_TEST) == Some(0), "worker 1")
 }
 
 /// Whether the message of its one job comes out of an outbox.
@@ -135,7 +138,7 @@ pub(crate) fn responder(alloc: Global) -> Result<Tally, Fault> {
     for _ in 0..TRIES {
         check(no_responders(alloc), "a responder that can't be")?;
         match Responder::new(alloc, DEVICE, Profile::demo(1), 8) {
-            Ok(responder) => return answers(responder).map(|()| tally),
+            Ok(mut responder) => return answers(&mut responder).map(|()| tally),
             Err(NewError::OutOfMemory) => tally.refused(),
             Err(_) => return Err(OTHER),
         }
@@ -145,12 +148,14 @@ pub(crate) fn responder(alloc: Global) -> Result<Tally, Fault> {
 
 /// There is no responder with a broadcast for its UID, with room for no result, or with 513 sub-devices.
 fn no_responders(alloc: Global) -> bool {
-    let broadcast = Responder::new(alloc, Uid::ALL, Profile::demo(1), 8);
-    let no_room = Responder::new(alloc, DEVICE, Profile::demo(1), 0);
-    let many = Responder::new(alloc, DEVICE, Profile::demo(513), 8);
-    matches!(&broadcast, Err(NewError::BadUid))
-        && matches!(&no_room, Err(NewError::BadSize))
-        && matches!(&many, Err(NewError::BadProfile))
+    no_responder(alloc, Uid::ALL, 1, 8) == Some(NewError::BadUid)
+        && no_responder(alloc, DEVICE, 1, 0) == Some(NewError::BadSize)
+        && no_responder(alloc, DEVICE, 513, 8) == Some(NewError::BadProfile)
+}
+
+/// Why there is no responder with this UID, so many sub-devices and room for so many results.
+fn no_responder(alloc: Global, uid: Uid, subs: u16, queue_size: u16) -> Option<NewError> {
+    Responder::new(alloc, uid, Profile::demo(subs), queue_size).err()
 }
 
 /// Requests for QUEUED_MESSAGE, each with its sub-device and data, and the replies from the transaction number on.
@@ -174,12 +179,11 @@ const QUEUED: [(u16, &[u8], &[u8]); 4] = [
 ];
 
 /// The responder answers each of them so.
-fn answers(responder: Responder) -> Result<(), Fault> {
-    let mut responder = responder;
+fn answers(responder: &mut Responder) -> Result<(), Fault> {
     let mut tn = 0_u8;
     for (sub, data, expected) in &QUEUED {
         let body = Body::from_slice(data).ok_or(OTHER)?;
-        let holds = answers_one(&mut responder, tn, *sub, body, expected);
+        let holds = answers_one(responder, tn, *sub, body, expected);
         check(holds, "another reply")?;
         tn = tn.saturating_add(1);
     }

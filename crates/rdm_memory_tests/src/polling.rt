@@ -20,17 +20,16 @@ const ADVISORY: u8 = 2;
 /// and asks for the same.
 pub(crate) fn poll(alloc: Global) -> Result<Tally, Fault> {
     let mut tally = Tally::NONE;
-    is_answered(alloc, &mut tally)?;
-    gives_up(alloc, &mut tally)?;
-    asks_first(alloc, &mut tally)?;
+    is_answered(&mut new_collector(alloc), &mut tally)?;
+    gives_up(&mut new_collector(alloc), &mut tally)?;
+    asks_first(&mut new_collector(alloc), &mut tally)?;
     Ok(tally)
 }
 
 /// A collector polls, hears the empty status message, and polls again.
-fn is_answered(alloc: Global, tally: &mut Tally) -> Result<(), Fault> {
-    let mut collector = new_collector(alloc);
+fn is_answered(collector: &mut Collector, tally: &mut Tally) -> Result<(), Fault> {
     for tn in 0..POLLS {
-        polls(&mut collector, tn, ADVISORY, tally)?;
+        polls(collector, tn, ADVISORY, tally)?;
         let heard = collector.hear(from_device(tn, 0x21, 0x0030, Body::new()).as_slice());
         check(heard == Heard::Message, "a message that isn't heard")?;
     }
@@ -38,15 +37,21 @@ fn is_answered(alloc: Global, tally: &mut Tally) -> Result<(), Fault> {
 }
 
 /// A collector hears bytes with no transaction open, polls, asks in vain while the poll is open, gives it up, and polls again.
-fn gives_up(alloc: Global, tally: &mut Tally) -> Result<(), Fault> {
-    let mut collector = new_collector(alloc);
-    hears_nothing(&mut collector, 0)?;
-    polls(&mut collector, 0, ADVISORY, tally)?;
-    let reserved = command(0x0030, ADVISORY);
+fn gives_up(collector: &mut Collector, tally: &mut Tally) -> Result<(), Fault> {
+    hears_nothing(collector, 0)?;
+    polls(collector, 0, ADVISORY, tally)?;
+    let refusal = refusal(collector, &command(0x0030, ADVISORY));
     check(
-        collector.ask(&reserved).err() == Some(AskError::Reserved),
+        refusal == Some(AskError::Reserved),
         "a command for STATUS_MESSAGES",
     )?;
+    asks_in_vain(collector)?;
+    hears_nothing(collector, 0)?;
+    polls(collector, 1, LAST, tally)
+}
+
+/// While a poll is open there is no command, and then none that is too long.
+fn asks_in_vain(collector: &mut Collector) -> Result<(), Fault> {
     let long = Command {
         dst: DEVICE,
         action: Action::Get,
@@ -54,22 +59,23 @@ fn gives_up(alloc: Global, tally: &mut Tally) -> Result<(), Fault> {
         pid: 0x1000,
         load: Load::of(&[0; 232]),
     };
+    let while_open = refusal(collector, &long);
+    collector.over();
+    let after = refusal(collector, &long);
     check(
-        collector.ask(&long).err() == Some(AskError::Busy),
+        while_open == Some(AskError::Busy),
         "a command while a poll is open",
     )?;
-    collector.over();
-    check(
-        collector.ask(&long).err() == Some(AskError::TooLong),
-        "a command with 232 bytes",
-    )?;
-    hears_nothing(&mut collector, 0)?;
-    polls(&mut collector, 1, LAST, tally)
+    check(after == Some(AskError::TooLong), "a command with 232 bytes")
+}
+
+/// Why a command can't be sent.
+fn refusal(collector: &mut Collector, command: &Command) -> Option<AskError> {
+    collector.ask(command).err()
 }
 
 /// A collector asks for IDENTIFY_DEVICE, hears that it is off, and then polls.
-fn asks_first(alloc: Global, tally: &mut Tally) -> Result<(), Fault> {
-    let mut collector = new_collector(alloc);
+fn asks_first(collector: &mut Collector, tally: &mut Tally) -> Result<(), Fault> {
     let identify = Command {
         dst: DEVICE,
         action: Action::Get,
@@ -77,14 +83,21 @@ fn asks_first(alloc: Global, tally: &mut Tally) -> Result<(), Fault> {
         pid: 0x1000,
         load: Load::new(),
     };
-    let sent = collector.ask(&identify).ok().ok_or(OTHER)?;
-    check(
-        sent.as_slice().get(15..) == Some([0, 1, 0, 0, 0, 0x20, 0x10, 0, 0, 0x03, 0xF7].as_slice()),
-        "another request",
-    )?;
+    check(sends(collector, &identify, &IDENTIFY), "another request")?;
     let heard = collector.hear(from_device(0, 0x21, 0x1000, Body::of(&[0])).as_slice());
     check(heard == Heard::Reply, "a reply that isn't heard")?;
-    polls(&mut collector, 1, ADVISORY, tally)
+    polls(collector, 1, ADVISORY, tally)
+}
+
+/// The request for IDENTIFY_DEVICE, from the transaction number on.
+const IDENTIFY: [u8; 11] = [0, 1, 0, 0, 0, 0x20, 0x10, 0, 0, 0x03, 0xF7];
+
+/// Whether the request of a command has these bytes.
+fn sends(collector: &mut Collector, command: &Command, bytes: &[u8]) -> bool {
+    match collector.ask(command) {
+        Ok(sent) => sent.as_slice().get(15..) == Some(bytes),
+        Err(_) => false,
+    }
 }
 
 /// A collector that has just been made.
@@ -125,11 +138,9 @@ fn polls(collector: &mut Collector, tn: u8, kind: u8, tally: &mut Tally) -> Resu
         )?;
         match answer {
             Ok(sent) => {
-                let frame = decode(sent.as_slice()).ok().ok_or(OTHER)?;
-                let asks = frame.pid == 0x0020 && frame.body.as_slice() == [kind].as_slice();
-                check(asks && frame.tn == tn, "another poll")?;
-                let second = collector.poll();
-                return check(second.err() == Some(PollError::Busy), "a second poll");
+                check(is_poll(&sent, tn, kind), "another poll")?;
+                let second = collector.poll().err();
+                return check(second == Some(PollError::Busy), "a second poll");
             }
             Err(PollError::OutOfMemory) => {
                 tally.refused();
@@ -139,4 +150,14 @@ fn polls(collector: &mut Collector, tn: u8, kind: u8, tally: &mut Tally) -> Resu
         }
     }
     Err(ALWAYS)
+}
+
+/// Whether bytes ask for what waits, with this transaction number and status type.
+fn is_poll(sent: &Wire, tn: u8, kind: u8) -> bool {
+    match decode(sent.as_slice()) {
+        Ok(frame) => {
+            frame.pid == 0x0020 && frame.body.as_slice() == [kind].as_slice() && frame.tn == tn
+        }
+        Err(_) => false,
+    }
 }

@@ -117,21 +117,54 @@ const TURNS: [Taken<u32>; 5] = [
 fn two_posts<R: Wait>(rt: &R, alloc: Global, met: &mut Met) -> Result<(), Fault> {
     let room = room_for_two(alloc, met)?;
     let (mut take, mut zero, mut one) = lane_of_two(alloc, met)?;
-    puts(rt, &mut zero, X, Ok(0), met)?;
-    puts(rt, &mut one, Z, Ok(0), met)?;
-    puts(rt, &mut zero, Y, Err(Full(Y)), met)?;
+    fill(rt, &mut zero, &mut one, met)?;
     let one = stays_open(rt, one)?;
     gives(rt, &mut take, &TURNS[..1], met)?;
     let one = closes(rt, one)?;
-    gives(rt, &mut take, &TURNS[1..2], met)?;
-    puts(rt, &mut zero, Y, Ok(1), met)?;
-    gives(rt, &mut take, &TURNS[2..4], met)?;
-    puts(rt, &mut zero, W, Err(Spent(W)), met)?;
-    gives(rt, &mut take, &[Empty], met)?;
+    goes_on(rt, &mut take, &mut zero, met)?;
     let zero = closes(rt, zero)?;
-    gives(rt, &mut take, &TURNS[4..], met)?;
-    gives(rt, &mut take, &[Closed, Closed], met)?;
+    ends(rt, &mut take, met)?;
     settles(rt, room, take, zero, one)
+}
+
+/// Both posts fill the lane.
+fn fill<R: Wait>(
+    rt: &R,
+    zero: &mut Post<u32>,
+    one: &mut Post<u32>,
+    met: &mut Met,
+) -> Result<(), Fault>
+    ensures zero { IsSamePost zero.old zero.new }
+    ensures one { IsSamePost one.old one.new }
+{
+    puts(rt, zero, X, Ok(0), met)?;
+    puts(rt, one, Z, Ok(0), met)?;
+    puts(rt, zero, Y, Err(Full(Y)), met)
+}
+
+/// Post 1 is closed, and post 0 puts its last item.
+fn goes_on<R: Wait>(
+    rt: &R,
+    take: &mut Take<u32>,
+    zero: &mut Post<u32>,
+    met: &mut Met,
+) -> Result<(), Fault>
+    ensures take { IsSameTake take.old take.new }
+    ensures zero { IsSamePost zero.old zero.new }
+{
+    gives(rt, take, &TURNS[1..2], met)?;
+    puts(rt, zero, Y, Ok(1), met)?;
+    gives(rt, take, &TURNS[2..4], met)?;
+    puts(rt, zero, W, Err(Spent(W)), met)?;
+    gives(rt, take, &[Empty], met)
+}
+
+/// Both posts are closed.
+fn ends<R: Wait>(rt: &R, take: &mut Take<u32>, met: &mut Met) -> Result<(), Fault>
+    ensures { IsSameTake take.old take.new }
+{
+    gives(rt, take, &TURNS[4..], met)?;
+    gives(rt, take, &[Closed, Closed], met)
 }
 
 /// The lists of both ends have each item and each mark once.
