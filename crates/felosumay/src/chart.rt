@@ -17,16 +17,25 @@ pub fn run<'a, H: Host>(rt: H, asked: &ArgMatches<'a>) -> Result<(), Fault<'a>> 
     refuse_clashes(asked)?;
     let fixture = fixture::asked_for(rt, asked)?;
     let source = Source::named(asked.get_str(usage::INPUT));
+    let picture = picture(rt, source, &fixture)?;
+    let path = asked.get_str(usage::OUTPUT).unwrap_or("-");
+    save(rt, path, picture.as_slice())
+}
+
+/// The chart of a trace that is read.
+fn picture<'a, H: Host>(
+    rt: H,
+    source: Source<'a>,
+    fixture: &Fixture,
+) -> Result<Vec<u8>, Fault<'a>> {
     let trace = source.read(rt, MOST_BYTES)?;
     let text = without_mark(trace.as_slice());
     let known = Known::of(fixture.uid, &fixture.profile);
-    let picture = match chart(rt.alloc(), text, &known) {
-        Ok(picture) => picture,
-        Err(ChartError::OutOfMemory) => return Err(Fault::Memory),
-        Err(ChartError::Line(line)) => return Err(Fault::NoTrace(source.name(), line)),
-    };
-    let path = asked.get_str(usage::OUTPUT).unwrap_or("-");
-    save(rt, path, picture.as_slice())
+    match chart(rt.alloc(), text, &known) {
+        Ok(picture) => Ok(picture),
+        Err(ChartError::OutOfMemory) => Err(Fault::Memory),
+        Err(ChartError::Line(line)) => Err(Fault::NoTrace(source.name(), line)),
+    }
 }
 
 /// The chart of the lines of a trace.

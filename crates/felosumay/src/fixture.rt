@@ -23,6 +23,11 @@ const MOST_BYTES: u64 = 1048576;
 pub fn run<'a, H: Host>(rt: H, asked: &ArgMatches<'a>) -> Result<(), Fault<'a>> {
     let source = Source::named(asked.get_str(usage::INPUT));
     let fixture = FixtureFile::read(rt, source)?.fixture(rt)?;
+    print_fixture(rt, &fixture)
+}
+
+/// Prints what a fixture is.
+fn print_fixture<'a, H: Host>(rt: H, fixture: &Fixture) -> Result<(), Fault<'a>> {
     let mut words = Vec::new(rt.alloc());
     let rules = fixture.outcomes.as_slice();
     put_fixture(&mut words, fixture.uid, &fixture.profile, rules)?;

@@ -56,13 +56,8 @@ pub fn run<'a, H: Host>(
     match Source::named(asked.get_str(usage::PORT)) {
         Source::File(name) => {
             let teller = Teller::new(rt, Place::Output, terminals.errors);
-            let ends = Ends {
-                name,
-                reader: open(rt, name)?,
-                writer: open(rt, name)?,
-                gives_up: true,
-            };
-            run_on(teller, asked, errand, ends)
+            let ends = ends_of(rt, name)?;
+            run_on(teller, asked, &errand, ends)
         }
         Source::Input => {
             let teller = Teller::new(rt, Place::Errors, terminals.errors);
@@ -72,16 +67,26 @@ pub fn run<'a, H: Host>(
                 writer: io::writer(&rt),
                 gives_up: terminals.input,
             };
-            run_on(teller, asked, errand, ends)
+            run_on(teller, asked, &errand, ends)
         }
     }
+}
+
+/// Both ends of the port of this name.
+fn ends_of<'a, H: Host>(rt: H, name: &'a str) -> Result<Ends<'a, H::File, H::File>, Fault<'a>> {
+    Ok(Ends {
+        name,
+        reader: open(rt, name)?,
+        writer: open(rt, name)?,
+        gives_up: true,
+    })
 }
 
 /// Does it through this port.
 fn run_on<'a, H: Host, R: Read + Drop, W: Write + Drop>(
     teller: Teller<H>,
     asked: &ArgMatches<'a>,
-    errand: Errand,
+    errand: &Errand,
     ends: Ends<'a, R, W>,
 ) -> Result<(), Fault<'a>> {
     let rt = teller.rt();
@@ -104,7 +109,7 @@ fn run_on<'a, H: Host, R: Read + Drop, W: Write + Drop>(
 /// Does it through this interface, of a port of that name.
 fn talk<'a, H: Host, R: Read + Drop, W: Write + Drop, C: Clock + Drop>(
     teller: Teller<H>,
-    errand: Errand,
+    errand: &Errand,
     name: &'a str,
     gives_up: bool,
     mut port: Interface<Watched<R>, Watched<W>, C>,

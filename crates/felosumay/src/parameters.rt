@@ -9,7 +9,7 @@ use crate::host::Host;
 use crate::source::print;
 use crate::{fixture, usage};
 use clap::ArgMatches;
-use data::{data_of, put_data};
+use data::{Data, data_of, put_data};
 use own::put_own;
 use rdm_frame::digits::word_in;
 use rdm_frame::standard::ROOT_DEVICE;
@@ -27,26 +27,54 @@ pub fn run<'a, H: Host>(rt: H, asked: &ArgMatches<'a>) -> Result<(), Fault<'a>> 
     let mut profile = fixture::asked_for(rt, asked)?.profile;
     // Where there are none, this shows what one would have.
     profile.subs = profile.subs.max(SUB_DEVICE);
-    let name = asked.get_str(usage::PARAMETER);
-    let kinds = kinds_of(rt.alloc(), &profile, name)?;
-    let own = own_of(rt.alloc(), &profile, name)?;
-    if let Some(name) = name
-        && kinds.is_empty()
-        && own.is_empty()
-    {
-        return Err(Fault::NoParameter(name));
-    }
-    let devices = match Devices::new(rt.alloc(), profile) {
-        Ok(devices) => devices,
-        Err(NewError::OutOfMemory) => return Err(Fault::Memory),
-        Err(NewError::TooManySubs | NewError::BadProfile) => return Err(Fault::NoDevice),
-    };
-    let mut text = String::new(rt.alloc());
-    for kind in &kinds {
-        put_parameter(&mut text, rt.alloc(), &devices, *kind)?;
-    }
-    text.push_str(own.as_str())?;
+    let chosen = Chosen::of(rt.alloc(), &profile, asked.get_str(usage::PARAMETER))?;
+    let devices = devices_of(rt.alloc(), profile)?;
+    let text = chosen.text(rt.alloc(), &devices)?;
     print(rt, text.as_bytes())
+}
+
+/// The devices of a profile.
+fn devices_of<'a>(alloc: Global, profile: Profile) -> Result<Devices, Fault<'a>> {
+    match Devices::new(alloc, profile) {
+        Ok(devices) => Ok(devices),
+        Err(NewError::OutOfMemory) => Err(Fault::Memory),
+        Err(NewError::TooManySubs | NewError::BadProfile) => Err(Fault::NoDevice),
+    }
+}
+
+/// The parameters that are named, or all.
+#[derive(Drop)]
+struct Chosen {
+    /// Those of the table.
+    kinds: Vec<Kind>,
+    /// Those that the maker adds, in words.
+    own: String,
+}
+
+impl Chosen {
+    /// Those of a fixture. If one is named, it has to be among them.
+    fn of<'a>(
+        alloc: Global,
+        profile: &Profile,
+        name: Option<&'a str>,
+    ) -> Result<Chosen, Fault<'a>> {
+        let kinds = kinds_of(alloc, profile, name)?;
+        let own = own_of(alloc, profile, name)?;
+        match name {
+            Some(name) if kinds.is_empty() && own.is_empty() => Err(Fault::NoParameter(name)),
+            _ => Ok(Chosen { kinds, own }),
+        }
+    }
+
+    /// What is printed of them.
+    fn text(&self, alloc: Global, devices: &Devices) -> Result<String, AllocError> {
+        let mut text = String::new(alloc);
+        for kind in &self.kinds {
+            put_parameter(&mut text, alloc, devices, *kind)?;
+        }
+        text.push_str(self.own.as_str())?;
+        Ok(text)
+    }
 }
 
 /// The parameters of the table that a fixture has: the one of this name, or of this PID in four hexadecimal digits, or all.
@@ -106,20 +134,66 @@ fn put_parameter(
         "root"
     };
     writeln!(text, "{pid:04X} {name}, {place}")?;
-    for (verb, word) in [(Verb::Get, "GET"), (Verb::Set, "SET")] {
-        let Some(data) = data_of(kind, verb) else {
-            continue;
-        };
-        let mut at_root = String::new(alloc);
-        put_data(&mut at_root, devices, ROOT_DEVICE, kind, verb, &data)?;
-        write!(text, "  {word}: {at_root}")?;
-        let mut at_each = String::new(alloc);
-        put_data(&mut at_each, devices, SUB_DEVICE, kind, verb, &data)?;
-        if is_at_each && at_each.as_str() != at_root.as_str() {
-            write!(text, "; at a sub-device {at_each}")?;
-        }
-        put_job(text, devices, pid, verb)?;
-        text.push_str("\n")?;
+    put_command(text, alloc, devices, kind, Verb::Get, is_at_each)?;
+    put_command(text, alloc, devices, kind, Verb::Set, is_at_each)
+}
+
+/// A command on a line, if the parameter has it.
+fn put_command(
+    text: &mut String,
+    alloc: Global,
+    devices: &Devices,
+    kind: Kind,
+    verb: Verb,
+    is_at_each: bool,
+) -> Result<(), AllocError> {
+    let Some(data) = data_of(kind, verb) else {
+        return Ok(());
+    };
+    text.push_str(match verb {
+        Verb::Get => "  GET: ",
+        Verb::Set => "  SET: ",
+    })?;
+    let asked = Asked {
+        devices,
+        kind,
+        verb,
+    };
+    put_places(text, alloc, asked, &data, is_at_each)?;
+    put_job(text, devices, kind.pid(), verb)?;
+    text.push_str("\n")
+}
+
+/// A command of devices.
+#[derive(Clone, Copy)]
+struct Asked<'a> {
+    devices: &'a Devices,
+    kind: Kind,
+    verb: Verb,
+}
+
+impl Asked<'_> {
+    /// The data of the command to one of them, in words.
+    fn data(&self, alloc: Global, sub: u16, data: &Data) -> Result<String, AllocError> {
+        let mut text = String::new(alloc);
+        put_data(&mut text, self.devices, sub, self.kind, self.verb, data)?;
+        Ok(text)
+    }
+}
+
+/// The data of a command to the root, and those to a sub-device, if they are others.
+fn put_places(
+    text: &mut String,
+    alloc: Global,
+    asked: Asked<'_>,
+    data: &Data,
+    is_at_each: bool,
+) -> Result<(), AllocError> {
+    let at_root = asked.data(alloc, ROOT_DEVICE, data)?;
+    text.push_str(at_root.as_str())?;
+    let at_each = asked.data(alloc, SUB_DEVICE, data)?;
+    if is_at_each && at_each.as_str() != at_root.as_str() {
+        write!(text, "; at a sub-device {at_each}")?;
     }
     Ok(())
 }

@@ -35,13 +35,7 @@ pub fn run<'a, H: Host>(rt: H, asked: &ArgMatches<'a>) -> Result<(), Fault<'a>> 
         name: source.name(),
         text: without_mark(bytes.as_slice()),
     };
-    if asked.contains_id(usage::CHART) || asked.get_flag(usage::WORDS) {
-        let lines = setting.lines(rt, script)?;
-        show(rt, asked, lines.as_slice(), &setting.fixture)
-    } else {
-        let mut writer = io::writer(&rt);
-        setting.write_trace(rt, script, &mut writer)
-    }
+    setting.play(rt, asked, script)
 }
 
 /// Draws a trace, and prints it or its words. A chart on standard output stands in the place of the trace.
@@ -52,8 +46,7 @@ fn show<'a, H: Host>(
     fixture: &Fixture,
 ) -> Result<(), Fault<'a>> {
     if let Some(path) = asked.get_str(usage::CHART) {
-        let picture = draw(rt, lines, fixture)?;
-        save(rt, path, picture.as_slice())?;
+        save_chart(rt, path, lines, fixture)?;
         if path == "-" {
             return Ok(());
         }
@@ -64,6 +57,17 @@ fn show<'a, H: Host>(
         text_of(rt.alloc(), lines)?
     };
     print(rt, text.as_slice())
+}
+
+/// Draws a trace into the file of a path.
+fn save_chart<'a, H: Host>(
+    rt: H,
+    path: &'a str,
+    lines: &[Line],
+    fixture: &Fixture,
+) -> Result<(), Fault<'a>> {
+    let picture = draw(rt, lines, fixture)?;
+    save(rt, path, picture.as_slice())
 }
 
 /// A script in words as people spell them.
@@ -97,6 +101,21 @@ impl<'a> Setting<'a> {
             return Err(Fault::ControllersUid(CONTROLLER));
         }
         Ok(Setting { file, fixture })
+    }
+
+    /// Plays a script, and prints what is asked for.
+    fn play<H: Host>(
+        &self,
+        rt: H,
+        asked: &ArgMatches<'a>,
+        script: Script<'_, 'a>,
+    ) -> Result<(), Fault<'a>> {
+        if asked.contains_id(usage::CHART) || asked.get_flag(usage::WORDS) {
+            let lines = self.lines(rt, script)?;
+            return show(rt, asked, lines.as_slice(), &self.fixture);
+        }
+        let mut writer = io::writer(&rt);
+        self.write_trace(rt, script, &mut writer)
     }
 
     /// What the words of a script may be.

@@ -36,16 +36,24 @@ pub fn asked_for<'a, H: Host>(
     asked: &ArgMatches<'a>,
 ) -> Result<Line<LiveFixture>, Fault<'a>> {
     let mut line = Line::new(rt.alloc(), collision(asked));
-    match asked.get_strs(usage::FIXTURE) {
-        Some(names) => {
-            for name in names {
-                let file = FixtureFile::read(rt, Source::named(Some(*name)))?;
-                join_each(rt, asked, Some(&file), &mut line)?;
-            }
-        }
-        None => join_each(rt, asked, None, &mut line)?,
-    }
+    join_all(rt, asked, &mut line)?;
     Ok(line)
+}
+
+/// All fixtures that are asked for join a line.
+fn join_all<'a, H: Host>(
+    rt: H,
+    asked: &ArgMatches<'a>,
+    line: &mut Line<LiveFixture>,
+) -> Result<(), Fault<'a>> {
+    let Some(names) = asked.get_strs(usage::FIXTURE) else {
+        return join_each(rt, asked, None, line);
+    };
+    for name in names {
+        let file = FixtureFile::read(rt, Source::named(Some(*name)))?;
+        join_each(rt, asked, Some(&file), line)?;
+    }
+    Ok(())
 }
 
 /// So many fixtures of this file, or of the demonstration, join a line. Their device IDs are counted up.
@@ -65,13 +73,17 @@ fn join_each<'a, H: Host>(
             Some(uid) => uid,
             None => return Err(Fault::TooFewDeviceIds(fixture.uid, count)),
         };
-        let uid = fixture.uid;
-        match line.join(live(rt, asked, fixture)?) {
-            Ok(()) => {}
-            Err(refused) => return Err(no_rig(refused.error, uid)),
-        }
+        join(line, fixture.uid, live(rt, asked, fixture)?)?;
     }
     Ok(())
+}
+
+/// A fixture, which has this UID, joins a line.
+fn join<'a>(line: &mut Line<LiveFixture>, uid: Uid, live: LiveFixture) -> Result<(), Fault<'a>> {
+    match line.join(live) {
+        Ok(()) => Ok(()),
+        Err(refused) => Err(no_rig(refused.error, uid)),
+    }
 }
 
 /// Why the fixture with this UID can't join the line.

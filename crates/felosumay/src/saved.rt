@@ -57,14 +57,21 @@ fn restore<'a, H: Host>(
         Ok(_) => return Err(Fault::NotSaved(name)),
         Err(error) => return Err(Fault::Io(name, error)),
     }
-    let memory = match FileMemory::read(file) {
-        Ok(memory) => memory,
-        Err(error) => return Err(Fault::Io(name, error)),
-    };
-    let mut images = Images::new(memory, KEY);
-    let mut buffer = vec![in rt.alloc(); 0; AREA_BYTES]?;
-    restore_from(name, &mut images, &mut buffer, live)?;
-    let mut saved = Saved::new(rt, name, images, buffer, live.responder())?;
+    match FileMemory::read(file) {
+        Ok(memory) => restore_in(rt, name, memory, live),
+        Err(error) => Err(Fault::Io(name, error)),
+    }
+}
+
+/// Restores the values of a fixture from the areas of a file, and saves them as they are then.
+fn restore_in<'a, H: Host>(
+    rt: H,
+    name: &'a str,
+    memory: FileMemory<H::File>,
+    live: &mut LiveFixture,
+) -> Result<Saved<'a, H::File>, Fault<'a>> {
+    let mut saved = Saved::new(rt, name, memory, live.responder())?;
+    restore_from(name, &mut saved.images, &mut saved.buffer, live)?;
     saved.save(live.responder())?;
     Ok(saved)
 }
@@ -93,28 +100,34 @@ fn create<'a, H: Host>(
     name: &'a str,
     responder: &Responder,
 ) -> Result<Saved<'a, H::File>, Fault<'a>> {
-    let mut unfinished = String::new(rt.alloc());
-    unfinished.push_str(name)?;
-    unfinished.push_str(".new")?;
+    let unfinished = format!(in rt.alloc(); "{name}.new")?;
+    let memory = new_memory(rt, name, unfinished.as_str())?;
+    let mut saved = Saved::new(rt, name, memory, responder)?;
+    saved.save(responder)?;
+    match fs::rename(&rt, unfinished.as_str(), name) {
+        Ok(()) => Ok(saved),
+        Err(error) => Err(Fault::Io(name, error)),
+    }
+}
+
+/// Makes the file of a path, with two areas. Messages tell of it by another name.
+fn new_memory<'a, H: Host>(
+    rt: H,
+    name: &'a str,
+    path: &str,
+) -> Result<FileMemory<H::File>, Fault<'a>> {
     let made = OpenOptions::new()
         .read(true)
         .write(true)
         .create(true)
         .truncate(true)
-        .open(&rt, unfinished.as_str());
-    let file = match made {
-        Ok(file) => file,
-        Err(error) => return Err(Fault::Io(name, error)),
+        .open(&rt, path);
+    let memory = match made {
+        Ok(file) => FileMemory::create(file),
+        Err(error) => Err(error),
     };
-    let memory = match FileMemory::create(file) {
-        Ok(memory) => memory,
-        Err(error) => return Err(Fault::Io(name, error)),
-    };
-    let buffer = vec![in rt.alloc(); 0; AREA_BYTES]?;
-    let mut saved = Saved::new(rt, name, Images::new(memory, KEY), buffer, responder)?;
-    saved.save(responder)?;
-    match fs::rename(&rt, unfinished.as_str(), name) {
-        Ok(()) => Ok(saved),
+    match memory {
+        Ok(memory) => Ok(memory),
         Err(error) => Err(Fault::Io(name, error)),
     }
 }
@@ -124,15 +137,15 @@ impl<'a, F: Read + Write + Seek + OpenFile + Drop> Saved<'a, F> {
     fn new<H: Host>(
         rt: H,
         name: &'a str,
-        images: Images<FileMemory<F>>,
-        buffer: Vec<u8>,
+        memory: FileMemory<F>,
         responder: &Responder,
     ) -> Result<Saved<'a, F>, Fault<'a>> {
+        let buffer = vec![in rt.alloc(); 0; AREA_BYTES]?;
         let last = vec![in rt.alloc(); 0; responder.saved_len()]?;
         let next = vec![in rt.alloc(); 0; responder.saved_len()]?;
         Ok(Saved {
             name,
-            images,
+            images: Images::new(memory, KEY),
             buffer,
             last,
             next,

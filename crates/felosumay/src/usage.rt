@@ -58,25 +58,38 @@ pub fn matches<'a>(alloc: Global, words: &'a [String]) -> Result<ArgMatches<'a>,
 
 /// The whole command line.
 fn command<'a>(alloc: Global) -> Result<Command<'a>, Error> {
-    Ok(
-        Command::new(alloc, "felosumay")
-            .bin_name("felosumay")?
-            .about("RDM (ANSI E1.20-2010) tools for makers of consoles and fixtures")
-            .version("0.1.0")
-            .subcommand_required(true)
-            .arg_required_else_help(true)
-            .propagate_version(true)
-            .after_help(
-                "Exit status: 0 on success, 1 for invalid input, 2 if out of memory, 3 if a run stops early, 4 if reading or writing fails, 64 for a usage error.",
-            )
-            .subcommand(play(alloc)?)?
-            .subcommand(words(alloc)?)?
-            .subcommand(chart(alloc)?)?
-            .subcommand(fixture(alloc)?)?
-            .subcommand(parameters(alloc)?)?
-            .subcommand(widget(alloc)?)?
-            .subcommand(line(alloc)?)?,
-    )
+    let command = with(program(alloc)?, play(alloc))?;
+    let command = with(command, words(alloc))?;
+    let command = with(command, chart(alloc))?;
+    let command = with(command, fixture(alloc))?;
+    let command = with(command, parameters(alloc))?;
+    let command = with(command, widget(alloc))?;
+    with(command, line(alloc))
+}
+
+/// The program, without its subcommands.
+fn program<'a>(alloc: Global) -> Result<Command<'a>, Error> {
+    let command = Command::new(alloc, "felosumay")
+        .about("RDM (ANSI E1.20-2010) tools for makers of consoles and fixtures")
+        .version("0.1.0")
+        .subcommand_required(true)
+        .arg_required_else_help(true)
+        .propagate_version(true)
+        .after_help(
+            "Exit status: 0 on success, 1 for invalid input, 2 if out of memory, 3 if a run stops early, 4 if reading or writing fails, 64 for a usage error.",
+        );
+    Ok(command.bin_name("felosumay")?)
+}
+
+/// A command with one more subcommand, if that could be made.
+fn with<'a>(
+    command: Command<'a>,
+    subcommand: Result<Command<'a>, Error>,
+) -> Result<Command<'a>, Error> {
+    match subcommand {
+        Ok(subcommand) => Ok(command.subcommand(subcommand)?),
+        Err(error) => Err(error),
+    }
 }
 
 /// `felosumay play`.
@@ -206,15 +219,15 @@ fn line<'a>(alloc: Global) -> Result<Command<'a>, Error> {
 /// What `felosumay line` does.
 fn errands<'a>(alloc: Global, line: Command<'a>) -> Result<Command<'a>, Error> {
     let find = Command::new(alloc, "find").about("Find all devices");
-    let line = line.subcommand(find)?;
-    let line = line.subcommand(line_get(alloc)?)?;
-    let line = line.subcommand(line_set(alloc)?)?;
-    let line = line.subcommand(line_collect(alloc)?)?;
+    let line = with(line, Ok(find))?;
+    let line = with(line, line_get(alloc))?;
+    let line = with(line, line_set(alloc))?;
+    let line = with(line, line_collect(alloc))?;
     let watch = Command::new(alloc, "watch").about(
         "Poll all devices in turn, and print each message as it comes",
     );
-    let line = line.subcommand(watch)?;
-    Ok(line.subcommand(line_play(alloc)?)?)
+    let line = with(line, Ok(watch))?;
+    with(line, line_play(alloc))
 }
 
 /// `felosumay line get`.

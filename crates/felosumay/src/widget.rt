@@ -28,15 +28,26 @@ pub fn run<'a, H: Host>(rt: H, asked: &ArgMatches<'a>) -> Result<(), Fault<'a>> 
 
 /// Serves with the one fixture that is asked for, and keeps its values in a file if that is asked for.
 fn serve_one<'a, H: Host>(rt: H, asked: &ArgMatches<'a>) -> Result<(), Fault<'a>> {
-    let mut live = rig::live(rt, asked, fixture::asked_for(rt, asked)?)?;
-    let saved = match asked.get_str(usage::SAVED) {
-        Some(name) => saved::open(rt, name, &mut live)?,
-        None => return serve_line(rt, asked, &mut live),
-    };
+    let fixture = fixture::asked_for(rt, asked)?;
+    let mut live = rig::live(rt, asked, fixture)?;
+    match asked.get_str(usage::SAVED) {
+        Some(name) => serve_kept(rt, asked, name, &mut live),
+        None => serve_line(rt, asked, &mut live),
+    }
+}
+
+/// Serves with a fixture whose values are kept in the file of this name.
+fn serve_kept<'a, H: Host>(
+    rt: H,
+    asked: &ArgMatches<'a>,
+    name: &'a str,
+    live: &mut LiveFixture,
+) -> Result<(), Fault<'a>> {
+    let mut saved = saved::open(rt, name, live)?;
     let mut clock = clock(&rt, asked)?;
     let mut reader = Watched::new(rt.reader());
     let mut writer = Watched::new(io::writer(&rt));
-    let served = serve_saving(&mut reader, &mut writer, &mut clock, &mut live, saved)?;
+    let served = serve_saving(&mut reader, &mut writer, &mut clock, live, &mut saved)?;
     ended(served, &reader, &writer)
 }
 
@@ -84,7 +95,7 @@ fn serve_saving<'a, R: Read, W: Write, C: Clock, F: Read + Write + Seek + OpenFi
     writer: &mut W,
     clock: &mut C,
     live: &mut LiveFixture,
-    mut saved: Saved<'a, F>,
+    saved: &mut Saved<'a, F>,
 ) -> Result<Result<(), ServeError>, Fault<'a>> {
     let mut held = Packet::new();
     for _turn in 0..u64::MAX {

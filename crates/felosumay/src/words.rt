@@ -18,6 +18,11 @@ pub fn run<'a, H: Host>(rt: H, asked: &ArgMatches<'a>) -> Result<(), Fault<'a>> 
     refuse_clashes(asked)?;
     let fixture = fixture::asked_for(rt, asked)?;
     let source = Source::named(asked.get_str(usage::INPUT));
+    print_words(rt, source, &fixture)
+}
+
+/// Prints the words of a trace that is read.
+fn print_words<'a, H: Host>(rt: H, source: Source<'a>, fixture: &Fixture) -> Result<(), Fault<'a>> {
     let trace = source.read(rt, MOST_BYTES)?;
     let known = Known::of(fixture.uid, &fixture.profile);
     let words = words(rt.alloc(), without_mark(trace.as_slice()), &known)?;

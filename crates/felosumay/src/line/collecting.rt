@@ -30,6 +30,17 @@ pub enum Fetched {
     Silent,
 }
 
+/// What comes of one poll.
+#[derive(Clone, Copy)]
+enum Polled {
+    /// This.
+    Fetched(Fetched),
+    /// A part of a message, whose rest is to be fetched.
+    Part,
+    /// Nothing that answers it.
+    Nothing,
+}
+
 impl<'a, H: Host, P: Port, F: Write> Console<'a, H, P, F> {
     /// Fetches all messages that wait in a device, and tells each.
     pub fn collect(&mut self, uid: Uid) -> Result<(), Fault<'a>> {
@@ -58,19 +69,10 @@ impl<'a, H: Host, P: Port, F: Write> Console<'a, H, P, F> {
     pub fn fetch(&mut self, mailbox: &mut Mailbox) -> Result<Fetched, Fault<'a>> {
         let mut silent: u8 = 0;
         for _turn in 0..MOST_PARTS {
-            let request = mailbox.poll()?;
-            let heard = self.port.exchange(&request)?;
-            match mailbox.hear(&heard) {
-                DeviceHeard::Message | DeviceHeard::Part => {
-                    silent = 0;
-                    if let Some(fetched) = self.tell_sorted(mailbox, &heard)? {
-                        return Ok(fetched);
-                    }
-                }
-                DeviceHeard::Unsupported => return Ok(Fetched::NoQueue),
-                DeviceHeard::Refused { reason } => return Ok(Fetched::Refused(reason)),
-                DeviceHeard::NotYet { tenths } => return Ok(Fetched::NotYet(tenths)),
-                DeviceHeard::Reply | DeviceHeard::Ignored => {
+            match self.poll(mailbox)? {
+                Polled::Fetched(fetched) => return Ok(fetched),
+                Polled::Part => silent = 0,
+                Polled::Nothing => {
                     silent = silent.saturating_add(1);
                     if silent >= TRIES {
                         return Ok(Fetched::Silent);
@@ -81,25 +83,39 @@ impl<'a, H: Host, P: Port, F: Write> Console<'a, H, P, F> {
         Err(Fault::Line(LineFault::Endless(mailbox.uid())))
     }
 
+    /// Polls a device once, and tells what is fetched.
+    fn poll(&mut self, mailbox: &mut Mailbox) -> Result<Polled, Fault<'a>> {
+        let request = mailbox.poll()?;
+        let heard = self.port.exchange(&request)?;
+        match mailbox.hear(&heard) {
+            DeviceHeard::Message | DeviceHeard::Part => self.tell_sorted(mailbox, &heard),
+            DeviceHeard::Unsupported => Ok(Polled::Fetched(Fetched::NoQueue)),
+            DeviceHeard::Refused { reason } => Ok(Polled::Fetched(Fetched::Refused(reason))),
+            DeviceHeard::NotYet { tenths } => Ok(Polled::Fetched(Fetched::NotYet(tenths))),
+            DeviceHeard::Reply | DeviceHeard::Ignored => Ok(Polled::Nothing),
+        }
+    }
+
     /// Tells what was fetched, unless it was told before. Of a message in parts it is nothing until the last one is there.
     fn tell_sorted(
         &mut self,
         mailbox: &mut Mailbox,
         heard: &Option<Wire>,
-    ) -> Result<Option<Fetched>, Fault<'a>> {
-        let fetched = match mailbox.sort()? {
-            Sorted::Nothing => return Ok(Some(Fetched::Nothing)),
-            Sorted::Repeat => return Ok(Some(Fetched::Repeat)),
-            Sorted::Letter => Some(Fetched::Message),
-            Sorted::Part => None,
+    ) -> Result<Polled, Fault<'a>> {
+        let is_whole = match mailbox.sort()? {
+            Sorted::Nothing => return Ok(Polled::Fetched(Fetched::Nothing)),
+            Sorted::Repeat => return Ok(Polled::Fetched(Fetched::Repeat)),
+            Sorted::Letter => true,
+            Sorted::Part => false,
         };
         if let Some(reply) = heard {
             self.teller.tell_reply(reply)?;
         }
-        if fetched.is_some() {
-            self.tell_more(mailbox)?;
+        if !is_whole {
+            return Ok(Polled::Part);
         }
-        Ok(fetched)
+        self.tell_more(mailbox)?;
+        Ok(Polled::Fetched(Fetched::Message))
     }
 
     /// Tells of the message that came last what its reply doesn't say.

@@ -28,16 +28,25 @@ impl<'a, H: Host, P: Port, F: Write> Console<'a, H, P, F> {
     /// What a device answers to a command. If it doesn't, it is asked again.
     pub fn answer(&mut self, mailbox: &mut Mailbox, command: &Command) -> Result<Wire, Fault<'a>> {
         for _turn in 0..TRIES {
-            let request = mailbox.ask(command)?;
-            let heard = self.port.exchange(&request)?;
-            let taken = mailbox.hear(&heard);
-            if let Some(reply) = heard {
-                if taken == DeviceHeard::Reply {
-                    return Ok(reply);
-                }
+            if let Some(reply) = self.reply(mailbox, command)? {
+                return Ok(reply);
             }
         }
         Err(Fault::Line(LineFault::Silent(mailbox.uid())))
+    }
+
+    /// The reply of a device to a command that is sent once.
+    fn reply(
+        &mut self,
+        mailbox: &mut Mailbox,
+        command: &Command,
+    ) -> Result<Option<Wire>, Fault<'a>> {
+        let request = mailbox.ask(command)?;
+        let heard = self.port.exchange(&request)?;
+        match mailbox.hear(&heard) {
+            DeviceHeard::Reply => Ok(heard),
+            _ => Ok(None),
+        }
     }
 
     /// How a device answers a command. The answer is told, and all its parts, if it comes in parts (E1.20 section 6.3.2): they are
@@ -48,15 +57,19 @@ impl<'a, H: Host, P: Port, F: Write> Console<'a, H, P, F> {
         command: &Command,
     ) -> Result<Response, Fault<'a>> {
         let mut joined = Vec::new(self.teller.rt().alloc());
+        self.told_parts(mailbox, command, &mut joined)
+    }
+
+    /// The same, with the data of all parts in a list that was empty.
+    fn told_parts(
+        &mut self,
+        mailbox: &mut Mailbox,
+        command: &Command,
+        joined: &mut Vec<u8>,
+    ) -> Result<Response, Fault<'a>> {
         for _turn in 0..MOST_PARTS {
-            let reply = self.answer(mailbox, command)?;
-            self.teller.tell_reply(&reply)?;
-            let Some(said) = read_reply(reply.as_slice()) else {
-                return Err(Fault::Line(LineFault::Unknown(mailbox.uid())));
-            };
             let is_first = joined.is_empty();
-            joined.extend_from_slice(said.body)?;
-            match said.response {
+            match self.told_part(mailbox, command, joined)? {
                 Response::AckOverflow => {}
                 response => {
                     if !is_first && response == Response::Ack {
@@ -67,5 +80,21 @@ impl<'a, H: Host, P: Port, F: Write> Console<'a, H, P, F> {
             }
         }
         Err(Fault::Line(LineFault::Endless(mailbox.uid())))
+    }
+
+    /// How a device answers a command. The answer is told, and its data are put at the end of a list.
+    fn told_part(
+        &mut self,
+        mailbox: &mut Mailbox,
+        command: &Command,
+        joined: &mut Vec<u8>,
+    ) -> Result<Response, Fault<'a>> {
+        let reply = self.answer(mailbox, command)?;
+        self.teller.tell_reply(&reply)?;
+        let Some(said) = read_reply(reply.as_slice()) else {
+            return Err(Fault::Line(LineFault::Unknown(mailbox.uid())));
+        };
+        joined.extend_from_slice(said.body)?;
+        Ok(said.response)
     }
 }

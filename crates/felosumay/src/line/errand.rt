@@ -49,15 +49,15 @@ impl Errand {
 
     /// Does it.
     pub fn run<'a, H: Host, P: Port, F: Write>(
-        self,
+        &self,
         console: &mut Console<'a, H, P, F>,
     ) -> Result<(), Fault<'a>> {
         match self {
             Errand::Find => console.find(),
-            Errand::Ask(command) => console.ask(&command),
-            Errand::Collect(uid) => console.collect(uid),
+            Errand::Ask(command) => console.ask(command),
+            Errand::Collect(uid) => console.collect(*uid),
             Errand::Watch => console.watch(),
-            Errand::Play(play) => console.play(&play),
+            Errand::Play(play) => console.play(play),
         }
     }
 }
@@ -100,16 +100,24 @@ fn command<'a, H: Host>(rt: H, verb: &str, asked: &ArgMatches<'a>) -> Result<Err
     let data = asked.get_str(usage::DATA).unwrap_or("-");
     let text = format!(in rt.alloc(); "{verb} {uid} {sub} {parameter} {data}")?;
     let command = command_in(rt, uid, text.as_bytes())?;
-    if command.action == Action::Get && uid.is_broadcast() {
-        return Err(Fault::Line(LineFault::Several(uid)));
+    match refusal(&command) {
+        Some(fault) => Err(Fault::Line(fault)),
+        None => Ok(Errand::Ask(command)),
+    }
+}
+
+/// Why a command isn't sent.
+fn refusal<'a>(command: &Command) -> Option<LineFault<'a>> {
+    if command.action == Action::Get && command.dst.is_broadcast() {
+        return Some(LineFault::Several(command.dst));
     }
     if is_reserved(command.pid) {
-        return Err(Fault::Line(LineFault::Reserved));
+        return Some(LineFault::Reserved);
     }
     if command.load.as_slice().len() > MOST_DATA {
-        return Err(Fault::Line(LineFault::TooLong));
+        return Some(LineFault::TooLong);
     }
-    Ok(Errand::Ask(command))
+    None
 }
 
 /// The one command that a line of a script says.

@@ -7,6 +7,7 @@ use rdm_frame::digits::put_digits;
 use rdm_frame::{Uid, Wire};
 use rdm_trace::Line;
 use rdm_words::{Known, put_line_words};
+use std::alloc::AllocError;
 use std::time::Duration;
 use std::{str, thread};
 
@@ -81,9 +82,7 @@ impl<H: Speaker> Teller<H> {
         let length = joined.len();
         let text = format!(in alloc; "  the data of all parts, {length} slots: ")?;
         let mut line = Vec::new(alloc);
-        line.extend_from_slice(text.as_bytes())?;
-        put_digits(&mut line, joined)?;
-        line.extend_from_slice(b"\n")?;
+        put_joined(&mut line, text.as_bytes(), joined)?;
         self.tell(line.as_slice())
     }
 }
@@ -105,6 +104,13 @@ impl<H: Host> Teller<H> {
         }
         let _ = eprint!(rt; "\r\u{1b}[K");
     }
+}
+
+/// Puts a text and data in hexadecimal digits at the end of a list, as one line.
+fn put_joined(line: &mut Vec<u8>, text: &[u8], joined: &[u8]) -> Result<(), AllocError> {
+    line.extend_from_slice(text)?;
+    put_digits(line, joined)?;
+    line.extend_from_slice(b"\n")
 }
 
 /// Writes a text to standard error.
