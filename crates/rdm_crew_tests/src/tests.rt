@@ -77,18 +77,26 @@ struct Row {
 
 #[test]
 fn runs_end_with_these_traces(rt: HostRuntime) -> Result<(), Fail> {
-    for (row, told) in TRACES {
-        let trace = run_of(rt, rt.alloc(), &row)??;
-        tells(&rt, rt.alloc(), &row, &trace, told)?;
+    for (row, told) in &TRACES {
+        ends_with(rt, rt.alloc(), row, *told)?;
     }
     Ok(())
 }
 
+/// A run ends with a trace that tells this.
+fn ends_with<R>(rt: R, alloc: Global, row: &Row, told: Told) -> Result<(), Fail>
+where
+    R: Threads + Wait + Abort + Copy + Send + 'static,
+{
+    let trace = run_of(rt, alloc, row)??;
+    tells(&rt, alloc, row, &trace, told)
+}
+
 #[test]
 fn runs_end_with_these_refusals(rt: HostRuntime) -> Result<(), Fail> {
-    for (row, refusal) in REFUSALS {
-        let ended = run_of(rt, rt.alloc(), &row)?;
-        assert_eq!(rt; ended.err(), Some(refusal), "{}", row.name);
+    for (row, refusal) in &REFUSALS {
+        let ended = run_of(rt, rt.alloc(), row)?;
+        assert_eq!(rt; ended.err(), Some(*refusal), "{}", row.name);
     }
     Ok(())
 }
@@ -97,8 +105,7 @@ fn runs_end_with_these_refusals(rt: HostRuntime) -> Result<(), Fail> {
 fn a_thousand_runs_come_to_an_end(rt: HostRuntime) -> Result<(), Fail> {
     let row = THREE_COMMANDS;
     for _ in 0..1_000 {
-        let trace = run_of(rt, rt.alloc(), &row)??;
-        tells(&rt, rt.alloc(), &row, &trace, THREE_REPORTS)?;
+        ends_with(rt, rt.alloc(), &row, THREE_REPORTS)?;
     }
     Ok(())
 }
@@ -183,12 +190,24 @@ fn command(action: Action, pid: u16, data: &[u8]) -> Result<Command, Fail> {
 fn tells(rt: &impl Abort, alloc: Global, row: &Row, trace: &Trace, told: Told) -> Result<(), Fail> {
     let name = row.name;
     assert_eq!(rt; trace.events().len(), told.events, "{name}");
-    let first = arrived(alloc, trace, &row.workers, 0)?;
-    assert_eq!(rt; first.as_slice(), told.first, "{name}");
-    let second = arrived(alloc, trace, &row.workers, 1)?;
-    assert_eq!(rt; second.as_slice(), told.second, "{name}");
+    are_reported(rt, alloc, row, trace, 0, told.first)?;
+    are_reported(rt, alloc, row, trace, 1, told.second)?;
     were_handed_over(rt, trace, told);
     are_collected(rt, trace, told.collected);
+    Ok(())
+}
+
+/// A worker has reported this.
+fn are_reported(
+    rt: &impl Abort,
+    alloc: Global,
+    row: &Row,
+    trace: &Trace,
+    worker: u8,
+    told: &[(u32, Outcome)],
+) -> Result<(), AllocError> {
+    let reports = arrived(alloc, trace, &row.workers, worker)?;
+    assert_eq!(rt; reports.as_slice(), told, "{}", row.name);
     Ok(())
 }
 

@@ -100,21 +100,20 @@ fn plays(rt: &impl Abort, devices: &mut Devices, steps: &[Step<'_>]) {
     }
 }
 
-const RUNS: [&[Run]; 5] = [
-    &devices::RUNS,
-    &rows::RUNS,
-    &scalars::RUNS,
-    &slow::RUNS,
-    &thresholds::RUNS,
-];
-
 #[test]
 fn commands_are_answered_as_expected(rt: HostRuntime) {
-    for runs in RUNS {
-        for (subs, steps) in runs {
-            let mut devices = demo(&rt, rt.alloc(), *subs);
-            assert_eq!(rt; devices.sub_devices(), usize::from(*subs));
-            plays(&rt, &mut devices, steps);
-        }
+    play_all(&rt, rt.alloc(), &devices::RUNS);
+    play_all(&rt, rt.alloc(), &rows::RUNS);
+    play_all(&rt, rt.alloc(), &scalars::RUNS);
+    play_all(&rt, rt.alloc(), &slow::RUNS);
+    play_all(&rt, rt.alloc(), &thresholds::RUNS);
+}
+
+/// Each run is of devices of its own.
+fn play_all(rt: &impl Abort, alloc: Global, runs: &[Run]) {
+    for (subs, steps) in runs {
+        let mut devices = demo(rt, alloc, *subs);
+        assert_eq!(rt; devices.sub_devices(), usize::from(*subs));
+        plays(rt, &mut devices, steps);
     }
 }

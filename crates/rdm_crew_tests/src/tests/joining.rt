@@ -7,9 +7,10 @@ use super::{Act, Row, setup_of, steps_of};
 use rdm_bus::Action;
 use rdm_crew::{RunError, run};
 use std::alloc::Global;
-use std::sync::Arc;
 use std::sync::atomic::{AtomicU32, Ordering};
+use std::sync::{Arc, Wait};
 use std::test::Fail;
+use std::thread::Threads;
 
 const SELFTEST: Act = Act::Ask(Action::Set, 0x1020, &[1]);
 
@@ -80,17 +81,30 @@ const REFUSED: [(Row, Option<RunError>, u32); 6] = [
 
 #[test]
 fn jobs_are_done_once_and_threads_are_joined(rt: HostRuntime) -> Result<(), Fail> {
-    for (row, refusal, jobs) in REFUSED {
+    for (row, refusal, jobs) in &REFUSED {
         let count: Arc<AtomicU32, Global> = Arc::new(rt.alloc(), AtomicU32::new(0))?;
-        let steps = steps_of(rt.alloc(), row.acts)?;
-        let first = Hand::Counts(Arc::try_clone(&count)?);
-        let second = Hand::Counts(Arc::try_clone(&count)?);
-        let panel = Menu { changes: 1 };
-        let ended = run(rt, rt.alloc(), setup_of(&row), &steps, first, second, panel);
-        assert_eq!(rt; ended.err(), refusal, "{jobs}");
-        assert_eq!(rt; count.load(Ordering::SeqCst), jobs);
+        let ended = refusal_of(rt, rt.alloc(), row, &count)?;
+        assert_eq!(rt; ended, *refusal, "{jobs}");
+        assert_eq!(rt; count.load(Ordering::SeqCst), *jobs);
         // Both parts are gone.
         assert_eq!(rt; Arc::strong_count(&count), 1, "{jobs}");
     }
     Ok(())
+}
+
+/// How a run is refused, if it is. Both parts count their jobs.
+fn refusal_of<R>(
+    rt: R,
+    alloc: Global,
+    row: &Row,
+    count: &Arc<AtomicU32, Global>,
+) -> Result<Option<RunError>, Fail>
+where
+    R: Threads + Wait + Copy + Send + 'static,
+{
+    let first = Hand::Counts(Arc::try_clone(count)?);
+    let second = Hand::Counts(Arc::try_clone(count)?);
+    let steps = steps_of(alloc, row.acts)?;
+    let panel = Menu { changes: 1 };
+    Ok(run(rt, alloc, setup_of(row), &steps, first, second, panel).err())
 }

@@ -7,11 +7,13 @@ ghost use Rattle.rdm_crew.specs.RunTrace.{HaveFaults};
 use super::hand::hands;
 use super::{CONTROLLER, DEVICE};
 use rdm_bus::{Event, Fault, Want};
-use rdm_crew::{CrewStep, Panel, Setup, Trace, run};
+use rdm_crew::{CrewStep, Panel, RunError, Setup, Trace, run};
 use rdm_params::{Change, Profile};
 use std::alloc::{AllocError, Global};
 use std::process::Abort;
+use std::sync::Wait;
 use std::test::Fail;
+use std::thread::Threads;
 
 /// So many empty turns are enough for every change.
 const PATIENCE: u32 = 100_000_000;
@@ -43,7 +45,9 @@ fn change_of(number: u32) -> Change
 
 /// A run in which so many changes are offered: the room in the queue, how often one is played and then polled for, how often one
 /// is played alone, and how many happen.
-const ROWS: [(u32, u16, u32, u32, u32); 6] = [
+type Row = (u32, u16, u32, u32, u32);
+
+const ROWS: [Row; 6] = [
     // Nobody changes anything.
     (0, 8, 0, 2, 0),
     // As many changes as may be offered, and one more, at which the panel's lane is closed.
@@ -58,27 +62,29 @@ const ROWS: [(u32, u16, u32, u32, u32); 6] = [
 
 #[test]
 fn changes_happen_in_order(rt: HostRuntime) -> Result<(), Fail> {
-    for (changes, queue_size, polled, alone, happen) in ROWS {
-        let steps = steps_of(rt.alloc(), polled, alone)?;
-        let (first, second) = hands(rt.alloc(), None)?;
-        let setup = setup_with(queue_size);
-        let trace = run(
-            rt,
-            rt.alloc(),
-            setup,
-            &steps,
-            first,
-            second,
-            Menu { changes },
-        )?;
+    for row in &ROWS {
+        let (changes, _, polled, _, happen) = *row;
+        let trace = run_of(rt, rt.alloc(), *row)??;
         assert_eq!(rt; happened(&rt, &trace), happen, "{changes}");
         assert_eq!(rt;
             trace.events().len(),
-            (happen + polled) as usize,
+            happen.saturating_add(polled) as usize,
             "{changes}"
         );
     }
     Ok(())
+}
+
+/// The run of a row.
+fn run_of<R>(rt: R, alloc: Global, row: Row) -> Result<Result<Trace, RunError>, Fail>
+where
+    R: Threads + Wait + Copy + Send + 'static,
+{
+    let (changes, queue_size, polled, alone, _) = row;
+    let steps = steps_of(alloc, polled, alone)?;
+    let (first, second) = hands(alloc, None)?;
+    let (setup, menu) = (setup_with(queue_size), Menu { changes });
+    Ok(run(rt, alloc, setup, &steps, first, second, menu))
 }
 
 /// A device of the demo fixture with so much room.

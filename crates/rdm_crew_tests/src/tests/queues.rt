@@ -7,10 +7,12 @@ use super::hand::hands;
 use super::menu::Menu;
 use super::{CONTROLLER, DEVICE, arrived, command};
 use rdm_bus::{Action, Fault, Want};
-use rdm_crew::{CrewStep, Setup, run};
+use rdm_crew::{CrewStep, RunError, Setup, Trace, run};
 use rdm_params::{Outcome, Profile, Workers};
 use std::alloc::Global;
+use std::sync::Wait;
 use std::test::Fail;
+use std::thread::Threads;
 
 const LAMP_STATE: u16 = 0x0403;
 
@@ -34,7 +36,21 @@ fn steps_of(alloc: Global) -> Result<Vec<CrewStep>, Fail>
 
 #[test]
 fn a_thousand_jobs_are_outstanding(rt: HostRuntime) -> Result<(), Fail> {
-    let steps = steps_of(rt.alloc())?;
+    let trace = longest_run(rt, rt.alloc())??;
+    assert_eq!(rt; trace.events().len(), 2 * usize::from(LONGEST));
+    let reports = arrived(rt.alloc(), &trace, &Workers::usual(), 0)?;
+    assert_eq!(rt; reports.len(), usize::from(LONGEST));
+    assert_eq!(rt; reports.last(), Some(&(1_023, Outcome::Done)));
+    Ok(())
+}
+
+/// The run of those steps. Nobody is at the fixture's menu.
+fn longest_run<R>(rt: R, alloc: Global) -> Result<Result<Trace, RunError>, Fail>
+where
+    R: Threads + Wait + Copy + Send + 'static,
+{
+    let steps = steps_of(alloc)?;
+    let (first, second) = hands(alloc, None)?;
     let setup = Setup {
         device: DEVICE,
         controller: CONTROLLER,
@@ -42,19 +58,6 @@ fn a_thousand_jobs_are_outstanding(rt: HostRuntime) -> Result<(), Fail> {
         profile: Profile::demo(0),
         queue_size: LONGEST,
     };
-    let (first, second) = hands(rt.alloc(), None)?;
-    let trace = run(
-        rt,
-        rt.alloc(),
-        setup,
-        &steps,
-        first,
-        second,
-        Menu { changes: 0 },
-    )?;
-    assert_eq!(rt; trace.events().len(), 2 * usize::from(LONGEST));
-    let reports = arrived(rt.alloc(), &trace, &Workers::usual(), 0)?;
-    assert_eq!(rt; reports.len(), usize::from(LONGEST));
-    assert_eq!(rt; reports.last(), Some(&(1_023, Outcome::Done)));
-    Ok(())
+    let menu = Menu { changes: 0 };
+    Ok(run(rt, alloc, setup, &steps, first, second, menu))
 }

@@ -89,9 +89,19 @@ fn profile_with(rt: &impl Abort, subs: u16, change: Altered) -> Profile {
 
 #[test]
 fn profiles_that_break_a_rule_are_refused(rt: HostRuntime) {
-    for (subs, change, expected) in PROFILES {
-        let profile = profile_with(&rt, subs, change);
-        let refusal = Devices::new(rt.alloc(), profile).err();
-        assert_eq!(rt; refusal, expected, "{subs} {change:?}");
+    for (subs, change, expected) in &PROFILES {
+        is_refused(&rt, rt.alloc(), *subs, *change, *expected);
     }
+}
+
+/// A profile is refused for this reason, if it is.
+fn is_refused(
+    rt: &impl Abort,
+    alloc: Global,
+    subs: u16,
+    change: Altered,
+    expected: Option<NewError>,
+) {
+    let refusal = Devices::new(alloc, profile_with(rt, subs, change)).err();
+    assert_eq!(rt; refusal, expected, "{subs} {change:?}");
 }

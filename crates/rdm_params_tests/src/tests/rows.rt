@@ -84,25 +84,34 @@ const ONE_CLASS: [Step<'static>; 2] = [
 #[test]
 fn rows_that_are_only_read(rt: HostRuntime) {
     let mut devices = demo(&rt, rt.alloc(), 1);
-    let class = Refuse(UnsupportedCommandClass);
-    for pid in READ {
-        let refused: [Step<'_>; 3] = [
-            (Set, 0, pid, &[], class),
-            (Get, 0, pid, &[0], Refuse(FormatError)),
-            (Set, 0xFFFF, pid, &[], class),
-        ];
-        plays(&rt, &mut devices, &refused);
+    for pid in &READ {
+        is_only_read(&rt, &mut devices, *pid);
     }
-    for pid in READ_AT_ROOT {
-        let refused: [Step<'_>; 4] = [
-            (Set, 0, pid, &[], class),
-            (Get, 0, pid, &[0, 0, 0], Refuse(FormatError)),
-            (Get, 1, pid, &[], Refuse(UnknownPid)),
-            (Set, 0xFFFF, pid, &[], Refuse(UnknownPid)),
-        ];
-        plays(&rt, &mut devices, &refused);
+    for pid in &READ_AT_ROOT {
+        is_only_read_at_root(&rt, &mut devices, *pid);
     }
     plays(&rt, &mut devices, &ONE_CLASS);
+}
+
+/// A parameter of every device has no SET, and its GET no data.
+fn is_only_read(rt: &impl Abort, devices: &mut Devices, pid: u16) {
+    let refused: [Step<'_>; 3] = [
+        (Set, 0, pid, &[], Refuse(UnsupportedCommandClass)),
+        (Get, 0, pid, &[0], Refuse(FormatError)),
+        (Set, 0xFFFF, pid, &[], Refuse(UnsupportedCommandClass)),
+    ];
+    plays(rt, devices, &refused);
+}
+
+/// A parameter of the root alone has no SET, and its GET no three bytes of data.
+fn is_only_read_at_root(rt: &impl Abort, devices: &mut Devices, pid: u16) {
+    let refused: [Step<'_>; 4] = [
+        (Set, 0, pid, &[], Refuse(UnsupportedCommandClass)),
+        (Get, 0, pid, &[0, 0, 0], Refuse(FormatError)),
+        (Get, 1, pid, &[], Refuse(UnknownPid)),
+        (Set, 0xFFFF, pid, &[], Refuse(UnknownPid)),
+    ];
+    plays(rt, devices, &refused);
 }
 
 const LONGEST: [u8; 32] = [0x41; 32];
@@ -236,15 +245,20 @@ const KEPT: [Step<'static>; 9] = [
 #[test]
 fn factory_defaults_are_ten_values(rt: HostRuntime) {
     let mut devices = demo(&rt, rt.alloc(), 0);
-    for (pid, other, first) in SET_BACK {
-        let steps: [Step<'_>; 5] = [
-            (Get, 0, 0x0090, &[], Reply(&[1])),
-            (Set, 0, pid, other, Reply(&[])),
-            (Get, 0, 0x0090, &[], Reply(&[0])),
-            (Set, 0, 0x0090, &[], Reply(&[])),
-            (Get, 0, pid, &[], Reply(first)),
-        ];
-        plays(&rt, &mut devices, &steps);
+    for (pid, other, first) in &SET_BACK {
+        is_set_back(&rt, &mut devices, *pid, other, first);
     }
     plays(&rt, &mut devices, &KEPT);
+}
+
+/// A parameter is set to another value, and set back to its first one.
+fn is_set_back(rt: &impl Abort, devices: &mut Devices, pid: u16, other: &[u8], first: &[u8]) {
+    let steps: [Step<'_>; 5] = [
+        (Get, 0, 0x0090, &[], Reply(&[1])),
+        (Set, 0, pid, other, Reply(&[])),
+        (Get, 0, 0x0090, &[], Reply(&[0])),
+        (Set, 0, 0x0090, &[], Reply(&[])),
+        (Get, 0, pid, &[], Reply(first)),
+    ];
+    plays(rt, devices, &steps);
 }

@@ -30,19 +30,27 @@ const SHOWN: [Step<'static>; 19] = [
 #[test]
 fn every_row_shows_its_first_value(rt: HostRuntime) {
     let mut devices = demo(&rt, rt.alloc(), 0);
-    plays(&rt, &mut devices, &SHOWN);
-    for (_, _, pid, _, _) in SHOWN {
-        let refused: [Step<'_>; 3] = [
-            (Get, 0, pid, &[0], Refuse(FormatError)),
-            (Get, 1, pid, &[], Refuse(SubDeviceOutOfRange)),
-            (Get, 0xFFFF, pid, &[], Refuse(SubDeviceOutOfRange)),
-        ];
-        plays(&rt, &mut devices, &refused);
+    let shown = &SHOWN;
+    plays(&rt, &mut devices, shown);
+    for (_, _, pid, _, _) in shown {
+        is_shown_without_data(&rt, &mut devices, *pid);
     }
 }
 
-/// Each row that takes a value: the least and the greatest.
-const ENDS: [(u16, &[u8], &[u8]); 15] = [
+/// A GET of a row has no data, and there are no sub-devices.
+fn is_shown_without_data(rt: &impl Abort, devices: &mut Devices, pid: u16) {
+    let refused: [Step<'_>; 3] = [
+        (Get, 0, pid, &[0], Refuse(FormatError)),
+        (Get, 1, pid, &[], Refuse(SubDeviceOutOfRange)),
+        (Get, 0xFFFF, pid, &[], Refuse(SubDeviceOutOfRange)),
+    ];
+    plays(rt, devices, &refused);
+}
+
+/// A row that takes a value: the least and the greatest.
+type Ends = (u16, &'static [u8], &'static [u8]);
+
+const ENDS: [Ends; 15] = [
     (0x0033, &[0], &[4]),
     (0x00B0, b"en", b"de"),
     (0x00F0, &[0, 1], &[2, 0]),
@@ -63,21 +71,27 @@ const ENDS: [(u16, &[u8], &[u8]); 15] = [
 #[test]
 fn every_row_takes_the_ends_of_its_range(rt: HostRuntime) {
     let mut devices = demo(&rt, rt.alloc(), 0);
-    for (pid, least, greatest) in ENDS {
-        let steps: [Step<'_>; 6] = [
-            (Set, 0, pid, least, Reply(&[])),
-            (Get, 0, pid, &[], Reply(least)),
-            (Set, 0, pid, greatest, Reply(&[])),
-            (Get, 0, pid, &[], Reply(greatest)),
-            (Set, 1, pid, greatest, Refuse(SubDeviceOutOfRange)),
-            (Set, 0xFFFF, pid, greatest, Refuse(SubDeviceOutOfRange)),
-        ];
-        plays(&rt, &mut devices, &steps);
+    let ends = &ENDS;
+    for row in ends {
+        takes_ends(&rt, &mut devices, *row);
     }
     // No SET changed what another row shows.
-    for (pid, _, greatest) in ENDS {
-        plays(&rt, &mut devices, &[(Get, 0, pid, &[], Reply(greatest))]);
+    for (pid, _, greatest) in ends {
+        plays(&rt, &mut devices, &[(Get, 0, *pid, &[], Reply(greatest))]);
     }
+}
+
+/// A row takes the ends of its range.
+fn takes_ends(rt: &impl Abort, devices: &mut Devices, (pid, least, greatest): Ends) {
+    let steps: [Step<'_>; 6] = [
+        (Set, 0, pid, least, Reply(&[])),
+        (Get, 0, pid, &[], Reply(least)),
+        (Set, 0, pid, greatest, Reply(&[])),
+        (Get, 0, pid, &[], Reply(greatest)),
+        (Set, 1, pid, greatest, Refuse(SubDeviceOutOfRange)),
+        (Set, 0xFFFF, pid, greatest, Refuse(SubDeviceOutOfRange)),
+    ];
+    plays(rt, devices, &steps);
 }
 
 /// SETs of values that are past the range of a row.
@@ -115,20 +129,26 @@ const ANOTHER_LENGTH: [Step<'static>; 3] = [
 #[test]
 fn every_row_refuses_another_length(rt: HostRuntime) {
     let mut devices = demo(&rt, rt.alloc(), 0);
-    for (_, _, pid, _, _) in SHOWN {
-        let reason = if pid == 0x00C1 {
-            UnsupportedCommandClass
-        } else {
-            FormatError
-        };
-        let refused: [Step<'_>; 2] = [
-            (Set, 0, pid, &[], Refuse(reason)),
-            (Set, 0, pid, &[0xEE, 0xEE, 0xEE, 0xEE, 0xEE], Refuse(reason)),
-        ];
-        plays(&rt, &mut devices, &refused);
+    let shown = &SHOWN;
+    for (_, _, pid, _, _) in shown {
+        has_length(&rt, &mut devices, *pid);
     }
     plays(&rt, &mut devices, &ANOTHER_LENGTH);
-    plays(&rt, &mut devices, &SHOWN);
+    plays(&rt, &mut devices, shown);
+}
+
+/// A row takes neither no data nor five bytes.
+fn has_length(rt: &impl Abort, devices: &mut Devices, pid: u16) {
+    let reason = if pid == 0x00C1 {
+        UnsupportedCommandClass
+    } else {
+        FormatError
+    };
+    let refused: [Step<'_>; 2] = [
+        (Set, 0, pid, &[], Refuse(reason)),
+        (Set, 0, pid, &[0xEE, 0xEE, 0xEE, 0xEE, 0xEE], Refuse(reason)),
+    ];
+    plays(rt, devices, &refused);
 }
 
 /// Parameters that aren't in the table.
@@ -152,11 +172,15 @@ const STARTED: [Step<'static>; 8] = [
 
 #[test]
 fn neither_refusals_nor_slow_commands_change_a_row(rt: HostRuntime) {
-    for steps in [PAST.as_slice(), &STARTED] {
-        let mut devices = demo(&rt, rt.alloc(), 0);
-        plays(&rt, &mut devices, steps);
-        plays(&rt, &mut devices, &SHOWN);
-    }
+    changes_nothing(&rt, rt.alloc(), &PAST);
+    changes_nothing(&rt, rt.alloc(), &STARTED);
+}
+
+/// After these steps each row shows its first value.
+fn changes_nothing(rt: &impl Abort, alloc: Global, steps: &[Step<'_>]) {
+    let mut devices = demo(rt, alloc, 0);
+    plays(rt, &mut devices, steps);
+    plays(rt, &mut devices, &SHOWN);
 }
 
 /// Without slots there is no start address.

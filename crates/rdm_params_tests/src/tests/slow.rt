@@ -46,20 +46,26 @@ const ANOTHER: [Step<'static>; 2] = [
 #[test]
 fn a_slow_set_changes_its_device_when_it_is_done(rt: HostRuntime) {
     let mut devices = demo(&rt, rt.alloc(), 2);
-    for (pid, sub, arg, before, after) in SETS {
+    for (pid, sub, arg, before, after) in &SETS {
         let work = Work {
-            sub,
-            pid,
+            sub: *sub,
+            pid: *pid,
             verb: Set,
-            arg,
+            arg: *arg,
         };
-        ends(&rt, &mut devices, &work, FAILED, 0x21, &[before]);
-        plays(&rt, &mut devices, &[(Get, sub, pid, &[], Reply(&[before]))]);
-        ends(&rt, &mut devices, &work, Outcome::Done, 0x31, &[]);
-        plays(&rt, &mut devices, &[(Get, sub, pid, &[], Reply(&[after]))]);
-        ends(&rt, &mut devices, &work, FAILED, 0x21, &[after]);
+        changes_when_done(&rt, &mut devices, &work, *before, *after);
     }
     plays(&rt, &mut devices, &ANOTHER);
+}
+
+/// A value is the one before the job is done, and then the other, also if another job fails.
+fn changes_when_done(rt: &impl Abort, devices: &mut Devices, work: &Work, before: u8, after: u8) {
+    let (sub, pid) = (work.sub, work.pid);
+    ends(rt, devices, work, FAILED, 0x21, &[before]);
+    plays(rt, devices, &[(Get, sub, pid, &[], Reply(&[before]))]);
+    ends(rt, devices, work, Outcome::Done, 0x31, &[]);
+    plays(rt, devices, &[(Get, sub, pid, &[], Reply(&[after]))]);
+    ends(rt, devices, work, FAILED, 0x21, &[after]);
 }
 
 /// Sensors, how their measurements end, and what is told.
@@ -91,20 +97,22 @@ const RESET: [Step<'static>; 1] = [(
 #[test]
 fn a_sensor_shows_what_it_measured(rt: HostRuntime) {
     let mut devices = demo(&rt, rt.alloc(), 0);
-    for (arg, outcome, bytes) in MEASURED {
+    for (arg, outcome, bytes) in &MEASURED {
         let work = Work {
             sub: 0,
             pid: 0x0201,
             verb: Get,
-            arg,
+            arg: *arg,
         };
-        ends(&rt, &mut devices, &work, outcome, 0x21, bytes);
+        ends(&rt, &mut devices, &work, *outcome, 0x21, bytes);
     }
     plays(&rt, &mut devices, &RESET);
 }
 
 /// The worker of a work, how long it takes, and whether `Done`, a reading and `FAILED` can be its outcome.
-const WORKS: [(u16, Verb, u8, u16, [bool; 3]); 10] = [
+type Told = (u16, Verb, u8, u16, [bool; 3]);
+
+const WORKS: [Told; 10] = [
     (0x0403, Set, 0, 50, [true, false, true]),
     (0x1010, Set, 0, 20, [true, false, true]),
     (0x1020, Set, 1, 100, [true, false, true]),
@@ -129,21 +137,23 @@ fn outcomes_of(work: &Work) -> [bool; 3] {
 #[test]
 fn each_work_has_its_worker_and_its_outcomes(rt: HostRuntime) {
     let devices = demo(&rt, rt.alloc(), 0);
-    for (pid, verb, worker, estimate, fitting) in WORKS {
-        let work = Work {
-            sub: 0,
-            pid,
-            verb,
-            arg: 0,
-        };
-        let told = (
-            worker_of(&work),
-            devices.estimate_of(&work),
-            outcomes_of(&work),
-        );
-        assert_eq!(rt; told, (worker, estimate, fitting), "{pid:04X}");
-        assert_eq!(rt; estimate_of(&work), estimate, "{pid:04X}");
+    for row in &WORKS {
+        is_told(&rt, &devices, *row);
     }
+}
+
+/// This is told of a work.
+fn is_told(rt: &impl Abort, devices: &Devices, (pid, verb, worker, estimate, fitting): Told) {
+    let work = Work {
+        sub: 0,
+        pid,
+        verb,
+        arg: 0,
+    };
+    assert_eq!(rt; worker_of(&work), worker, "{pid:04X}");
+    assert_eq!(rt; devices.estimate_of(&work), estimate, "{pid:04X}");
+    assert_eq!(rt; outcomes_of(&work), fitting, "{pid:04X}");
+    assert_eq!(rt; estimate_of(&work), estimate, "{pid:04X}");
 }
 
 /// Other estimates than the usual ones.
@@ -167,15 +177,28 @@ fn a_job_takes_as_long_as_the_profile_says(rt: HostRuntime) {
     let mut profile = Profile::demo(0);
     profile.estimates = OTHER;
     let mut devices = made(&rt, rt.alloc(), profile);
-    for (verb, pid, arg, expected) in TIMES {
-        let mut body = Body::new();
-        let told = match verb {
-            Get => devices.get_into(0, pid, &[arg], &mut body),
-            Set => devices.set_into(0, pid, &[arg], &mut body).0,
-        };
-        match told {
-            Answer::Starts { estimate, .. } => assert_eq!(rt; estimate, expected, "{pid:04X}"),
-            _ => assert!(rt; false, "{pid:04X}: {told:?}"),
+    for (verb, pid, arg, expected) in &TIMES {
+        let (_, estimate) = started(&rt, &mut devices, *verb, *pid, *arg);
+        assert_eq!(rt; estimate, *expected, "{pid:04X}");
+    }
+}
+
+/// The worker and the estimate of the job that a command starts.
+fn started(rt: &impl Abort, devices: &mut Devices, verb: Verb, pid: u16, arg: u8) -> (u8, u16) {
+    let mut body = Body::new();
+    let told = match verb {
+        Get => devices.get_into(0, pid, &[arg], &mut body),
+        Set => devices.set_into(0, pid, &[arg], &mut body).0,
+    };
+    match told {
+        Answer::Starts {
+            worker,
+            estimate,
+            ..
+        } => (worker, estimate),
+        _ => {
+            assert!(rt; false, "{pid:04X}: {told:?}");
+            (0, 0)
         }
     }
 }
@@ -202,27 +225,25 @@ fn a_job_has_the_worker_that_the_profile_says(rt: HostRuntime) {
     profile.workers = SHUFFLED;
     let mut devices = made(&rt, rt.alloc(), profile);
     assert_eq!(rt; devices.workers(), SHUFFLED);
-    for (verb, pid, arg, expected) in HANDS {
+    for (verb, pid, arg, expected) in &HANDS {
+        let (worker, _) = started(&rt, &mut devices, *verb, *pid, *arg);
+        assert_eq!(rt; worker, *expected, "{pid:04X}");
         let work = Work {
             sub: 0,
-            pid,
-            verb,
-            arg,
+            pid: *pid,
+            verb: *verb,
+            arg: *arg,
         };
-        let mut body = Body::new();
-        let told = match verb {
-            Get => devices.get_into(0, pid, &[arg], &mut body),
-            Set => devices.set_into(0, pid, &[arg], &mut body).0,
-        };
-        match told {
-            Answer::Starts { worker, .. } => assert_eq!(rt; worker, expected, "{pid:04X}"),
-            _ => assert!(rt; false, "{pid:04X}: {told:?}"),
-        }
-        assert_eq!(rt; devices.worker_of(&work), expected, "{pid:04X}");
-        assert_eq!(rt; worker_at(&SHUFFLED, &work), expected, "{pid:04X}");
-        let fitting = fitting_worker(&SHUFFLED, &work, &FAILED);
-        assert_eq!(rt; fitting, Some(expected), "{pid:04X}");
+        is_of(&rt, &devices, &work, *expected);
     }
+}
+
+/// A work is this worker's.
+fn is_of(rt: &impl Abort, devices: &Devices, work: &Work, worker: u8) {
+    assert_eq!(rt; devices.worker_of(work), worker, "{work:?}");
+    assert_eq!(rt; worker_at(&SHUFFLED, work), worker, "{work:?}");
+    let fitting = fitting_worker(&SHUFFLED, work, &FAILED);
+    assert_eq!(rt; fitting, Some(worker), "{work:?}");
 }
 
 /// Sensor 1 is answered at once, sensor 0 isn't.

@@ -43,22 +43,24 @@ const THRESHOLDS: [(u8, bool, bool, bool); 4] = [
 #[test]
 fn an_entry_is_noted_from_the_threshold_on(rt: HostRuntime) {
     let mut devices = demo(&rt, rt.alloc(), 0);
-    for (threshold, advisory, warning, error) in THRESHOLDS {
-        plays(
-            &rt,
-            &mut devices,
-            &[(Set, 0, 0x0033, &[threshold], Reply(&[]))],
-        );
-        let entries = [
-            (0, Severity::Advisory, advisory),
-            (0, Severity::AdvisoryCleared, advisory),
-            (0, Severity::Warning, warning),
-            (0, Severity::WarningCleared, warning),
-            (0, Severity::Error, error),
-            (0, Severity::ErrorCleared, error),
-        ];
-        notes(&rt, &devices, &entries);
+    for (threshold, advisory, warning, error) in &THRESHOLDS {
+        let set: [Step<'_>; 1] = [(Set, 0, 0x0033, &[*threshold], Reply(&[]))];
+        plays(&rt, &mut devices, &set);
+        notes_from(&rt, &devices, *advisory, *warning, *error);
     }
+}
+
+/// Whether an advisory, a warning and an error of the root are noted.
+fn notes_from(rt: &impl Abort, devices: &Devices, advisory: bool, warning: bool, error: bool) {
+    let entries = [
+        (0, Severity::Advisory, advisory),
+        (0, Severity::AdvisoryCleared, advisory),
+        (0, Severity::Warning, warning),
+        (0, Severity::WarningCleared, warning),
+        (0, Severity::Error, error),
+        (0, Severity::ErrorCleared, error),
+    ];
+    notes(rt, devices, &entries);
 }
 
 /// Whether entries are noted: of these devices, and of this severity.

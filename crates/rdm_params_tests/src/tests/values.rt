@@ -27,17 +27,25 @@ const NAMES: [(Kind, &str); 3] = [
 ];
 
 #[test]
-fn codes_and_kinds(rt: HostRuntime) {
-    for (nack, code) in CODES {
-        assert_eq!(rt; nack.code(), code);
+fn reasons_have_codes(rt: HostRuntime) {
+    for (nack, code) in &CODES {
+        assert_eq!(rt; nack.code(), *code);
     }
-    for (pid, kind) in KINDS {
-        assert_eq!(rt; kind_of(pid), kind);
-    }
-    for (kind, name) in NAMES {
-        assert_eq!(rt; kind.name(), name);
+}
+
+#[test]
+fn pids_have_kinds(rt: HostRuntime) {
+    for (pid, kind) in &KINDS {
+        assert_eq!(rt; kind_of(*pid), *kind);
     }
     assert_eq!(rt; Kind::DmxStartAddress.pid(), 0x00F0);
+}
+
+#[test]
+fn kinds_have_names(rt: HostRuntime) {
+    for (kind, name) in &NAMES {
+        assert_eq!(rt; kind.name(), *name);
+    }
 }
 
 #[test]

@@ -11,8 +11,8 @@ const NEW_ERRORS: [(NewError, &str); 3] = [
 
 #[test]
 fn errors_say_what_is_wrong(rt: HostRuntime) {
-    for (error, words) in NEW_ERRORS {
+    for (error, words) in &NEW_ERRORS {
         let said = format!(in rt.alloc(); "{error}").expect(&rt, "memory");
-        assert_eq!(rt; said.as_str(), words);
+        assert_eq!(rt; said.as_str(), *words);
     }
 }

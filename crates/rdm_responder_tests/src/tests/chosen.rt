@@ -91,7 +91,7 @@ fn a_job_has_the_time_and_the_worker_of_the_profile(rt: HostRuntime) -> Result<(
 fn is_slow(rt: &impl Abort, responder: &mut Responder, command: SlowCommand) -> Result<(), Fail> {
     let (class, pid, slot, time, worker, number) = command;
     let heard = request(DEVICE, 0, class, pid, &[slot])?;
-    let expected = reply(1, class + 1, pid, &time)?;
+    let expected = reply(1, class.wrapping_add(1), pid, &time)?;
     let mut wire = Wire::new();
     let stepped = responder.step_into(heard.as_slice(), &mut wire);
     assert!(rt; stepped.replied, "{pid:04X}");
