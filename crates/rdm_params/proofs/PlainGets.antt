@@ -1,14 +1,12 @@
 -- GETs that hand in no data and are answered at once.
-use Rattle.std.proofs.Common.{◌≡◌, ℕ, Bool, true, false, List, [], Option, Some, None, Result, Ok, Err, refl, sym, ap, ◌∙◌}
+use Rattle.std.proofs.Common.{◌≡◌, ℕ, true, List, [], Option, Some, Ok, refl, sym, ap, ◌∙◌}
 use Rattle.std.specs.Prelude.{slice_get}
 use Rattle.std.specs.Option.{option_map_or}
 use Rattle.rdm_params.specs.declared.kind.Verb.TheVariants.{Get}
-use Rattle.rdm_params.specs.declared.nack.Nack.{Nack}
 use Rattle.rdm_params.specs.declared.jobs.ask.Ask.{Ask}
 use Rattle.rdm_params.specs.declared.jobs.way.Way.{Way}
 use Rattle.rdm_params.specs.declared.jobs.way.Way.TheVariants.{AtOnce}
 use Rattle.rdm_params.specs.declared.jobs.work.Work.{Work}
-use Rattle.rdm_params.specs.declared.verdict.Verdict.{Verdict}
 use Rattle.rdm_params.specs.declared.verdict.Verdict.TheVariants.{Reply}
 use Rattle.rdm_device.specs.declared.profile.Profile.{Profile}
 use Rattle.rdm_device.specs.declared.value.Value.{Value}

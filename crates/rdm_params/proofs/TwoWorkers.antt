@@ -1,5 +1,5 @@
 -- There are two workers.
-use Rattle.std.proofs.Common.{ℕ, ◌<◌, lit<}
+use Rattle.std.proofs.Common.{◌<◌, lit<}
 use Rattle.rdm_device.specs.declared.profile.workers.Worker.{Worker}
 use Rattle.rdm_device.specs.declared.profile.workers.Worker.TheVariants.{First, Second}
 use Rattle.rdm_device.specs.declared.profile.workers.Workers.{Workers}

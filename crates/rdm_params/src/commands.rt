@@ -191,7 +191,7 @@ impl Devices {
         ensures job { IfOk result (λ answer. NamesItsJob self.now.profile answer) }
         ensures empty { result ≢ Ok Answer.Done → body.new ≡ [] }
     {
-        if self.first_place(sub, Verb::Get).is_none() {
+        if !self.has_device(sub) {
             return Err(Nack::SubDeviceOutOfRange);
         }
         if self.lacks(pid) {

@@ -2,7 +2,8 @@
 
 ghost use Rattle.std.specs.Prelude.{◌≡◌, slice_get};
 ghost use Rattle.std.specs.Option.{option_map};
-ghost use Rattle.rdm_params.specs.Commands.Commands.{addressed, is_all_call, root_spot, sub_spot};
+ghost use Rattle.rdm_params.specs.declared.kind.Verb.TheVariants.{Get};
+ghost use Rattle.rdm_params.specs.Commands.Commands.{addressed, is_some_device, is_all_call, root_spot, sub_spot};
 
 use super::Devices;
 use crate::Verb;
@@ -10,6 +11,16 @@ use rdm_device::Place;
 use rdm_frame::standard::SUB_DEVICE_ALL_CALL;
 
 impl Devices {
+    /// Whether there is the device that a GET is for.
+    // Apart from `first_place`, since most GETs need the place of the device, which lies in memory, only after they were found.
+    #[inline(always)]
+    #[tactic(auto, using(crate::proofs::Places::is_there, crate::proofs::Places::is_not_there))]
+    pub(super) fn has_device(&self, sub: u16) -> bool
+        ensures { result ≡ is_some_device (addressed self.now sub Get) }
+    {
+        usize::from(sub) <= self.subs.len()
+    }
+
     /// The first device that a command is for, if there is one.
     #[tactic(auto, using(crate::proofs::Places::first_of_subs, crate::proofs::Places::first_of_one))]
     pub(super) fn first_place(&self, sub: u16, verb: Verb) -> Option<Place<'_>>
