@@ -1,21 +1,24 @@
 //! The list of supported parameters.
 
-ghost use Rattle.std.specs.Prelude.{◌≡◌, [], flat_map};
+ghost use Rattle.std.specs.Prelude.{◌≡◌, true, false, [], flat_map};
 ghost use Rattle.rdm_device.specs.Device.Values.{word_slots};
-ghost use Rattle.rdm_params.specs.Table.Rows.{supported, table_pids};
+ghost use Rattle.rdm_params.specs.Table.Rows.{supported, supported_pids, table_pids};
 
+use crate::Profile;
 use crate::table::chosen::put_chosen;
 use crate::table::rows;
 use rdm_device::Place;
 use rdm_frame::Body;
 
-macro_rules! listed_rows {
-    (($is_root:ident $list:ident) $(($name:ident $pid:tt $at:ident $get:tt $set:tt))*) => {
-        if $is_root {
-            $(list_row!($name $pid $list);)*
-        } else {
-            $(list_at!($at $name $pid $list);)*
-        }
+macro_rules! root_rows {
+    (($list:ident) $(($name:ident $pid:tt $at:ident $get:tt $set:tt))*) => {
+        { $(list_row!($name $pid $list);)* }
+    };
+}
+
+macro_rules! sub_rows {
+    (($list:ident) $(($name:ident $pid:tt $at:ident $get:tt $set:tt))*) => {
+        { $(list_at!($at $name $pid $list);)* }
     };
 }
 
@@ -35,26 +38,65 @@ macro_rules! list_row {
 }
 
 /// The PIDs that the device supports, in their order, beside those that every device does.
-#[tactic(auto, unfolding(crate::specs::Table::Rows::supported), using(crate::proofs::Supported::plain))]
+#[inline(always)]
+#[tactic(auto, unfolding(crate::specs::Table::Rows::supported))]
 pub(crate) fn supported(place: &Place<'_>, list: &mut Body)
     requires { list.old ≡ [] }
     ensures { list.new ≡ supported place.now }
 {
-    let is_root = place.own.is_some();
-    if place.profile.is_plain() {
-        put_table(is_root, list);
+    if place.own.is_some() {
+        put_at_root(place.profile, list);
     } else {
-        put_chosen(place.profile, is_root, list);
+        put_at_sub(place.profile, list);
     }
 }
 
-/// The PIDs of the table.
-#[tactic(auto, unfolding(crate::specs::Table::Rows::table_pids))]
-fn put_table(is_root: bool, list: &mut Body)
+/// Those of the root.
+// A call each for the root and the sub-devices: neither looks which of them it is for.
+#[inline(never)]
+#[tactic(auto, using(crate::proofs::Supported::plain))]
+fn put_at_root(profile: &Profile, list: &mut Body)
     requires { list.old ≡ [] }
-    ensures { list.new ≡ flat_map word_slots (table_pids is_root) }
+    ensures { list.new ≡ flat_map word_slots (supported_pids profile.now true) }
+{
+    if profile.is_plain() {
+        put_root_table(list);
+    } else {
+        put_chosen(profile, true, list);
+    }
+}
+
+/// Those of each sub-device.
+#[inline(never)]
+#[tactic(auto, using(crate::proofs::Supported::plain))]
+fn put_at_sub(profile: &Profile, list: &mut Body)
+    requires { list.old ≡ [] }
+    ensures { list.new ≡ flat_map word_slots (supported_pids profile.now false) }
+{
+    if profile.is_plain() {
+        put_sub_table(list);
+    } else {
+        put_chosen(profile, false, list);
+    }
+}
+
+/// The PIDs of the table at the root.
+#[tactic(auto, unfolding(crate::specs::Table::Rows::table_pids))]
+fn put_root_table(list: &mut Body)
+    requires { list.old ≡ [] }
+    ensures { list.new ≡ flat_map word_slots (table_pids true) }
 {
     // It is empty already. Here the compiler sees that, and looks for room no more.
     list.clear();
-    rows!(listed_rows!(is_root list))
+    rows!(root_rows!(list))
+}
+
+/// The PIDs of the table at a sub-device.
+#[tactic(auto, unfolding(crate::specs::Table::Rows::table_pids))]
+fn put_sub_table(list: &mut Body)
+    requires { list.old ≡ [] }
+    ensures { list.new ≡ flat_map word_slots (table_pids false) }
+{
+    list.clear();
+    rows!(sub_rows!(list))
 }
