@@ -4,7 +4,7 @@ use Rattle.std.specs.Prelude.{slice_get}
 use Rattle.std.proofs.lemmas.List.{drop-append-le}
 use Rattle.std.proofs.lemmas.List.Elements.{filter-append}
 use Rattle.rdm_params.specs.declared.jobs.message.Message.{Message}
-use Rattle.rdm_params.specs.Jobs.Work.{worker_of}
+use Rattle.rdm_params.specs.Jobs.Work.{Choice, worker_at}
 use Rattle.rdm_outbox.specs.declared.job.Job.{Job}
 use Rattle.rdm_outbox.specs.Jobs.{jobs_of, ended_of, number_after, outstanding_of}
 use Rattle.rdm_responder.specs.declared.report.Report.{Report}
@@ -17,7 +17,7 @@ use Rattle.rdm_bus.specs.declared.event.Step.TheVariants as step
 use Rattle.rdm_bus.specs.BusRun.{Start, IsPlayed, after, after_all, IsBusRun}
 use Rattle.rdm_bus.specs.BusLaws.{BusLawsHold, dispensed, recorded}
 use Rattle.rdm_bus.specs.Happened.{arrived_in, jobs_in, reports_in, reported_by, reported_in}
-use Rattle.rdm_bus.specs.Headline.{IsByTheRules, RepliesAreByTheRules, Handed, results_in, unclosed, AreOnce, entered, NothingAfterClose, Headline, HeadlineHolds}
+use Rattle.rdm_bus.specs.Headline.{IsByTheRules, RepliesAreByTheRules, Handed, results_in, unclosed, AreOnce, choice_of, entered, NothingAfterClose, Headline, HeadlineHolds}
 use Rattle.rdm_bus.specs.Messages.{KeepingHolds}
 use Rattle.rdm_collector.specs.Recording.{join}
 use Rattle.rdm_bus.proofs.Accounts.{run_grows}
@@ -62,38 +62,40 @@ once first n rs all few i k r s one two same =
 
 -- what a worker was given before a run and in it
 given_since : (w : ℕ) (s : Start) (steps : List Step) (es : List Event) → IsBusRun s steps es
-    → jobs_of w (outbox_of (after_all s es).history).accepted ≡ jobs_of w (outbox_of s.history).accepted ++ jobs_of w (jobs_in es)
+    → jobs_of (outbox_of (after_all s es).history).workers w (outbox_of (after_all s es).history).accepted
+    ≡ jobs_of (choice_of s) w (outbox_of s.history).accepted ++ jobs_of (choice_of s) w (jobs_in es)
 given_since w s steps es run =
-    ap (jobs_of w) (run_grows s steps es run).accepted ∙ filter-append (λ (j : Job). worker_of j.work == w) (outbox_of s.history).accepted (jobs_in es)
+    ap (λ (v : Choice). jobs_of v w (outbox_of (after_all s es).history).accepted) (run_grows s steps es run).workers
+    ∙ ap (jobs_of (choice_of s) w) (run_grows s steps es run).accepted ∙ filter-append (λ (j : Job). worker_at (choice_of s) j.work == w) (outbox_of s.history).accepted (jobs_in es)
 
 -- what was outstanding and what was accepted since, numbered
 numbered_since : (w : ℕ) (s : Start) (steps : List Step) (es : List Event) → IsBusRun s steps es → EndsWithin w (outbox_of s.history)
-    → NumberedFrom (after_all s es).history.setup.first_job (ended_of w (outbox_of s.history).ended) (outstanding_of (outbox_of s.history) w ++ jobs_of w (jobs_in es))
+    → NumberedFrom (after_all s es).history.setup.first_job (ended_of w (outbox_of s.history).ended) (outstanding_of (outbox_of s.history) w ++ jobs_of (choice_of s) w (jobs_in es))
 numbered_since w s steps es run within =
     let n : ℕ = ended_of w (outbox_of s.history).ended in
     let first : ℕ = (after_all s es).history.setup.first_job in
-    let xs : List Job = jobs_of w (outbox_of s.history).accepted in
-    let ys : List Job = jobs_of w (jobs_in es) in
+    let xs : List Job = jobs_of (choice_of s) w (outbox_of s.history).accepted in
+    let ys : List Job = jobs_of (choice_of s) w (jobs_in es) in
     subst (NumberedFrom first n) (ap (drop n) (given_since w s steps es run) ∙ drop-append-le n xs ys within)
-    (drop_numbered first n (jobs_of w (outbox_of (after_all s es).history).accepted) (numbered (after_all s es).history w))
+    (drop_numbered first n (jobs_of (outbox_of (after_all s es).history).workers w (outbox_of (after_all s es).history).accepted) (numbered (after_all s es).history w))
 
 -- those that are done since are no more than were given, less those that were done before
 few_done : (n most : ℕ) (all xs ys done left : List Job) → length all ≤ most → all ≡ xs ++ ys → done ++ left ≡ drop n xs ++ ys → n ≤ length xs → n + length done ≤ most
 few_done n most all xs ys done left few given kept within =
     omega (arith, few, ap length given, length-append xs ys, ap length kept, length-append done left, length-append (drop n xs) ys, length-drop n xs, within)
 
-at_most_once : (w : ℕ) (s : Start) (steps : List Step) (es : List Event) → IsBusRun s steps es → EndsWithin w (outbox_of s.history) → AreOnce (entered w es)
+at_most_once : (w : ℕ) (s : Start) (steps : List Step) (es : List Event) → IsBusRun s steps es → EndsWithin w (outbox_of s.history) → AreOnce (entered (choice_of s) w es)
 at_most_once w s steps es run within =
     let n : ℕ = ended_of w (outbox_of s.history).ended in
     let first : ℕ = (after_all s es).history.setup.first_job in
-    let xs : List Job = jobs_of w (outbox_of s.history).accepted in
-    let ys : List Job = jobs_of w (jobs_in es) in
-    let given : List Job = jobs_of w (outbox_of (after_all s es).history).accepted in
+    let xs : List Job = jobs_of (choice_of s) w (outbox_of s.history).accepted in
+    let ys : List Job = jobs_of (choice_of s) w (jobs_in es) in
+    let given : List Job = jobs_of (outbox_of (after_all s es).history).workers w (outbox_of (after_all s es).history).accepted in
     let left : List Job = outstanding_of (outbox_of (after_all s es).history) w in
     let kept = (run_moves w s steps es run within).kept in
-    once first n (entered w es)
-    (front_number first n (done_by (entered w es)) left (subst (NumberedFrom first n) (sym kept) (numbered_since w s steps es run within)))
-    (few_done n 4294967295 given xs ys (done_by (entered w es)) left (few_jobs (after_all s es).history w) (given_since w s steps es run) kept within)
+    once first n (entered (choice_of s) w es)
+    (front_number first n (done_by (entered (choice_of s) w es)) left (subst (NumberedFrom first n) (sym kept) (numbered_since w s steps es run within)))
+    (few_done n 4294967295 given xs ys (done_by (entered (choice_of s) w es)) left (few_jobs (after_all s es).history w) (given_since w s steps es run) kept within)
 
 -- ---- what is handed in
 
@@ -120,9 +122,9 @@ as_results : (rs : List Report) → rs ≡ results_in (unclosed rs)
 as_results [] = refl
 as_results (r ∷ rs) = ap (λ (l : List Report). r ∷ l) (as_results rs)
 
-none_closes : (rs : List Report) → NothingAfterClose (unclosed rs)
-none_closes [] = tt
-none_closes (r ∷ rs) = none_closes rs
+none_closes : (ws : Choice) (rs : List Report) → NothingAfterClose ws (unclosed rs)
+none_closes ws [] = tt
+none_closes ws (r ∷ rs) = none_closes ws rs
 
 -- ---- the headline
 
@@ -131,7 +133,7 @@ one_shorter r d rest e most = omega (arith, ap length e, length-append r rest, m
 
 -- of any list that was handed in, if its results are those that arrived
 pub headline_of : BusLawsHold → KeepingHolds → (s : Start) (steps : List Step) (es : List Event) (handed : List Handed) → IsLawful s.history → IsBusRun s steps es
-    → reports_in es ≡ results_in handed → NothingAfterClose handed → Headline s steps handed es (recorded es)
+    → reports_in es ≡ results_in handed → NothingAfterClose (choice_of s) handed → Headline s steps handed es (recorded es)
 headline_of laws keeping s steps es handed lawful run same closed =
     let law = (laws s steps es run).prefix in
     record {
@@ -149,4 +151,4 @@ headline_of laws keeping s steps es handed lawful run same closed =
 
 pub headline_holds : BusLawsHold → KeepingHolds → HeadlineHolds
 headline_holds laws keeping s steps es lawful run =
-    headline_of laws keeping s steps es (unclosed (reported_in steps)) lawful run (all_reported s steps es run ∙ as_results (reported_in steps)) (none_closes (reported_in steps))
+    headline_of laws keeping s steps es (unclosed (reported_in steps)) lawful run (all_reported s steps es run ∙ as_results (reported_in steps)) (none_closes (choice_of s) (reported_in steps))

@@ -130,7 +130,7 @@ polls s steps es run before rest sent f reply job heard parts =
 
 pub jobs : JobsAreNumbered
 jobs h worker k job at =
-    number_at h.setup.first_job 0 k (jobs_of worker (outbox_of h).accepted) job (numbered h worker) at
+    number_at h.setup.first_job 0 k (jobs_of (outbox_of h).workers worker (outbox_of h).accepted) job (numbered h worker) at
     ∙ ap (number_after h.setup.first_job) (sym (from_none k))
 
 below : (js : List Job) (i : ℕ) (j : Job) → length js ≤ 4294967295 → slice_get js i ≡ Some j → i < 2 ^ 32
@@ -138,6 +138,6 @@ below js i j few at = omega (arith, stands_below 0 js i j (omega (arith, few)) a
 
 pub differ : NumbersDiffer
 differ h worker i k job other one two same =
-    let js : List Job = jobs_of worker (outbox_of h).accepted in
+    let js : List Job = jobs_of (outbox_of h).workers worker (outbox_of h).accepted in
     let few = few_jobs h worker in
     same_number h.setup.first_job i k (below js i job few one) (below js k other few two) (sym (jobs h worker i job one) ∙ same ∙ jobs h worker k other two)

@@ -12,7 +12,7 @@ use Rattle.rdm_params.specs.declared.jobs.work.Work.{Work}
 use Rattle.rdm_params.specs.declared.verdict.Verdict.{Verdict}
 use Rattle.rdm_params.specs.declared.verdict.Verdict.TheVariants as verdict
 use Rattle.rdm_params.specs.Commands.Commands.{got, answer_to_set}
-use Rattle.rdm_params.specs.Jobs.Work.{worker_of}
+use Rattle.rdm_params.specs.Jobs.Work.{Choice, worker_at}
 use Rattle.rdm_outbox.specs.declared.job.Job.{Job}
 use Rattle.rdm_outbox.specs.declared.job.Full.TheVariants.{NoRoom}
 use Rattle.rdm_outbox.specs.Account as outbox
@@ -86,7 +86,7 @@ stands_below n js i j few at = omega (arith, few, slice_get_within js i j at)
 abbrev pub HasNextNumber : outbox.Account → Option Job → Type 0
 HasNextNumber b None = Unit {0}
 HasNextNumber b (Some j) =
-    (j.number ≡ number_after b.first_job (given_to (worker_of j.work) b)) × (given_to (worker_of j.work) b < b.jobs)
+    (j.number ≡ number_after b.first_job (given_to (worker_at b.workers j.work) b)) × (given_to (worker_at b.workers j.work) b < b.jobs)
 
 reserves_next : (b : outbox.Account) (work : Work) (room : Bool) → has_room b work ≡ room → HasNextNumber b (result_ok (cond room (Ok (next_job b work)) (Err NoRoom)))
 reserves_next b work true e = (refl, ltb-true _ _ (and_parts _ _ e).1)
@@ -121,60 +121,62 @@ event_next a (history.Restored image) = tt
 record HasNumbers (first limit : ℕ) (b : outbox.Account) : Type 0 where
   pub first_job : b.first_job ≡ first
   pub most : b.jobs ≡ limit
-  pub numbers : (w : ℕ) → NumberedFrom first 0 (jobs_of w b.accepted)
+  pub numbers : (w : ℕ) → NumberedFrom first 0 (jobs_of b.workers w b.accepted)
   pub within : (w : ℕ) → given_to w b ≤ limit
 
-one_accepted : (w : ℕ) (b b' : outbox.Account) (j : Job) → b'.accepted ≡ b.accepted ++ j ∷ [] → jobs_of w b'.accepted ≡ jobs_of w b.accepted ++ cond (worker_of j.work == w) (j ∷ []) []
-one_accepted w b b' j e = ap (jobs_of w) e ∙ filter-append (λ (i : Job). worker_of i.work == w) b.accepted (j ∷ [])
+one_accepted : (w : ℕ) (b b' : outbox.Account) (j : Job) → b'.workers ≡ b.workers → b'.accepted ≡ b.accepted ++ j ∷ [] → jobs_of b'.workers w b'.accepted ≡ jobs_of b.workers w b.accepted ++ cond (worker_at b.workers j.work == w) (j ∷ []) []
+one_accepted w b b' j same e =
+    ap (λ (v : Choice). jobs_of v w b'.accepted) same ∙ ap (jobs_of b.workers w) e ∙ filter-append (λ (i : Job). worker_at b.workers i.work == w) b.accepted (j ∷ [])
 
-push_if : (first w : ℕ) (b : outbox.Account) (j : Job) (own? : Bool) → (worker_of j.work == w) ≡ own? → j.number ≡ number_after first (given_to (worker_of j.work) b) → NumberedFrom first 0 (jobs_of w b.accepted)
-    → NumberedFrom first 0 (jobs_of w b.accepted ++ cond own? (j ∷ []) [])
+push_if : (first w : ℕ) (b : outbox.Account) (j : Job) (own? : Bool) → (worker_at b.workers j.work == w) ≡ own? → j.number ≡ number_after first (given_to (worker_at b.workers j.work) b) → NumberedFrom first 0 (jobs_of b.workers w b.accepted)
+    → NumberedFrom first 0 (jobs_of b.workers w b.accepted ++ cond own? (j ∷ []) [])
 push_if first w b j true own next all =
-    push_number first 0 (jobs_of w b.accepted) j all
+    push_number first 0 (jobs_of b.workers w b.accepted) j all
     (next ∙ ap (λ v. number_after first (given_to v b)) (eqb-true _ _ own) ∙ ap (number_after first) (from_none (given_to w b)))
-push_if first w b j false own next all = subst (NumberedFrom first 0) (sym (append-nil (jobs_of w b.accepted))) all
+push_if first w b j false own next all = subst (NumberedFrom first 0) (sym (append-nil (jobs_of b.workers w b.accepted))) all
 
-few_if : (most w : ℕ) (b : outbox.Account) (j : Job) (own? : Bool) → (worker_of j.work == w) ≡ own? → given_to (worker_of j.work) b < most → given_to w b ≤ most → length (jobs_of w b.accepted ++ cond own? (j ∷ []) []) ≤ most
+few_if : (most w : ℕ) (b : outbox.Account) (j : Job) (own? : Bool) → (worker_at b.workers j.work == w) ≡ own? → given_to (worker_at b.workers j.work) b < most → given_to w b ≤ most → length (jobs_of b.workers w b.accepted ++ cond own? (j ∷ []) []) ≤ most
 few_if most w b j true own below few =
-    omega (arith, length-append (jobs_of w b.accepted) (j ∷ []), below, ap (λ v. given_to v b) (eqb-true _ _ own))
-few_if most w b j false own below few = subst (λ (js : List Job). length js ≤ most) (sym (append-nil (jobs_of w b.accepted))) few
+    omega (arith, length-append (jobs_of b.workers w b.accepted) (j ∷ []), below, ap (λ v. given_to v b) (eqb-true _ _ own))
+few_if most w b j false own below few = subst (λ (js : List Job). length js ≤ most) (sym (append-nil (jobs_of b.workers w b.accepted))) few
 
 numbered_more : (first most : ℕ) (b b' : outbox.Account) (o : Option Job) (ws : List ℕ) → Grows b b' (option_to_list o) ws → HasNextNumber b o → HasNumbers first most b → HasNumbers first most b'
 numbered_more first most b b' None ws g next has =
-    let same : b'.accepted ≡ b.accepted = g.accepted ∙ append-nil b.accepted in
+    let same : (w : ℕ) → jobs_of b'.workers w b'.accepted ≡ jobs_of b.workers w b.accepted =
+    λ w. ap (λ (v : Choice). jobs_of v w b'.accepted) g.workers ∙ ap (jobs_of b.workers w) (g.accepted ∙ append-nil b.accepted) in
     record {
       first_job = g.first_job ∙ has.first_job;
       most = g.most ∙ has.most;
-      numbers = λ w. subst (λ (js : List Job). NumberedFrom first 0 (jobs_of w js)) (sym same) (has.numbers w);
-      within = λ w. subst (λ (js : List Job). length (jobs_of w js) ≤ most) (sym same) (has.within w);
+      numbers = λ w. subst (NumberedFrom first 0) (sym (same w)) (has.numbers w);
+      within = λ w. subst (λ (js : List Job). length js ≤ most) (sym (same w)) (has.within w);
     }
 numbered_more first most b b' (Some j) ws g next has =
-    let number : j.number ≡ number_after first (given_to (worker_of j.work) b) =
-    next.0 ∙ ap (λ n. number_after n (given_to (worker_of j.work) b)) has.first_job in
-    let below : given_to (worker_of j.work) b < most = subst (λ n. given_to (worker_of j.work) b < n) has.most next.1 in
+    let number : j.number ≡ number_after first (given_to (worker_at b.workers j.work) b) =
+    next.0 ∙ ap (λ n. number_after n (given_to (worker_at b.workers j.work) b)) has.first_job in
+    let below : given_to (worker_at b.workers j.work) b < most = subst (λ n. given_to (worker_at b.workers j.work) b < n) has.most next.1 in
     record {
       first_job = g.first_job ∙ has.first_job;
       most = g.most ∙ has.most;
       numbers = λ w.
-          subst (NumberedFrom first 0) (sym (one_accepted w b b' j g.accepted)) (push_if first w b j (worker_of j.work == w) refl number (has.numbers w));
+          subst (NumberedFrom first 0) (sym (one_accepted w b b' j g.workers g.accepted)) (push_if first w b j (worker_at b.workers j.work == w) refl number (has.numbers w));
       within = λ w.
-          subst (λ (js : List Job). length js ≤ most) (sym (one_accepted w b b' j g.accepted)) (few_if most w b j (worker_of j.work == w) refl below (has.within w));
+          subst (λ (js : List Job). length js ≤ most) (sym (one_accepted w b b' j g.workers g.accepted)) (few_if most w b j (worker_at b.workers j.work == w) refl below (has.within w));
     }
 
 numbered_events : (first most : ℕ) (a : Account) (es : List Event) → HasNumbers first most a.outbox → HasNumbers first most (fold account_after a es).outbox
 numbered_events first most a [] has = has
 numbered_events first most a (e ∷ es) has =
-    numbered_events first most (account_after a e) es (numbered_more first most _ _ (job_at a e) (workers_at e) (event_grows a e) (event_next a e) has)
+    numbered_events first most (account_after a e) es (numbered_more first most _ _ (job_at a e) (workers_at a e) (event_grows a e) (event_next a e) has)
 
 has_numbers : (h : History) → HasNumbers h.setup.first_job most_jobs (outbox_of h)
 unfolding account_of
 has_numbers h =
     numbered_events h.setup.first_job most_jobs (account_before h.setup) h.events (record { first_job = refl; most = refl; numbers = λ w. tt; within = λ w. omega arith })
 
-pub numbered : (h : History) (w : ℕ) → NumberedFrom h.setup.first_job 0 (jobs_of w (outbox_of h).accepted)
+pub numbered : (h : History) (w : ℕ) → NumberedFrom h.setup.first_job 0 (jobs_of (outbox_of h).workers w (outbox_of h).accepted)
 numbered h w = (has_numbers h).numbers w
 
-pub few_jobs : (h : History) (w : ℕ) → length (jobs_of w (outbox_of h).accepted) ≤ 4294967295
+pub few_jobs : (h : History) (w : ℕ) → length (jobs_of (outbox_of h).workers w (outbox_of h).accepted) ≤ 4294967295
 few_jobs h w = (has_numbers h).within w
 
 -- ---- every lawful history

@@ -25,7 +25,7 @@ use Rattle.rdm_params.specs.Commands.Commands.{got, answer_to_set, accepted}
 use Rattle.rdm_params.specs.Device.Parameters.{Parameters}
 use Rattle.rdm_params.specs.Table.Rows.{row_of, table}
 use Rattle.rdm_params.specs.Jobs.Laws.{GetQueues, GetStatuses, SetFetchesNothing}
-use Rattle.rdm_params.specs.Jobs.Work.{worker_of}
+use Rattle.rdm_params.specs.Jobs.Work.{worker_at}
 use Rattle.rdm_params.specs.Jobs.Commit.{committed}
 use Rattle.rdm_outbox.specs.Account as outbox
 use Rattle.rdm_outbox.specs.declared.job.Job.{Job}
@@ -168,7 +168,7 @@ within_message b (Some m) w = omega (arith, w, length-append b.arrived (m ∷ []
 within_event : (a : Account) (e : Event) → IsWithin a.outbox → IsWithin (account_after a e).outbox
 within_event a (history.Heard bytes) w = within_request a (request_in a.setup.uid (frame_in bytes)) w
 within_event a (history.Arrived r) w =
-    within_still _ _ (outcome_still _ _ r.job.work r.outcome) (within_arrive a.outbox (worker_of r.job.work) (committed a.parameters r.job.work r.outcome) w)
+    within_still _ _ (outcome_still _ _ r.job.work r.outcome) (within_arrive a.outbox (worker_at a.outbox.workers r.job.work) (committed a.parameters r.job.work r.outcome) w)
 within_event a (history.Changed change) w = within_message a.outbox (change_message a.parameters change) w
 within_event a (history.Placed sub pid bytes) w = w
 within_event a (history.Noted entry) w = within_still _ _ (entry_still a.parameters a.outbox entry) w
@@ -202,7 +202,7 @@ arrived_is b b' m e1 e2 e3 =
     queue_is (b.arrived ++ m ∷ []) b'.arrived b.given b'.given b.answers b'.answers e1 e2 e3
     ∙ ap (λ (ms : List Message). record (queue_at b) { arrived = ms }) (map-append carried b.arrived (m ∷ []))
 
-report_still : (a : Account) (r : Report) → IsStill (after_arrive a.outbox (worker_of r.job.work) (committed a.parameters r.job.work r.outcome)) (account_after a (history.Arrived r)).outbox
+report_still : (a : Account) (r : Report) → IsStill (after_arrive a.outbox (worker_at a.outbox.workers r.job.work) (committed a.parameters r.job.work r.outcome)) (account_after a (history.Arrived r)).outbox
 report_still a r = outcome_still _ _ r.job.work r.outcome
 
 pub report_arrived : (h : History) (r : Report) (arrival : Arrival) → IsArrival h r arrival → queue_of (then_event h (history.Arrived r)) ≡ polling.after (queue_of h) (Arrived (carried arrival.message))

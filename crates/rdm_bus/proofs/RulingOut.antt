@@ -4,7 +4,7 @@ use Rattle.std.specs.Prelude.{slice_get}
 use Rattle.std.proofs.lemmas.Bool.{eq-eqb}
 use Rattle.rdm_params.specs.declared.jobs.message.Message.{Message}
 use Rattle.rdm_params.specs.Jobs.Commit.{committed}
-use Rattle.rdm_params.specs.Jobs.Work.{worker_of}
+use Rattle.rdm_params.specs.Jobs.Work.{worker_at}
 use Rattle.rdm_outbox.specs.declared.job.Job.{Job}
 use Rattle.rdm_outbox.specs.Jobs.{jobs_of, outstanding_of}
 use Rattle.rdm_responder.specs.declared.report.Report.{Report}
@@ -15,7 +15,7 @@ use Rattle.rdm_bus.specs.declared.event.Step.{Step}
 use Rattle.rdm_bus.specs.declared.event.Step.TheVariants as step
 use Rattle.rdm_bus.specs.BusRun.{Start, IsPlayed, after_all}
 use Rattle.rdm_bus.specs.Happened.{arrived_in, jobs_in}
-use Rattle.rdm_bus.specs.Headline.{TwiceIsRuledOut, LaterFirstIsRuledOut, AnsweringTheUnheardIsRuledOut, AfterTheCloseIsRuledOut, SkippingIsRuledOut, RecordingNothingIsRuledOut, RecordingTwiceIsRuledOut, DroppingAnEqualOneIsRuledOut, BookingNoPollIsRuledOut, AnotherMessageIsRuledOut}
+use Rattle.rdm_bus.specs.Headline.{choice_of, TwiceIsRuledOut, LaterFirstIsRuledOut, AnsweringTheUnheardIsRuledOut, AfterTheCloseIsRuledOut, SkippingIsRuledOut, RecordingNothingIsRuledOut, RecordingTwiceIsRuledOut, DroppingAnEqualOneIsRuledOut, BookingNoPollIsRuledOut, AnotherMessageIsRuledOut}
 use Rattle.rdm_collector.specs.Recording.{join}
 use Rattle.rdm_collector.proofs.Joining.{join-nil}
 use Rattle.rdm_bus.proofs.Numbering.{is_poll_of}
@@ -39,7 +39,7 @@ later_first start steps handed events collected worker r first second more waits
     ap (first_of r.job)
     (ap (λ (rs : List Report). done_by rs ++ outstanding_of (outbox_of (after_all start events).history) worker) (sym one)
     ∙ law.in_order worker
-    ∙ ap (λ (js : List Job). js ++ jobs_of worker (jobs_in events)) waits) in
+    ∙ ap (λ (js : List Job). js ++ jobs_of (choice_of start) worker (jobs_in events)) waits) in
     differ (sym both ∙ is)
 
 false_is_true : false ≡ true → ⊥
@@ -56,7 +56,7 @@ one_is_none r e = cc
 
 pub after_the_close : AfterTheCloseIsRuledOut
 after_the_close start steps events collected r law =
-    one_is_none r (ap (λ (own : Bool). cond own (r ∷ []) []) (sym (eq-eqb (worker_of r.job.work) (worker_of r.job.work) refl)) ∙ law.nothing_after_close.0)
+    one_is_none r (ap (λ (own : Bool). cond own (r ∷ []) []) (sym (eq-eqb (worker_at (choice_of start) r.job.work) (worker_at (choice_of start) r.job.work) refl)) ∙ law.nothing_after_close.0)
 
 pub skipping : SkippingIsRuledOut
 skipping start steps handed events lost next two other law =

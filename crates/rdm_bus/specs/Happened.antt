@@ -4,7 +4,7 @@ use Rattle.std.specs.Prelude.{ℕ, ◌==◌, List, [], ◌∷◌, filter}
 use Rattle.std.specs.Option.{option_to_list}
 use Rattle.std.specs.List.{flat_map}
 use Rattle.rdm_params.specs.declared.panel.Change.{Change}
-use Rattle.rdm_params.specs.Jobs.Work.{worker_of}
+use Rattle.rdm_params.specs.Jobs.Work.{Choice, worker_at}
 use Rattle.rdm_outbox.specs.declared.job.Job.{Job}
 use Rattle.rdm_responder.specs.declared.report.Report.{Report}
 use Rattle.rdm_bus.specs.declared.event.Event.{Event}
@@ -39,9 +39,9 @@ reports_in events = flat_map arrived_in events
 unfoldable pub changes_in : List Event → List Change
 changes_in events = flat_map changed_in events
 
--- the reports on jobs of a worker
-abbrev pub reports_of : ℕ → List Report → List Report
-reports_of worker reports = filter (λ r. worker_of r.job.work == worker) reports
+-- the reports on jobs of a worker, by this choice
+abbrev pub reports_of : Choice → ℕ → List Report → List Report
+reports_of ws worker reports = filter (λ r. worker_at ws r.job.work == worker) reports
 
 -- the report that a step hands in, and those of all steps, in order
 abbrev pub reported_by : Step → List Report

@@ -18,7 +18,7 @@
 use Rattle.std.specs.Prelude.{◌≡◌, ◌≢◌, ℕ, Bool, false, Option, ◌+◌, ◌≤◌, List, [], ◌∷◌, ◌++◌, length, map, slice_get, Some}
 use Rattle.rdm_params.specs.declared.jobs.message.Message.{Message}
 use Rattle.rdm_params.specs.Jobs.Commit.{committed}
-use Rattle.rdm_params.specs.Jobs.Work.{worker_of}
+use Rattle.rdm_params.specs.Jobs.Work.{Choice, worker_at}
 use Rattle.rdm_outbox.specs.declared.job.Job.{Job}
 use Rattle.rdm_outbox.specs.Jobs.{jobs_of, outstanding_of}
 use Rattle.rdm_responder.specs.declared.report.Report.{Report}
@@ -75,22 +75,26 @@ abbrev pub AreOnce : List Report → Type 0
 AreOnce results =
     (i k : ℕ) (r s : Report) → slice_get results i ≡ Some r → slice_get results k ≡ Some s → r.job ≡ s.job → i ≡ k
 
+-- which worker has which jobs of the device: what its profile says
+abbrev pub choice_of : Start → Choice
+choice_of start = (outbox_of start.history).workers
+
 -- the results of a worker that entered the queue, in the order in which they did
-abbrev pub entered : ℕ → List Event → List Report
-entered worker events = reports_of worker (reports_in events)
+abbrev pub entered : Choice → ℕ → List Event → List Report
+entered ws worker events = reports_of ws worker (reports_in events)
 
 -- The results of a worker are of its jobs in the order in which these were accepted: those that were outstanding at the
 -- start, and then those that were accepted since. The jobs that are left are outstanding.
 abbrev pub IsInOrder : ℕ → Start → List Event → Type 0
 IsInOrder worker start events =
-    map (λ r. r.job) (entered worker events) ++ outstanding_of (outbox_of (after_all start events).history) worker
-    ≡ outstanding_of (outbox_of start.history) worker ++ jobs_of worker (jobs_in events)
+    map (λ r. r.job) (entered (choice_of start) worker events) ++ outstanding_of (outbox_of (after_all start events).history) worker
+    ≡ outstanding_of (outbox_of start.history) worker ++ jobs_of (choice_of start) worker (jobs_in events)
 
 -- Wherever a worker closes, none of its results is still to come.
-abbrev pub NothingAfterClose : List Handed → Type 0
-NothingAfterClose [] = Unit {0}
-NothingAfterClose (Result report ∷ handed) = NothingAfterClose handed
-NothingAfterClose (Close worker ∷ handed) = (reports_of worker (results_in handed) ≡ []) × NothingAfterClose handed
+abbrev pub NothingAfterClose : Choice → List Handed → Type 0
+NothingAfterClose ws [] = Unit {0}
+NothingAfterClose ws (Result report ∷ handed) = NothingAfterClose ws handed
+NothingAfterClose ws (Close worker ∷ handed) = (reports_of ws worker (results_in handed) ≡ []) × NothingAfterClose ws handed
 
 -- ---- what the collector recorded
 
@@ -112,11 +116,11 @@ pub record Headline (start : Start) (steps : List Step) (handed : List Handed) (
   pub enters : reports_in events ≡ results_in handed
   pub in_the_queue : KeepsMessages start events
   -- at most once,
-  pub at_most_once : (worker : ℕ) → AreOnce (entered worker events)
+  pub at_most_once : (worker : ℕ) → AreOnce (entered (choice_of start) worker events)
   -- in its worker's order,
   pub in_order : (worker : ℕ) → IsInOrder worker start events
   -- nothing after its close;
-  pub nothing_after_close : NothingAfterClose handed
+  pub nothing_after_close : NothingAfterClose (choice_of start) handed
   -- and what the collector recorded, which is the message of each poll that was heard as one,
   pub what_was_heard : collected ≡ recorded events
   -- adjacent equal messages joined, is a prefix of what the responder dispensed, joined likewise,
@@ -137,14 +141,14 @@ HeadlineHolds =
 abbrev pub TwiceIsRuledOut : Type 0
 TwiceIsRuledOut =
     (start : Start) (steps : List Step) (handed : List Handed) (events : List Event) (collected : List Message) (worker : ℕ) (r s : Report)
-    → entered worker events ≡ r ∷ s ∷ [] → r.job ≡ s.job → ¬ Headline start steps handed events collected
+    → entered (choice_of start) worker events ≡ r ∷ s ∷ [] → r.job ≡ s.job → ¬ Headline start steps handed events collected
 
 -- A device that lets the result of a worker's second job into its queue before that of the first.
 abbrev pub LaterFirstIsRuledOut : Type 0
 LaterFirstIsRuledOut =
     (start : Start) (steps : List Step) (handed : List Handed) (events : List Event) (collected : List Message) (worker : ℕ) (r : Report)
     (first second : Job) (more : List Job) → outstanding_of (outbox_of start.history) worker ≡ first ∷ second ∷ more
-    → entered worker events ≡ r ∷ [] → r.job ≡ second → first ≢ second → ¬ Headline start steps handed events collected
+    → entered (choice_of start) worker events ≡ r ∷ [] → r.job ≡ second → first ≢ second → ¬ Headline start steps handed events collected
 
 -- A device that answers a request that it hasn't heard.
 abbrev pub AnsweringTheUnheardIsRuledOut : Type 0
@@ -157,7 +161,7 @@ AnsweringTheUnheardIsRuledOut =
 abbrev pub AfterTheCloseIsRuledOut : Type 0
 AfterTheCloseIsRuledOut =
     (start : Start) (steps : List Step) (events : List Event) (collected : List Message) (r : Report)
-    → ¬ Headline start steps (Close (worker_of r.job.work) ∷ Result r ∷ []) events collected
+    → ¬ Headline start steps (Close (worker_at (choice_of start) r.job.work) ∷ Result r ∷ []) events collected
 
 -- A collector that skips a message, as it does when it asks for the next one after a loss.
 abbrev pub SkippingIsRuledOut : Type 0

@@ -76,11 +76,11 @@ PollingInTurnHolds = (start : Start) (steps : List Step) (events : List Event) �
 -- whatever has happened to the device.
 abbrev pub JobsAreNumbered : Type 0
 JobsAreNumbered =
-    (h : History) (worker k : ℕ) (job : Job) → slice_get (jobs_of worker (outbox_of h).accepted) k ≡ Some job
+    (h : History) (worker k : ℕ) (job : Job) → slice_get (jobs_of (outbox_of h).workers worker (outbox_of h).accepted) k ≡ Some job
     → job.number ≡ number_after h.setup.first_job k
 
 -- So no two jobs of a worker have the same number.
 abbrev pub NumbersDiffer : Type 0
 NumbersDiffer =
-    (h : History) (worker i k : ℕ) (job other : Job) → slice_get (jobs_of worker (outbox_of h).accepted) i ≡ Some job
-    → slice_get (jobs_of worker (outbox_of h).accepted) k ≡ Some other → job.number ≡ other.number → i ≡ k
+    (h : History) (worker i k : ℕ) (job other : Job) → slice_get (jobs_of (outbox_of h).workers worker (outbox_of h).accepted) i ≡ Some job
+    → slice_get (jobs_of (outbox_of h).workers worker (outbox_of h).accepted) k ≡ Some other → job.number ≡ other.number → i ≡ k

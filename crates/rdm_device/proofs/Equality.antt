@@ -14,6 +14,8 @@ use Rattle.rdm_device.specs.declared.profile.SensorDef.{SensorDef}
 use Rattle.rdm_device.specs.declared.profile.Slot.{Slot}
 use Rattle.rdm_device.specs.declared.profile.StatusText.{StatusText}
 use Rattle.rdm_device.specs.declared.profile.Unit.{Unit as DeviceUnit}
+use Rattle.rdm_device.specs.declared.profile.workers.Worker.{Worker}
+use Rattle.rdm_device.specs.declared.profile.workers.Workers.{Workers}
 use Rattle.rdm_device.specs.declared.profile.own.ParameterDef.{ParameterDef}
 use Rattle.rdm_device.specs.declared.profile.own.Rights.{Rights}
 use Rattle.rdm_device.specs.declared.profile.own.Shape.{Shape}
@@ -25,6 +27,8 @@ use Rattle.rdm_device.specs.contracts.profile.SlotPartialEq.TheImpl as slots
 use Rattle.rdm_device.specs.contracts.profile.StatusTextPartialEq.TheImpl as status_texts
 use Rattle.rdm_device.specs.contracts.profile.UnitPartialEq.TheImpl as units
 use Rattle.rdm_device.specs.contracts.profile.estimates.EstimatesPartialEq.TheImpl as estimates
+use Rattle.rdm_device.specs.contracts.profile.workers.WorkerPartialEq.TheImpl as worker
+use Rattle.rdm_device.specs.contracts.profile.workers.WorkersPartialEq.TheImpl as workers
 use Rattle.rdm_device.specs.contracts.profile.own.ParameterDefPartialEq.TheImpl as parameter_defs
 use Rattle.rdm_device.specs.contracts.profile.own.RightsPartialEq.TheImpl as rights
 use Rattle.rdm_device.specs.contracts.profile.own.ShapePartialEq.TheImpl as shapes
@@ -61,11 +65,11 @@ bools false false = (λ e. refl, λ e. refl)
 
 -- ---- sensors
 
-abbrev sensor_of : ℕ → ℕ → ℕ → ℤ → ℤ → ℤ → ℤ → ℕ → List ℕ → Bool → SensorDef
+abbrev sensor_of : ℕ → ℕ → ℕ → ℤ → ℤ → ℤ → ℤ → ℕ → Bool → List ℕ → SensorDef
 sensor_of a0 a1 a2 a3 a4 a5 a6 a7 a8 a9 =
-    record { kind = a0; unit = a1; prefix = a2; low = a3; high = a4; normal_low = a5; normal_high = a6; support = a7; name = a8; at_once = a9 }
+    record { kind = a0; unit = a1; prefix = a2; low = a3; high = a4; normal_low = a5; normal_high = a6; support = a7; at_once = a8; name = a9 }
 
-same_sensor : {a0 b0 a1 b1 a2 b2 : ℕ} {a3 b3 a4 b4 a5 b5 a6 b6 : ℤ} {a7 b7 : ℕ} {a8 b8 : List ℕ} {a9 b9 : Bool}
+same_sensor : {a0 b0 a1 b1 a2 b2 : ℕ} {a3 b3 a4 b4 a5 b5 a6 b6 : ℤ} {a7 b7 : ℕ} {a8 b8 : Bool} {a9 b9 : List ℕ}
     → (a0 ≡ b0) × ((a1 ≡ b1) × ((a2 ≡ b2) × ((a3 ≡ b3) × ((a4 ≡ b4) × ((a5 ≡ b5) × ((a6 ≡ b6) × ((a7 ≡ b7) × ((a8 ≡ b8) × (a9 ≡ b9)))))))))
     → sensor_of a0 a1 a2 a3 a4 a5 a6 a7 a8 a9 ≡ sensor_of b0 b1 b2 b3 b4 b5 b6 b7 b8 b9
 same_sensor e = rw (e.0, e.1.0, e.1.1.0, e.1.1.1.0, e.1.1.1.1.0, e.1.1.1.1.1.0, e.1.1.1.1.1.1.0, e.1.1.1.1.1.1.1.0, e.1.1.1.1.1.1.1.1.0, e.1.1.1.1.1.1.1.1.1) refl
@@ -73,8 +77,8 @@ same_sensor e = rw (e.0, e.1.0, e.1.1.0, e.1.1.1.0, e.1.1.1.1.0, e.1.1.1.1.1.0, 
 pub sensor_decides : IsByValue sensor_defs.ghosts.eq
 sensor_decides a b =
     Decides-like _ same_sensor
-    (λ e. (ap (λ (s : SensorDef). s.kind) e, (ap (λ (s : SensorDef). s.unit) e, (ap (λ (s : SensorDef). s.prefix) e, (ap (λ (s : SensorDef). s.low) e, (ap (λ (s : SensorDef). s.high) e, (ap (λ (s : SensorDef). s.normal_low) e, (ap (λ (s : SensorDef). s.normal_high) e, (ap (λ (s : SensorDef). s.support) e, (ap (λ (s : SensorDef). s.name) e, ap (λ (s : SensorDef). s.at_once) e))))))))))
-    (number a.kind b.kind (number a.unit b.unit (number a.prefix b.prefix (integer a.low b.low (integer a.high b.high (integer a.normal_low b.normal_low (integer a.normal_high b.normal_high (number a.support b.support (text a.name b.name (bools a.at_once b.at_once))))))))))
+    (λ e. (ap (λ (s : SensorDef). s.kind) e, (ap (λ (s : SensorDef). s.unit) e, (ap (λ (s : SensorDef). s.prefix) e, (ap (λ (s : SensorDef). s.low) e, (ap (λ (s : SensorDef). s.high) e, (ap (λ (s : SensorDef). s.normal_low) e, (ap (λ (s : SensorDef). s.normal_high) e, (ap (λ (s : SensorDef). s.support) e, (ap (λ (s : SensorDef). s.at_once) e, ap (λ (s : SensorDef). s.name) e))))))))))
+    (number a.kind b.kind (number a.unit b.unit (number a.prefix b.prefix (integer a.low b.low (integer a.high b.high (integer a.normal_low b.normal_low (integer a.normal_high b.normal_high (number a.support b.support (Decides-and _ _ (bools a.at_once b.at_once) (text_decides a.name b.name))))))))))
 
 -- ---- units
 
@@ -124,19 +128,33 @@ estimates_decide a b =
     (λ e. (ap (λ (x : Estimates). x.lamp) e, (ap (λ (x : Estimates). x.power) e, (ap (λ (x : Estimates). x.self_test) e, ap (λ (x : Estimates). x.sensor) e))))
     (number a.lamp b.lamp (number a.power b.power (number a.self_test b.self_test (Decides-eqb a.sensor b.sensor))))
 
+-- ---- workers
+
+abbrev workers_of : Worker → Worker → Worker → Worker → Workers
+workers_of a0 a1 a2 a3 = record { lamp = a0; power = a1; self_test = a2; sensor = a3 }
+
+same_workers : {a0 b0 a1 b1 a2 b2 a3 b3 : Worker} → (a0 ≡ b0) × ((a1 ≡ b1) × ((a2 ≡ b2) × (a3 ≡ b3))) → workers_of a0 a1 a2 a3 ≡ workers_of b0 b1 b2 b3
+same_workers e = rw (e.0, e.1.0, e.1.1.0, e.1.1.1) refl
+
+pub workers_decide : IsByValue worker.ghosts.eq → IsByValue workers.ghosts.eq
+workers_decide each a b =
+    Decides-like _ same_workers
+    (λ e. (ap (λ (x : Workers). x.lamp) e, (ap (λ (x : Workers). x.power) e, (ap (λ (x : Workers). x.self_test) e, ap (λ (x : Workers). x.sensor) e))))
+    (Decides-and _ _ (each a.lamp b.lamp) (Decides-and _ _ (each a.power b.power) (Decides-and _ _ (each a.self_test b.self_test) (each a.sensor b.sensor))))
+
 -- ---- profiles
 
-abbrev profile_of : DeviceUnit → DeviceUnit → ℕ → ℕ → List ℕ → ArrayVec ℕ 8 (Unit {0}) → ArrayVec Slot 46 (Unit {0}) → ArrayVec SensorDef 8 (Unit {0}) → ArrayVec SelfTest 8 (Unit {0}) → ArrayVec StatusText 8 (Unit {0}) → ℕ → List ParameterDef → ArrayVec ℕ 36 (Unit {0}) → ℕ → Estimates → Profile
-profile_of a0 a1 a2 a3 a4 a5 a6 a7 a8 a9 a10 a11 a12 a13 a14 =
-    record { root = a0; sub = a1; subs = a2; boot = a3; boot_text = a4; languages = a5; slots = a6; sensors = a7; tests = a8; status_texts = a9; presets = a10; own = a11; without = a12; more_slots = a13; estimates = a14 }
+abbrev profile_of : DeviceUnit → DeviceUnit → ℕ → ℕ → List ℕ → ArrayVec ℕ 8 (Unit {0}) → ArrayVec Slot 46 (Unit {0}) → ArrayVec SensorDef 8 (Unit {0}) → ArrayVec SelfTest 8 (Unit {0}) → ArrayVec StatusText 8 (Unit {0}) → ℕ → List ParameterDef → ArrayVec ℕ 36 (Unit {0}) → ℕ → Estimates → Workers → Profile
+profile_of a0 a1 a2 a3 a4 a5 a6 a7 a8 a9 a10 a11 a12 a13 a14 a15 =
+    record { root = a0; sub = a1; subs = a2; boot = a3; boot_text = a4; languages = a5; slots = a6; sensors = a7; tests = a8; status_texts = a9; presets = a10; own = a11; without = a12; more_slots = a13; estimates = a14; workers = a15 }
 
-same_profile : {a0 b0 : DeviceUnit} {a1 b1 : DeviceUnit} {a2 b2 : ℕ} {a3 b3 : ℕ} {a4 b4 : List ℕ} {a5 b5 : ArrayVec ℕ 8 (Unit {0})} {a6 b6 : ArrayVec Slot 46 (Unit {0})} {a7 b7 : ArrayVec SensorDef 8 (Unit {0})} {a8 b8 : ArrayVec SelfTest 8 (Unit {0})} {a9 b9 : ArrayVec StatusText 8 (Unit {0})} {a10 b10 : ℕ} {a11 b11 : List ParameterDef} {a12 b12 : ArrayVec ℕ 36 (Unit {0})} {a13 b13 : ℕ} {a14 b14 : Estimates}
-    → (a0 ≡ b0) × ((a1 ≡ b1) × ((a2 ≡ b2) × ((a3 ≡ b3) × ((a4 ≡ b4) × ((a5 ≡ b5) × ((a6 ≡ b6) × ((a7 ≡ b7) × ((a8 ≡ b8) × ((a9 ≡ b9) × ((a10 ≡ b10) × ((a11 ≡ b11) × ((a12 ≡ b12) × ((a13 ≡ b13) × (a14 ≡ b14))))))))))))))
-    → profile_of a0 a1 a2 a3 a4 a5 a6 a7 a8 a9 a10 a11 a12 a13 a14 ≡ profile_of b0 b1 b2 b3 b4 b5 b6 b7 b8 b9 b10 b11 b12 b13 b14
-same_profile e = rw (e.0, e.1.0, e.1.1.0, e.1.1.1.0, e.1.1.1.1.0, e.1.1.1.1.1.0, e.1.1.1.1.1.1.0, e.1.1.1.1.1.1.1.0, e.1.1.1.1.1.1.1.1.0, e.1.1.1.1.1.1.1.1.1.0, e.1.1.1.1.1.1.1.1.1.1.0, e.1.1.1.1.1.1.1.1.1.1.1.0, e.1.1.1.1.1.1.1.1.1.1.1.1.0, e.1.1.1.1.1.1.1.1.1.1.1.1.1.0, e.1.1.1.1.1.1.1.1.1.1.1.1.1.1) refl
+same_profile : {a0 b0 : DeviceUnit} {a1 b1 : DeviceUnit} {a2 b2 : ℕ} {a3 b3 : ℕ} {a4 b4 : List ℕ} {a5 b5 : ArrayVec ℕ 8 (Unit {0})} {a6 b6 : ArrayVec Slot 46 (Unit {0})} {a7 b7 : ArrayVec SensorDef 8 (Unit {0})} {a8 b8 : ArrayVec SelfTest 8 (Unit {0})} {a9 b9 : ArrayVec StatusText 8 (Unit {0})} {a10 b10 : ℕ} {a11 b11 : List ParameterDef} {a12 b12 : ArrayVec ℕ 36 (Unit {0})} {a13 b13 : ℕ} {a14 b14 : Estimates} {a15 b15 : Workers}
+    → (a0 ≡ b0) × ((a1 ≡ b1) × ((a2 ≡ b2) × ((a3 ≡ b3) × ((a4 ≡ b4) × ((a5 ≡ b5) × ((a6 ≡ b6) × ((a7 ≡ b7) × ((a8 ≡ b8) × ((a9 ≡ b9) × ((a10 ≡ b10) × ((a11 ≡ b11) × ((a12 ≡ b12) × ((a13 ≡ b13) × ((a14 ≡ b14) × (a15 ≡ b15)))))))))))))))
+    → profile_of a0 a1 a2 a3 a4 a5 a6 a7 a8 a9 a10 a11 a12 a13 a14 a15 ≡ profile_of b0 b1 b2 b3 b4 b5 b6 b7 b8 b9 b10 b11 b12 b13 b14 b15
+same_profile e = rw (e.0, e.1.0, e.1.1.0, e.1.1.1.0, e.1.1.1.1.0, e.1.1.1.1.1.0, e.1.1.1.1.1.1.0, e.1.1.1.1.1.1.1.0, e.1.1.1.1.1.1.1.1.0, e.1.1.1.1.1.1.1.1.1.0, e.1.1.1.1.1.1.1.1.1.1.0, e.1.1.1.1.1.1.1.1.1.1.1.0, e.1.1.1.1.1.1.1.1.1.1.1.1.0, e.1.1.1.1.1.1.1.1.1.1.1.1.1.0, e.1.1.1.1.1.1.1.1.1.1.1.1.1.1.0, e.1.1.1.1.1.1.1.1.1.1.1.1.1.1.1) refl
 
-pub profile_decides : IsByValue units.ghosts.eq → IsByValue slots.ghosts.eq → IsByValue sensor_defs.ghosts.eq → IsByValue self_tests.ghosts.eq → IsByValue status_texts.ghosts.eq → IsByValue parameter_defs.ghosts.eq → IsByValue estimates.ghosts.eq → IsByValue profiles.ghosts.eq
-profile_decides unit slot sensor self_test status parameter estimate a b =
+pub profile_decides : IsByValue units.ghosts.eq → IsByValue slots.ghosts.eq → IsByValue sensor_defs.ghosts.eq → IsByValue self_tests.ghosts.eq → IsByValue status_texts.ghosts.eq → IsByValue parameter_defs.ghosts.eq → IsByValue estimates.ghosts.eq → IsByValue workers.ghosts.eq → IsByValue profiles.ghosts.eq
+profile_decides unit slot sensor self_test status parameter estimate chosen a b =
     Decides-like _ same_profile
-    (λ e. (ap (λ (p : Profile). p.root) e, (ap (λ (p : Profile). p.sub) e, (ap (λ (p : Profile). p.subs) e, (ap (λ (p : Profile). p.boot) e, (ap (λ (p : Profile). p.boot_text) e, (ap (λ (p : Profile). p.languages) e, (ap (λ (p : Profile). p.slots) e, (ap (λ (p : Profile). p.sensors) e, (ap (λ (p : Profile). p.tests) e, (ap (λ (p : Profile). p.status_texts) e, (ap (λ (p : Profile). p.presets) e, (ap (λ (p : Profile). p.own) e, (ap (λ (p : Profile). p.without) e, (ap (λ (p : Profile). p.more_slots) e, ap (λ (p : Profile). p.estimates) e)))))))))))))))
-    (Decides-and _ _ (unit a.root b.root) (Decides-and _ _ (unit a.sub b.sub) (number a.subs b.subs (number a.boot b.boot (text a.boot_text b.boot_text (Decides-and _ _ (list_decides 8 Decides-eqb a.languages b.languages) (Decides-and _ _ (list_decides 46 slot a.slots b.slots) (Decides-and _ _ (list_decides 8 sensor a.sensors b.sensors) (Decides-and _ _ (list_decides 8 self_test a.tests b.tests) (Decides-and _ _ (list_decides 8 status a.status_texts b.status_texts) (number a.presets b.presets (Decides-and _ _ (slice_eq-Decides parameter a.own b.own _ refl) (Decides-and _ _ (list_decides 36 Decides-eqb a.without b.without) (number a.more_slots b.more_slots (estimate a.estimates b.estimates)))))))))))))))
+    (λ e. (ap (λ (p : Profile). p.root) e, (ap (λ (p : Profile). p.sub) e, (ap (λ (p : Profile). p.subs) e, (ap (λ (p : Profile). p.boot) e, (ap (λ (p : Profile). p.boot_text) e, (ap (λ (p : Profile). p.languages) e, (ap (λ (p : Profile). p.slots) e, (ap (λ (p : Profile). p.sensors) e, (ap (λ (p : Profile). p.tests) e, (ap (λ (p : Profile). p.status_texts) e, (ap (λ (p : Profile). p.presets) e, (ap (λ (p : Profile). p.own) e, (ap (λ (p : Profile). p.without) e, (ap (λ (p : Profile). p.more_slots) e, (ap (λ (p : Profile). p.estimates) e, ap (λ (p : Profile). p.workers) e))))))))))))))))
+    (Decides-and _ _ (unit a.root b.root) (Decides-and _ _ (unit a.sub b.sub) (number a.subs b.subs (number a.boot b.boot (text a.boot_text b.boot_text (Decides-and _ _ (list_decides 8 Decides-eqb a.languages b.languages) (Decides-and _ _ (list_decides 46 slot a.slots b.slots) (Decides-and _ _ (list_decides 8 sensor a.sensors b.sensors) (Decides-and _ _ (list_decides 8 self_test a.tests b.tests) (Decides-and _ _ (list_decides 8 status a.status_texts b.status_texts) (number a.presets b.presets (Decides-and _ _ (slice_eq-Decides parameter a.own b.own _ refl) (Decides-and _ _ (list_decides 36 Decides-eqb a.without b.without) (number a.more_slots b.more_slots (Decides-and _ _ (estimate a.estimates b.estimates) (chosen a.workers b.workers))))))))))))))))

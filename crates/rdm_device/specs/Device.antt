@@ -10,3 +10,4 @@ pub mod Plain
 pub mod Profiles
 pub mod Spot
 pub mod Values
+pub mod Workers

@@ -4,7 +4,7 @@ ghost use Rattle.std.specs.Prelude.{◌≡◌, ◌↔◌, IsTrue};
 
 use crate::{
     Estimates, ParameterDef, Personality, Profile, ProfileFault, Rights, SelfTest, SensorDef,
-    Shape, Slot, StatusText, Unit, Value,
+    Shape, Slot, StatusText, Unit, Value, Worker, Workers,
 };
 
 /// Two personalities are equal by `==` exactly when their footprints and their names are.
@@ -62,6 +62,18 @@ pub fn estimates_are_equal_by_value()
     ensures { (a b : Estimates) → IsTrue (⟦<Estimates as PartialEq>⟧.eq a b) ↔ (a ≡ b) }
 {}
 
+/// Two values of `Worker` are equal by `==` exactly when they are the same.
+pub fn workers_are_equal_by_value()
+    ensures { (a b : Worker) → IsTrue (⟦<Worker as PartialEq>⟧.eq a b) ↔ (a ≡ b) }
+{}
+
+/// Two values of `Workers` are equal by `==` exactly when each of their fields is.
+pub fn choices_of_workers_are_equal_by_value()
+    ensures { (a b : Workers) → IsTrue (⟦<Workers as PartialEq>⟧.eq a b) ↔ (a ≡ b) }
+{
+    workers_are_equal_by_value();
+}
+
 /// Two profiles are equal by `==` exactly when each of their fields is.
 pub fn profiles_are_equal_by_value()
     ensures { (p q : Profile) → IsTrue (⟦<Profile as PartialEq>⟧.eq p q) ↔ (p ≡ q) }
@@ -73,6 +85,7 @@ pub fn profiles_are_equal_by_value()
     status_texts_are_equal_by_value();
     parameter_defs_are_equal_by_value();
     estimates_are_equal_by_value();
+    choices_of_workers_are_equal_by_value();
 }
 
 /// Two values are equal by `==` exactly when they have the same form and all that they hold is equal.

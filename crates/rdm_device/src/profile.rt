@@ -9,10 +9,11 @@ pub(crate) mod left_out;
 mod making;
 pub(crate) mod own;
 pub(crate) mod own_checks;
+pub(crate) mod workers;
 
 ghost use Rattle.std.specs.Prelude.{◌≡◌};
 
-use crate::{Estimates, OwnParameters};
+use crate::{Estimates, OwnParameters, Workers};
 use arrayvec::ArrayVec;
 use rdm_frame::Text;
 
@@ -57,10 +58,10 @@ pub struct SensorDef {
     pub normal_high: i16,
     /// Which of the recorded, lowest and highest values it supports.
     pub support: u8,
-    /// What the sensor is called.
-    pub name: Text,
     /// Whether SENSOR_VALUE is answered at once with what the firmware placed last, and no job measures (section 10.7.2).
     pub at_once: bool,
+    /// What the sensor is called.
+    pub name: Text,
 }
 
 impl SensorDef {
@@ -77,8 +78,8 @@ impl SensorDef {
             normal_low: self.normal_low,
             normal_high: self.normal_high,
             support: self.support,
-            name: self.name.copy(),
             at_once: self.at_once,
+            name: self.name.copy(),
         }
     }
 }
@@ -157,4 +158,6 @@ pub struct Profile {
     pub more_slots: u16,
     /// How long its slow commands take.
     pub estimates: Estimates,
+    /// Which of the two workers carries them out.
+    pub workers: Workers,
 }

@@ -17,7 +17,7 @@ use Rattle.rdm_params.specs.Commands.Panel.{can_change, after_change, told, chan
 use Rattle.rdm_params.specs.Device.Parameters.{Parameters}
 use Rattle.rdm_params.specs.Jobs.Commit.{after_commit, committed, message_of}
 use Rattle.rdm_params.specs.Jobs.Thresholds.{notes}
-use Rattle.rdm_params.specs.Jobs.Work.{worker_of}
+use Rattle.rdm_params.specs.Jobs.Work.{worker_at}
 use Rattle.rdm_outbox.specs.Account as outbox
 use Rattle.rdm_outbox.specs.Jobs.{has_room, after_arrive}
 use Rattle.rdm_outbox.specs.Messages.{is_last, last_or, last_of, next_of, after_next, dispensed, status_dispensed}
@@ -146,7 +146,7 @@ happened : (a : Account) (e : Event) → AreResponses a.outbox → AreResponses 
 happened a (Heard bytes) are = requested a (request_in a.setup.uid (frame_in bytes)) are
 happened a (Arrived r) are =
     ended (after_commit a.parameters r.job.work r.outcome) _ r.job.work r.outcome
-    (arrived a.outbox (worker_of r.job.work) (committed a.parameters r.job.work r.outcome) (committed_is a.parameters r.job.work r.outcome) are)
+    (arrived a.outbox (worker_at a.outbox.workers r.job.work) (committed a.parameters r.job.work r.outcome) (committed_is a.parameters r.job.work r.outcome) are)
 happened a (Changed change) are = posted a.outbox (change_message a.parameters change) (change_is a.parameters change) are
 happened a (Placed sub pid bytes) are = are
 happened a (Noted entry) are = noted a.parameters a.outbox entry are

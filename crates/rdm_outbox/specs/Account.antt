@@ -2,6 +2,7 @@
 use Rattle.std.specs.Prelude.{ℕ, Bool, List, []}
 use Rattle.rdm_params.specs.declared.jobs.message.Message.{Message}
 use Rattle.rdm_params.specs.declared.jobs.status.Entry.{Entry}
+use Rattle.rdm_params.specs.Jobs.Work.{Choice}
 use Rattle.rdm_outbox.specs.declared.job.Job.{Job}
 
 -- A status entry that was noted, and whether it counts as shown: a status message has shown it, or CLEAR_STATUS_ID came
@@ -11,7 +12,7 @@ pub record Noted : Type 0 where
   pub shown : Bool
 
 -- The greatest number of jobs and messages together, of jobs for each worker, and of entries that wait to be shown; the
--- number of each worker's first job; the jobs that were accepted; the workers whose jobs have ended, one for each; the
+-- number of each worker's first job; which worker carries out which work; the jobs that were accepted; the workers whose jobs have ended, one for each; the
 -- messages that arrived, and how many of them were given to the controller; the status entries; and the answers to
 -- QUEUED_MESSAGE and STATUS_MESSAGES, repeats left out. All of them in order of time.
 pub record Account : Type 0 where
@@ -19,6 +20,7 @@ pub record Account : Type 0 where
   pub jobs : ℕ
   pub entries : ℕ
   pub first_job : ℕ
+  pub workers : Choice
   pub accepted : List Job
   pub ended : List ℕ
   pub arrived : List Message
@@ -27,12 +29,13 @@ pub record Account : Type 0 where
   pub answers : List Message
 
 -- the account of an outbox that was just made
-abbrev pub account_before : ℕ → ℕ → ℕ → ℕ → Account
-account_before q jobs entries first_job = record {
+abbrev pub account_before : ℕ → ℕ → ℕ → ℕ → Choice → Account
+account_before q jobs entries first_job workers = record {
   q = q;
   jobs = jobs;
   entries = entries;
   first_job = first_job;
+  workers = workers;
   accepted = [];
   ended = [];
   arrived = [];

@@ -2,15 +2,15 @@
 use Rattle.std.specs.Prelude.{ℕ, ◌+◌, ◌%◌, ◌^◌, ◌==◌, ◌&&◌, Bool, List, [], ◌∷◌, ◌++◌, length, drop, filter, count_by, nat_lt, Result, Ok, Err, if◌then◌else◌}
 use Rattle.rdm_params.specs.declared.jobs.message.Message.{Message}
 use Rattle.rdm_params.specs.declared.jobs.work.Work.{Work}
-use Rattle.rdm_params.specs.Jobs.Work.{worker_of}
+use Rattle.rdm_params.specs.Jobs.Work.{Choice, worker_at}
 use Rattle.rdm_outbox.specs.declared.job.Job.{Job}
 use Rattle.rdm_outbox.specs.declared.job.Full.{Full}
 use Rattle.rdm_outbox.specs.declared.job.Full.TheVariants.{NoRoom}
 use Rattle.rdm_outbox.specs.Account.{Account}
 
--- the jobs of a worker
-abbrev pub jobs_of : ℕ → List Job → List Job
-jobs_of worker jobs = filter (λ job. worker_of job.work == worker) jobs
+-- the jobs of a worker, by this choice
+abbrev pub jobs_of : Choice → ℕ → List Job → List Job
+jobs_of ws worker jobs = filter (λ job. worker_at ws job.work == worker) jobs
 
 -- how many of a worker's jobs have ended
 abbrev pub ended_of : ℕ → List ℕ → ℕ
@@ -18,7 +18,7 @@ ended_of worker ended = count_by (λ w. w == worker) ended
 
 -- The outstanding jobs of a worker: those that were accepted, without as many of the first as have ended.
 abbrev pub outstanding_of : Account → ℕ → List Job
-outstanding_of a worker = drop (ended_of worker a.ended) (jobs_of worker a.accepted)
+outstanding_of a worker = drop (ended_of worker a.ended) (jobs_of a.workers worker a.accepted)
 
 -- the outstanding jobs of both workers, counted
 abbrev pub outstanding_count : Account → ℕ
@@ -30,7 +30,7 @@ waiting_of a = drop a.given a.arrived
 
 -- how many jobs a worker was given
 abbrev pub given_to : ℕ → Account → ℕ
-given_to worker a = length (jobs_of worker a.accepted)
+given_to worker a = length (jobs_of a.workers worker a.accepted)
 
 -- The number of a worker's next job, from that of its first and how many it was given. Numbers have 32 bits: after the
 -- greatest comes 0.
@@ -43,7 +43,7 @@ numbered number work = record { number = number; work = work }
 
 -- the job that this work becomes, with the next number of its worker
 abbrev pub next_job : Account → Work → Job
-next_job a work = numbered (number_after a.first_job (given_to (worker_of work) a)) work
+next_job a work = numbered (number_after a.first_job (given_to (worker_at a.workers work) a)) work
 
 -- There is a place for one more: outstanding jobs and waiting messages are fewer than q.
 abbrev pub has_place : Account → Bool
@@ -51,7 +51,7 @@ has_place a = nat_lt (outstanding_count a + length (waiting_of a)) a.q
 
 -- The room rule: there is a place, and the worker may be given a further job.
 abbrev pub has_room : Account → Work → Bool
-has_room a work = has_place a && nat_lt (given_to (worker_of work) a) a.jobs
+has_room a work = has_place a && nat_lt (given_to (worker_at a.workers work) a) a.jobs
 
 -- what `reserve` answers, and the account after it
 abbrev pub reserved : Account → Work → Result Job Full

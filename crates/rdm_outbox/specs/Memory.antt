@@ -11,6 +11,7 @@ seen o = record {
   jobs = o.jobs;
   entries = o.entries;
   first_job = o.first_job;
+  workers = o.workers;
   first = o.first.items;
   second = o.second.items;
   first_given = o.first_given;

@@ -2,15 +2,17 @@
 use Rattle.std.specs.Prelude.{ℕ, ◌+◌, ◌≤◌, ◌==◌, Bool, List, [], length, nat_lt, if◌then◌else◌}
 use Rattle.rdm_params.specs.declared.jobs.message.Message.{Message}
 use Rattle.rdm_params.specs.declared.jobs.status.Entry.{Entry}
+use Rattle.rdm_params.specs.Jobs.Work.{Choice}
 use Rattle.rdm_outbox.specs.declared.job.Job.{Job}
 
--- Its three bounds; the number of each worker's first job; of the first and the second worker the outstanding jobs, and how
+-- Its three bounds; the number of each worker's first job; which worker carries out which work; of the first and the second worker the outstanding jobs, and how
 -- many it was given; the messages that wait; the entries that weren't shown; and the last message.
 pub record State : Type 0 where
   pub q : ℕ
   pub jobs : ℕ
   pub entries : ℕ
   pub first_job : ℕ
+  pub workers : Choice
   pub first : List Job
   pub second : List Job
   pub first_given : ℕ

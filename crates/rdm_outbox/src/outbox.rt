@@ -7,7 +7,8 @@ ghost use Rattle.rdm_outbox.specs.Jobs.{outstanding_of, outstanding_count, waiti
 ghost use Rattle.rdm_outbox.specs.Messages.{is_last, last_of, next_of, after_next, after_post, dispensed, after_dispense, status_dispensed, after_status};
 ghost use Rattle.rdm_outbox.specs.Shows.{Shows};
 ghost use Rattle.rdm_outbox.specs.State.{IsListSize, IsOutboxSize, jobs_at, most_entries, place_in};
-ghost use Rattle.rdm_params.specs.Jobs.Work.{worker_of};
+ghost use Rattle.rdm_params.specs.Device.Workers.{usual_workers};
+ghost use Rattle.rdm_params.specs.Jobs.Work.{worker_at};
 ghost use Rattle.rdm_outbox.specs.Statuses.{after_clear, can_note, after_note, status_now, after_status_now};
 
 use crate::giving::give;
@@ -15,7 +16,7 @@ use crate::ring::{drop_first, put};
 use crate::showing::{empty_status, is_last, show_status};
 use crate::{Dispensed, Full, Job, NewError};
 use circular_buffer::HeapCircularBuffer;
-use rdm_params::{Ask, Entry, Message, Work, worker_of};
+use rdm_params::{Ask, Entry, Message, Work, Workers, worker_at};
 use std::alloc::Global;
 use std::marker::Model;
 
@@ -32,6 +33,7 @@ pub struct Outbox {
     jobs: u32,
     entries: u16,
     first_job: u32,
+    workers: Workers,
     first: HeapCircularBuffer<Job>,
     second: HeapCircularBuffer<Job>,
     first_given: u32,
@@ -60,7 +62,7 @@ impl Outbox {
     /// A `q` that isn't 1 to 1,024, or a `jobs` of 0, is rejected first, then comes out of memory. No later call takes
     /// memory.
     pub fn new(alloc: Global, q: u16, jobs: u32) -> Result<Self, NewError>
-        ensures shows { IfOk result (λ outbox. Shows outbox (account_before q jobs most_entries 0)) }
+        ensures shows { IfOk result (λ outbox. Shows outbox (account_before q jobs most_entries 0 usual_workers)) }
         ensures bad_size { (result ≡ Err NewError.BadSize) ↔ (¬ IsOutboxSize q jobs) }
     {
         Outbox::with_entries(alloc, q, jobs, MOST_ENTRIES)
@@ -72,7 +74,7 @@ impl Outbox {
     /// A `q` that isn't 1 to 1,024, a `jobs` of 0, or an `entries` that isn't 1 to 1,024 is rejected first, then comes out of
     /// memory. No later call takes memory.
     pub fn with_entries(alloc: Global, q: u16, jobs: u32, entries: u16) -> Result<Self, NewError>
-        ensures shows { IfOk result (λ outbox. Shows outbox (account_before q jobs entries 0)) }
+        ensures shows { IfOk result (λ outbox. Shows outbox (account_before q jobs entries 0 usual_workers)) }
         ensures bad_size { (result ≡ Err NewError.BadSize) ↔ (¬ (IsOutboxSize q jobs × IsListSize entries)) }
     {
         Outbox::new_numbered(alloc, q, jobs, entries, 0)
@@ -89,7 +91,22 @@ impl Outbox {
         entries: u16,
         first_job: u32,
     ) -> Result<Self, NewError>
-        ensures shows { IfOk result (λ outbox. Shows outbox (account_before q jobs entries first_job)) }
+        ensures shows { IfOk result (λ outbox. Shows outbox (account_before q jobs entries first_job usual_workers)) }
+        ensures bad_size { (result ≡ Err NewError.BadSize) ↔ (¬ (IsOutboxSize q jobs × IsListSize entries)) }
+    {
+        Outbox::new_for(alloc, q, jobs, entries, first_job, Workers::usual())
+    }
+
+    /// An outbox as of `new_numbered`, whose jobs have these workers. That of `new_numbered` has the usual ones.
+    pub fn new_for(
+        alloc: Global,
+        q: u16,
+        jobs: u32,
+        entries: u16,
+        first_job: u32,
+        workers: Workers,
+    ) -> Result<Self, NewError>
+        ensures shows { IfOk result (λ outbox. Shows outbox (account_before q jobs entries first_job workers)) }
         ensures bad_size { (result ≡ Err NewError.BadSize) ↔ (¬ (IsOutboxSize q jobs × IsListSize entries)) }
     {
         if q == 0 || q > MOST_WAITING || jobs == 0 || entries == 0 || entries > MOST_ENTRIES {
@@ -112,6 +129,7 @@ impl Outbox {
             jobs,
             entries,
             first_job,
+            workers,
             first,
             second,
             first_given: 0,
@@ -181,12 +199,12 @@ impl Outbox {
         ensures answer { (a : Account) → Shows self.old a → result ≡ reserved a work }
         ensures shows { (a : Account) → Shows self.old a → Shows self.new (after_reserve a work) }
     {
-        self.reserve_for(worker_of(&work), work)
+        self.reserve_for(worker_at(&self.workers, &work), work)
     }
 
     /// Accepts a job as `reserve` does, for a caller that knows the worker of its work.
     pub fn reserve_for(&mut self, worker: u8, work: Work) -> Result<Job, Full>
-        requires { worker ≡ worker_of work }
+        requires { worker ≡ worker_at self.old.workers work }
         ensures answer { (a : Account) → Shows self.old a → result ≡ reserved a work }
         ensures work { IfOk result (λ job. job.work ≡ work) }
         ensures shows { (a : Account) → Shows self.old a → Shows self.new (after_reserve a work) }

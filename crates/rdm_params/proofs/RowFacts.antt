@@ -17,9 +17,10 @@ use Rattle.rdm_device.specs.Device.OwnParameters.{form_of, has_get, has_set}
 use Rattle.rdm_device.specs.Device.Parameters.{Parameters}
 use Rattle.rdm_device.specs.Device.Spot.{Spot}
 use Rattle.rdm_params.specs.Table.Rows.{Command, Row, table, row_of, row_in, is_left_out, added_rows, added_row, shows_added, takes_added, command_in}
-use Rattle.rdm_params.specs.Table.Uses.{way_of, is_by_job, is_slow, estimate_for}
-use Rattle.rdm_params.specs.Jobs.Laws.{table_estimate}
+use Rattle.rdm_params.specs.Table.Uses.{way_of, is_by_job, is_slow, estimate_for, worker_for}
+use Rattle.rdm_params.specs.Jobs.Laws.{table_estimate, table_worker}
 use Rattle.rdm_device.specs.Device.Estimates.{usual}
+use Rattle.rdm_device.specs.Device.Workers.{usual_workers}
 use Rattle.rdm_params.proofs.AddedRows.{row_has, added_have, here_is}
 use Rattle.rdm_params.proofs.Rows.{found}
 
@@ -30,7 +31,7 @@ ByProfile c = (s t : Spot) (v : Value) → s.profile ≡ t.profile → c.range s
 -- of a command that is answered in this way
 abbrev pub FactsOfWay : ℕ → Verb → Command → Way → Type 0
 FactsOfWay pid verb c AtOnce = Unit {0}
-FactsOfWay pid verb c (ByJob slow) = ByProfile c × ((c.form ≡ byte) × (estimate_for usual slow ≡ table_estimate pid))
+FactsOfWay pid verb c (ByJob slow) = ByProfile c × ((c.form ≡ byte) × ((estimate_for usual slow ≡ table_estimate pid) × (worker_for usual_workers slow ≡ table_worker pid)))
 FactsOfWay pid verb c FromQueue = (pid ≡ 0x0020) × ((verb ≡ Get) × ((s : Spot) (v : Value) → c.range s v ≡ a_message_type byte s v))
 FactsOfWay pid verb c FromStatus = (pid ≡ 0x0030) × (verb ≡ Get)
 FactsOfWay pid verb c Clears = (pid ≡ 0x0032) × (verb ≡ Set)
@@ -48,7 +49,7 @@ quick = (tt, tt)
 rows_say : AllByRecursion RowFacts table
 unfolding table
 rows_say =
-    (((refl, (refl, λ s v. refl)), tt), (((refl, refl), tt), (quick, ((tt, (refl, refl)), (quick, (quick, (quick, (quick, (quick, (quick, (quick, (quick, (quick, (quick, (quick, (quick, (quick, (quick, (quick, (quick, (quick, (quick, (quick, ((((λ s t v same. rw same refl), (refl, refl)), tt), (quick, (quick, (quick, (quick, ((tt, ((λ s t v same. refl), (refl, refl))), (quick, (quick, (quick, (quick, (quick, (quick, (quick, (quick, ((tt, ((λ s t v same. refl), (refl, refl))), ((tt, ((λ s t v same. rw same refl), (refl, refl))), (quick, (quick, tt)))))))))))))))))))))))))))))))))))))))))
+    (((refl, (refl, λ s v. refl)), tt), (((refl, refl), tt), (quick, ((tt, (refl, refl)), (quick, (quick, (quick, (quick, (quick, (quick, (quick, (quick, (quick, (quick, (quick, (quick, (quick, (quick, (quick, (quick, (quick, (quick, (quick, ((((λ s t v same. rw same refl), (refl, (refl, refl))), tt), (quick, (quick, (quick, (quick, ((tt, ((λ s t v same. refl), (refl, (refl, refl)))), (quick, (quick, (quick, (quick, (quick, (quick, (quick, (quick, ((tt, ((λ s t v same. refl), (refl, (refl, refl)))), ((tt, ((λ s t v same. rw same refl), (refl, (refl, refl)))), (quick, (quick, tt)))))))))))))))))))))))))))))))))))))))))
 
 of_verb : (pid : ℕ) (r : Row) (verb : Verb) → Facts pid Get r.get × Facts pid Set r.set → Facts pid verb (command_in (Some r) verb)
 of_verb pid r Get facts = facts.0

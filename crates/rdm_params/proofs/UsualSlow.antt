@@ -20,12 +20,14 @@ use Rattle.rdm_device.specs.Columns.Forms.{byte}
 use Rattle.rdm_device.specs.Columns.Ranges.{a_sensor, sensors}
 use Rattle.rdm_device.specs.Columns.Replies.{sensor_measured}
 use Rattle.rdm_device.specs.Device.Estimates.{usual}
+use Rattle.rdm_device.specs.Device.Workers.{usual_workers}
+use Rattle.rdm_device.specs.declared.profile.workers.Workers.{Workers}
 use Rattle.rdm_device.specs.Device.Values.{byte_or_0}
 use Rattle.rdm_device.specs.Device.Parameters.{Parameters}
 use Rattle.rdm_params.specs.Commands.Commands.{command_of, root_spot, got, accepted, known, read_data, check, ◌>>=◌, verdict, answered, work}
 use Rattle.rdm_params.specs.Jobs.Asks.{ask_of}
-use Rattle.rdm_params.specs.Jobs.Laws.{table_estimate, UsualTakesTheTablesTime, UsualIsAnsweredByTheTable, SensorIsAnsweredAtOnce}
-use Rattle.rdm_params.specs.Jobs.Work.{estimate_in}
+use Rattle.rdm_params.specs.Jobs.Laws.{table_estimate, table_worker, UsualTakesTheTablesTime, UsualHasTheTablesWorkers, UsualIsAnsweredByTheTable, SensorIsAnsweredAtOnce}
+use Rattle.rdm_params.specs.Jobs.Work.{estimate_in, worker_in}
 use Rattle.rdm_params.specs.Table.Rows.{Command, Row, row, root, measures, sets, table, row_of, row_at, command_in}
 use Rattle.rdm_params.specs.Table.Uses.{access, way_of, way_here, needs_no_job, is_at_once, is_by_job, is_slow}
 use Rattle.rdm_params.proofs.AddedCommands.{tabled}
@@ -35,7 +37,7 @@ use Rattle.rdm_params.proofs.RowFacts.{FactsOfWay, Facts, facts_of}
 
 time_in : (pid : ℕ) (verb : Verb) (c : Command) (way : Way) → FactsOfWay pid verb c way → is_by_job way ≡ true → estimate_in usual way ≡ table_estimate pid
 time_in pid verb c AtOnce facts slow = absurd cc
-time_in pid verb c (ByJob kind) facts slow = facts.1.1
+time_in pid verb c (ByJob kind) facts slow = facts.1.1.0
 time_in pid verb c FromQueue facts slow = absurd cc
 time_in pid verb c FromStatus facts slow = absurd cc
 time_in pid verb c Clears facts slow = absurd cc
@@ -48,6 +50,24 @@ pub usual_takes_the_tables_time : UsualTakesTheTablesTime
 usual_takes_the_tables_time p w same slow =
     let command = command_of w.pid w.verb in
     ap (λ (e : Estimates). estimate_in e (way_of command)) same ∙ time_of w.pid w.verb command (facts_of w.pid w.verb) slow
+
+-- ---- the worker
+
+worker_is : (pid : ℕ) (verb : Verb) (c : Command) (way : Way) → FactsOfWay pid verb c way → is_by_job way ≡ true → worker_in usual_workers way ≡ table_worker pid
+worker_is pid verb c AtOnce facts slow = absurd cc
+worker_is pid verb c (ByJob kind) facts slow = facts.1.1.1
+worker_is pid verb c FromQueue facts slow = absurd cc
+worker_is pid verb c FromStatus facts slow = absurd cc
+worker_is pid verb c Clears facts slow = absurd cc
+
+worker_for_command : (pid : ℕ) (verb : Verb) (o : Option Command) → Facts pid verb o → is_slow o ≡ true → worker_in usual_workers (way_of o) ≡ table_worker pid
+worker_for_command pid verb None facts slow = absurd cc
+worker_for_command pid verb (Some c) facts slow = worker_is pid verb c c.way facts slow
+
+pub usual_has_the_tables_workers : UsualHasTheTablesWorkers
+usual_has_the_tables_workers p w same slow =
+    let command = command_of w.pid w.verb in
+    ap (λ (ws : Workers). worker_in ws (way_of command)) same ∙ worker_for_command w.pid w.verb command (facts_of w.pid w.verb) slow
 
 -- ---- the way
 

@@ -18,7 +18,7 @@ ghost use Rattle.rdm_device.specs.declared.value.Value.{Value};
 ghost use Rattle.rdm_params.specs.Views.Verdicts.{verdict_with, NamesItsJob};
 ghost use Rattle.rdm_params.specs.Table.Uses.{way_of, way_at, in_range_of, is_bare, reply};
 ghost use Rattle.rdm_params.specs.Jobs.Asks.{ask_of};
-ghost use Rattle.rdm_params.specs.Jobs.Work.{estimate_of};
+ghost use Rattle.rdm_params.specs.Jobs.Work.{estimate_of, worker_at};
 
 mod added;
 mod addressing;
@@ -32,12 +32,12 @@ mod thresholds;
 
 use crate::commands::addressing::is_all_call;
 use crate::commands::sub_devices::{all_in_range, store_at, store_each};
-use crate::jobs::{Way, estimate_by};
+use crate::jobs::{Way, estimate_by, worker_at};
 use crate::table::find::{Found, find};
 use crate::table::respond::{reply_into, state_into};
 use crate::table::store::{store_added, store_common, store_own};
 use crate::table::within::is_in_range;
-use crate::{Answer, Ask, Changed, Kind, Nack, Profile, Value, Verb, Verdict, Work};
+use crate::{Answer, Ask, Changed, Kind, Nack, Profile, Value, Verb, Verdict, Work, Workers};
 use rdm_device::{Argument, CommonValues, Place, RootValues};
 use rdm_frame::Body;
 use rdm_frame::standard::SUB_DEVICE_ALL_CALL;
@@ -95,6 +95,21 @@ impl Devices {
         ensures { result ≡ estimate_of self.now.profile work.now }
     {
         estimate_by(&self.profile.estimates, work)
+    }
+
+    /// The worker that has the job of this work: 0 or 1, as the profile says. It is 1 too if the work isn't a slow command.
+    pub fn worker_of(&self, work: &Work) -> u8
+        ensures worker { result ≡ worker_at self.now.profile.workers work.now }
+        ensures two { result < 2 }
+    {
+        worker_at(&self.profile.workers, work)
+    }
+
+    /// Which worker carries out which slow commands.
+    pub fn workers(&self) -> Workers
+        ensures { result ≡ self.now.profile.workers }
+    {
+        self.profile.workers
     }
 
     /// What a GET answers: the value, the job that it starts, or the first reason to reject it.
@@ -382,7 +397,7 @@ fn answer(
                 verb,
                 arg,
             },
-            worker: slow.worker(),
+            worker: slow.worker(&profile.workers),
             estimate: slow.estimate(&profile.estimates),
         },
         Way::FromQueue => Answer::Queues(Ask::of(arg)),

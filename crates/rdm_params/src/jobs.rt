@@ -20,4 +20,4 @@ pub(crate) use slow::Slow;
 pub use status::{Entry, Severity};
 pub(crate) use way::Way;
 pub(crate) use work::estimate_by;
-pub use work::{Work, estimate_of, worker_of};
+pub use work::{Work, estimate_of, worker_at, worker_of};

@@ -23,7 +23,7 @@ pub use jobs::{
     Ask, Entry, Message, Outcome, Severity, Work, estimate_of, fits, fitting_worker,
     one_command_clears, sensor_is_answered_at_once, slow_command_stays_accepted,
     started_work_is_its_command, two_commands_fetch, usual_profile_is_as_slow_as_the_table,
-    worker_of,
+    worker_at, worker_of,
 };
 pub use kind::{Kind, Verb, kind_of};
 pub use laws::{
@@ -41,7 +41,7 @@ pub use panel::{Change, Plate};
 pub use placing::PlaceError;
 pub use rdm_device::{
     Estimates, OwnParameters, ParameterDef, Personality, Profile, Rights, SelfTest, SensorDef,
-    Shape, Slot, StatusText, Unit, Value, write_value,
+    Shape, Slot, StatusText, Unit, Value, Worker, Workers, write_value,
 };
 pub use rdm_saved::{RestoreError, SaveError};
 pub use table::names::{other_name, parameter_name, parameter_name_for_c, pid_named};

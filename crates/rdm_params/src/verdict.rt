@@ -32,7 +32,7 @@ pub enum Answer {
     Starts {
         /// What the job is to do.
         work: Work,
-        /// The worker that has the job, as `worker_of` tells.
+        /// The worker that has the job, as `Devices::worker_of` tells.
         worker: u8,
         /// How long it takes, in tenths of a second, as `Devices::estimate_of` tells.
         estimate: u16,

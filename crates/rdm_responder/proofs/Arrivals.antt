@@ -10,7 +10,7 @@ use Rattle.rdm_params.specs.Device.Parameters.{Parameters}
 use Rattle.rdm_params.specs.Jobs.Commit.{after_commit, committed}
 use Rattle.rdm_params.specs.Jobs.Outcome.{fits}
 use Rattle.rdm_params.specs.Jobs.Thresholds.{notes}
-use Rattle.rdm_params.specs.Jobs.Work.{worker_of}
+use Rattle.rdm_params.specs.Jobs.Work.{worker_at}
 use Rattle.rdm_outbox.specs.declared.job.Job.{Job}
 use Rattle.rdm_outbox.specs.Account as outbox
 use Rattle.rdm_outbox.specs.Jobs.{outstanding_of, after_arrive}
@@ -53,15 +53,15 @@ pub fitting : (w n : ℕ) (fit : Bool) → Some w ≡ cond fit (Some n) None →
 fitting w n true e = (some_number w n e, refl)
 fitting w n false e = absurd cc
 
-pub oldest_arrives : (a : Account) (r : Report) (w : ℕ) (job : Job) → w ≡ worker_of r.job.work → some job ≡ slice_get (outstanding_of a.outbox w) 0 → job ≡ r.job → fits r.job.work r.outcome ≡ true → MayArrive a r
+pub oldest_arrives : (a : Account) (r : Report) (w : ℕ) (job : Job) → w ≡ worker_at a.outbox.workers r.job.work → some job ≡ slice_get (outstanding_of a.outbox w) 0 → job ≡ r.job → fits r.job.work r.outcome ≡ true → MayArrive a r
 oldest_arrives a r w job e oldest same fit =
     record { oldest = ap (λ (n : ℕ). slice_get (outstanding_of a.outbox n) 0) (sym e) ∙ sym oldest ∙ ap some same; fits = fit }
 
-pub is_oldest : (a : Account) (r : Report) (w : ℕ) (job : Job) → w ≡ worker_of r.job.work → some job ≡ slice_get (outstanding_of a.outbox w) 0 → MayArrive a r → job ≡ r.job
+pub is_oldest : (a : Account) (r : Report) (w : ℕ) (job : Job) → w ≡ worker_at a.outbox.workers r.job.work → some job ≡ slice_get (outstanding_of a.outbox w) 0 → MayArrive a r → job ≡ r.job
 is_oldest a r w job e oldest may =
     some_is job r.job (oldest ∙ ap (λ (n : ℕ). slice_get (outstanding_of a.outbox n) 0) e ∙ may.oldest)
 
-pub none_arrives : (a : Account) (r : Report) (w : ℕ) → w ≡ worker_of r.job.work → None ≡ slice_get (outstanding_of a.outbox w) 0 → MayArrive a r → ⊥
+pub none_arrives : (a : Account) (r : Report) (w : ℕ) → w ≡ worker_at a.outbox.workers r.job.work → None ≡ slice_get (outstanding_of a.outbox w) 0 → MayArrive a r → ⊥
 none_arrives a r w e none may =
     no_job r.job (none ∙ ap (λ (n : ℕ). slice_get (outstanding_of a.outbox n) 0) e ∙ may.oldest)
 
@@ -71,10 +71,10 @@ some_outstanding (j ∷ js) job e = omega arith
 
 -- ---- what it makes of the account
 
-pub outbox_after_report : (a : Account) (r : Report) (p after : Parameters) (w : ℕ) (m : Message) → p ≡ a.parameters → after ≡ after_commit p r.job.work r.outcome → w ≡ worker_of r.job.work → m ≡ committed p r.job.work r.outcome → after_outcome after (after_arrive a.outbox w m) r.job.work r.outcome ≡ (account_after_report a r).outbox
+pub outbox_after_report : (a : Account) (r : Report) (p after : Parameters) (w : ℕ) (m : Message) → p ≡ a.parameters → after ≡ after_commit p r.job.work r.outcome → w ≡ worker_at a.outbox.workers r.job.work → m ≡ committed p r.job.work r.outcome → after_outcome after (after_arrive a.outbox w m) r.job.work r.outcome ≡ (account_after_report a r).outbox
 outbox_after_report a r p after w m e ended worker message = rw (worker, message, ended, e) refl
 
-pub shows_report : (old new : State) (a : Account) (r : Report) (w : ℕ) (m : Message) → Shows old a → w ≡ worker_of r.job.work → m ≡ committed old.parameters r.job.work r.outcome → new.uid ≡ old.uid → new.parameters ≡ after_commit old.parameters r.job.work r.outcome → new.muted ≡ old.muted → outbox_state.Shows new.outbox (after_outcome new.parameters (after_arrive a.outbox w m) r.job.work r.outcome) → Shows new (account_after_report a r)
+pub shows_report : (old new : State) (a : Account) (r : Report) (w : ℕ) (m : Message) → Shows old a → w ≡ worker_at a.outbox.workers r.job.work → m ≡ committed old.parameters r.job.work r.outcome → new.uid ≡ old.uid → new.parameters ≡ after_commit old.parameters r.job.work r.outcome → new.muted ≡ old.muted → outbox_state.Shows new.outbox (after_outcome new.parameters (after_arrive a.outbox w m) r.job.work r.outcome) → Shows new (account_after_report a r)
 shows_report old new a r w m shows worker message uid parameters muted outbox = record {
   uid = uid ∙ shows.uid;
   parameters = parameters ∙ ap (λ (p : Parameters). after_commit p r.job.work r.outcome) shows.parameters;
@@ -94,7 +94,7 @@ keeps_arrived p b work (Failed severity id v1 v2) =
     let entry : StatusEntry = record { sub = work.sub; severity = severity; id = id; v1 = v1; v2 = v2 } in
     noting_keeps b _ (notes p entry) (can_note b)
 
-pub is_arrival : (h : History) (r : Report) (arrival : Arrival) (p after : Parameters) (w : ℕ) → MayArrive (account_of h) r → p ≡ (account_of h).parameters → after ≡ after_commit p r.job.work r.outcome → w ≡ worker_of r.job.work → arrival.message ≡ committed p r.job.work r.outcome → arrival.kept ≡ nat_lt (length (outbox_of h).noted) (length (after_outcome after (after_arrive (outbox_of h) w arrival.message) r.job.work r.outcome).noted) → IsArrival h r arrival
+pub is_arrival : (h : History) (r : Report) (arrival : Arrival) (p after : Parameters) (w : ℕ) → MayArrive (account_of h) r → p ≡ (account_of h).parameters → after ≡ after_commit p r.job.work r.outcome → w ≡ worker_at (outbox_of h).workers r.job.work → arrival.message ≡ committed p r.job.work r.outcome → arrival.kept ≡ nat_lt (length (outbox_of h).noted) (length (after_outcome after (after_arrive (outbox_of h) w arrival.message) r.job.work r.outcome).noted) → IsArrival h r arrival
 is_arrival h r arrival p after w may e ended worker message kept =
     let a = account_of h in
     let left : after_outcome after (after_arrive a.outbox w arrival.message) r.job.work r.outcome ≡ outbox_of (then_event h (Arrived r)) =

@@ -16,7 +16,7 @@ use Rattle.rdm_params.specs.declared.verdict.Verdict.TheVariants as verdict
 use Rattle.rdm_params.specs.Commands.Commands.{got, answer_to_set}
 use Rattle.rdm_params.specs.Commands.Panel.{change_message}
 use Rattle.rdm_params.specs.Device.Parameters.{Parameters}
-use Rattle.rdm_params.specs.Jobs.Work.{worker_of}
+use Rattle.rdm_params.specs.Jobs.Work.{worker_at}
 use Rattle.rdm_outbox.specs.declared.job.Job.{Job}
 use Rattle.rdm_outbox.specs.declared.job.Full.TheVariants.{NoRoom}
 use Rattle.rdm_outbox.specs.Account as outbox
@@ -29,18 +29,19 @@ use Rattle.rdm_responder.specs.Rules.{Account, account_of, account_after, accoun
 use Rattle.rdm_responder.specs.Runs.{outbox_of}
 use Rattle.rdm_responder.proofs.Accounts.{account_of-then}
 
--- From one account to another these jobs were accepted, and a job of each of these workers ended.
-pub record Grows (a b : outbox.Account) (jobs : List Job) (workers : List ℕ) : Type 0 where
+-- From one account to another, of one choice of workers, these jobs were accepted, and a job of each of these workers ended.
+pub record Grows (a b : outbox.Account) (jobs : List Job) (ends : List ℕ) : Type 0 where
   pub accepted : b.accepted ≡ a.accepted ++ jobs
-  pub ended : b.ended ≡ a.ended ++ workers
+  pub ended : b.ended ≡ a.ended ++ ends
   pub most : b.jobs ≡ a.jobs
   pub first_job : b.first_job ≡ a.first_job
+  pub workers : b.workers ≡ a.workers
 
-stays : (a b : outbox.Account) → b.accepted ≡ a.accepted → b.ended ≡ a.ended → b.jobs ≡ a.jobs → b.first_job ≡ a.first_job → Grows a b [] []
-stays a b e1 e2 e3 e4 = record { accepted = e1 ∙ sym (append-nil a.accepted); ended = e2 ∙ sym (append-nil a.ended); most = e3; first_job = e4 }
+stays : (a b : outbox.Account) → b.accepted ≡ a.accepted → b.ended ≡ a.ended → b.jobs ≡ a.jobs → b.first_job ≡ a.first_job → b.workers ≡ a.workers → Grows a b [] []
+stays a b e1 e2 e3 e4 e5 = record { accepted = e1 ∙ sym (append-nil a.accepted); ended = e2 ∙ sym (append-nil a.ended); most = e3; first_job = e4; workers = e5 }
 
 pub still : (a : outbox.Account) → Grows a a [] []
-still a = stays a a refl refl refl refl
+still a = stays a a refl refl refl refl refl
 
 pub and_then : (a b c : outbox.Account) (js ks : List Job) (ws vs : List ℕ) → Grows a b js ws → Grows b c ks vs → Grows a c (js ++ ks) (ws ++ vs)
 and_then a b c js ks ws vs one two = record {
@@ -48,6 +49,7 @@ and_then a b c js ks ws vs one two = record {
   ended = two.ended ∙ ap (λ (l : List ℕ). l ++ vs) one.ended ∙ append_assoc a.ended ws vs;
   most = two.most ∙ one.most;
   first_job = two.first_job ∙ one.first_job;
+  workers = two.workers ∙ one.workers;
 }
 
 -- ---- a request
@@ -57,23 +59,23 @@ either a b c true one other = one
 either a b c false one other = other
 
 reserves : (b : outbox.Account) (j : Job) (room : Bool) → Grows b (cond room (record b { accepted = b.accepted ++ j ∷ [] }) b) (option_to_list (result_ok (cond room (Ok j) (Err NoRoom)))) []
-reserves b j true = record { accepted = refl; ended = sym (append-nil b.ended); most = refl; first_job = refl }
+reserves b j true = record { accepted = refl; ended = sym (append-nil b.ended); most = refl; first_job = refl; workers = refl }
 reserves b j false = still b
 
 shows_statuses : (b : outbox.Account) (ask : Ask) → Grows b (after_status_now b ask) [] []
-shows_statuses b ask = stays b (after_status_now b ask) refl refl refl refl
+shows_statuses b ask = stays b (after_status_now b ask) refl refl refl refl refl
 
 gives_next : (b : outbox.Account) (ask : Ask) → Grows b (after_next b ask) [] []
 gives_next b ask =
     let next : outbox.Account = record b { given = b.given + 1; answers = b.answers ++ next_of b ask ∷ [] } in
-    either b next (after_status_now b ask) (nat_lt b.given (length b.arrived)) (stays b next refl refl refl refl) (shows_statuses b ask)
+    either b next (after_status_now b ask) (nat_lt b.given (length b.arrived)) (stays b next refl refl refl refl refl) (shows_statuses b ask)
 
 carries_out : (b : outbox.Account) (v : Verdict) → Grows b (outbox_after b v) (option_to_list (started_by b v)) []
 carries_out b (verdict.Start work) = reserves b (next_job b work) (has_room b work)
 carries_out b (verdict.Queue ask) = either b b (after_next b ask) (is_last ask) (still b) (gives_next b ask)
 carries_out b (verdict.Status ask) = either b b (after_status_now b ask) (is_last ask) (still b) (shows_statuses b ask)
 carries_out b (verdict.Reply bytes) = still b
-carries_out b verdict.Clear = stays b (after_clear b) refl refl refl refl
+carries_out b verdict.Clear = stays b (after_clear b) refl refl refl refl refl
 carries_out b (verdict.Refuse nack) = still b
 
 requested : (a : Account) (q : Request) → Grows a.outbox (account_with a q).outbox (option_to_list (job_with a q)) []
@@ -85,12 +87,12 @@ requested a (Set f) = carries_out a.outbox (answer_to_set a.parameters f.sub f.p
 
 -- ---- a report
 
-notes : (b c : outbox.Account) (r? : Bool) → c.accepted ≡ b.accepted → c.ended ≡ b.ended → c.jobs ≡ b.jobs → c.first_job ≡ b.first_job → Grows b (cond r? c b) [] []
-notes b c true e1 e2 e3 e4 = stays b c e1 e2 e3 e4
-notes b c false e1 e2 e3 e4 = still b
+notes : (b c : outbox.Account) (r? : Bool) → c.accepted ≡ b.accepted → c.ended ≡ b.ended → c.jobs ≡ b.jobs → c.first_job ≡ b.first_job → c.workers ≡ b.workers → Grows b (cond r? c b) [] []
+notes b c true e1 e2 e3 e4 e5 = stays b c e1 e2 e3 e4 e5
+notes b c false e1 e2 e3 e4 e5 = still b
 
 pub noted_entry : (p : Parameters) (b : outbox.Account) (entry : StatusEntry) → Grows b (after_entry p b entry) [] []
-noted_entry p b entry = either b _ b _ (notes b _ (can_note b) refl refl refl refl) (still b)
+noted_entry p b entry = either b _ b _ (notes b _ (can_note b) refl refl refl refl refl) (still b)
 
 ends : (p : Parameters) (b : outbox.Account) (work : Work) (outcome : Outcome) → Grows b (after_outcome p b work outcome) [] []
 ends p b work Done = still b
@@ -98,13 +100,13 @@ ends p b work (Reading v) = still b
 ends p b work (Failed severity id v1 v2) = noted_entry p b _
 
 reported : (b : outbox.Account) (worker : ℕ) (m : Message) → Grows b (after_arrive b worker m) [] (worker ∷ [])
-reported b worker m = record { accepted = sym (append-nil b.accepted); ended = refl; most = refl; first_job = refl }
+reported b worker m = record { accepted = sym (append-nil b.accepted); ended = refl; most = refl; first_job = refl; workers = refl }
 
 -- ---- a change at the device's menu
 
 posted : (b : outbox.Account) (message : Option Message) → Grows b (after_message b message) [] []
 posted b None = still b
-posted b (Some m) = stays b (after_post b m) refl refl refl refl
+posted b (Some m) = stays b (after_post b m) refl refl refl refl refl
 
 -- ---- an event of a history
 
@@ -117,23 +119,23 @@ job_at a (Placed sub pid bytes) = None
 job_at a (Noted entry) = None
 job_at a (Restored image) = None
 
-abbrev pub workers_at : Event → List ℕ
-workers_at (Heard bytes) = []
-workers_at (Arrived r) = worker_of r.job.work ∷ []
-workers_at (Changed change) = []
-workers_at (Placed sub pid bytes) = []
-workers_at (Noted entry) = []
-workers_at (Restored image) = []
+abbrev pub workers_at : Account → Event → List ℕ
+workers_at a (Heard bytes) = []
+workers_at a (Arrived r) = worker_at a.outbox.workers r.job.work ∷ []
+workers_at a (Changed change) = []
+workers_at a (Placed sub pid bytes) = []
+workers_at a (Noted entry) = []
+workers_at a (Restored image) = []
 
-pub event_grows : (a : Account) (e : Event) → Grows a.outbox (account_after a e).outbox (option_to_list (job_at a e)) (workers_at e)
+pub event_grows : (a : Account) (e : Event) → Grows a.outbox (account_after a e).outbox (option_to_list (job_at a e)) (workers_at a e)
 event_grows a (Heard bytes) = requested a (request_in a.setup.uid (frame_in bytes))
-event_grows a (Arrived r) = and_then a.outbox _ _ [] [] (worker_of r.job.work ∷ []) [] (reported a.outbox (worker_of r.job.work) _) (ends _ _ r.job.work r.outcome)
+event_grows a (Arrived r) = and_then a.outbox _ _ [] [] (worker_at a.outbox.workers r.job.work ∷ []) [] (reported a.outbox (worker_at a.outbox.workers r.job.work) _) (ends _ _ r.job.work r.outcome)
 event_grows a (Changed change) = posted a.outbox (change_message a.parameters change)
 event_grows a (Placed sub pid bytes) = still a.outbox
 event_grows a (Noted entry) = noted_entry a.parameters a.outbox entry
 event_grows a (Restored image) = still a.outbox
 
-pub grows : (h : History) (e : Event) → Grows (outbox_of h) (outbox_of (then_event h e)) (option_to_list (job_at (account_of h) e)) (workers_at e)
+pub grows : (h : History) (e : Event) → Grows (outbox_of h) (outbox_of (then_event h e)) (option_to_list (job_at (account_of h) e)) (workers_at (account_of h) e)
 grows h e =
-    subst (λ (a : Account). Grows (outbox_of h) a.outbox (option_to_list (job_at (account_of h) e)) (workers_at e)) (sym (account_of-then h e))
+    subst (λ (a : Account). Grows (outbox_of h) a.outbox (option_to_list (job_at (account_of h) e)) (workers_at (account_of h) e)) (sym (account_of-then h e))
     (event_grows (account_of h) e)

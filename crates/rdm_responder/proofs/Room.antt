@@ -16,7 +16,7 @@ use Rattle.rdm_params.specs.Commands.Commands.{got, answer_to_set}
 use Rattle.rdm_params.specs.Commands.Panel.{change_message}
 use Rattle.rdm_params.specs.Device.Parameters.{Parameters}
 use Rattle.rdm_params.specs.Jobs.Commit.{committed}
-use Rattle.rdm_params.specs.Jobs.Work.{worker_of}
+use Rattle.rdm_params.specs.Jobs.Work.{Choice, worker_at}
 use Rattle.rdm_params.proofs.TwoWorkers.{there_are_two_workers}
 use Rattle.rdm_outbox.specs.Account as outbox
 use Rattle.rdm_outbox.specs.Account.{Noted}
@@ -53,7 +53,7 @@ record Fits (b : outbox.Account) : Type 0 where
 has_a_place : (b : outbox.Account) → IsWithin b → has_place b ≡ true → given_to 0 b + given_to 1 b + length b.arrived < b.q + done_by 0 b + done_by 1 b + b.given
 has_a_place b is e =
     let place = ltb-true (length (outstanding_of b 0) + length (outstanding_of b 1) + length (waiting_of b)) b.q e in
-    omega (arith, place, length-drop (done_by 0 b) (jobs_of 0 b.accepted), length-drop (done_by 1 b) (jobs_of 1 b.accepted), length-drop b.given b.arrived, is.ended 0, is.ended 1, is.given)
+    omega (arith, place, length-drop (done_by 0 b) (jobs_of b.workers 0 b.accepted), length-drop (done_by 1 b) (jobs_of b.workers 1 b.accepted), length-drop b.given b.arrived, is.ended 0, is.ended 1, is.given)
 
 -- ---- a job that starts
 
@@ -65,9 +65,9 @@ one_if : (c : Bool) (j : Job) → length (cond c (j ∷ []) []) ≡ 0 + cond c 1
 one_if true j = refl
 one_if false j = refl
 
-one_more : (w : ℕ) (js : List Job) (j : Job) → length (jobs_of w (js ++ j ∷ [])) ≡ length (jobs_of w js) + cond (worker_of j.work == w) 1 0
-one_more w [] j = one_if (worker_of j.work == w) j
-one_more w (x ∷ js) j = more_if (worker_of x.work == w) x (jobs_of w js) (jobs_of w (js ++ j ∷ [])) (cond (worker_of j.work == w) 1 0) (one_more w js j)
+one_more : (ws : Choice) (w : ℕ) (js : List Job) (j : Job) → length (jobs_of ws w (js ++ j ∷ [])) ≡ length (jobs_of ws w js) + cond (worker_at ws j.work == w) 1 0
+one_more ws w [] j = one_if (worker_at ws j.work == w) j
+one_more ws w (x ∷ js) j = more_if (worker_at ws x.work == w) x (jobs_of ws w js) (jobs_of ws w (js ++ j ∷ [])) (cond (worker_at ws j.work == w) 1 0) (one_more ws w js j)
 
 either_worker : (k : ℕ) → k < 2 → cond (k == 0) 1 0 + cond (k == 1) 1 0 ≡ 1
 either_worker zero below = refl
@@ -80,12 +80,12 @@ jobs_still w k n jobs b false e many below few = omega (arith, few)
 
 starts : (b : outbox.Account) (work : Work) (room : Bool) → has_room b work ≡ room → IsWithin b → Fits b → Fits (cond room (record b { accepted = b.accepted ++ next_job b work ∷ [] }) b)
 starts b work true e is fits =
-    let parts = and_parts (has_place b) (nat_lt (given_to (worker_of work) b) b.jobs) e in
+    let parts = and_parts (has_place b) (nat_lt (given_to (worker_at b.workers work) b) b.jobs) e in
     let j : Job = next_job b work in
     record {
       most = fits.most;
-      room = omega (arith, has_a_place b is parts.0, one_more 0 b.accepted j, one_more 1 b.accepted j, either_worker (worker_of work) (there_are_two_workers work));
-      jobs = λ w. omega (arith, one_more w b.accepted j, jobs_still w (worker_of work) (given_to (worker_of work) b) b.jobs b (worker_of work == w) refl refl (ltb-true (given_to (worker_of work) b) b.jobs parts.1) (fits.jobs w));
+      room = omega (arith, has_a_place b is parts.0, one_more b.workers 0 b.accepted j, one_more b.workers 1 b.accepted j, either_worker (worker_at b.workers work) (there_are_two_workers b.workers work));
+      jobs = λ w. omega (arith, one_more b.workers w b.accepted j, jobs_still w (worker_at b.workers work) (given_to (worker_at b.workers work) b) b.jobs b (worker_at b.workers work == w) refl refl (ltb-true (given_to (worker_at b.workers work) b) b.jobs parts.1) (fits.jobs w));
       unshown = fits.unshown;
     }
 starts b work false e is fits = fits
@@ -191,7 +191,7 @@ event_fits : (a : Account) (e : Event) → MayHappen a e → IsWithin a.outbox �
 event_fits a (Heard bytes) may is fits = request_fits a (request_in a.setup.uid (frame_in bytes)) is fits
 event_fits a (Arrived r) may is fits =
     outcome_fits _ _ r.job.work r.outcome
-    (arrive_fits a.outbox (worker_of r.job.work) (committed a.parameters r.job.work r.outcome) (there_are_two_workers r.job.work) fits)
+    (arrive_fits a.outbox (worker_at a.outbox.workers r.job.work) (committed a.parameters r.job.work r.outcome) (there_are_two_workers a.outbox.workers r.job.work) fits)
 event_fits a (Changed change) may is fits = message_fits a.outbox (change_message a.parameters change) is may fits
 event_fits a (Placed sub pid bytes) may is fits = fits
 event_fits a (history.Noted entry) may is fits = entry_fits a.parameters a.outbox entry fits
@@ -206,7 +206,7 @@ events_fit a (e ∷ es) lawful is fits = events_fit (account_after a e) es lawfu
 room_of : (s : outbox_state.State) (b : outbox.Account) → IsWithin b → Fits b → outbox_shows.Shows s b → HasRoom s
 room_of s b is fits shows = record {
   most = omega (arith, shows.q, fits.most);
-  room = omega (arith, shows.q, fits.room, ap length shows.first ∙ length-drop (done_by 0 b) (jobs_of 0 b.accepted), ap length shows.second ∙ length-drop (done_by 1 b) (jobs_of 1 b.accepted), ap length shows.queue ∙ length-drop b.given b.arrived, is.ended 0, is.ended 1, is.given);
+  room = omega (arith, shows.q, fits.room, ap length shows.first ∙ length-drop (done_by 0 b) (jobs_of b.workers 0 b.accepted), ap length shows.second ∙ length-drop (done_by 1 b) (jobs_of b.workers 1 b.accepted), ap length shows.queue ∙ length-drop b.given b.arrived, is.ended 0, is.ended 1, is.given);
   first_given = omega (arith, shows.first_given, shows.jobs, fits.jobs 0);
   second_given = omega (arith, shows.second_given, shows.jobs, fits.jobs 1);
   unshown = omega (arith, ap length shows.unshown, shows.entries, fits.unshown);

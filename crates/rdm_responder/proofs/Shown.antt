@@ -16,7 +16,7 @@ use Rattle.rdm_params.specs.Commands.Commands.{got, answer_to_set}
 use Rattle.rdm_params.specs.Commands.Panel.{change_message}
 use Rattle.rdm_params.specs.Device.Parameters.{Parameters}
 use Rattle.rdm_params.specs.Jobs.Commit.{committed}
-use Rattle.rdm_params.specs.Jobs.Work.{worker_of}
+use Rattle.rdm_params.specs.Jobs.Work.{Choice, worker_at}
 use Rattle.rdm_outbox.specs.Account as outbox
 use Rattle.rdm_outbox.specs.declared.job.Job.{Job}
 use Rattle.rdm_outbox.specs.Jobs.{jobs_of, ended_of, has_room, next_job, outstanding_of, waiting_of, after_arrive}
@@ -35,7 +35,7 @@ use Rattle.rdm_responder.proofs.Arrivals.{some_outstanding}
 
 -- no worker has ended more jobs than it was given, and no more messages were given than arrived
 pub record IsWithin (b : outbox.Account) : Type 0 where
-  pub ended : (w : ℕ) → ended_of w b.ended ≤ length (jobs_of w b.accepted)
+  pub ended : (w : ℕ) → ended_of w b.ended ≤ length (jobs_of b.workers w b.accepted)
   pub given : b.given ≤ length b.arrived
 
 pub either : (P : outbox.Account → Type 0) (c : Bool) (x y : outbox.Account) → P x → P y → P (cond c x y)
@@ -48,12 +48,12 @@ more_if : (c : Bool) (x : Job) (js ks : List Job) → length js ≤ length ks �
 more_if true x js ks less = omega (arith, less)
 more_if false x js ks less = less
 
-more_jobs : (w : ℕ) (js : List Job) (j : Job) → length (jobs_of w js) ≤ length (jobs_of w (js ++ j ∷ []))
-more_jobs w [] j = omega arith
-more_jobs w (x ∷ js) j = more_if (worker_of x.work == w) x (jobs_of w js) (jobs_of w (js ++ j ∷ [])) (more_jobs w js j)
+more_jobs : (ws : Choice) (w : ℕ) (js : List Job) (j : Job) → length (jobs_of ws w js) ≤ length (jobs_of ws w (js ++ j ∷ []))
+more_jobs ws w [] j = omega arith
+more_jobs ws w (x ∷ js) j = more_if (worker_at ws x.work == w) x (jobs_of ws w js) (jobs_of ws w (js ++ j ∷ [])) (more_jobs ws w js j)
 
 accepts : (b : outbox.Account) (j : Job) → IsWithin b → IsWithin (record b { accepted = b.accepted ++ j ∷ [] })
-accepts b j is = record { ended = λ w. omega (arith, is.ended w, more_jobs w b.accepted j); given = is.given }
+accepts b j is = record { ended = λ w. omega (arith, is.ended w, more_jobs b.workers w b.accepted j); given = is.given }
 
 gives_next : (b : outbox.Account) (ask : Ask) (c : Bool) (x y : outbox.Account) → nat_lt b.given (length b.arrived) ≡ c → (b.given < length b.arrived → IsWithin x) → IsWithin y → IsWithin (cond c x y)
 gives_next b ask true x y e one two = one (ltb-true b.given (length b.arrived) e)
@@ -81,9 +81,9 @@ after_request a (Set f) is = after_verdict a.outbox (answer_to_set a.parameters 
 
 -- ---- a report
 
-ends_at : (b : outbox.Account) (worker w : ℕ) (here : Bool) → (worker == w) ≡ here → ended_of w b.ended ≤ length (jobs_of w b.accepted) → 0 < length (outstanding_of b worker) → ended_of w b.ended + cond here 1 0 ≤ length (jobs_of w b.accepted)
+ends_at : (b : outbox.Account) (worker w : ℕ) (here : Bool) → (worker == w) ≡ here → ended_of w b.ended ≤ length (jobs_of b.workers w b.accepted) → 0 < length (outstanding_of b worker) → ended_of w b.ended + cond here 1 0 ≤ length (jobs_of b.workers w b.accepted)
 ends_at b worker w true e few some =
-    subst (λ (k : ℕ). ended_of k b.ended + 1 ≤ length (jobs_of k b.accepted)) (eqb-true worker w e) (within_more (ended_of worker b.ended) (jobs_of worker b.accepted) some)
+    subst (λ (k : ℕ). ended_of k b.ended + 1 ≤ length (jobs_of b.workers k b.accepted)) (eqb-true worker w e) (within_more (ended_of worker b.ended) (jobs_of b.workers worker b.accepted) some)
 ends_at b worker w false e few some = omega (arith, few)
 
 pub ended_one : (worker w : ℕ) (ws : List ℕ) → ended_of w (ws ++ worker ∷ []) ≡ ended_of w ws + cond (worker == w) 1 0
@@ -114,7 +114,7 @@ pub after_event : (a : Account) (e : Event) → MayHappen a e → IsWithin a.out
 after_event a (Heard bytes) may is = after_request a (request_in a.setup.uid (frame_in bytes)) is
 after_event a (Arrived r) may is =
     after_the_outcome _ _ r.job.work r.outcome
-    (arrives a.outbox (worker_of r.job.work) (committed a.parameters r.job.work r.outcome) (some_outstanding (outstanding_of a.outbox (worker_of r.job.work)) r.job may.oldest) is)
+    (arrives a.outbox (worker_at a.outbox.workers r.job.work) (committed a.parameters r.job.work r.outcome) (some_outstanding (outstanding_of a.outbox (worker_at a.outbox.workers r.job.work)) r.job may.oldest) is)
 after_event a (Changed change) may is = after_posting a.outbox (change_message a.parameters change) is
 after_event a (Placed sub pid bytes) may is = is
 after_event a (Noted entry) may is = after_the_entry a.parameters a.outbox entry is
@@ -137,10 +137,11 @@ outbox_at b = record {
   jobs = b.jobs;
   entries = b.entries;
   first_job = b.first_job;
+  workers = b.workers;
   first = outstanding_of b 0;
   second = outstanding_of b 1;
-  first_given = length (jobs_of 0 b.accepted);
-  second_given = length (jobs_of 1 b.accepted);
+  first_given = length (jobs_of b.workers 0 b.accepted);
+  second_given = length (jobs_of b.workers 1 b.accepted);
   queue = waiting_of b;
   unshown = unshown b.noted;
   last = last_of b;

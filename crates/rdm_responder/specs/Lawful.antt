@@ -2,7 +2,7 @@
 use Rattle.std.specs.Prelude.{◌≡◌, ℕ, true, List, [], ◌∷◌, Some, None, slice_get}
 use Rattle.rdm_params.specs.Commands.Placing.{place_refusal}
 use Rattle.rdm_params.specs.Jobs.Outcome.{fits}
-use Rattle.rdm_params.specs.Jobs.Work.{worker_of}
+use Rattle.rdm_params.specs.Jobs.Work.{worker_at}
 use Rattle.rdm_saved.specs.Restoring.{restore_refusal}
 use Rattle.rdm_outbox.specs.Jobs.{has_place, outstanding_of}
 use Rattle.rdm_responder.specs.declared.report.Report.{Report}
@@ -11,7 +11,7 @@ use Rattle.rdm_responder.specs.Rules.{Account, account_before, account_after}
 
 -- The report is of the oldest outstanding job of its worker, number and work alike, and its outcome fits that work.
 pub record MayArrive (a : Account) (r : Report) : Type 0 where
-  pub oldest : slice_get (outstanding_of a.outbox (worker_of r.job.work)) 0 ≡ Some r.job
+  pub oldest : slice_get (outstanding_of a.outbox (worker_at a.outbox.workers r.job.work)) 0 ≡ Some r.job
   pub fits : fits r.job.work r.outcome ≡ true
 
 -- A person may change something if there is a place for the message of it.

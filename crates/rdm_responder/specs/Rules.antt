@@ -26,7 +26,7 @@ use Rattle.rdm_params.specs.Commands.Panel.{after_change, change_message}
 use Rattle.rdm_params.specs.Commands.Placing.{after_place}
 use Rattle.rdm_params.specs.Commands.Saving.{powered_on}
 use Rattle.rdm_params.specs.Device.Parameters.{Parameters, parameters_of}
-use Rattle.rdm_params.specs.Jobs.Work.{worker_of, estimate_of}
+use Rattle.rdm_params.specs.Jobs.Work.{worker_at, estimate_of}
 use Rattle.rdm_params.specs.Jobs.Commit.{after_commit, committed}
 use Rattle.rdm_params.specs.Jobs.Thresholds.{notes}
 use Rattle.rdm_outbox.specs.declared.job.Job.{Job}
@@ -181,7 +181,7 @@ after_outcome p b work _ = b
 abbrev pub account_after_report : Account → Report → Account
 account_after_report a r = record a {
   parameters = after_commit a.parameters r.job.work r.outcome;
-  outbox = after_outcome (after_commit a.parameters r.job.work r.outcome) (after_arrive a.outbox (worker_of r.job.work) (committed a.parameters r.job.work r.outcome)) r.job.work r.outcome;
+  outbox = after_outcome (after_commit a.parameters r.job.work r.outcome) (after_arrive a.outbox (worker_at a.outbox.workers r.job.work) (committed a.parameters r.job.work r.outcome)) r.job.work r.outcome;
 }
 
 -- the account of jobs and messages after the message of a change, if it has one, was queued
@@ -212,7 +212,7 @@ abbrev pub most_jobs : ℕ
 most_jobs = 4294967295
 
 abbrev pub account_before : Setup → Account
-account_before setup = record { setup = setup; parameters = parameters_of setup.profile; mutings = []; outbox = outbox.account_before setup.queue_size most_jobs setup.entries setup.first_job }
+account_before setup = record { setup = setup; parameters = parameters_of setup.profile; mutings = []; outbox = outbox.account_before setup.queue_size most_jobs setup.entries setup.first_job setup.profile.workers }
 
 unfoldable pub account_of : History → Account
 account_of h = fold account_after (account_before h.setup) h.events

@@ -1,7 +1,7 @@
 -- A job that started, as it is handed on.
 use Rattle.std.specs.Prelude.{◌≡◌, Option, option_map}
 use Rattle.rdm_device.specs.declared.profile.Profile.{Profile}
-use Rattle.rdm_params.specs.Jobs.Work.{worker_of, estimate_of}
+use Rattle.rdm_params.specs.Jobs.Work.{worker_at, estimate_of}
 use Rattle.rdm_outbox.specs.declared.job.Job.{Job}
 use Rattle.rdm_responder.specs.declared.stepped.Started.{Started}
 
@@ -11,4 +11,4 @@ job_in started = option_map (λ s. s.job) started
 
 -- The worker and the estimate are those that devices of this profile have for the job's command. Section 6.3.3.
 abbrev pub IsAsInProfile : Profile → Started → Type 0
-IsAsInProfile p s = (s.worker ≡ worker_of s.job.work) × (s.estimate ≡ estimate_of p s.job.work)
+IsAsInProfile p s = (s.worker ≡ worker_at p.workers s.job.work) × (s.estimate ≡ estimate_of p s.job.work)

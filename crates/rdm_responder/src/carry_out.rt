@@ -8,7 +8,7 @@ ghost use Rattle.rdm_device.specs.declared.profile.Profile.{Profile};
 ghost use Rattle.rdm_outbox.specs.Account.{Account};
 ghost use Rattle.rdm_outbox.specs.Shows.{Shows};
 ghost use Rattle.rdm_params.specs.Views.Verdicts.{verdict_with, NamesItsJob};
-ghost use Rattle.rdm_params.specs.Jobs.Work.{worker_of, estimate_of};
+ghost use Rattle.rdm_params.specs.Jobs.Work.{worker_at, estimate_of};
 ghost use Rattle.rdm_params.specs.declared.verdict.Verdict.TheVariants.{Start};
 ghost use Rattle.rdm_params.specs.Commands.Nacks.{nack_code};
 ghost use Rattle.rdm_responder.specs.Headings.{response_with, own_heading};
@@ -38,7 +38,7 @@ pub(crate) fn carry_out(
 ) -> Stepped
     requires from { IsFrom bytes.now request.now }
     requires class { request.now.class < 255 }
-    requires job { (p : Profile) × NamesItsJob p answer }
+    requires job { (p : Profile) × (p.workers ≡ outbox.old.workers) × NamesItsJob p answer }
     ensures reply { (p : Profile) (b : Account) → NamesItsJob p answer → Shows outbox.old b →
         answered result.replied wire.new ≡ reply_with own p b request.now (verdict_with answer body.old) }
     ensures silent { OnFalse result.replied (wire.new ≡ wire.old) }
@@ -124,11 +124,11 @@ fn start(
     body: &mut Body,
     started: &mut Option<Started>,
 ) -> u8
-    requires { worker ≡ worker_of work }
+    requires { worker ≡ worker_at outbox.old.workers work }
     ensures response { (p : Profile) (b : Account) → estimate ≡ estimate_of p work → Shows outbox.old b → (f : Frame) →
         response_with (own_heading f result) body.new ≡ response_of p b f (Start work) }
     ensures job { (b : Account) → Shows outbox.old b → job_in started.new ≡ started_by b (Start work) }
-    ensures table { (p : Profile) → estimate ≡ estimate_of p work → IfSome started.new (IsAsInProfile p) }
+    ensures table { (p : Profile) → worker ≡ worker_at p.workers work → estimate ≡ estimate_of p work → IfSome started.new (IsAsInProfile p) }
     ensures after { (b : Account) → Shows outbox.old b → Shows outbox.new (outbox_after b (Start work)) }
 {
     match outbox.reserve_for(worker, work) {

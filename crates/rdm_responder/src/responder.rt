@@ -12,7 +12,7 @@ ghost use Rattle.rdm_device.specs.declared.profile.Profile.{Profile};
 ghost use Rattle.rdm_device.specs.Device.Parameters.{parameters_of};
 ghost use Rattle.rdm_params.specs.Device.Profiles.{CanBeMade};
 ghost use Rattle.rdm_params.specs.Jobs.Outcome.{fits};
-ghost use Rattle.rdm_params.specs.Jobs.Work.{worker_of};
+ghost use Rattle.rdm_params.specs.Jobs.Work.{worker_at};
 ghost use Rattle.rdm_responder.specs.History.{History, Heard, Arrived, empty_history, then_event};
 ghost use Rattle.rdm_responder.specs.Lawful.{IsLawful, MayArrive};
 ghost use Rattle.rdm_responder.specs.Rules.{Account, account_of, after_outcome, answered, reply_of, job_of};
@@ -72,6 +72,9 @@ impl Model for Responder {
     ghost Value = { State };
 
     ghost view = { λ r. record { uid = r.uid; parameters = r.devices; muted = r.muted; outbox = r.outbox } };
+
+    // The outbox has the profile's choice of workers.
+    ghost invariant = { λ r. r.outbox.workers ≡ r.devices.profile.workers };
 }
 
 impl Responder {
@@ -198,7 +201,8 @@ impl Responder {
             (record { uid = uid; profile = profile; queue_size = queue_size; entries = entries; first_job = first_job }))) }
         ensures err { IfErr result (λ e. e ≡ NewError.OutOfMemory) }
     {
-        let Ok(outbox) = Outbox::new_numbered(alloc, queue_size, MOST_JOBS, entries, first_job)
+        let workers = devices.workers();
+        let Ok(outbox) = Outbox::new_for(alloc, queue_size, MOST_JOBS, entries, first_job, workers)
         else {
             return Err(NewError::OutOfMemory);
         };
@@ -313,12 +317,13 @@ impl Responder {
 
     /// The worker whose report this is, if it may arrive now.
     fn awaits(&self, report: &Report) -> Option<u8>
-        ensures worker { IfSome result (λ worker. worker ≡ worker_of report.now.job.work) }
+        ensures worker { IfSome result (λ worker. worker ≡ worker_at self.now.outbox.workers report.now.job.work) }
         ensures oldest { IfSome result (λ worker. slice_get (jobs_at self.now.outbox worker) 0 ≡ Some report.now.job) }
         ensures fits { IsSome result → fits report.now.job.work report.now.outcome ≡ true }
         ensures account { (a : Account) → Shows self.now a → (IsSome result ↔ MayArrive a report.now) }
     {
-        let worker = fitting_worker(&report.job.work, &report.outcome)?;
+        let workers = self.devices.workers();
+        let worker = fitting_worker(&workers, &report.job.work, &report.outcome)?;
         let job = self.outbox.oldest(worker)?;
         if is_same(job, &report.job) {
             Some(worker)

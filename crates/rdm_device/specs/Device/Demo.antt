@@ -8,6 +8,7 @@ use Rattle.rdm_device.specs.declared.profile.Slot.{Slot}
 use Rattle.rdm_device.specs.declared.profile.StatusText.{StatusText}
 use Rattle.rdm_device.specs.declared.profile.Unit.{Unit as DeviceUnit}
 use Rattle.rdm_device.specs.Device.Estimates.{usual}
+use Rattle.rdm_device.specs.Device.Workers.{usual_workers}
 
 abbrev personality : ℕ → List ℕ → Personality
 personality footprint name = record { footprint = footprint; name = name }
@@ -32,8 +33,8 @@ demo_sensor name = record {
   normal_low = pos 0;
   normal_high = pos 80;
   support = 0x03;
-  name = name;
   at_once = false;
+  name = name;
 }
 
 unfoldable pub demo_root : DeviceUnit
@@ -98,4 +99,5 @@ demo subs = record {
   without = record { items = [] };
   more_slots = 0;
   estimates = usual;
+  workers = usual_workers;
 }

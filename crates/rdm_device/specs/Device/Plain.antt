@@ -3,6 +3,7 @@ use Rattle.std.specs.Prelude.{ℕ, List, []}
 use Rattle.rdm_device.specs.declared.profile.Profile.{Profile}
 use Rattle.rdm_device.specs.declared.profile.Unit.{Unit as DeviceUnit}
 use Rattle.rdm_device.specs.Device.Estimates.{usual}
+use Rattle.rdm_device.specs.Device.Workers.{usual_workers}
 
 -- a device with these texts, no personality and no software version, labelled as its model, with start address 1
 abbrev pub plain_unit : ℕ → ℕ → List ℕ → List ℕ → DeviceUnit
@@ -18,7 +19,7 @@ plain_unit model category model_text maker_text = record {
   start = 1;
 }
 
--- these devices, with nothing else, and the usual estimates
+-- these devices, with nothing else, and the usual estimates and workers
 abbrev pub plain_profile : DeviceUnit → DeviceUnit → ℕ → Profile
 plain_profile root sub subs = record {
   root = root;
@@ -36,4 +37,5 @@ plain_profile root sub subs = record {
   without = record { items = [] };
   more_slots = 0;
   estimates = usual;
+  workers = usual_workers;
 }

@@ -32,7 +32,7 @@ impl Default for Slot {
 }
 
 impl Default for SensorDef {
-    ghost is_default = { λ blank. blank ≡ record { kind = 0; unit = 0; prefix = 0; low = pos 0; high = pos 0; normal_low = pos 0; normal_high = pos 0; support = 0; name = []; at_once = false } };
+    ghost is_default = { λ blank. blank ≡ record { kind = 0; unit = 0; prefix = 0; low = pos 0; high = pos 0; normal_low = pos 0; normal_high = pos 0; support = 0; at_once = false; name = [] } };
 
     fn default() -> SensorDef {
         SensorDef {
@@ -44,8 +44,8 @@ impl Default for SensorDef {
             normal_low: 0,
             normal_high: 0,
             support: 0,
-            name: Text::new(),
             at_once: false,
+            name: Text::new(),
         }
     }
 }

@@ -6,6 +6,7 @@ ghost use Rattle.rdm_device.specs.Device.Demo.{demo, demo_root, demo_sub, demo_s
 
 use crate::{
     Estimates, OwnParameters, Personality, Profile, SelfTest, SensorDef, Slot, StatusText, Unit,
+    Workers,
 };
 use arrayvec::ArrayVec;
 use rdm_frame::Text;
@@ -43,6 +44,7 @@ fn moving_head(subs: u16) -> Profile
         without: ArrayVec::new(),
         more_slots: 0,
         estimates: Estimates::usual(),
+        workers: Workers::usual(),
     }
 }
 
@@ -121,8 +123,8 @@ fn thermometer(name: &[u8]) -> SensorDef
         normal_low: 0,
         normal_high: 80,
         support: 0x03,
-        name: Text::of(name),
         at_once: false,
+        name: Text::of(name),
     }
 }
 

@@ -3,7 +3,7 @@
 ghost use Rattle.std.specs.Prelude.{◌≡◌, ◌≤◌, length};
 ghost use Rattle.rdm_device.specs.Device.Plain.{plain_unit, plain_profile};
 
-use crate::{Estimates, OwnParameters, Personality, Profile, Slot, Unit};
+use crate::{Estimates, OwnParameters, Personality, Profile, Slot, Unit, Workers};
 use arrayvec::ArrayVec;
 use rdm_frame::Text;
 
@@ -60,7 +60,7 @@ impl Unit {
 impl Profile {
     /// These devices, with nothing else that a profile can have: neither boot software nor languages, slots, sensors, self
     /// tests, status texts, presets or parameters of the maker's own. Its
-    /// slow commands take the usual time.
+    /// slow commands take the usual time, of the usual workers.
     pub fn of(root: Unit, sub: Unit, subs: u16) -> Self
         ensures { result ≡ plain_profile root sub subs }
     {
@@ -80,6 +80,7 @@ impl Profile {
             without: ArrayVec::new(),
             more_slots: 0,
             estimates: Estimates::usual(),
+            workers: Workers::usual(),
         }
     }
 }

@@ -13,12 +13,13 @@ use Rattle.rdm_device.specs.declared.value.Value.{Value}
 use Rattle.rdm_device.specs.declared.value.Value.TheVariants.{Byte}
 use Rattle.rdm_device.specs.Columns.Replies.{sensor_measured}
 use Rattle.rdm_device.specs.Device.Estimates.{usual}
+use Rattle.rdm_device.specs.Device.Workers.{usual_workers}
 use Rattle.rdm_params.specs.Commands.Commands.{command_of, accepted, got, answer_to_set, after_set, root_spot}
 use Rattle.rdm_params.specs.Commands.Panel.{after_change}
 use Rattle.rdm_params.specs.Commands.Placing.{after_place}
 use Rattle.rdm_device.specs.Device.Parameters.{Parameters}
 use Rattle.rdm_params.specs.Jobs.Commit.{after_commit}
-use Rattle.rdm_params.specs.Jobs.Work.{IsAccepted, estimate_of}
+use Rattle.rdm_params.specs.Jobs.Work.{IsAccepted, estimate_of, worker_at}
 use Rattle.rdm_params.specs.Table.Rows.{Command, is_left_out}
 use Rattle.rdm_params.specs.Table.Uses.{is_slow, is_at_once, way_of, way_at}
 
@@ -70,6 +71,15 @@ table_estimate pid = if pid == 0x0403 then 50 else if pid == 0x1010 then 20 else
 abbrev pub UsualTakesTheTablesTime : Type 0
 UsualTakesTheTablesTime =
     (p : Profile) (w : Work) → p.estimates ≡ usual → is_slow (command_of w.pid w.verb) ≡ true → estimate_of p w ≡ table_estimate w.pid
+
+-- the usual worker of each: 0 of LAMP_STATE and POWER_STATE, and 1 of PERFORM_SELFTEST and SENSOR_VALUE
+abbrev pub table_worker : ℕ → ℕ
+table_worker pid = if pid == 0x0403 then 0 else if pid == 0x1010 then 0 else 1
+
+-- Devices with the usual choice of workers have those.
+abbrev pub UsualHasTheTablesWorkers : Type 0
+UsualHasTheTablesWorkers =
+    (p : Profile) (w : Work) → p.workers ≡ usual_workers → is_slow (command_of w.pid w.verb) ≡ true → worker_at p.workers w ≡ table_worker w.pid
 
 -- Where no sensor is answered at once, each command is answered in the way of its row.
 abbrev pub UsualIsAnsweredByTheTable : Type 0

@@ -4,23 +4,28 @@ use Rattle.rdm_params.specs.declared.jobs.way.Way.{Way}
 use Rattle.rdm_params.specs.declared.jobs.way.Way.TheVariants.{ByJob}
 use Rattle.rdm_params.specs.declared.jobs.work.Work.{Work}
 use Rattle.rdm_device.specs.declared.profile.estimates.Estimates.{Estimates}
+use Rattle.rdm_device.specs.declared.profile.workers.Workers.{Workers}
 use Rattle.rdm_device.specs.declared.profile.Profile.{Profile}
 use Rattle.rdm_device.specs.declared.value.Value.TheVariants.{Byte}
 use Rattle.rdm_params.specs.Commands.Commands.{command_of, accepted}
 use Rattle.rdm_device.specs.Device.Parameters.{Parameters}
 use Rattle.rdm_params.specs.Table.Uses.{way_of, is_slow, worker_for, estimate_for}
 
-abbrev pub worker_in : Way → ℕ
-worker_in (ByJob slow) = worker_for slow
-worker_in _ = 1
+abbrev pub worker_in : Workers → Way → ℕ
+worker_in ws (ByJob slow) = worker_for ws slow
+worker_in ws _ = 1
 
 abbrev pub estimate_in : Estimates → Way → ℕ
 estimate_in e (ByJob slow) = estimate_for e slow
 estimate_in e _ = 0
 
--- the worker that has the job, and 1 if the work isn't a slow command
-abbrev pub worker_of : Work → ℕ
-worker_of w = worker_in (way_of (command_of w.pid w.verb))
+-- A choice of workers, for crates that name nothing of rdm_device.
+abbrev pub Choice : Type 0
+Choice = Workers
+
+-- the worker that has the job by this choice, and 1 if the work isn't a slow command
+abbrev pub worker_at : Workers → Work → ℕ
+worker_at ws w = worker_in ws (way_of (command_of w.pid w.verb))
 
 -- how long the job takes by the estimates of a profile, in tenths of a second, and 0 if the work isn't a slow command
 abbrev pub estimate_of : Profile → Work → ℕ

@@ -10,6 +10,8 @@ use Rattle.rdm_params.specs.declared.jobs.slow.Slow.TheVariants.{Lamp, Power, Se
 use Rattle.rdm_params.specs.declared.jobs.way.Way.{Way}
 use Rattle.rdm_params.specs.declared.jobs.way.Way.TheVariants.{AtOnce, ByJob}
 use Rattle.rdm_device.specs.declared.profile.estimates.Estimates.{Estimates}
+use Rattle.rdm_device.specs.declared.profile.workers.Workers.{Workers}
+use Rattle.rdm_device.specs.Device.Workers.{worker_number}
 use Rattle.rdm_device.specs.declared.profile.Profile.{Profile}
 use Rattle.rdm_device.specs.declared.value.Value.{Value}
 use Rattle.rdm_device.specs.Columns.Changes.{Change}
@@ -55,12 +57,12 @@ abbrev pub is_by_job : Way → Bool
 is_by_job (ByJob slow) = true
 is_by_job _ = false
 
--- the worker that has the jobs of each kind
-abbrev pub worker_for : Slow → ℕ
-worker_for Lamp = 0
-worker_for Power = 0
-worker_for SelfTest = 1
-worker_for Sensor = 1
+-- the worker that has the jobs of each kind, by this choice
+abbrev pub worker_for : Workers → Slow → ℕ
+worker_for ws Lamp = worker_number ws.lamp
+worker_for ws Power = worker_number ws.power
+worker_for ws SelfTest = worker_number ws.self_test
+worker_for ws Sensor = worker_number ws.sensor
 
 -- how long they take by these estimates, in tenths of a second. Section 6.3.3.
 abbrev pub estimate_for : Estimates → Slow → ℕ

@@ -2,7 +2,7 @@
 
 ghost use Rattle.rdm_params.specs.Jobs.Laws.{StaysAccepted, SetKeepsDevices, CommitKeepsDevices, GetStartsItsWork};
 ghost use Rattle.rdm_params.specs.Jobs.Laws.{SetStartsItsWork, GetQueues, GetStatuses, SetFetchesNothing};
-ghost use Rattle.rdm_params.specs.Jobs.Laws.{UsualTakesTheTablesTime, UsualIsAnsweredByTheTable, SensorIsAnsweredAtOnce};
+ghost use Rattle.rdm_params.specs.Jobs.Laws.{UsualTakesTheTablesTime, UsualHasTheTablesWorkers, UsualIsAnsweredByTheTable, SensorIsAnsweredAtOnce};
 ghost use Rattle.rdm_params.specs.Jobs.Laws.{PanelKeepsDevices, PlaceKeepsDevices, SetClears, GetClearsNothing};
 
 /// A slow command that is accepted stays so, whatever is set, whatever jobs end, whatever a person changes and whatever
@@ -22,9 +22,10 @@ pub fn started_work_is_its_command()
 {}
 
 /// The slow commands of devices that say nothing of them are those of the table: with the usual estimates their jobs take the
-/// table's times, and where no sensor is answered at once every command is answered in the way of its row.
+/// table's times, with the usual choice of workers they have the table's workers, and where no sensor is answered at once every command is answered in the way of its row.
 pub fn usual_profile_is_as_slow_as_the_table()
     ensures time { UsualTakesTheTablesTime }
+    ensures worker { UsualHasTheTablesWorkers }
     ensures way { UsualIsAnsweredByTheTable }
 {}
 

@@ -2,11 +2,11 @@
 
 ghost use Rattle.std.specs.Prelude.{◌≡◌, ◌<◌, Some, None, IfSome, if◌then◌else◌};
 ghost use Rattle.rdm_params.specs.Jobs.Outcome.{ends, fits};
-ghost use Rattle.rdm_params.specs.Jobs.Work.{worker_of};
+ghost use Rattle.rdm_params.specs.Jobs.Work.{worker_at};
 
 use crate::jobs::Way;
 use crate::jobs::work::{is_slow, way};
-use crate::{Severity, Verb, Work};
+use crate::{Severity, Verb, Work, Workers};
 
 /// How a job ended.
 #[derive(Clone, Copy, Debug, PartialEq, Eq)]
@@ -36,14 +36,14 @@ pub fn fits(work: &Work, outcome: &Outcome) -> bool
     is_slow(work) && ends(work.verb, outcome)
 }
 
-/// The worker that has the job of this work, or `None` if no such job can end so: what `worker_of` and `fits` tell,
-/// for one look at the table.
-pub fn fitting_worker(work: &Work, outcome: &Outcome) -> Option<u8>
-    ensures worker { result ≡ if fits work.now outcome.now then Some (worker_of work.now) else None }
+/// The worker that has the job of this work by this choice, or `None` if no such job can end so: what `worker_at` and `fits`
+/// tell, for one look at the table.
+pub fn fitting_worker(workers: &Workers, work: &Work, outcome: &Outcome) -> Option<u8>
+    ensures worker { result ≡ if fits work.now outcome.now then Some (worker_at workers.now work.now) else None }
     ensures two { IfSome result (λ worker. worker < 2) }
 {
     match way(work) {
-        Way::ByJob(slow) if ends(work.verb, outcome) => Some(slow.worker()),
+        Way::ByJob(slow) if ends(work.verb, outcome) => Some(slow.worker(workers)),
         _ => None,
     }
 }

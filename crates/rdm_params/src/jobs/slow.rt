@@ -3,7 +3,7 @@
 ghost use Rattle.std.specs.Prelude.{◌≡◌, ◌<◌};
 ghost use Rattle.rdm_params.specs.Table.Uses.{worker_for, estimate_for};
 
-use rdm_device::Estimates;
+use rdm_device::{Estimates, Workers};
 
 /// What the job of a slow command does.
 #[derive(Clone, Copy)]
@@ -19,15 +19,18 @@ pub(crate) enum Slow {
 }
 
 impl Slow {
-    /// The worker whose jobs these are: 0 or 1.
-    pub(crate) fn worker(self) -> u8
-        ensures worker { result ≡ worker_for self }
+    /// The worker whose jobs these are by this choice: 0 or 1.
+    pub(crate) fn worker(self, workers: &Workers) -> u8
+        ensures worker { result ≡ worker_for workers.now self }
         ensures two { result < 2 }
     {
-        match self {
-            Slow::Lamp | Slow::Power => 0,
-            Slow::SelfTest | Slow::Sensor => 1,
-        }
+        let worker = match self {
+            Slow::Lamp => workers.lamp,
+            Slow::Power => workers.power,
+            Slow::SelfTest => workers.self_test,
+            Slow::Sensor => workers.sensor,
+        };
+        worker.number()
     }
 
     /// How long they take, by these estimates.

@@ -2,13 +2,13 @@
 
 ghost use Rattle.std.specs.Prelude.{◌≡◌, ◌<◌};
 ghost use Rattle.rdm_params.specs.Commands.Commands.{command_of};
-ghost use Rattle.rdm_params.specs.Jobs.Usual.{usual_estimate_of};
-ghost use Rattle.rdm_params.specs.Jobs.Work.{worker_of, estimate_in};
+ghost use Rattle.rdm_params.specs.Jobs.Usual.{worker_of, usual_estimate_of};
+ghost use Rattle.rdm_params.specs.Jobs.Work.{worker_at, estimate_in};
 ghost use Rattle.rdm_params.specs.Table.Uses.{way_of, is_slow};
 
 use crate::jobs::Way;
 use crate::table::find::find;
-use crate::{Estimates, Verb};
+use crate::{Estimates, Verb, Workers};
 
 /// A slow command that was accepted.
 #[derive(Clone, Copy, Debug, PartialEq, Eq)]
@@ -23,13 +23,22 @@ pub struct Work {
     pub arg: u8,
 }
 
-/// The worker that has the job of this work: 0 or 1. It is 1 too if the work isn't a slow command.
+/// The worker that has the job of this work by the usual choice: 0 or 1. `Devices::worker_of` tells it of devices whose profile
+/// may choose otherwise. It is 1 too if the work isn't a slow command.
 pub fn worker_of(work: &Work) -> u8
     ensures worker { result ≡ worker_of work.now }
     ensures two { result < 2 }
 {
+    worker_at(&Workers::usual(), work)
+}
+
+/// The same by this choice.
+pub fn worker_at(workers: &Workers, work: &Work) -> u8
+    ensures worker { result ≡ worker_at workers.now work.now }
+    ensures two { result < 2 }
+{
     match way(work) {
-        Way::ByJob(slow) => slow.worker(),
+        Way::ByJob(slow) => slow.worker(workers),
         Way::AtOnce | Way::FromQueue | Way::FromStatus | Way::Clears => 1,
     }
 }
