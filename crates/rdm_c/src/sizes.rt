@@ -7,7 +7,7 @@ use crate::job::{JobNumbers, SteppedNumbers};
 use crate::message::{CommandNumbers, MessageNumbers};
 use crate::names::NameNumbers;
 use crate::outcome::OutcomeNumbers;
-use crate::profile::parameters::ParameterNumbers;
+use crate::profile::parameters::{ChoiceNumbers, FieldNumbers, ParameterNumbers};
 use crate::profile::{
     EstimatesNumbers, PersonalityNumbers, ProfileNumbers, SelfTestNumbers, SensorNumbers,
     SlotNumbers, StatusTextNumbers, TextNumbers, UnitNumbers,
@@ -33,9 +33,13 @@ const _: () = prove!(size_of::<EstimatesNumbers>() == 8);
 
 const _: () = prove!(size_of::<UnitNumbers>() == 432);
 
-const _: () = prove!(size_of::<ParameterNumbers>() == 96);
+const _: () = prove!(size_of::<FieldNumbers>() == 16);
 
-const _: () = prove!(size_of::<ProfileNumbers<'static>>() == 3648);
+const _: () = prove!(size_of::<ChoiceNumbers>() == 40);
+
+const _: () = prove!(size_of::<ParameterNumbers>() == 224);
+
+const _: () = prove!(size_of::<ProfileNumbers<'static>>() == 3664);
 
 const _: () = prove!(size_of::<JobNumbers>() == 16);
 
