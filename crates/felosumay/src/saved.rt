@@ -71,27 +71,9 @@ fn restore_in<'a, H: Host>(
     live: &mut LiveFixture,
 ) -> Result<Saved<'a, H::File>, Fault<'a>> {
     let mut saved = Saved::new(rt, name, memory, live.responder())?;
-    restore_from(name, &mut saved.images, &mut saved.buffer, live)?;
+    saved.restore(live)?;
     saved.save(live.responder())?;
     Ok(saved)
-}
-
-/// Restores the values of a fixture from those that are loaded from two areas. The buffer has room for one.
-fn restore_from<'a, F: Read + Write + Seek + OpenFile + Drop>(
-    name: &'a str,
-    images: &mut Images<FileMemory<F>>,
-    buffer: &mut [u8],
-    live: &mut LiveFixture,
-) -> Result<(), Fault<'a>> {
-    let image = match images.load(buffer) {
-        Ok(Some(image)) => image,
-        _ => return Err(Fault::NotSaved(name)),
-    };
-    match live.restore(image) {
-        Ok(()) => Ok(()),
-        Err(RestoreError::Altered) => Err(Fault::NotSaved(name)),
-        Err(RestoreError::Length | RestoreError::OfAnother) => Err(Fault::OtherProfile(name)),
-    }
 }
 
 /// Makes a file with the values of a fixture. It has its name from the moment on that the values are in it.
@@ -150,6 +132,26 @@ impl<'a, F: Read + Write + Seek + OpenFile + Drop> Saved<'a, F> {
             last,
             next,
         })
+    }
+
+    /// Restores the values of the fixture from those that the areas hold.
+    fn restore(&mut self, live: &mut LiveFixture) -> Result<(), Fault<'a>> {
+        let Saved {
+            name,
+            images,
+            buffer,
+            last: _,
+            next: _,
+        } = self;
+        let image = match images.load(buffer) {
+            Ok(Some(image)) => image,
+            _ => return Err(Fault::NotSaved(*name)),
+        };
+        match live.restore(image) {
+            Ok(()) => Ok(()),
+            Err(RestoreError::Altered) => Err(Fault::NotSaved(*name)),
+            Err(RestoreError::Length | RestoreError::OfAnother) => Err(Fault::OtherProfile(*name)),
+        }
     }
 
     /// Saves the values of the fixture, if they aren't those that were saved last.
