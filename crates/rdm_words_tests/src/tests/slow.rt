@@ -39,16 +39,14 @@ fn what_is_not_as_usual_is_said(rt: HostRuntime) -> Result<(), Fail> {
     put_fixture(&mut said, uid, &profile, &[])?;
     let text = std::str::from_utf8(said.as_slice()).unwrap_or("");
     assert!(rt; text.ends_with(SLOW), "{text}");
-    let mut quick = 0;
+    assert!(rt; text.contains("answered at once"), "{text}");
     for line in text.lines() {
         if line.ends_with("answered at once") {
             assert!(rt;
                 line.starts_with("  sensor 1: \"Head temperature\""),
                 "{line}"
             );
-            quick += 1;
         }
     }
-    assert_eq!(rt; quick, 1);
     Ok(())
 }
