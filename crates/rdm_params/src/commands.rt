@@ -271,10 +271,13 @@ impl Devices {
             }
             Err(nack) => return Err(nack),
         };
-        let value = self.read_data(sub, Verb::Set, found, &place, data)?;
-        if !found.way.is_by_job() {
-            *changed = self.carry_out(sub, found.kind, &value);
+        // Apart from the others: what it hands in isn't kept for a write.
+        if found.way.is_by_job() {
+            let value = self.read_data(sub, Verb::Set, found, &place, data)?;
+            return Ok(self.answer_to_set(sub, found, &value, body));
         }
+        let value = self.read_data(sub, Verb::Set, found, &place, data)?;
+        *changed = self.carry_out(sub, found.kind, &value);
         Ok(self.answer_to_set(sub, found, &value, body))
     }
 
@@ -369,16 +372,19 @@ fn answer(
             }
             Answer::Done
         }
-        Way::ByJob(slow) => Answer::Starts {
-            work: Work {
-                sub,
-                pid: found.kind.pid(),
-                verb,
-                arg,
-            },
-            worker: slow.worker(&profile.workers),
-            estimate: slow.estimate(&profile.estimates),
-        },
+        Way::ByJob(slow) => {
+            let (worker, estimate) = slow.terms(&profile.workers, &profile.estimates);
+            Answer::Starts {
+                work: Work {
+                    sub,
+                    pid: found.kind.pid(),
+                    verb,
+                    arg,
+                },
+                worker,
+                estimate,
+            }
+        }
         Way::FromQueue => Answer::Queues(Ask::of(arg)),
         Way::FromStatus => Answer::Statuses(Ask::of(arg)),
         Way::Clears => Answer::Clears,

@@ -201,6 +201,8 @@ impl Kind {
     }
 
     /// The PID (E1.20 table A-3).
+    // Inlined, since most callers name the parameter, and then it is a number.
+    #[inline(always)]
     pub fn pid(self) -> u16
         ensures { result ≡ pid_of self }
     {

@@ -41,9 +41,8 @@ impl Devices {
     }
 
     /// Whether every sub-device can take a value at once, if the first can, or the first reason why not.
-    // A call, so that the other commands don't make room for it.
-    #[cold]
-    #[inline(never)]
+    // Inlined, as is what it calls but for the loop: a call would save and restore the registers of the SET.
+    #[inline(always)]
     fn suits_each(
         &self,
         sub: u16,
@@ -68,6 +67,7 @@ impl Devices {
 
     /// Whether a value that is in the range of a SET of every sub-device at the first of them is so at all.
     // The range of a start address alone depends on what a sub-device keeps: no other is asked for again.
+    #[inline(always)]
     #[tactic(auto, using(crate::proofs::OtherRanges::in_range_at_all))]
     fn is_in_range_at_each(&self, sub: u16, kind: Kind, verb: Verb, value: &Argument<'_>) -> bool
         requires all { is_all_call sub verb ≡ true }

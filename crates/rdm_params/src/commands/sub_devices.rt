@@ -9,6 +9,7 @@ ghost use Rattle.rdm_device.specs.Device.Parameters.{common_at_start};
 ghost use Rattle.rdm_device.specs.Views.State.{common_entries};
 ghost use Rattle.rdm_params.specs.Table.Uses.{in_range_of};
 
+use crate::table::rows;
 use crate::table::store::store_common;
 use crate::table::within::is_in_range;
 use crate::{Kind, Profile, Unit, Verb};
@@ -31,6 +32,9 @@ pub(crate) fn start_each(
 }
 
 /// Whether a value is in range at every sub-device.
+// A call, so that no other command makes room for its loop.
+#[cold]
+#[inline(never)]
 pub(crate) fn all_in_range<'a>(
     profile: &'a Profile,
     kind: Kind,
@@ -50,8 +54,29 @@ pub(crate) fn all_in_range<'a>(
     true
 }
 
+macro_rules! each_rows {
+    (($kind:ident $value:ident $profile:ident $subs:ident) $(($name:ident $pid:tt $at:ident $get:tt $set:tt))*) => {
+        match $kind {
+            $(Kind::$name => store_each_of!($name $set $value $profile $subs),)*
+        }
+    };
+}
+
+macro_rules! store_each_of {
+    ($name:ident (takes label $range:tt $field:tt) $value:ident $profile:ident $subs:ident) => {
+        store_rest(Kind::$name, $value, $profile, $subs)
+    };
+    ($name:ident (takes $form:ident $range:tt (common $field:ident)) $value:ident $profile:ident $subs:ident) => {
+        store_all(Kind::$name, $value, $profile, $subs)
+    };
+    ($name:ident $set:tt $value:ident $profile:ident $subs:ident) => {
+        store_rest(Kind::$name, $value, $profile, $subs)
+    };
+}
+
 /// Carries out a SET at every sub-device, and says whether that changed a value of one.
-// A call, so that the other commands don't make room for its loop.
+// A call, so that the other commands don't make room for its loops. A number that every sub-device keeps has a loop of its own, so
+// that the table is asked once and not for each of them.
 #[inline(never)]
 pub(crate) fn store_each(
     kind: Kind,
@@ -59,6 +84,33 @@ pub(crate) fn store_each(
     profile: &Profile,
     subs: &mut [CommonValues],
 ) -> bool
+    ensures after { map common_entries subs.new
+        ≡ map (λ entries. written (command_of (pid_of kind) Set) value.now (profile_sub_spot profile.now entries)) (map common_entries subs.old) }
+    ensures same { (result ≡ false) ↔ (map common_entries subs.new ≡ map common_entries subs.old) }
+{
+    rows!(each_rows!(kind value profile subs))
+}
+
+/// Carries out a SET of another parameter at every sub-device, and says whether that changed a value of one.
+// A call, so that the loops of numbers don't save the registers for it.
+#[inline(never)]
+fn store_rest(
+    kind: Kind,
+    value: &Argument<'_>,
+    profile: &Profile,
+    subs: &mut [CommonValues],
+) -> bool
+    ensures after { map common_entries subs.new
+        ≡ map (λ entries. written (command_of (pid_of kind) Set) value.now (profile_sub_spot profile.now entries)) (map common_entries subs.old) }
+    ensures same { (result ≡ false) ↔ (map common_entries subs.new ≡ map common_entries subs.old) }
+{
+    store_all(kind, value, profile, subs)
+}
+
+/// Carries out a SET at one sub-device after the other, and says whether that changed a value of one.
+// Inlined, so that a caller that names the parameter has the loop for it alone.
+#[inline(always)]
+fn store_all(kind: Kind, value: &Argument<'_>, profile: &Profile, subs: &mut [CommonValues]) -> bool
     ensures after { map common_entries subs.new
         ≡ map (λ entries. written (command_of (pid_of kind) Set) value.now (profile_sub_spot profile.now entries)) (map common_entries subs.old) }
     ensures same { (result ≡ false) ↔ (map common_entries subs.new ≡ map common_entries subs.old) }

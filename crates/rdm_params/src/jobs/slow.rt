@@ -33,6 +33,19 @@ impl Slow {
         worker.number()
     }
 
+    /// The worker whose jobs these are, and how long they take: as `worker` and `estimate` say, by one look at the kind.
+    pub(crate) fn terms(self, workers: &Workers, estimates: &Estimates) -> (u8, u16)
+        ensures worker { result.0 ≡ worker_for workers.now self }
+        ensures estimate { result.1 ≡ estimate_for estimates.now self }
+    {
+        match self {
+            Slow::Lamp => (workers.lamp.number(), estimates.lamp),
+            Slow::Power => (workers.power.number(), estimates.power),
+            Slow::SelfTest => (workers.self_test.number(), estimates.self_test),
+            Slow::Sensor => (workers.sensor.number(), estimates.sensor),
+        }
+    }
+
     /// How long they take, by these estimates.
     pub(crate) fn estimate(self, estimates: &Estimates) -> u16
         ensures { result ≡ estimate_for estimates.now self }

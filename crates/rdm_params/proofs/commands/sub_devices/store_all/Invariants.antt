@@ -3,7 +3,7 @@ use Rattle.rdm_params.specs.declared.kind.Verb.TheVariants.{Set}
 use Rattle.rdm_params.specs.Commands.Commands.{command_of, profile_sub_spot, written}
 use Rattle.rdm_params.specs.Table.Kinds.{pid_of}
 use Rattle.rdm_device.specs.Views.State.{common_entries}
-use Rattle.rdm_params.proofs.commands.sub_devices.store_each.Given as goal
+use Rattle.rdm_params.proofs.commands.sub_devices.store_all.Given as goal
 
 -- the sub-devices before this one are written, and the others as they were; and whether all are as they were
 abbrev pub invariant-loop-i : goal.invariant-loop-i

@@ -7,8 +7,8 @@ use Rattle.rdm_device.specs.Device.Map.{Entry}
 use Rattle.rdm_device.specs.Views.State.{common_entries}
 use Rattle.rdm_params.proofs.Changes.{each_same, joined_true, joined_false}
 use Rattle.rdm_params.proofs.SubSteps.{each_step}
-use Rattle.rdm_params.proofs.commands.sub_devices.store_each.Goals as goal
-use Rattle.rdm_params.proofs.commands.sub_devices.store_each.Goals.{then-changed, else-changed}
+use Rattle.rdm_params.proofs.commands.sub_devices.store_all.Goals as goal
+use Rattle.rdm_params.proofs.commands.sub_devices.store_all.Goals.{then-changed, else-changed}
 
 pub loop-i-preserved : goal.loop-i-preserved
 loop-i-preserved c =
