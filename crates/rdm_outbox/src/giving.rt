@@ -30,11 +30,25 @@ pub(crate) fn give(
     if *given >= jobs {
         return Err(Full::NoRoom);
     }
-    let job = Job {
-        number: first_job.wrapping_add(*given),
-        work,
-    };
-    put(outstanding, job);
+    let number = first_job.wrapping_add(*given);
+    put(outstanding, numbered(number, &work));
     *given += 1;
-    Ok(job)
+    Ok(numbered(number, &work))
+}
+
+/// The job of this number.
+// Field by field, and made for each place that it goes to: as a whole it would be copied through memory on the way.
+#[inline(always)]
+fn numbered(number: u32, work: &Work) -> Job
+    ensures { result ≡ numbered number work.now }
+{
+    Job {
+        number,
+        work: Work {
+            sub: work.sub,
+            pid: work.pid,
+            verb: work.verb,
+            arg: work.arg,
+        },
+    }
 }
