@@ -285,7 +285,7 @@ enum {
 
 /* Makes a responder of this profile, or the demonstration fixture with N sub-devices (`subs`), and replaces what the handle
  * held. `queue_size` is how many messages and jobs it has room for, 1 to 1,024, at 272 bytes each; `entries` how many status
- * entries wait at most to be shown, 1 to 1,024, at 10 bytes each: 1,024 if no number is passed. If it isn't DONE, the handle
+ * entries wait at most to be shown, 1 to 1,024, at 9 bytes each: 1,024 if no number is passed. If it isn't DONE, the handle
  * stays as it was. BAD_UID, BAD_SIZE, BAD_PROFILE, OUT_OF_MEMORY, in this order.
  *
  * `first_job` is the number of each worker's first job: 0 if no number is passed. A report is known by the numbers of its job, so
@@ -312,7 +312,7 @@ felosumay_result felosumay_responder_fits(uintptr_t address, size_t bytes, uint1
 #define FELOSUMAY_OWN_PARAMETERS_BYTES(count) ((count) == 0 ? (size_t)0 : FELOSUMAY_ROUNDED(1928) + 48 * (size_t)(count))
 #define FELOSUMAY_RESPONDER_BYTES(queue_size, entries, sub_devices)                                                             \
     (FELOSUMAY_ROUNDED(5968) + FELOSUMAY_ROUNDED(64 * (size_t)(sub_devices)) + 2 * FELOSUMAY_ROUNDED(12 * (size_t)(queue_size)) + \
-     FELOSUMAY_ROUNDED(248 * (size_t)(queue_size)) + FELOSUMAY_ROUNDED(10 * (size_t)(entries)))
+     FELOSUMAY_ROUNDED(248 * (size_t)(queue_size)) + FELOSUMAY_ROUNDED(9 * (size_t)(entries)))
 
 /* Hears bytes. If there is a reply, it stands at the front of `reply`; the answer to discovery is a reply like any other,
  * and has no break before it. What stands behind the reply has no meaning. ABSENT: `replied`, `started` and

@@ -18,7 +18,7 @@ const JOB: usize = 12;
 const MESSAGE: usize = 248;
 
 /// How many bytes a status entry takes.
-const ENTRY: usize = 10;
+const ENTRY: usize = 9;
 
 /// How many bytes the responder itself takes, with the room for a reply.
 const RESPONDER: usize = 1144;

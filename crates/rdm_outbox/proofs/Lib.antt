@@ -1,4 +1,5 @@
 pub mod Entries
 pub mod Fronts
+pub mod KeptNumbers
 pub mod Marks
 pub mod Outboxes

@@ -9,6 +9,7 @@ mod dispensed;
 mod error;
 mod giving;
 mod job;
+mod kept;
 mod laws;
 mod outbox;
 mod ring;

@@ -12,6 +12,7 @@ ghost use Rattle.rdm_params.specs.Jobs.Work.{worker_at};
 ghost use Rattle.rdm_outbox.specs.Statuses.{after_clear, can_note, after_note, status_now, after_status_now};
 
 use crate::giving::give;
+use crate::kept::{KeptEntry, keep};
 use crate::ring::{drop_first, put};
 use crate::showing::{empty_status, is_last, show_status};
 use crate::{Dispensed, Full, Job, NewError};
@@ -40,7 +41,7 @@ pub struct Outbox {
     first_given: u32,
     second_given: u32,
     queue: HeapCircularBuffer<Message>,
-    unshown: Vec<Entry>,
+    unshown: Vec<KeptEntry>,
     last: Message,
 }
 
@@ -70,7 +71,7 @@ impl Outbox {
     }
 
     /// An outbox as of `new`, with room for that many status entries that weren't shown (E1.20 section 10.3.2). Each takes
-    /// 10 bytes.
+    /// 9 bytes.
     ///
     /// A `q` that isn't 1 to 1,024, a `jobs` of 0, or an `entries` that isn't 1 to 1,024 is rejected first, then comes out of
     /// memory. No later call takes memory.
@@ -272,7 +273,7 @@ impl Outbox {
         if self.unshown.len() >= usize::from(self.entries) {
             return false;
         }
-        self.unshown.push_reserved(entry);
+        keep(&mut self.unshown, entry);
         true
     }
 

@@ -6,6 +6,7 @@ ghost use Rattle.rdm_outbox.specs.Statuses.{asks_for, entry_slots, first_asked, 
 ghost use Rattle.std.specs.Vec.{vec_capacity};
 ghost use Rattle.rdm_outbox.specs.Messages.{is_last};
 
+use crate::kept::KeptEntry;
 use rdm_frame::Body;
 use rdm_frame::standard::{GET_COMMAND_RESPONSE, ROOT_DEVICE};
 use rdm_params::{Ask, Entry, Kind, Message};
@@ -25,7 +26,7 @@ pub(crate) fn is_last(ask: Ask) -> bool
 
 /// Makes the status message of a status type, in the place of what `message` was, and takes away the entries that it
 /// shows.
-pub(crate) fn show_status(entries: &mut Vec<Entry>, ask: Ask, message: &mut Message)
+pub(crate) fn show_status(entries: &mut Vec<KeptEntry>, ask: Ask, message: &mut Message)
     ensures said { message.new ≡ status_message (first_asked 25 ask entries.old.items) }
     ensures left { entries.new.items ≡ others 25 ask entries.old.items }
     ensures fewer { length entries.new.items ≤ length entries.old.items }
@@ -53,7 +54,7 @@ pub(crate) fn empty_status() -> Message
 
 /// Shows the first `most` entries that are asked for. Their slots go into `body`, the others move up in their order, and
 /// the result is how many they are.
-fn show_asked(entries: &mut [Entry], most: usize, ask: Ask, body: &mut Body) -> usize
+fn show_asked(entries: &mut [KeptEntry], most: usize, ask: Ask, body: &mut Body) -> usize
     requires empty { body.old ≡ [] }
     requires fits { 9 * most ≤ 231 }
     ensures said { body.new ≡ flat_map entry_slots (first_asked most ask entries.old) }
@@ -63,12 +64,12 @@ fn show_asked(entries: &mut [Entry], most: usize, ask: Ask, body: &mut Body) -> 
     let mut room = most;
     let mut kept = first_place(entries, ask);
     for at in kept..entries.len() {
-        let entry = entries[at];
+        let entry = entries[at].entry();
         if is_shown(room, ask, &entry) {
             append_entry(&entry, body);
             room -= 1;
         } else {
-            entries[kept] = entry;
+            entries[kept] = KeptEntry::of(entry);
             kept += 1;
         }
     }
@@ -76,17 +77,17 @@ fn show_asked(entries: &mut [Entry], most: usize, ask: Ask, body: &mut Body) -> 
 }
 
 /// The place of the first entry that is asked for, or how many there are: those before it stay where they are.
-fn first_place(entries: &[Entry], ask: Ask) -> usize
+fn first_place(entries: &[KeptEntry], ask: Ask) -> usize
     ensures { result ≡ unwrap_or (position (asks_for ask) entries.now) (length entries.now) }
 {
     first_shown(entries, ask).unwrap_or(entries.len())
 }
 
 /// The place of the first entry that is asked for, if there is one.
-fn first_shown(entries: &[Entry], ask: Ask) -> Option<usize>
+fn first_shown(entries: &[KeptEntry], ask: Ask) -> Option<usize>
     ensures { result ≡ position (asks_for ask) entries.now }
 {
-    entries.iter().position(|entry| asks_for(ask, entry))
+    entries.iter().position(|kept| asks_for(ask, &kept.entry()))
 }
 
 /// Whether there is room for an entry, and it is asked for.

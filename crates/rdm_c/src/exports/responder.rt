@@ -75,7 +75,7 @@ pub extern "C" fn felosumay_responder_new(
 }
 
 /// Makes a responder as `felosumay_responder_new` does, with room for `entries` status entries that weren't shown (E1.20
-/// section 10.3.2), at 10 bytes each: for a controller with little memory. While that many wait, a further one is dropped. The
+/// section 10.3.2), at 9 bytes each: for a controller with little memory. While that many wait, a further one is dropped. The
 /// first job of each worker has the number `first_job`, and each later one the next; after 4,294,967,295 comes 0. So if it is
 /// greater than the number of each job of the responder before, each report of such a job is astray.
 ///

@@ -1,4 +1,7 @@
-use Rattle.std.proofs.Common.{arith, sym, take}
+use Rattle.std.proofs.Common.{◌≡◌, arith, sym, take, subst, true, false}
+use Rattle.std.specs.Prelude.{◌&&◌, nat_lt}
+use Rattle.rdm_params.specs.declared.jobs.status.Entry.{Entry}
+use Rattle.rdm_outbox.specs.Statuses.{asks_for}
 use Rattle.rdm_outbox.proofs.Entries.{said_shown, left_shown, room_shown, said_kept, left_kept, left_whole}
 use Rattle.rdm_outbox.proofs.Fronts.{said_at_first, left_at_first}
 use Rattle.rdm_outbox.proofs.showing.show_asked.Goals as goal
@@ -16,14 +19,14 @@ pub loop-at-preserved : goal.loop-at-preserved
 loop-at-preserved c =
     elim c.if-is_shown.branch [
       | then-is_shown w ↦ rw (w.body-is, w.room-is, w.entries-is, w.kept-is) (record {
-        said = rw w.append_entry.ensures (said_shown c.loop-at.body c.loop-at.room c.args.ask c.loop-at.entries c.loop-at.at _ _ (omega arith) (sym w.if-is_shown.ensures) c.loop-at.invariant.said);
-        left = left_shown (take c.loop-at.kept c.loop-at.entries) c.loop-at.room c.args.ask c.loop-at.entries c.loop-at.at _ _ (omega arith) (sym w.if-is_shown.ensures) c.loop-at.invariant.left;
+        said = rw (w.append_entry.ensures, c.entry-entry.ensures) (said_shown c.loop-at.body c.loop-at.room c.args.ask c.loop-at.entries c.loop-at.at _ _ (omega arith) (subst (λ (e : Entry). (nat_lt 0 c.loop-at.room && asks_for c.args.ask e) ≡ true) c.entry-entry.ensures (sym w.if-is_shown.ensures)) c.loop-at.invariant.said);
+        left = left_shown (take c.loop-at.kept c.loop-at.entries) c.loop-at.room c.args.ask c.loop-at.entries c.loop-at.at _ _ (omega arith) (subst (λ (e : Entry). (nat_lt 0 c.loop-at.room && asks_for c.args.ask e) ≡ true) c.entry-entry.ensures (sym w.if-is_shown.ensures)) c.loop-at.invariant.left;
         room = rw w.append_entry.ensures (room_shown c.loop-at.body c.loop-at.room c.args.ask _ c.args.most (sym w.if-is_shown.ensures) c.loop-at.invariant.room);
         kept = omega arith;
       })
-      | else-is_shown w ↦ rw (w.body-is, w.room-is, w.entries-is, w.kept-is) (record {
-        said = said_kept c.loop-at.body c.loop-at.room c.args.ask c.loop-at.entries c.loop-at.kept c.loop-at.at _ _ c.loop-at.invariant.kept (omega arith) (sym w.if-is_shown.ensures) c.loop-at.invariant.said;
-        left = left_kept c.loop-at.room c.args.ask c.loop-at.entries c.loop-at.kept c.loop-at.at _ _ c.loop-at.invariant.kept (omega arith) (sym w.if-is_shown.ensures) c.loop-at.invariant.left;
+      | else-is_shown w ↦ rw (w.body-is, w.room-is, w.entries-is, w.kept-is, w.of.ensures, c.entry-entry.ensures) (record {
+        said = said_kept c.loop-at.body c.loop-at.room c.args.ask c.loop-at.entries c.loop-at.kept c.loop-at.at _ _ c.loop-at.invariant.kept (omega arith) (subst (λ (e : Entry). (nat_lt 0 c.loop-at.room && asks_for c.args.ask e) ≡ false) c.entry-entry.ensures (sym w.if-is_shown.ensures)) c.loop-at.invariant.said;
+        left = left_kept c.loop-at.room c.args.ask c.loop-at.entries c.loop-at.kept c.loop-at.at _ _ c.loop-at.invariant.kept (omega arith) (subst (λ (e : Entry). (nat_lt 0 c.loop-at.room && asks_for c.args.ask e) ≡ false) c.entry-entry.ensures (sym w.if-is_shown.ensures)) c.loop-at.invariant.left;
         room = c.loop-at.invariant.room;
         kept = omega arith;
       })
