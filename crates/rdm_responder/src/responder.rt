@@ -96,7 +96,7 @@ impl Responder {
     }
 
     /// A responder as of `new`, with room for `entries` status entries that weren't shown (E1.20 section 10.3.2): for a
-    /// controller with little memory. Each takes 10 bytes. While that many wait, a further one is dropped.
+    /// controller with little memory. Each takes 9 bytes. While that many wait, a further one is dropped.
     ///
     /// The order of the refusals is that of `new`; a number of entries that isn't 1 to 1,024 is a bad size too.
     // Inlined, since a call would have a copy of the profile on the stack.
