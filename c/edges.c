@@ -230,6 +230,9 @@ static felosumay_result slow(void) {
     const felosumay_estimates times = {1, 2, 65535, 0};
     const felosumay_workers workers = {FELOSUMAY_WORKER_1, FELOSUMAY_WORKER_0, FELOSUMAY_WORKER_0, FELOSUMAY_WORKER_USUAL};
     const felosumay_workers others = {FELOSUMAY_WORKER_0, FELOSUMAY_WORKER_1, FELOSUMAY_WORKER_1, 255};
+    /* Neither list is there, and `new` takes NULL for both. */
+    profile.parameters = NULL;
+    profile.parameter_count = 0;
     profile.test_count = profile.sensor_count = 1;
     profile.tests[0].number = 1;
     felosumay_result result = jobs("usual times and workers");

@@ -2,10 +2,10 @@
  *
  * A handle starts as {0}. It belongs to the library from then on: never copy it, and never look behind its pointer or write
  * it. Pointers must be valid, and no two of one call may overlap; the bytes that a call reads or writes may be NULL if their
- * length is 0. Each handle may be in one call at a time, on any thread, so a mutex may hand a handle from thread to thread;
- * that holds of a const handle too, which holds the same after the call as before. These are the only preconditions: all else
- * is tested, and the result says so. If a call isn't DONE, what stands behind its other pointers has no meaning, unless the
- * call says more.
+ * length is 0. Bytes that it only reads may be constant, and in another call at the same time. Each handle may be in one call at a
+ * time, on any thread, so a mutex may hand a handle from thread to thread; that holds of a const handle too, which holds the same
+ * after the call as before. These are the only preconditions: all else is tested, and the result says so. If a call isn't DONE, what
+ * stands behind its other pointers has no meaning, unless the call says more.
  *
  * Words of the trade and the calls: a device receives bytes by `step`, and a job is done by `arrive`; a controller receives bytes
  * by `hear`, and `over` is its timeout.
@@ -235,7 +235,7 @@ enum {
 };
 
 /* Which rule the profile breaks: the first of them, or NO_FAULT, and then `new` doesn't call it a BAD_PROFILE. */
-uint8_t felosumay_profile_fault(const felosumay_profile *profile);
+static inline uint8_t felosumay_profile_fault(const felosumay_profile *profile);
 
 /* ---- the responder */
 
@@ -291,11 +291,11 @@ enum {
  * `first_job` is the number of each worker's first job: 0 if no number is passed. A report is known by the numbers of its job, so
  * if a worker may still report a job of the responder before, pass a number that no job of it had: the greatest `number` that
  * came, plus 1. A responder accepts at most 4,294,967,295 jobs for each worker, so that no two have the same number. */
-felosumay_result felosumay_responder_new(felosumay_responder *responder, uint16_t maker, uint32_t device,
-                                         const felosumay_profile *profile, uint16_t queue_size);
-felosumay_result felosumay_responder_new_with(felosumay_responder *responder, uint16_t maker, uint32_t device,
-                                              const felosumay_profile *profile, uint16_t queue_size, uint16_t entries,
-                                              uint32_t first_job);
+static inline felosumay_result felosumay_responder_new(felosumay_responder *responder, uint16_t maker, uint32_t device,
+                                                       const felosumay_profile *profile, uint16_t queue_size);
+static inline felosumay_result felosumay_responder_new_with(felosumay_responder *responder, uint16_t maker, uint32_t device,
+                                                            const felosumay_profile *profile, uint16_t queue_size, uint16_t entries,
+                                                            uint32_t first_job);
 felosumay_result felosumay_responder_demo(felosumay_responder *responder, uint16_t maker, uint32_t device, uint16_t subs,
                                           uint16_t queue_size);
 
@@ -317,8 +317,8 @@ felosumay_result felosumay_responder_fits(uintptr_t address, size_t bytes, uint1
 /* Hears bytes. If there is a reply, it stands at the front of `reply`; the answer to discovery is a reply like any other,
  * and has no break before it. What stands behind the reply has no meaning. ABSENT: `replied`, `started` and
  * `changed` are 0 then. */
-felosumay_result felosumay_responder_step(felosumay_responder *responder, const uint8_t *bytes, size_t length,
-                                          uint8_t reply[FELOSUMAY_FRAME_BYTES], felosumay_stepped *stepped);
+static inline felosumay_result felosumay_responder_step(felosumay_responder *responder, const uint8_t *bytes, size_t length,
+                                                        uint8_t reply[FELOSUMAY_FRAME_BYTES], felosumay_stepped *stepped);
 
 /* Takes the report of a job. `kept` is 1 if it left a status entry that is kept, else 0. UNKNOWN, ABSENT, ASTRAY, in this
  * order; nothing changes then. A job is known by its numbers alone: that of another responder, or of the one that the handle
@@ -332,7 +332,8 @@ felosumay_result felosumay_responder_arrive(felosumay_responder *responder, cons
  * order; nothing changes then. */
 felosumay_result felosumay_responder_change_start(felosumay_responder *responder, uint16_t start);
 felosumay_result felosumay_responder_change_personality(felosumay_responder *responder, uint8_t number);
-felosumay_result felosumay_responder_change_label(felosumay_responder *responder, const uint8_t *label, size_t length);
+static inline felosumay_result felosumay_responder_change_label(felosumay_responder *responder, const uint8_t *label,
+                                                                size_t length);
 
 /* Whether there is room for the message of a change: `there` is 1 then, else 0. ABSENT. */
 felosumay_result felosumay_responder_room(const felosumay_responder *responder, uint8_t *there);
@@ -345,8 +346,8 @@ felosumay_result felosumay_responder_room(const felosumay_responder *responder, 
  * the sensor's number, then its present, lowest, highest and recorded value (section 10.7.2). docs/PARAMETERS.md has the list.
  * ABSENT; NO_DEVICE if there is no such sub-device; NOT_STORED if the device stores no value of `pid`; BAD_LENGTH;
  * OUT_OF_RANGE, in this order; nothing changes then. */
-felosumay_result felosumay_responder_place(felosumay_responder *responder, uint16_t sub, uint16_t pid, const uint8_t *data,
-                                           size_t length);
+static inline felosumay_result felosumay_responder_place(felosumay_responder *responder, uint16_t sub, uint16_t pid,
+                                                         const uint8_t *data, size_t length);
 
 /* Values outlive power-off: `save` writes an image of all of them at the front of `image`, and `restore` takes it when the
  * fixture is on again, before anything is heard. What lamp, identification, power state, self test and preset are at isn't in it,
@@ -357,7 +358,7 @@ felosumay_result felosumay_responder_place(felosumay_responder *responder, uint1
  * FOREIGN_IMAGE, in this order; nothing changes then. */
 felosumay_result felosumay_responder_saved_size(const felosumay_responder *responder, size_t *count);
 felosumay_result felosumay_responder_save(const felosumay_responder *responder, uint8_t *image, size_t size, size_t *count);
-felosumay_result felosumay_responder_restore(felosumay_responder *responder, const uint8_t *image, size_t length);
+static inline felosumay_result felosumay_responder_restore(felosumay_responder *responder, const uint8_t *image, size_t length);
 
 /* The firmware warns: it has a status entry of its own, such as a fan that stands still, of the root (`sub` 0) or of a
  * sub-device, 1 to 512. A controller is shown it once, by STATUS_MESSAGES (E1.20 section 10.3.2). `severity` is the status type
@@ -370,9 +371,9 @@ felosumay_result felosumay_responder_note(felosumay_responder *responder, uint16
 
 /* Reads a parameter as a GET would. ABSENT; REFUSED, with the code of the NACK in `reason`; NO_VALUE if the command starts
  * a job or fetches a message. Nothing changes. */
-felosumay_result felosumay_responder_get(const felosumay_responder *responder, uint16_t sub, uint16_t pid, const uint8_t *argument,
-                                         size_t length, uint8_t value[FELOSUMAY_VALUE_BYTES], size_t *count,
-                                         uint16_t *reason);
+static inline felosumay_result felosumay_responder_get(const felosumay_responder *responder, uint16_t sub, uint16_t pid,
+                                                       const uint8_t *argument, size_t length, uint8_t value[FELOSUMAY_VALUE_BYTES],
+                                                       size_t *count, uint16_t *reason);
 
 /* How many messages wait, and how many jobs are outstanding. ABSENT. */
 felosumay_result felosumay_responder_waiting(const felosumay_responder *responder, size_t *count);
@@ -426,7 +427,7 @@ enum {
 /* Reads a response. It takes no handle, and asks not whom the response is for: `felosumay_collector_hear` says whether it
  * answers the open request. NO_REPLY if the bytes aren't a response: a frame of class 0x11, 0x21 or 0x31 with a response type of
  * the table, in which ACK_TIMER and NACK_REASON have two bytes of data. Nothing is written then. */
-felosumay_result felosumay_reply_read(const uint8_t *bytes, size_t length, felosumay_reply *reply);
+static inline felosumay_result felosumay_reply_read(const uint8_t *bytes, size_t length, felosumay_reply *reply);
 
 /* What a collector takes bytes for. */
 enum { FELOSUMAY_IGNORED = 0, FELOSUMAY_MESSAGE = 1, FELOSUMAY_REPLY = 2 };
@@ -440,16 +441,16 @@ felosumay_result felosumay_collector_new(felosumay_collector *collector, uint16_
 /* Makes the request of a command, or of a poll for the target's next message, at the front of `request`, and opens a
  * transaction. Of `ask` UNKNOWN, ABSENT, RESERVED, BUSY, TOO_LONG, and of `poll` ABSENT, BUSY, OUT_OF_MEMORY, in this order;
  * nothing changes then. */
-felosumay_result felosumay_collector_ask(felosumay_collector *collector, const felosumay_command *command,
-                                         const uint8_t *load, size_t length, uint8_t request[FELOSUMAY_FRAME_BYTES],
-                                         size_t *count);
+static inline felosumay_result felosumay_collector_ask(felosumay_collector *collector, const felosumay_command *command,
+                                                       const uint8_t *load, size_t length, uint8_t request[FELOSUMAY_FRAME_BYTES],
+                                                       size_t *count);
 felosumay_result felosumay_collector_poll(felosumay_collector *collector, uint8_t request[FELOSUMAY_FRAME_BYTES],
                                           size_t *count);
 
 /* Hears bytes, and says what they are taken for. Discovery's answers aren't frames, and are ignored; so is an answer to a poll
  * that isn't ACK, which a `felosumay_device_collector` takes. ABSENT. */
-felosumay_result felosumay_collector_hear(felosumay_collector *collector, const uint8_t *bytes, size_t length,
-                                          uint8_t *heard);
+static inline felosumay_result felosumay_collector_hear(felosumay_collector *collector, const uint8_t *bytes, size_t length,
+                                                        uint8_t *heard);
 
 /* Ends the open transaction, if there is one, without an answer: call it on a timeout. If a poll ended so, the next poll asks
  * for the last message again. ABSENT. */
@@ -496,16 +497,16 @@ typedef struct {
  * poll asks for the last message again if this one did. */
 felosumay_result felosumay_device_collector_new(felosumay_device_collector *collector, uint16_t maker, uint32_t device,
                                                 uint16_t target_maker, uint32_t target_device, uint8_t wants);
-felosumay_result felosumay_device_collector_ask(felosumay_device_collector *collector, const felosumay_command *command,
-                                                const uint8_t *load, size_t length, uint8_t request[FELOSUMAY_FRAME_BYTES],
-                                                size_t *count);
+static inline felosumay_result felosumay_device_collector_ask(felosumay_device_collector *collector,
+                                                              const felosumay_command *command, const uint8_t *load, size_t length,
+                                                              uint8_t request[FELOSUMAY_FRAME_BYTES], size_t *count);
 felosumay_result felosumay_device_collector_poll(felosumay_device_collector *collector, uint8_t request[FELOSUMAY_FRAME_BYTES],
                                                  size_t *count);
 felosumay_result felosumay_device_collector_over(felosumay_device_collector *collector);
 
 /* Hears bytes, and says what they are taken for: any response in the open transaction answers it. ABSENT. */
-felosumay_result felosumay_device_collector_hear(felosumay_device_collector *collector, const uint8_t *bytes, size_t length,
-                                                 felosumay_heard *heard);
+static inline felosumay_result felosumay_device_collector_hear(felosumay_device_collector *collector, const uint8_t *bytes,
+                                                               size_t length, felosumay_heard *heard);
 
 /* Takes the first message, or part of one, that was recorded and not taken yet, and lets go of it. The data of a message in parts
  * are those of its parts, one behind the other: each of type ACK_OVERFLOW but the last, and all of one command class, PID and
@@ -541,7 +542,7 @@ felosumay_result felosumay_search_next(const felosumay_search *search, uint8_t r
 /* Hears what came after the request that `next` told: all bytes of it, even if they aren't an answer, as after a collision; of
  * length 0 if nothing came. ABSENT; OUT_OF_MEMORY: the search stands where it stood then, and the same bytes can be heard
  * again. */
-felosumay_result felosumay_search_hear(felosumay_search *search, const uint8_t *bytes, size_t length);
+static inline felosumay_result felosumay_search_hear(felosumay_search *search, const uint8_t *bytes, size_t length);
 
 /* Begins again with what was found, for fixtures that were plugged in since, or that lost power. It un-mutes none, so that those
  * which were found stay silent: 74 transactions for each of the others and 1 more are enough. ABSENT. */
@@ -555,6 +556,130 @@ felosumay_result felosumay_search_found(const felosumay_search *search, size_t i
 
 /* Gives up what the handle holds, if anything. The handle is {0} again. NULL is no handle, and nothing happens then. */
 void felosumay_search_free(felosumay_search *search);
+
+/* ---- how nothing is passed. The library takes no NULL for what it reads, even if the length is 0. So each call above that reads
+ * bytes, or the two lists of a profile, is an inline function over one of the library's, whose name ends in `_nonnull`: if the length
+ * is 0, it passes the address of something in the place of what came. Other languages call those, and pass a valid address too. */
+
+/* The address of so many things. If there are none, it is that of something else, and never NULL. */
+static inline const void *felosumay_address(const void *things, size_t count) {
+    static const uint64_t something = 0;
+    return count == 0 ? &something : things;
+}
+static inline const uint8_t *felosumay_bytes(const uint8_t *bytes, size_t length) {
+    return (const uint8_t *)felosumay_address(bytes, length);
+}
+static inline const felosumay_parameter *felosumay_parameters_of(const felosumay_profile *profile) {
+    return (const felosumay_parameter *)felosumay_address(profile->parameters, profile->parameter_count);
+}
+static inline const uint16_t *felosumay_without_of(const felosumay_profile *profile) {
+    return (const uint16_t *)felosumay_address(profile->without, profile->without_count);
+}
+
+uint8_t felosumay_profile_fault_nonnull(const felosumay_profile *profile, const felosumay_parameter *parameters,
+                                        size_t parameter_count, const uint16_t *without, size_t without_count);
+static inline uint8_t felosumay_profile_fault(const felosumay_profile *profile) {
+    return felosumay_profile_fault_nonnull(profile, felosumay_parameters_of(profile), profile->parameter_count,
+                                           felosumay_without_of(profile), profile->without_count);
+}
+
+felosumay_result felosumay_responder_new_nonnull(felosumay_responder *responder, uint16_t maker, uint32_t device,
+                                                 const felosumay_profile *profile, const felosumay_parameter *parameters,
+                                                 size_t parameter_count, const uint16_t *without, size_t without_count,
+                                                 uint16_t queue_size);
+static inline felosumay_result felosumay_responder_new(felosumay_responder *responder, uint16_t maker, uint32_t device,
+                                                       const felosumay_profile *profile, uint16_t queue_size) {
+    return felosumay_responder_new_nonnull(responder, maker, device, profile, felosumay_parameters_of(profile), profile->parameter_count,
+                                           felosumay_without_of(profile), profile->without_count, queue_size);
+}
+
+felosumay_result felosumay_responder_new_with_nonnull(felosumay_responder *responder, uint16_t maker, uint32_t device,
+                                                      const felosumay_profile *profile, const felosumay_parameter *parameters,
+                                                      size_t parameter_count, const uint16_t *without, size_t without_count,
+                                                      uint16_t queue_size, uint16_t entries, uint32_t first_job);
+static inline felosumay_result felosumay_responder_new_with(felosumay_responder *responder, uint16_t maker, uint32_t device,
+                                                            const felosumay_profile *profile, uint16_t queue_size, uint16_t entries,
+                                                            uint32_t first_job) {
+    return felosumay_responder_new_with_nonnull(responder, maker, device, profile, felosumay_parameters_of(profile),
+                                                profile->parameter_count, felosumay_without_of(profile), profile->without_count,
+                                                queue_size, entries, first_job);
+}
+
+felosumay_result felosumay_responder_step_nonnull(felosumay_responder *responder, const uint8_t *bytes, size_t length,
+                                                  uint8_t reply[FELOSUMAY_FRAME_BYTES], felosumay_stepped *stepped);
+static inline felosumay_result felosumay_responder_step(felosumay_responder *responder, const uint8_t *bytes, size_t length,
+                                                        uint8_t reply[FELOSUMAY_FRAME_BYTES], felosumay_stepped *stepped) {
+    return felosumay_responder_step_nonnull(responder, felosumay_bytes(bytes, length), length, reply, stepped);
+}
+
+felosumay_result felosumay_responder_change_label_nonnull(felosumay_responder *responder, const uint8_t *label, size_t length);
+static inline felosumay_result felosumay_responder_change_label(felosumay_responder *responder, const uint8_t *label,
+                                                                size_t length) {
+    return felosumay_responder_change_label_nonnull(responder, felosumay_bytes(label, length), length);
+}
+
+felosumay_result felosumay_responder_place_nonnull(felosumay_responder *responder, uint16_t sub, uint16_t pid, const uint8_t *data,
+                                                   size_t length);
+static inline felosumay_result felosumay_responder_place(felosumay_responder *responder, uint16_t sub, uint16_t pid,
+                                                         const uint8_t *data, size_t length) {
+    return felosumay_responder_place_nonnull(responder, sub, pid, felosumay_bytes(data, length), length);
+}
+
+felosumay_result felosumay_responder_restore_nonnull(felosumay_responder *responder, const uint8_t *image, size_t length);
+static inline felosumay_result felosumay_responder_restore(felosumay_responder *responder, const uint8_t *image, size_t length) {
+    return felosumay_responder_restore_nonnull(responder, felosumay_bytes(image, length), length);
+}
+
+felosumay_result felosumay_responder_get_nonnull(const felosumay_responder *responder, uint16_t sub, uint16_t pid,
+                                                 const uint8_t *argument, size_t length, uint8_t value[FELOSUMAY_VALUE_BYTES],
+                                                 size_t *count, uint16_t *reason);
+static inline felosumay_result felosumay_responder_get(const felosumay_responder *responder, uint16_t sub, uint16_t pid,
+                                                       const uint8_t *argument, size_t length, uint8_t value[FELOSUMAY_VALUE_BYTES],
+                                                       size_t *count, uint16_t *reason) {
+    return felosumay_responder_get_nonnull(responder, sub, pid, felosumay_bytes(argument, length), length, value, count, reason);
+}
+
+felosumay_result felosumay_reply_read_nonnull(const uint8_t *bytes, size_t length, felosumay_reply *reply);
+static inline felosumay_result felosumay_reply_read(const uint8_t *bytes, size_t length, felosumay_reply *reply) {
+    return felosumay_reply_read_nonnull(felosumay_bytes(bytes, length), length, reply);
+}
+
+felosumay_result felosumay_collector_ask_nonnull(felosumay_collector *collector, const felosumay_command *command,
+                                                 const uint8_t *load, size_t length, uint8_t request[FELOSUMAY_FRAME_BYTES],
+                                                 size_t *count);
+static inline felosumay_result felosumay_collector_ask(felosumay_collector *collector, const felosumay_command *command,
+                                                       const uint8_t *load, size_t length, uint8_t request[FELOSUMAY_FRAME_BYTES],
+                                                       size_t *count) {
+    return felosumay_collector_ask_nonnull(collector, command, felosumay_bytes(load, length), length, request, count);
+}
+
+felosumay_result felosumay_collector_hear_nonnull(felosumay_collector *collector, const uint8_t *bytes, size_t length,
+                                                  uint8_t *heard);
+static inline felosumay_result felosumay_collector_hear(felosumay_collector *collector, const uint8_t *bytes, size_t length,
+                                                        uint8_t *heard) {
+    return felosumay_collector_hear_nonnull(collector, felosumay_bytes(bytes, length), length, heard);
+}
+
+felosumay_result felosumay_device_collector_ask_nonnull(felosumay_device_collector *collector, const felosumay_command *command,
+                                                        const uint8_t *load, size_t length, uint8_t request[FELOSUMAY_FRAME_BYTES],
+                                                        size_t *count);
+static inline felosumay_result felosumay_device_collector_ask(felosumay_device_collector *collector,
+                                                              const felosumay_command *command, const uint8_t *load, size_t length,
+                                                              uint8_t request[FELOSUMAY_FRAME_BYTES], size_t *count) {
+    return felosumay_device_collector_ask_nonnull(collector, command, felosumay_bytes(load, length), length, request, count);
+}
+
+felosumay_result felosumay_device_collector_hear_nonnull(felosumay_device_collector *collector, const uint8_t *bytes, size_t length,
+                                                         felosumay_heard *heard);
+static inline felosumay_result felosumay_device_collector_hear(felosumay_device_collector *collector, const uint8_t *bytes,
+                                                               size_t length, felosumay_heard *heard) {
+    return felosumay_device_collector_hear_nonnull(collector, felosumay_bytes(bytes, length), length, heard);
+}
+
+felosumay_result felosumay_search_hear_nonnull(felosumay_search *search, const uint8_t *bytes, size_t length);
+static inline felosumay_result felosumay_search_hear(felosumay_search *search, const uint8_t *bytes, size_t length) {
+    return felosumay_search_hear_nonnull(search, felosumay_bytes(bytes, length), length);
+}
 
 /* ---- names and the version. They last as long as the program, and end with a NUL; what has no name is "unknown". The calls
  * `felosumay_tell_..` are for languages without inline functions: `letters` points to any byte before them. */

@@ -1,6 +1,6 @@
--- The profile that a plain struct of C's stands for. A count that is greater than its array stands for the whole array. The parameters
--- of the maker's own and the PIDs of those that are left out lie outside of it, as many as it says.
-use Rattle.std.specs.Prelude.{ℕ, ◌==◌, not, map, take, if◌then◌else◌}
+-- The profile that a plain struct of C's stands for, and two lists that lie outside of it: the parameters of the maker's own, and the
+-- PIDs of those that are left out. A count that is greater than its array stands for the whole array.
+use Rattle.std.specs.Prelude.{ℕ, List, [], ◌==◌, not, map, take, if◌then◌else◌}
 use Rattle.rdm_device.specs.declared.profile.Personality.{Personality}
 use Rattle.rdm_device.specs.declared.profile.Profile.{Profile}
 use Rattle.rdm_device.specs.declared.profile.SelfTest.{SelfTest}
@@ -13,6 +13,7 @@ use Rattle.rdm_device.specs.declared.profile.workers.Worker.{Worker}
 use Rattle.rdm_device.specs.declared.profile.workers.Worker.TheVariants.{First, Second}
 use Rattle.rdm_device.specs.declared.profile.workers.Workers.{Workers}
 use Rattle.rdm_device.specs.Device.Estimates.{usual}
+use Rattle.rdm_device.specs.Device.Faults.{with_parameters}
 use Rattle.rdm_device.specs.Device.Workers.{usual_workers}
 use Rattle.rdm_c.specs.declared.profile.PersonalityNumbers.{PersonalityNumbers}
 use Rattle.rdm_c.specs.declared.profile.SlotNumbers.{SlotNumbers}
@@ -23,6 +24,7 @@ use Rattle.rdm_c.specs.declared.profile.slow.EstimatesNumbers.{EstimatesNumbers}
 use Rattle.rdm_c.specs.declared.profile.slow.WorkersNumbers.{WorkersNumbers}
 use Rattle.rdm_c.specs.declared.profile.UnitNumbers.{UnitNumbers}
 use Rattle.rdm_c.specs.declared.profile.ProfileNumbers.{ProfileNumbers}
+use Rattle.rdm_c.specs.declared.profile.parameters.ParameterNumbers.{ParameterNumbers}
 use Rattle.rdm_c.specs.Parameters.{parameter_in}
 use Rattle.rdm_c.specs.Texts.{text_in}
 
@@ -89,8 +91,9 @@ unit_in u = record {
   start = u.start;
 }
 
-abbrev pub profile_in : ProfileNumbers → Profile
-profile_in p = record {
+-- the profile of the struct alone: no parameter is the maker's own, and none is left out
+abbrev pub plain_profile_in : ProfileNumbers → Profile
+plain_profile_in p = record {
   root = unit_in p.root;
   sub = unit_in p.sub;
   subs = p.subs;
@@ -102,9 +105,13 @@ profile_in p = record {
   tests = record { items = map test_in (take p.test_count p.tests) };
   status_texts = record { items = map status_text_in (take p.status_text_count p.status_texts) };
   presets = p.presets;
-  own = map parameter_in p.parameters.now;
-  without = record { items = p.without.now };
+  own = [];
+  without = record { items = [] };
   more_slots = p.more_slots;
   estimates = estimates_in p.estimates;
   workers = workers_in p.workers;
 }
+
+-- the profile of the struct and of the two lists
+abbrev pub profile_in : ProfileNumbers → List ParameterNumbers → List ℕ → Profile
+profile_in p parameters without = with_parameters (plain_profile_in p) without (map parameter_in parameters)

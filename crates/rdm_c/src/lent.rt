@@ -1,23 +1,11 @@
-//! What C lends for a call.
+//! What C lends for a call to write.
 
 ghost use types.Logic.{sem};
 ghost use Rattle.std.specs.Prelude.{◌≡◌, ◌⊎◌, List, ℕ};
-ghost use Rattle.rdm_c.specs.Places.{Lent, array_at, bytes_at, slice_at, writable_at};
+ghost use Rattle.rdm_c.specs.Places.{array_at, writable_at};
 
 /// What lies at the address of no bytes.
 const NOTHING: u8 = 0;
-
-/// The address of the bytes that are lent. If there are none, it is one that isn't null.
-pub(crate) unsafe fn address_of(at: *const u8, count: usize) -> *const u8
-    ghost lent: { Lent }
-    requires* lent { sem 𝓛 (bytes_at lent.lifetime at count lent.bytes) }
-    ensures* same { sem 𝓛 (slice_at lent.lifetime result count lent.bytes) }
-{
-    if count == 0 {
-        return &NOTHING;
-    }
-    at
-}
 
 /// The address of the bytes that are lent to be written. If there are none, it is one that isn't null.
 pub(crate) unsafe fn writable_address_of(at: *mut u8, count: usize) -> *mut u8

@@ -3,7 +3,9 @@
 //!
 //! Each export says by its contract what the call of the library below says, over the history, the collector or the search
 //! that stands behind the handle. The only conditions are of addresses that may be NULL, and say what C lends there: a handle that is
-//! to be freed, or bytes (`specs/Places.antt`). What a handle owns stands in `specs/Held.antt`.
+//! to be freed, or the bytes that `felosumay_responder_save` writes (`specs/Places.antt`). What a call only reads is a slice, in C a
+//! pointer and a length. It is never NULL, even if it is empty: C calls an export whose name ends in `_nonnull` by an inline function of
+//! the header without that ending, which sees to it. What a handle owns stands in `specs/Held.antt`.
 //! The calls of C stand in `exports/`; what each does to what the handle holds, in the file of the same name in `endpoint/`.
 #![tactic(auto)]
 
@@ -30,41 +32,43 @@ mod status;
 
 pub use collected::{CollectedNumbers, HeardNumbers};
 pub use exports::change::{
-    felosumay_responder_change_label, felosumay_responder_change_personality,
+    felosumay_responder_change_label_nonnull, felosumay_responder_change_personality,
     felosumay_responder_change_start,
 };
 pub use exports::collector::{
-    felosumay_collector_ask, felosumay_collector_free, felosumay_collector_hear,
+    felosumay_collector_ask_nonnull, felosumay_collector_free, felosumay_collector_hear_nonnull,
     felosumay_collector_new, felosumay_collector_next, felosumay_collector_over,
     felosumay_collector_poll,
 };
 pub use exports::device_collector::{
-    felosumay_device_collector_ask, felosumay_device_collector_free,
-    felosumay_device_collector_hear, felosumay_device_collector_new,
+    felosumay_device_collector_ask_nonnull, felosumay_device_collector_free,
+    felosumay_device_collector_hear_nonnull, felosumay_device_collector_new,
     felosumay_device_collector_next, felosumay_device_collector_over,
     felosumay_device_collector_poll,
 };
-pub use exports::firmware::{felosumay_responder_note, felosumay_responder_place};
+pub use exports::firmware::{felosumay_responder_note, felosumay_responder_place_nonnull};
 pub use exports::memory::{felosumay_responder_fits, felosumay_responder_size};
 pub use exports::names::{
     felosumay_tell_parameter, felosumay_tell_reason, felosumay_tell_status, felosumay_tell_version,
 };
-pub use exports::profile::felosumay_profile_fault;
+pub use exports::profile::felosumay_profile_fault_nonnull;
 pub use exports::reading::{
-    felosumay_responder_get, felosumay_responder_outstanding, felosumay_responder_room,
+    felosumay_responder_get_nonnull, felosumay_responder_outstanding, felosumay_responder_room,
     felosumay_responder_waiting,
 };
-pub use exports::reply::felosumay_reply_read;
+pub use exports::reply::felosumay_reply_read_nonnull;
 pub use exports::responder::{
     felosumay_responder_arrive, felosumay_responder_demo, felosumay_responder_free,
-    felosumay_responder_new, felosumay_responder_new_with, felosumay_responder_step,
+    felosumay_responder_new_nonnull, felosumay_responder_new_with_nonnull,
+    felosumay_responder_step_nonnull,
 };
 pub use exports::saving::{
-    felosumay_responder_restore, felosumay_responder_save, felosumay_responder_saved_size,
+    felosumay_responder_restore_nonnull, felosumay_responder_save, felosumay_responder_saved_size,
 };
 pub use exports::search::{
-    felosumay_search_count, felosumay_search_found, felosumay_search_free, felosumay_search_hear,
-    felosumay_search_new, felosumay_search_next, felosumay_search_resume,
+    felosumay_search_count, felosumay_search_found, felosumay_search_free,
+    felosumay_search_hear_nonnull, felosumay_search_new, felosumay_search_next,
+    felosumay_search_resume,
 };
 pub use found::FoundNumbers;
 pub use handle::Handle;

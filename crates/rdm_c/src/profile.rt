@@ -7,7 +7,7 @@ pub(crate) mod slow;
 
 ghost use Rattle.std.specs.Prelude.{◌≡◌};
 ghost use Rattle.rdm_device.specs.Device.Faults.{with_parameters};
-ghost use Rattle.rdm_c.specs.Profiles.{personality_in, slot_in, sensor_in, test_in, status_text_in, unit_in, profile_in};
+ghost use Rattle.rdm_c.specs.Profiles.{personality_in, slot_in, sensor_in, test_in, status_text_in, unit_in, plain_profile_in};
 ghost use Rattle.rdm_c.specs.Texts.{text_in};
 
 use crate::profile::parameters::ParameterNumbers;
@@ -122,9 +122,10 @@ pub struct UnitNumbers {
 }
 
 /// What a root device and its sub-devices are made with. The header calls it `felosumay_profile`.
+///
+/// Its two pointers are never followed: a call that takes a profile takes the lists to which they point as slices beside it.
 #[repr(C)]
-#[derive(Clone, Copy)]
-pub struct ProfileNumbers<'a> {
+pub struct ProfileNumbers {
     /// The root device.
     pub root: UnitNumbers,
     /// What each sub-device starts as.
@@ -159,10 +160,14 @@ pub struct ProfileNumbers<'a> {
     pub status_texts: [StatusTextNumbers; 8],
     /// How many DMX512 slots the root device uses beside those that `slots` describes.
     pub more_slots: u16,
-    /// The parameters of the maker's own, in the order of their PIDs. In C a pointer, and how many there are.
-    pub parameters: &'a [ParameterNumbers],
-    /// The PIDs of the standard's parameters that the device doesn't have. In C a pointer, and how many there are.
-    pub without: &'a [u16],
+    /// Where the parameters of the maker's own lie, in the order of their PIDs.
+    pub parameters: *const ParameterNumbers,
+    /// How many there are.
+    pub parameter_count: usize,
+    /// Where the PIDs of the standard's parameters lie that the device doesn't have.
+    pub without: *const u16,
+    /// How many there are.
+    pub without_count: usize,
     /// How long its slow commands take.
     pub estimates: EstimatesNumbers,
     /// Which worker carries out which of them.
@@ -266,10 +271,10 @@ impl UnitNumbers {
     }
 }
 
-impl ProfileNumbers<'_> {
-    /// Makes a profile this one, but for the parameters that are left out and those of the maker's own.
+impl ProfileNumbers {
+    /// Makes a profile this one, but for the parameters that are left out and those of the maker's own, which stay.
     pub(crate) fn write(&self, profile: &mut Profile)
-        ensures { profile.new ≡ with_parameters (profile_in self.now) profile.old.without.items profile.old.own }
+        ensures { profile.new ≡ with_parameters (plain_profile_in self.now) profile.old.without.items profile.old.own }
     {
         self.root.write(&mut profile.root);
         self.sub.write(&mut profile.sub);
@@ -286,11 +291,11 @@ impl ProfileNumbers<'_> {
     /// Makes the lists of a profile those of this one.
     fn write_lists(&self, profile: &mut Profile)
         ensures { profile.new ≡ record profile.old {
-          languages = (profile_in self.now).languages;
-          slots = (profile_in self.now).slots;
-          sensors = (profile_in self.now).sensors;
-          tests = (profile_in self.now).tests;
-          status_texts = (profile_in self.now).status_texts;
+          languages = (plain_profile_in self.now).languages;
+          slots = (plain_profile_in self.now).slots;
+          sensors = (plain_profile_in self.now).sensors;
+          tests = (plain_profile_in self.now).tests;
+          status_texts = (plain_profile_in self.now).status_texts;
         } }
     {
         let count = usize::from(self.language_count).min(8);

@@ -38,7 +38,7 @@ const _: () = prove!(size_of::<UnitNumbers>() == 432);
 
 const _: () = prove!(size_of::<ParameterNumbers>() == 96);
 
-const _: () = prove!(size_of::<ProfileNumbers<'static>>() == 3656);
+const _: () = prove!(size_of::<ProfileNumbers>() == 3656);
 
 const _: () = prove!(size_of::<JobNumbers>() == 16);
 

@@ -1,6 +1,6 @@
 //! What firmware does with a responder beside answering, for C.
 
-ghost use Rattle.std.specs.Prelude.{◌≡◌, ◌≢◌, ◌==◌, ◌↔◌, false};
+ghost use Rattle.std.specs.Prelude.{◌≡◌, ◌≢◌, ◌↔◌, false};
 ghost use Rattle.rdm_params.specs.Commands.Placing.{place_refusal};
 ghost use Rattle.rdm_responder.specs.History.{History, Noted, Placed, then_event};
 ghost use Rattle.rdm_responder.specs.Lawful.{IsLawful};

@@ -1,6 +1,6 @@
 //! What a responder does for C.
 
-ghost use Rattle.std.specs.Prelude.{◌≡◌, ◌≢◌, ◌==◌, ◌↔◌, IfSome, IsSomeAnd, None, false, length, is_some};
+ghost use Rattle.std.specs.Prelude.{◌≡◌, ◌≢◌, ◌↔◌, IfSome, IsSomeAnd, None, false, length, is_some};
 ghost use Rattle.std.specs.Option.{option_map};
 ghost use Rattle.rdm_frame.specs.Reading.{frame_in};
 ghost use Rattle.rdm_params.specs.Commands.Changed.{change_of};

@@ -1,22 +1,18 @@
 //! What a person changes at the fixture's own menu, as C tells of it.
 
 ghost use Rattle.std.specs.Prelude.{◌≡◌, ◌≢◌, ◌↔◌, ◌≤◌, ◌<◌, false, length};
-ghost use types.Logic.{sem};
 ghost use Rattle.rdm_params.specs.declared.panel.Change.{Change};
 ghost use Rattle.rdm_params.specs.declared.panel.Change.TheVariants.{Start, Personality, Label};
 ghost use Rattle.rdm_responder.specs.History.{History, Changed, then_event};
-ghost use Rattle.rdm_c.specs.Places.{Lent, lends, returns};
 ghost use Rattle.rdm_c.specs.Statuses.{code_of};
 ghost use Rattle.rdm_c.specs.Endpoints.{HeldFor, changed, holds_responder};
 
 use crate::endpoint;
 use crate::handle::Handle;
 use crate::keeping::{put, take};
-use crate::lent::address_of;
 use crate::status::Status;
 use rdm_params::{Change, Plate};
 use std::alloc::Global;
-use std::slice;
 
 /// Changes the DMX512 start address of the root (E1.20 section 10.6.3), as a person does at the fixture's own menu, and
 /// queues the message that tells the controller. It is out of range, and nothing changes, if a SET of the address would
@@ -58,34 +54,11 @@ pub extern "C" fn felosumay_responder_change_personality(
 /// Changes the label of the root (E1.20 section 10.5.5), as `felosumay_responder_change_start` does the start address. It
 /// is too long, whatever the handle holds, if it has more than 32 bytes, and nothing changes then.
 #[unsafe(no_mangle)]
-pub unsafe extern "C" fn felosumay_responder_change_label(
+pub extern "C" fn felosumay_responder_change_label_nonnull(
     alloc: Global,
     responder: &mut Handle,
-    label: *const u8,
-    len: usize,
+    label: &[u8],
 ) -> u8
-    ghost lent: { Lent }
-    requires* lent { sem 𝓛 (lends lent label len) }
-    ensures* back { sem 𝓛 (returns lent) }
-    ensures too_long { (result ≡ code_of Status.TooLong) ↔ (32 < length lent.bytes) }
-    ensures told { (h : History) → HeldFor responder.old.held h → length lent.bytes ≤ 32 → result ≡ code_of (changed h (Label lent.bytes)) }
-    ensures stands { (h : History) → HeldFor responder.old.held h → length lent.bytes ≤ 32 → result ≢ code_of Status.NoRoom →
-        HeldFor responder.new.held (then_event h (Changed (Label lent.bytes))) }
-    ensures no_room { result ≡ code_of Status.NoRoom → responder.new.held ≡ responder.old.held }
-    ensures refused { result ≡ code_of Status.TooLong → responder.new.held ≡ responder.old.held }
-    ensures absent { (result ≡ code_of Status.Absent)
-        ↔ ((length lent.bytes ≤ 32) × (holds_responder responder.old.held ≡ false)) }
-    ensures same { holds_responder responder.old.held ≡ false → responder.new.held ≡ responder.old.held }
-{
-    change_label_slice(
-        alloc,
-        responder,
-        slice::from_raw_parts(address_of(label, len), len),
-    )
-}
-
-/// As `felosumay_responder_change_label`, of a slice.
-fn change_label_slice(alloc: Global, responder: &mut Handle, label: &[u8]) -> u8
     ensures too_long { (result ≡ code_of Status.TooLong) ↔ (32 < length label.now) }
     ensures told { (h : History) → HeldFor responder.old.held h → length label.now ≤ 32 → result ≡ code_of (changed h (Label label.now)) }
     ensures stands { (h : History) → HeldFor responder.old.held h → length label.now ≤ 32 → result ≢ code_of Status.NoRoom →

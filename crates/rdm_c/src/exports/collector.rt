@@ -1,11 +1,11 @@
 //! The collector, as C calls it.
 
-ghost use Rattle.std.specs.Prelude.{◌≡◌, ◌≢◌, ◌↔◌, ◌⊎◌, ◌≤◌, [], ◌∷◌, IfSome, IsSome, MatchOption, None, Some, drop, false, length, slice_get, take};
+ghost use Rattle.std.specs.Prelude.{◌≡◌, ◌≢◌, ◌↔◌, ◌⊎◌, IfSome, IsSome, MatchOption, None, Some, false, length, slice_get, take};
 ghost use denote.RawPtr.{Testable};
 ghost use types.Logic.{sem};
 ghost use Rattle.rdm_frame.specs.FrameText.{frame_text, IsFrame};
 ghost use Rattle.rdm_collector.specs.Collecting.{refusal_of, poll_request, command_request, heard_in};
-ghost use Rattle.rdm_c.specs.Places.{Lent, handle_at, lends, nobody, returns};
+ghost use Rattle.rdm_c.specs.Places.{handle_at, nobody};
 ghost use Rattle.rdm_c.specs.CollectorStates.{CollectorState, asked, ended, listened, may_repeat, new_state, polled, taken};
 ghost use Rattle.rdm_c.specs.Messages.{action_in, command_in, heard_code, message_in, want_in};
 ghost use Rattle.rdm_c.specs.Endpoints.{HeldIn, flag, found, holds_collector};
@@ -15,14 +15,12 @@ use crate::endpoint;
 use crate::endpoint::Endpoint;
 use crate::handle::Handle;
 use crate::keeping::{free_at, put, replace, take};
-use crate::lent::address_of;
 use crate::message::{CommandNumbers, MessageNumbers, want_in};
 use crate::running_collector::RunningCollector;
 use crate::status::Status;
 use rdm_frame::Uid;
 use rdm_frame::standard::MOST_SLOTS;
 use std::alloc::Global;
-use std::slice;
 
 /// Makes a collector with this UID for the messages of the target, in the place of what the handle held. `wants` is the
 /// least severity of the status entries that it wants: 02 for advisories, 03 for warnings, 04 for errors (E1.20 table A-4).
@@ -69,45 +67,7 @@ pub extern "C" fn felosumay_collector_new(
 /// parameters QUEUED_MESSAGE and STATUS_MESSAGES are reserved for the collector; else it is busy while a transaction is
 /// open; else more than 231 bytes of data are too long. If it is rejected, nothing changes.
 #[unsafe(no_mangle)]
-pub unsafe extern "C" fn felosumay_collector_ask(
-    alloc: Global,
-    collector: &mut Handle,
-    command: &CommandNumbers,
-    load: *const u8,
-    len: usize,
-    request: &mut [u8; MOST_SLOTS],
-    count: &mut usize,
-) -> u8
-    ghost lent: { Lent }
-    requires* lent { sem 𝓛 (lends lent load len) }
-    ensures* back { sem 𝓛 (returns lent) }
-    ensures unknown { (result ≡ code_of Status.Unknown) ↔ (action_in command.now.command_class ≡ None) }
-    ensures absent { IfSome (command_in command.now lent.bytes) (λ c.
-        (result ≡ code_of Status.Absent) ↔ (holds_collector collector.old.held ≡ false)) }
-    ensures refused { IfSome (command_in command.now lent.bytes) (λ c. (s : CollectorState) → HeldIn collector.old.held s →
-        result ≡ code_of (of_refusal (refusal_of s.collector c))) }
-    ensures sent { IfSome (command_in command.now lent.bytes) (λ c. (s : CollectorState) → HeldIn collector.old.held s →
-        result ≡ code_of Status.Done → take count.new request.new ≡ frame_text (command_request s.collector c)) }
-    ensures count { IfSome (command_in command.now lent.bytes) (λ c. (s : CollectorState) → HeldIn collector.old.held s →
-        result ≡ code_of Status.Done → count.new ≡ length (frame_text (command_request s.collector c))) }
-    ensures is_frame { IfSome (command_in command.now lent.bytes) (λ c. (s : CollectorState) → HeldIn collector.old.held s →
-        result ≡ code_of Status.Done → IsFrame (command_request s.collector c)) }
-    ensures after { IfSome (command_in command.now lent.bytes) (λ c. (s : CollectorState) → HeldIn collector.old.held s →
-        result ≡ code_of Status.Done → HeldIn collector.new.held (asked s c)) }
-    ensures same { result ≢ code_of Status.Done → collector.new.held ≡ collector.old.held }
-{
-    ask_slice(
-        alloc,
-        collector,
-        command,
-        slice::from_raw_parts(address_of(load, len), len),
-        request,
-        count,
-    )
-}
-
-/// As `felosumay_collector_ask`, of a slice.
-fn ask_slice(
+pub extern "C" fn felosumay_collector_ask_nonnull(
     alloc: Global,
     collector: &mut Handle,
     command: &CommandNumbers,
@@ -176,31 +136,12 @@ pub extern "C" fn felosumay_collector_poll(
 /// Hears bytes, and tells what they are taken for: 0 for nothing, 1 for the message that answers the open poll, which is
 /// recorded, 2 for the reply to the open command.
 #[unsafe(no_mangle)]
-pub unsafe extern "C" fn felosumay_collector_hear(
+pub extern "C" fn felosumay_collector_hear_nonnull(
     alloc: Global,
     collector: &mut Handle,
-    bytes: *const u8,
-    len: usize,
+    bytes: &[u8],
     heard: &mut u8,
 ) -> u8
-    ghost lent: { Lent }
-    requires* lent { sem 𝓛 (lends lent bytes len) }
-    ensures* back { sem 𝓛 (returns lent) }
-    ensures status { result ≡ code_of (found (holds_collector collector.old.held)) }
-    ensures heard { (s : CollectorState) → HeldIn collector.old.held s → heard.new ≡ heard_code (heard_in s.collector lent.bytes) }
-    ensures after { (s : CollectorState) → HeldIn collector.old.held s → HeldIn collector.new.held (listened s lent.bytes) }
-    ensures absent { result ≢ code_of Status.Done → collector.new.held ≡ collector.old.held }
-{
-    hear_slice(
-        alloc,
-        collector,
-        slice::from_raw_parts(address_of(bytes, len), len),
-        heard,
-    )
-}
-
-/// As `felosumay_collector_hear`, of a slice.
-fn hear_slice(alloc: Global, collector: &mut Handle, bytes: &[u8], heard: &mut u8) -> u8
     ensures status { result ≡ code_of (found (holds_collector collector.old.held)) }
     ensures heard { (s : CollectorState) → HeldIn collector.old.held s → heard.new ≡ heard_code (heard_in s.collector bytes.now) }
     ensures after { (s : CollectorState) → HeldIn collector.old.held s → HeldIn collector.new.held (listened s bytes.now) }

@@ -6,7 +6,7 @@ ghost use types.Logic.{sem};
 ghost use Rattle.rdm_frame.specs.FrameText.{frame_text, IsFrame};
 ghost use Rattle.rdm_collector.specs.Collecting.{refusal_of, poll_request, command_request};
 ghost use Rattle.rdm_collector.specs.AnyDevice.Collecting.{new_device_collector, sender, after_ask, after_poll, after_over, after_hearing, heard_in};
-ghost use Rattle.rdm_c.specs.Places.{Lent, handle_at, lends, nobody, returns};
+ghost use Rattle.rdm_c.specs.Places.{handle_at, nobody};
 ghost use Rattle.rdm_c.specs.Collecteds.{heard_numbers, Tells};
 ghost use Rattle.rdm_c.specs.Endpoints.{found, held_device_collector};
 ghost use Rattle.rdm_c.specs.Messages.{action_in, command_in, want_in};
@@ -17,14 +17,12 @@ use crate::endpoint;
 use crate::endpoint::Endpoint;
 use crate::handle::Handle;
 use crate::keeping::{free_at, put, replace, take};
-use crate::lent::address_of;
 use crate::message::{CommandNumbers, want_in};
 use crate::status::Status;
 use rdm_collector::DeviceCollector;
 use rdm_frame::Uid;
 use rdm_frame::standard::MOST_SLOTS;
 use std::alloc::Global;
-use std::slice;
 
 /// Makes a collector with this UID for the messages of the target, whatever response types its answers have (E1.20 section 6.3),
 /// in the place of what the handle held. It is rejected as `felosumay_collector_new` says, and takes the same numbers.
@@ -63,47 +61,9 @@ pub extern "C" fn felosumay_device_collector_new(
 }
 
 /// Sends a command: its request stands at the front of `request` then, and a transaction is open. It is rejected as
-/// `felosumay_collector_ask` says.
+/// `felosumay_collector_ask_nonnull` says.
 #[unsafe(no_mangle)]
-pub unsafe extern "C" fn felosumay_device_collector_ask(
-    alloc: Global,
-    collector: &mut Handle,
-    command: &CommandNumbers,
-    load: *const u8,
-    len: usize,
-    request: &mut [u8; MOST_SLOTS],
-    count: &mut usize,
-) -> u8
-    ghost lent: { Lent }
-    requires* lent { sem 𝓛 (lends lent load len) }
-    ensures* back { sem 𝓛 (returns lent) }
-    ensures unknown { (result ≡ code_of Status.Unknown) ↔ (action_in command.now.command_class ≡ None) }
-    ensures absent { IfSome (command_in command.now lent.bytes) (λ c.
-        (result ≡ code_of Status.Absent) ↔ (held_device_collector collector.old.held ≡ None)) }
-    ensures refused { IfSome (command_in command.now lent.bytes) (λ c. IfSome (held_device_collector collector.old.held) (λ s.
-        result ≡ code_of (of_refusal (refusal_of (sender s) c)))) }
-    ensures sent { IfSome (command_in command.now lent.bytes) (λ c. IfSome (held_device_collector collector.old.held) (λ s.
-        result ≡ code_of Status.Done → take count.new request.new ≡ frame_text (command_request (sender s) c))) }
-    ensures count { IfSome (command_in command.now lent.bytes) (λ c. IfSome (held_device_collector collector.old.held) (λ s.
-        result ≡ code_of Status.Done → count.new ≡ length (frame_text (command_request (sender s) c)))) }
-    ensures is_frame { IfSome (command_in command.now lent.bytes) (λ c. IfSome (held_device_collector collector.old.held) (λ s.
-        result ≡ code_of Status.Done → IsFrame (command_request (sender s) c))) }
-    ensures after { IfSome (command_in command.now lent.bytes) (λ c. IfSome (held_device_collector collector.old.held) (λ s.
-        result ≡ code_of Status.Done → held_device_collector collector.new.held ≡ Some (after_ask s c))) }
-    ensures same { result ≢ code_of Status.Done → collector.new.held ≡ collector.old.held }
-{
-    ask_slice(
-        alloc,
-        collector,
-        command,
-        slice::from_raw_parts(address_of(load, len), len),
-        request,
-        count,
-    )
-}
-
-/// As `felosumay_device_collector_ask`, of a slice.
-fn ask_slice(
+pub extern "C" fn felosumay_device_collector_ask_nonnull(
     alloc: Global,
     collector: &mut Handle,
     command: &CommandNumbers,
@@ -172,32 +132,12 @@ pub extern "C" fn felosumay_device_collector_poll(
 /// Hears bytes, and tells what they are taken for: nothing; a message that answers the open poll, or a part of one, which is
 /// recorded; the reply to the open command; or that the device rejects the poll, or needs time for it.
 #[unsafe(no_mangle)]
-pub unsafe extern "C" fn felosumay_device_collector_hear(
+pub extern "C" fn felosumay_device_collector_hear_nonnull(
     alloc: Global,
     collector: &mut Handle,
-    bytes: *const u8,
-    len: usize,
+    bytes: &[u8],
     heard: &mut HeardNumbers,
 ) -> u8
-    ghost lent: { Lent }
-    requires* lent { sem 𝓛 (lends lent bytes len) }
-    ensures* back { sem 𝓛 (returns lent) }
-    ensures status { result ≡ code_of (found (is_some (held_device_collector collector.old.held))) }
-    ensures heard { IfSome (held_device_collector collector.old.held) (λ s. heard.new ≡ heard_numbers (heard_in s lent.bytes)) }
-    ensures after { IfSome (held_device_collector collector.old.held) (λ s.
-        held_device_collector collector.new.held ≡ Some (after_hearing s lent.bytes)) }
-    ensures absent { result ≢ code_of Status.Done → collector.new.held ≡ collector.old.held }
-{
-    hear_slice(
-        alloc,
-        collector,
-        slice::from_raw_parts(address_of(bytes, len), len),
-        heard,
-    )
-}
-
-/// As `felosumay_device_collector_hear`, of a slice.
-fn hear_slice(alloc: Global, collector: &mut Handle, bytes: &[u8], heard: &mut HeardNumbers) -> u8
     ensures status { result ≡ code_of (found (is_some (held_device_collector collector.old.held))) }
     ensures heard { IfSome (held_device_collector collector.old.held) (λ s. heard.new ≡ heard_numbers (heard_in s bytes.now)) }
     ensures after { IfSome (held_device_collector collector.old.held) (λ s.

@@ -1,13 +1,11 @@
 //! What the firmware of a fixture does beside answering, as C calls it: it places values, and it tells of what is wrong.
 
-ghost use Rattle.std.specs.Prelude.{◌≡◌, ◌≢◌, ◌↔◌, ◌==◌, IfSome, None, false};
-ghost use types.Logic.{sem};
+ghost use Rattle.std.specs.Prelude.{◌≡◌, ◌≢◌, ◌↔◌, IfSome, None, false};
 ghost use Rattle.rdm_params.specs.Commands.Placing.{place_refusal};
 ghost use Rattle.rdm_params.specs.Jobs.Severities.{severity_in};
 ghost use Rattle.rdm_responder.specs.History.{History, Noted, Placed, then_event};
 ghost use Rattle.rdm_responder.specs.Lawful.{IsLawful};
 ghost use Rattle.rdm_responder.specs.Rules.{account_of};
-ghost use Rattle.rdm_c.specs.Places.{Lent, lends, returns};
 ghost use Rattle.rdm_c.specs.Statuses.{code_of, of_place_refusal};
 ghost use Rattle.rdm_c.specs.Outcomes.{entry_in};
 ghost use Rattle.rdm_c.specs.Endpoints.{HeldFor, found, holds_responder, flag, is_noted};
@@ -15,11 +13,9 @@ ghost use Rattle.rdm_c.specs.Endpoints.{HeldFor, found, holds_responder, flag, i
 use crate::endpoint;
 use crate::handle::Handle;
 use crate::keeping::{put, take};
-use crate::lent::address_of;
 use crate::outcome::entry_in;
 use crate::status::Status;
 use std::alloc::Global;
-use std::slice;
 
 /// Makes a stored value at the root, or at one sub-device, what a SET of it would make it, as firmware does that restores its
 /// values, or counts hours: at once, with no message, and whether there is room for one or not. What a sensor shows is placed
@@ -29,37 +25,13 @@ use std::slice;
 /// another length than the value, and last that a SET would be out of range, or that there is no such sensor. Nothing changes
 /// then.
 #[unsafe(no_mangle)]
-pub unsafe extern "C" fn felosumay_responder_place(
+pub extern "C" fn felosumay_responder_place_nonnull(
     alloc: Global,
     responder: &mut Handle,
     sub: u16,
     pid: u16,
-    load: *const u8,
-    len: usize,
+    load: &[u8],
 ) -> u8
-    ghost lent: { Lent }
-    requires* lent { sem 𝓛 (lends lent load len) }
-    ensures* back { sem 𝓛 (returns lent) }
-    ensures told { (h : History) → HeldFor responder.old.held h →
-        result ≡ code_of (of_place_refusal (place_refusal (account_of h).parameters sub pid lent.bytes)) }
-    ensures lawful { (h : History) → IsLawful h → HeldFor responder.old.held h →
-        ((result ≡ code_of Status.Done) ↔ IsLawful (then_event h (Placed sub pid lent.bytes))) }
-    ensures stands { (h : History) → HeldFor responder.old.held h → result ≡ code_of Status.Done →
-        HeldFor responder.new.held (then_event h (Placed sub pid lent.bytes)) }
-    ensures absent { (result ≡ code_of Status.Absent) ↔ (holds_responder responder.old.held ≡ false) }
-    ensures same { result ≢ code_of Status.Done → responder.new.held ≡ responder.old.held }
-{
-    place_slice(
-        alloc,
-        responder,
-        sub,
-        pid,
-        slice::from_raw_parts(address_of(load, len), len),
-    )
-}
-
-/// As `felosumay_responder_place`, of a slice.
-fn place_slice(alloc: Global, responder: &mut Handle, sub: u16, pid: u16, load: &[u8]) -> u8
     ensures told { (h : History) → HeldFor responder.old.held h →
         result ≡ code_of (of_place_refusal (place_refusal (account_of h).parameters sub pid load.now)) }
     ensures lawful { (h : History) → IsLawful h → HeldFor responder.old.held h →

@@ -8,21 +8,24 @@ ghost use Rattle.rdm_c.specs.Profiles.{profile_in};
 
 use crate::profile::ProfileNumbers;
 use crate::profile::making::fault_of;
+use crate::profile::parameters::ParameterNumbers;
 use rdm_device::ProfileFault;
 
 /// Tells which rule of profiles is broken, the first of them in the order of their numbers, or 0 if none is: a responder can be
 /// made of the profile then. The header lists the rules.
-///
-/// Where there are no parameters of the maker's own, or none that are left out, the pointer to them isn't looked at.
 #[unsafe(no_mangle)]
-pub extern "C" fn felosumay_profile_fault(profile: &ProfileNumbers<'_>) -> u8
-    ensures good { (result ≡ 0) ↔ CanBeMade (profile_in profile.now) }
-    ensures broken { IfSome (fault_in result) (λ fault. IsFirstBroken fault (profile_in profile.now)) }
+pub extern "C" fn felosumay_profile_fault_nonnull(
+    profile: &ProfileNumbers,
+    parameters: &[ParameterNumbers],
+    without: &[u16],
+) -> u8
+    ensures good { (result ≡ 0) ↔ CanBeMade (profile_in profile.now parameters.now without.now) }
+    ensures broken { IfSome (fault_in result) (λ fault. IsFirstBroken fault (profile_in profile.now parameters.now without.now)) }
     ensures numbers { result ≤ 17 }
-    ensures no_parameters { length profile.now.parameters.now ≡ 0 → (profile_in profile.now).own ≡ [] }
-    ensures none_left_out { length profile.now.without.now ≡ 0 → (profile_in profile.now).without.items ≡ [] }
+    ensures no_parameters { length parameters.now ≡ 0 → (profile_in profile.now parameters.now without.now).own ≡ [] }
+    ensures none_left_out { length without.now ≡ 0 → (profile_in profile.now parameters.now without.now).without.items ≡ [] }
 {
-    match fault_of(profile) {
+    match fault_of(profile, parameters, without) {
         None => 0,
         Some(ProfileFault::SubDevices) => 1,
         Some(ProfileFault::Presets) => 2,

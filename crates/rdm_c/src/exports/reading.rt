@@ -1,62 +1,26 @@
 //! What C reads of a responder.
 
-ghost use Rattle.std.specs.Prelude.{◌≡◌, ◌↔◌, ◌==◌, false, length};
-ghost use types.Logic.{sem};
+ghost use Rattle.std.specs.Prelude.{◌≡◌, ◌↔◌, false, length};
 ghost use Rattle.rdm_params.specs.Commands.Commands.{got};
 ghost use Rattle.rdm_outbox.specs.Jobs.{has_place, outstanding_count, waiting_of};
 ghost use Rattle.rdm_responder.specs.History.{History};
 ghost use Rattle.rdm_responder.specs.Rules.{account_of};
 ghost use Rattle.rdm_responder.specs.Runs.{outbox_of};
-ghost use Rattle.rdm_c.specs.Places.{Lent, lends, returns};
 ghost use Rattle.rdm_c.specs.Statuses.{code_of};
 ghost use Rattle.rdm_c.specs.Endpoints.{HeldFor, GetTold, found, flag, holds_responder};
 
 use crate::endpoint::responder::{get, outstanding, room, waiting};
 use crate::handle::Handle;
 use crate::keeping::{put, take};
-use crate::lent::address_of;
 use crate::status::Status;
 use rdm_frame::standard::MOST_DATA;
 use std::alloc::Global;
-use std::slice;
 
 /// Reads a parameter, as a GET of this sub-device, PID and argument would: the value stands at the front of `value`, and
 /// `count` says how many bytes it has; or it is rejected, and `reason` is the code of the NACK (E1.20 table A-17); or there
 /// is no value, since the command starts a job or fetches a message.
 #[unsafe(no_mangle)]
-pub unsafe extern "C" fn felosumay_responder_get(
-    alloc: Global,
-    responder: &mut Handle,
-    sub: u16,
-    pid: u16,
-    argument: *const u8,
-    len: usize,
-    value: &mut [u8; MOST_DATA],
-    count: &mut usize,
-    reason: &mut u16,
-) -> u8
-    ghost lent: { Lent }
-    requires* lent { sem 𝓛 (lends lent argument len) }
-    ensures* back { sem 𝓛 (returns lent) }
-    ensures told { (h : History) → HeldFor responder.old.held h →
-        GetTold result count.new value.new reason.new (got (account_of h).parameters sub pid lent.bytes) }
-    ensures absent { (result ≡ code_of Status.Absent) ↔ (holds_responder responder.old.held ≡ false) }
-    ensures same { responder.new.held ≡ responder.old.held }
-{
-    get_slice(
-        alloc,
-        responder,
-        sub,
-        pid,
-        slice::from_raw_parts(address_of(argument, len), len),
-        value,
-        count,
-        reason,
-    )
-}
-
-/// As `felosumay_responder_get`, of a slice.
-fn get_slice(
+pub extern "C" fn felosumay_responder_get_nonnull(
     alloc: Global,
     responder: &mut Handle,
     sub: u16,

@@ -13,7 +13,7 @@ ghost use Rattle.rdm_responder.specs.History.{History, Heard, Arrived, empty_his
 ghost use Rattle.rdm_responder.specs.Lawful.{IsLawful};
 ghost use Rattle.rdm_responder.specs.Rules.{account_of, reply_of, job_of};
 ghost use Rattle.rdm_responder.specs.StandsFor.{IsQueueSize, StandsFor};
-ghost use Rattle.rdm_c.specs.Places.{Lent, handle_at, lends, nobody, returns};
+ghost use Rattle.rdm_c.specs.Places.{handle_at, nobody};
 ghost use Rattle.rdm_c.specs.Statuses.{code_of};
 ghost use Rattle.rdm_c.specs.Changes.{change_in, IsPlainly};
 ghost use Rattle.rdm_c.specs.Jobs.{numbers_of, started_in};
@@ -26,10 +26,10 @@ use crate::endpoint::{Endpoint, RunningResponder};
 use crate::handle::Handle;
 use crate::job::{JobNumbers, SteppedNumbers};
 use crate::keeping::{free_at, put, replace, take};
-use crate::lent::address_of;
 use crate::outcome::{OutcomeNumbers, report_in};
 use crate::profile::ProfileNumbers;
 use crate::profile::making::{boxed, boxed_demo, fault_of, fault_of_demo};
+use crate::profile::parameters::ParameterNumbers;
 use crate::status::Status;
 use rdm_frame::standard::MOST_SLOTS;
 use rdm_frame::{Uid, Wire};
@@ -37,7 +37,6 @@ use rdm_outbox::{MOST_ENTRIES, MOST_WAITING};
 use rdm_params::Profile;
 use rdm_responder::{NewError, Responder};
 use std::alloc::Global;
-use std::slice;
 
 /// Makes a responder of this profile, in the place of what the handle held.
 ///
@@ -45,60 +44,69 @@ use std::slice;
 /// breaks a rule or has more than 512 sub-devices, and last comes out of memory. If it is rejected, the handle stays
 /// as it was.
 #[unsafe(no_mangle)]
-pub extern "C" fn felosumay_responder_new(
+pub extern "C" fn felosumay_responder_new_nonnull(
     alloc: Global,
     responder: &mut Handle,
     maker: u16,
     device: u32,
-    profile: &ProfileNumbers<'_>,
+    profile: &ProfileNumbers,
+    parameters: &[ParameterNumbers],
+    without: &[u16],
     queue_size: u16,
 ) -> u8
     ensures made { result ≡ code_of Status.Done →
-        HeldFor responder.new.held (empty_history (setup_of maker device (profile_in profile.now) queue_size most_entries 0)) }
+        HeldFor responder.new.held (empty_history
+        (setup_of maker device (profile_in profile.now parameters.now without.now) queue_size most_entries 0)) }
     ensures bad_uid { (result ≡ code_of Status.BadUid) ↔ (device ≡ 0xFFFFFFFF) }
     ensures bad_size { (result ≡ code_of Status.BadSize) ↔ ((device ≢ 0xFFFFFFFF) × ¬ IsQueueSize queue_size) }
     ensures bad_profile { (result ≡ code_of Status.BadProfile)
-        ↔ ((device ≢ 0xFFFFFFFF) × IsQueueSize queue_size × ¬ CanBeMade (profile_in profile.now)) }
+        ↔ ((device ≢ 0xFFFFFFFF) × IsQueueSize queue_size × ¬ CanBeMade (profile_in profile.now parameters.now without.now)) }
     ensures codes { result ≤ 4 }
     ensures refused { result ≢ code_of Status.Done → responder.new ≡ responder.old }
 {
-    felosumay_responder_new_with(
+    felosumay_responder_new_with_nonnull(
         alloc,
         responder,
         maker,
         device,
         profile,
+        parameters,
+        without,
         queue_size,
         MOST_ENTRIES,
         0,
     )
 }
 
-/// Makes a responder as `felosumay_responder_new` does, with room for `entries` status entries that weren't shown (E1.20
+/// Makes a responder as `felosumay_responder_new_nonnull` does, with room for `entries` status entries that weren't shown (E1.20
 /// section 10.3.2), at 9 bytes each: for a controller with little memory. While that many wait, a further one is dropped. The
 /// first job of each worker has the number `first_job`, and each later one the next; after 4,294,967,295 comes 0. So if it is
 /// greater than the number of each job of the responder before, each report of such a job is astray.
 ///
-/// It is rejected as `felosumay_responder_new` says, and a number of entries that isn't 1 to 1,024 is a bad size too. No
+/// It is rejected as `felosumay_responder_new_nonnull` says, and a number of entries that isn't 1 to 1,024 is a bad size too. No
 /// `first_job` is rejected.
 #[unsafe(no_mangle)]
-pub extern "C" fn felosumay_responder_new_with(
+pub extern "C" fn felosumay_responder_new_with_nonnull(
     alloc: Global,
     responder: &mut Handle,
     maker: u16,
     device: u32,
-    profile: &ProfileNumbers<'_>,
+    profile: &ProfileNumbers,
+    parameters: &[ParameterNumbers],
+    without: &[u16],
     queue_size: u16,
     entries: u16,
     first_job: u32,
 ) -> u8
     ensures made { result ≡ code_of Status.Done →
-        HeldFor responder.new.held (empty_history (setup_of maker device (profile_in profile.now) queue_size entries first_job)) }
+        HeldFor responder.new.held (empty_history
+        (setup_of maker device (profile_in profile.now parameters.now without.now) queue_size entries first_job)) }
     ensures bad_uid { (result ≡ code_of Status.BadUid) ↔ (device ≡ 0xFFFFFFFF) }
     ensures bad_size { (result ≡ code_of Status.BadSize)
         ↔ ((device ≢ 0xFFFFFFFF) × ¬ (IsQueueSize queue_size × IsListSize entries)) }
     ensures bad_profile { (result ≡ code_of Status.BadProfile)
-        ↔ ((device ≢ 0xFFFFFFFF) × (IsQueueSize queue_size × IsListSize entries) × ¬ CanBeMade (profile_in profile.now)) }
+        ↔ ((device ≢ 0xFFFFFFFF) × (IsQueueSize queue_size × IsListSize entries)
+        × ¬ CanBeMade (profile_in profile.now parameters.now without.now)) }
     ensures codes { result ≤ 4 }
     ensures refused { result ≢ code_of Status.Done → responder.new ≡ responder.old }
 {
@@ -106,10 +114,10 @@ pub extern "C" fn felosumay_responder_new_with(
     if let Some(refusal) = refusal(uid, queue_size, entries) {
         return refusal.code();
     }
-    if fault_of(profile).is_some() {
+    if fault_of(profile, parameters, without).is_some() {
         return Status::BadProfile.code();
     }
-    let Some(profile) = boxed(alloc, profile) else {
+    let Some(profile) = boxed(alloc, profile, parameters, without) else {
         return Status::OutOfMemory.code();
     };
     start(
@@ -120,7 +128,7 @@ pub extern "C" fn felosumay_responder_new_with(
 
 /// Makes a responder that is the demonstration fixture with N sub-devices, and replaces what the handle held.
 ///
-/// It is rejected as `felosumay_responder_new` says, and a profile is bad only if there are more than 512 sub-devices.
+/// It is rejected as `felosumay_responder_new_nonnull` says, and a profile is bad only if there are more than 512 sub-devices.
 #[unsafe(no_mangle)]
 pub extern "C" fn felosumay_responder_demo(
     alloc: Global,
@@ -155,44 +163,7 @@ pub extern "C" fn felosumay_responder_demo(
 /// Hears bytes, and tells of the reply, whose bytes stand at the front of `reply` then, of the job that started, and of what
 /// changed of the parameters. The answer to discovery is a reply as any other.
 #[unsafe(no_mangle)]
-pub unsafe extern "C" fn felosumay_responder_step(
-    alloc: Global,
-    responder: &mut Handle,
-    bytes: *const u8,
-    len: usize,
-    reply: &mut [u8; MOST_SLOTS],
-    stepped: &mut SteppedNumbers,
-) -> u8
-    ghost lent: { Lent }
-    requires* lent { sem 𝓛 (lends lent bytes len) }
-    ensures* back { sem 𝓛 (returns lent) }
-    ensures status { result ≡ code_of (found (holds_responder responder.old.held)) }
-    ensures reply { (h : History) → HeldFor responder.old.held h →
-        told stepped.new.replied stepped.new.count reply.new ≡ reply_of h lent.bytes }
-    ensures count { (h : History) → HeldFor responder.old.held h → IfSome (reply_of h lent.bytes) (λ r. stepped.new.count ≡ length r) }
-    ensures job { (h : History) → HeldFor responder.old.held h →
-        started_in stepped.new ≡ option_map (numbers_of (account_of h).parameters.profile) (job_of h lent.bytes) }
-    ensures flags { (h : History) → HeldFor responder.old.held h → (stepped.new.replied ≡ flag (is_some (reply_of h lent.bytes)))
-        × (stepped.new.started ≡ flag (is_some (job_of h lent.bytes))) }
-    ensures stands { (h : History) → HeldFor responder.old.held h → HeldFor responder.new.held (then_event h (Heard lent.bytes)) }
-    ensures unchanged { (h : History) → HeldFor responder.old.held h → ((change_in stepped.new ≡ None)
-        ↔ ((account_of (then_event h (Heard lent.bytes))).parameters ≡ (account_of h).parameters)) }
-    ensures what { IfSome (change_in stepped.new) (λ c. IsSomeAnd (frame_in lent.bytes) (λ f. c ≡ change_of f.sub f.pid)) }
-    ensures plainly { IsPlainly stepped.new }
-    ensures absent { holds_responder responder.old.held ≡ false → (responder.new.held ≡ responder.old.held)
-        × (stepped.new.replied ≡ 0) × (stepped.new.started ≡ 0) × (stepped.new.changed ≡ 0) }
-{
-    step_slice(
-        alloc,
-        responder,
-        slice::from_raw_parts(address_of(bytes, len), len),
-        reply,
-        stepped,
-    )
-}
-
-/// As `felosumay_responder_step`, of a slice.
-fn step_slice(
+pub extern "C" fn felosumay_responder_step_nonnull(
     alloc: Global,
     responder: &mut Handle,
     bytes: &[u8],
@@ -226,7 +197,7 @@ fn step_slice(
 
 /// Takes the report of a job, and says whether it noted a status entry: `kept` is 1 then, else 0.
 ///
-/// The job is as `felosumay_responder_step` told of it. The numbers are unknown if they stand for no report, whatever
+/// The job is as `felosumay_responder_step_nonnull` told of it. The numbers are unknown if they stand for no report, whatever
 /// the handle holds. It is astray if the report isn't of the oldest outstanding job of its worker, or its outcome
 /// doesn't fit the job. Nothing changes then.
 #[unsafe(no_mangle)]

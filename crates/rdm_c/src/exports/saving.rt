@@ -7,14 +7,14 @@ ghost use Rattle.rdm_responder.specs.Lawful.{IsLawful};
 ghost use Rattle.rdm_responder.specs.Laws.{values_of};
 ghost use Rattle.rdm_saved.specs.Restoring.{restore_refusal, saved_len};
 ghost use Rattle.rdm_saved.specs.SavedText.{saved_text};
-ghost use Rattle.rdm_c.specs.Places.{Lent, lends, returns, writable_at};
+ghost use Rattle.rdm_c.specs.Places.{writable_at};
 ghost use Rattle.rdm_c.specs.Statuses.{code_of, of_restore_refusal};
 ghost use Rattle.rdm_c.specs.Endpoints.{HeldFor, found, holds_responder};
 
 use crate::endpoint;
 use crate::handle::Handle;
 use crate::keeping::{put, take};
-use crate::lent::{address_of, writable_address_of};
+use crate::lent::writable_address_of;
 use crate::status::Status;
 use std::alloc::Global;
 use std::slice;
@@ -51,14 +51,15 @@ pub unsafe extern "C" fn felosumay_responder_save(
 ) -> u8
     ghost before: { List ℕ }
     requires* lent { sem 𝓛 (writable_at image len before) }
+    ensures told { (h : History) → HeldFor responder.old.held h →
+        result ≡ code_of (if nat_le (saved_len (values_of h)) (length before) then Status.Done else Status.ShortImage) }
+    ensures count { (h : History) → HeldFor responder.old.held h → result ≡ code_of Status.Done → count.new ≡ saved_len (values_of h) }
+    ensures absent { (result ≡ code_of Status.Absent) ↔ (holds_responder responder.old.held ≡ false) }
+    ensures same { responder.new.held ≡ responder.old.held }
     ensures* saved { ∃ₛ (λ (after : List ℕ). sem 𝓛 (writable_at image len after)
-        ∗ ⌜ ((h : History) → HeldFor responder.old.held h →
-        result ≡ code_of (if nat_le (saved_len (values_of h)) (length before) then Status.Done else Status.ShortImage)) ⌝
         ∗ ⌜ ((h : History) → HeldFor responder.old.held h → result ≡ code_of Status.Done →
-        (count.new ≡ saved_len (values_of h)) × (after ≡ saved_text (values_of h) ++ drop count.new before)) ⌝
-        ∗ ⌜ (result ≡ code_of Status.Absent) ↔ (holds_responder responder.old.held ≡ false) ⌝
-        ∗ ⌜ (result ≢ code_of Status.Done → after ≡ before) ⌝
-        ∗ ⌜ responder.new.held ≡ responder.old.held ⌝) }
+        after ≡ saved_text (values_of h) ++ drop count.new before) ⌝
+        ∗ ⌜ (result ≢ code_of Status.Done → after ≡ before) ⌝) }
 {
     save_slice(
         alloc,
@@ -68,15 +69,16 @@ pub unsafe extern "C" fn felosumay_responder_save(
     )
 }
 
-/// As `felosumay_responder_save`, of a slice.
+/// As `felosumay_responder_save`, of the bytes that are lent.
 fn save_slice(alloc: Global, responder: &mut Handle, image: &mut [u8], count: &mut usize) -> u8
     ensures told { (h : History) → HeldFor responder.old.held h →
         result ≡ code_of (if nat_le (saved_len (values_of h)) (length image.old) then Status.Done else Status.ShortImage) }
-    ensures written { (h : History) → HeldFor responder.old.held h → result ≡ code_of Status.Done →
-        (count.new ≡ saved_len (values_of h)) × (image.new ≡ saved_text (values_of h) ++ drop count.new image.old) }
+    ensures count { (h : History) → HeldFor responder.old.held h → result ≡ code_of Status.Done → count.new ≡ saved_len (values_of h) }
     ensures absent { (result ≡ code_of Status.Absent) ↔ (holds_responder responder.old.held ≡ false) }
-    ensures unwritten { result ≢ code_of Status.Done → image.new ≡ image.old }
     ensures same { responder.new.held ≡ responder.old.held }
+    ensures written { (h : History) → HeldFor responder.old.held h → result ≡ code_of Status.Done →
+        image.new ≡ saved_text (values_of h) ++ drop count.new image.old }
+    ensures unwritten { result ≢ code_of Status.Done → image.new ≡ image.old }
 {
     let Some(endpoint) = take(alloc, responder) else {
         return Status::Absent.code();
@@ -92,33 +94,11 @@ fn save_slice(alloc: Global, responder: &mut Handle, image: &mut [u8], count: &m
 /// If the image has another length than one of these values, that comes first, then that it is altered, and last that it is of
 /// another profile. Nothing changes then.
 #[unsafe(no_mangle)]
-pub unsafe extern "C" fn felosumay_responder_restore(
+pub extern "C" fn felosumay_responder_restore_nonnull(
     alloc: Global,
     responder: &mut Handle,
-    image: *const u8,
-    len: usize,
+    image: &[u8],
 ) -> u8
-    ghost lent: { Lent }
-    requires* lent { sem 𝓛 (lends lent image len) }
-    ensures* back { sem 𝓛 (returns lent) }
-    ensures told { (h : History) → HeldFor responder.old.held h →
-        result ≡ code_of (of_restore_refusal (restore_refusal (values_of h) lent.bytes)) }
-    ensures lawful { (h : History) → IsLawful h → HeldFor responder.old.held h →
-        ((result ≡ code_of Status.Done) ↔ IsLawful (then_event h (Restored lent.bytes))) }
-    ensures stands { (h : History) → HeldFor responder.old.held h → result ≡ code_of Status.Done →
-        HeldFor responder.new.held (then_event h (Restored lent.bytes)) }
-    ensures absent { (result ≡ code_of Status.Absent) ↔ (holds_responder responder.old.held ≡ false) }
-    ensures same { result ≢ code_of Status.Done → responder.new.held ≡ responder.old.held }
-{
-    restore_slice(
-        alloc,
-        responder,
-        slice::from_raw_parts(address_of(image, len), len),
-    )
-}
-
-/// As `felosumay_responder_restore`, of a slice.
-fn restore_slice(alloc: Global, responder: &mut Handle, image: &[u8]) -> u8
     ensures told { (h : History) → HeldFor responder.old.held h →
         result ≡ code_of (of_restore_refusal (restore_refusal (values_of h) image.now)) }
     ensures lawful { (h : History) → IsLawful h → HeldFor responder.old.held h →

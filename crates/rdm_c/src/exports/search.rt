@@ -5,7 +5,7 @@ ghost use denote.RawPtr.{Testable};
 ghost use types.Logic.{sem};
 ghost use Rattle.rdm_search.specs.Searches.{next_of};
 ghost use Rattle.rdm_search.specs.Stages.{request_of};
-ghost use Rattle.rdm_c.specs.Places.{Lent, handle_at, lends, nobody, returns};
+ghost use Rattle.rdm_c.specs.Places.{handle_at, nobody};
 ghost use Rattle.rdm_c.specs.Endpoints.{found, held_search};
 ghost use Rattle.rdm_c.specs.SearchStates.{HasHeard, IsNewSearch, resumed};
 ghost use Rattle.rdm_c.specs.Searches.{NextTold, found_numbers};
@@ -16,13 +16,11 @@ use crate::endpoint::Endpoint;
 use crate::found::FoundNumbers;
 use crate::handle::Handle;
 use crate::keeping::{free_at, put, replace, take};
-use crate::lent::address_of;
 use crate::running_search::RunningSearch;
 use crate::status::Status;
 use rdm_frame::Uid;
 use rdm_frame::standard::MOST_SLOTS;
 use std::alloc::Global;
-use std::slice;
 
 /// Makes a search for all fixtures of the line (E1.20 sections 7.5 and 7.6), by the controller with this UID, in the place of
 /// what the handle held. It takes `limit` transactions at most: 74 for each fixture that the line may have, and 2 more, are
@@ -77,30 +75,11 @@ pub extern "C" fn felosumay_search_next(
 /// Hears the bytes that came after the request that `felosumay_search_next` told; none if nothing came. If memory for a
 /// fixture that was found is refused, the search stands where it stood, and the same bytes can be heard again.
 #[unsafe(no_mangle)]
-pub unsafe extern "C" fn felosumay_search_hear(
+pub extern "C" fn felosumay_search_hear_nonnull(
     alloc: Global,
     search: &mut Handle,
-    bytes: *const u8,
-    len: usize,
+    bytes: &[u8],
 ) -> u8
-    ghost lent: { Lent }
-    requires* lent { sem 𝓛 (lends lent bytes len) }
-    ensures* back { sem 𝓛 (returns lent) }
-    ensures heard { IfSome (held_search search.old.held) (λ s. result ≡ code_of Status.Done →
-        IsSomeAnd (held_search search.new.held) (HasHeard s lent.bytes)) }
-    ensures absent { (result ≡ code_of Status.Absent) ↔ (held_search search.old.held ≡ None) }
-    ensures same { result ≢ code_of Status.Done → search.new.held ≡ search.old.held }
-    ensures codes { result ≢ code_of Status.Done → result ≢ code_of Status.Absent → result ≡ code_of Status.OutOfMemory }
-{
-    hear_slice(
-        alloc,
-        search,
-        slice::from_raw_parts(address_of(bytes, len), len),
-    )
-}
-
-/// As `felosumay_search_hear`, of a slice.
-fn hear_slice(alloc: Global, search: &mut Handle, bytes: &[u8]) -> u8
     ensures heard { IfSome (held_search search.old.held) (λ s. result ≡ code_of Status.Done →
         IsSomeAnd (held_search search.new.held) (HasHeard s bytes.now)) }
     ensures absent { (result ≡ code_of Status.Absent) ↔ (held_search search.old.held ≡ None) }

@@ -7,6 +7,7 @@ ghost use Rattle.rdm_device.specs.Device.Faults.{IsFirstBroken, with_parameters}
 ghost use Rattle.rdm_device.specs.Device.Profiles.{CanBeMade};
 ghost use Rattle.rdm_c.specs.Profiles.{profile_in};
 
+use crate::profile::parameters::ParameterNumbers;
 use crate::profile::{ProfileNumbers, lists};
 use arrayvec::ArrayVec;
 use rdm_device::{ProfileFault, profile_fault, profile_fault_with};
@@ -19,19 +20,24 @@ const MOST_OWN: usize = 16;
 
 /// The profile of these numbers on the heap, if there is memory for it.
 #[inline(never)]
-pub(crate) fn boxed(alloc: Global, numbers: &ProfileNumbers<'_>) -> Option<Box<Profile>>
-    requires own { length numbers.now.parameters.now ≤ 16 }
-    requires without { length numbers.now.without.now ≤ 36 }
-    ensures { IfSome result (λ boxed. boxed.value ≡ profile_in numbers.now) }
+pub(crate) fn boxed(
+    alloc: Global,
+    numbers: &ProfileNumbers,
+    parameters: &[ParameterNumbers],
+    without: &[u16],
+) -> Option<Box<Profile>>
+    requires own { length parameters.now ≤ 16 }
+    requires without { length without.now ≤ 36 }
+    ensures { IfSome result (λ boxed. boxed.value ≡ profile_in numbers.now parameters.now without.now) }
 {
-    let Ok(own) = lists::own_parameters(alloc, numbers.parameters) else {
+    let Ok(own) = lists::own_parameters(alloc, parameters) else {
         return None;
     };
     let Ok(mut boxed) = Box::new(alloc, blank()) else {
         return None;
     };
     numbers.write(&mut boxed);
-    lists::pids(numbers.without, &mut boxed.without);
+    lists::pids(without, &mut boxed.without);
     boxed.own = own;
     Some(boxed)
 }
@@ -50,19 +56,23 @@ pub(crate) fn boxed_demo(alloc: Global, subs: u16) -> Option<Box<Profile>>
 /// The first rule that the profile of these numbers breaks, or `None` if it breaks none: a responder can be made with it then. It
 /// takes no memory.
 #[inline(never)]
-pub(crate) fn fault_of(numbers: &ProfileNumbers<'_>) -> Option<ProfileFault>
-    ensures good { (result ≡ None) ↔ CanBeMade (profile_in numbers.now) }
-    ensures first { IfSome result (λ fault. IsFirstBroken fault (profile_in numbers.now)) }
-    ensures own { result ≡ None → length numbers.now.parameters.now ≤ 16 }
-    ensures without { result ≡ None → length numbers.now.without.now ≤ 36 }
+pub(crate) fn fault_of(
+    numbers: &ProfileNumbers,
+    parameters: &[ParameterNumbers],
+    without: &[u16],
+) -> Option<ProfileFault>
+    ensures good { (result ≡ None) ↔ CanBeMade (profile_in numbers.now parameters.now without.now) }
+    ensures first { IfSome result (λ fault. IsFirstBroken fault (profile_in numbers.now parameters.now without.now)) }
+    ensures own { result ≡ None → length parameters.now ≤ 16 }
+    ensures without { result ≡ None → length without.now ≤ 36 }
 {
     let mut others = blank();
     numbers.write(&mut others);
-    if numbers.parameters.len() > MOST_OWN {
-        return Some(fault_of_many(&others, numbers.without));
+    if parameters.len() > MOST_OWN {
+        return Some(fault_of_many(&others, without));
     }
-    let own = lists::parameters(numbers.parameters);
-    profile_fault_with(&others, numbers.without, own.as_slice())
+    let own = lists::parameters(parameters);
+    profile_fault_with(&others, without, own.as_slice())
 }
 
 /// The first rule that a profile breaks which has more parameters of the maker's own than there can be.

@@ -1,20 +1,40 @@
 -- `save` is lent bytes to write: they are lent on as a slice for a lifetime of its own, and come back as what was written.
-use Rattle.rdm_c.proofs.Lending.{[], ◌∷◌, ◌∙◌, ‵, ◌⊛◌, ◌$◌, ◌∵◌, !, Goes-blank, Goes-dropped, Goes-gave_ref, Is, List, MutRef, Ptr, RawPtr, Stays, Val, addr, agg, alloc_all, and_then, ap, at_exit, await, by, calls_at, drop, enter, feq_i, feq_l, fjoin, flft, framed, free_all, fsplit, ftrue, gave_ref, get, id⊢, in_a_block, join, keep, lands_as, lasts, later, leaves, length, loose_lawful, look_at, move, mut_Tells, mut_vals, named, no_more, nothing, only, owned, pass_all, peeks, pick, plain, proved, ptr_val, qed, raw, rawptr_Lawful, rawptr_Tells, rawptr_vals, refl, returns, sets, shows, slice_val, some, split, stay_dropped, stop, tables, tells, through, triple_of, u8, uint_Lawful, uint_Makes, uint_Tells, uint_vals, usize, use1, use2, val, w64, w8, walk_of, yes, ℕ}
-use Rattle.std.proofs.Common.{◌≡◌, sym, subst, MutBor}
+use Rattle.std.proofs.Common.{[], ◌∷◌, ◌∙◌, List, ap, length, refl, w64, w8, ℕ, ◌≡◌, sym, subst, MutBor}
+use base.Logic.{id⊢, ex_i, sep}
+use base.Fml.{flft, ftrue, GName, flent}
+use mir.Syntax.{named}
+use mir.Val.{Val}
+use contract.Running.{tables}
+use types.Kit.{‵, ◌⊛◌, ◌$◌, ◌∵◌, !, await, by, drop, feq_i, feq_l, fjoin, fsplit, join, keep, later, move, pick, qed, raw, some, split, use1, use2, use3, rewrite}
+use types.Run.{addr, and_then, enter, no_more, returns, stop}
+use types.ByLocal.{alloc_all, free_all, get, lands_as, look_at, pass_all, sets, through}
+use types.Part.{agg}
+use denote.Builtin.{u8, usize}
+use denote.Exit.{yes}
+use denote.Laws.{Is, shows}
+use denote.Plain.{uint_Lawful, uint_Makes, uint_Tells, uint_vals}
+use denote.RawPtr.{Ptr, RawPtr, in_a_block, ptr_val, rawptr_Lawful, rawptr_Tells, rawptr_vals, block_ptr}
+use denote.Ref.{MutRef, mut_Tells, mut_vals}
+use denote.Signature.{plain}
+use denote.Slice.{slice_val, MutSlice, Room, room}
+use denote.Steps.{nothing, only, owned, peeks, heard}
+use denote.Struct.Laws.{tells, val}
+use denote.Struct.Loose.{loose_lawful}
+use denote.Triple.Call.{calls_at}
+use denote.Triple.Clauses.{at_exit, lasts}
+use denote.Triple.Spec.{triple_of}
+use denote.Triple.Table.{framed}
+use denote.Triple.Walked.{Goes-dropped, Goes-gave_ref, Stays, gave_ref, stay_dropped, walk_of}
+use Rattle.core.proofs.alloc.Calls.{Goes-blank}
+use Rattle.std.proofs.raw_atomic.Walks.{leaves, proved}
 use base.Fraction.{full_share}
-use base.Logic.{ex_i, sep}
 use types.Logic.{sem}
-use base.Fml.{GName, flent}
 use contract.Monad.{fact}
-use types.Kit.{use3, rewrite}
 use types.SemTy.{Arr}
 use types.Tokens.{lft_new, lft_end}
 use denote.Lend.{Held, lends_slice, slice_back}
 use denote.Memory.{mem}
-use denote.RawPtr.{block_ptr}
 use denote.Shadow.{pure_l, pure_i}
-use denote.Slice.{MutSlice, Room, room}
-use denote.Steps.{heard}
 use Rattle.std.specs.Prelude.{◌⊎◌}
 use Rattle.std_heap.specs.contracts.Global as heap
 use Rattle.std_heap.proofs.Global.TheLaws as heap_laws

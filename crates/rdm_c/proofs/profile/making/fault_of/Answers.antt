@@ -7,9 +7,9 @@ use Rattle.rdm_c.proofs.profile.making.fault_of.Goals as goal
 
 pub returns-then-numbers-gt-MOST_OWN-clause-first : goal.returns-then-numbers-gt-MOST_OWN-clause-first
 returns-then-numbers-gt-MOST_OWN-clause-first c =
-    let p = profile_in c.args.numbers.now in
+    let p = profile_in c.args.numbers.now c.args.parameters.now c.args.without.now in
     let blank = c.blank-others.result in
-    let given = c.args.numbers.now.parameters.now in
+    let given = c.args.parameters.now in
     let more : 16 < length given = search rules in
     let many : 16 < length p.own = subst (λ (n : ℕ). 16 < n) (sym (length-map given parameter_in)) more in
     put_back c.fault_of_many.result p c.write.new.profile blank.without.items blank.own c.write.ensures (c.fault_of_many.ensures p.own many)
