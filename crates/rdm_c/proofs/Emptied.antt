@@ -1,15 +1,16 @@
 -- A handle that holds nothing is {0}. Assumes `Logic`.
 --     null_or_block     an address is null, or lies in a block
 --     lent_again        what lies at the address that a slice was made of lies at the one that was passed
+--     said_of_bytes     the last of five things that are said is said of what lies there
 --     emptied           what lies at a place is {0}, if it is a handle that holds nothing
 use Rattle.std.proofs.Common.{◌≡◌, ℕ, zero, suc, List, [], ◌∷◌, refl, ap, ◌∙◌, subst, inl, inr, arith}
 use seplogic.Ra.Ura.{Ura}
 use base.Fraction.{full_share}
-use base.Logic.{ent, id⊢, never_e}
+use base.Logic.{SProp, ent, ex, ex_i, id⊢, never_e, sep}
 use base.Fml.{fsep}
 use types.Logic.{Logic, sem}
 use mir.Val.{Val}
-use types.Kit.{‵, ◌$◌, ◌∵◌, !, qed, move, drop, fsplit, fpick, fpack, fjoin, feq_l, feq_i, rewrite, done}
+use types.Kit.{‵, raw, ◌⊛◌, ◌$◌, ◌∵◌, !, qed, move, drop, split, join, fsplit, fpick, fpack, fjoin, feq_l, feq_i, rewrite, use1, done}
 use denote.Memory.{cell_at, part_at, part_of}
 use denote.RattleType.{RattleType}
 use denote.RawPtr.{Ptr, block_ptr, null_ptr}
@@ -53,3 +54,12 @@ lent_again 𝓛 at (block_ptr b o) zero (x ∷ xs) place =
     qed 𝓛 (‵ (array_at (block_ptr b o) 0 (x ∷ xs)) ∷ []) ∵ fsplit ! $ drop ! $ fsplit ! $ feq_l ! (λ e. absurd (suc-not-zero e))
 lent_again 𝓛 at (block_ptr b o) (suc k) bs (inl e) = absurd (suc-not-zero e)
 lent_again {𝓤 = 𝓤} 𝓛 at (block_ptr b o) (suc k) bs (inr e) = subst (λ (q : Ptr). ent 𝓤 (sem 𝓛 (array_at (block_ptr b o) (suc k) bs)) (sem 𝓛 (array_at q (suc k) bs))) e (id⊢ 𝓤 _)
+
+pub said_of_bytes : {M : Type 1} {𝓤 : Ura M} (𝓛 : Logic 𝓤) (B S : List ℕ → SProp 𝓤) (bs : List ℕ) (P Q R T : SProp 𝓤)
+    → ent 𝓤 (sep 𝓤 (B bs) (sep 𝓤 P (sep 𝓤 Q (sep 𝓤 R (sep 𝓤 T (S bs)))))) (sep 𝓤 P (sep 𝓤 Q (sep 𝓤 R (sep 𝓤 T (ex 𝓤 (λ cs. sep 𝓤 (B cs) (S cs)))))))
+said_of_bytes {𝓤 = 𝓤} 𝓛 B S bs P Q R T =
+    qed 𝓛 ((raw (B bs) ⊛ raw P ⊛ raw Q ⊛ raw R ⊛ raw T ⊛ raw (S bs)) ∷ []) ∵
+    split ! $ move ! (1 ∷ []) $ split ! $ move ! (1 ∷ []) $ split ! $ move ! (1 ∷ []) $ split ! $ move ! (1 ∷ []) $ split ! $
+    -- [T; what is said of the bytes; R; Q; P; the bytes]
+    move ! (5 ∷ 1 ∷ []) $ join ! $ use1 𝓛 (raw (ex 𝓤 (λ cs. sep 𝓤 (B cs) (S cs)))) (ex_i 𝓤 (λ cs. sep 𝓤 (B cs) (S cs)) bs) $
+    move ! (1 ∷ 0 ∷ []) $ join ! $ move ! (1 ∷ 0 ∷ []) $ join ! $ move ! (1 ∷ 0 ∷ []) $ join ! $ move ! (1 ∷ 0 ∷ []) $ join ! $ done !

@@ -1,5 +1,5 @@
 -- What stands behind a handle, and what C is told of a responder.
-use Rattle.std.specs.Prelude.{◌≡◌, ℕ, ◌==◌, if◌then◌else◌, Bool, true, false, List, take, length, nat_lt, Option, Some, None}
+use Rattle.std.specs.Prelude.{◌≡◌, ◌≢◌, ℕ, ◌==◌, ◌++◌, if◌then◌else◌, Bool, true, false, List, drop, take, length, nat_lt, Option, Some, None}
 use Rattle.rdm_device.specs.declared.profile.Profile.{Profile}
 use Rattle.rdm_params.specs.declared.panel.Change.{Change}
 use Rattle.rdm_params.specs.declared.jobs.message.Message.{Message}
@@ -8,10 +8,12 @@ use Rattle.rdm_params.specs.declared.verdict.Verdict.TheVariants.{Reply, Refuse}
 use Rattle.rdm_params.specs.Commands.Nacks.{nack_code}
 use Rattle.rdm_params.specs.Commands.Panel.{change_message}
 use Rattle.rdm_responder.specs.History.{History, Setup, Event, then_event}
+use Rattle.rdm_responder.specs.Laws.{values_of}
 use Rattle.rdm_outbox.specs.Jobs.{has_place}
 use Rattle.rdm_responder.specs.Runs.{outbox_of}
 use Rattle.rdm_responder.specs.Rules.{account_of, answered}
 use Rattle.rdm_responder.specs.StandsFor.{StandsFor}
+use Rattle.rdm_saved.specs.SavedText.{saved_text}
 use Rattle.rdm_c.specs.declared.endpoint.Endpoint.{Endpoint}
 use Rattle.rdm_c.specs.declared.endpoint.Endpoint.TheVariants.{Responder, Collector, DeviceCollector, Searcher}
 use Rattle.rdm_c.specs.declared.status.Status.{Status}
@@ -125,6 +127,13 @@ abbrev pub GetTold : ℕ → ℕ → List ℕ → ℕ → Verdict → Type 0
 GetTold code count value reason (Reply body) = (code ≡ code_of status.Done) × (count ≡ length body) × (take count value ≡ body)
 GetTold code count value reason (Refuse nack) = (code ≡ code_of status.Refused) × (reason ≡ nack_code nack)
 GetTold code count value reason _ = code ≡ code_of status.NoValue
+
+-- What `save` leaves of the bytes that it is lent: if it is done, the image of so many bytes at the front, and behind it what was there;
+-- else all that was there.
+abbrev pub LeavesBytes : Option Endpoint → ℕ → ℕ → List ℕ → List ℕ → Type 0
+LeavesBytes held code count before after =
+    ((h : History) → HeldFor held h → code ≡ code_of status.Done → after ≡ saved_text (values_of h) ++ drop count before)
+    × (code ≢ code_of status.Done → after ≡ before)
 
 abbrev pub in_range_told : Option Message → Status
 in_range_told None = status.OutOfRange

@@ -1,15 +1,14 @@
 //! Values of a responder that outlive power-off, as C saves and restores them.
 
-ghost use Rattle.std.specs.Prelude.{◌≡◌, ◌≢◌, ◌↔◌, ◌++◌, min, nat_le, false, length, drop, if◌then◌else◌, List, ℕ};
+ghost use Rattle.std.specs.Prelude.{◌≡◌, ◌≢◌, ◌↔◌, min, nat_le, false, length, if◌then◌else◌, List, ℕ};
 ghost use types.Logic.{sem};
 ghost use Rattle.rdm_responder.specs.History.{History, Restored, then_event};
 ghost use Rattle.rdm_responder.specs.Lawful.{IsLawful};
 ghost use Rattle.rdm_responder.specs.Laws.{values_of};
 ghost use Rattle.rdm_saved.specs.Restoring.{restore_refusal, saved_len};
-ghost use Rattle.rdm_saved.specs.SavedText.{saved_text};
 ghost use Rattle.rdm_c.specs.Places.{writable_at};
 ghost use Rattle.rdm_c.specs.Statuses.{code_of, of_restore_refusal};
-ghost use Rattle.rdm_c.specs.Endpoints.{HeldFor, found, holds_responder};
+ghost use Rattle.rdm_c.specs.Endpoints.{HeldFor, LeavesBytes, found, holds_responder};
 
 use crate::endpoint;
 use crate::handle::Handle;
@@ -57,9 +56,7 @@ pub unsafe extern "C" fn felosumay_responder_save(
     ensures absent { (result ≡ code_of Status.Absent) ↔ (holds_responder responder.old.held ≡ false) }
     ensures same { responder.new.held ≡ responder.old.held }
     ensures* saved { ∃ₛ (λ (after : List ℕ). sem 𝓛 (writable_at image len after)
-        ∗ ⌜ ((h : History) → HeldFor responder.old.held h → result ≡ code_of Status.Done →
-        after ≡ saved_text (values_of h) ++ drop count.new before) ⌝
-        ∗ ⌜ (result ≢ code_of Status.Done → after ≡ before) ⌝) }
+        ∗ ⌜ LeavesBytes responder.old.held result count.new before after ⌝) }
 {
     save_slice(
         alloc,
@@ -76,9 +73,7 @@ fn save_slice(alloc: Global, responder: &mut Handle, image: &mut [u8], count: &m
     ensures count { (h : History) → HeldFor responder.old.held h → result ≡ code_of Status.Done → count.new ≡ saved_len (values_of h) }
     ensures absent { (result ≡ code_of Status.Absent) ↔ (holds_responder responder.old.held ≡ false) }
     ensures same { responder.new.held ≡ responder.old.held }
-    ensures written { (h : History) → HeldFor responder.old.held h → result ≡ code_of Status.Done →
-        image.new ≡ saved_text (values_of h) ++ drop count.new image.old }
-    ensures unwritten { result ≢ code_of Status.Done → image.new ≡ image.old }
+    ensures saved { LeavesBytes responder.old.held result count.new image.old image.new }
 {
     let Some(endpoint) = take(alloc, responder) else {
         return Status::Absent.code();

@@ -1,6 +1,6 @@
 -- `save` is lent bytes to write: they are lent on as a slice for a lifetime of its own, and come back as what was written.
 use Rattle.std.proofs.Common.{[], ◌∷◌, ◌∙◌, List, ap, length, refl, w64, w8, ℕ, ◌≡◌, sym, subst, MutBor}
-use base.Logic.{id⊢, ex_i, sep}
+use base.Logic.{id⊢}
 use base.Fml.{flft, ftrue, GName, flent}
 use mir.Syntax.{named}
 use mir.Val.{Val}
@@ -39,8 +39,9 @@ use Rattle.std.specs.Prelude.{◌⊎◌}
 use Rattle.std_heap.specs.contracts.Global as heap
 use Rattle.std_heap.proofs.Global.TheLaws as heap_laws
 use Rattle.rdm_c.specs.Places.{array_at, writable_at}
+use Rattle.rdm_c.specs.Endpoints.{LeavesBytes}
 use Rattle.rdm_c.specs.contracts.handle.Handle as handle
-use Rattle.rdm_c.proofs.Emptied.{lent_again}
+use Rattle.rdm_c.proofs.Emptied.{lent_again, said_of_bytes}
 use Rattle.rdm_c.specs.contracts.lent.writable_address_of as g₁
 use Rattle.rdm_c.proofs.lent.writable_address_of.Met.{met as met₁}
 use Rattle.rdm_c.specs.contracts.exports.saving.save_slice as g
@@ -112,6 +113,7 @@ felosumay_responder_save_spec 𝓤 𝓛 𝓜 𝓡 wired =
     move ! (6 ∷ 7 ∷ []) $ nothing ! $ move ! (1 ∷ 0 ∷ []) $ join ! $ move ! (1 ∷ 0 ∷ []) $ join ! $
     -- [the tokens; what was left; the result; the bytes; the slice's borrow; one that was left; what is ensured]
     move ! (3 ∷ 6 ∷ []) $ join ! $
-    use1 𝓛 (raw ((c κs a).ensures bs r (at_exit f.ended κs a (tt, (ws.1.0, (tt, (tt, (ws.1.1.1.0, tt)))))))) (ex_i 𝓤 (λ (after : List ℕ). sep 𝓤 (sem 𝓛 (writable_at at n after)) ((g.clauses 𝓛 𝓜.mem 𝓡.returns z.0.0 z.0.3).ensures tt r (at_exit g.ended z.0.0 z.0.3 (tt, (ws.1.0, (after, (ws.1.1.1.0, tt))))))) ws.1.1.0) $
+    use1 𝓛 (raw ((c κs a).ensures bs r (at_exit f.ended κs a (tt, (ws.1.0, (tt, (tt, (ws.1.1.1.0, tt))))))))
+    (said_of_bytes 𝓛 (λ (after : List ℕ). sem 𝓛 (writable_at at n after)) (λ (after : List ℕ). fact 𝓤 (LeavesBytes a.1.0.now.held r ws.1.1.1.0 bs after)) ws.1.1.0 _ _ _ _) $
     keep ! (1 ∷ 2 ∷ 3 ∷ 0 ∷ []) $
     by ! (leaves 𝓛 f.ended stayed c y v r (tt, (ws.1.0, (tt, (tt, (ws.1.1.1.0, tt))))) (tt, (tt, (tt, (tt, (tt, tt)))))))))))))))))))))))
