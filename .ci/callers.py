@@ -194,6 +194,7 @@ def shortened(lines):
 
 def in_c(name):
     """The first call of a function in the programs in C: file, function and lines, or none."""
+    name = name.removesuffix("_nonnull")  # a program calls such a one by the header's function of the name before
     for file in sorted((sources.TOP / "c").glob("*.c")):
         inside, lines = "", file.read_text().splitlines()
         for i, line in enumerate(lines):
