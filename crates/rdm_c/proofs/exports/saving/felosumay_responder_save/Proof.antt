@@ -35,11 +35,16 @@ use types.Tokens.{lft_new, lft_end}
 use denote.Lend.{Held, lends_slice, slice_back}
 use denote.Memory.{mem}
 use denote.Shadow.{pure_l, pure_i}
-use Rattle.std.specs.Prelude.{◌⊎◌}
+use Rattle.std.specs.Prelude.{◌⊎◌, ◌↔◌, false, if◌then◌else◌, nat_le}
 use Rattle.std_heap.specs.contracts.Global as heap
 use Rattle.std_heap.proofs.Global.TheLaws as heap_laws
 use Rattle.rdm_c.specs.Places.{array_at, writable_at}
-use Rattle.rdm_c.specs.Endpoints.{LeavesBytes}
+use Rattle.rdm_responder.specs.History.{History}
+use Rattle.rdm_responder.specs.Laws.{values_of}
+use Rattle.rdm_saved.specs.Restoring.{saved_len}
+use Rattle.rdm_c.specs.Endpoints.{HeldFor, LeavesBytes, holds_responder}
+use Rattle.rdm_c.specs.Statuses.{code_of}
+use Rattle.rdm_c.specs.declared.status.Status.TheVariants as status
 use Rattle.rdm_c.specs.contracts.handle.Handle as handle
 use Rattle.rdm_c.proofs.Emptied.{lent_again, said_of_bytes}
 use Rattle.rdm_c.specs.contracts.lent.writable_address_of as g₁
@@ -113,7 +118,12 @@ felosumay_responder_save_spec 𝓤 𝓛 𝓜 𝓡 wired =
     move ! (6 ∷ 7 ∷ []) $ nothing ! $ move ! (1 ∷ 0 ∷ []) $ join ! $ move ! (1 ∷ 0 ∷ []) $ join ! $
     -- [the tokens; what was left; the result; the bytes; the slice's borrow; one that was left; what is ensured]
     move ! (3 ∷ 6 ∷ []) $ join ! $
-    use1 𝓛 (raw ((c κs a).ensures bs r (at_exit f.ended κs a (tt, (ws.1.0, (tt, (tt, (ws.1.1.1.0, tt))))))))
-    (said_of_bytes 𝓛 (λ (after : List ℕ). sem 𝓛 (writable_at at n after)) (λ (after : List ℕ). fact 𝓤 (LeavesBytes a.1.0.now.held r ws.1.1.1.0 bs after)) ws.1.1.0 _ _ _ _) $
+    let was = a.1.0.now.held in let count : ℕ = ws.1.1.1.0 in
+    use1 𝓛 (raw ((c κs a).ensures bs r (at_exit f.ended κs a (tt, (ws.1.0, (tt, (tt, (count, tt))))))))
+    (said_of_bytes 𝓛 (λ (after : List ℕ). sem 𝓛 (writable_at at n after)) (λ (after : List ℕ). fact 𝓤 (LeavesBytes was r count bs after)) ws.1.1.0
+    (fact 𝓤 ((h : History) → HeldFor was h → r ≡ code_of (if nat_le (saved_len (values_of h)) (length bs) then status.Done else status.ShortImage)))
+    (fact 𝓤 ((h : History) → HeldFor was h → r ≡ code_of status.Done → count ≡ saved_len (values_of h)))
+    (fact 𝓤 ((r ≡ code_of status.Absent) ↔ (holds_responder was ≡ false)))
+    (fact 𝓤 (ws.1.0.held ≡ was))) $
     keep ! (1 ∷ 2 ∷ 3 ∷ 0 ∷ []) $
     by ! (leaves 𝓛 f.ended stayed c y v r (tt, (ws.1.0, (tt, (tt, (ws.1.1.1.0, tt))))) (tt, (tt, (tt, (tt, (tt, tt)))))))))))))))))))))))

@@ -5,8 +5,8 @@ use Rattle.rdm_c.specs.Profiles.{profile_in}
 use Rattle.rdm_c.proofs.Many.{put_back}
 use Rattle.rdm_c.proofs.profile.making.fault_of.Goals as goal
 
-pub returns-then-numbers-gt-MOST_OWN-clause-first : goal.returns-then-numbers-gt-MOST_OWN-clause-first
-returns-then-numbers-gt-MOST_OWN-clause-first c =
+pub returns-then-parameters-gt-MOST_OWN-clause-first : goal.returns-then-parameters-gt-MOST_OWN-clause-first
+returns-then-parameters-gt-MOST_OWN-clause-first c =
     let p = profile_in c.args.numbers.now c.args.parameters.now c.args.without.now in
     let blank = c.blank-others.result in
     let given = c.args.parameters.now in
