@@ -13,7 +13,7 @@ use denote.Builtin.{u8, usize}
 use denote.Exit.{yes}
 use denote.Laws.{Is, shows}
 use denote.Plain.{uint_Lawful, uint_Makes, uint_Tells, uint_vals}
-use denote.RawPtr.{Ptr, RawPtr, in_a_block, ptr_val, rawptr_Lawful, rawptr_Tells, rawptr_vals, block_ptr}
+use denote.RawPtr.{Ptr, RawPtr, in_a_block, ptr_val, rawptr_Lawful, rawptr_Tells, rawptr_vals}
 use denote.Ref.{MutRef, mut_Tells, mut_vals}
 use denote.Signature.{plain}
 use denote.Slice.{slice_val, MutSlice, Room, room}
