@@ -107,7 +107,7 @@ static felosumay_profile profile;
 /* A good profile, with two bytes of 1 to 9 as its own parameters, and 15 more that it doesn't count. */
 static void begin(void) {
     const felosumay_parameter number = {1, 9, 0x8000, FELOSUMAY_DS_UNSIGNED_BYTE, FELOSUMAY_CC_GET_SET, 0, 0, 0, 1,
-                                        {1, {5}}, FELOSUMAY_TEXT("Number")};
+                                        {1, {5}}, FELOSUMAY_TEXT("Number"), FELOSUMAY_NO_FIELDS};
     memset(&profile, 0, sizeof profile);
     profile.root.personality_count = profile.sub.personality_count = 1;
     profile.root.start = profile.sub.start = 1;

@@ -130,16 +130,36 @@ enum {
     FELOSUMAY_DS_UNSIGNED_WORD = 0x05,
     FELOSUMAY_DS_SIGNED_WORD = 0x06,
     FELOSUMAY_DS_UNSIGNED_DWORD = 0x07,
-    FELOSUMAY_DS_SIGNED_DWORD = 0x08
+    FELOSUMAY_DS_SIGNED_DWORD = 0x08,
+    /* None of table A-15: of parameters of E1.37-1, which PARAMETER_DESCRIPTION doesn't describe. */
+    FELOSUMAY_DS_CHOICE = 0xF0, /* the number of one of several things, from low, which is 1, to high; its GET has high behind */
+    FELOSUMAY_DS_NAMES = 0xF1,  /* no data: it tells what these are called, whose PID is the one before */
+    FELOSUMAY_DS_RATES = 0xF2   /* the same, with a frequency of each */
 };
 enum { FELOSUMAY_CC_GET = 0x01, FELOSUMAY_CC_SET = 0x02, FELOSUMAY_CC_GET_SET = 0x03 };
+
+/* One of the numbers in the slots of a parameter, one after another, the most significant byte first. */
+typedef struct {
+    uint32_t low; /* the least and the greatest number that it can be */
+    uint32_t high;
+    uint32_t also; /* one more number that it can be, as 0xFFFF for a time without end; if there is none, `low` again */
+    uint8_t slots; /* 1, 2 or 4 */
+} felosumay_field;
+
+/* What one of several things is called of which one is chosen. */
+typedef struct {
+    uint32_t hertz; /* the frequency, if it is one */
+    uint16_t pid;   /* that of the parameter that tells it, of kind DS_NAMES or DS_RATES */
+    uint8_t number; /* from 1 */
+    felosumay_text name;
+} felosumay_choice;
 
 /* A parameter of the maker's own, which the root has (section 10.4.2). PARAMETER_DESCRIPTION tells all but `resets` of those of
  * 0x8000 to 0xFFDF. Its values are in `unit`, times what `prefix` stands for. */
 typedef struct {
     int64_t low; /* the least and the greatest number that it takes: numbers of its type, or of other data without meaning */
     int64_t high;
-    uint16_t pid;     /* 0x8000 to 0xFFDF, or 0x0070, 0x0340, 0x0341, 0x0342 or 0x1040 of the standards; no two alike */
+    uint16_t pid;     /* 0x8000 to 0xFFDF, or one of the standards' that docs/PARAMETERS.md lends; no two alike */
     uint8_t kind;     /* the type of its data, FELOSUMAY_DS_.. */
     uint8_t commands; /* FELOSUMAY_CC_.. */
     uint8_t size;     /* how many slots a bit field or data of no defined type have: 0 to 32; of other types without meaning */
@@ -148,7 +168,12 @@ typedef struct {
     uint8_t resets;   /* 1 if FACTORY_DEFAULTS sets it back, as a setting; 0 if it doesn't, as of a counter */
     felosumay_text start; /* what it starts with: the data of a SET, in its range, the most significant byte first */
     felosumay_text name;
+    uint8_t field_count;       /* how many numbers the slots of data of no defined type say: 0 to 8, and 0 if that is told elsewhere */
+    felosumay_field fields[8]; /* they take all of its slots */
 } felosumay_parameter;
+
+/* The last two fields of a parameter whose slots say no numbers, in an initializer. */
+#define FELOSUMAY_NO_FIELDS 0, {{0, 0, 0, 0}}
 
 typedef struct {
     uint32_t software; /* the software version ID: any number */
@@ -210,6 +235,8 @@ typedef struct {
     size_t without_count;                  /* 0 to 36 */
     felosumay_estimates estimates;         /* how long slow commands take */
     felosumay_workers workers;             /* and which worker carries them out */
+    const felosumay_choice *choices;       /* the names of choices, by ascending PID and number; NULL if there are none */
+    size_t choice_count;                   /* 0 to 64 */
 } felosumay_profile;
 
 /* The rules of a profile, in the order in which they are tested. BAD_PROFILE says that one of them is broken. */
@@ -231,7 +258,10 @@ enum {
     FELOSUMAY_FAULT_PARAMETER_PID = 14,     /* each has a PID that is free for it, and no two the same */
     FELOSUMAY_FAULT_PARAMETER_LIMITS = 15,  /* kind and commands are of those above; size is at most 32; low and high fit, in order */
     FELOSUMAY_FAULT_PARAMETER_START = 16,   /* start has as many bytes as the data, and is in range */
-    FELOSUMAY_FAULT_PARAMETER_ORDER = 17    /* their PIDs ascend */
+    FELOSUMAY_FAULT_PARAMETER_ORDER = 17,   /* their PIDs ascend */
+    FELOSUMAY_FAULT_PARAMETER_FIELDS = 18,  /* the fields of each take all of its slots, and can say their limits, in order */
+    FELOSUMAY_FAULT_PARAMETER_STANDARD = 19, /* one of a standard has the commands and the data of it, or fewer commands */
+    FELOSUMAY_FAULT_PARAMETER_NAMES = 20    /* each choice has its names, each name its choice; CURVE has as many as DIMMER_INFO */
 };
 
 /* Which rule the profile breaks: the first of them, or NO_FAULT, and then `new` doesn't call it a BAD_PROFILE. */
@@ -301,17 +331,19 @@ felosumay_result felosumay_responder_demo(felosumay_responder *responder, uint16
 
 /* How many bytes of memory a responder takes with room for so many messages and jobs and status entries, and with so many
  * sub-devices, each block rounded up to 16 bytes: `new` asks the heap for no more, and no later call asks it for any.
- * FELOSUMAY_RESPONDER_BYTES is the same as a constant, for the size of an array. A profile with so many parameters of
- * the maker's own takes FELOSUMAY_OWN_PARAMETERS_BYTES more. `fits` says whether a responder of this size has
- * room in so many bytes of memory from this address on, as felosumay_memory.h makes one: UNALIGNED, SHORT_MEMORY, in this order.
- * Any sizes are reckoned with, and it is `new` that calls one a BAD_SIZE. */
+ * FELOSUMAY_RESPONDER_BYTES is the same as a constant, for the size of an array. A profile with so many parameters of the
+ * maker's own takes FELOSUMAY_OWN_PARAMETERS_BYTES more, and one with so many names of choices FELOSUMAY_CHOICES_BYTES.
+ * `fits` says whether a responder of this size has room in so many bytes of memory from this address on, as
+ * felosumay_memory.h makes one: UNALIGNED, SHORT_MEMORY, in this order. Any sizes are reckoned with, and it is `new` that
+ * calls one a BAD_SIZE. */
 size_t felosumay_responder_size(uint16_t queue_size, uint16_t entries, uint16_t sub_devices);
 felosumay_result felosumay_responder_fits(uintptr_t address, size_t bytes, uint16_t queue_size, uint16_t entries,
                                           uint16_t sub_devices);
 #define FELOSUMAY_ROUNDED(bytes) (((size_t)(bytes) + 15) / 16 * 16)
-#define FELOSUMAY_OWN_PARAMETERS_BYTES(count) ((count) == 0 ? (size_t)0 : FELOSUMAY_ROUNDED(1928) + 48 * (size_t)(count))
+#define FELOSUMAY_OWN_PARAMETERS_BYTES(count) ((count) == 0 ? (size_t)0 : FELOSUMAY_ROUNDED(4104) + 48 * (size_t)(count))
+#define FELOSUMAY_CHOICES_BYTES(count) ((count) == 0 ? (size_t)0 : FELOSUMAY_ROUNDED(3080))
 #define FELOSUMAY_RESPONDER_BYTES(queue_size, entries, sub_devices)                                                             \
-    (FELOSUMAY_ROUNDED(5968) + FELOSUMAY_ROUNDED(64 * (size_t)(sub_devices)) + 2 * FELOSUMAY_ROUNDED(12 * (size_t)(queue_size)) + \
+    (FELOSUMAY_ROUNDED(5984) + FELOSUMAY_ROUNDED(64 * (size_t)(sub_devices)) + 2 * FELOSUMAY_ROUNDED(12 * (size_t)(queue_size)) + \
      FELOSUMAY_ROUNDED(248 * (size_t)(queue_size)) + FELOSUMAY_ROUNDED(9 * (size_t)(entries)))
 
 /* Hears bytes. If there is a reply, it stands at the front of `reply`; the answer to discovery is a reply like any other,
@@ -558,7 +590,7 @@ felosumay_result felosumay_search_found(const felosumay_search *search, size_t i
 void felosumay_search_free(felosumay_search *search);
 
 /* ---- how nothing is passed. The library takes no NULL for what it reads, even if the length is 0. So each call above that reads
- * bytes, or the two lists of a profile, is an inline function over one of the library's, whose name ends in `_nonnull`: if the length
+ * bytes, or the lists of a profile, is an inline function over one of the library's, whose name ends in `_nonnull`: if the length
  * is 0, it passes the address of something in the place of what came. Other languages call those, and pass a valid address too. */
 
 /* The address of so many things. If there are none, it is that of something else, and never NULL. */
@@ -575,34 +607,41 @@ static inline const felosumay_parameter *felosumay_parameters_of(const felosumay
 static inline const uint16_t *felosumay_without_of(const felosumay_profile *profile) {
     return (const uint16_t *)felosumay_address(profile->without, profile->without_count);
 }
+static inline const felosumay_choice *felosumay_choices_of(const felosumay_profile *profile) {
+    return (const felosumay_choice *)felosumay_address(profile->choices, profile->choice_count);
+}
 
 uint8_t felosumay_profile_fault_nonnull(const felosumay_profile *profile, const felosumay_parameter *parameters,
-                                        size_t parameter_count, const uint16_t *without, size_t without_count);
+                                        size_t parameter_count, const uint16_t *without, size_t without_count,
+                                        const felosumay_choice *choices, size_t choice_count);
 static inline uint8_t felosumay_profile_fault(const felosumay_profile *profile) {
     return felosumay_profile_fault_nonnull(profile, felosumay_parameters_of(profile), profile->parameter_count,
-                                           felosumay_without_of(profile), profile->without_count);
+                                           felosumay_without_of(profile), profile->without_count, felosumay_choices_of(profile),
+                                           profile->choice_count);
 }
 
 felosumay_result felosumay_responder_new_nonnull(felosumay_responder *responder, uint16_t maker, uint32_t device,
                                                  const felosumay_profile *profile, const felosumay_parameter *parameters,
                                                  size_t parameter_count, const uint16_t *without, size_t without_count,
-                                                 uint16_t queue_size);
+                                                 const felosumay_choice *choices, size_t choice_count, uint16_t queue_size);
 static inline felosumay_result felosumay_responder_new(felosumay_responder *responder, uint16_t maker, uint32_t device,
                                                        const felosumay_profile *profile, uint16_t queue_size) {
     return felosumay_responder_new_nonnull(responder, maker, device, profile, felosumay_parameters_of(profile), profile->parameter_count,
-                                           felosumay_without_of(profile), profile->without_count, queue_size);
+                                           felosumay_without_of(profile), profile->without_count, felosumay_choices_of(profile),
+                                           profile->choice_count, queue_size);
 }
 
 felosumay_result felosumay_responder_new_with_nonnull(felosumay_responder *responder, uint16_t maker, uint32_t device,
                                                       const felosumay_profile *profile, const felosumay_parameter *parameters,
                                                       size_t parameter_count, const uint16_t *without, size_t without_count,
-                                                      uint16_t queue_size, uint16_t entries, uint32_t first_job);
+                                                      const felosumay_choice *choices, size_t choice_count, uint16_t queue_size,
+                                                      uint16_t entries, uint32_t first_job);
 static inline felosumay_result felosumay_responder_new_with(felosumay_responder *responder, uint16_t maker, uint32_t device,
                                                             const felosumay_profile *profile, uint16_t queue_size, uint16_t entries,
                                                             uint32_t first_job) {
     return felosumay_responder_new_with_nonnull(responder, maker, device, profile, felosumay_parameters_of(profile),
                                                 profile->parameter_count, felosumay_without_of(profile), profile->without_count,
-                                                queue_size, entries, first_job);
+                                                felosumay_choices_of(profile), profile->choice_count, queue_size, entries, first_job);
 }
 
 felosumay_result felosumay_responder_step_nonnull(felosumay_responder *responder, const uint8_t *bytes, size_t length,

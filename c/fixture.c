@@ -31,6 +31,8 @@ static const felosumay_profile PROFILE = {
     /* the usual times and workers of slow commands */
     {0, 0, 0, 0},
     {0, 0, 0, 0},
+    /* no names of choices */
+    NULL, 0,
 };
 
 static void print_bytes(const char *what, const uint8_t *bytes, size_t count) {

@@ -88,6 +88,37 @@ static void own_parameters(void) {
     profile.parameter_count = 0;
 }
 
+/* One with names of choices takes more, too. */
+static void names_of_choices(void) {
+    static felosumay_parameter own[2];
+    static felosumay_choice name;
+    const size_t more = FELOSUMAY_RESPONDER_BYTES(2, 1, 0) + FELOSUMAY_OWN_PARAMETERS_BYTES(2) + FELOSUMAY_CHOICES_BYTES(1);
+    felosumay_responder responder = {0};
+    own[0].pid = FELOSUMAY_PID_OUTPUT_RESPONSE_TIME;
+    own[0].kind = FELOSUMAY_DS_CHOICE;
+    own[0].commands = FELOSUMAY_CC_GET_SET;
+    own[0].low = own[0].high = 1;
+    own[0].start.count = 1;
+    own[0].start.bytes[0] = 1;
+    own[1].pid = FELOSUMAY_PID_OUTPUT_RESPONSE_TIME_DESCRIPTION;
+    own[1].kind = FELOSUMAY_DS_NAMES;
+    own[1].commands = FELOSUMAY_CC_GET;
+    name.pid = FELOSUMAY_PID_OUTPUT_RESPONSE_TIME_DESCRIPTION;
+    name.number = 1;
+    profile.parameters = own;
+    profile.parameter_count = 2;
+    profile.choices = &name;
+    profile.choice_count = 1;
+    expect("names of choices, a byte less", make(&responder, memory, more - 1, 2, 1), FELOSUMAY_OUT_OF_MEMORY);
+    expect("names of choices", make(&responder, memory, more, 2, 1), FELOSUMAY_DONE);
+    if (felosumay_arenas != NULL)
+        expect("what names of choices leave", (unsigned)(felosumay_arenas->end - felosumay_arenas->free), 0);
+    felosumay_responder_free(&responder);
+    profile.parameters = NULL;
+    profile.choices = NULL;
+    profile.parameter_count = profile.choice_count = 0;
+}
+
 /* What is refused, and leaves the memory free. */
 static void refusals(void) {
     felosumay_responder responder = {0};
@@ -164,6 +195,7 @@ int main(void) {
     profile.language_count = 1;
     sizes();
     own_parameters();
+    names_of_choices();
     refusals();
     in_use();
     numbers();

@@ -17,32 +17,36 @@ static felosumay_result look(const void *address, size_t count) {
     return FELOSUMAY_DONE;
 }
 
-/* Both lists of a profile. */
-static felosumay_result look_at_both(const void *parameters, size_t parameter_count, const void *without, size_t without_count) {
+/* The three lists of a profile. */
+static felosumay_result look_at_lists(const void *parameters, size_t parameter_count, const void *without, size_t without_count,
+                                      const void *choices, size_t choice_count) {
     look(parameters, parameter_count);
-    return look(without, without_count);
+    look(without, without_count);
+    return look(choices, choice_count);
 }
 
 uint8_t felosumay_profile_fault_nonnull(const felosumay_profile *profile, const felosumay_parameter *parameters,
-                                        size_t parameter_count, const uint16_t *without, size_t without_count) {
+                                        size_t parameter_count, const uint16_t *without, size_t without_count,
+                                        const felosumay_choice *choices, size_t choice_count) {
     (void)profile;
-    return look_at_both(parameters, parameter_count, without, without_count);
+    return look_at_lists(parameters, parameter_count, without, without_count, choices, choice_count);
 }
 
 felosumay_result felosumay_responder_new_nonnull(felosumay_responder *responder, uint16_t maker, uint32_t device,
                                                  const felosumay_profile *profile, const felosumay_parameter *parameters,
                                                  size_t parameter_count, const uint16_t *without, size_t without_count,
-                                                 uint16_t queue_size) {
+                                                 const felosumay_choice *choices, size_t choice_count, uint16_t queue_size) {
     (void)responder, (void)maker, (void)device, (void)profile, (void)queue_size;
-    return look_at_both(parameters, parameter_count, without, without_count);
+    return look_at_lists(parameters, parameter_count, without, without_count, choices, choice_count);
 }
 
 felosumay_result felosumay_responder_new_with_nonnull(felosumay_responder *responder, uint16_t maker, uint32_t device,
                                                       const felosumay_profile *profile, const felosumay_parameter *parameters,
                                                       size_t parameter_count, const uint16_t *without, size_t without_count,
-                                                      uint16_t queue_size, uint16_t entries, uint32_t first_job) {
+                                                      const felosumay_choice *choices, size_t choice_count, uint16_t queue_size,
+                                                      uint16_t entries, uint32_t first_job) {
     (void)responder, (void)maker, (void)device, (void)profile, (void)queue_size, (void)entries, (void)first_job;
-    return look_at_both(parameters, parameter_count, without, without_count);
+    return look_at_lists(parameters, parameter_count, without, without_count, choices, choice_count);
 }
 
 felosumay_result felosumay_responder_step_nonnull(felosumay_responder *responder, const uint8_t *bytes, size_t length,
@@ -120,7 +124,8 @@ static void call_each(void) {
     size_t count = passed_count;
     profile.parameters = (const felosumay_parameter *)passed;
     profile.without = (const uint16_t *)passed;
-    profile.parameter_count = profile.without_count = count;
+    profile.choices = (const felosumay_choice *)passed;
+    profile.parameter_count = profile.without_count = profile.choice_count = count;
     felosumay_profile_fault(&profile);
     felosumay_responder_new(NULL, 0, 0, &profile, 0);
     felosumay_responder_new_with(NULL, 0, 0, &profile, 0, 0, 0);
@@ -146,7 +151,7 @@ int main(void) {
     passed = parameters;
     passed_count = 2;
     call_each();
-    if (calls != 4 * 17)
-        printf("%d calls, not 4 times 17\n", calls);
-    return wrong != 0 || calls != 4 * 17;
+    if (calls != 4 * 20)
+        printf("%d calls, not 4 times 20\n", calls);
+    return wrong != 0 || calls != 4 * 20;
 }

@@ -10,11 +10,11 @@ enum { MAKER = 0x7FF0, FIXTURE = 1, CONSOLE = 2, COLOUR_TEMPERATURE = 0x8000, FA
 /* By ascending PID. The unit of E1.20 for kelvin is none. FACTORY_DEFAULTS sets back the settings, and leaves the counter. */
 static const felosumay_parameter PARAMETERS[] = {
     {2700, 6500, COLOUR_TEMPERATURE, FELOSUMAY_DS_UNSIGNED_WORD, FELOSUMAY_CC_GET_SET, 0, FELOSUMAY_UNITS_NONE,
-     FELOSUMAY_PREFIX_NONE, 1, {2, {0x0C, 0x80}}, FELOSUMAY_TEXT("Colour temperature")},
+     FELOSUMAY_PREFIX_NONE, 1, {2, {0x0C, 0x80}}, FELOSUMAY_TEXT("Colour temperature"), FELOSUMAY_NO_FIELDS},
     {0, 2, FAN_MODE, FELOSUMAY_DS_UNSIGNED_BYTE, FELOSUMAY_CC_GET_SET, 0, FELOSUMAY_UNITS_NONE, FELOSUMAY_PREFIX_NONE, 1,
-     {1, {0x01}}, FELOSUMAY_TEXT("Fan mode")},
+     {1, {0x01}}, FELOSUMAY_TEXT("Fan mode"), FELOSUMAY_NO_FIELDS},
     {0, 4294967295, FLASHES, FELOSUMAY_DS_UNSIGNED_DWORD, FELOSUMAY_CC_GET, 0, FELOSUMAY_UNITS_NONE, FELOSUMAY_PREFIX_NONE, 0,
-     {4, {0x00, 0x00, 0x00, 0x00}}, FELOSUMAY_TEXT("Flashes")},
+     {4, {0x00, 0x00, 0x00, 0x00}}, FELOSUMAY_TEXT("Flashes"), FELOSUMAY_NO_FIELDS},
 };
 
 /* What an LED wash hasn't. */
@@ -44,6 +44,8 @@ static const felosumay_profile PROFILE = {
     /* the usual times and workers of slow commands */
     {0, 0, 0, 0},
     {0, 0, 0, 0},
+    /* no names of choices */
+    NULL, 0,
 };
 
 /* Asks the fixture, and prints its reply. */

@@ -1,6 +1,7 @@
 /* The rules of a profile, as docs/C.md counts them: what each allows at its limit, and what it refuses beyond. It prints
  * what differs, and then ends with status 1. */
 #include "felosumay.h"
+#include "felosumay_names.h"
 #include <stdio.h>
 #include <string.h>
 
@@ -132,8 +133,8 @@ static felosumay_parameter *own(size_t count, uint8_t kind, uint8_t slots) {
 }
 
 static void own_pids(void) {
-    static const uint16_t lent[] = {0x8000, 0xFFDF, 0x0070, 0x0340, 0x0341, 0x0342, 0x1040},
-                          taken[] = {0x0000, 0x0050, 0x0051, 0x0343, 0x7FFF, 0xFFE0};
+    static const uint16_t lent[] = {0x8000, 0xFFDF, 0x0440, 0x1040, 0x1043, 0x1044},
+                          taken[] = {0x0000, 0x0050, 0x0051, 0x0140, 0x0640, 0x7FFF, 0xFFE0};
     own(16, FELOSUMAY_DS_UNSIGNED_BYTE, 1);
     expect(13, "16 of them", FELOSUMAY_DONE);
     profile.parameter_count = 17;
@@ -201,6 +202,72 @@ static void own_data(void) {
     expect(15, "other commands", FELOSUMAY_BAD_PROFILE);
 }
 
+/* The numbers that slots say. */
+static void fields(void) {
+    felosumay_parameter *parameter = own(1, FELOSUMAY_DS_NOT_DEFINED, 3);
+    parameter->fields[0].slots = 1;
+    parameter->fields[0].high = 255;
+    parameter->fields[1].slots = 2;
+    parameter->fields[1].high = 65535;
+    parameter->field_count = 2;
+    expect(18, "numbers in all slots", FELOSUMAY_DONE);
+    parameter->field_count = 1;
+    expect(18, "numbers in some slots", FELOSUMAY_BAD_PROFILE);
+    parameter->field_count = 2;
+    parameter->fields[0].high = 256;
+    expect(18, "a number that one slot can't say", FELOSUMAY_BAD_PROFILE);
+    parameter->fields[0].low = 2;
+    parameter->fields[0].high = 1;
+    expect(18, "the greatest number below the least", FELOSUMAY_BAD_PROFILE);
+    parameter->fields[0].slots = 3;
+    expect(15, "a number of three slots", FELOSUMAY_BAD_PROFILE);
+    parameter->field_count = 9;
+    expect(15, "nine numbers", FELOSUMAY_BAD_PROFILE);
+}
+
+/* Parameters that are as their standard says. */
+static void standards(void) {
+    own(1, FELOSUMAY_DS_NOT_DEFINED, 5)->pid = FELOSUMAY_PID_MINIMUM_LEVEL;
+    expect(19, "MINIMUM_LEVEL", FELOSUMAY_DONE);
+    parameters[0].commands = FELOSUMAY_CC_GET;
+    expect(19, "MINIMUM_LEVEL that isn't set", FELOSUMAY_DONE);
+    own(1, FELOSUMAY_DS_NOT_DEFINED, 4)->pid = FELOSUMAY_PID_MINIMUM_LEVEL;
+    expect(19, "MINIMUM_LEVEL of four slots", FELOSUMAY_BAD_PROFILE);
+    own(1, FELOSUMAY_DS_NOT_DEFINED, 11)->pid = FELOSUMAY_PID_DIMMER_INFO;
+    expect(19, "DIMMER_INFO that is set", FELOSUMAY_BAD_PROFILE);
+    parameters[0].commands = FELOSUMAY_CC_GET;
+    expect(19, "DIMMER_INFO", FELOSUMAY_DONE);
+}
+
+/* A choice, and what its things are called. */
+static void names(void) {
+    static felosumay_choice choices[65];
+    own(2, FELOSUMAY_DS_NAMES, 0);
+    parameters[0].pid = FELOSUMAY_PID_OUTPUT_RESPONSE_TIME;
+    parameters[0].kind = FELOSUMAY_DS_CHOICE;
+    parameters[0].low = parameters[0].high = 1;
+    parameters[0].start.count = 1;
+    parameters[0].start.bytes[0] = 1;
+    parameters[1].pid = FELOSUMAY_PID_OUTPUT_RESPONSE_TIME_DESCRIPTION;
+    parameters[1].commands = FELOSUMAY_CC_GET;
+    for (size_t i = 0; i < sizeof choices / sizeof *choices; i++) {
+        choices[i].pid = FELOSUMAY_PID_OUTPUT_RESPONSE_TIME_DESCRIPTION;
+        choices[i].number = (uint8_t)(i + 1);
+    }
+    profile.choices = choices;
+    expect(20, "a thing without its name", FELOSUMAY_BAD_PROFILE);
+    profile.choice_count = 1;
+    expect(20, "a thing with its name", FELOSUMAY_DONE);
+    profile.choice_count = 2;
+    expect(20, "a name without its thing", FELOSUMAY_BAD_PROFILE);
+    parameters[0].high = 64;
+    profile.choice_count = 64;
+    expect(20, "64 names", FELOSUMAY_DONE);
+    parameters[0].high = 65;
+    profile.choice_count = 65;
+    expect(20, "65 names", FELOSUMAY_BAD_PROFILE);
+}
+
 int main(void) {
     numbers();
     unit(&profile.root, "the root");
@@ -210,5 +277,8 @@ int main(void) {
     left_out();
     own_pids();
     own_data();
+    fields();
+    standards();
+    names();
     return failed;
 }

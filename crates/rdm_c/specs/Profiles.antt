@@ -1,5 +1,5 @@
--- The profile that a plain struct of C's stands for, and two lists that lie outside of it: the parameters of the maker's own, and the
--- PIDs of those that are left out. A count that is greater than its array stands for the whole array.
+-- The profile that a plain struct of C's stands for, and three lists that lie outside of it: the parameters of the maker's own, the PIDs
+-- of those that are left out, and the names of choices. A count that is greater than its array stands for the whole array.
 use Rattle.std.specs.Prelude.{ℕ, List, [], ◌==◌, not, map, take, if◌then◌else◌}
 use Rattle.rdm_device.specs.declared.profile.Personality.{Personality}
 use Rattle.rdm_device.specs.declared.profile.Profile.{Profile}
@@ -25,7 +25,8 @@ use Rattle.rdm_c.specs.declared.profile.slow.WorkersNumbers.{WorkersNumbers}
 use Rattle.rdm_c.specs.declared.profile.UnitNumbers.{UnitNumbers}
 use Rattle.rdm_c.specs.declared.profile.ProfileNumbers.{ProfileNumbers}
 use Rattle.rdm_c.specs.declared.profile.parameters.ParameterNumbers.{ParameterNumbers}
-use Rattle.rdm_c.specs.Parameters.{parameter_in}
+use Rattle.rdm_c.specs.declared.profile.parameters.ChoiceNumbers.{ChoiceNumbers}
+use Rattle.rdm_c.specs.Parameters.{parameter_in, choice_in}
 use Rattle.rdm_c.specs.Texts.{text_in}
 
 abbrev pub personality_in : PersonalityNumbers → Personality
@@ -91,7 +92,7 @@ unit_in u = record {
   start = u.start;
 }
 
--- the profile of the struct alone: no parameter is the maker's own, and none is left out
+-- the profile of the struct alone: no parameter is the maker's own, none is left out, and there are no names of choices
 abbrev pub plain_profile_in : ProfileNumbers → Profile
 plain_profile_in p = record {
   root = unit_in p.root;
@@ -106,12 +107,14 @@ plain_profile_in p = record {
   status_texts = record { items = map status_text_in (take p.status_text_count p.status_texts) };
   presets = p.presets;
   own = [];
+  choices = [];
   without = record { items = [] };
   more_slots = p.more_slots;
   estimates = estimates_in p.estimates;
   workers = workers_in p.workers;
 }
 
--- the profile of the struct and of the two lists
-abbrev pub profile_in : ProfileNumbers → List ParameterNumbers → List ℕ → Profile
-profile_in p parameters without = with_parameters (plain_profile_in p) without (map parameter_in parameters)
+-- the profile of the struct and of the three lists
+abbrev pub profile_in : ProfileNumbers → List ParameterNumbers → List ℕ → List ChoiceNumbers → Profile
+profile_in p parameters without choices =
+    with_parameters (plain_profile_in p) without (map parameter_in parameters) (map choice_in choices)

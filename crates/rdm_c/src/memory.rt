@@ -3,10 +3,16 @@
 ghost use Rattle.std.specs.Prelude.{◌≡◌, ◌<◌};
 ghost use Rattle.rdm_c.specs.Memory.{memory_size, memory_status, rounded};
 
+use crate::endpoint::Endpoint;
 use crate::status::Status;
+use arrayvec::ArrayVec;
+use rdm_device::{ChoiceName, CommonValues, ParameterDef, Profile};
+use rdm_outbox::Job;
+use rdm_params::Message;
+use std::mem::size_of;
 
 /// How many bytes the profile takes.
-const PROFILE: usize = 4784;
+const PROFILE: usize = 4800;
 
 /// How many bytes a sub-device takes.
 const SUB_DEVICE: usize = 64;
@@ -28,6 +34,21 @@ const HEAD: usize = 32;
 
 /// A block begins at a multiple of this.
 const ALIGNMENT: usize = 16;
+
+const _: () = prove!(size_of::<Profile>() == PROFILE);
+
+const _: () = prove!(size_of::<CommonValues>() == SUB_DEVICE);
+
+const _: () = prove!(size_of::<Job>() == JOB);
+
+const _: () = prove!(size_of::<Message>() == MESSAGE);
+
+const _: () = prove!(size_of::<Endpoint>() == RESPONDER);
+
+// What the header's macros say of the lists that few profiles have.
+const _: () = prove!(size_of::<ArrayVec<ParameterDef, 16>>() == 4104);
+
+const _: () = prove!(size_of::<ArrayVec<ChoiceName, 64>>() == 3080);
 
 /// How many bytes of memory a responder takes with room for so many results of slow commands and status entries, and with so
 /// many sub-devices.

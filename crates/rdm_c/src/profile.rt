@@ -10,7 +10,7 @@ ghost use Rattle.rdm_device.specs.Device.Faults.{with_parameters};
 ghost use Rattle.rdm_c.specs.Profiles.{personality_in, slot_in, sensor_in, test_in, status_text_in, unit_in, plain_profile_in};
 ghost use Rattle.rdm_c.specs.Texts.{text_in};
 
-use crate::profile::parameters::ParameterNumbers;
+use crate::profile::parameters::{ChoiceNumbers, ParameterNumbers};
 use crate::profile::slow::{EstimatesNumbers, WorkersNumbers};
 use rdm_frame::Text;
 use rdm_params::{Personality, Profile, SelfTest, SensorDef, Slot, StatusText, Unit};
@@ -123,7 +123,7 @@ pub struct UnitNumbers {
 
 /// What a root device and its sub-devices are made with. The header calls it `felosumay_profile`.
 ///
-/// Its two pointers are never followed: a call that takes a profile takes the lists to which they point as slices beside it.
+/// Its three pointers are never followed: a call that takes a profile takes the lists to which they point as slices beside it.
 #[repr(C)]
 pub struct ProfileNumbers {
     /// The root device.
@@ -172,6 +172,10 @@ pub struct ProfileNumbers {
     pub estimates: EstimatesNumbers,
     /// Which worker carries out which of them.
     pub workers: WorkersNumbers,
+    /// Where the names lie of the things of which parameters let choose one.
+    pub choices: *const ChoiceNumbers,
+    /// How many there are.
+    pub choice_count: usize,
 }
 
 impl TextNumbers {
@@ -272,9 +276,10 @@ impl UnitNumbers {
 }
 
 impl ProfileNumbers {
-    /// Makes a profile this one, but for the parameters that are left out and those of the maker's own, which stay.
+    /// Makes a profile this one, but for the parameters that are left out, those of the maker's own, and the names of choices, which
+    /// stay.
     pub(crate) fn write(&self, profile: &mut Profile)
-        ensures { profile.new ≡ with_parameters (plain_profile_in self.now) profile.old.without.items profile.old.own }
+        ensures { profile.new ≡ with_parameters (plain_profile_in self.now) profile.old.without.items profile.old.own profile.old.choices }
     {
         self.root.write(&mut profile.root);
         self.sub.write(&mut profile.sub);

@@ -1,6 +1,8 @@
 pub mod Added
+pub mod ChoiceSteps
 pub mod DemoLemmas
 pub mod Faults
+pub mod FieldSteps
 pub mod ListSteps
 pub mod Maps
 pub mod SensorReads

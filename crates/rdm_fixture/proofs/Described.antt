@@ -19,7 +19,7 @@ use Rattle.rdm_fixture.specs.Values.{number, signed, uid, own_uid, language, lan
 use Rattle.rdm_fixture.specs.Keys.{may, must, OfTable, Lists}
 use Rattle.rdm_fixture.specs.Outcomes.{IsOutcome, severity, only_number, done, failed, failed_in, outcome_at}
 use Rattle.rdm_fixture.specs.Parameters.{IsParameter}
-use Rattle.rdm_fixture.specs.Format.{IsPersonality, IsSlot, IsSensor, IsSelfTest, IsStatus, IsUnit, SubDevices, LanguagesAt, IsProfile}
+use Rattle.rdm_fixture.specs.Format.{IsPersonality, IsSlot, IsSensor, IsSelfTest, IsStatus, IsChoice, IsUnit, SubDevices, LanguagesAt, IsProfile}
 use Rattle.rdm_fixture.specs.Describes.{Describes}
 use Rattle.rdm_fixture.specs.Describable.{are_printable, HasPrintableUnit, HasPrintableTexts, is_coded, is_counted, is_base_form, is_told, is_ruled, is_sayable, CanBeDescribed}
 use Rattle.rdm_fixture.proofs.Made.{made, number_range, may_most, all_said, all_at, of_table}
@@ -86,6 +86,9 @@ printable_texts t p h = record {
   statuses = all_at _ (λ s. IsTrue (are_printable s.text))
       (of_table IsStatus (λ s. IsTrue (are_printable s.text)) (λ m s said. printable_at m (codes "description") _ said.text))
       (get_member (codes "status") t) _ h.statuses.items;
+  choices = all_at _ (λ c. IsTrue (are_printable c.name))
+      (of_table IsChoice (λ c. IsTrue (are_printable c.name)) (λ m c said. printable_at m (codes "description") _ said.name))
+      (get_member (codes "choice") t) _ h.choices.items;
 }
 
 -- ---- the languages

@@ -17,6 +17,7 @@ pub mod WrongRules
 pub mod Fields
 pub mod Texts
 pub mod WrittenLists
+pub mod ChoiceNumbers
 pub mod Said
 pub mod WrittenEntries
 pub mod WrittenUnits

@@ -9,7 +9,8 @@ use Rattle.rdm_device.specs.declared.profile.Profile.{Profile}
 use Rattle.rdm_device.specs.declared.profile.SelfTest.{SelfTest}
 use Rattle.rdm_device.specs.declared.profile.own.ParameterDef.{ParameterDef}
 use Rattle.rdm_device.specs.declared.profile.Unit.{Unit as DeviceUnit}
-use Rattle.rdm_device.specs.Device.OwnParameters.{is_addable, has_limits, can_start}
+use Rattle.rdm_device.specs.Device.OwnParameters.{is_addable, has_limits, can_start, has_good_fields}
+use Rattle.rdm_device.specs.Device.Standards.{follows}
 use Rattle.rdm_device.specs.Device.Profiles.{IsGoodUnit, CanBeMade}
 use Rattle.toml.specs.Data.{Data, string, integer, float, boolean, datetime, array, table, Items, no_items, item, Members, get_member}
 use Rattle.rdm_fixture.specs.Values.{number}
@@ -17,7 +18,7 @@ use Rattle.rdm_fixture.specs.Keys.{may, must, OfTable, EachIs, ListAt}
 use Rattle.rdm_fixture.specs.Format.{IsPersonality, IsSelfTest, IsUnit, SubDevices, LanguagesAt, IsProfile, slot_count, root_slots}
 use Rattle.rdm_fixture.specs.Parameters.{IsParameter}
 use Rattle.rdm_fixture.proofs.ListEntries.{slot_count-of}
-use Rattle.rdm_fixture.proofs.SaidParameters.{free_pid, good_limits, good_start}
+use Rattle.rdm_fixture.proofs.SaidParameters.{free_pid, good_limits}
 
 -- ---- numbers
 
@@ -163,8 +164,11 @@ made t p h =
             λ i j d less within same. let below = h.own_ascend i j d less within in absurd (omega (arith, below, same)),
           );
           limits = all_parameters (λ d. IsTrue (has_limits d.shape d.low d.high)) good_limits t _ h.own.items;
-          starts = all_parameters (λ d. IsTrue (can_start d)) good_start t _ h.own.items;
+          starts = all_parameters (λ d. IsTrue (can_start d)) (λ s d said. said.start) t _ h.own.items;
           ascending = h.own_ascend;
+          fields = all_parameters (λ d. IsTrue (has_good_fields d)) (λ s d said. said.fields) t _ h.own.items;
+          standards = all_parameters (λ d. IsTrue (follows d)) (λ s d said. said.standard) t _ h.own.items;
+          agree = h.agree;
         };
         without = h.may_lack;
       },

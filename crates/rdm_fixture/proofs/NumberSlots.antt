@@ -7,10 +7,12 @@ use Rattle.std.proofs.lemmas.Bool.{and_from, and_parts, leb-true, le-leb, eqb-tr
 use Rattle.std.proofs.lemmas.Int.{ints, to_z-of_z, to_z_pos}
 use Rattle.std.proofs.lemmas.Nat.{be_bytes_2, be_bytes_4, from_be_bytes-to_be_bytes_2, from_be_bytes-to_be_bytes_4}
 use Rattle.std.proofs.lemmas.Option.{same_Some}
+use Rattle.rdm_device.specs.declared.profile.fields.Field.{Field}
 use Rattle.rdm_device.specs.declared.profile.own.ParameterDef.{ParameterDef}
 use Rattle.rdm_device.specs.declared.profile.own.Shape.{Shape}
 use Rattle.rdm_device.specs.declared.profile.own.Shape.TheVariants as shapes
 use Rattle.rdm_device.specs.Columns.Forms.{has_length, value_in, value_of, has_form}
+use Rattle.rdm_device.specs.Device.Fields.{says}
 use Rattle.rdm_device.specs.Device.OwnParameters.{form_of, number_in, has_number, can_start}
 use Rattle.rdm_device.specs.Device.Values.{word_slots, long_slots}
 use Rattle.toml.specs.Data.{Data, string, integer, float, boolean, datetime, array, table}
@@ -34,6 +36,9 @@ in_shape shapes.SignedLong z a b = and_from (int_le (neg_ℤ (pos 2147483648)) z
 in_shape shapes.Text z a b = refl
 in_shape (shapes.Bits n) z a b = refl
 in_shape (shapes.Slots n) z a b = refl
+in_shape shapes.Choice z a b = and_from (int_le (pos 0) z) (int_le z (pos 255)) a b
+in_shape shapes.Names z a b = refl
+in_shape shapes.Rates z a b = refl
 
 pub least_greatest : (s : Shape) → int_le (least_of s) (greatest_of s) ≡ true
 least_greatest shapes.Byte = refl
@@ -45,6 +50,9 @@ least_greatest shapes.SignedLong = refl
 least_greatest shapes.Text = refl
 least_greatest (shapes.Bits n) = refl
 least_greatest (shapes.Slots n) = refl
+least_greatest shapes.Choice = refl
+least_greatest shapes.Names = refl
+least_greatest shapes.Rates = refl
 
 from_if : (b : Bool) (k z : ℤ) → (if b then Some k else None) ≡ Some z → (b ≡ true) × (k ≡ z)
 from_if true k z h = (refl, same_Some _ _ h)
@@ -65,60 +73,13 @@ within_from low high (table t) z h = absurd (cc)
 pub integer_again : (low high z : ℤ) → int_le low z ≡ true → int_le z high ≡ true → integer_from low high (integer z) ≡ Some z
 integer_again low high z a b = rw (a, b) refl
 
--- ---- signed numbers in fewer bits
-
-signed_8 : (z : ℤ) → int_le (neg_ℤ (pos 128)) z ≡ true → int_le z (pos 127) ≡ true → cast_signed w8 (cast_unsigned w64 z % 0x100) ≡ z
-signed_8 (pos n) a b =
-    let small : n ≤ 127 = leb-true n 127 b in
-    let same : n % 256 ≡ n = omega (arith, small) in
-    ap (cast_signed w8) same ∙ to_z_pos w8 n (omega (arith, small))
-signed_8 (negsuc n) a b =
-    let small : n ≤ 127 = leb-true n 127 a in
-    let fits : n < 128 = omega (arith, small) in
-    let same : (18446744073709551616 - suc n) % 256 ≡ 256 - suc n = omega (arith, small) in
-    ap (cast_signed w8) same ∙ to_z-of_z w8 (negsuc n) (record { sfits = fits })
-
-signed_16 : (z : ℤ) → int_le (neg_ℤ (pos 32768)) z ≡ true → int_le z (pos 32767) ≡ true → cast_signed w16 (cast_unsigned w64 z % 0x10000) ≡ z
-signed_16 (pos n) a b =
-    let small : n ≤ 32767 = leb-true n 32767 b in
-    let same : n % 65536 ≡ n = omega (arith, small) in
-    ap (cast_signed w16) same ∙ to_z_pos w16 n (omega (arith, small))
-signed_16 (negsuc n) a b =
-    let small : n ≤ 32767 = leb-true n 32767 a in
-    let fits : n < 32768 = omega (arith, small) in
-    let same : (18446744073709551616 - suc n) % 65536 ≡ 65536 - suc n = omega (arith, small) in
-    ap (cast_signed w16) same ∙ to_z-of_z w16 (negsuc n) (record { sfits = fits })
-
-signed_32 : (z : ℤ) → int_le (neg_ℤ (pos 2147483648)) z ≡ true → int_le z (pos 2147483647) ≡ true → cast_signed w32 (cast_unsigned w64 z % 0x100000000) ≡ z
-signed_32 (pos n) a b =
-    let small : n ≤ 2147483647 = leb-true n 2147483647 b in
-    let same : n % 4294967296 ≡ n = omega (arith, small) in
-    ap (cast_signed w32) same ∙ to_z_pos w32 n (omega (arith, small))
-signed_32 (negsuc n) a b =
-    let small : n ≤ 2147483647 = leb-true n 2147483647 a in
-    let fits : n < 2147483648 = omega (arith, small) in
-    let same : (18446744073709551616 - suc n) % 4294967296 ≡ 4294967296 - suc n = omega (arith, small) in
-    ap (cast_signed w32) same ∙ to_z-of_z w32 (negsuc n) (record { sfits = fits })
-
-unsigned_8 : (z : ℤ) → int_le (pos 0) z ≡ true → int_le z (pos 255) ≡ true → pos (cast_unsigned w64 z % 0x100) ≡ z
-unsigned_8 (pos n) a b = let small : n ≤ 255 = leb-true n 255 b in ap pos (let same : n % 256 ≡ n = omega (arith, small) in same)
-unsigned_8 (negsuc n) a b = absurd (cc)
-
-unsigned_16 : (z : ℤ) → int_le (pos 0) z ≡ true → int_le z (pos 65535) ≡ true → pos (cast_unsigned w64 z % 0x10000) ≡ z
-unsigned_16 (pos n) a b = let small : n ≤ 65535 = leb-true n 65535 b in ap pos (let same : n % 65536 ≡ n = omega (arith, small) in same)
-unsigned_16 (negsuc n) a b = absurd (cc)
-
-unsigned_32 : (z : ℤ) → int_le (pos 0) z ≡ true → int_le z (pos 4294967295) ≡ true → pos (cast_unsigned w64 z % 0x100000000) ≡ z
-unsigned_32 (pos n) a b = let small : n ≤ 4294967295 = leb-true n 4294967295 b in ap pos (let same : n % 4294967296 ≡ n = omega (arith, small) in same)
-unsigned_32 (negsuc n) a b = absurd (cc)
+-- ---- signed numbers in more bits again
 
 below_16 : (n : ℕ) → n < 65536 → n % 65536 ≡ n
 below_16 n less = omega arith
 
 below_32 : (n : ℕ) → n < 4294967296 → n % 4294967296 ≡ n
 below_32 n less = omega arith
-
--- ---- and in more bits again
 
 negative_8 : (m n : ℕ) → m + suc n ≡ 256 → 128 ≤ m → cast_unsigned w64 (cast_signed w8 m) % 0x100 ≡ m
 negative_8 m n e large =
@@ -183,60 +144,13 @@ back_32 m less =
 -- ---- data that start so
 
 -- what `can_start` tests of the fields
-abbrev pub can_be : Shape → ℤ → ℤ → List ℕ → Bool
-can_be s low high xs =
-    option_map_or (λ v. option_map_or (λ n. int_le low n && int_le n high) (number_in s v) (has_form (form_of s) v)) (value_of (form_of s) xs) false
+abbrev pub can_be : Shape → ℤ → ℤ → List Field → List ℕ → Bool
+can_be s low high fs xs =
+    option_map_or (λ v. option_map_or (λ n. int_le low n && int_le n high) (number_in s v) (has_form (form_of s) v && says fs v)) (value_of (form_of s) xs) false
 
-pub can_be_of : (d : ParameterDef) (s : Shape) (xs : List ℕ) → d.shape ≡ s → d.start ≡ xs → can_start d ≡ true → can_be s d.low d.high xs ≡ true
-can_be_of d s xs shape start h = subst (λ (ys : List ℕ). can_be s d.low d.high ys ≡ true) start (subst (λ (r : Shape). can_be r d.low d.high d.start ≡ true) shape h)
-
-lies : (low high m z : ℤ) → m ≡ z → int_le low z ≡ true → int_le z high ≡ true → (int_le low m && int_le m high) ≡ true
-lies low high m z e a b = subst (λ (k : ℤ). (int_le low k && int_le k high) ≡ true) (sym e) (and_from (int_le low z) (int_le z high) a b)
-
--- numbers in the range of the data, from the least to the greatest
-pub byte_starts : (low high z : ℤ) → int_le (pos 0) z ≡ true → int_le z (pos 255) ≡ true → int_le low z ≡ true → int_le z high ≡ true
-    → can_be shapes.Byte low high (number_slots shapes.Byte z) ≡ true
-byte_starts low high z l g a b = lies low high (pos (cast_unsigned w64 z % 0x100)) z (unsigned_8 z l g) a b
-
-pub signed_byte_starts : (low high z : ℤ) → int_le (neg_ℤ (pos 128)) z ≡ true → int_le z (pos 127) ≡ true → int_le low z ≡ true → int_le z high ≡ true
-    → can_be shapes.SignedByte low high (number_slots shapes.SignedByte z) ≡ true
-signed_byte_starts low high z l g a b = lies low high (cast_signed w8 (cast_unsigned w64 z % 0x100)) z (signed_8 z l g) a b
-
-word_back : (m : ℕ) → from_be_bytes w16 (word_slots (m % 0x10000)) ≡ m % 0x10000
-word_back m = from_be_bytes-to_be_bytes_2 (m % 0x10000) (omega arith)
-
-long_back : (m : ℕ) → from_be_bytes w32 (long_slots (m % 0x100000000)) ≡ m % 0x100000000
-long_back m = from_be_bytes-to_be_bytes_4 (m % 0x100000000) (omega arith)
-
-pub word_starts : (low high z : ℤ) → int_le (pos 0) z ≡ true → int_le z (pos 65535) ≡ true → int_le low z ≡ true → int_le z high ≡ true
-    → can_be shapes.Word low high (number_slots shapes.Word z) ≡ true
-word_starts low high z l g a b =
-    lies low high (pos (from_be_bytes w16 (word_slots (cast_unsigned w64 z % 0x10000)))) z (ap pos (word_back (cast_unsigned w64 z)) ∙ unsigned_16 z l g) a b
-
-pub signed_word_starts : (low high z : ℤ) → int_le (neg_ℤ (pos 32768)) z ≡ true → int_le z (pos 32767) ≡ true → int_le low z ≡ true → int_le z high ≡ true
-    → can_be shapes.SignedWord low high (number_slots shapes.SignedWord z) ≡ true
-signed_word_starts low high z l g a b =
-    lies low high (cast_signed w16 (from_be_bytes w16 (word_slots (cast_unsigned w64 z % 0x10000)))) z (ap (cast_signed w16) (word_back (cast_unsigned w64 z)) ∙ signed_16 z l g) a b
-
-pub long_starts : (low high z : ℤ) → int_le (pos 0) z ≡ true → int_le z (pos 4294967295) ≡ true → int_le low z ≡ true → int_le z high ≡ true
-    → can_be shapes.Long low high (number_slots shapes.Long z) ≡ true
-long_starts low high z l g a b =
-    lies low high (pos (from_be_bytes w32 (long_slots (cast_unsigned w64 z % 0x100000000)))) z (ap pos (long_back (cast_unsigned w64 z)) ∙ unsigned_32 z l g) a b
-
-pub signed_long_starts : (low high z : ℤ) → int_le (neg_ℤ (pos 2147483648)) z ≡ true → int_le z (pos 2147483647) ≡ true → int_le low z ≡ true → int_le z high ≡ true
-    → can_be shapes.SignedLong low high (number_slots shapes.SignedLong z) ≡ true
-signed_long_starts low high z l g a b =
-    lies low high (cast_signed w32 (from_be_bytes w32 (long_slots (cast_unsigned w64 z % 0x100000000)))) z (ap (cast_signed w32) (long_back (cast_unsigned w64 z)) ∙ signed_32 z l g) a b
-
--- a text, and slots
-pub text_starts : (low high : ℤ) (xs : List ℕ) → length xs ≤ 32 → can_be shapes.Text low high xs ≡ true
-text_starts low high xs fits = rw (le-leb (length xs) 32 fits) refl
-
-pub bits_start : (n : ℕ) (low high : ℤ) (xs : List ℕ) → length xs ≡ n → length xs ≤ 32 → can_be (shapes.Bits n) low high xs ≡ true
-bits_start n low high xs long fits = rw (eq-eqb (length xs) n long, le-leb (length xs) 32 fits) (eq-eqb (length xs) n long)
-
-pub slots_start : (n : ℕ) (low high : ℤ) (xs : List ℕ) → length xs ≡ n → length xs ≤ 32 → can_be (shapes.Slots n) low high xs ≡ true
-slots_start n low high xs long fits = rw (eq-eqb (length xs) n long, le-leb (length xs) 32 fits) (eq-eqb (length xs) n long)
+pub can_be_of : (d : ParameterDef) (s : Shape) (xs : List ℕ) → d.shape ≡ s → d.start ≡ xs → can_start d ≡ true → can_be s d.low d.high d.fields.items xs ≡ true
+can_be_of d s xs shape start h =
+    subst (λ (ys : List ℕ). can_be s d.low d.high d.fields.items ys ≡ true) start (subst (λ (r : Shape). can_be r d.low d.high d.fields.items d.start ≡ true) shape h)
 
 -- ---- the number that data say is written, and read as the same data
 
@@ -264,11 +178,13 @@ parts_of s xs z h = guarded (has_length (form_of s) (length xs)) (value_in (form
 in_range : (o : Option ℤ) (low high z : ℤ) (other : Bool) → o ≡ Some z → option_map_or (λ n. int_le low n && int_le n high) o other ≡ true → (int_le low z && int_le z high) ≡ true
 in_range o low high z other e h = subst (λ (p : Option ℤ). option_map_or (λ n. int_le low n && int_le n high) p other ≡ true) e h
 
-pub said_within : (s : Shape) (low high z : ℤ) (xs : List ℕ) → number_said s xs ≡ Some z → can_be s low high xs ≡ true → (int_le low z && int_le z high) ≡ true
-said_within s low high z xs said can =
+pub said_within : (s : Shape) (low high z : ℤ) (fs : List Field) (xs : List ℕ) → number_said s xs ≡ Some z → can_be s low high fs xs ≡ true → (int_le low z && int_le z high) ≡ true
+said_within s low high z fs xs said can =
     let (long, value) = parts_of s xs z said in
-    let (same, inside) = tested (has_length (form_of s) (length xs)) (value_in (form_of s) xs) (λ v. option_map_or (λ n. int_le low n && int_le n high) (number_in s v) (has_form (form_of s) v)) can in
-    in_range (number_in s (value_in (form_of s) xs)) low high z (has_form (form_of s) (value_in (form_of s) xs)) value inside
+    let (same, inside) =
+    tested (has_length (form_of s) (length xs)) (value_in (form_of s) xs)
+    (λ v. option_map_or (λ n. int_le low n && int_le n high) (number_in s v) (has_form (form_of s) v && says fs v)) can in
+    in_range (number_in s (value_in (form_of s) xs)) low high z (has_form (form_of s) (value_in (form_of s) xs) && says fs (value_in (form_of s) xs)) value inside
 
 single : (xs : List ℕ) → length xs ≡ 1 → slice_index xs 0 ∷ [] ≡ xs
 single [] e = absurd (omega (arith, e))
@@ -292,6 +208,10 @@ slots_again shapes.Byte z xs fits said =
     let (long, value) = parts_of shapes.Byte xs z said in
     let one : length xs ≡ 1 = eqb-true (length xs) 1 long in
     subst (λ (k : ℤ). number_slots shapes.Byte k ≡ xs) (same_Some (pos (slice_index xs 0)) z value) (byte_again xs one fits)
+slots_again shapes.Choice z xs fits said =
+    let (long, value) = parts_of shapes.Choice xs z said in
+    let one : length xs ≡ 1 = eqb-true (length xs) 1 long in
+    subst (λ (k : ℤ). number_slots shapes.Choice k ≡ xs) (same_Some (pos (slice_index xs 0)) z value) (byte_again xs one fits)
 slots_again shapes.SignedByte z xs fits said =
     let (long, value) = parts_of shapes.SignedByte xs z said in
     let one : length xs ≡ 1 = eqb-true (length xs) 1 long in
@@ -324,3 +244,5 @@ slots_again shapes.SignedLong z xs fits said =
 slots_again shapes.Text z xs fits said = absurd (never_some z (parts_of shapes.Text xs z said).1)
 slots_again (shapes.Bits n) z xs fits said = absurd (never_some z (parts_of (shapes.Bits n) xs z said).1)
 slots_again (shapes.Slots n) z xs fits said = absurd (never_some z (parts_of (shapes.Slots n) xs z said).1)
+slots_again shapes.Names z xs fits said = absurd (never_some z (parts_of shapes.Names xs z said).1)
+slots_again shapes.Rates z xs fits said = absurd (never_some z (parts_of shapes.Rates xs z said).1)

@@ -3,7 +3,10 @@ use Rattle.std.proofs.Common.{◌≡◌, ℕ, ℤ, Bool, List, [], ◌∷◌, Op
 use Rattle.std.proofs.lemmas.Option.{same_Some}
 use Rattle.arrayvec.specs.declared.array_vec.ArrayVec.{ArrayVec}
 use Rattle.rdm_frame.specs.declared.uid.Uid.{Uid}
+use Rattle.rdm_device.specs.declared.profile.choices.ChoiceName.{ChoiceName}
 use Rattle.rdm_device.specs.declared.profile.estimates.Estimates.{Estimates}
+use Rattle.rdm_device.specs.declared.profile.fields.Field.{Field}
+use Rattle.rdm_device.specs.declared.profile.fields.Width.{Width}
 use Rattle.rdm_device.specs.declared.profile.Personality.{Personality}
 use Rattle.rdm_device.specs.declared.profile.Profile.{Profile}
 use Rattle.rdm_device.specs.declared.profile.workers.Worker.{Worker}
@@ -25,10 +28,10 @@ use Rattle.rdm_fixture.specs.declared.fixture.Fixture.{Fixture}
 use Rattle.rdm_fixture.specs.Describes.{Describes}
 use Rattle.rdm_fixture.specs.FirstWrong.{AreNamed}
 use Rattle.rdm_fixture.specs.Keys.{may, must, OfTable, EachIs, ListAt, Lists}
-use Rattle.rdm_fixture.specs.Parameters.{IsParameter, low_in, high_in, start, flag}
-use Rattle.rdm_fixture.specs.Values.{language}
+use Rattle.rdm_fixture.specs.Parameters.{IsField, SaysParameter, IsParameter, greatest_said, low_in, high_in, start, flag}
+use Rattle.rdm_fixture.specs.Values.{number, language}
 use Rattle.rdm_fixture.specs.Outcomes.{IsOutcome}
-use Rattle.rdm_fixture.specs.Format.{IsPersonality, IsSlot, IsSensor, IsSelfTest, IsStatus, IsUnit, SubDevices, IsEstimates, EstimatesAt, IsWorkers, WorkersAt, LanguagesAt, IsProfile, IsFixture, parameter_named}
+use Rattle.rdm_fixture.specs.Format.{IsPersonality, IsSlot, IsSensor, IsSelfTest, IsStatus, IsChoice, IsUnit, SubDevices, IsEstimates, EstimatesAt, IsWorkers, WorkersAt, LanguagesAt, IsProfile, IsFixture, parameter_named}
 
 -- what is said is one thing
 abbrev pub SaysOne : {S A : Type 0} → (S → A → Type 0) → Type 0
@@ -83,6 +86,9 @@ one_languages (Some (boolean b)) x y p q = absurd p
 one_languages (Some (datetime dt)) x y p q = absurd p
 
 -- ---- the entries
+
+abbrev pub listed : {A : Type 0} (n : ℕ) → List A → ArrayVec A n (Unit {0})
+listed n xs = record { items = xs }
 
 abbrev pub personality_of : ℕ → List ℕ → Personality
 personality_of a0 a1 = record { footprint = a0; name = a1 }
@@ -140,13 +146,44 @@ same_status e0 e1 = rw (e0, e1) refl
 pub one_status : SaysOne IsStatus
 one_status t x y p q = same_status (one p.id q.id) (one p.text q.text)
 
-abbrev pub parameter_of : ℕ → Rights → Shape → ℤ → ℤ → List ℕ → ℕ → ℕ → List ℕ → Bool → ParameterDef
-parameter_of a0 a1 a2 a3 a4 a5 a6 a7 a8 a9 = record { pid = a0; rights = a1; shape = a2; low = a3; high = a4; start = a5; unit = a6; prefix = a7; name = a8; resets = a9 }
+abbrev pub choice_of : ℕ → ℕ → ℕ → List ℕ → ChoiceName
+choice_of a0 a1 a2 a3 = record { pid = a0; number = a1; hertz = a2; name = a3 }
 
-same_parameter : {a0 b0 : ℕ} {a1 b1 : Rights} {a2 b2 : Shape} {a3 b3 : ℤ} {a4 b4 : ℤ} {a5 b5 : List ℕ} {a6 b6 : ℕ} {a7 b7 : ℕ} {a8 b8 : List ℕ} {a9 b9 : Bool}
-    → a0 ≡ b0 → a1 ≡ b1 → a2 ≡ b2 → a3 ≡ b3 → a4 ≡ b4 → a5 ≡ b5 → a6 ≡ b6 → a7 ≡ b7 → a8 ≡ b8 → a9 ≡ b9
-    → parameter_of a0 a1 a2 a3 a4 a5 a6 a7 a8 a9 ≡ parameter_of b0 b1 b2 b3 b4 b5 b6 b7 b8 b9
-same_parameter e0 e1 e2 e3 e4 e5 e6 e7 e8 e9 = rw (e0, e1, e2, e3, e4, e5, e6, e7, e8, e9) refl
+same_choice : {a0 b0 : ℕ} {a1 b1 : ℕ} {a2 b2 : ℕ} {a3 b3 : List ℕ}
+    → a0 ≡ b0 → a1 ≡ b1 → a2 ≡ b2 → a3 ≡ b3
+    → choice_of a0 a1 a2 a3 ≡ choice_of b0 b1 b2 b3
+same_choice e0 e1 e2 e3 = rw (e0, e1, e2, e3) refl
+
+pub one_choice_name : SaysOne IsChoice
+one_choice_name t x y p q = same_choice (one p.pid q.pid) (one p.number q.number) (one p.hertz q.hertz) (one p.name q.name)
+
+abbrev pub field_of : Width → ℕ → ℕ → ℕ → Field
+field_of a0 a1 a2 a3 = record { width = a0; low = a1; high = a2; also = a3 }
+
+same_field : {a0 b0 : Width} {a1 b1 : ℕ} {a2 b2 : ℕ} {a3 b3 : ℕ}
+    → a0 ≡ b0 → a1 ≡ b1 → a2 ≡ b2 → a3 ≡ b3
+    → field_of a0 a1 a2 a3 ≡ field_of b0 b1 b2 b3
+same_field e0 e1 e2 e3 = rw (e0, e1, e2, e3) refl
+
+-- what is said where the default is the same
+one_or : (found : Option Data) (m n x y : ℕ) → m ≡ n → may m (number 0 0xFFFFFFFF) found ≡ Some x → may n (number 0 0xFFFFFFFF) found ≡ Some y → x ≡ y
+one_or found m n x y e p q = one (subst (λ (k : ℕ). may k (number 0 0xFFFFFFFF) found ≡ Some x) e p) q
+
+pub one_field : SaysOne IsField
+one_field t x y p q =
+    let width : x.width ≡ y.width = one p.width q.width in
+    let low : x.low ≡ y.low = one p.low q.low in
+    same_field width low
+    (one_or (get_member (codes "maximum_valid_value") t) (greatest_said x.width) (greatest_said y.width) x.high y.high (ap greatest_said width) p.high q.high)
+    (one_or (get_member (codes "also_valid_value") t) x.low y.low x.also y.also low p.also q.also)
+
+abbrev pub parameter_of : ℕ → Rights → Shape → ℤ → ℤ → ArrayVec Field 8 (Unit {0}) → List ℕ → ℕ → ℕ → List ℕ → Bool → ParameterDef
+parameter_of a0 a1 a2 a3 a4 a5 a6 a7 a8 a9 a10 = record { pid = a0; rights = a1; shape = a2; low = a3; high = a4; fields = a5; start = a6; unit = a7; prefix = a8; name = a9; resets = a10 }
+
+same_parameter : {a0 b0 : ℕ} {a1 b1 : Rights} {a2 b2 : Shape} {a3 b3 : ℤ} {a4 b4 : ℤ} {a5 b5 : ArrayVec Field 8 (Unit {0})} {a6 b6 : List ℕ} {a7 b7 : ℕ} {a8 b8 : ℕ} {a9 b9 : List ℕ} {a10 b10 : Bool}
+    → a0 ≡ b0 → a1 ≡ b1 → a2 ≡ b2 → a3 ≡ b3 → a4 ≡ b4 → a5 ≡ b5 → a6 ≡ b6 → a7 ≡ b7 → a8 ≡ b8 → a9 ≡ b9 → a10 ≡ b10
+    → parameter_of a0 a1 a2 a3 a4 a5 a6 a7 a8 a9 a10 ≡ parameter_of b0 b1 b2 b3 b4 b5 b6 b7 b8 b9 b10
+same_parameter e0 e1 e2 e3 e4 e5 e6 e7 e8 e9 e10 = rw (e0, e1, e2, e3, e4, e5, e6, e7, e8, e9, e10) refl
 
 -- what is said where the shape, the least and the greatest value are the same
 one_low : (t : Members) (s r : Shape) (x y : ℤ) → s ≡ r → low_in s t ≡ Some x → low_in r t ≡ Some y → x ≡ y
@@ -163,8 +200,8 @@ one_start found s r l m h i x y e f g p q =
 one_flag : (found : Option Data) (a b : Rights) (x y : Bool) → a ≡ b → may (has_set a) flag found ≡ Some x → may (has_set b) flag found ≡ Some y → x ≡ y
 one_flag found a b x y e p q = one (subst (λ (k : Rights). may (has_set k) flag found ≡ Some x) e p) q
 
-pub one_parameter : SaysOne IsParameter
-one_parameter t x y p q =
+pub one_said : SaysOne SaysParameter
+one_said t x y p q =
     let rights : x.rights ≡ y.rights = one p.rights q.rights in
     let shape : x.shape ≡ y.shape = one p.shape q.shape in
     let low : x.low ≡ y.low = one_low t x.shape y.shape x.low y.low shape p.low q.low in
@@ -172,15 +209,16 @@ one_parameter t x y p q =
     let start : x.start ≡ y.start =
     one_start (get_member (codes "default_value") t) x.shape y.shape x.low y.low x.high y.high x.start y.start shape low high p.start q.start in
     let resets : x.resets ≡ y.resets = one_flag (get_member (codes "factory_defaults") t) x.rights y.rights x.resets y.resets rights p.resets q.resets in
-    same_parameter (one p.pid q.pid) rights shape low high start (one p.unit q.unit) (one p.prefix q.prefix) (one p.name q.name) resets
+    let fields : x.fields ≡ y.fields = ap (listed 8) (one_list t _ IsField 0 8 _ _ one_field p.fields q.fields) in
+    same_parameter (one p.pid q.pid) rights shape low high fields start (one p.unit q.unit) (one p.prefix q.prefix) (one p.name q.name) resets
+
+pub one_parameter : SaysOne IsParameter
+one_parameter t x y p q = one_said t x y p.said q.said
 
 pub one_names : (t : Members) (xs ys : List ℕ) → AreNamed t xs → AreNamed t ys → xs ≡ ys
 one_names t xs ys p q = one_at (λ d pid. parameter_named d ≡ Some pid) (λ d a b. one) (get_member (codes "without") t) xs ys p.items q.items
 
 -- ---- the devices
-
-abbrev pub listed : {A : Type 0} (n : ℕ) → List A → ArrayVec A n (Unit {0})
-listed n xs = record { items = xs }
 
 abbrev pub unit_of : ℕ → ℕ → ℕ → List ℕ → List ℕ → List ℕ → List ℕ → ArrayVec Personality 8 (Unit {0}) → ℕ → DeviceUnit
 unit_of a0 a1 a2 a3 a4 a5 a6 a7 a8 = record { model = a0; category = a1; software = a2; model_text = a3; maker_text = a4; label = a5; software_text = a6; personalities = a7; start = a8 }
@@ -243,13 +281,13 @@ one_choice (Some (float f)) x y p q = absurd p
 one_choice (Some (boolean b)) x y p q = absurd p
 one_choice (Some (datetime dt)) x y p q = absurd p
 
-abbrev pub profile_of : DeviceUnit → DeviceUnit → ℕ → ℕ → List ℕ → ArrayVec ℕ 8 (Unit {0}) → ArrayVec Slot 46 (Unit {0}) → ArrayVec SensorDef 8 (Unit {0}) → ArrayVec SelfTest 8 (Unit {0}) → ArrayVec StatusText 8 (Unit {0}) → ℕ → List ParameterDef → ArrayVec ℕ 36 (Unit {0}) → ℕ → Estimates → Workers → Profile
-profile_of a0 a1 a2 a3 a4 a5 a6 a7 a8 a9 a10 a11 a12 a13 a14 a15 = record { root = a0; sub = a1; subs = a2; boot = a3; boot_text = a4; languages = a5; slots = a6; sensors = a7; tests = a8; status_texts = a9; presets = a10; own = a11; without = a12; more_slots = a13; estimates = a14; workers = a15 }
+abbrev pub profile_of : DeviceUnit → DeviceUnit → ℕ → ℕ → List ℕ → ArrayVec ℕ 8 (Unit {0}) → ArrayVec Slot 46 (Unit {0}) → ArrayVec SensorDef 8 (Unit {0}) → ArrayVec SelfTest 8 (Unit {0}) → ArrayVec StatusText 8 (Unit {0}) → ℕ → List ParameterDef → ArrayVec ℕ 36 (Unit {0}) → ℕ → Estimates → Workers → List ChoiceName → Profile
+profile_of a0 a1 a2 a3 a4 a5 a6 a7 a8 a9 a10 a11 a12 a13 a14 a15 a16 = record { root = a0; sub = a1; subs = a2; boot = a3; boot_text = a4; languages = a5; slots = a6; sensors = a7; tests = a8; status_texts = a9; presets = a10; own = a11; without = a12; more_slots = a13; estimates = a14; workers = a15; choices = a16 }
 
-pub same_profile : {a0 b0 : DeviceUnit} {a1 b1 : DeviceUnit} {a2 b2 : ℕ} {a3 b3 : ℕ} {a4 b4 : List ℕ} {a5 b5 : ArrayVec ℕ 8 (Unit {0})} {a6 b6 : ArrayVec Slot 46 (Unit {0})} {a7 b7 : ArrayVec SensorDef 8 (Unit {0})} {a8 b8 : ArrayVec SelfTest 8 (Unit {0})} {a9 b9 : ArrayVec StatusText 8 (Unit {0})} {a10 b10 : ℕ} {a11 b11 : List ParameterDef} {a12 b12 : ArrayVec ℕ 36 (Unit {0})} {a13 b13 : ℕ} {a14 b14 : Estimates} {a15 b15 : Workers}
-    → a0 ≡ b0 → a1 ≡ b1 → a2 ≡ b2 → a3 ≡ b3 → a4 ≡ b4 → a5 ≡ b5 → a6 ≡ b6 → a7 ≡ b7 → a8 ≡ b8 → a9 ≡ b9 → a10 ≡ b10 → a11 ≡ b11 → a12 ≡ b12 → a13 ≡ b13 → a14 ≡ b14 → a15 ≡ b15
-    → profile_of a0 a1 a2 a3 a4 a5 a6 a7 a8 a9 a10 a11 a12 a13 a14 a15 ≡ profile_of b0 b1 b2 b3 b4 b5 b6 b7 b8 b9 b10 b11 b12 b13 b14 b15
-same_profile e0 e1 e2 e3 e4 e5 e6 e7 e8 e9 e10 e11 e12 e13 e14 e15 = rw (e0, e1, e2, e3, e4, e5, e6, e7, e8, e9, e10, e11, e12, e13, e14, e15) refl
+pub same_profile : {a0 b0 : DeviceUnit} {a1 b1 : DeviceUnit} {a2 b2 : ℕ} {a3 b3 : ℕ} {a4 b4 : List ℕ} {a5 b5 : ArrayVec ℕ 8 (Unit {0})} {a6 b6 : ArrayVec Slot 46 (Unit {0})} {a7 b7 : ArrayVec SensorDef 8 (Unit {0})} {a8 b8 : ArrayVec SelfTest 8 (Unit {0})} {a9 b9 : ArrayVec StatusText 8 (Unit {0})} {a10 b10 : ℕ} {a11 b11 : List ParameterDef} {a12 b12 : ArrayVec ℕ 36 (Unit {0})} {a13 b13 : ℕ} {a14 b14 : Estimates} {a15 b15 : Workers} {a16 b16 : List ChoiceName}
+    → a0 ≡ b0 → a1 ≡ b1 → a2 ≡ b2 → a3 ≡ b3 → a4 ≡ b4 → a5 ≡ b5 → a6 ≡ b6 → a7 ≡ b7 → a8 ≡ b8 → a9 ≡ b9 → a10 ≡ b10 → a11 ≡ b11 → a12 ≡ b12 → a13 ≡ b13 → a14 ≡ b14 → a15 ≡ b15 → a16 ≡ b16
+    → profile_of a0 a1 a2 a3 a4 a5 a6 a7 a8 a9 a10 a11 a12 a13 a14 a15 a16 ≡ profile_of b0 b1 b2 b3 b4 b5 b6 b7 b8 b9 b10 b11 b12 b13 b14 b15 b16
+same_profile e0 e1 e2 e3 e4 e5 e6 e7 e8 e9 e10 e11 e12 e13 e14 e15 e16 = rw (e0, e1, e2, e3, e4, e5, e6, e7, e8, e9, e10, e11, e12, e13, e14, e15, e16) refl
 
 pub one_profile : SaysOne IsProfile
 one_profile t x y p q =
@@ -271,6 +309,7 @@ one_profile t x y p q =
     (one p.more_slots q.more_slots)
     (one_times _ _ _ p.estimates q.estimates)
     (one_choice _ _ _ p.workers q.workers)
+    (one_list t _ IsChoice 0 64 _ _ one_choice_name p.choices q.choices)
 
 -- ---- the outcomes
 

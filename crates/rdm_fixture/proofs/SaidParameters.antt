@@ -2,18 +2,20 @@
 use Rattle.std.proofs.Common.{◌≡◌, ℕ, arith, nat_le, ℤ, int_le, Bool, true, false, ◌&&◌, List, [], Option, Some, None, option_and_then, IsTrue, if◌then◌else◌, refl, sym, subst, codes}
 use Rattle.std.proofs.lemmas.Bool.{and_from, le-leb}
 use Rattle.std.proofs.lemmas.Option.{same_Some}
+use Rattle.arrayvec.specs.declared.array_vec.ArrayVec.{ArrayVec}
+use Rattle.rdm_device.specs.declared.profile.fields.Field.{Field}
 use Rattle.rdm_device.specs.declared.profile.own.ParameterDef.{ParameterDef}
 use Rattle.rdm_device.specs.declared.profile.own.Rights.{Rights}
 use Rattle.rdm_device.specs.declared.profile.own.Shape.{Shape}
 use Rattle.rdm_device.specs.declared.profile.own.Shape.TheVariants as shapes
-use Rattle.rdm_device.specs.Device.OwnParameters.{is_addable, has_number, has_limits, can_start, has_set}
+use Rattle.rdm_device.specs.Device.OwnParameters.{is_addable, has_number, has_limits, has_set}
 use Rattle.toml.specs.Data.{Data, Members, get_member}
 use Rattle.rdm_fixture.specs.Describable.{are_printable, can_stand, limits_stand, is_sayable}
-use Rattle.rdm_fixture.specs.Keys.{may, must, Must, May, has_only}
-use Rattle.rdm_fixture.specs.Parameters.{IsParameter, parameter_keys, own_pid, command_class, least_of, greatest_of, limit, integer_from, low_in, high_in, shape_in, slots_of, spelled, start, start as starting, flag}
+use Rattle.rdm_fixture.specs.Keys.{may, must, Must, May, has_only, OfTable, Lists}
+use Rattle.rdm_fixture.specs.Parameters.{IsField, SaysParameter, IsParameter, parameter_keys, own_pid, command_class, least_of, greatest_of, limit, integer_from, low_in, high_in, shape_in, slots_of, spelled, start, start as starting, flag}
 use Rattle.rdm_fixture.specs.Values.{number, text}
-use Rattle.rdm_fixture.proofs.NumberSlots.{le_through, le_same, least_greatest, in_shape, within_from, can_be}
-use Rattle.rdm_fixture.proofs.Starts.{IsSized, sized, spelled_slots, starts_good, stands}
+use Rattle.rdm_fixture.proofs.NumberSlots.{le_through, le_same, least_greatest, in_shape, within_from}
+use Rattle.rdm_fixture.proofs.Starts.{IsSized, sized, spelled_slots, stands}
 use Rattle.rdm_fixture.proofs.Printables.{printable_at}
 
 -- ---- the PID
@@ -66,6 +68,9 @@ few_slots shapes.SignedWord low high (Some d) xs k h = tt
 few_slots shapes.Long low high (Some d) xs k h = tt
 few_slots shapes.SignedLong low high (Some d) xs k h = tt
 few_slots shapes.Text low high (Some d) xs k h = tt
+few_slots shapes.Choice low high (Some d) xs k h = tt
+few_slots shapes.Names low high (Some d) xs k h = tt
+few_slots shapes.Rates low high (Some d) xs k h = tt
 few_slots (shapes.Bits n) low high (Some d) xs k h = few_spelled n d xs k h
 few_slots (shapes.Slots n) low high (Some d) xs k h = few_spelled n d xs k h
 
@@ -77,15 +82,13 @@ limits_from shapes.SignedWord low high few a b c = three _ _ _ a b c
 limits_from shapes.Long low high few a b c = three _ _ _ a b c
 limits_from shapes.SignedLong low high few a b c = three _ _ _ a b c
 limits_from shapes.Text low high few a b c = refl
+limits_from shapes.Choice low high few a b c = three _ _ _ a b c
+limits_from shapes.Names low high few a b c = refl
+limits_from shapes.Rates low high few a b c = refl
 limits_from (shapes.Bits n) low high few a b c = few
 limits_from (shapes.Slots n) low high few a b c = few
 
 -- ---- what it starts with
-
-start_fits : (s : Shape) (low high : ℤ) (found : Option Data) (xs : List ℕ) → IsSized (slots_of found) s → int_le (least_of s) low ≡ true → int_le high (greatest_of s) ≡ true
-    → must (start s low high) found ≡ Some xs → can_be s low high xs ≡ true
-start_fits s low high None xs k l g h = absurd (cc)
-start_fits s low high (Some d) xs k l g h = starts_good s low high d xs k l g h
 
 start_stands : (s : Shape) (low high : ℤ) (found : Option Data) (xs : List ℕ) → must (start s low high) found ≡ Some xs → can_stand s xs ≡ true
 start_stands s low high None xs h = absurd (cc)
@@ -94,25 +97,20 @@ start_stands s low high (Some d) xs h = stands s low high d xs h
 -- ---- the whole
 
 pub free_pid : (t : Members) (d : ParameterDef) → IsParameter t d → IsTrue (is_addable d.pid)
-free_pid t d h = addable (get_member (codes "pid") t) d.pid h.pid
+free_pid t d h = addable (get_member (codes "pid") t) d.pid h.said.pid
 
 pub good_limits : (t : Members) (d : ParameterDef) → IsParameter t d → IsTrue (has_limits d.shape d.low d.high)
-good_limits t d h =
+good_limits t d is =
+    let h = is.said in
     let low = low_fits d.shape (get_member (codes "minimum_valid_value") t) d.low h.low in
     let high = high_fits d.shape d.low (get_member (codes "maximum_valid_value") t) d.high low.1 h.high in
     let slots = sized (slots_of (get_member (codes "default_value") t)) (get_member (codes "data_type") t) d.shape h.shape in
     limits_from d.shape d.low d.high (few_slots d.shape d.low d.high (get_member (codes "default_value") t) d.start slots h.start)
     (in_shape d.shape d.low low.0 low.1) (in_shape d.shape d.high (le_through (least_of d.shape) d.low d.high low.0 high.0) high.1) high.0
 
-pub good_start : (t : Members) (d : ParameterDef) → IsParameter t d → IsTrue (can_start d)
-good_start t d h =
-    let low = low_fits d.shape (get_member (codes "minimum_valid_value") t) d.low h.low in
-    let high = high_fits d.shape d.low (get_member (codes "maximum_valid_value") t) d.high low.1 h.high in
-    let slots = sized (slots_of (get_member (codes "default_value") t)) (get_member (codes "data_type") t) d.shape h.shape in
-    start_fits d.shape d.low d.high (get_member (codes "default_value") t) d.start slots low.0 high.1 h.start
-
 pub sayable : (t : Members) (d : ParameterDef) → IsParameter t d → IsTrue (is_sayable d)
-sayable t d h =
+sayable t d is =
+    let h = is.said in
     let low = low_fits d.shape (get_member (codes "minimum_valid_value") t) d.low h.low in
     let high = high_fits d.shape d.low (get_member (codes "maximum_valid_value") t) d.high low.1 h.high in
     and_from (limits_stand d) (can_stand d.shape d.start && are_printable d.name)
@@ -122,13 +120,14 @@ sayable t d h =
     (printable_at t (codes "description") d.name h.name))
 
 -- the parts of a parameter, one by one
-parameter_is : (t : Members) (pid : ℕ) (rights : Rights) (shape : Shape) (low high : ℤ) (start : List ℕ) (unit prefix : ℕ) (resets : Bool) (name : List ℕ)
+parameter_is : (t : Members) (pid : ℕ) (rights : Rights) (shape : Shape) (low high : ℤ) (fields : ArrayVec Field 8 (Unit {0})) (start : List ℕ) (unit prefix : ℕ) (resets : Bool) (name : List ℕ)
     → IsTrue (has_only parameter_keys t) → Must t (codes "pid") own_pid pid → Must t (codes "command_class") command_class rights
-    → shape_in t ≡ Some shape → low_in shape t ≡ Some low → high_in shape low t ≡ Some high → Must t (codes "default_value") (starting shape low high) start
+    → shape_in t ≡ Some shape → low_in shape t ≡ Some low → high_in shape low t ≡ Some high
+    → Lists t (codes "fields") (OfTable IsField) 0 8 fields.items → Must t (codes "default_value") (starting shape low high) start
     → May t (codes "unit") 0 (number 0 0xFF) unit → May t (codes "prefix") 0 (number 0 0xFF) prefix
     → May t (codes "factory_defaults") (has_set rights) flag resets → May t (codes "description") [] text name
-    → IsParameter t (record { pid = pid; rights = rights; shape = shape; low = low; high = high; start = start; unit = unit; prefix = prefix; name = name; resets = resets })
-parameter_is t pid rights shape low high start unit prefix resets name keys at_pid at_rights at_shape at_low at_high at_start at_unit at_prefix at_resets at_name =
+    → SaysParameter t (record { pid = pid; rights = rights; shape = shape; low = low; high = high; fields = fields; start = start; unit = unit; prefix = prefix; name = name; resets = resets })
+parameter_is t pid rights shape low high fields start unit prefix resets name keys at_pid at_rights at_shape at_low at_high at_fields at_start at_unit at_prefix at_resets at_name =
     record {
       keys = keys;
       pid = at_pid;
@@ -136,6 +135,7 @@ parameter_is t pid rights shape low high start unit prefix resets name keys at_p
       shape = at_shape;
       low = at_low;
       high = at_high;
+      fields = at_fields;
       start = at_start;
       unit = at_unit;
       prefix = at_prefix;
@@ -144,14 +144,15 @@ parameter_is t pid rights shape low high start unit prefix resets name keys at_p
     }
 
 -- the same where its limits are these numbers again
-pub parameter_at : (t : Members) (pid : ℕ) (rights : Rights) (shape : Shape) (low high low2 high2 : ℤ) (start : List ℕ) (unit prefix : ℕ) (resets : Bool) (name : List ℕ)
+pub parameter_at : (t : Members) (pid : ℕ) (rights : Rights) (shape : Shape) (low high low2 high2 : ℤ) (fields : ArrayVec Field 8 (Unit {0})) (start : List ℕ) (unit prefix : ℕ) (resets : Bool) (name : List ℕ)
     → low2 ≡ low → high2 ≡ high
     → IsTrue (has_only parameter_keys t) → Must t (codes "pid") own_pid pid → Must t (codes "command_class") command_class rights
-    → shape_in t ≡ Some shape → low_in shape t ≡ Some low → high_in shape low t ≡ Some high → Must t (codes "default_value") (starting shape low high) start
+    → shape_in t ≡ Some shape → low_in shape t ≡ Some low → high_in shape low t ≡ Some high
+    → Lists t (codes "fields") (OfTable IsField) 0 8 fields.items → Must t (codes "default_value") (starting shape low high) start
     → May t (codes "unit") 0 (number 0 0xFF) unit → May t (codes "prefix") 0 (number 0 0xFF) prefix
     → May t (codes "factory_defaults") (has_set rights) flag resets → May t (codes "description") [] text name
-    → IsParameter t (record { pid = pid; rights = rights; shape = shape; low = low2; high = high2; start = start; unit = unit; prefix = prefix; name = name; resets = resets })
-parameter_at t pid rights shape low high low2 high2 start unit prefix resets name same_low same_high keys at_pid at_rights at_shape at_low at_high at_start at_unit at_prefix at_resets at_name =
-    subst (λ (l : ℤ). IsParameter t (record { pid = pid; rights = rights; shape = shape; low = l; high = high2; start = start; unit = unit; prefix = prefix; name = name; resets = resets })) (sym same_low)
-    (subst (λ (h : ℤ). IsParameter t (record { pid = pid; rights = rights; shape = shape; low = low; high = h; start = start; unit = unit; prefix = prefix; name = name; resets = resets })) (sym same_high)
-    (parameter_is t pid rights shape low high start unit prefix resets name keys at_pid at_rights at_shape at_low at_high at_start at_unit at_prefix at_resets at_name))
+    → SaysParameter t (record { pid = pid; rights = rights; shape = shape; low = low2; high = high2; fields = fields; start = start; unit = unit; prefix = prefix; name = name; resets = resets })
+parameter_at t pid rights shape low high low2 high2 fields start unit prefix resets name same_low same_high keys at_pid at_rights at_shape at_low at_high at_fields at_start at_unit at_prefix at_resets at_name =
+    subst (λ (l : ℤ). SaysParameter t (record { pid = pid; rights = rights; shape = shape; low = l; high = high2; fields = fields; start = start; unit = unit; prefix = prefix; name = name; resets = resets })) (sym same_low)
+    (subst (λ (h : ℤ). SaysParameter t (record { pid = pid; rights = rights; shape = shape; low = low; high = h; fields = fields; start = start; unit = unit; prefix = prefix; name = name; resets = resets })) (sym same_high)
+    (parameter_is t pid rights shape low high fields start unit prefix resets name keys at_pid at_rights at_shape at_low at_high at_fields at_start at_unit at_prefix at_resets at_name))

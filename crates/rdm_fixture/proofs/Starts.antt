@@ -16,12 +16,14 @@ use Rattle.rdm_frame.specs.Digits.{digit, digits, upper}
 use Rattle.rdm_frame.specs.DigitReading.{bytes_in}
 use Rattle.rdm_frame.proofs.NumberSpellings.{long}
 use Rattle.rdm_frame.proofs.Spellings.{bytes_read, bytes_again}
+use Rattle.rdm_device.specs.declared.profile.fields.Field.{Field}
 use Rattle.rdm_device.specs.declared.profile.own.ParameterDef.{ParameterDef}
 use Rattle.rdm_device.specs.declared.profile.own.Rights.{Rights}
 use Rattle.rdm_device.specs.declared.profile.own.Rights.TheVariants as rights
 use Rattle.rdm_device.specs.declared.profile.own.Shape.{Shape}
 use Rattle.rdm_device.specs.declared.profile.own.Shape.TheVariants as shapes
 use Rattle.rdm_device.specs.Columns.Forms.{has_length, value_in, has_form}
+use Rattle.rdm_device.specs.Device.Fields.{says}
 use Rattle.rdm_device.specs.Device.OwnParameters.{form_of, number_in, can_start}
 use Rattle.toml.specs.Data.{Data, string, integer, float, boolean, datetime, array, table}
 use Rattle.rdm_fixture.specs.Describable.{are_printable, can_stand}
@@ -29,7 +31,7 @@ use Rattle.rdm_fixture.specs.Keys.{must}
 use Rattle.rdm_fixture.specs.Parameters.{command_class, shape_named, data_type, slots_of, least_of, greatest_of, integer_from, number_slots, spelled, start}
 use Rattle.rdm_fixture.specs.Values.{text, is_text}
 use Rattle.rdm_fixture.specs.Writing.{rights_name, shape_name, written_slots}
-use Rattle.rdm_fixture.proofs.NumberSlots.{le_through, within_from, integer_again, can_be, can_be_of, byte_starts, signed_byte_starts, word_starts, signed_word_starts, long_starts, signed_long_starts, text_starts, bits_start, slots_start, IsBytes, number_said, said_within, slots_again, tested, never_some, parts_of}
+use Rattle.rdm_fixture.proofs.NumberSlots.{integer_again, can_be, can_be_of, IsBytes, number_said, said_within, slots_again, tested, never_some, parts_of}
 use Rattle.rdm_fixture.proofs.Texts.{ascii}
 
 -- ---- how many slots
@@ -40,24 +42,28 @@ IsSized slots (shapes.Bits n) = n ≡ slots
 IsSized slots (shapes.Slots n) = n ≡ slots
 IsSized slots _ = Unit {0}
 
-named_shape : (slots : ℕ) (a b c d e f g h i : Bool) (s : Shape)
+named_shape : (slots : ℕ) (a b c d e f g h i j k l : Bool) (s : Shape)
     → (if a then Some shapes.Byte else (if b then Some shapes.SignedByte else (if c then Some shapes.Word else (if d then Some shapes.SignedWord
     else (if e then Some shapes.Long else (if f then Some shapes.SignedLong else (if g then Some shapes.Text else (if h then Some (shapes.Bits slots)
-    else (if i then Some (shapes.Slots slots) else None))))))))) ≡ Some s → IsSized slots s
-named_shape slots true b c d e f g h i s is = subst (IsSized slots) (same_Some shapes.Byte s is) tt
-named_shape slots false true c d e f g h i s is = subst (IsSized slots) (same_Some shapes.SignedByte s is) tt
-named_shape slots false false true d e f g h i s is = subst (IsSized slots) (same_Some shapes.Word s is) tt
-named_shape slots false false false true e f g h i s is = subst (IsSized slots) (same_Some shapes.SignedWord s is) tt
-named_shape slots false false false false true f g h i s is = subst (IsSized slots) (same_Some shapes.Long s is) tt
-named_shape slots false false false false false true g h i s is = subst (IsSized slots) (same_Some shapes.SignedLong s is) tt
-named_shape slots false false false false false false true h i s is = subst (IsSized slots) (same_Some shapes.Text s is) tt
-named_shape slots false false false false false false false true i s is = subst (IsSized slots) (same_Some (shapes.Bits slots) s is) refl
-named_shape slots false false false false false false false false true s is = subst (IsSized slots) (same_Some (shapes.Slots slots) s is) refl
-named_shape slots false false false false false false false false false s is = absurd (cc)
+    else (if i then Some (shapes.Slots slots) else (if j then Some shapes.Choice else (if k then Some shapes.Names else (if l then Some shapes.Rates
+    else None)))))))))))) ≡ Some s → IsSized slots s
+named_shape slots true b c d e f g h i j k l s is = subst (IsSized slots) (same_Some shapes.Byte s is) tt
+named_shape slots false true c d e f g h i j k l s is = subst (IsSized slots) (same_Some shapes.SignedByte s is) tt
+named_shape slots false false true d e f g h i j k l s is = subst (IsSized slots) (same_Some shapes.Word s is) tt
+named_shape slots false false false true e f g h i j k l s is = subst (IsSized slots) (same_Some shapes.SignedWord s is) tt
+named_shape slots false false false false true f g h i j k l s is = subst (IsSized slots) (same_Some shapes.Long s is) tt
+named_shape slots false false false false false true g h i j k l s is = subst (IsSized slots) (same_Some shapes.SignedLong s is) tt
+named_shape slots false false false false false false true h i j k l s is = subst (IsSized slots) (same_Some shapes.Text s is) tt
+named_shape slots false false false false false false false true i j k l s is = subst (IsSized slots) (same_Some (shapes.Bits slots) s is) refl
+named_shape slots false false false false false false false false true j k l s is = subst (IsSized slots) (same_Some (shapes.Slots slots) s is) refl
+named_shape slots false false false false false false false false false true k l s is = subst (IsSized slots) (same_Some shapes.Choice s is) tt
+named_shape slots false false false false false false false false false false true l s is = subst (IsSized slots) (same_Some shapes.Names s is) tt
+named_shape slots false false false false false false false false false false false true s is = subst (IsSized slots) (same_Some shapes.Rates s is) tt
+named_shape slots false false false false false false false false false false false false s is = absurd (cc)
 
 pub sized : (slots : ℕ) (found : Option Data) (s : Shape) → must (data_type slots) found ≡ Some s → IsSized slots s
 sized slots None s h = absurd (cc)
-sized slots (Some (string name)) s h = named_shape slots _ _ _ _ _ _ _ _ _ s h
+sized slots (Some (string name)) s h = named_shape slots _ _ _ _ _ _ _ _ _ _ _ _ s h
 sized slots (Some (integer z)) s h = absurd (cc)
 sized slots (Some (float f)) s h = absurd (cc)
 sized slots (Some (boolean b)) s h = absurd (cc)
@@ -75,9 +81,10 @@ differs s t h = not_true (bytes_eq s t) (λ e. h ((bytes_eq-Decides s t).0 e))
 -- no other word is the name of a type
 pub no_shape : (slots : ℕ) (s : List ℕ) → (s ≡ codes "unsigned_byte" → ⊥) → (s ≡ codes "signed_byte" → ⊥) → (s ≡ codes "unsigned_word" → ⊥)
     → (s ≡ codes "signed_word" → ⊥) → (s ≡ codes "unsigned_dword" → ⊥) → (s ≡ codes "signed_dword" → ⊥) → (s ≡ codes "ascii" → ⊥)
-    → (s ≡ codes "bit_field" → ⊥) → (s ≡ codes "not_defined" → ⊥) → shape_named slots s ≡ None
-no_shape slots s a b c d e f g h i =
-    rw (differs s _ a, differs s _ b, differs s _ c, differs s _ d, differs s _ e, differs s _ f, differs s _ g, differs s _ h, differs s _ i) refl
+    → (s ≡ codes "bit_field" → ⊥) → (s ≡ codes "not_defined" → ⊥) → (s ≡ codes "choice" → ⊥) → (s ≡ codes "names" → ⊥) → (s ≡ codes "rates" → ⊥)
+    → shape_named slots s ≡ None
+no_shape slots s a b c d e f g h i j k l =
+    rw (differs s _ a, differs s _ b, differs s _ c, differs s _ d, differs s _ e, differs s _ f, differs s _ g, differs s _ h, differs s _ i, differs s _ j, differs s _ k, differs s _ l) refl
 
 pub type_again : (slots : ℕ) (s : Shape) → IsSized slots s → data_type slots (string (shape_name s)) ≡ Some s
 type_again slots shapes.Byte h = refl
@@ -89,6 +96,9 @@ type_again slots shapes.SignedLong h = refl
 type_again slots shapes.Text h = refl
 type_again slots (shapes.Bits n) h = ap (λ (m : ℕ). Some (shapes.Bits m)) (sym h)
 type_again slots (shapes.Slots n) h = ap (λ (m : ℕ). Some (shapes.Slots m)) (sym h)
+type_again slots shapes.Choice h = refl
+type_again slots shapes.Names h = refl
+type_again slots shapes.Rates h = refl
 
 pub rights_again : (r : Rights) → command_class (string (rights_name r)) ≡ Some r
 rights_again rights.Get = refl
@@ -162,48 +172,9 @@ digits_spell bytes fits few =
 
 -- ---- what a table says that the data start with
 
-mapped : (f : ℤ → List ℕ) (o : Option ℤ) (xs : List ℕ) → option_map f o ≡ Some xs → (z : ℤ) × (o ≡ Some z) × (f z ≡ xs)
-mapped f None xs h = absurd (cc)
-mapped f (Some z) xs h = (z, refl, same_Some (f z) xs h)
-
 text_if : (b : Bool) (s xs : List ℕ) → (if b then Some s else None) ≡ Some xs → (b ≡ true) × (s ≡ xs)
 text_if true s xs h = (refl, same_Some s xs h)
 text_if false s xs h = absurd (cc)
-
-text_short : (d : Data) (xs : List ℕ) → text d ≡ Some xs → length xs ≤ 32
-text_short (string s) xs h =
-    let (is, same) = text_if (is_text s) s xs h in
-    let few : length s ≤ 32 = leb-true (length s) 32 (and_parts (nat_le (length s) 32) (are_printable s) is).0 in
-    subst (λ (ys : List ℕ). length ys ≤ 32) same few
-text_short (integer z) xs h = absurd (cc)
-text_short (float f) xs h = absurd (cc)
-text_short (boolean b) xs h = absurd (cc)
-text_short (datetime dt) xs h = absurd (cc)
-text_short (array ds) xs h = absurd (cc)
-text_short (table t) xs h = absurd (cc)
-
--- a number that is said lies in the range of the data
-number_in_range : (s : Shape) (low high : ℤ) (d : Data) (xs : List ℕ) → int_le (least_of s) low ≡ true → int_le high (greatest_of s) ≡ true
-    → option_map (number_slots s) (integer_from low high d) ≡ Some xs
-    → ((z : ℤ) → int_le (least_of s) z ≡ true → int_le z (greatest_of s) ≡ true → int_le low z ≡ true → int_le z high ≡ true → can_be s low high (number_slots s z) ≡ true)
-    → can_be s low high xs ≡ true
-number_in_range s low high d xs l g h starts =
-    let (z, is, same) = mapped (number_slots s) (integer_from low high d) xs h in
-    let (a, b) = within_from low high d z is in
-    subst (λ (ys : List ℕ). can_be s low high ys ≡ true) same
-    (starts z (le_through (least_of s) low z l a) (le_through z high (greatest_of s) b g) a b)
-
-pub starts_good : (s : Shape) (low high : ℤ) (d : Data) (xs : List ℕ) → IsSized (slots_of (Some d)) s
-    → int_le (least_of s) low ≡ true → int_le high (greatest_of s) ≡ true → start s low high d ≡ Some xs → can_be s low high xs ≡ true
-starts_good shapes.Byte low high d xs k l g h = number_in_range shapes.Byte low high d xs l g h (byte_starts low high)
-starts_good shapes.SignedByte low high d xs k l g h = number_in_range shapes.SignedByte low high d xs l g h (signed_byte_starts low high)
-starts_good shapes.Word low high d xs k l g h = number_in_range shapes.Word low high d xs l g h (word_starts low high)
-starts_good shapes.SignedWord low high d xs k l g h = number_in_range shapes.SignedWord low high d xs l g h (signed_word_starts low high)
-starts_good shapes.Long low high d xs k l g h = number_in_range shapes.Long low high d xs l g h (long_starts low high)
-starts_good shapes.SignedLong low high d xs k l g h = number_in_range shapes.SignedLong low high d xs l g h (signed_long_starts low high)
-starts_good shapes.Text low high d xs k l g h = text_starts low high xs (text_short d xs h)
-starts_good (shapes.Bits n) low high d xs k l g h = let (long, few) = spelled_slots d xs h in bits_start n low high xs (sym (k ∙ long)) few
-starts_good (shapes.Slots n) low high d xs k l g h = let (long, few) = spelled_slots d xs h in slots_start n low high xs (sym (k ∙ long)) few
 
 -- a text that is said is printable
 text_stands : (d : Data) (xs : List ℕ) → text d ≡ Some xs → IsTrue (are_printable xs)
@@ -227,50 +198,60 @@ stands shapes.Long low high d xs h = refl
 stands shapes.SignedLong low high d xs h = refl
 stands (shapes.Bits n) low high d xs h = refl
 stands (shapes.Slots n) low high d xs h = refl
+stands shapes.Choice low high d xs h = refl
+stands shapes.Names low high d xs h = refl
+stands shapes.Rates low high d xs h = refl
 
 -- ---- what is written of what they start with
 
 -- data that can be started with have their length
-long_enough : (s : Shape) (low high : ℤ) (xs : List ℕ) → can_be s low high xs ≡ true → has_length (form_of s) (length xs) ≡ true
-long_enough s low high xs can =
-    (tested (has_length (form_of s) (length xs)) (value_in (form_of s) xs) (λ v. option_map_or (λ n. int_le low n && int_le n high) (number_in s v) (has_form (form_of s) v)) can).0
+long_enough : (s : Shape) (low high : ℤ) (fs : List Field) (xs : List ℕ) → can_be s low high fs xs ≡ true → has_length (form_of s) (length xs) ≡ true
+long_enough s low high fs xs can =
+    (tested (has_length (form_of s) (length xs)) (value_in (form_of s) xs)
+    (λ v. option_map_or (λ n. int_le low n && int_le n high) (number_in s v) (has_form (form_of s) v && says fs v)) can).0
 
 -- as many slots as are written
-pub start_sized : (s : Shape) (low high : ℤ) (d : Data) (xs : List ℕ) → start s low high d ≡ Some xs → can_be s low high xs ≡ true → IsSized (slots_of (Some d)) s
-start_sized shapes.Byte low high d xs h can = tt
-start_sized shapes.SignedByte low high d xs h can = tt
-start_sized shapes.Word low high d xs h can = tt
-start_sized shapes.SignedWord low high d xs h can = tt
-start_sized shapes.Long low high d xs h can = tt
-start_sized shapes.SignedLong low high d xs h can = tt
-start_sized shapes.Text low high d xs h can = tt
-start_sized (shapes.Bits n) low high d xs h can =
-    let is : ((length xs == n) && nat_le (length xs) 32) ≡ true = long_enough (shapes.Bits n) low high xs can in
+pub start_sized : (s : Shape) (low high : ℤ) (fs : List Field) (d : Data) (xs : List ℕ) → start s low high d ≡ Some xs → can_be s low high fs xs ≡ true → IsSized (slots_of (Some d)) s
+start_sized shapes.Byte low high fs d xs h can = tt
+start_sized shapes.SignedByte low high fs d xs h can = tt
+start_sized shapes.Word low high fs d xs h can = tt
+start_sized shapes.SignedWord low high fs d xs h can = tt
+start_sized shapes.Long low high fs d xs h can = tt
+start_sized shapes.SignedLong low high fs d xs h can = tt
+start_sized shapes.Text low high fs d xs h can = tt
+start_sized shapes.Choice low high fs d xs h can = tt
+start_sized shapes.Names low high fs d xs h can = tt
+start_sized shapes.Rates low high fs d xs h can = tt
+start_sized (shapes.Bits n) low high fs d xs h can =
+    let is : ((length xs == n) && nat_le (length xs) 32) ≡ true = long_enough (shapes.Bits n) low high fs xs can in
     let (long, few) = and_parts (length xs == n) (nat_le (length xs) 32) is in
     sym (eqb-true (length xs) n long) ∙ sym (spelled_slots d xs h).0
-start_sized (shapes.Slots n) low high d xs h can =
-    let is : ((length xs == n) && nat_le (length xs) 32) ≡ true = long_enough (shapes.Slots n) low high xs can in
+start_sized (shapes.Slots n) low high fs d xs h can =
+    let is : ((length xs == n) && nat_le (length xs) 32) ≡ true = long_enough (shapes.Slots n) low high fs xs can in
     let (long, few) = and_parts (length xs == n) (nat_le (length xs) 32) is in
     sym (eqb-true (length xs) n long) ∙ sym (spelled_slots d xs h).0
 
 -- a number is written as the one that the data say
-number_again : (s : Shape) (low high z : ℤ) (xs : List ℕ) → start s low high (integer z) ≡ option_map (number_slots s) (integer_from low high (integer z))
-    → IsBytes xs → number_said s xs ≡ Some z → can_be s low high xs ≡ true → start s low high (integer z) ≡ Some xs
-number_again s low high z xs is fits said can =
-    let (a, b) = and_parts _ _ (said_within s low high z xs said can) in
+number_again : (s : Shape) (low high z : ℤ) (fs : List Field) (xs : List ℕ) → start s low high (integer z) ≡ option_map (number_slots s) (integer_from low high (integer z))
+    → IsBytes xs → number_said s xs ≡ Some z → can_be s low high fs xs ≡ true → start s low high (integer z) ≡ Some xs
+number_again s low high z fs xs is fits said can =
+    let (a, b) = and_parts _ _ (said_within s low high z fs xs said can) in
     is ∙ ap (option_map (number_slots s)) (integer_again low high z a b) ∙ ap (λ (ys : List ℕ). Some ys) (slots_again s z xs fits said)
 
-pub number_written : (s : Shape) (low high z : ℤ) (xs : List ℕ) → IsBytes xs → number_said s xs ≡ Some z → can_be s low high xs ≡ true
+pub number_written : (s : Shape) (low high z : ℤ) (fs : List Field) (xs : List ℕ) → IsBytes xs → number_said s xs ≡ Some z → can_be s low high fs xs ≡ true
     → start s low high (integer z) ≡ Some xs
-number_written shapes.Byte low high z xs fits said can = number_again shapes.Byte low high z xs refl fits said can
-number_written shapes.SignedByte low high z xs fits said can = number_again shapes.SignedByte low high z xs refl fits said can
-number_written shapes.Word low high z xs fits said can = number_again shapes.Word low high z xs refl fits said can
-number_written shapes.SignedWord low high z xs fits said can = number_again shapes.SignedWord low high z xs refl fits said can
-number_written shapes.Long low high z xs fits said can = number_again shapes.Long low high z xs refl fits said can
-number_written shapes.SignedLong low high z xs fits said can = number_again shapes.SignedLong low high z xs refl fits said can
-number_written shapes.Text low high z xs fits said can = absurd (never_some z (parts_of shapes.Text xs z said).1)
-number_written (shapes.Bits n) low high z xs fits said can = absurd (never_some z (parts_of (shapes.Bits n) xs z said).1)
-number_written (shapes.Slots n) low high z xs fits said can = absurd (never_some z (parts_of (shapes.Slots n) xs z said).1)
+number_written shapes.Byte low high z fs xs fits said can = number_again shapes.Byte low high z fs xs refl fits said can
+number_written shapes.SignedByte low high z fs xs fits said can = number_again shapes.SignedByte low high z fs xs refl fits said can
+number_written shapes.Word low high z fs xs fits said can = number_again shapes.Word low high z fs xs refl fits said can
+number_written shapes.SignedWord low high z fs xs fits said can = number_again shapes.SignedWord low high z fs xs refl fits said can
+number_written shapes.Long low high z fs xs fits said can = number_again shapes.Long low high z fs xs refl fits said can
+number_written shapes.SignedLong low high z fs xs fits said can = number_again shapes.SignedLong low high z fs xs refl fits said can
+number_written shapes.Choice low high z fs xs fits said can = number_again shapes.Choice low high z fs xs refl fits said can
+number_written shapes.Names low high z fs xs fits said can = absurd (never_some z (parts_of shapes.Names xs z said).1)
+number_written shapes.Rates low high z fs xs fits said can = absurd (never_some z (parts_of shapes.Rates xs z said).1)
+number_written shapes.Text low high z fs xs fits said can = absurd (never_some z (parts_of shapes.Text xs z said).1)
+number_written (shapes.Bits n) low high z fs xs fits said can = absurd (never_some z (parts_of (shapes.Bits n) xs z said).1)
+number_written (shapes.Slots n) low high z fs xs fits said can = absurd (never_some z (parts_of (shapes.Slots n) xs z said).1)
 
 -- a number is said where data have the length of one
 some_said : (s : Shape) (xs : List ℕ) (z : ℤ) → has_length (form_of s) (length xs) ≡ true → number_in s (value_in (form_of s) xs) ≡ Some z → number_said s xs ≡ Some z
@@ -285,45 +266,52 @@ text_again s fits h = rw (le-leb (length s) 32 fits, h) refl
 spelled_again : (xs t : List ℕ) → IsBytes xs → length xs ≤ 32 → t ≡ utf8_lossy (digits xs) → spelled (string t) ≡ Some xs
 spelled_again xs t fits few e = subst (λ (u : List ℕ). spelled (string u) ≡ Some xs) (sym (e ∙ digits_written xs fits)) (digits_spell xs fits few)
 
+no_slots : (xs : List ℕ) → (length xs == 0) ≡ true → length xs ≤ 32
+no_slots xs h = let none : length xs ≡ 0 = eqb-true (length xs) 0 h in omega (arith, none)
+
 -- all else is written as a text, or in digits
-pub slots_written : (s : Shape) (low high : ℤ) (xs t : List ℕ) → IsBytes xs → number_said s xs ≡ None → can_be s low high xs ≡ true → can_stand s xs ≡ true
+pub slots_written : (s : Shape) (low high : ℤ) (fs : List Field) (xs t : List ℕ) → IsBytes xs → number_said s xs ≡ None → can_be s low high fs xs ≡ true → can_stand s xs ≡ true
     → t ≡ written_slots s xs → start s low high (string t) ≡ Some xs
-slots_written shapes.Text low high xs t fits none can stand e =
-    let few : length xs ≤ 32 = leb-true (length xs) 32 (long_enough shapes.Text low high xs can) in
+slots_written shapes.Text low high fs xs t fits none can stand e =
+    let few : length xs ≤ 32 = leb-true (length xs) 32 (long_enough shapes.Text low high fs xs can) in
     let plain : utf8_lossy xs ≡ xs = utf8_lossy-IsUtf8 xs (IsUtf8-from_ascii xs (ascii xs stand)) in
     subst (λ (u : List ℕ). text (string u) ≡ Some xs) (sym (e ∙ plain)) (text_again xs few stand)
-slots_written (shapes.Bits n) low high xs t fits none can stand e =
-    let is : ((length xs == n) && nat_le (length xs) 32) ≡ true = long_enough (shapes.Bits n) low high xs can in
+slots_written (shapes.Bits n) low high fs xs t fits none can stand e =
+    let is : ((length xs == n) && nat_le (length xs) 32) ≡ true = long_enough (shapes.Bits n) low high fs xs can in
     let (long, short) = and_parts (length xs == n) (nat_le (length xs) 32) is in
     spelled_again xs t fits (leb-true (length xs) 32 short) e
-slots_written (shapes.Slots n) low high xs t fits none can stand e =
-    let is : ((length xs == n) && nat_le (length xs) 32) ≡ true = long_enough (shapes.Slots n) low high xs can in
+slots_written (shapes.Slots n) low high fs xs t fits none can stand e =
+    let is : ((length xs == n) && nat_le (length xs) 32) ≡ true = long_enough (shapes.Slots n) low high fs xs can in
     let (long, short) = and_parts (length xs == n) (nat_le (length xs) 32) is in
     spelled_again xs t fits (leb-true (length xs) 32 short) e
-slots_written shapes.Byte low high xs t fits none can stand e =
-    absurd (never shapes.Byte xs _ (some_said shapes.Byte xs (pos (slice_index xs 0)) (long_enough shapes.Byte low high xs can) refl) none)
-slots_written shapes.SignedByte low high xs t fits none can stand e =
-    absurd (never shapes.SignedByte xs _ (some_said shapes.SignedByte xs (cast_signed w8 (slice_index xs 0)) (long_enough shapes.SignedByte low high xs can) refl) none)
-slots_written shapes.Word low high xs t fits none can stand e =
-    absurd (never shapes.Word xs _ (some_said shapes.Word xs (pos (from_be_bytes w16 xs)) (long_enough shapes.Word low high xs can) refl) none)
-slots_written shapes.SignedWord low high xs t fits none can stand e =
-    absurd (never shapes.SignedWord xs _ (some_said shapes.SignedWord xs (cast_signed w16 (from_be_bytes w16 xs)) (long_enough shapes.SignedWord low high xs can) refl) none)
-slots_written shapes.Long low high xs t fits none can stand e =
-    absurd (never shapes.Long xs _ (some_said shapes.Long xs (pos (from_be_bytes w32 xs)) (long_enough shapes.Long low high xs can) refl) none)
-slots_written shapes.SignedLong low high xs t fits none can stand e =
-    absurd (never shapes.SignedLong xs _ (some_said shapes.SignedLong xs (cast_signed w32 (from_be_bytes w32 xs)) (long_enough shapes.SignedLong low high xs can) refl) none)
+slots_written shapes.Byte low high fs xs t fits none can stand e =
+    absurd (never shapes.Byte xs _ (some_said shapes.Byte xs (pos (slice_index xs 0)) (long_enough shapes.Byte low high fs xs can) refl) none)
+slots_written shapes.SignedByte low high fs xs t fits none can stand e =
+    absurd (never shapes.SignedByte xs _ (some_said shapes.SignedByte xs (cast_signed w8 (slice_index xs 0)) (long_enough shapes.SignedByte low high fs xs can) refl) none)
+slots_written shapes.Word low high fs xs t fits none can stand e =
+    absurd (never shapes.Word xs _ (some_said shapes.Word xs (pos (from_be_bytes w16 xs)) (long_enough shapes.Word low high fs xs can) refl) none)
+slots_written shapes.SignedWord low high fs xs t fits none can stand e =
+    absurd (never shapes.SignedWord xs _ (some_said shapes.SignedWord xs (cast_signed w16 (from_be_bytes w16 xs)) (long_enough shapes.SignedWord low high fs xs can) refl) none)
+slots_written shapes.Long low high fs xs t fits none can stand e =
+    absurd (never shapes.Long xs _ (some_said shapes.Long xs (pos (from_be_bytes w32 xs)) (long_enough shapes.Long low high fs xs can) refl) none)
+slots_written shapes.SignedLong low high fs xs t fits none can stand e =
+    absurd (never shapes.SignedLong xs _ (some_said shapes.SignedLong xs (cast_signed w32 (from_be_bytes w32 xs)) (long_enough shapes.SignedLong low high fs xs can) refl) none)
+slots_written shapes.Choice low high fs xs t fits none can stand e =
+    absurd (never shapes.Choice xs _ (some_said shapes.Choice xs (pos (slice_index xs 0)) (long_enough shapes.Choice low high fs xs can) refl) none)
+slots_written shapes.Names low high fs xs t fits none can stand e = spelled_again xs t fits (no_slots xs (long_enough shapes.Names low high fs xs can)) e
+slots_written shapes.Rates low high fs xs t fits none can stand e = spelled_again xs t fits (no_slots xs (long_enough shapes.Rates low high fs xs can)) e
 
 -- ---- the same of a parameter
 
 pub number_starts : (d : ParameterDef) (s : Shape) (xs : List ℕ) (z : ℤ) → IsBytes xs → d.shape ≡ s → d.start ≡ xs → can_start d ≡ true → number_said s xs ≡ Some z
     → start d.shape d.low d.high (integer z) ≡ Some d.start
 number_starts d s xs z fits shape starts can said =
-    let written : start s d.low d.high (integer z) ≡ Some xs = number_written s d.low d.high z xs fits said (can_be_of d s xs shape starts can) in
+    let written : start s d.low d.high (integer z) ≡ Some xs = number_written s d.low d.high z d.fields.items xs fits said (can_be_of d s xs shape starts can) in
     ap (λ (r : Shape). start r d.low d.high (integer z)) shape ∙ written ∙ ap (λ (ys : List ℕ). Some ys) (sym starts)
 
 pub slots_start_again : (d : ParameterDef) (s : Shape) (xs t : List ℕ) → IsBytes xs → d.shape ≡ s → d.start ≡ xs → can_start d ≡ true
     → IsTrue (can_stand d.shape d.start) → number_said s xs ≡ None → t ≡ written_slots s xs → start d.shape d.low d.high (string t) ≡ Some d.start
 slots_start_again d s xs t fits shape starts can stand none e =
     let stand_too : can_stand s xs ≡ true = subst (λ (ys : List ℕ). can_stand s ys ≡ true) starts (subst (λ (r : Shape). can_stand r d.start ≡ true) shape stand) in
-    let written : start s d.low d.high (string t) ≡ Some xs = slots_written s d.low d.high xs t fits none (can_be_of d s xs shape starts can) stand_too e in
+    let written : start s d.low d.high (string t) ≡ Some xs = slots_written s d.low d.high d.fields.items xs t fits none (can_be_of d s xs shape starts can) stand_too e in
     ap (λ (r : Shape). start r d.low d.high (string t)) shape ∙ written ∙ ap (λ (ys : List ℕ). Some ys) (sym starts)

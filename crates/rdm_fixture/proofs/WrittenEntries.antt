@@ -1,5 +1,6 @@
 -- What is written of the entries of lists.
 use Rattle.std.proofs.Common.{◌≡◌, false, ℕ, ◌≤◌, ◌<◌, ℤ, pos, neg_ℤ, List, [], ◌∷◌, Some, refl, arith, codes}
+use Rattle.rdm_device.specs.declared.profile.choices.ChoiceName.{ChoiceName}
 use Rattle.rdm_device.specs.declared.profile.estimates.Estimates.{Estimates}
 use Rattle.rdm_device.specs.declared.profile.Personality.{Personality}
 use Rattle.rdm_device.specs.declared.profile.SelfTest.{SelfTest}
@@ -11,7 +12,7 @@ use Rattle.rdm_device.specs.declared.profile.workers.Worker.TheVariants.{First, 
 use Rattle.rdm_device.specs.declared.profile.workers.Workers.{Workers}
 use Rattle.rdm_device.specs.Device.Workers.{worker_number}
 use Rattle.toml.specs.Data.{integer, boolean, table}
-use Rattle.rdm_fixture.specs.Format.{IsPersonality, IsSlot, IsSensor, IsSelfTest, IsStatus, IsEstimates, IsWorkers, estimates_keys, workers_keys, personality_keys, slot_keys, sensor_keys, self_test_keys, status_keys}
+use Rattle.rdm_fixture.specs.Format.{IsPersonality, IsSlot, IsSensor, IsSelfTest, IsStatus, IsChoice, IsEstimates, IsWorkers, estimates_keys, workers_keys, personality_keys, slot_keys, sensor_keys, self_test_keys, status_keys, choice_keys}
 use Rattle.rdm_fixture.specs.Keys.{may}
 use Rattle.rdm_fixture.specs.Parameters.{flag}
 use Rattle.rdm_fixture.specs.Values.{number, worker, signed, text}
@@ -31,6 +32,9 @@ says_byte n = number 0 0xFF (integer (pos n)) ≡ Some n
 
 abbrev pub says_word : ℕ → Type 0
 says_word n = number 0 0xFFFF (integer (pos n)) ≡ Some n
+
+abbrev pub says_long : ℕ → Type 0
+says_long n = number 0 0xFFFFFFFF (integer (pos n)) ≡ Some n
 
 abbrev pub says_signed : ℤ → Type 0
 says_signed z = signed (integer z) ≡ Some z
@@ -81,6 +85,30 @@ pub sensor_plain : (s : SensorDef) → IsPlain 1 (table (members_from (sensor_fi
 sensor_plain s =
     plain_from 0 (sensor_fields s)
     (flag_plain 0 _, text_plain 0 (codes "description") s.name _ (number_plain 0 _, (number_plain 0 _, (number_plain 0 _, (number_plain 0 _, (number_plain 0 _, (number_plain 0 _, (number_plain 0 _, (number_plain 0 _, tt)))))))))
+
+-- ---- names of choices
+
+abbrev pub choice_fields : ChoiceName → List Field
+choice_fields c =
+    (codes "description", text_field c.name) ∷ (codes "hertz", Some (integer (pos c.hertz)))
+    ∷ (codes "number", Some (integer (pos c.number))) ∷ (codes "pid", Some (integer (pos c.pid))) ∷ []
+
+-- a number of 8 bits that isn't 0
+from_one : (n : ℕ) → 1 ≤ n → n ≤ 0xFF → number 1 0xFF (integer (pos n)) ≡ Some n
+from_one n low high = number_says 1 0xFF n low high
+
+pub choice_says : (c : ChoiceName) → 1 ≤ c.number → c.number ≤ 0xFF → says_word c.pid → says_long c.hertz → says_text c.name
+    → IsChoice (members_from (choice_fields c)) c
+choice_says c low high pid hertz name = let fs = choice_fields c in record {
+  keys = only_from choice_keys fs refl;
+  pid = must_say (codes "pid") fs (number 0 0xFFFF) _ _ refl pid;
+  number = must_say (codes "number") fs (number 1 0xFF) _ _ refl (from_one c.number low high);
+  hertz = may_say (codes "hertz") fs 0 (number 0 0xFFFFFFFF) _ _ refl hertz;
+  name = may_text (codes "description") fs c.name refl name;
+}
+
+pub choice_plain : (c : ChoiceName) → IsPlain 1 (table (members_from (choice_fields c)))
+choice_plain c = plain_from 0 (choice_fields c) (text_plain 0 (codes "description") c.name _ (number_plain 0 _, (number_plain 0 _, (number_plain 0 _, tt))))
 
 -- ---- entries with a number and a text
 

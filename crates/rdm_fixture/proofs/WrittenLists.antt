@@ -36,10 +36,10 @@ plain_last (suc n) vs v some are deep dates = record {
   dates = dates_last vs v are.dates dates;
 }
 
-pub plain_more : (vs : List Value) (m : BTreeMap (String Global) Value) → IsPlain 2 (array (items_view vs)) → IsPlain 1 (table (table_view m))
-    → IsPlain 2 (array (items_view (vs ++ Table m ∷ [])))
-plain_more vs m are is =
-    plain_last 2 vs (Table m) (omega arith) are (rw (view-Table m) (omega (arith, is.shallow))) (rw (view-Table m) is.dates)
+pub plain_more : (n : ℕ) (vs : List Value) (m : BTreeMap (String Global) Value) → IsPlain (n + 1) (array (items_view vs)) → IsPlain n (table (table_view m))
+    → IsPlain (n + 1) (array (items_view (vs ++ Table m ∷ [])))
+plain_more n vs m are is =
+    plain_last (n + 1) vs (Table m) (omega arith) are (rw (view-Table m) (omega (arith, is.shallow))) (rw (view-Table m) is.dates)
 
 -- a value, if there is one
 pub some_plain : (n : ℕ) (o : Option Value) → IfSome o (λ v. IsPlain n (view v)) → (d : Data) → option_map view o ≡ Some d → IsPlain n d

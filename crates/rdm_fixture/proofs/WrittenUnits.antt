@@ -12,10 +12,7 @@ use Rattle.rdm_fixture.specs.Values.{number, text}
 use Rattle.rdm_fixture.specs.Writing.{text_field, IsPlain}
 use Rattle.rdm_fixture.proofs.Fields.{Field, members_on, members_from, find_on, get_on, get_from, only_on, only_from, plain_on, plain_from, and_two, first_true, second_true}
 use Rattle.rdm_fixture.proofs.Said.{number_says, must_say, may_say, may_text, or_none, number_plain, text_plain, option_plain}
-use Rattle.rdm_fixture.proofs.WrittenEntries.{says_word, says_text}
-
-abbrev pub says_long : ℕ → Type 0
-says_long n = number 0 0xFFFFFFFF (integer (pos n)) ≡ Some n
+use Rattle.rdm_fixture.proofs.WrittenEntries.{says_word, says_long, says_text}
 
 -- all but the personalities
 abbrev pub unit_fields_but : DeviceUnit → List Field

@@ -41,8 +41,9 @@ pub record HasPrintableTexts (p : Profile) : Type 0 where
   pub sensors : All (λ s. IsTrue (are_printable s.name)) p.sensors.items
   pub tests : All (λ t. IsTrue (are_printable t.name)) p.tests.items
   pub statuses : All (λ s. IsTrue (are_printable s.text)) p.status_texts.items
+  pub choices : All (λ c. IsTrue (are_printable c.name)) p.choices
 
--- ---- parameters of the maker's own
+-- ---- parameters that the profile adds
 
 -- data start with what can stand in a file: a text is printable, and all else is written in digits
 abbrev pub can_stand : Shape → List ℕ → Bool

@@ -1,26 +1,31 @@
 -- What the tables of a fixture are looked at for, part by part, in the order in which it is done.
-use Rattle.std.specs.Prelude.{◌≡◌, ◌≢◌, ℕ, ◌+◌, ◌<◌, ◌≤◌, ℤ, pos, neg_ℤ, true, false, ◌⊎◌, IsTrue, List, [], ◌∷◌, ◌++◌, length, slice_index_or, Option, Some, None, IsSome, AllPairs, codes}
+use Rattle.std.specs.Prelude.{◌≡◌, ◌≢◌, ℕ, ◌+◌, ◌<◌, ◌≤◌, Bool, ℤ, pos, neg_ℤ, true, false, ◌⊎◌, IsTrue, List, [], ◌∷◌, ◌++◌, length, slice_index_or, Option, Some, None, IsSome, AllPairs, codes}
 use Rattle.toml.specs.Data.{Data, table, array, Members, get_member}
 use Rattle.rdm_device.specs.declared.profile.estimates.Estimates.{Estimates}
 use Rattle.rdm_device.specs.declared.profile.Unit.{Unit as DeviceUnit}
 use Rattle.rdm_device.specs.declared.profile.workers.Workers.{Workers}
+use Rattle.rdm_device.specs.declared.profile.choices.ChoiceName.{ChoiceName}
+use Rattle.rdm_device.specs.declared.profile.fields.Field.{Field}
 use Rattle.rdm_device.specs.declared.profile.own.ParameterDef.{ParameterDef}
 use Rattle.rdm_device.specs.declared.profile.own.Shape.{Shape}
 use Rattle.rdm_device.specs.declared.profile.own.Shape.TheVariants as shapes
 use Rattle.rdm_device.specs.Device.LeftOut.{leave_no_need}
-use Rattle.rdm_device.specs.Device.Profiles.{AreOptional}
+use Rattle.rdm_device.specs.Device.OwnParameters.{can_start, has_good_fields}
+use Rattle.rdm_device.specs.Device.Profiles.{AreOptional, Agree}
+use Rattle.rdm_device.specs.Device.Standards.{follows}
 use Rattle.rdm_params.specs.declared.jobs.outcome.Outcome.{Outcome}
 use Rattle.rdm_params.specs.declared.jobs.outcome.Outcome.TheVariants.{Done, Reading, Failed}
 use Rattle.rdm_outcomes.specs.declared.rule.Task.{Task}
 use Rattle.rdm_outcomes.specs.Outcomes as rules
+use Rattle.rdm_fixture.specs.declared.refusal.Agreement.TheVariants as agreements
 use Rattle.rdm_fixture.specs.declared.refusal.Wanted.{Wanted}
 use Rattle.rdm_fixture.specs.declared.refusal.Wanted.TheVariants as wanted
 use Rattle.rdm_fixture.specs.declared.refusal.Section.TheVariants as sections
 use Rattle.rdm_fixture.specs.Faults.{Fault, fault, in_entry, in_section}
-use Rattle.rdm_fixture.specs.Format.{IsPersonality, IsSlot, IsSensor, IsSelfTest, IsStatus, IsUnit, SubDevices, EstimatesAt, WorkersAt, LanguagesAt, IsProfile, personality_keys, slot_keys, sensor_keys, self_test_keys, status_keys, estimates_keys, workers_keys, unit_keys, fixture_keys, root_slots, parameter_named}
+use Rattle.rdm_fixture.specs.Format.{IsPersonality, IsSlot, IsSensor, IsSelfTest, IsStatus, IsChoice, IsUnit, SubDevices, EstimatesAt, WorkersAt, LanguagesAt, IsProfile, personality_keys, slot_keys, sensor_keys, self_test_keys, status_keys, choice_keys, estimates_keys, workers_keys, unit_keys, fixture_keys, root_slots, parameter_named}
 use Rattle.rdm_fixture.specs.Keys.{must, has_only, OfTable, EachIs, Lists, items_count}
 use Rattle.rdm_fixture.specs.Outcomes.{IsOutcome, task, severity, outcome_in, and_job_keys, rule_keys}
-use Rattle.rdm_fixture.specs.Parameters.{IsParameter, parameter_keys, own_pid, command_class, data_type, slots_of, shape_in, least_of, greatest_of, limit, integer_from, low_in, high_in, start, flag}
+use Rattle.rdm_fixture.specs.Parameters.{IsField, SaysParameter, IsParameter, parameter_keys, own_pid, command_class, data_type, slots_of, shape_in, least_of, greatest_of, limit, integer_from, low_in, high_in, start, flag}
 use Rattle.rdm_fixture.specs.Values.{within, number, worker, language, uid}
 use Rattle.rdm_fixture.specs.Wrong.{Part, FirstWrong, says_one, given, FirstOther, only, needed_as, needed, free, needed_number, free_number, free_signed, free_text, entries}
 
@@ -48,7 +53,12 @@ self_test_parts = only self_test_keys ∷ needed_number (codes "number") 1 254 �
 abbrev pub status_parts : List Part
 status_parts = only status_keys ∷ needed_number (codes "id") 0 0xFFFF ∷ free_text (codes "description") ∷ []
 
--- ---- parameters of the maker's own
+abbrev pub choice_parts : List Part
+choice_parts =
+    only choice_keys ∷ needed_number (codes "pid") 0 0xFFFF ∷ needed_number (codes "number") 1 0xFF
+    ∷ free_number (codes "hertz") 0 0xFFFFFFFF ∷ free_text (codes "description") ∷ []
+
+-- ---- parameters that the profile adds
 
 -- the type of its data
 abbrev pub type_part : Part
@@ -69,18 +79,41 @@ abbrev pub wanted_start : Shape → ℤ → ℤ → Wanted
 wanted_start shapes.Text low high = wanted.Text
 wanted_start (shapes.Bits n) low high = wanted.Slots
 wanted_start (shapes.Slots n) low high = wanted.Slots
+wanted_start shapes.Names low high = wanted.Slots
+wanted_start shapes.Rates low high = wanted.Slots
 wanted_start _ low high = wanted.Number low high
+
+-- the numbers that its slots say
+abbrev pub AreFields : Members → List Field → Type 0
+AreFields t fs = Lists t (codes "fields") (OfTable IsField) 0 8 fs
+
+abbrev pub fields_part : Part
+fields_part =
+    says_one AreFields (λ t f. ((fs : List Field) → ¬ AreFields t fs) × (f ≡ fault (codes "fields") (wanted.Agreement agreements.Fields)))
 
 abbrev pub start_part : Shape → ℤ → ℤ → Part
 start_part shape low high = needed (codes "default_value") (start shape low high) (wanted_start shape low high)
 
-abbrev pub parameter_parts : List Part
-parameter_parts =
+-- its keys
+abbrev pub said_parts : List Part
+said_parts =
     only parameter_keys ∷ needed (codes "pid") own_pid wanted.Pid ∷ needed (codes "command_class") command_class wanted.CommandClass
-    ∷ type_part ∷ given shape_in least_part ∷ given shape_in (λ shape. given (low_in shape) (greatest_part shape))
+    ∷ type_part ∷ given shape_in least_part ∷ given shape_in (λ shape. given (low_in shape) (greatest_part shape)) ∷ fields_part
     ∷ given shape_in (λ shape. given (low_in shape) (λ low. given (high_in shape low) (start_part shape low)))
     ∷ free_number (codes "unit") 0 0xFF ∷ free_number (codes "prefix") 0 0xFF ∷ free (codes "factory_defaults") flag wanted.Boolean
     ∷ free_text (codes "description") ∷ []
+
+-- what has to hold of what they say
+abbrev pub tested : List ℕ → (ParameterDef → Bool) → Wanted → Part
+tested key holds wanted =
+    says_one (λ t d. SaysParameter t d × IsTrue (holds d))
+    (λ t f. (d : ParameterDef) × SaysParameter t d × (holds d ≡ false) × (f ≡ fault key wanted))
+
+abbrev pub parameter_parts : List Part
+parameter_parts =
+    says_one SaysParameter (FirstWrong said_parts) ∷ tested (codes "fields") has_good_fields (wanted.Agreement agreements.AllSlots)
+    ∷ tested (codes "default_value") can_start (wanted.Agreement agreements.Start)
+    ∷ tested (codes "pid") follows (wanted.Agreement agreements.Standard) ∷ []
 
 -- ---- how jobs end
 
@@ -234,6 +267,16 @@ ascending =
     (λ t f. (ds : List ParameterDef) × (n : ℕ) × Lists t (codes "parameter") (OfTable IsParameter) 0 16 ds × IsFirstBelow ds n
     × (f ≡ in_entry (codes "parameter") (n + 1) (fault (codes "pid") wanted.Ascending)))
 
+-- these are the parameters and the names of choices
+abbrev pub AreAdded : Members → List ParameterDef → List ChoiceName → Type 0
+AreAdded t ds cs = Lists t (codes "parameter") (OfTable IsParameter) 0 16 ds × Lists t (codes "choice") (OfTable IsChoice) 0 64 cs
+
+-- they agree
+abbrev pub agreeing : Part
+agreeing =
+    says_one (λ t (r : List ParameterDef × List ChoiceName). AreAdded t r.0 r.1 × Agree r.0 r.1)
+    (λ t f. (ds : List ParameterDef) × (cs : List ChoiceName) × AreAdded t ds cs × (¬ Agree ds cs) × (f ≡ fault (codes "choice") (wanted.Agreement agreements.Names)))
+
 -- these are the PIDs of the parameters that the key names
 abbrev pub AreNamed : Members → List ℕ → Type 0
 AreNamed t pids = Lists t (codes "without") (λ d pid. parameter_named d ≡ Some pid) 0 36 pids
@@ -260,6 +303,12 @@ unneeded =
     says_one (λ t (pids : List ℕ). AreNamed t pids × (leave_no_need pids ≡ true))
     (λ t f. (pids : List ℕ) × AreNamed t pids × (leave_no_need pids ≡ false) × (f ≡ fault (codes "without") wanted.Unneeded))
 
+-- the parameters and the names of choices, one part after the other
+abbrev pub added_parts : List Part
+added_parts =
+    entries (codes "parameter") IsParameter (FirstWrong parameter_parts) 0 16 ∷ ascending
+    ∷ entries (codes "choice") IsChoice (FirstWrong choice_parts) 0 64 ∷ agreeing ∷ []
+
 abbrev pub profile_parts : List Part
 profile_parts =
     free_number (codes "boot_software_version_id") 0 0xFFFFFFFF ∷ free_text (codes "boot_software_version_label") ∷ languages
@@ -268,8 +317,7 @@ profile_parts =
     ∷ entries (codes "sensor") IsSensor (FirstWrong sensor_parts) 0 8
     ∷ entries (codes "self_test") IsSelfTest (FirstWrong self_test_parts) 0 8 ∷ differing (codes "self_test") (codes "number") IsSelfTest (λ a. a.number)
     ∷ entries (codes "status") IsStatus (FirstWrong status_parts) 0 8 ∷ differing (codes "status") (codes "id") IsStatus (λ a. a.id)
-    ∷ names ∷ optional ∷ unneeded
-    ∷ entries (codes "parameter") IsParameter (FirstWrong parameter_parts) 0 16 ∷ ascending ∷ times ∷ choice ∷ []
+    ∷ names ∷ optional ∷ unneeded ∷ (added_parts ++ (times ∷ choice ∷ []))
 
 abbrev pub fixture_parts : List Part
 fixture_parts =

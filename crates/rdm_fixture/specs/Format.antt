@@ -2,6 +2,7 @@
 -- E1.20 that it sets, in small letters.
 use Rattle.std.specs.Prelude.{◌≡◌, ◌≢◌, false, ℕ, ◌+◌, ◌<◌, ◌≤◌, min, pos, neg_ℤ, IsTrue, List, [], ◌∷◌, length, Option, Some, None, option_map, unwrap_or, AllPairs, codes}
 use Rattle.toml.specs.Data.{Data, string, table, array, Members, get_member}
+use Rattle.rdm_device.specs.declared.profile.choices.ChoiceName.{ChoiceName}
 use Rattle.rdm_device.specs.declared.profile.Personality.{Personality}
 use Rattle.rdm_device.specs.declared.profile.Profile.{Profile}
 use Rattle.rdm_device.specs.declared.profile.SelfTest.{SelfTest}
@@ -13,7 +14,7 @@ use Rattle.rdm_device.specs.declared.profile.estimates.Estimates.{Estimates}
 use Rattle.rdm_device.specs.declared.profile.workers.Worker.TheVariants.{First, Second}
 use Rattle.rdm_device.specs.declared.profile.workers.Workers.{Workers}
 use Rattle.rdm_device.specs.Device.Estimates.{usual}
-use Rattle.rdm_device.specs.Device.Profiles.{MayBeLeftOut}
+use Rattle.rdm_device.specs.Device.Profiles.{MayBeLeftOut, Agree}
 use Rattle.rdm_device.specs.Device.Workers.{usual_workers}
 use Rattle.rdm_params.specs.Table.Kinds.{pid_of, kind_named}
 use Rattle.rdm_fixture.specs.declared.fixture.Fixture.{Fixture}
@@ -81,6 +82,17 @@ pub record IsStatus (t : Members) (s : StatusText) : Type 0 where
   pub keys : IsTrue (has_only status_keys t)
   pub id : Must t (codes "id") (number 0 0xFFFF) s.id
   pub text : May t (codes "description") [] text s.text
+
+abbrev pub choice_keys : List (List ℕ)
+choice_keys = codes "pid" ∷ codes "number" ∷ codes "hertz" ∷ codes "description" ∷ []
+
+-- What a thing is called of which one is chosen, by the parameter that tells it. E1.37-1, CURVE_DESCRIPTION and the like.
+pub record IsChoice (t : Members) (c : ChoiceName) : Type 0 where
+  pub keys : IsTrue (has_only choice_keys t)
+  pub pid : Must t (codes "pid") (number 0 0xFFFF) c.pid
+  pub hertz : May t (codes "hertz") 0 (number 0 0xFFFFFFFF) c.hertz
+  pub number : Must t (codes "number") (number 1 0xFF) c.number
+  pub name : May t (codes "description") [] text c.name
 
 -- ---- the root and the sub-devices
 
@@ -179,10 +191,11 @@ abbrev pub fixture_keys : List (List ℕ)
 fixture_keys =
     codes "uid" ∷ codes "boot_software_version_id" ∷ codes "boot_software_version_label" ∷ codes "languages"
     ∷ codes "presets" ∷ codes "more_slots" ∷ codes "slot" ∷ codes "sensor" ∷ codes "self_test" ∷ codes "status"
-    ∷ codes "without" ∷ codes "parameter" ∷ codes "outcome" ∷ codes "sub_devices" ∷ codes "estimates" ∷ codes "workers" ∷ unit_keys
+    ∷ codes "without" ∷ codes "parameter" ∷ codes "choice" ∷ codes "outcome" ∷ codes "sub_devices" ∷ codes "estimates"
+    ∷ codes "workers" ∷ unit_keys
 
--- What the devices are made with. The parameters of the maker's own are in the order of their PIDs. Those that the fixture lacks are ones
--- that it may lack, and none that another one needs.
+-- What the devices are made with. The parameters that it adds are in the order of their PIDs, and each thing of which one is chosen has a
+-- name. Those that the fixture lacks are ones that it may lack, and none that another one needs.
 pub record IsProfile (t : Members) (p : Profile) : Type 0 where
   pub root : IsUnit (root_slots t) t p.root
   pub sub : SubDevices (root_slots t) t (get_member (codes "sub_devices") t) p.subs p.sub
@@ -201,6 +214,8 @@ pub record IsProfile (t : Members) (p : Profile) : Type 0 where
   pub may_lack : MayBeLeftOut p.without.items
   pub own : Lists t (codes "parameter") (OfTable IsParameter) 0 16 p.own
   pub own_ascend : AllPairs (λ a b. a.pid < b.pid) p.own
+  pub choices : Lists t (codes "choice") (OfTable IsChoice) 0 64 p.choices
+  pub agree : Agree p.own p.choices
   pub estimates : EstimatesAt (get_member (codes "estimates") t) p.estimates
   pub workers : WorkersAt (get_member (codes "workers") t) p.workers
 

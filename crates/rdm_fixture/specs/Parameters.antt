@@ -1,23 +1,28 @@
--- Which table is a parameter that the maker adds. A key is named as the field of PARAMETER_DESCRIPTION that it sets, in small
--- letters; commands and types have the names of tables A-16 and A-15. E1.20 section 10.4.2.
-use Rattle.std.specs.Prelude.{◌≡◌, ℕ, ◌/◌, ◌%◌, min, ℤ, pos, neg_ℤ, Bool, ◌&&◌, if◌then◌else◌, nat_le, int_le, IsTrue, List, [], ◌∷◌, length, Option, Some, None, option_and_then, option_map, codes}
+-- Which table is a parameter that a profile adds: one of the maker's own, or one of the standards'. A key is named as the field of
+-- PARAMETER_DESCRIPTION that it sets, in small letters; commands and types have the names of tables A-16 and A-15. E1.20 section 10.4.2.
+use Rattle.std.specs.Prelude.{◌≡◌, ℕ, ◌-◌, ◌/◌, ◌%◌, min, ℤ, pos, neg_ℤ, Bool, ◌&&◌, if◌then◌else◌, ◌==◌, nat_le, int_le, IsTrue, List, [], ◌∷◌, length, Option, Some, None, option_and_then, option_map, codes}
 use Rattle.std.specs.Int.{w64, cast_unsigned}
 use Rattle.std.specs.Str.{bytes_eq}
 use Rattle.toml.specs.Data.{Data, string, integer, boolean, Members, get_member}
 use Rattle.rdm_frame.specs.DigitReading.{bytes_in}
+use Rattle.rdm_device.specs.declared.profile.fields.Field.{Field}
+use Rattle.rdm_device.specs.declared.profile.fields.Width.{Width}
+use Rattle.rdm_device.specs.declared.profile.fields.Width.TheVariants as widths
 use Rattle.rdm_device.specs.declared.profile.own.ParameterDef.{ParameterDef}
 use Rattle.rdm_device.specs.declared.profile.own.Rights.{Rights}
 use Rattle.rdm_device.specs.declared.profile.own.Rights.TheVariants as rights
 use Rattle.rdm_device.specs.declared.profile.own.Shape.{Shape}
 use Rattle.rdm_device.specs.declared.profile.own.Shape.TheVariants as shapes
-use Rattle.rdm_device.specs.Device.OwnParameters.{is_addable, has_set}
+use Rattle.rdm_device.specs.Device.Fields.{reach_of}
+use Rattle.rdm_device.specs.Device.OwnParameters.{is_addable, has_set, can_start, has_good_fields}
+use Rattle.rdm_device.specs.Device.Standards.{follows}
 use Rattle.rdm_device.specs.Device.Values.{word_slots, long_slots}
-use Rattle.rdm_fixture.specs.Keys.{must, may, Must, May, has_only}
+use Rattle.rdm_fixture.specs.Keys.{must, may, Must, May, has_only, OfTable, Lists}
 use Rattle.rdm_fixture.specs.Values.{number, text}
 
 -- ---- its PID and its commands
 
--- a PID that a maker can add
+-- a PID that a profile can add
 abbrev pub own_pid : Data → Option ℕ
 own_pid d = option_and_then (λ pid. if is_addable pid then Some pid else None) (number 0 0xFFFF d)
 
@@ -34,7 +39,8 @@ command_class _ = None
 
 -- ---- its data
 
--- the data of the type with this name, and with so many slots if the type leaves that open. Table A-15.
+-- the data of the type with this name, and with so many slots if the type leaves that open. Table A-15; the last three are those of
+-- E1.37-1, CURVE, CURVE_DESCRIPTION and MODULATION_FREQUENCY_DESCRIPTION and the like.
 abbrev pub shape_named : ℕ → List ℕ → Option Shape
 shape_named slots s =
     if bytes_eq s (codes "unsigned_byte") then Some shapes.Byte
@@ -45,7 +51,10 @@ shape_named slots s =
     else (if bytes_eq s (codes "signed_dword") then Some shapes.SignedLong
     else (if bytes_eq s (codes "ascii") then Some shapes.Text
     else (if bytes_eq s (codes "bit_field") then Some (shapes.Bits slots)
-    else (if bytes_eq s (codes "not_defined") then Some (shapes.Slots slots) else None))))))))
+    else (if bytes_eq s (codes "not_defined") then Some (shapes.Slots slots)
+    else (if bytes_eq s (codes "choice") then Some shapes.Choice
+    else (if bytes_eq s (codes "names") then Some shapes.Names
+    else (if bytes_eq s (codes "rates") then Some shapes.Rates else None)))))))))))
 
 abbrev pub data_type : ℕ → Data → Option Shape
 data_type slots (string s) = shape_named slots s
@@ -69,6 +78,7 @@ least_of _ = pos 0
 
 abbrev pub greatest_of : Shape → ℤ
 greatest_of shapes.Byte = pos 255
+greatest_of shapes.Choice = pos 255
 greatest_of shapes.SignedByte = pos 127
 greatest_of shapes.Word = pos 65535
 greatest_of shapes.SignedWord = pos 32767
@@ -90,6 +100,7 @@ limit shape d = integer_from (least_of shape) (greatest_of shape) d
 -- a number in the slots of data, in two's complement if it is signed
 abbrev pub number_slots : Shape → ℤ → List ℕ
 number_slots shapes.Byte z = cast_unsigned w64 z % 0x100 ∷ []
+number_slots shapes.Choice z = cast_unsigned w64 z % 0x100 ∷ []
 number_slots shapes.SignedByte z = cast_unsigned w64 z % 0x100 ∷ []
 number_slots shapes.Word z = word_slots (cast_unsigned w64 z % 0x10000)
 number_slots shapes.SignedWord z = word_slots (cast_unsigned w64 z % 0x10000)
@@ -107,7 +118,33 @@ abbrev pub start : Shape → ℤ → ℤ → Data → Option (List ℕ)
 start shapes.Text low high d = text d
 start (shapes.Bits n) low high d = spelled d
 start (shapes.Slots n) low high d = spelled d
+start shapes.Names low high d = spelled d
+start shapes.Rates low high d = spelled d
 start shape low high d = option_map (number_slots shape) (integer_from low high d)
+
+-- ---- the numbers that its slots say
+
+-- how many slots a number has: 1, 2 or 4
+abbrev pub width_of_slots : ℕ → Option Width
+width_of_slots n = if n == 1 then Some widths.One else (if n == 2 then Some widths.Two else (if n == 4 then Some widths.Four else None))
+
+abbrev pub width : Data → Option Width
+width d = option_and_then width_of_slots (number 1 4 d)
+
+-- the greatest number that so many slots can say
+abbrev pub greatest_said : Width → ℕ
+greatest_said w = reach_of w - 1
+
+abbrev pub field_keys : List (List ℕ)
+field_keys = codes "slots" ∷ codes "minimum_valid_value" ∷ codes "maximum_valid_value" ∷ codes "also_valid_value" ∷ []
+
+-- A number of so many slots, from the least to the greatest, or one more; where nothing is said of it, the least is this one again.
+pub record IsField (t : Members) (f : Field) : Type 0 where
+  pub keys : IsTrue (has_only field_keys t)
+  pub width : Must t (codes "slots") width f.width
+  pub low : May t (codes "minimum_valid_value") 0 (number 0 0xFFFFFFFF) f.low
+  pub high : May t (codes "maximum_valid_value") (greatest_said f.width) (number 0 0xFFFFFFFF) f.high
+  pub also : May t (codes "also_valid_value") f.low (number 0 0xFFFFFFFF) f.also
 
 -- ---- the whole
 
@@ -118,7 +155,7 @@ flag _ = None
 abbrev pub parameter_keys : List (List ℕ)
 parameter_keys =
     codes "pid" ∷ codes "command_class" ∷ codes "data_type" ∷ codes "minimum_valid_value" ∷ codes "maximum_valid_value"
-    ∷ codes "default_value" ∷ codes "unit" ∷ codes "prefix" ∷ codes "factory_defaults" ∷ codes "description" ∷ []
+    ∷ codes "fields" ∷ codes "default_value" ∷ codes "unit" ∷ codes "prefix" ∷ codes "factory_defaults" ∷ codes "description" ∷ []
 
 -- what these keys say: the least value, and the greatest one from there on
 abbrev pub low_in : Shape → Members → Option ℤ
@@ -127,16 +164,25 @@ low_in shape t = may (least_of shape) (limit shape) (get_member (codes "minimum_
 abbrev pub high_in : Shape → ℤ → Members → Option ℤ
 high_in shape low t = may (greatest_of shape) (integer_from low (greatest_of shape)) (get_member (codes "maximum_valid_value") t)
 
--- Where nothing is said of it, FACTORY_DEFAULTS sets back what has a SET. Section 10.5.6.
-pub record IsParameter (t : Members) (d : ParameterDef) : Type 0 where
+-- What the keys of a parameter say. Where nothing is said of it, FACTORY_DEFAULTS sets back what has a SET. Section 10.5.6.
+pub record SaysParameter (t : Members) (d : ParameterDef) : Type 0 where
   pub keys : IsTrue (has_only parameter_keys t)
   pub pid : Must t (codes "pid") own_pid d.pid
   pub rights : Must t (codes "command_class") command_class d.rights
   pub shape : shape_in t ≡ Some d.shape
   pub low : low_in d.shape t ≡ Some d.low
   pub high : high_in d.shape d.low t ≡ Some d.high
+  pub fields : Lists t (codes "fields") (OfTable IsField) 0 8 d.fields.items
   pub start : Must t (codes "default_value") (start d.shape d.low d.high) d.start
   pub unit : May t (codes "unit") 0 (number 0 0xFF) d.unit
   pub prefix : May t (codes "prefix") 0 (number 0 0xFF) d.prefix
   pub resets : May t (codes "factory_defaults") (has_set d.rights) flag d.resets
   pub name : May t (codes "description") [] text d.name
+
+-- Its fields take all of its slots, if it has any; it starts with data of its form that say numbers in range; and if its PID is one of
+-- E1.20 or E1.37-1, it has the commands and the data of that standard.
+pub record IsParameter (t : Members) (d : ParameterDef) : Type 0 where
+  pub said : SaysParameter t d
+  pub fields : IsTrue (has_good_fields d)
+  pub start : IsTrue (can_start d)
+  pub standard : IsTrue (follows d)

@@ -35,7 +35,7 @@ pub record IsPlain (n : ℕ) (d : Data) : Type 0 where
   pub shallow : depth d ≤ n
   pub dates : has_valid_dates d ≡ true
 
--- ---- parameters of the maker's own
+-- ---- parameters that the profile adds
 
 -- the names of their commands and of the types of their data. Tables A-16 and A-15.
 abbrev pub rights_name : Rights → List ℕ
@@ -53,6 +53,9 @@ shape_name shapes.SignedLong = codes "signed_dword"
 shape_name shapes.Text = codes "ascii"
 shape_name (shapes.Bits n) = codes "bit_field"
 shape_name (shapes.Slots n) = codes "not_defined"
+shape_name shapes.Choice = codes "choice"
+shape_name shapes.Names = codes "names"
+shape_name shapes.Rates = codes "rates"
 
 -- what is written of data that are no number: a text as it is, and all else in digits
 abbrev pub written_slots : Shape → List ℕ → List ℕ

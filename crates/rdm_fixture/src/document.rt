@@ -18,11 +18,10 @@ ghost use Rattle.rdm_fixture.specs.Wrong.{FirstWrong};
 use crate::keys::{only, own_uid};
 use crate::line::with_line;
 use crate::lists::list;
-use crate::profile::profile;
+use crate::profile::{Added, profile};
 use crate::unit::and_unit_keys;
 use crate::{Fixture, Refusal};
-use arrayvec::ArrayVec;
-use rdm_device::{OwnParameters, ParameterDef, Profile};
+use rdm_device::{ChoiceNames, OwnParameters, Profile};
 use std::alloc::{AllocError, Global};
 use std::fmt;
 use thiserror::Error;
@@ -59,7 +58,7 @@ impl Fixture {
             Err(error) => return Err(not_read(error)),
         };
         match fixture_of(&table) {
-            Ok((fixture, own)) => match with_own(alloc, fixture, own) {
+            Ok((fixture, added)) => match with_added(alloc, fixture, added) {
                 Ok(fixture) => Ok(fixture),
                 Err(_) => Err(FixtureError::OutOfMemory),
             },
@@ -80,21 +79,22 @@ fn not_read(error: toml::de::Error) -> FixtureError
     }
 }
 
-/// The fixture with these parameters of the maker's own in its profile. They take memory unless there are none.
-fn with_own(
-    alloc: Global,
-    fixture: Fixture,
-    own: ArrayVec<ParameterDef, 16>,
-) -> Result<Fixture, AllocError>
-    ensures { IfOk result (λ f. f ≡ fixture_with fixture own.items) }
+/// The fixture with these parameters and names in its profile. They take memory unless there are none.
+fn with_added(alloc: Global, fixture: Fixture, added: Added) -> Result<Fixture, AllocError>
+    ensures { IfOk result (λ f. f ≡ fixture_with fixture added.own.items added.choices.items) }
 {
     let Fixture {
         uid,
         profile,
         outcomes,
     } = fixture;
-    let own = OwnParameters::of(alloc, own)?;
-    let profile = Profile { own, ..profile };
+    let own = OwnParameters::of(alloc, added.own)?;
+    let choices = ChoiceNames::of(alloc, added.choices)?;
+    let profile = Profile {
+        own,
+        choices,
+        ..profile
+    };
     Ok(Fixture {
         uid,
         profile,
@@ -102,11 +102,11 @@ fn with_own(
     })
 }
 
-/// The fixture of a table, with no key besides those of the format, but for the parameters of the maker's own, which stand beside it.
-fn fixture_of(table: &Table) -> Result<(Fixture, ArrayVec<ParameterDef, 16>), Refusal>
-    ensures read { Reads (λ t r. IsFixture t (fixture_with r.0 r.1.items)) (table_view table.now) result }
-    ensures made { IfOk result (λ r. CanBeMade (with_parameters r.0.profile r.1.items)) }
-    ensures describable { IfOk result (λ r. CanBeDescribed (fixture_with r.0 r.1.items)) }
+/// The fixture of a table, with no key besides those of the format, but for what takes memory in its profile, which stands beside it.
+fn fixture_of(table: &Table) -> Result<(Fixture, Added), Refusal>
+    ensures read { Reads (λ t r. IsFixture t (fixture_with r.0 r.1.own.items r.1.choices.items)) (table_view table.now) result }
+    ensures made { IfOk result (λ r. CanBeMade (with_parameters r.0.profile r.1.own.items r.1.choices.items)) }
+    ensures describable { IfOk result (λ r. CanBeDescribed (fixture_with r.0 r.1.own.items r.1.choices.items)) }
     ensures wrong { IfErr result (λ e. FirstWrong fixture_parts (table_view table.now) (told e)) }
 {
     only(
@@ -124,6 +124,7 @@ fn fixture_of(table: &Table) -> Result<(Fixture, ArrayVec<ParameterDef, 16>), Re
             "status",
             "without",
             "parameter",
+            "choice",
             "outcome",
             "sub_devices",
             "estimates",
@@ -131,12 +132,12 @@ fn fixture_of(table: &Table) -> Result<(Fixture, ArrayVec<ParameterDef, 16>), Re
         ),
     )?;
     let uid = own_uid(table, "uid")?;
-    let (profile, own) = profile(table)?;
+    let (profile, added) = profile(table)?;
     let outcomes = list(table, "outcome", 0, 0)?;
     let fixture = Fixture {
         uid,
         profile,
         outcomes,
     };
-    Ok((fixture, own))
+    Ok((fixture, added))
 }

@@ -1,13 +1,13 @@
-//! The entries of the lists: personalities, slots, sensors, self tests and status IDs.
+//! The entries of the lists: personalities, slots, sensors, self tests, status IDs, and the names of choices.
 
 ghost use Rattle.rdm_fixture.specs.FirstWrong as parts;
-ghost use Rattle.rdm_fixture.specs.Format.{IsPersonality, IsSlot, IsSensor, IsSelfTest, IsStatus};
+ghost use Rattle.rdm_fixture.specs.Format.{IsPersonality, IsSlot, IsSensor, IsSelfTest, IsStatus, IsChoice};
 ghost use Rattle.rdm_fixture.specs.Wrong.{FirstWrong};
 
 use crate::keys::{flag_or, number, number_or, only, signed_or, text_or_none};
 use crate::lists::FromEntry;
 use crate::refusal::Refusal;
-use rdm_device::{Personality, SelfTest, SensorDef, Slot, StatusText};
+use rdm_device::{ChoiceName, Personality, SelfTest, SensorDef, Slot, StatusText};
 use toml::Table;
 
 impl FromEntry for Personality {
@@ -100,6 +100,22 @@ impl FromEntry for StatusText {
         Ok(StatusText {
             id: number(table, "id", 0, 0xFFFF)? as u16,
             text: text_or_none(table, "description")?,
+        })
+    }
+}
+
+impl FromEntry for ChoiceName {
+    ghost says = { λ _. IsChoice };
+
+    ghost wrong = { λ _. FirstWrong parts.choice_parts };
+
+    fn from_entry(table: &Table, _slots: u16) -> Result<ChoiceName, Refusal> {
+        only(table, &["pid", "number", "hertz", "description"])?;
+        Ok(ChoiceName {
+            pid: number(table, "pid", 0, 0xFFFF)? as u16,
+            number: number(table, "number", 1, 0xFF)? as u8,
+            hertz: number_or(table, "hertz", 0, 0, 0xFFFF_FFFF)?,
+            name: text_or_none(table, "description")?,
         })
     }
 }

@@ -4,7 +4,7 @@ ghost use Rattle.std.specs.Prelude.{◌≡◌, ◌↔◌, ℕ, List, IsTrue};
 ghost use Rattle.rdm_fixture.specs.Describes.{Describes};
 ghost use Rattle.rdm_fixture.specs.Refusals.{IsSameEntry, IsSameRefusal};
 
-use crate::{Entry, Fixture, Refusal, Section, Wanted, WriteError};
+use crate::{Agreement, Entry, Fixture, Refusal, Section, Wanted, WriteError};
 use rdm_device::profiles_are_equal_by_value;
 use rdm_frame::uids_are_equal_by_value;
 use rdm_outcomes::rules_are_equal_by_value;
@@ -26,6 +26,13 @@ pub fn fixtures_are_equal_by_value()
 /// Two values of `Wanted` are equal by `==` exactly when they are the same, bounds included.
 pub fn wanteds_are_equal_by_value()
     ensures { (a b : Wanted) → IsTrue (⟦<Wanted as PartialEq>⟧.eq a b) ↔ (a ≡ b) }
+{
+    agreements_are_equal_by_value();
+}
+
+/// Two values of `Agreement` are equal by `==` exactly when they are the same.
+pub fn agreements_are_equal_by_value()
+    ensures { (a b : Agreement) → IsTrue (⟦<Agreement as PartialEq>⟧.eq a b) ↔ (a ≡ b) }
 {}
 
 /// Two values of `Section` are equal by `==` exactly when they are the same.

@@ -24,9 +24,9 @@ mod writing;
 pub use document::FixtureError;
 pub use fixture::Fixture;
 pub use laws::{
-    entries_are_equal_by_value, fixtures_are_equal_by_value, refusals_are_equal_by_value,
-    sections_are_equal_by_value, text_describes_one_fixture, wanteds_are_equal_by_value,
-    write_errors_are_equal_by_value,
+    agreements_are_equal_by_value, entries_are_equal_by_value, fixtures_are_equal_by_value,
+    refusals_are_equal_by_value, sections_are_equal_by_value, text_describes_one_fixture,
+    wanteds_are_equal_by_value, write_errors_are_equal_by_value,
 };
-pub use refusal::{Entry, Name, Refusal, Section, Wanted};
+pub use refusal::{Agreement, Entry, Name, Refusal, Section, Wanted};
 pub use writing::WriteError;

@@ -1,4 +1,4 @@
-//! The parameters that the maker adds, as entries of a list.
+//! The parameters that the profile adds, as entries of a list.
 
 ghost use Rattle.std.specs.Prelude.{◌≡◌, Some, IfErr, codes};
 ghost use Rattle.std.specs.Result.{result_ok};
@@ -8,20 +8,23 @@ ghost use Rattle.rdm_fixture.specs.Faults.{told};
 ghost use Rattle.rdm_fixture.specs.FirstWrong as parts;
 ghost use Rattle.rdm_fixture.specs.Keys.{must};
 ghost use Rattle.rdm_fixture.specs.Parameters as says;
-ghost use Rattle.rdm_fixture.specs.Parameters.{IsParameter};
+ghost use Rattle.rdm_fixture.specs.Keys.{Reads};
+ghost use Rattle.rdm_fixture.specs.Parameters.{SaysParameter, IsParameter};
 ghost use Rattle.rdm_fixture.specs.Wrong.{FirstWrong, needed};
 ghost use Rattle.rdm_fixture.specs.declared.refusal.Wanted.TheVariants as wanted;
 
+mod fields;
 mod limits;
 mod starting;
 
 use crate::keys::{find, flag_or, integer_in, number_or, only, text_or_none};
 use crate::lists::FromEntry;
-use crate::refusal::{Refusal, Wanted};
+use crate::refusal::{Agreement, Refusal, Wanted};
+use fields::fields;
 use limits::{greatest, least};
 pub(crate) use limits::{greatest_of, least_of};
 use rdm_device::columns::added::has_set;
-use rdm_device::{ParameterDef, Rights, Shape, is_addable};
+use rdm_device::{ParameterDef, Rights, Shape, can_start, follows, has_good_fields, is_addable};
 use starting::start;
 use toml::{Table, Value};
 
@@ -31,44 +34,65 @@ impl FromEntry for ParameterDef {
     ghost wrong = { λ _. FirstWrong parts.parameter_parts };
 
     fn from_entry(table: &Table, _slots: u16) -> Result<ParameterDef, Refusal> {
-        only(
-            table,
-            &[
-                "pid",
-                "command_class",
-                "data_type",
-                "minimum_valid_value",
-                "maximum_valid_value",
-                "default_value",
-                "unit",
-                "prefix",
-                "factory_defaults",
-                "description",
-            ],
-        )?;
-        let pid = own_pid(table)?;
-        let rights = rights(table)?;
-        let shape = shape(table)?;
-        let low = least(table, shape)?;
-        let high = greatest(table, shape, low)?;
-        let start = start(table, shape, low, high)?;
-        let unit = number_or(table, "unit", 0, 0, 0xFF)? as u8;
-        let prefix = number_or(table, "prefix", 0, 0, 0xFF)? as u8;
-        let resets = flag_or(table, "factory_defaults", has_set(rights))?;
-        let name = text_or_none(table, "description")?;
-        Ok(ParameterDef {
-            pid,
-            rights,
-            shape,
-            low,
-            high,
-            start,
-            unit,
-            prefix,
-            name,
-            resets,
-        })
+        let def = parameter(table)?;
+        if !has_good_fields(&def) {
+            return Err(Refusal::at("fields", Wanted::Agreement(Agreement::AllSlots)));
+        }
+        if !can_start(&def) {
+            return Err(Refusal::at("default_value", Wanted::Agreement(Agreement::Start)));
+        }
+        if !follows(&def) {
+            return Err(Refusal::at("pid", Wanted::Agreement(Agreement::Standard)));
+        }
+        Ok(def)
     }
+}
+
+/// The parameter that the keys of a table say.
+fn parameter(table: &Table) -> Result<ParameterDef, Refusal>
+    ensures read { Reads SaysParameter (table_view table.now) result }
+    ensures wrong { IfErr result (λ e. FirstWrong parts.said_parts (table_view table.now) (told e)) }
+{
+    only(
+        table,
+        &[
+            "pid",
+            "command_class",
+            "data_type",
+            "minimum_valid_value",
+            "maximum_valid_value",
+            "fields",
+            "default_value",
+            "unit",
+            "prefix",
+            "factory_defaults",
+            "description",
+        ],
+    )?;
+    let pid = own_pid(table)?;
+    let rights = rights(table)?;
+    let shape = shape(table)?;
+    let low = least(table, shape)?;
+    let high = greatest(table, shape, low)?;
+    let fields = fields(table)?;
+    let start = start(table, shape, low, high)?;
+    let unit = number_or(table, "unit", 0, 0, 0xFF)? as u8;
+    let prefix = number_or(table, "prefix", 0, 0, 0xFF)? as u8;
+    let resets = flag_or(table, "factory_defaults", has_set(rights))?;
+    let name = text_or_none(table, "description")?;
+    Ok(ParameterDef {
+        pid,
+        rights,
+        shape,
+        low,
+        high,
+        fields,
+        start,
+        unit,
+        prefix,
+        name,
+        resets,
+    })
 }
 
 // ---- its PID and its commands
@@ -83,7 +107,7 @@ fn own_pid(table: &Table) -> Result<u16, Refusal>
     }
 }
 
-/// The PID, if a maker can add one with it.
+/// The PID, if a profile can add a parameter with it.
 fn own_pid_in(value: &Value) -> Option<u16>
     ensures { result ≡ says.own_pid (view value.now) }
 {
@@ -166,6 +190,9 @@ fn shape_in(value: &Value, slots: u8) -> Option<Shape>
         "ascii" => Some(Shape::Text),
         "bit_field" => Some(Shape::Bits(slots)),
         "not_defined" => Some(Shape::Slots(slots)),
+        "choice" => Some(Shape::Choice),
+        "names" => Some(Shape::Names),
+        "rates" => Some(Shape::Rates),
         _ => None,
     }
 }

@@ -21,16 +21,16 @@ use crate::lists::list;
 use crate::refusal::{Refusal, Wanted};
 use crate::unit::{sub_devices, unit};
 use crate::workers::workers;
-use added::{own_parameters, without};
+pub(crate) use added::Added;
+use added::{additions, without};
 use arrayvec::ArrayVec;
-use rdm_device::{OwnParameters, ParameterDef, Profile, SelfTest, Slot, StatusText};
+use rdm_device::{ChoiceNames, OwnParameters, Profile, SelfTest, Slot, StatusText};
 use toml::value::Array;
 use toml::{Table, Value};
 
-/// The profile of a table, of which only the keys of a profile are looked at. The parameters of the maker's own stand beside it, since
-/// they take memory in it.
-pub(crate) fn profile(table: &Table) -> Result<(Profile, ArrayVec<ParameterDef, 16>), Refusal>
-    ensures read { Reads (λ t r. IsProfile t (with_parameters r.0 r.1.items)) (table_view table.now) result }
+/// The profile of a table, of which only the keys of a profile are looked at. What takes memory in it stands beside it.
+pub(crate) fn profile(table: &Table) -> Result<(Profile, Added), Refusal>
+    ensures read { Reads (λ t r. IsProfile t (with_parameters r.0 r.1.own.items r.1.choices.items)) (table_view table.now) result }
     ensures wrong { IfErr result (λ e. FirstWrong parts.profile_parts (table_view table.now) (told e)) }
 {
     let boot = number_or(table, "boot_software_version_id", 0, 0, 0xFFFF_FFFF)?;
@@ -46,7 +46,7 @@ pub(crate) fn profile(table: &Table) -> Result<(Profile, ArrayVec<ParameterDef, 
     let tests = self_tests(table)?;
     let status_texts = status_texts(table)?;
     let without = without(table)?;
-    let parameters = own_parameters(table)?;
+    let added = additions(table)?;
     let estimates = estimates(table)?;
     let workers = workers(table)?;
     let profile = Profile {
@@ -62,12 +62,13 @@ pub(crate) fn profile(table: &Table) -> Result<(Profile, ArrayVec<ParameterDef, 
         status_texts,
         presets,
         own: OwnParameters::none(),
+        choices: ChoiceNames::none(),
         without,
         more_slots,
         estimates,
         workers,
     };
-    Ok((profile, parameters))
+    Ok((profile, added))
 }
 
 /// How many slots the root uses besides those that are described.

@@ -32,7 +32,7 @@ pub enum Wanted {
     Table,
     /// Another value than that of an earlier entry.
     Other,
-    /// The PID of a parameter that a maker can add (E1.20 table A-3).
+    /// The PID of a parameter that a profile can add (E1.20 table A-3).
     Pid,
     /// A greater PID than that of each earlier entry.
     Ascending,
@@ -42,6 +42,8 @@ pub enum Wanted {
     DataType,
     /// A string of at most 64 hexadecimal digits, two for each slot.
     Slots,
+    /// What agrees with the other keys of a parameter, or with the parameters.
+    Agreement(Agreement),
     /// `true` or `false`.
     Boolean,
     /// A list of names of the standard's parameters (table A-3).
@@ -62,6 +64,21 @@ pub enum Wanted {
     OneOutcome,
     /// An outcome that the parameter can have.
     Suiting,
+}
+
+/// With what the value of a key has to agree.
+#[derive(Clone, Copy, Debug, PartialEq, Eq)]
+pub enum Agreement {
+    /// With each other: a list of at most 8 numbers that slots say, a table each.
+    Fields,
+    /// With the slots of the data: numbers that take all of them, each with its limits in order.
+    AllSlots,
+    /// With the form and the range of the data.
+    Start,
+    /// With the commands and the data of a parameter of E1.20 or E1.37-1.
+    Standard,
+    /// With the choices: a name for each thing that can be chosen, and no other, in their order (E1.37-1).
+    Names,
 }
 
 /// An entry of a list.
@@ -238,7 +255,7 @@ fn write_wanted<W: fmt::Write>(
     }
 }
 
-/// The same of a parameter that the maker adds, or of those that the fixture lacks.
+/// The same of a parameter that the profile adds.
 fn write_wanted_parameter<W: fmt::Write>(
     f: &mut fmt::Formatter<W>,
     key: &str,
@@ -247,19 +264,58 @@ fn write_wanted_parameter<W: fmt::Write>(
     match wanted {
         Wanted::Pid => write!(
             f,
-            "`{key}` isn't a PID that a maker can add, such as 0x8000 to 0xFFDF"
+            "`{key}` isn't a PID that a fixture can add, such as 0x8000 to 0xFFDF"
         ),
         Wanted::Ascending => write!(f, "`{key}` isn't greater than in each earlier entry"),
         Wanted::CommandClass => write!(f, "`{key}` must be get, set or get_set"),
         Wanted::DataType => write!(
             f,
-            "`{key}` must be unsigned_byte, signed_byte, unsigned_word, signed_word, unsigned_dword, signed_dword, ascii, bit_field or not_defined"
+            "`{key}` must be unsigned_byte, signed_byte, unsigned_word, signed_word, unsigned_dword, signed_dword, ascii, bit_field, not_defined, choice, names or rates"
         ),
         Wanted::Slots => write!(
             f,
             "`{key}` isn't a string of at most 32 slots, each of two hexadecimal digits"
         ),
         Wanted::Boolean => write!(f, "`{key}` must be true or false"),
+        Wanted::Agreement(agreement) => write_agreement(f, key, agreement),
+        _ => write_wanted_lists(f, key, wanted),
+    }
+}
+
+/// With what a key of a parameter, or of the names of choices, has to agree.
+fn write_agreement<W: fmt::Write>(
+    f: &mut fmt::Formatter<W>,
+    key: &str,
+    agreement: Agreement,
+) -> fmt::Result {
+    match agreement {
+        Agreement::Fields => write!(
+            f,
+            "`{key}` isn't a list of at most 8 numbers, such as {{ slots = 2, maximum_valid_value = 100 }}"
+        ),
+        Agreement::AllSlots => write!(
+            f,
+            "`{key}` doesn't take all slots of the data, or has a limit that its slots can't say or that is out of order"
+        ),
+        Agreement::Start => write!(f, "`{key}` isn't what the other keys say of the data"),
+        Agreement::Standard => write!(
+            f,
+            "`{key}` is that of a parameter of E1.20 or E1.37-1 with other commands or other data"
+        ),
+        Agreement::Names => write!(
+            f,
+            "`{key}` isn't a list with one name for each thing of which a parameter lets choose, in the order of their PIDs and numbers"
+        ),
+    }
+}
+
+/// The same of those that the fixture lacks.
+fn write_wanted_lists<W: fmt::Write>(
+    f: &mut fmt::Formatter<W>,
+    key: &str,
+    wanted: Wanted,
+) -> fmt::Result {
+    match wanted {
         Wanted::Parameter => write!(
             f,
             "`{key}` isn't a list of names of parameters, such as \"LAMP_STATE\""

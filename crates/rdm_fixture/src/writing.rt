@@ -63,7 +63,7 @@ impl Fixture {
 
 /// The text of a table with no date-time, nested no deeper than TOML's parser allows: then only memory can be missing.
 fn text_of(alloc: Global, table: &Table) -> Result<String, Error>
-    requires { IsPlain 4 (table_data (table_view table.now)) }
+    requires { IsPlain 5 (table_data (table_view table.now)) }
     ensures reads_back { IfOk result (λ text. parse_document (string_bytes text) ≡ Some (table_view table.now)) }
     ensures memory { IfErr result (λ e. e ≡ Error.OutOfMemory) }
 {

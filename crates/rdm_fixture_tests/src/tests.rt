@@ -6,6 +6,7 @@ mod outcomes;
 mod parameters;
 mod refusals;
 mod spot;
+mod standards;
 mod values;
 mod workers;
 mod writing;

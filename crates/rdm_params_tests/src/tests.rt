@@ -11,6 +11,7 @@ use std::process::Abort;
 
 mod added;
 mod changes;
+mod choices;
 mod devices;
 mod panel;
 mod placing;
@@ -18,6 +19,7 @@ mod profiles;
 mod rows;
 mod scalars;
 mod slow;
+mod standards;
 mod thresholds;
 mod values;
 mod words;

@@ -6,7 +6,7 @@ ghost use Rattle.rdm_words.specs.Plain.{IsPlain};
 
 mod slow;
 
-use crate::data::own::put_added;
+use crate::data::own::{put_added, put_choice_name};
 use crate::data::sensors::put_range;
 use crate::tables::parameters::parameter;
 use crate::tables::products::PRODUCT_CATEGORIES;
@@ -223,8 +223,8 @@ fn put_rest(text: &mut String, profile: &Profile) -> Result<(), AllocError> {
     writeln!(text, "  boot software version {boot:08X}, \"{version}\"")
 }
 
-/// The slots that aren't described, the parameters that the maker adds, unusual times and workers of slow commands, and the parameters
-/// of the standard that the fixture lacks.
+/// The slots that aren't described, the parameters that the fixture adds with what the things are called of which one is chosen, unusual
+/// times and workers of slow commands, and the parameters of the standard that it lacks.
 fn put_own_parts(text: &mut String, profile: &Profile) -> Result<(), AllocError> {
     let more = profile.more_slots;
     if more > 0 {
@@ -232,6 +232,9 @@ fn put_own_parts(text: &mut String, profile: &Profile) -> Result<(), AllocError>
     }
     for def in profile.own.as_slice() {
         put_added(text, def)?;
+    }
+    for name in profile.choices.as_slice() {
+        put_choice_name(text, name)?;
     }
     put_estimates(text, &profile.estimates)?;
     put_workers(text, &profile.workers)?;

@@ -1,5 +1,6 @@
 //! What no clause says: the words themselves, held against the fields of the standard.
 
+mod choices;
 mod lines;
 mod own;
 mod requests;

@@ -8,7 +8,7 @@ ghost use Rattle.rdm_c.specs.Profiles.{profile_in};
 
 use crate::profile::ProfileNumbers;
 use crate::profile::making::fault_of;
-use crate::profile::parameters::ParameterNumbers;
+use crate::profile::parameters::{ChoiceNumbers, ParameterNumbers};
 use rdm_device::ProfileFault;
 
 /// Tells which rule of profiles is broken, the first of them in the order of their numbers, or 0 if none is: a responder can be
@@ -18,14 +18,16 @@ pub extern "C" fn felosumay_profile_fault_nonnull(
     profile: &ProfileNumbers,
     parameters: &[ParameterNumbers],
     without: &[u16],
+    choices: &[ChoiceNumbers],
 ) -> u8
-    ensures good { (result ≡ 0) ↔ CanBeMade (profile_in profile.now parameters.now without.now) }
-    ensures broken { IfSome (fault_in result) (λ fault. IsFirstBroken fault (profile_in profile.now parameters.now without.now)) }
-    ensures numbers { result ≤ 17 }
-    ensures no_parameters { length parameters.now ≡ 0 → (profile_in profile.now parameters.now without.now).own ≡ [] }
-    ensures none_left_out { length without.now ≡ 0 → (profile_in profile.now parameters.now without.now).without.items ≡ [] }
+    ensures good { (result ≡ 0) ↔ CanBeMade (profile_in profile.now parameters.now without.now choices.now) }
+    ensures broken { IfSome (fault_in result) (λ fault. IsFirstBroken fault (profile_in profile.now parameters.now without.now choices.now)) }
+    ensures numbers { result ≤ 20 }
+    ensures no_parameters { length parameters.now ≡ 0 → (profile_in profile.now parameters.now without.now choices.now).own ≡ [] }
+    ensures none_left_out { length without.now ≡ 0 → (profile_in profile.now parameters.now without.now choices.now).without.items ≡ [] }
+    ensures no_names { length choices.now ≡ 0 → (profile_in profile.now parameters.now without.now choices.now).choices ≡ [] }
 {
-    match fault_of(profile, parameters, without) {
+    match fault_of(profile, parameters, without, choices) {
         None => 0,
         Some(ProfileFault::SubDevices) => 1,
         Some(ProfileFault::Presets) => 2,
@@ -44,5 +46,8 @@ pub extern "C" fn felosumay_profile_fault_nonnull(
         Some(ProfileFault::ParameterLimits) => 15,
         Some(ProfileFault::ParameterStart) => 16,
         Some(ProfileFault::ParameterOrder) => 17,
+        Some(ProfileFault::ParameterFields) => 18,
+        Some(ProfileFault::ParameterStandard) => 19,
+        Some(ProfileFault::ParameterNames) => 20,
     }
 }

@@ -29,7 +29,7 @@ use crate::keeping::{free_at, put, replace, take};
 use crate::outcome::{OutcomeNumbers, report_in};
 use crate::profile::ProfileNumbers;
 use crate::profile::making::{boxed, boxed_demo, fault_of, fault_of_demo};
-use crate::profile::parameters::ParameterNumbers;
+use crate::profile::parameters::{ChoiceNumbers, ParameterNumbers};
 use crate::status::Status;
 use rdm_frame::standard::MOST_SLOTS;
 use rdm_frame::{Uid, Wire};
@@ -52,15 +52,16 @@ pub extern "C" fn felosumay_responder_new_nonnull(
     profile: &ProfileNumbers,
     parameters: &[ParameterNumbers],
     without: &[u16],
+    choices: &[ChoiceNumbers],
     queue_size: u16,
 ) -> u8
     ensures made { result ≡ code_of Status.Done →
         HeldFor responder.new.held (empty_history
-        (setup_of maker device (profile_in profile.now parameters.now without.now) queue_size most_entries 0)) }
+        (setup_of maker device (profile_in profile.now parameters.now without.now choices.now) queue_size most_entries 0)) }
     ensures bad_uid { (result ≡ code_of Status.BadUid) ↔ (device ≡ 0xFFFFFFFF) }
     ensures bad_size { (result ≡ code_of Status.BadSize) ↔ ((device ≢ 0xFFFFFFFF) × ¬ IsQueueSize queue_size) }
     ensures bad_profile { (result ≡ code_of Status.BadProfile)
-        ↔ ((device ≢ 0xFFFFFFFF) × IsQueueSize queue_size × ¬ CanBeMade (profile_in profile.now parameters.now without.now)) }
+        ↔ ((device ≢ 0xFFFFFFFF) × IsQueueSize queue_size × ¬ CanBeMade (profile_in profile.now parameters.now without.now choices.now)) }
     ensures codes { result ≤ 4 }
     ensures refused { result ≢ code_of Status.Done → responder.new ≡ responder.old }
 {
@@ -72,6 +73,7 @@ pub extern "C" fn felosumay_responder_new_nonnull(
         profile,
         parameters,
         without,
+        choices,
         queue_size,
         MOST_ENTRIES,
         0,
@@ -94,19 +96,20 @@ pub extern "C" fn felosumay_responder_new_with_nonnull(
     profile: &ProfileNumbers,
     parameters: &[ParameterNumbers],
     without: &[u16],
+    choices: &[ChoiceNumbers],
     queue_size: u16,
     entries: u16,
     first_job: u32,
 ) -> u8
     ensures made { result ≡ code_of Status.Done →
         HeldFor responder.new.held (empty_history
-        (setup_of maker device (profile_in profile.now parameters.now without.now) queue_size entries first_job)) }
+        (setup_of maker device (profile_in profile.now parameters.now without.now choices.now) queue_size entries first_job)) }
     ensures bad_uid { (result ≡ code_of Status.BadUid) ↔ (device ≡ 0xFFFFFFFF) }
     ensures bad_size { (result ≡ code_of Status.BadSize)
         ↔ ((device ≢ 0xFFFFFFFF) × ¬ (IsQueueSize queue_size × IsListSize entries)) }
     ensures bad_profile { (result ≡ code_of Status.BadProfile)
         ↔ ((device ≢ 0xFFFFFFFF) × (IsQueueSize queue_size × IsListSize entries)
-        × ¬ CanBeMade (profile_in profile.now parameters.now without.now)) }
+        × ¬ CanBeMade (profile_in profile.now parameters.now without.now choices.now)) }
     ensures codes { result ≤ 4 }
     ensures refused { result ≢ code_of Status.Done → responder.new ≡ responder.old }
 {
@@ -114,10 +117,10 @@ pub extern "C" fn felosumay_responder_new_with_nonnull(
     if let Some(refusal) = refusal(uid, queue_size, entries) {
         return refusal.code();
     }
-    if fault_of(profile, parameters, without).is_some() {
+    if fault_of(profile, parameters, without, choices).is_some() {
         return Status::BadProfile.code();
     }
-    let Some(profile) = boxed(alloc, profile, parameters, without) else {
+    let Some(profile) = boxed(alloc, profile, parameters, without, choices) else {
         return Status::OutOfMemory.code();
     };
     start(

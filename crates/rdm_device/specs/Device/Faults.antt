@@ -1,12 +1,13 @@
 -- The rules of a profile, one by one, and which is the first that it breaks. E1.20 sections 9 and 10.
 use Rattle.std.specs.Prelude.{◌≢◌, ℕ, ◌<◌, ◌≤◌, List, length, All, AllPairs, IsTrue}
 use Rattle.rdm_device.specs.declared.profile.Profile.{Profile}
+use Rattle.rdm_device.specs.declared.profile.choices.ChoiceName.{ChoiceName}
 use Rattle.rdm_device.specs.declared.profile.own.ParameterDef.{ParameterDef}
 use Rattle.rdm_device.specs.declared.profile.Unit.{Unit as DeviceUnit}
 use Rattle.rdm_device.specs.declared.profile.faults.ProfileFault.{ProfileFault}
-use Rattle.rdm_device.specs.declared.profile.faults.ProfileFault.TheVariants.{SubDevices, Presets, Personalities, Start, RootFootprint, SubFootprint, Languages, TestNumber, TwinTests, TwinStatusTexts, LeftOut, LeftOutNeeded, ParameterCount, ParameterPid, ParameterLimits, ParameterStart, ParameterOrder}
+use Rattle.rdm_device.specs.declared.profile.faults.ProfileFault.TheVariants.{SubDevices, Presets, Personalities, Start, RootFootprint, SubFootprint, Languages, TestNumber, TwinTests, TwinStatusTexts, LeftOut, LeftOutNeeded, ParameterCount, ParameterPid, ParameterLimits, ParameterStart, ParameterOrder, ParameterFields, ParameterStandard, ParameterNames}
 use Rattle.rdm_device.specs.Device.LeftOut.{leave_no_need}
-use Rattle.rdm_device.specs.Device.Profiles.{root_slots, AreOptional, HaveFreePids, HaveLimits, HaveStarts, Ascend}
+use Rattle.rdm_device.specs.Device.Profiles.{root_slots, AreOptional, HaveFreePids, HaveLimits, HaveStarts, Ascend, HaveFields, FollowStandards, Agree}
 
 -- The start address is one of DMX512. Section 10.6.3.
 abbrev pub IsStart : DeviceUnit → Type 0
@@ -31,6 +32,9 @@ Keeps ParameterPid p = HaveFreePids p.own
 Keeps ParameterLimits p = HaveLimits p.own
 Keeps ParameterStart p = HaveStarts p.own
 Keeps ParameterOrder p = Ascend p.own
+Keeps ParameterFields p = HaveFields p.own
+Keeps ParameterStandard p = FollowStandards p.own
+Keeps ParameterNames p = Agree p.own p.choices
 
 -- the rules that don't speak of parameters, kept
 abbrev pub KeepsOthers : Profile → Type 0
@@ -41,6 +45,12 @@ KeepsOthers p =
 -- those, and the rules of the parameters that are left out
 abbrev pub KeepsLeftOut : Profile → Type 0
 KeepsLeftOut p = KeepsOthers p × Keeps LeftOut p × Keeps LeftOutNeeded p
+
+-- those, and the rules of the parameters of the maker's own but for what their slots say
+abbrev pub KeepsListed : Profile → Type 0
+KeepsListed p =
+    KeepsLeftOut p × Keeps ParameterCount p × Keeps ParameterPid p × Keeps ParameterLimits p × Keeps ParameterStart p
+    × Keeps ParameterOrder p
 
 -- the rules before it, kept
 abbrev pub KeepsBefore : ProfileFault → Profile → Type 0
@@ -69,11 +79,14 @@ KeepsBefore ParameterLimits p = KeepsLeftOut p × Keeps ParameterCount p × Keep
 KeepsBefore ParameterStart p = KeepsLeftOut p × Keeps ParameterCount p × Keeps ParameterPid p × Keeps ParameterLimits p
 KeepsBefore ParameterOrder p =
     KeepsLeftOut p × Keeps ParameterCount p × Keeps ParameterPid p × Keeps ParameterLimits p × Keeps ParameterStart p
+KeepsBefore ParameterFields p = KeepsListed p
+KeepsBefore ParameterStandard p = KeepsListed p × Keeps ParameterFields p
+KeepsBefore ParameterNames p = KeepsListed p × Keeps ParameterFields p × Keeps ParameterStandard p
 
 -- It is the first rule that the profile breaks.
 abbrev pub IsFirstBroken : ProfileFault → Profile → Type 0
 IsFirstBroken fault p = KeepsBefore fault p × ¬ Keeps fault p
 
--- a profile with these parameters left out and these of the maker's own
-abbrev pub with_parameters : Profile → List ℕ → List ParameterDef → Profile
-with_parameters p without own = record p { without = record { items = without }; own = own }
+-- a profile with these parameters left out, these of the maker's own, and these names of choices
+abbrev pub with_parameters : Profile → List ℕ → List ParameterDef → List ChoiceName → Profile
+with_parameters p without own choices = record p { without = record { items = without }; own = own; choices = choices }

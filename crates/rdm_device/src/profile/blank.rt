@@ -1,10 +1,15 @@
 //! The blanks that fill the unused places of a list: every number is 0, and every text empty.
 
 ghost use Rattle.std.specs.Prelude.{◌≡◌, [], pos, false};
+ghost use Rattle.rdm_device.specs.declared.profile.fields.Width.TheVariants as widths;
 ghost use Rattle.rdm_device.specs.declared.profile.own.Rights.TheVariants as rights;
 ghost use Rattle.rdm_device.specs.declared.profile.own.Shape.TheVariants as shapes;
 
-use crate::{ParameterDef, Personality, Rights, SelfTest, SensorDef, Shape, Slot, StatusText};
+use crate::{
+    ChoiceName, Field, ParameterDef, Personality, Rights, SelfTest, SensorDef, Shape, Slot,
+    StatusText, Width,
+};
+use arrayvec::ArrayVec;
 use rdm_frame::Text;
 
 impl Default for Personality {
@@ -72,8 +77,34 @@ impl Default for StatusText {
     }
 }
 
+impl Default for ChoiceName {
+    ghost is_default = { λ blank. blank ≡ record { pid = 0; number = 0; hertz = 0; name = [] } };
+
+    fn default() -> ChoiceName {
+        ChoiceName {
+            pid: 0,
+            number: 0,
+            hertz: 0,
+            name: Text::new(),
+        }
+    }
+}
+
+impl Default for Field {
+    ghost is_default = { λ blank. blank ≡ record { width = widths.One; low = 0; high = 0; also = 0 } };
+
+    fn default() -> Field {
+        Field {
+            width: Width::One,
+            low: 0,
+            high: 0,
+            also: 0,
+        }
+    }
+}
+
 impl Default for ParameterDef {
-    ghost is_default = { λ blank. blank ≡ record { pid = 0; rights = rights.Get; shape = shapes.Byte; low = pos 0; high = pos 0; start = []; unit = 0; prefix = 0; name = []; resets = false } };
+    ghost is_default = { λ blank. blank ≡ record { pid = 0; rights = rights.Get; shape = shapes.Byte; low = pos 0; high = pos 0; fields = record { items = [] }; start = []; unit = 0; prefix = 0; name = []; resets = false } };
 
     fn default() -> ParameterDef {
         ParameterDef {
@@ -82,6 +113,7 @@ impl Default for ParameterDef {
             shape: Shape::Byte,
             low: 0,
             high: 0,
+            fields: ArrayVec::new(),
             start: Text::new(),
             unit: 0,
             prefix: 0,

@@ -44,8 +44,8 @@ pub(crate) fn least_of(shape: Shape) -> i64
         Shape::SignedByte => -128,
         Shape::SignedWord => -32768,
         Shape::SignedLong => -2_147_483_648,
-        Shape::Byte | Shape::Word | Shape::Long => 0,
-        Shape::Text | Shape::Bits(_) | Shape::Slots(_) => 0,
+        Shape::Byte | Shape::Word | Shape::Long | Shape::Choice => 0,
+        Shape::Text | Shape::Bits(_) | Shape::Slots(_) | Shape::Names | Shape::Rates => 0,
     }
 }
 
@@ -54,12 +54,12 @@ pub(crate) fn greatest_of(shape: Shape) -> i64
     ensures { result ≡ says.greatest_of shape }
 {
     match shape {
-        Shape::Byte => 255,
+        Shape::Byte | Shape::Choice => 255,
         Shape::SignedByte => 127,
         Shape::Word => 65535,
         Shape::SignedWord => 32767,
         Shape::Long => 4_294_967_295,
         Shape::SignedLong => 2_147_483_647,
-        Shape::Text | Shape::Bits(_) | Shape::Slots(_) => 0,
+        Shape::Text | Shape::Bits(_) | Shape::Slots(_) | Shape::Names | Shape::Rates => 0,
     }
 }

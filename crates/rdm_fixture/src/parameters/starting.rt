@@ -37,13 +37,14 @@ fn wanted_start(shape: Shape, low: i64, high: i64) -> Wanted
 {
     match shape {
         Shape::Text => Wanted::Text,
-        Shape::Bits(_) | Shape::Slots(_) => Wanted::Slots,
+        Shape::Bits(_) | Shape::Slots(_) | Shape::Names | Shape::Rates => Wanted::Slots,
         Shape::Byte
         | Shape::SignedByte
         | Shape::Word
         | Shape::SignedWord
         | Shape::Long
-        | Shape::SignedLong => Wanted::Number {
+        | Shape::SignedLong
+        | Shape::Choice => Wanted::Number {
             least: low,
             most: high,
         },
@@ -57,6 +58,9 @@ fn start_in(value: &Value, shape: Shape, low: i64, high: i64) -> Option<Text>
         Shape::Text => printable_in(value),
         Shape::Bits(_) => spelled(value),
         Shape::Slots(_) => spelled(value),
+        Shape::Names => spelled(value),
+        Shape::Rates => spelled(value),
+        Shape::Choice => Some(one_slot(integer_from(value, low, high)?)),
         Shape::Byte => Some(one_slot(integer_from(value, low, high)?)),
         Shape::SignedByte => Some(one_slot(integer_from(value, low, high)?)),
         Shape::Word => Some(two_slots(integer_from(value, low, high)?)),

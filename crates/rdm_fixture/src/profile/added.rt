@@ -1,7 +1,7 @@
-//! Which parameters the maker adds, and which of the standard's the fixture lacks.
+//! Which parameters the profile adds, what the things are called of which one is chosen, and which of the standard's the fixture lacks.
 
 ghost use Rattle.std.specs.Prelude.{◌≡◌, ◌<◌, ◌≤◌, ◌↔◌, Some, None, IfErr, IfSome, AllPairs, length, [], ◌∷◌, codes};
-ghost use Rattle.rdm_device.specs.Device.Profiles.{MayBeLeftOut};
+ghost use Rattle.rdm_device.specs.Device.Profiles.{MayBeLeftOut, Agree};
 ghost use Rattle.rdm_fixture.specs.Faults.{fault, told};
 ghost use Rattle.rdm_fixture.specs.FirstWrong as parts;
 ghost use Rattle.rdm_fixture.specs.Format as says;
@@ -14,15 +14,36 @@ ghost use Rattle.toml.specs.View.{view, array_view, table_view};
 
 use crate::keys::find;
 use crate::lists::list;
-use crate::refusal::{Refusal, Wanted};
+use crate::refusal::{Agreement, Refusal, Wanted};
 use arrayvec::ArrayVec;
-use rdm_device::{ParameterDef, are_optional, leave_no_need};
+use rdm_device::{ChoiceName, ParameterDef, agree, are_optional, leave_no_need};
 use rdm_params::Kind;
 use toml::value::Array;
 use toml::{Table, Value};
 
-/// The parameters of the maker's own, in the order of their PIDs.
-pub(super) fn own_parameters(table: &Table) -> Result<ArrayVec<ParameterDef, 16>, Refusal>
+/// What takes memory in a profile: the parameters that it adds, and the names of the things of which one is chosen.
+#[derive(Drop)]
+pub(crate) struct Added {
+    pub(crate) own: ArrayVec<ParameterDef, 16>,
+    pub(crate) choices: ArrayVec<ChoiceName, 64>,
+}
+
+/// The parameters that a profile adds and the names of choices, which agree.
+pub(super) fn additions(table: &Table) -> Result<Added, Refusal>
+    ensures read { Reads (λ t a. parts.AreAdded t a.own.items a.choices.items × AllPairs (λ a b. a.pid < b.pid) a.own.items
+        × Agree a.own.items a.choices.items) (table_view table.now) result }
+    ensures wrong { IfErr result (λ e. FirstWrong parts.added_parts (table_view table.now) (told e)) }
+{
+    let own = own_parameters(table)?;
+    let choices = list(table, "choice", 0, 0)?;
+    if !agree(own.as_slice(), choices.as_slice()) {
+        return Err(Refusal::at("choice", Wanted::Agreement(Agreement::Names)));
+    }
+    Ok(Added { own, choices })
+}
+
+/// The parameters that a profile adds, in the order of their PIDs.
+fn own_parameters(table: &Table) -> Result<ArrayVec<ParameterDef, 16>, Refusal>
     ensures read { Reads (λ t xs. Lists t (codes "parameter") (OfTable IsParameter) 0 16 xs.items
         × AllPairs (λ a b. a.pid < b.pid) xs.items) (table_view table.now) result }
     ensures wrong { IfErr result (λ e. FirstWrong (entries (codes "parameter") IsParameter (FirstWrong parts.parameter_parts) 0 16

@@ -8,7 +8,8 @@ use crate::fixture::Fixture;
 use crate::keys::are_printable;
 use crate::parameters::{greatest_of, least_of};
 use rdm_device::{
-    ParameterDef, Personality, Profile, SelfTest, SensorDef, Shape, Slot, StatusText, Unit, is_good,
+    ChoiceName, ParameterDef, Personality, Profile, SelfTest, SensorDef, Shape, Slot, StatusText,
+    Unit, is_good,
 };
 use rdm_frame::Text;
 use rdm_frame::standard::{MOST_DMX_SLOTS, MOST_SUB_DEVICES};
@@ -29,7 +30,7 @@ pub(super) fn can_be_described(fixture: &Fixture) -> bool
         && are_ruled(fixture.outcomes.as_slice())
 }
 
-// ---- the parameters of the maker's own
+// ---- the parameters that the profile adds
 
 fn are_sayable(defs: &[ParameterDef]) -> bool
     ensures { IsTrue result ↔ All (λ d. IsTrue (spec.is_sayable d)) defs.now }
@@ -61,6 +62,7 @@ fn can_stand(shape: Shape, start: &[u8]) -> bool
         Shape::Text => are_printable(start),
         Shape::Byte | Shape::SignedByte | Shape::Word | Shape::SignedWord => true,
         Shape::Long | Shape::SignedLong | Shape::Bits(_) | Shape::Slots(_) => true,
+        Shape::Choice | Shape::Names | Shape::Rates => true,
     }
 }
 
@@ -77,6 +79,7 @@ fn has_printable_texts(profile: &Profile) -> bool
         && are_sensors_printable(profile.sensors.as_slice())
         && are_tests_printable(profile.tests.as_slice())
         && are_statuses_printable(profile.status_texts.as_slice())
+        && are_choices_printable(profile.choices.as_slice())
 }
 
 /// The same of the root's or a sub-device's.
@@ -124,6 +127,12 @@ fn are_statuses_printable(statuses: &[StatusText]) -> bool
     ensures { IsTrue result ↔ All (λ s. IsTrue (spec.are_printable s.text)) statuses.now }
 {
     statuses.iter().all(|s| is_printable(&s.text))
+}
+
+fn are_choices_printable(choices: &[ChoiceName]) -> bool
+    ensures { IsTrue result ↔ All (λ c. IsTrue (spec.are_printable c.name)) choices.now }
+{
+    choices.iter().all(|c| is_printable(&c.name))
 }
 
 // ---- the languages and the outcomes

@@ -1,11 +1,11 @@
-//! The entries of the lists: personalities, slots, sensors, self tests and status IDs.
+//! The entries of the lists: personalities, slots, sensors, self tests, status IDs, and the names of choices.
 
 ghost use Rattle.std.specs.Prelude.{◌≡◌, ◌≤◌, ◌<◌, IsTrue};
 ghost use Rattle.rdm_fixture.specs.Describable.{are_printable};
-ghost use Rattle.rdm_fixture.specs.Format.{IsPersonality, IsSlot, IsSensor, IsSelfTest, IsStatus};
+ghost use Rattle.rdm_fixture.specs.Format.{IsPersonality, IsSlot, IsSensor, IsSelfTest, IsStatus, IsChoice};
 
-use super::fields::{ToEntry, put_byte, put_flag, put_signed, put_text, put_word};
-use rdm_device::{Personality, SelfTest, SensorDef, Slot, StatusText};
+use super::fields::{ToEntry, put_byte, put_flag, put_long, put_signed, put_text, put_word};
+use rdm_device::{ChoiceName, Personality, SelfTest, SensorDef, Slot, StatusText};
 use std::alloc::{AllocError, Global};
 use toml::Table;
 
@@ -13,6 +13,8 @@ impl ToEntry for Personality {
     ghost says = { IsPersonality };
 
     ghost can = { λ slots m. (m.footprint ≤ slots) × IsTrue (are_printable m.name) };
+
+    ghost deep = { 1 };
 
     fn to_entry(&self, alloc: Global) -> Result<Table, AllocError> {
         let mut table = Table::new(alloc);
@@ -26,6 +28,8 @@ impl ToEntry for Slot {
     ghost says = { λ _. IsSlot };
 
     ghost can = { λ _ s. IsTrue (are_printable s.name) };
+
+    ghost deep = { 1 };
 
     fn to_entry(&self, alloc: Global) -> Result<Table, AllocError> {
         let mut table = Table::new(alloc);
@@ -41,6 +45,8 @@ impl ToEntry for SensorDef {
     ghost says = { λ _. IsSensor };
 
     ghost can = { λ _ s. IsTrue (are_printable s.name) };
+
+    ghost deep = { 1 };
 
     fn to_entry(&self, alloc: Global) -> Result<Table, AllocError> {
         let mut table = Table::new(alloc);
@@ -63,6 +69,8 @@ impl ToEntry for SelfTest {
 
     ghost can = { λ _ s. ((0 < s.number) × (s.number < 255)) × IsTrue (are_printable s.name) };
 
+    ghost deep = { 1 };
+
     fn to_entry(&self, alloc: Global) -> Result<Table, AllocError> {
         let mut table = Table::new(alloc);
         put_byte(alloc, &mut table, "number", self.number)?;
@@ -76,10 +84,29 @@ impl ToEntry for StatusText {
 
     ghost can = { λ _ s. IsTrue (are_printable s.text) };
 
+    ghost deep = { 1 };
+
     fn to_entry(&self, alloc: Global) -> Result<Table, AllocError> {
         let mut table = Table::new(alloc);
         put_word(alloc, &mut table, "id", self.id)?;
         put_text(alloc, &mut table, "description", &self.text)?;
+        Ok(table)
+    }
+}
+
+impl ToEntry for ChoiceName {
+    ghost says = { λ _. IsChoice };
+
+    ghost can = { λ _ c. (1 ≤ c.number) × IsTrue (are_printable c.name) };
+
+    ghost deep = { 1 };
+
+    fn to_entry(&self, alloc: Global) -> Result<Table, AllocError> {
+        let mut table = Table::new(alloc);
+        put_word(alloc, &mut table, "pid", self.pid)?;
+        put_byte(alloc, &mut table, "number", self.number)?;
+        put_long(alloc, &mut table, "hertz", self.hertz)?;
+        put_text(alloc, &mut table, "description", &self.name)?;
         Ok(table)
     }
 }

@@ -1,6 +1,6 @@
 //! What is put into a table, key by key.
 
-ghost use Rattle.std.specs.Prelude.{◌≡◌, ◌≤◌, ℕ, pos, [], Some, IsOk, IfOk, IfSome, IsTrue, All, length, option_map};
+ghost use Rattle.std.specs.Prelude.{◌≡◌, ◌≤◌, ◌+◌, ℕ, pos, [], Some, IsOk, IfOk, IfSome, IsTrue, All, length, option_map};
 ghost use Rattle.toml.specs.Data.{Members, table as table_data, string, integer, boolean};
 ghost use Rattle.toml.specs.View.{view, table_view};
 ghost use Rattle.rdm_device.specs.Device.Workers.{worker_number};
@@ -20,10 +20,12 @@ pub(super) trait ToEntry {
 
     ghost can: { ℕ → Self → Type 0 };
 
+    ghost deep: { ℕ };
+
     /// The entry. It says the item for each number of slots with which the item can be (a personality uses no more than there are).
     fn to_entry(&self, alloc: Global) -> Result<Table, AllocError>
         ensures says { IfOk result (λ t. (slots : ℕ) → can slots self.now → says slots (table_view t) self.now) }
-        ensures plain { IfOk result (λ t. IsPlain 1 (table_data (table_view t))) };
+        ensures plain { IfOk result (λ t. IsPlain deep (table_data (table_view t))) };
 }
 
 /// Puts a value at the key, if there is one.
@@ -164,7 +166,7 @@ pub(super) fn put_text(
 /// The list of the entries, or nothing if there are none.
 pub(super) fn list_of<E: ToEntry>(alloc: Global, items: &[E]) -> Result<Option<Value>, AllocError>
     ensures says { IfOk result (λ v. (slots : ℕ) → All (E.can slots) items.now → ListAt (OfTable (E.says slots)) (option_map view v) items.now) }
-    ensures plain { IfOk result (λ v. IfSome v (λ x. IsPlain 2 (view x))) }
+    ensures plain { IfOk result (λ v. IfSome v (λ x. IsPlain (E.deep + 1) (view x))) }
 {
     if items.is_empty() {
         return Ok(None);

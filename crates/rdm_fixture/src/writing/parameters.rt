@@ -1,19 +1,23 @@
-//! What is written of the parameters that the maker adds.
+//! What is written of the parameters that the profile adds.
 
 ghost use Rattle.std.specs.Prelude.{◌≡◌, IfOk, IsTrue, Some, option_and_then, string_bytes};
 ghost use Rattle.std.specs.Str.Lossy.{utf8_lossy};
 ghost use Rattle.toml.specs.View.{view};
 ghost use Rattle.rdm_frame.specs.Digits.{digits};
 ghost use Rattle.rdm_device.specs.Columns.Forms.{value_of};
-ghost use Rattle.rdm_device.specs.Device.OwnParameters.{is_addable, form_of, number_in, can_start};
+ghost use Rattle.rdm_device.specs.Device.OwnParameters.{is_addable, form_of, number_in, can_start, has_good_fields};
+ghost use Rattle.rdm_device.specs.Device.Standards.{follows};
 ghost use Rattle.rdm_fixture.specs.Describable.{is_sayable, can_stand};
 ghost use Rattle.rdm_fixture.specs.Parameters as says;
-ghost use Rattle.rdm_fixture.specs.Parameters.{IsParameter};
+ghost use Rattle.rdm_device.specs.Device.Fields.{width_of};
+ghost use Rattle.rdm_fixture.specs.Parameters.{IsField, IsParameter};
 ghost use Rattle.rdm_fixture.specs.Writing.{IsPlain, rights_name, shape_name, written_slots};
 
-use super::fields::{ToEntry, put, put_byte, put_flag, put_integer, put_name, put_text, put_word};
+use super::fields::{
+    ToEntry, list_of, put, put_byte, put_flag, put_integer, put_long, put_name, put_text, put_word,
+};
 use rdm_device::columns::added::{number_in, read_shape};
-use rdm_device::{ParameterDef, Rights, Shape};
+use rdm_device::{Field, ParameterDef, Rights, Shape, Width};
 use rdm_frame::digits::put_digits;
 use std::alloc::{AllocError, Global};
 use toml::{Table, Value};
@@ -21,7 +25,9 @@ use toml::{Table, Value};
 impl ToEntry for ParameterDef {
     ghost says = { λ _. IsParameter };
 
-    ghost can = { λ _ d. (IsTrue (is_addable d.pid) × IsTrue (can_start d)) × IsTrue (is_sayable d) };
+    ghost can = { λ _ d. IsTrue (is_addable d.pid) × IsTrue (can_start d) × IsTrue (has_good_fields d) × IsTrue (follows d) × IsTrue (is_sayable d) };
+
+    ghost deep = { 3 };
 
     fn to_entry(&self, alloc: Global) -> Result<Table, AllocError> {
         let mut table = Table::new(alloc);
@@ -30,6 +36,8 @@ impl ToEntry for ParameterDef {
         put_name(alloc, &mut table, "data_type", shape_name(self.shape))?;
         put_integer(alloc, &mut table, "minimum_valid_value", self.low)?;
         put_integer(alloc, &mut table, "maximum_valid_value", self.high)?;
+        let fields = list_of(alloc, self.fields.as_slice())?;
+        put(alloc, &mut table, "fields", fields)?;
         let start = start_of(alloc, self.shape, self.start.as_slice())?;
         put(alloc, &mut table, "default_value", Some(start))?;
         put_byte(alloc, &mut table, "unit", self.unit)?;
@@ -37,6 +45,34 @@ impl ToEntry for ParameterDef {
         put_flag(alloc, &mut table, "factory_defaults", self.resets)?;
         put_text(alloc, &mut table, "description", &self.name)?;
         Ok(table)
+    }
+}
+
+impl ToEntry for Field {
+    ghost says = { λ _. IsField };
+
+    ghost can = { λ _ _. Unit {0} };
+
+    ghost deep = { 1 };
+
+    fn to_entry(&self, alloc: Global) -> Result<Table, AllocError> {
+        let mut table = Table::new(alloc);
+        put_byte(alloc, &mut table, "slots", slots_of(self.width))?;
+        put_long(alloc, &mut table, "minimum_valid_value", self.low)?;
+        put_long(alloc, &mut table, "maximum_valid_value", self.high)?;
+        put_long(alloc, &mut table, "also_valid_value", self.also)?;
+        Ok(table)
+    }
+}
+
+/// How many slots a number has.
+fn slots_of(width: Width) -> u8
+    ensures { result ≡ width_of width }
+{
+    match width {
+        Width::One => 1,
+        Width::Two => 2,
+        Width::Four => 4,
     }
 }
 
@@ -65,6 +101,9 @@ fn shape_name(shape: Shape) -> &'static str
         Shape::Text => "ascii",
         Shape::Bits(_) => "bit_field",
         Shape::Slots(_) => "not_defined",
+        Shape::Choice => "choice",
+        Shape::Names => "names",
+        Shape::Rates => "rates",
     }
 }
 
@@ -96,6 +135,7 @@ fn text_of(alloc: Global, shape: Shape, slots: &[u8]) -> Result<String, AllocErr
         Shape::Byte | Shape::SignedByte | Shape::Word => digits_of(alloc, slots),
         Shape::SignedWord | Shape::Long | Shape::SignedLong => digits_of(alloc, slots),
         Shape::Bits(_) | Shape::Slots(_) => digits_of(alloc, slots),
+        Shape::Choice | Shape::Names | Shape::Rates => digits_of(alloc, slots),
     }
 }
 

@@ -18,6 +18,8 @@ impl ToEntry for Rule {
 
     ghost can = { λ _ r. IsTrue (is_ruled r) };
 
+    ghost deep = { 1 };
+
     fn to_entry(&self, alloc: Global) -> Result<Table, AllocError> {
         let mut table = Table::new(alloc);
         put_name(alloc, &mut table, "parameter", self.task.kind().name())?;

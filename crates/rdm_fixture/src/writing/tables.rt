@@ -29,7 +29,7 @@ use toml::{Table, Value};
 /// The table of the fixture.
 pub(super) fn table_of(alloc: Global, fixture: &Fixture) -> Result<Table, AllocError>
     ensures says { IfOk result (λ t. CanBeDescribed fixture.now → IsFixture (table_view t) fixture.now) }
-    ensures plain { IfOk result (λ t. IsPlain 4 (table_data (table_view t))) }
+    ensures plain { IfOk result (λ t. IsPlain 5 (table_data (table_view t))) }
 {
     let profile = &fixture.profile;
     let mut table = unit_table(alloc, &profile.root)?;
@@ -84,6 +84,12 @@ pub(super) fn table_of(alloc: Global, fixture: &Fixture) -> Result<Table, AllocE
         &mut table,
         "parameter",
         list_of(alloc, profile.own.as_slice())?,
+    )?;
+    put(
+        alloc,
+        &mut table,
+        "choice",
+        list_of(alloc, profile.choices.as_slice())?,
     )?;
     put(
         alloc,

@@ -179,17 +179,17 @@ fn refused_parameters(rt: HostRuntime) -> Result<(), Fail> {
             (
                 "",
                 "[[parameter]]\npid = 0x7FFF",
-                "line 7: in parameter 1, `pid` isn't a PID that a maker can add, such as 0x8000 to 0xFFDF",
+                "line 7: in parameter 1, `pid` isn't a PID that a fixture can add, such as 0x8000 to 0xFFDF",
             ),
             (
                 "",
                 "[[parameter]]\npid = 0xFFE0",
-                "line 7: in parameter 1, `pid` isn't a PID that a maker can add, such as 0x8000 to 0xFFDF",
+                "line 7: in parameter 1, `pid` isn't a PID that a fixture can add, such as 0x8000 to 0xFFDF",
             ),
             (
                 "",
                 "[[parameter]]\npid = 0x18001",
-                "line 7: in parameter 1, `pid` isn't a PID that a maker can add, such as 0x8000 to 0xFFDF",
+                "line 7: in parameter 1, `pid` isn't a PID that a fixture can add, such as 0x8000 to 0xFFDF",
             ),
             (
                 "",
@@ -209,7 +209,7 @@ fn refused_parameters(rt: HostRuntime) -> Result<(), Fail> {
             (
                 "",
                 parameter!("data_type = \"word\""),
-                "line 9: in parameter 1, `data_type` must be unsigned_byte, signed_byte, unsigned_word, signed_word, unsigned_dword, signed_dword, ascii, bit_field or not_defined",
+                "line 9: in parameter 1, `data_type` must be unsigned_byte, signed_byte, unsigned_word, signed_word, unsigned_dword, signed_dword, ascii, bit_field, not_defined, choice, names or rates",
             ),
             (
                 "",

@@ -1,4 +1,4 @@
--- The names of the standard's parameters, whether or not a responder here has them. E1.20 table A-3.
+-- The names of the standards' parameters, whether or not the table has them. E1.20 table A-3; E1.37-1.
 use Rattle.std.specs.Prelude.{ℕ, ◌==◌, List, [], ◌∷◌, Option, Some, None, if◌then◌else◌, codes}
 use Rattle.std.specs.Option.{option_map, option_or}
 use Rattle.std.specs.Str.{bytes_eq}
@@ -9,7 +9,7 @@ abbrev pub named_in : List (ℕ × List ℕ) → List ℕ → Option ℕ
 named_in [] name = None
 named_in (row ∷ rows) name = if bytes_eq name row.1 then Some row.0 else named_in rows name
 
--- the parameters that no responder here has
+-- the parameters of E1.20 that aren't in the table
 abbrev pub other_names : List (ℕ × List ℕ)
 other_names =
     (0x0001, codes "DISC_UNIQUE_BRANCH") ∷
@@ -24,9 +24,34 @@ other_names =
     (0x1001, codes "RESET_DEVICE") ∷
     (0x1030, codes "CAPTURE_PRESET") ∷ []
 
+-- the parameters of E1.37-1
+abbrev pub dimmer_names : List (ℕ × List ℕ)
+dimmer_names =
+    (0x0140, codes "DMX_BLOCK_ADDRESS") ∷
+    (0x0141, codes "DMX_FAIL_MODE") ∷
+    (0x0142, codes "DMX_STARTUP_MODE") ∷
+    (0x0340, codes "DIMMER_INFO") ∷
+    (0x0341, codes "MINIMUM_LEVEL") ∷
+    (0x0342, codes "MAXIMUM_LEVEL") ∷
+    (0x0343, codes "CURVE") ∷
+    (0x0344, codes "CURVE_DESCRIPTION") ∷
+    (0x0345, codes "OUTPUT_RESPONSE_TIME") ∷
+    (0x0346, codes "OUTPUT_RESPONSE_TIME_DESCRIPTION") ∷
+    (0x0347, codes "MODULATION_FREQUENCY") ∷
+    (0x0348, codes "MODULATION_FREQUENCY_DESCRIPTION") ∷
+    (0x0440, codes "BURN_IN") ∷
+    (0x0640, codes "LOCK_PIN") ∷
+    (0x0641, codes "LOCK_STATE") ∷
+    (0x0642, codes "LOCK_STATE_DESCRIPTION") ∷
+    (0x1040, codes "IDENTIFY_MODE") ∷
+    (0x1041, codes "PRESET_INFO") ∷
+    (0x1042, codes "PRESET_STATUS") ∷
+    (0x1043, codes "PRESET_MERGEMODE") ∷
+    (0x1044, codes "POWER_ON_SELF_TEST") ∷ []
+
 -- the PID of the parameter with this name
 unfoldable pub pid_named : List ℕ → Option ℕ
-pid_named name = option_or (option_map pid_of (kind_named name)) (named_in other_names name)
+pid_named name = option_or (option_map pid_of (kind_named name)) (option_or (named_in other_names name) (named_in dimmer_names name))
 
 -- the name that stands beside a PID in these rows
 abbrev pub name_in : List (ℕ × List ℕ) → ℕ → Option (List ℕ)
@@ -35,4 +60,4 @@ name_in (row ∷ rows) pid = if pid == row.0 then Some row.1 else name_in rows p
 
 -- the name of the parameter with this PID
 abbrev pub parameter_name : ℕ → Option (List ℕ)
-parameter_name pid = option_or (option_map name_of (kind_with pid)) (name_in other_names pid)
+parameter_name pid = option_or (option_map name_of (kind_with pid)) (option_or (name_in other_names pid) (name_in dimmer_names pid))

@@ -1,8 +1,9 @@
-//! The names of the standard's parameters, whether or not a responder here has them (ANSI E1.20-2010, table A-3).
+//! The names of the standards' parameters, whether or not the table has them (ANSI E1.20-2010, table A-3, and ANSI E1.37-1).
 
 ghost use Rattle.std.specs.Prelude.{◌≡◌, option_map};
+ghost use Rattle.std.specs.Option.{option_or};
 ghost use Rattle.rdm_params.specs.Table.Kinds.{for_c};
-ghost use Rattle.rdm_params.specs.Table.Names.{named_in, name_in, other_names, pid_named, parameter_name};
+ghost use Rattle.rdm_params.specs.Table.Names.{named_in, name_in, dimmer_names, other_names, pid_named, parameter_name};
 
 use crate::{Kind, kind_of};
 use rdm_frame::standard::{
@@ -11,7 +12,7 @@ use rdm_frame::standard::{
     REAL_TIME_CLOCK, RESET_DEVICE,
 };
 
-/// The parameters that no responder here has, a row each: the PID and the name.
+/// The parameters of ANSI E1.20-2010 that aren't in the table, a row each: the PID and the name.
 macro_rules! other_rows {
     ($use:ident!($argument:ident)) => {
         $use! {
@@ -31,8 +32,38 @@ macro_rules! other_rows {
     };
 }
 
+/// The parameters of ANSI E1.37-1, in the same way.
+macro_rules! dimmer_rows {
+    ($use:ident!($argument:ident)) => {
+        $use! {
+            ($argument)
+            (0x0140 "DMX_BLOCK_ADDRESS")
+            (0x0141 "DMX_FAIL_MODE")
+            (0x0142 "DMX_STARTUP_MODE")
+            (0x0340 "DIMMER_INFO")
+            (0x0341 "MINIMUM_LEVEL")
+            (0x0342 "MAXIMUM_LEVEL")
+            (0x0343 "CURVE")
+            (0x0344 "CURVE_DESCRIPTION")
+            (0x0345 "OUTPUT_RESPONSE_TIME")
+            (0x0346 "OUTPUT_RESPONSE_TIME_DESCRIPTION")
+            (0x0347 "MODULATION_FREQUENCY")
+            (0x0348 "MODULATION_FREQUENCY_DESCRIPTION")
+            (0x0440 "BURN_IN")
+            (0x0640 "LOCK_PIN")
+            (0x0641 "LOCK_STATE")
+            (0x0642 "LOCK_STATE_DESCRIPTION")
+            (0x1040 "IDENTIFY_MODE")
+            (0x1041 "PRESET_INFO")
+            (0x1042 "PRESET_STATUS")
+            (0x1043 "PRESET_MERGEMODE")
+            (0x1044 "POWER_ON_SELF_TEST")
+        }
+    };
+}
+
 macro_rules! pid_of_name {
-    (($name:ident) $(($pid:ident $text:literal))*) => {{
+    (($name:ident) $(($pid:tt $text:literal))*) => {{
         $(
             if $name == $text.as_bytes() {
                 return Some($pid);
@@ -43,7 +74,7 @@ macro_rules! pid_of_name {
 }
 
 macro_rules! name_of_pid {
-    (($pid:ident) $(($number:ident $text:literal))*) => {{
+    (($pid:ident) $(($number:tt $text:literal))*) => {{
         $(
             if $pid == $number {
                 return Some($text);
@@ -54,7 +85,7 @@ macro_rules! name_of_pid {
 }
 
 macro_rules! name_for_c_of_pid {
-    (($pid:ident) $(($number:ident $text:literal))*) => {{
+    (($pid:ident) $(($number:tt $text:literal))*) => {{
         $(
             if $pid == $number {
                 return Some(concat!($text, "\0").as_bytes());
@@ -76,18 +107,52 @@ pub fn pid_named(name: &[u8]) -> Option<u16>
     }
 }
 
-/// The PID of a parameter that no responder here has.
+/// The PID of a parameter that isn't in the table.
 fn other_named(name: &[u8]) -> Option<u16>
+    ensures { result ≡ option_or (named_in other_names name.now) (named_in dimmer_names name.now) }
+{
+    match first_named(name) {
+        Some(pid) => Some(pid),
+        None => dimmer_named(name),
+    }
+}
+
+/// The PID of a parameter of E1.20 that isn't in the table.
+fn first_named(name: &[u8]) -> Option<u16>
     ensures { result ≡ named_in other_names name.now }
 {
     other_rows!(pid_of_name!(name))
 }
 
-/// The name of a parameter that no responder here has, or `None` if it is another one: `Kind::name` has those of the table.
+/// The PID of a parameter of E1.37-1.
+fn dimmer_named(name: &[u8]) -> Option<u16>
+    ensures { result ≡ named_in dimmer_names name.now }
+{
+    dimmer_rows!(pid_of_name!(name))
+}
+
+/// The name of a parameter that isn't in the table, or `None` if it is another one: `Kind::name` has those of the table.
 pub fn other_name(pid: u16) -> Option<&'static str>
+    ensures { option_map (λ text. text.now) result ≡ option_or (name_in other_names pid) (name_in dimmer_names pid) }
+{
+    match first_name(pid) {
+        Some(name) => Some(name),
+        None => dimmer_name(pid),
+    }
+}
+
+/// The name of a parameter of E1.20 that isn't in the table.
+fn first_name(pid: u16) -> Option<&'static str>
     ensures { option_map (λ text. text.now) result ≡ name_in other_names pid }
 {
     other_rows!(name_of_pid!(pid))
+}
+
+/// The name of a parameter of E1.37-1.
+fn dimmer_name(pid: u16) -> Option<&'static str>
+    ensures { option_map (λ text. text.now) result ≡ name_in dimmer_names pid }
+{
+    dimmer_rows!(name_of_pid!(pid))
 }
 
 /// The name of a parameter in the standard, or `None` if the standard has none for its PID.
@@ -110,9 +175,26 @@ pub fn parameter_name_for_c(pid: u16) -> Option<&'static [u8]>
     }
 }
 
-/// The name of a parameter that no responder here has, with a NUL behind it.
+/// The name of a parameter that isn't in the table, with a NUL behind it.
 fn other_name_for_c(pid: u16) -> Option<&'static [u8]>
+    ensures { option_map (λ text. text.now) result ≡ option_map for_c (option_or (name_in other_names pid) (name_in dimmer_names pid)) }
+{
+    match first_name_for_c(pid) {
+        Some(name) => Some(name),
+        None => dimmer_name_for_c(pid),
+    }
+}
+
+/// The name of a parameter of E1.20 that isn't in the table, with a NUL behind it.
+fn first_name_for_c(pid: u16) -> Option<&'static [u8]>
     ensures { option_map (λ text. text.now) result ≡ option_map for_c (name_in other_names pid) }
 {
     other_rows!(name_for_c_of_pid!(pid))
+}
+
+/// The name of a parameter of E1.37-1, with a NUL behind it.
+fn dimmer_name_for_c(pid: u16) -> Option<&'static [u8]>
+    ensures { option_map (λ text. text.now) result ≡ option_map for_c (name_in dimmer_names pid) }
+{
+    dimmer_rows!(name_for_c_of_pid!(pid))
 }

@@ -1,17 +1,18 @@
 //! What is known of a fixture beforehand.
 
-use rdm_device::{ParameterDef, Profile, SensorDef, StatusText};
+use rdm_device::{ChoiceName, ParameterDef, Profile, SensorDef, StatusText};
 use rdm_frame::Uid;
 
 /// What is known of the fixture that frames speak of, and doesn't stand in the frames: the units of its sensors, what its own
-/// status IDs mean, and the parameters that its maker adds. It is used for the frames of that fixture alone, and for the lines
-/// of a trace that say nothing of a device.
+/// status IDs mean, the parameters that it adds, and what the things are called of which one is chosen. It is used for the frames of
+/// that fixture alone, and for the lines of a trace that say nothing of a device.
 #[derive(Clone, Copy)]
 pub struct Known<'a> {
     uid: Option<Uid>,
     sensors: &'a [SensorDef],
     status_texts: &'a [StatusText],
     parameters: &'a [ParameterDef],
+    choices: &'a [ChoiceName],
 }
 
 impl<'a> Known<'a> {
@@ -22,6 +23,7 @@ impl<'a> Known<'a> {
             sensors: &[],
             status_texts: &[],
             parameters: &[],
+            choices: &[],
         }
     }
 
@@ -32,6 +34,7 @@ impl<'a> Known<'a> {
             sensors: profile.sensors.as_slice(),
             status_texts: profile.status_texts.as_slice(),
             parameters: profile.own.as_slice(),
+            choices: profile.choices.as_slice(),
         }
     }
 
@@ -49,9 +52,20 @@ impl<'a> Known<'a> {
         self.sensors.get(usize::from(number))
     }
 
-    /// The parameter that the maker adds with this PID.
+    /// The parameter that the fixture adds with this PID.
     pub(crate) fn parameter(&self, pid: u16) -> Option<&'a ParameterDef> {
         self.parameters.iter().find(|def| def.pid == pid)
+    }
+
+    /// What a thing is called of which this parameter lets choose.
+    pub(crate) fn choice(&self, choice: &ParameterDef, number: u8) -> Option<&'a [u8]> {
+        let told_by = choice.pid.checked_add(1)?;
+        for name in self.choices {
+            if name.pid == told_by && name.number == number {
+                return Some(name.name.as_slice());
+            }
+        }
+        None
     }
 
     /// The text of a status ID of the fixture's own.

@@ -1,14 +1,14 @@
-//! The words of parameters that the maker of a fixture adds (E1.20 section 10.4.2).
+//! The words of parameters that a fixture adds (E1.20 section 10.4.2, E1.37-1).
 
 use crate::Known;
 use crate::data::sensors::put_unit;
-use crate::data::values::put_coded;
+use crate::data::values::{number_of as number_in_slots, put_coded};
 use crate::frame::class::Class;
 use crate::tables::Table;
 use crate::tables::parameters::parameter;
 use crate::text::{put_hex, put_quoted};
 use rdm_device::columns::added::{number_in, read_shape};
-use rdm_device::{ParameterDef, Rights, Shape};
+use rdm_device::{ChoiceName, Field, ParameterDef, Rights, Shape};
 use rdm_frame::standard::PARAMETER_DESCRIPTION;
 use std::alloc::AllocError;
 use std::fmt::Write;
@@ -82,16 +82,92 @@ pub(crate) fn put_own(
         (Some(Class::GetResponse), _) if pid == PARAMETER_DESCRIPTION => {
             put_description(text, data)
         }
+        (Some(Class::Get), [number]) => match known.parameter(pid) {
+            Some(def) if tells_names(def.shape) => write!(text, "number {number}"),
+            _ => Ok(()),
+        },
         (Some(Class::GetResponse | Class::Set), _) => match known.parameter(pid) {
-            Some(def) => put_value_of(text, noun, def, data),
+            Some(def) => put_value_of(text, noun, def, data, known),
             None => Ok(()),
         },
         _ => Ok(()),
     }
 }
 
-/// The value that data say, if it is a number or a text.
+/// Whether a parameter tells what things are called.
+fn tells_names(shape: Shape) -> bool {
+    matches!(shape, Shape::Names | Shape::Rates)
+}
+
+/// The value that data say, if it is a number, several of them or a text; a thing that is chosen, or what one is called.
 fn put_value_of(
+    text: &mut String,
+    noun: &str,
+    def: &ParameterDef,
+    data: &[u8],
+    known: &Known<'_>,
+) -> Result<(), AllocError> {
+    match (def.shape, data) {
+        (Shape::Choice, [number]) => {
+            write!(text, "{noun}{number}")?;
+            put_chosen(text, known.choice(def, *number))
+        }
+        (Shape::Choice, [number, most]) => {
+            write!(text, "{noun}{number} of {most}")?;
+            put_chosen(text, known.choice(def, *number))
+        }
+        (Shape::Names, [number, name @ ..]) => {
+            write!(text, "number {number}: ")?;
+            put_quoted(text, name)
+        }
+        (Shape::Rates, [number, a, b, c, d, name @ ..]) => {
+            let hertz = u32::from_be_bytes([*a, *b, *c, *d]);
+            write!(text, "number {number}: ")?;
+            put_quoted(text, name)?;
+            write!(text, ", {hertz} Hz")
+        }
+        (Shape::Slots(slots), _) if data.len() == usize::from(slots) => {
+            put_numbers(text, noun, def.fields.as_slice(), data)
+        }
+        _ => put_single(text, noun, def, data),
+    }
+}
+
+/// What is chosen is called.
+fn put_chosen(text: &mut String, name: Option<&[u8]>) -> Result<(), AllocError> {
+    let Some(name) = name else {
+        return Ok(());
+    };
+    text.push_str(", ")?;
+    put_quoted(text, name)
+}
+
+/// The numbers that slots say, one after another, if that is known.
+fn put_numbers(
+    text: &mut String,
+    noun: &str,
+    fields: &[Field],
+    data: &[u8],
+) -> Result<(), AllocError> {
+    if fields.is_empty() {
+        return Ok(());
+    }
+    text.push_str(noun)?;
+    let mut first = 0usize;
+    for field in fields {
+        if first > 0 {
+            text.push_str(", ")?;
+        }
+        let end = first.saturating_add(field.width.slots());
+        let number = number_in_slots(data.get(first..end).unwrap_or(&[]));
+        write!(text, "{number}")?;
+        first = end;
+    }
+    Ok(())
+}
+
+/// One value, if it is a number or a text.
+fn put_single(
     text: &mut String,
     noun: &str,
     def: &ParameterDef,
@@ -169,6 +245,7 @@ pub(crate) fn put_added(text: &mut String, def: &ParameterDef) -> Result<(), All
     put_quoted(text, def.name.as_slice())?;
     text.push_str(", ")?;
     put_shape(text, def.shape)?;
+    put_fields(text, def.fields.as_slice())?;
     text.push_str(match def.rights {
         Rights::Get => ", GET",
         Rights::Set => ", SET",
@@ -179,6 +256,45 @@ pub(crate) fn put_added(text: &mut String, def: &ParameterDef) -> Result<(), All
         text.push_str(", set back by FACTORY_DEFAULTS")?;
     }
     text.push('\n')
+}
+
+/// What a thing is called of which one is chosen, in a line.
+pub(crate) fn put_choice_name(text: &mut String, name: &ChoiceName) -> Result<(), AllocError> {
+    let ChoiceName {
+        pid,
+        number,
+        hertz,
+        ..
+    } = name;
+    write!(text, "  number {number} in {pid:04X}: ")?;
+    put_quoted(text, name.name.as_slice())?;
+    if *hertz > 0 {
+        write!(text, ", {hertz} Hz")?;
+    }
+    text.push('\n')
+}
+
+/// The numbers that its slots say.
+fn put_fields(text: &mut String, fields: &[Field]) -> Result<(), AllocError> {
+    let mut is_first = true;
+    for field in fields {
+        let Field {
+            low,
+            high,
+            also,
+            ..
+        } = field;
+        text.push_str(if is_first { " (" } else { "; " })?;
+        write!(text, "{low} to {high}")?;
+        if *also < *low || *high < *also {
+            write!(text, " or {also}")?;
+        }
+        is_first = false;
+    }
+    if is_first {
+        return Ok(());
+    }
+    text.push(')')
 }
 
 /// Which data it has.
@@ -192,7 +308,11 @@ fn put_shape(text: &mut String, shape: Shape) -> Result<(), AllocError> {
         Shape::SignedLong => text.push_str("signed dword"),
         Shape::Text => text.push_str("ASCII"),
         Shape::Bits(slots) => write!(text, "bit field of {slots} slots"),
+        Shape::Slots(1) => text.push_str("1 slot"),
         Shape::Slots(slots) => write!(text, "{slots} slots"),
+        Shape::Choice => text.push_str("number of a choice"),
+        Shape::Names => text.push_str("names of a choice"),
+        Shape::Rates => text.push_str("names and frequencies of a choice"),
     }
 }
 
@@ -214,6 +334,7 @@ fn put_start(text: &mut String, def: &ParameterDef) -> Result<(), AllocError> {
             text.push_str(", default ")?;
             put_quoted(text, start)
         }
+        (None, Shape::Names | Shape::Rates) => Ok(()),
         (None, _) => {
             text.push_str(", default ")?;
             put_hex(text, start)

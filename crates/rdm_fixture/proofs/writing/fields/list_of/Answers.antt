@@ -13,7 +13,7 @@ loop-item-preserved g c =
           (entry_more (g.E.ToEntry.says slots) c.loop-item.entries.items c.in_ok-to_entry.field-0 c.args.items.now c.loop-item.item-index c.item-item.result
           c.loop-item-test.true here (c.loop-item.invariant.says slots can)
           (c.in_ok-to_entry.ensures.says slots (rw (sym here) (can c.loop-item.item-index c.item-item.result c.loop-item-test.true))));
-      plain = rw c.in_ok-push.ensures.items (plain_more c.loop-item.entries.items c.in_ok-to_entry.field-0 c.loop-item.invariant.plain c.in_ok-to_entry.ensures.plain);
+      plain = rw c.in_ok-push.ensures.items (plain_more g.E.ToEntry.deep c.loop-item.entries.items c.in_ok-to_entry.field-0 c.loop-item.invariant.plain c.in_ok-to_entry.ensures.plain);
     }
 
 pub returns-clause-says : goal.returns-clause-says

@@ -1,4 +1,4 @@
-use Rattle.std.proofs.Common.{take, ℕ, All}
+use Rattle.std.proofs.Common.{take, ℕ, ◌+◌, All}
 use Rattle.toml.specs.Data.{array}
 use Rattle.toml.specs.View.{items_view}
 use Rattle.rdm_fixture.specs.Keys.{EachIs, OfTable}
@@ -8,5 +8,5 @@ use Rattle.rdm_fixture.proofs.writing.fields.list_of.Given as goal
 abbrev pub invariant-loop-item : goal.invariant-loop-item
 invariant-loop-item g l = record {
   says : (slots : ℕ) → All (g.E.ToEntry.can slots) l.items → EachIs (OfTable (g.E.ToEntry.says slots)) (items_view l.entries.items) (take l.item-index l.items);
-  plain : IsPlain 2 (array (items_view l.entries.items));
+  plain : IsPlain (g.E.ToEntry.deep + 1) (array (items_view l.entries.items));
 }
