@@ -9,7 +9,8 @@ use Rattle.rdm_device.specs.declared.profile.StatusText.{StatusText}
 use Rattle.rdm_device.specs.Device.Demo.{demo, demo_root, demo_sub, demo_slots, demo_tests, demo_statuses}
 use Rattle.rdm_device.specs.declared.profile.own.ParameterDef.{ParameterDef}
 use Rattle.rdm_device.specs.Device.LeftOut.{is_optional}
-use Rattle.rdm_device.specs.Device.OwnParameters.{is_addable, has_limits, can_start}
+use Rattle.rdm_device.specs.Device.OwnParameters.{is_addable, has_limits, can_start, has_good_fields}
+use Rattle.rdm_device.specs.Device.Standards.{follows}
 use Rattle.rdm_device.specs.Device.Profiles.{CanBeMade, AreGoodParameters, MayBeLeftOut, root_slots}
 
 none_differ : {X : Type 0} (R : X → X → Type 0) → AllPairs R []
@@ -27,6 +28,8 @@ none_good = record {
   limits = All-from_recursion (λ (d : ParameterDef). IsTrue (has_limits d.shape d.low d.high)) [] tt;
   starts = All-from_recursion (λ (d : ParameterDef). IsTrue (can_start d)) [] tt;
   ascending = none_differ (λ (s t : ParameterDef). s.pid < t.pid);
+  fields = All-from_recursion (λ (d : ParameterDef). IsTrue (has_good_fields d)) [] tt;
+  standards = All-from_recursion (λ (d : ParameterDef). IsTrue (follows d)) [] tt;
 }
 
 pub none_left_out : MayBeLeftOut []

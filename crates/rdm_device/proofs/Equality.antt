@@ -7,6 +7,8 @@ use Rattle.std.proofs.lemmas.Bool.Decides.{Decides-and, Decides-like, Decides-eq
 use Rattle.std.proofs.lemmas.Slice.Eq.{slice_eq-Decides}
 use Rattle.arrayvec.specs.declared.array_vec.ArrayVec.{ArrayVec}
 use Rattle.rdm_device.specs.declared.profile.estimates.Estimates.{Estimates}
+use Rattle.rdm_device.specs.declared.profile.fields.Field.{Field}
+use Rattle.rdm_device.specs.declared.profile.fields.Width.{Width}
 use Rattle.rdm_device.specs.declared.profile.Personality.{Personality}
 use Rattle.rdm_device.specs.declared.profile.Profile.{Profile}
 use Rattle.rdm_device.specs.declared.profile.SelfTest.{SelfTest}
@@ -27,6 +29,8 @@ use Rattle.rdm_device.specs.contracts.profile.SlotPartialEq.TheImpl as slots
 use Rattle.rdm_device.specs.contracts.profile.StatusTextPartialEq.TheImpl as status_texts
 use Rattle.rdm_device.specs.contracts.profile.UnitPartialEq.TheImpl as units
 use Rattle.rdm_device.specs.contracts.profile.estimates.EstimatesPartialEq.TheImpl as estimates
+use Rattle.rdm_device.specs.contracts.profile.fields.FieldPartialEq.TheImpl as fields
+use Rattle.rdm_device.specs.contracts.profile.fields.WidthPartialEq.TheImpl as widths
 use Rattle.rdm_device.specs.contracts.profile.workers.WorkerPartialEq.TheImpl as worker
 use Rattle.rdm_device.specs.contracts.profile.workers.WorkersPartialEq.TheImpl as workers
 use Rattle.rdm_device.specs.contracts.profile.own.ParameterDefPartialEq.TheImpl as parameter_defs
@@ -97,22 +101,36 @@ unit_decides personality a b =
     (λ e. (ap (λ (u : DeviceUnit). u.model) e, (ap (λ (u : DeviceUnit). u.category) e, (ap (λ (u : DeviceUnit). u.software) e, (ap (λ (u : DeviceUnit). u.model_text) e, (ap (λ (u : DeviceUnit). u.maker_text) e, (ap (λ (u : DeviceUnit). u.label) e, (ap (λ (u : DeviceUnit). u.software_text) e, (ap (λ (u : DeviceUnit). u.personalities) e, ap (λ (u : DeviceUnit). u.start) e)))))))))
     (number a.model b.model (number a.category b.category (number a.software b.software (text a.model_text b.model_text (text a.maker_text b.maker_text (text a.label b.label (text a.software_text b.software_text (Decides-and _ _ (list_decides 8 personality a.personalities b.personalities) (Decides-eqb a.start b.start)))))))))
 
+-- ---- fields
+
+abbrev field_of : Width → ℕ → ℕ → ℕ → Field
+field_of a0 a1 a2 a3 = record { width = a0; low = a1; high = a2; also = a3 }
+
+same_field : {a0 b0 : Width} {a1 b1 a2 b2 a3 b3 : ℕ} → (a0 ≡ b0) × ((a1 ≡ b1) × ((a2 ≡ b2) × (a3 ≡ b3))) → field_of a0 a1 a2 a3 ≡ field_of b0 b1 b2 b3
+same_field e = rw (e.0, e.1.0, e.1.1.0, e.1.1.1) refl
+
+pub field_decides : IsByValue widths.ghosts.eq → IsByValue fields.ghosts.eq
+field_decides each a b =
+    Decides-like _ same_field
+    (λ e. (ap (λ (x : Field). x.width) e, (ap (λ (x : Field). x.low) e, (ap (λ (x : Field). x.high) e, ap (λ (x : Field). x.also) e))))
+    (Decides-and _ _ (each a.width b.width) (number a.low b.low (number a.high b.high (Decides-eqb a.also b.also))))
+
 -- ---- parameters of the maker's own
 
-abbrev parameter_of : ℕ → Rights → Shape → ℤ → ℤ → List ℕ → ℕ → ℕ → List ℕ → Bool → ParameterDef
-parameter_of a0 a1 a2 a3 a4 a5 a6 a7 a8 a9 =
-    record { pid = a0; rights = a1; shape = a2; low = a3; high = a4; start = a5; unit = a6; prefix = a7; name = a8; resets = a9 }
+abbrev parameter_of : ℕ → Rights → Shape → ℤ → ℤ → List Field → List ℕ → ℕ → ℕ → List ℕ → Bool → ParameterDef
+parameter_of a0 a1 a2 a3 a4 a5 a6 a7 a8 a9 a10 =
+    record { pid = a0; rights = a1; shape = a2; low = a3; high = a4; fields = a5; start = a6; unit = a7; prefix = a8; name = a9; resets = a10 }
 
-same_parameter : {a0 b0 : ℕ} {a1 b1 : Rights} {a2 b2 : Shape} {a3 b3 : ℤ} {a4 b4 : ℤ} {a5 b5 : List ℕ} {a6 b6 : ℕ} {a7 b7 : ℕ} {a8 b8 : List ℕ} {a9 b9 : Bool}
-    → (a0 ≡ b0) × ((a1 ≡ b1) × ((a2 ≡ b2) × ((a3 ≡ b3) × ((a4 ≡ b4) × ((a5 ≡ b5) × ((a6 ≡ b6) × ((a7 ≡ b7) × ((a8 ≡ b8) × (a9 ≡ b9)))))))))
-    → parameter_of a0 a1 a2 a3 a4 a5 a6 a7 a8 a9 ≡ parameter_of b0 b1 b2 b3 b4 b5 b6 b7 b8 b9
-same_parameter e = rw (e.0, e.1.0, e.1.1.0, e.1.1.1.0, e.1.1.1.1.0, e.1.1.1.1.1.0, e.1.1.1.1.1.1.0, e.1.1.1.1.1.1.1.0, e.1.1.1.1.1.1.1.1.0, e.1.1.1.1.1.1.1.1.1) refl
+same_parameter : {a0 b0 : ℕ} {a1 b1 : Rights} {a2 b2 : Shape} {a3 b3 : ℤ} {a4 b4 : ℤ} {a5 b5 : List Field} {a6 b6 : List ℕ} {a7 b7 : ℕ} {a8 b8 : ℕ} {a9 b9 : List ℕ} {a10 b10 : Bool}
+    → (a0 ≡ b0) × ((a1 ≡ b1) × ((a2 ≡ b2) × ((a3 ≡ b3) × ((a4 ≡ b4) × ((a5 ≡ b5) × ((a6 ≡ b6) × ((a7 ≡ b7) × ((a8 ≡ b8) × ((a9 ≡ b9) × (a10 ≡ b10))))))))))
+    → parameter_of a0 a1 a2 a3 a4 a5 a6 a7 a8 a9 a10 ≡ parameter_of b0 b1 b2 b3 b4 b5 b6 b7 b8 b9 b10
+same_parameter e = rw (e.0, e.1.0, e.1.1.0, e.1.1.1.0, e.1.1.1.1.0, e.1.1.1.1.1.0, e.1.1.1.1.1.1.0, e.1.1.1.1.1.1.1.0, e.1.1.1.1.1.1.1.1.0, e.1.1.1.1.1.1.1.1.1.0, e.1.1.1.1.1.1.1.1.1.1) refl
 
-pub parameter_decides : IsByValue rights.ghosts.eq → IsByValue shapes.ghosts.eq → IsByValue parameter_defs.ghosts.eq
-parameter_decides rights shape a b =
+pub parameter_decides : IsByValue rights.ghosts.eq → IsByValue shapes.ghosts.eq → IsByValue fields.ghosts.eq → IsByValue parameter_defs.ghosts.eq
+parameter_decides rights shape field a b =
     Decides-like _ same_parameter
-    (λ e. (ap (λ (d : ParameterDef). d.pid) e, (ap (λ (d : ParameterDef). d.rights) e, (ap (λ (d : ParameterDef). d.shape) e, (ap (λ (d : ParameterDef). d.low) e, (ap (λ (d : ParameterDef). d.high) e, (ap (λ (d : ParameterDef). d.start) e, (ap (λ (d : ParameterDef). d.unit) e, (ap (λ (d : ParameterDef). d.prefix) e, (ap (λ (d : ParameterDef). d.name) e, ap (λ (d : ParameterDef). d.resets) e))))))))))
-    (number a.pid b.pid (Decides-and _ _ (rights a.rights b.rights) (Decides-and _ _ (shape a.shape b.shape) (integer a.low b.low (integer a.high b.high (text a.start b.start (number a.unit b.unit (number a.prefix b.prefix (text a.name b.name (bools a.resets b.resets))))))))))
+    (λ e. (ap (λ (d : ParameterDef). d.pid) e, (ap (λ (d : ParameterDef). d.rights) e, (ap (λ (d : ParameterDef). d.shape) e, (ap (λ (d : ParameterDef). d.low) e, (ap (λ (d : ParameterDef). d.high) e, (ap (λ (d : ParameterDef). d.fields) e, (ap (λ (d : ParameterDef). d.start) e, (ap (λ (d : ParameterDef). d.unit) e, (ap (λ (d : ParameterDef). d.prefix) e, (ap (λ (d : ParameterDef). d.name) e, ap (λ (d : ParameterDef). d.resets) e)))))))))))
+    (number a.pid b.pid (Decides-and _ _ (rights a.rights b.rights) (Decides-and _ _ (shape a.shape b.shape) (integer a.low b.low (integer a.high b.high (Decides-and _ _ (slice_eq-Decides field a.fields b.fields _ refl) (text a.start b.start (number a.unit b.unit (number a.prefix b.prefix (text a.name b.name (bools a.resets b.resets)))))))))))
 
 -- ---- estimates
 

@@ -1,6 +1,7 @@
 pub mod Added
 pub mod DemoLemmas
 pub mod Faults
+pub mod FieldSteps
 pub mod ListSteps
 pub mod Maps
 pub mod SensorReads

@@ -1,6 +1,7 @@
 pub mod Demo
 pub mod Estimates
 pub mod Faults
+pub mod Fields
 pub mod LeftOut
 pub mod Map
 pub mod Measuring
@@ -9,5 +10,6 @@ pub mod Parameters
 pub mod Plain
 pub mod Profiles
 pub mod Spot
+pub mod Standards
 pub mod Values
 pub mod Workers

@@ -3,8 +3,8 @@
 ghost use Rattle.std.specs.Prelude.{◌≡◌, ◌↔◌, IsTrue};
 
 use crate::{
-    Estimates, ParameterDef, Personality, Profile, ProfileFault, Rights, SelfTest, SensorDef,
-    Shape, Slot, StatusText, Unit, Value, Worker, Workers,
+    Estimates, Field, ParameterDef, Personality, Profile, ProfileFault, Rights, SelfTest,
+    SensorDef, Shape, Slot, StatusText, Unit, Value, Width, Worker, Workers,
 };
 
 /// Two personalities are equal by `==` exactly when their footprints and their names are.
@@ -49,12 +49,25 @@ pub fn shapes_are_equal_by_value()
     ensures { (a b : Shape) → IsTrue (⟦<Shape as PartialEq>⟧.eq a b) ↔ (a ≡ b) }
 {}
 
+/// Two widths are equal by `==` exactly when they are the same.
+pub fn widths_are_equal_by_value()
+    ensures { (a b : Width) → IsTrue (⟦<Width as PartialEq>⟧.eq a b) ↔ (a ≡ b) }
+{}
+
+/// Two fields are equal by `==` exactly when their widths and their numbers are.
+pub fn fields_are_equal_by_value()
+    ensures { (a b : Field) → IsTrue (⟦<Field as PartialEq>⟧.eq a b) ↔ (a ≡ b) }
+{
+    widths_are_equal_by_value();
+}
+
 /// Two parameters of the maker's own are equal by `==` exactly when each of their fields is.
 pub fn parameter_defs_are_equal_by_value()
     ensures { (a b : ParameterDef) → IsTrue (⟦<ParameterDef as PartialEq>⟧.eq a b) ↔ (a ≡ b) }
 {
     rights_are_equal_by_value();
     shapes_are_equal_by_value();
+    fields_are_equal_by_value();
 }
 
 /// Two values of `Estimates` are equal by `==` exactly when each of their fields is.

@@ -5,10 +5,13 @@ pub(crate) mod checks;
 mod demo;
 pub(crate) mod estimates;
 pub(crate) mod faults;
+pub(crate) mod field_checks;
+pub(crate) mod fields;
 pub(crate) mod left_out;
 mod making;
 pub(crate) mod own;
 pub(crate) mod own_checks;
+pub(crate) mod standards;
 pub(crate) mod workers;
 
 ghost use Rattle.std.specs.Prelude.{◌≡◌};

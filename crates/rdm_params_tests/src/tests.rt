@@ -18,6 +18,7 @@ mod profiles;
 mod rows;
 mod scalars;
 mod slow;
+mod standards;
 mod thresholds;
 mod values;
 mod words;

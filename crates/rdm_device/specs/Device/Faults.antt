@@ -4,9 +4,9 @@ use Rattle.rdm_device.specs.declared.profile.Profile.{Profile}
 use Rattle.rdm_device.specs.declared.profile.own.ParameterDef.{ParameterDef}
 use Rattle.rdm_device.specs.declared.profile.Unit.{Unit as DeviceUnit}
 use Rattle.rdm_device.specs.declared.profile.faults.ProfileFault.{ProfileFault}
-use Rattle.rdm_device.specs.declared.profile.faults.ProfileFault.TheVariants.{SubDevices, Presets, Personalities, Start, RootFootprint, SubFootprint, Languages, TestNumber, TwinTests, TwinStatusTexts, LeftOut, LeftOutNeeded, ParameterCount, ParameterPid, ParameterLimits, ParameterStart, ParameterOrder}
+use Rattle.rdm_device.specs.declared.profile.faults.ProfileFault.TheVariants.{SubDevices, Presets, Personalities, Start, RootFootprint, SubFootprint, Languages, TestNumber, TwinTests, TwinStatusTexts, LeftOut, LeftOutNeeded, ParameterCount, ParameterPid, ParameterLimits, ParameterStart, ParameterOrder, ParameterFields, ParameterStandard}
 use Rattle.rdm_device.specs.Device.LeftOut.{leave_no_need}
-use Rattle.rdm_device.specs.Device.Profiles.{root_slots, AreOptional, HaveFreePids, HaveLimits, HaveStarts, Ascend}
+use Rattle.rdm_device.specs.Device.Profiles.{root_slots, AreOptional, HaveFreePids, HaveLimits, HaveStarts, Ascend, HaveFields, FollowStandards}
 
 -- The start address is one of DMX512. Section 10.6.3.
 abbrev pub IsStart : DeviceUnit → Type 0
@@ -31,6 +31,8 @@ Keeps ParameterPid p = HaveFreePids p.own
 Keeps ParameterLimits p = HaveLimits p.own
 Keeps ParameterStart p = HaveStarts p.own
 Keeps ParameterOrder p = Ascend p.own
+Keeps ParameterFields p = HaveFields p.own
+Keeps ParameterStandard p = FollowStandards p.own
 
 -- the rules that don't speak of parameters, kept
 abbrev pub KeepsOthers : Profile → Type 0
@@ -41,6 +43,12 @@ KeepsOthers p =
 -- those, and the rules of the parameters that are left out
 abbrev pub KeepsLeftOut : Profile → Type 0
 KeepsLeftOut p = KeepsOthers p × Keeps LeftOut p × Keeps LeftOutNeeded p
+
+-- those, and the rules of the parameters of the maker's own but for what their slots say
+abbrev pub KeepsListed : Profile → Type 0
+KeepsListed p =
+    KeepsLeftOut p × Keeps ParameterCount p × Keeps ParameterPid p × Keeps ParameterLimits p × Keeps ParameterStart p
+    × Keeps ParameterOrder p
 
 -- the rules before it, kept
 abbrev pub KeepsBefore : ProfileFault → Profile → Type 0
@@ -69,6 +77,8 @@ KeepsBefore ParameterLimits p = KeepsLeftOut p × Keeps ParameterCount p × Keep
 KeepsBefore ParameterStart p = KeepsLeftOut p × Keeps ParameterCount p × Keeps ParameterPid p × Keeps ParameterLimits p
 KeepsBefore ParameterOrder p =
     KeepsLeftOut p × Keeps ParameterCount p × Keeps ParameterPid p × Keeps ParameterLimits p × Keeps ParameterStart p
+KeepsBefore ParameterFields p = KeepsListed p
+KeepsBefore ParameterStandard p = KeepsListed p × Keeps ParameterFields p
 
 -- It is the first rule that the profile breaks.
 abbrev pub IsFirstBroken : ProfileFault → Profile → Type 0

@@ -1,7 +1,7 @@
 -- The parameters that the maker of a fixture adds: which data and commands they have, and which PIDs they can have.
 -- E1.20 sections 6.2.10.2 and 10.4.2, tables A-3, A-15 and A-16.
 use Rattle.std.specs.Prelude.{ℕ, ℤ, pos, neg_ℤ, Bool, true, false, ◌==◌, ◌&&◌, ◌||◌, nat_le, nat_lt, int_le, [], ◌∷◌, Option, None}
-use Rattle.std.specs.List.{list_any}
+use Rattle.std.specs.List.{list_any, list_all}
 use Rattle.std.specs.Option.{option_map, option_map_or}
 use Rattle.std.specs.Int.{w8, w16, w32, cast_signed}
 use Rattle.rdm_device.specs.declared.profile.own.ParameterDef.{ParameterDef}
@@ -11,6 +11,8 @@ use Rattle.rdm_device.specs.declared.profile.own.Shape.{Shape}
 use Rattle.rdm_device.specs.declared.profile.own.Shape.TheVariants as shapes
 use Rattle.rdm_device.specs.declared.value.Value.{Value}
 use Rattle.rdm_device.specs.Columns.Forms.{Form, byte, word, long, label, sized, has_form, value_of}
+use Rattle.rdm_device.specs.Device.Fields.{says, can_say, are_taken}
+use Rattle.rdm_device.specs.Device.Standards.{standards}
 use Rattle.rdm_device.specs.Device.Values.{byte_in, word_in, long_in}
 
 -- ---- which data it has
@@ -37,9 +39,9 @@ number_in shapes.SignedWord v = option_map (cast_signed w16) (word_in v)
 number_in shapes.SignedLong v = option_map (cast_signed w32) (long_in v)
 number_in _ v = None
 
--- a number from the least to the greatest, or any text or slots of the form
+-- a number from the least to the greatest, slots of the form that say numbers of the fields, or any text
 abbrev pub is_within : ParameterDef → Value → Bool
-is_within d v = option_map_or (λ n. int_le d.low n && int_le n d.high) (number_in d.shape v) (has_form (form_of d.shape) v)
+is_within d v = option_map_or (λ n. int_le d.low n && int_le n d.high) (number_in d.shape v) (has_form (form_of d.shape) v && says d.fields v)
 
 -- whether data that it starts with have the length of the shape and are in range
 abbrev pub can_start : ParameterDef → Bool
@@ -67,6 +69,10 @@ has_limits (shapes.Bits n) low high = nat_le n 32
 has_limits (shapes.Slots n) low high = nat_le n 32
 has_limits shape low high = has_number shape low && has_number shape high && int_le low high
 
+-- whether its fields take all of its slots, if it has any, and can say their limits
+abbrev pub has_good_fields : ParameterDef → Bool
+has_good_fields d = list_all can_say d.fields && are_taken d.shape d.fields
+
 -- ---- which commands it has
 
 abbrev pub has_get : Rights → Bool
@@ -83,10 +89,9 @@ has_set _ = true
 abbrev pub is_makers : ℕ → Bool
 is_makers pid = nat_le 0x8000 pid && nat_lt pid 0xFFE0
 
--- the PIDs of E1.20 and of E1.37-1 whose data can be described so: PRODUCT_DETAIL_ID_LIST, DIMMER_INFO, MINIMUM_LEVEL,
--- MAXIMUM_LEVEL, IDENTIFY_MODE
+-- the PIDs of E1.20 and of E1.37-1 that a profile can add
 abbrev pub is_lent : ℕ → Bool
-is_lent pid = list_any (λ lent. lent == pid) (0x0070 ∷ 0x0340 ∷ 0x0341 ∷ 0x0342 ∷ 0x1040 ∷ [])
+is_lent pid = list_any (λ s. s.pid == pid) standards
 
 abbrev pub is_addable : ℕ → Bool
 is_addable pid = is_makers pid || is_lent pid

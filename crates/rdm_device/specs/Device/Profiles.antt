@@ -4,7 +4,8 @@ use Rattle.rdm_device.specs.declared.profile.Profile.{Profile}
 use Rattle.rdm_device.specs.declared.profile.own.ParameterDef.{ParameterDef}
 use Rattle.rdm_device.specs.declared.profile.Unit.{Unit as DeviceUnit}
 use Rattle.rdm_device.specs.Device.LeftOut.{is_optional, leave_no_need}
-use Rattle.rdm_device.specs.Device.OwnParameters.{is_addable, has_limits, can_start}
+use Rattle.rdm_device.specs.Device.OwnParameters.{is_addable, has_limits, can_start, has_good_fields}
+use Rattle.rdm_device.specs.Device.Standards.{follows}
 
 -- A unit has a personality and a start address, and none of its personalities uses more slots than there are.
 pub record IsGoodUnit (u : DeviceUnit) (slots : ℕ) : Type 0 where
@@ -33,6 +34,14 @@ HaveLimits ds = All (λ d. IsTrue (has_limits d.shape d.low d.high)) ds
 abbrev pub HaveStarts : List ParameterDef → Type 0
 HaveStarts ds = All (λ d. IsTrue (can_start d)) ds
 
+-- The slots of each are taken by its fields, if it has any, and these can say their limits.
+abbrev pub HaveFields : List ParameterDef → Type 0
+HaveFields ds = All (λ d. IsTrue (has_good_fields d)) ds
+
+-- Each whose PID is one of E1.20 or E1.37-1 has the commands and the data of that standard.
+abbrev pub FollowStandards : List ParameterDef → Type 0
+FollowStandards ds = All (λ d. IsTrue (follows d)) ds
+
 -- They are in the order of their PIDs.
 abbrev pub Ascend : List ParameterDef → Type 0
 Ascend ds = AllPairs (λ s t. s.pid < t.pid) ds
@@ -44,6 +53,8 @@ pub record AreGoodParameters (ds : List ParameterDef) : Type 0 where
   pub limits : HaveLimits ds
   pub starts : HaveStarts ds
   pub ascending : Ascend ds
+  pub fields : HaveFields ds
+  pub standards : FollowStandards ds
 
 -- Only parameters are left out that may be, and none that another needs which stays.
 pub record MayBeLeftOut (pids : List ℕ) : Type 0 where

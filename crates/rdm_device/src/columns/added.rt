@@ -1,6 +1,7 @@
 //! What the parameters that a maker adds take and reply.
 
 mod description;
+mod fields;
 mod resetting;
 
 ghost use Rattle.std.specs.Prelude.{◌≡◌, ◌↔◌, ◌<◌, ◌≤◌, ◌==◌, ◌&&◌, int_le, [], length, map, slice_set, slice_index_or, false, find};
@@ -52,13 +53,14 @@ pub fn read_shape(shape: Shape, data: &[u8]) -> Option<Argument<'_>>
     }
 }
 
-/// Whether a value is in the range of a parameter: a number from its least to its greatest, or any text or slots of its form.
+/// Whether a value is in the range of a parameter: a number from its least to its greatest, slots that say numbers of its fields, or any
+/// text.
 pub fn is_within(def: &ParameterDef, value: &Argument<'_>) -> bool
     ensures { result ≡ is_within def.now value.now }
 {
     match number_in(def.shape, value) {
         Some(number) => lies(def, number),
-        None => has_form(def.shape, value),
+        None => has_form(def.shape, value) && fields::says(def.fields.as_slice(), value),
     }
 }
 

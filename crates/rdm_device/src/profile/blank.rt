@@ -1,10 +1,14 @@
 //! The blanks that fill the unused places of a list: every number is 0, and every text empty.
 
 ghost use Rattle.std.specs.Prelude.{◌≡◌, [], pos, false};
+ghost use Rattle.rdm_device.specs.declared.profile.fields.Width.TheVariants as widths;
 ghost use Rattle.rdm_device.specs.declared.profile.own.Rights.TheVariants as rights;
 ghost use Rattle.rdm_device.specs.declared.profile.own.Shape.TheVariants as shapes;
 
-use crate::{ParameterDef, Personality, Rights, SelfTest, SensorDef, Shape, Slot, StatusText};
+use crate::{
+    Field, Fields, ParameterDef, Personality, Rights, SelfTest, SensorDef, Shape, Slot, StatusText,
+    Width,
+};
 use rdm_frame::Text;
 
 impl Default for Personality {
@@ -72,8 +76,21 @@ impl Default for StatusText {
     }
 }
 
+impl Default for Field {
+    ghost is_default = { λ blank. blank ≡ record { width = widths.One; low = 0; high = 0; also = 0 } };
+
+    fn default() -> Field {
+        Field {
+            width: Width::One,
+            low: 0,
+            high: 0,
+            also: 0,
+        }
+    }
+}
+
 impl Default for ParameterDef {
-    ghost is_default = { λ blank. blank ≡ record { pid = 0; rights = rights.Get; shape = shapes.Byte; low = pos 0; high = pos 0; start = []; unit = 0; prefix = 0; name = []; resets = false } };
+    ghost is_default = { λ blank. blank ≡ record { pid = 0; rights = rights.Get; shape = shapes.Byte; low = pos 0; high = pos 0; fields = []; start = []; unit = 0; prefix = 0; name = []; resets = false } };
 
     fn default() -> ParameterDef {
         ParameterDef {
@@ -82,6 +99,7 @@ impl Default for ParameterDef {
             shape: Shape::Byte,
             low: 0,
             high: 0,
+            fields: Fields::none(),
             start: Text::new(),
             unit: 0,
             prefix: 0,

@@ -1,14 +1,16 @@
 //! Which rule a profile breaks.
 
 ghost use Rattle.std.specs.Prelude.{◌≡◌, ◌↔◌, ℕ, List, None, IfSome, IsTrue};
-ghost use Rattle.rdm_device.specs.Device.Faults.{IsFirstBroken, IsStart, KeepsOthers, with_parameters};
-ghost use Rattle.rdm_device.specs.Device.Profiles.{CanBeMade, MayBeLeftOut, AreGoodParameters};
+ghost use Rattle.rdm_device.specs.Device.Faults.{IsFirstBroken, IsStart, KeepsOthers, KeepsListed, with_parameters};
+ghost use Rattle.rdm_device.specs.Device.Profiles.{CanBeMade, MayBeLeftOut, AreGoodParameters, HaveFields, FollowStandards};
 
 use crate::profile::checks::{are_numbered, fit, root_slots, statuses_differ, tests_differ};
+use crate::profile::field_checks::have_fields;
 use crate::profile::left_out::{are_optional, leave_no_need};
 use crate::profile::own_checks::{
     are_ascending, are_few, have_free_pids, have_limits, have_starts,
 };
+use crate::profile::standards::follow_standards;
 use crate::{ParameterDef, Profile, Unit};
 use rdm_frame::standard::{MOST_DMX_SLOTS, MOST_SUB_DEVICES};
 
@@ -51,6 +53,11 @@ pub enum ProfileFault {
     ParameterStart,
     /// The parameters of the maker's own aren't in the order of their PIDs.
     ParameterOrder,
+    /// A parameter of the maker's own has fields that don't take all of its slots, or its data are no slots; or a field has a limit that it
+    /// can't say, or its greatest number is below its least.
+    ParameterFields,
+    /// A parameter of the maker's own has a PID of one of the standards, and a command that it hasn't there, or other data.
+    ParameterStandard,
 }
 
 /// The first rule that the profile breaks, or `None` if it breaks none: a device can be made with it then.
@@ -145,6 +152,20 @@ pub(crate) fn parameter_fault(without: &[u16], own: &[ParameterDef]) -> Option<P
     }
     if !are_ascending(own) {
         return Some(ProfileFault::ParameterOrder);
+    }
+    slots_fault(own)
+}
+
+/// The first rule that is broken by what the slots of these parameters of the maker's own say.
+fn slots_fault(own: &[ParameterDef]) -> Option<ProfileFault>
+    ensures good { (result ≡ None) ↔ (HaveFields own.now × FollowStandards own.now) }
+    ensures first { (p : Profile) → p.own ≡ own.now → KeepsListed p → IfSome result (λ fault. IsFirstBroken fault p) }
+{
+    if !have_fields(own) {
+        return Some(ProfileFault::ParameterFields);
+    }
+    if !follow_standards(own) {
+        return Some(ProfileFault::ParameterStandard);
     }
     None
 }

@@ -2,6 +2,7 @@
 
 ghost use Rattle.std.specs.Prelude.{◌≡◌, ◌<◌, ◌≤◌, [], ◌∷◌, ◌++◌, length, IfOk, OnErr, OnOk};
 
+use crate::Fields;
 use arrayvec::ArrayVec;
 use rdm_frame::Text;
 use std::alloc::{AllocError, Global};
@@ -54,6 +55,8 @@ pub struct ParameterDef {
     pub low: i64,
     /// The greatest value, where the data are a number.
     pub high: i64,
+    /// The numbers that its slots say, one after another, where the data are slots; none where the maker tells elsewhere what they are.
+    pub fields: Fields,
     /// The data that it starts with.
     pub start: Text,
     /// The unit of its values (table A-13).

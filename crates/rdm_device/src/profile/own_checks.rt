@@ -61,8 +61,7 @@ pub(crate) fn have_starts(defs: &[ParameterDef]) -> bool
     defs.iter().all(|def| can_start(def))
 }
 
-/// Whether a maker may add a parameter with this PID: 0x8000 to 0xFFDF (E1.20 table A-3), or one of the standards' whose data can be
-/// described so.
+/// Whether a profile may add a parameter with this PID: 0x8000 to 0xFFDF (E1.20 table A-3), or one of the standards' that are lent.
 pub fn is_addable(pid: u16) -> bool
     ensures { result ≡ is_addable pid }
 {
@@ -76,12 +75,13 @@ pub(crate) fn is_makers(pid: u16) -> bool
     0x8000 <= pid && pid < 0xFFE0
 }
 
-/// Whether the PID is one of the standards' whose data can be described as a maker's.
+/// Whether the PID is one of the standards' that a profile can add.
 fn is_lent(pid: u16) -> bool
     ensures { result ≡ is_lent pid }
 {
     match pid {
-        0x0070 | 0x0340 | 0x0341 | 0x0342 | 0x1040 => true,
+        0x0070 | 0x0141 | 0x0142 | 0x0340 | 0x0341 | 0x0342 | 0x0440 | 0x0603 => true,
+        0x1040 | 0x1041 | 0x1043 | 0x1044 => true,
         _ => false,
     }
 }

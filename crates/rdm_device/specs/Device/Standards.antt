@@ -1,0 +1,72 @@
+-- The parameters of E1.20 and of E1.37-1 that a profile can add to the table, a line each, in the order of their PIDs: the commands that
+-- the standard gives it, and the data. E1.20 section 10 and table A-3; E1.37-1 sections 3 to 5 and its table of PIDs.
+use Rattle.std.specs.Prelude.{ℕ, ◌*◌, ◌%◌, Bool, true, false, ◌==◌, ◌&&◌, ◌||◌, not, nat_le, bytes_eq, List, [], ◌∷◌, length}
+use Rattle.std.specs.List.{list_all}
+use Rattle.rdm_device.specs.declared.profile.fields.Field.{Field}
+use Rattle.rdm_device.specs.declared.profile.own.ParameterDef.{ParameterDef}
+use Rattle.rdm_device.specs.declared.profile.own.Rights.{Rights}
+use Rattle.rdm_device.specs.declared.profile.own.Rights.TheVariants as rights
+use Rattle.rdm_device.specs.declared.profile.own.Shape.{Shape}
+use Rattle.rdm_device.specs.declared.profile.own.Shape.TheVariants as shapes
+use Rattle.rdm_device.specs.Device.Fields.{have_sizes}
+
+-- A line: the PID, the commands that the parameter can have, and whether the data of a parameter of a profile are those of the standard.
+pub record Standard : Type 0 where
+  pub pid : ℕ
+  pub rights : Rights
+  pub fits : ParameterDef → Bool
+
+abbrev pub standard : ℕ → Rights → (ParameterDef → Bool) → Standard
+standard pid rights fits = record { pid = pid; rights = rights; fits = fits }
+
+-- so many slots in all, in which numbers of so many slots each stand one after another; a profile need not say the fields
+abbrev pub are_numbers : ℕ → List ℕ → Shape → List Field → Bool
+are_numbers size sizes shapes.Byte fs = bytes_eq sizes (1 ∷ [])
+are_numbers size sizes shapes.Word fs = bytes_eq sizes (2 ∷ [])
+are_numbers size sizes shapes.Long fs = bytes_eq sizes (4 ∷ [])
+are_numbers size sizes (shapes.Slots n) fs = (n == size) && ((length fs == 0) || have_sizes fs sizes)
+are_numbers size sizes _ fs = false
+
+abbrev pub numbers : ℕ → List ℕ → ParameterDef → Bool
+numbers size sizes d = are_numbers size sizes d.shape d.fields
+
+-- a list of numbers of two slots: one at least, and so many at most
+abbrev pub are_words : ℕ → Shape → Bool
+are_words most shapes.Word = nat_le 1 most
+are_words most (shapes.Slots n) = (n % 2 == 0) && nat_le 2 n && nat_le n (2 * most)
+are_words most _ = false
+
+abbrev pub words : ℕ → ParameterDef → Bool
+words most d = are_words most d.shape
+
+-- the lines
+abbrev pub standards : List Standard
+standards =
+    standard 0x0070 rights.Get (words 6)  -- PRODUCT_DETAIL_ID_LIST
+    ∷ standard 0x0141 rights.Both (numbers 7 (2 ∷ 2 ∷ 2 ∷ 1 ∷ []))  -- DMX_FAIL_MODE: scene, delay, hold time, level
+    ∷ standard 0x0142 rights.Both (numbers 7 (2 ∷ 2 ∷ 2 ∷ 1 ∷ []))  -- DMX_STARTUP_MODE: the same
+    ∷ standard 0x0340 rights.Get (numbers 11 (2 ∷ 2 ∷ 2 ∷ 2 ∷ 1 ∷ 1 ∷ 1 ∷ []))  -- DIMMER_INFO: limits of the levels, curves, bits, split
+    ∷ standard 0x0341 rights.Both (numbers 5 (2 ∷ 2 ∷ 1 ∷ []))  -- MINIMUM_LEVEL: increasing, decreasing, on below it
+    ∷ standard 0x0342 rights.Both (numbers 2 (2 ∷ []))  -- MAXIMUM_LEVEL
+    ∷ standard 0x0440 rights.Both (numbers 1 (1 ∷ []))  -- BURN_IN: hours
+    ∷ standard 0x0603 rights.Both (numbers 7 (2 ∷ 1 ∷ 1 ∷ 1 ∷ 1 ∷ 1 ∷ []))  -- REAL_TIME_CLOCK: year, month, day, hour, minute, second
+    ∷ standard 0x1040 rights.Both (numbers 1 (1 ∷ []))  -- IDENTIFY_MODE
+    ∷ standard 0x1041 rights.Get (numbers 32 [])  -- PRESET_INFO: 6 of one slot and 13 of two, more than a profile can say
+    ∷ standard 0x1043 rights.Both (numbers 1 (1 ∷ []))  -- PRESET_MERGEMODE
+    ∷ standard 0x1044 rights.Both (numbers 1 (1 ∷ []))  -- POWER_ON_SELF_TEST
+    ∷ []
+
+-- whether these rights give no command that the standard doesn't
+abbrev pub may_have : Rights → Rights → Bool
+may_have rights.Get rights.Get = true
+may_have rights.Get _ = false
+may_have rights.Set rights.Set = true
+may_have rights.Set _ = false
+may_have rights.Both _ = true
+
+-- whether a parameter is as each line of this PID says
+abbrev pub follows_at : ℕ → ParameterDef → Bool
+follows_at pid d = list_all (λ s. not (s.pid == pid) || (may_have s.rights d.rights && s.fits d)) standards
+
+abbrev pub follows : ParameterDef → Bool
+follows d = follows_at d.pid d

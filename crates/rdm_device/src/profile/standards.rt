@@ -1,0 +1,107 @@
+//! The parameters of the standards that a profile can add to the table.
+
+ghost use Rattle.std.specs.Prelude.{◌≡◌, ◌↔◌, ◌*◌, ◌≤◌, ◌==◌, ◌||◌, length, IsTrue};
+ghost use Rattle.rdm_device.specs.declared.profile.own.Rights.TheVariants as rights;
+ghost use Rattle.rdm_device.specs.Device.Fields.{have_sizes};
+ghost use Rattle.rdm_device.specs.Device.Profiles.{FollowStandards};
+ghost use Rattle.rdm_device.specs.Device.Standards.{are_words, numbers, words, may_have, follows_at, follows};
+
+use crate::{Field, ParameterDef, Rights, Shape};
+
+/// Whether each has the commands and the data of its standard, if its PID is one of a standard.
+pub(crate) fn follow_standards(defs: &[ParameterDef]) -> bool
+    ensures { IsTrue result ↔ FollowStandards defs.now }
+{
+    defs.iter().all(|def| follows(def))
+}
+
+/// Whether a parameter has the commands and the data of its standard, if its PID is one of a standard.
+fn follows(def: &ParameterDef) -> bool
+    ensures { result ≡ follows def.now }
+{
+    follows_at(def.pid, def)
+}
+
+/// Whether a parameter has the commands and the data of the standard's parameter with this PID, if it is one that a profile can add.
+fn follows_at(pid: u16, def: &ParameterDef) -> bool
+    ensures { result ≡ follows_at pid def.now }
+{
+    match pid {
+        0x0070 => is_read(def) && has_words(def, 6),
+        0x0141 => has_numbers(def, 7, &[2, 2, 2, 1]),
+        0x0142 => has_numbers(def, 7, &[2, 2, 2, 1]),
+        0x0340 => is_read(def) && has_numbers(def, 11, &[2, 2, 2, 2, 1, 1, 1]),
+        0x0341 => has_numbers(def, 5, &[2, 2, 1]),
+        0x0342 => has_numbers(def, 2, &[2]),
+        0x0440 => has_numbers(def, 1, &[1]),
+        0x0603 => has_numbers(def, 7, &[2, 1, 1, 1, 1, 1]),
+        0x1040 => has_numbers(def, 1, &[1]),
+        0x1041 => is_read(def) && has_numbers(def, 32, &[]),
+        0x1043 => has_numbers(def, 1, &[1]),
+        0x1044 => has_numbers(def, 1, &[1]),
+        _ => true,
+    }
+}
+
+/// Whether the parameter has a GET alone.
+fn is_read(def: &ParameterDef) -> bool
+    ensures { result ≡ may_have rights.Get def.now.rights }
+{
+    match def.rights {
+        Rights::Get => true,
+        Rights::Set | Rights::Both => false,
+    }
+}
+
+/// Whether its data are a list of numbers of two slots: one at least, and so many at most.
+fn has_words(def: &ParameterDef, most: u8) -> bool
+    ensures { result ≡ words most def.now }
+{
+    are_words(def.shape, most)
+}
+
+fn are_words(shape: Shape, most: u8) -> bool
+    ensures { result ≡ are_words most shape }
+{
+    match shape {
+        Shape::Word => 1 <= most,
+        Shape::Slots(size) => size % 2 == 0 && 2 <= size && size as u16 <= 2 * most as u16,
+        _ => false,
+    }
+}
+
+/// Whether its data have so many slots in all, in which numbers of so many slots each stand one after another.
+fn has_numbers(def: &ParameterDef, size: u8, sizes: &[u8]) -> bool
+    ensures { result ≡ numbers size sizes.now def.now }
+{
+    match def.shape {
+        Shape::Byte => sizes == [1].as_slice(),
+        Shape::Word => sizes == [2].as_slice(),
+        Shape::Long => sizes == [4].as_slice(),
+        Shape::Slots(slots) => slots == size && have_sizes_if_any(def.fields.as_slice(), sizes),
+        _ => false,
+    }
+}
+
+/// Whether there are no fields, or each has as many slots as these say.
+fn have_sizes_if_any(fields: &[Field], sizes: &[u8]) -> bool
+    ensures { result ≡ ((length fields.now == 0) || have_sizes fields.now sizes.now) }
+{
+    fields.is_empty() || have_sizes(fields, sizes)
+}
+
+/// Whether each field has as many slots as these say.
+#[tactic(auto, using(crate::proofs::FieldSteps::one_size, crate::proofs::FieldSteps::other_size, crate::proofs::FieldSteps::all_sizes, crate::proofs::FieldSteps::more_sizes, std::proofs::lemmas::Grind::common_steps))]
+fn have_sizes(fields: &[Field], sizes: &[u8]) -> bool
+    ensures { result ≡ have_sizes fields.now sizes.now }
+{
+    if fields.len() != sizes.len() {
+        return false;
+    }
+    for i in 0..fields.len() {
+        if fields[i].width.slots() != sizes[i] as usize {
+            return false;
+        }
+    }
+    true
+}
