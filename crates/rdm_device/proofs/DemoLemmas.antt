@@ -10,6 +10,7 @@ use Rattle.rdm_device.specs.Device.Demo.{demo, demo_root, demo_sub, demo_slots, 
 use Rattle.rdm_device.specs.declared.profile.own.ParameterDef.{ParameterDef}
 use Rattle.rdm_device.specs.Device.LeftOut.{is_optional}
 use Rattle.rdm_device.specs.Device.OwnParameters.{is_addable, has_limits, can_start, has_good_fields}
+use Rattle.rdm_device.specs.Device.Choices.{agrees}
 use Rattle.rdm_device.specs.Device.Standards.{follows}
 use Rattle.rdm_device.specs.Device.Profiles.{CanBeMade, AreGoodParameters, MayBeLeftOut, root_slots}
 
@@ -30,6 +31,7 @@ none_good = record {
   ascending = none_differ (λ (s t : ParameterDef). s.pid < t.pid);
   fields = All-from_recursion (λ (d : ParameterDef). IsTrue (has_good_fields d)) [] tt;
   standards = All-from_recursion (λ (d : ParameterDef). IsTrue (follows d)) [] tt;
+  agree = All-from_recursion (λ (d : ParameterDef). IsTrue (agrees [] d)) [] tt;
 }
 
 pub none_left_out : MayBeLeftOut []

@@ -7,6 +7,7 @@ use Rattle.std.proofs.lemmas.Bool.Decides.{Decides-and, Decides-like, Decides-eq
 use Rattle.std.proofs.lemmas.Slice.Eq.{slice_eq-Decides}
 use Rattle.arrayvec.specs.declared.array_vec.ArrayVec.{ArrayVec}
 use Rattle.rdm_device.specs.declared.profile.estimates.Estimates.{Estimates}
+use Rattle.rdm_device.specs.declared.profile.choices.ChoiceName.{ChoiceName}
 use Rattle.rdm_device.specs.declared.profile.fields.Field.{Field}
 use Rattle.rdm_device.specs.declared.profile.fields.Width.{Width}
 use Rattle.rdm_device.specs.declared.profile.Personality.{Personality}
@@ -29,6 +30,7 @@ use Rattle.rdm_device.specs.contracts.profile.SlotPartialEq.TheImpl as slots
 use Rattle.rdm_device.specs.contracts.profile.StatusTextPartialEq.TheImpl as status_texts
 use Rattle.rdm_device.specs.contracts.profile.UnitPartialEq.TheImpl as units
 use Rattle.rdm_device.specs.contracts.profile.estimates.EstimatesPartialEq.TheImpl as estimates
+use Rattle.rdm_device.specs.contracts.profile.choices.ChoiceNamePartialEq.TheImpl as choice_names
 use Rattle.rdm_device.specs.contracts.profile.fields.FieldPartialEq.TheImpl as fields
 use Rattle.rdm_device.specs.contracts.profile.fields.WidthPartialEq.TheImpl as widths
 use Rattle.rdm_device.specs.contracts.profile.workers.WorkerPartialEq.TheImpl as worker
@@ -115,22 +117,36 @@ field_decides each a b =
     (λ e. (ap (λ (x : Field). x.width) e, (ap (λ (x : Field). x.low) e, (ap (λ (x : Field). x.high) e, ap (λ (x : Field). x.also) e))))
     (Decides-and _ _ (each a.width b.width) (number a.low b.low (number a.high b.high (Decides-eqb a.also b.also))))
 
+-- ---- the names of choices
+
+abbrev choice_of : ℕ → List ℕ → ChoiceName
+choice_of a0 a1 = record { hertz = a0; name = a1 }
+
+same_choice : {a0 b0 : ℕ} {a1 b1 : List ℕ} → (a0 ≡ b0) × (a1 ≡ b1) → choice_of a0 a1 ≡ choice_of b0 b1
+same_choice e = rw (e.0, e.1) refl
+
+pub choice_decides : IsByValue choice_names.ghosts.eq
+choice_decides a b =
+    Decides-like _ same_choice
+    (λ e. (ap (λ (x : ChoiceName). x.hertz) e, ap (λ (x : ChoiceName). x.name) e))
+    (number a.hertz b.hertz (text_decides a.name b.name))
+
 -- ---- parameters of the maker's own
 
-abbrev parameter_of : ℕ → Rights → Shape → ℤ → ℤ → List Field → List ℕ → ℕ → ℕ → List ℕ → Bool → ParameterDef
-parameter_of a0 a1 a2 a3 a4 a5 a6 a7 a8 a9 a10 =
-    record { pid = a0; rights = a1; shape = a2; low = a3; high = a4; fields = a5; start = a6; unit = a7; prefix = a8; name = a9; resets = a10 }
+abbrev parameter_of : ℕ → Rights → Shape → ℤ → ℤ → List Field → List ChoiceName → List ℕ → ℕ → ℕ → List ℕ → Bool → ParameterDef
+parameter_of a0 a1 a2 a3 a4 a5 a6 a7 a8 a9 a10 a11 =
+    record { pid = a0; rights = a1; shape = a2; low = a3; high = a4; fields = a5; names = a6; start = a7; unit = a8; prefix = a9; name = a10; resets = a11 }
 
-same_parameter : {a0 b0 : ℕ} {a1 b1 : Rights} {a2 b2 : Shape} {a3 b3 : ℤ} {a4 b4 : ℤ} {a5 b5 : List Field} {a6 b6 : List ℕ} {a7 b7 : ℕ} {a8 b8 : ℕ} {a9 b9 : List ℕ} {a10 b10 : Bool}
-    → (a0 ≡ b0) × ((a1 ≡ b1) × ((a2 ≡ b2) × ((a3 ≡ b3) × ((a4 ≡ b4) × ((a5 ≡ b5) × ((a6 ≡ b6) × ((a7 ≡ b7) × ((a8 ≡ b8) × ((a9 ≡ b9) × (a10 ≡ b10))))))))))
-    → parameter_of a0 a1 a2 a3 a4 a5 a6 a7 a8 a9 a10 ≡ parameter_of b0 b1 b2 b3 b4 b5 b6 b7 b8 b9 b10
-same_parameter e = rw (e.0, e.1.0, e.1.1.0, e.1.1.1.0, e.1.1.1.1.0, e.1.1.1.1.1.0, e.1.1.1.1.1.1.0, e.1.1.1.1.1.1.1.0, e.1.1.1.1.1.1.1.1.0, e.1.1.1.1.1.1.1.1.1.0, e.1.1.1.1.1.1.1.1.1.1) refl
+same_parameter : {a0 b0 : ℕ} {a1 b1 : Rights} {a2 b2 : Shape} {a3 b3 : ℤ} {a4 b4 : ℤ} {a5 b5 : List Field} {a6 b6 : List ChoiceName} {a7 b7 : List ℕ} {a8 b8 : ℕ} {a9 b9 : ℕ} {a10 b10 : List ℕ} {a11 b11 : Bool}
+    → (a0 ≡ b0) × ((a1 ≡ b1) × ((a2 ≡ b2) × ((a3 ≡ b3) × ((a4 ≡ b4) × ((a5 ≡ b5) × ((a6 ≡ b6) × ((a7 ≡ b7) × ((a8 ≡ b8) × ((a9 ≡ b9) × ((a10 ≡ b10) × (a11 ≡ b11)))))))))))
+    → parameter_of a0 a1 a2 a3 a4 a5 a6 a7 a8 a9 a10 a11 ≡ parameter_of b0 b1 b2 b3 b4 b5 b6 b7 b8 b9 b10 b11
+same_parameter e = rw (e.0, e.1.0, e.1.1.0, e.1.1.1.0, e.1.1.1.1.0, e.1.1.1.1.1.0, e.1.1.1.1.1.1.0, e.1.1.1.1.1.1.1.0, e.1.1.1.1.1.1.1.1.0, e.1.1.1.1.1.1.1.1.1.0, e.1.1.1.1.1.1.1.1.1.1.0, e.1.1.1.1.1.1.1.1.1.1.1) refl
 
-pub parameter_decides : IsByValue rights.ghosts.eq → IsByValue shapes.ghosts.eq → IsByValue fields.ghosts.eq → IsByValue parameter_defs.ghosts.eq
-parameter_decides rights shape field a b =
+pub parameter_decides : IsByValue rights.ghosts.eq → IsByValue shapes.ghosts.eq → IsByValue fields.ghosts.eq → IsByValue choice_names.ghosts.eq → IsByValue parameter_defs.ghosts.eq
+parameter_decides rights shape field choice a b =
     Decides-like _ same_parameter
-    (λ e. (ap (λ (d : ParameterDef). d.pid) e, (ap (λ (d : ParameterDef). d.rights) e, (ap (λ (d : ParameterDef). d.shape) e, (ap (λ (d : ParameterDef). d.low) e, (ap (λ (d : ParameterDef). d.high) e, (ap (λ (d : ParameterDef). d.fields) e, (ap (λ (d : ParameterDef). d.start) e, (ap (λ (d : ParameterDef). d.unit) e, (ap (λ (d : ParameterDef). d.prefix) e, (ap (λ (d : ParameterDef). d.name) e, ap (λ (d : ParameterDef). d.resets) e)))))))))))
-    (number a.pid b.pid (Decides-and _ _ (rights a.rights b.rights) (Decides-and _ _ (shape a.shape b.shape) (integer a.low b.low (integer a.high b.high (Decides-and _ _ (slice_eq-Decides field a.fields b.fields _ refl) (text a.start b.start (number a.unit b.unit (number a.prefix b.prefix (text a.name b.name (bools a.resets b.resets)))))))))))
+    (λ e. (ap (λ (d : ParameterDef). d.pid) e, (ap (λ (d : ParameterDef). d.rights) e, (ap (λ (d : ParameterDef). d.shape) e, (ap (λ (d : ParameterDef). d.low) e, (ap (λ (d : ParameterDef). d.high) e, (ap (λ (d : ParameterDef). d.fields) e, (ap (λ (d : ParameterDef). d.names) e, (ap (λ (d : ParameterDef). d.start) e, (ap (λ (d : ParameterDef). d.unit) e, (ap (λ (d : ParameterDef). d.prefix) e, (ap (λ (d : ParameterDef). d.name) e, ap (λ (d : ParameterDef). d.resets) e))))))))))))
+    (number a.pid b.pid (Decides-and _ _ (rights a.rights b.rights) (Decides-and _ _ (shape a.shape b.shape) (integer a.low b.low (integer a.high b.high (Decides-and _ _ (slice_eq-Decides field a.fields b.fields _ refl) (Decides-and _ _ (slice_eq-Decides choice a.names b.names _ refl) (text a.start b.start (number a.unit b.unit (number a.prefix b.prefix (text a.name b.name (bools a.resets b.resets))))))))))))
 
 -- ---- estimates
 

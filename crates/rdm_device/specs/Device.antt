@@ -1,3 +1,4 @@
+pub mod Choices
 pub mod Demo
 pub mod Estimates
 pub mod Faults

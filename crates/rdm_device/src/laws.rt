@@ -3,8 +3,8 @@
 ghost use Rattle.std.specs.Prelude.{◌≡◌, ◌↔◌, IsTrue};
 
 use crate::{
-    Estimates, Field, ParameterDef, Personality, Profile, ProfileFault, Rights, SelfTest,
-    SensorDef, Shape, Slot, StatusText, Unit, Value, Width, Worker, Workers,
+    ChoiceName, Estimates, Field, ParameterDef, Personality, Profile, ProfileFault, Rights,
+    SelfTest, SensorDef, Shape, Slot, StatusText, Unit, Value, Width, Worker, Workers,
 };
 
 /// Two personalities are equal by `==` exactly when their footprints and their names are.
@@ -61,6 +61,11 @@ pub fn fields_are_equal_by_value()
     widths_are_equal_by_value();
 }
 
+/// Two names of choices are equal by `==` exactly when their frequencies and their texts are.
+pub fn choice_names_are_equal_by_value()
+    ensures { (a b : ChoiceName) → IsTrue (⟦<ChoiceName as PartialEq>⟧.eq a b) ↔ (a ≡ b) }
+{}
+
 /// Two parameters of the maker's own are equal by `==` exactly when each of their fields is.
 pub fn parameter_defs_are_equal_by_value()
     ensures { (a b : ParameterDef) → IsTrue (⟦<ParameterDef as PartialEq>⟧.eq a b) ↔ (a ≡ b) }
@@ -68,6 +73,7 @@ pub fn parameter_defs_are_equal_by_value()
     rights_are_equal_by_value();
     shapes_are_equal_by_value();
     fields_are_equal_by_value();
+    choice_names_are_equal_by_value();
 }
 
 /// Two values of `Estimates` are equal by `==` exactly when each of their fields is.

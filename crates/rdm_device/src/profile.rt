@@ -2,6 +2,8 @@
 
 mod blank;
 pub(crate) mod checks;
+pub(crate) mod choice_checks;
+pub(crate) mod choices;
 mod demo;
 pub(crate) mod estimates;
 pub(crate) mod faults;

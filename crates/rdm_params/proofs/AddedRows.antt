@@ -9,6 +9,8 @@ use Rattle.rdm_params.specs.declared.kind.Verb.TheVariants.{Get, Set}
 use Rattle.rdm_params.specs.declared.jobs.way.Way.TheVariants.{AtOnce}
 use Rattle.rdm_params.specs.declared.nack.Nack.TheVariants.{UnknownPid}
 use Rattle.rdm_device.specs.declared.profile.own.ParameterDef.{ParameterDef}
+use Rattle.rdm_device.specs.declared.profile.own.Shape.{Shape}
+use Rattle.rdm_device.specs.declared.profile.own.Shape.TheVariants as shapes
 use Rattle.rdm_device.specs.declared.profile.Profile.{Profile}
 use Rattle.rdm_device.specs.declared.value.Value.{Value}
 use Rattle.rdm_device.specs.Columns.Added.{within, has_makers_pid, is_pid_of, added_set_back}
@@ -17,7 +19,7 @@ use Rattle.rdm_device.specs.Device.OwnParameters.{form_of, has_get, has_set}
 use Rattle.rdm_device.specs.Device.Spot.{Spot}
 use Rattle.rdm_params.specs.Commands.Added.{row_here}
 use Rattle.rdm_params.specs.Commands.Commands.{command_of}
-use Rattle.rdm_params.specs.Table.Rows.{Row, table, row_of, row_in, row_or, added_rows, added_row, description_row, shows_added, takes_added, command_in}
+use Rattle.rdm_params.specs.Table.Rows.{Row, table, row_of, row_in, row_or, added_rows, added_row, description_row, gets_added, takes_added, command_in}
 use Rattle.rdm_params.specs.Table.Uses.{access, change, added_change, reply, way_of}
 use Rattle.rdm_params.proofs.Rows.{found}
 
@@ -97,8 +99,22 @@ description_way : (verb : Verb) → way_of (command_in (Some description_row) ve
 description_way Get = refl
 description_way Set = refl
 
-row_way : (d : ParameterDef) (get set : Bool) (verb : Verb) → way_of (command_in (Some (record { pid = d.pid; root_only = true; get = cond get (shows_added d.pid) None; set = cond set (takes_added (form_of d.shape) (within d) d.pid) None })) verb) ≡ AtOnce
-row_way d true set Get = refl
+get_way : (shape : Shape) (d : ParameterDef) (pid : ℕ) → way_of (gets_added shape d pid) ≡ AtOnce
+get_way shapes.Byte d pid = refl
+get_way shapes.Word d pid = refl
+get_way shapes.Long d pid = refl
+get_way shapes.SignedByte d pid = refl
+get_way shapes.SignedWord d pid = refl
+get_way shapes.SignedLong d pid = refl
+get_way shapes.Text d pid = refl
+get_way (shapes.Bits n) d pid = refl
+get_way (shapes.Slots n) d pid = refl
+get_way shapes.Choice d pid = refl
+get_way shapes.Names d pid = refl
+get_way shapes.Rates d pid = refl
+
+row_way : (d : ParameterDef) (get set : Bool) (verb : Verb) → way_of (command_in (Some (record { pid = d.pid; root_only = true; get = cond get (gets_added d.shape d d.pid) None; set = cond set (takes_added (form_of d.shape) (within d) d.pid) None })) verb) ≡ AtOnce
+row_way d true set Get = get_way d.shape d d.pid
 row_way d false set Get = refl
 row_way d get true Set = refl
 row_way d get false Set = refl

@@ -11,6 +11,7 @@ use std::process::Abort;
 
 mod added;
 mod changes;
+mod choices;
 mod devices;
 mod panel;
 mod placing;

@@ -1,8 +1,9 @@
 -- What the commands of a parameter that the maker adds read and write. E1.20 section 10.4.2 and tables A-15 and A-16.
-use Rattle.std.specs.Prelude.{ℕ, ℤ, pos, ◌%◌, Bool, ◌==◌, ◌&&◌, List, [], ◌∷◌, ◌++◌, find, unwrap_or, if◌then◌else◌}
+use Rattle.std.specs.Prelude.{ℕ, ℤ, pos, ◌-◌, ◌%◌, Bool, nat_le, ◌==◌, ◌&&◌, List, [], ◌∷◌, ◌++◌, find, length, slice_get, unwrap_or, if◌then◌else◌}
 use Rattle.std.specs.List.{list_any}
 use Rattle.std.specs.Option.{option_map_or}
 use Rattle.std.specs.Int.{w64, cast_unsigned}
+use Rattle.rdm_device.specs.declared.profile.choices.ChoiceName.{ChoiceName}
 use Rattle.rdm_device.specs.declared.profile.own.ParameterDef.{ParameterDef}
 use Rattle.rdm_device.specs.declared.profile.own.Rights.{Rights}
 use Rattle.rdm_device.specs.declared.profile.own.Rights.TheVariants as rights
@@ -11,11 +12,11 @@ use Rattle.rdm_device.specs.declared.profile.own.Shape.TheVariants as shapes
 use Rattle.rdm_device.specs.declared.value.Value.{Value}
 use Rattle.rdm_device.specs.Columns.Changes.{Change}
 use Rattle.rdm_device.specs.Columns.Forms.{Form, value_of}
-use Rattle.rdm_device.specs.Columns.Ranges.{Range, for_word}
+use Rattle.rdm_device.specs.Columns.Ranges.{Range, for_byte, for_word}
 use Rattle.rdm_device.specs.Device.Map.{Entry, has_key, lookup}
 use Rattle.rdm_device.specs.Device.OwnParameters.{form_of, number_in, is_within, is_makers}
 use Rattle.rdm_device.specs.Device.Spot.{Spot}
-use Rattle.rdm_device.specs.Device.Values.{bytes_of, word_slots, long_slots, word_or_0}
+use Rattle.rdm_device.specs.Device.Values.{bytes_of, word_slots, long_slots, byte_or_0, word_or_0}
 
 -- the values in the range of a parameter
 abbrev pub within : ParameterDef → Form → Range
@@ -37,6 +38,29 @@ set_back_in ds e = option_map_or (λ d. d.start) (find (λ d. d.resets && (d.pid
 abbrev pub added_set_back : Change
 added_set_back spot v e = set_back_in spot.profile.own e
 
+-- ---- choices: E1.37-1, CURVE, OUTPUT_RESPONSE_TIME, MODULATION_FREQUENCY and their descriptions
+
+-- the greatest number that can be chosen
+abbrev pub greatest : ParameterDef → ℕ
+greatest d = cast_unsigned w64 d.high % 256
+
+-- the number that is chosen, and the greatest
+abbrev pub choice_shown : ParameterDef → Spot → List ℕ
+choice_shown d spot = added_value d.pid spot ++ greatest d ∷ []
+
+-- the number of a thing that has a name
+abbrev pub a_name : ParameterDef → Form → Range
+a_name d form spot v = for_byte (λ n. nat_le 1 n && nat_le n (length d.names)) v
+
+-- its frequency, if it tells that, and what it is called
+abbrev pub name_slots : Shape → ChoiceName → List ℕ
+name_slots shapes.Rates c = long_slots c.hertz ++ c.name
+name_slots _ c = c.name
+
+-- its number and its name
+abbrev pub name_shown : ParameterDef → Spot → Value → List ℕ
+name_shown d spot v = byte_or_0 v ∷ option_map_or (name_slots d.shape) (slice_get d.names (byte_or_0 v - 1)) []
+
 -- ---- PARAMETER_DESCRIPTION: section 10.4.2
 
 -- how many slots its data have; of a text, how many at most
@@ -50,6 +74,9 @@ size_of shapes.SignedLong = 4
 size_of shapes.Text = 32
 size_of (shapes.Bits n) = n
 size_of (shapes.Slots n) = n
+size_of shapes.Choice = 1
+size_of shapes.Names = 0
+size_of shapes.Rates = 0
 
 -- the type of its data. Table A-15.
 abbrev pub data_type_of : Shape → ℕ
@@ -62,6 +89,9 @@ data_type_of shapes.SignedLong = 0x08
 data_type_of shapes.Text = 0x02
 data_type_of (shapes.Bits n) = 0x01
 data_type_of (shapes.Slots n) = 0x00
+data_type_of shapes.Choice = 0x03
+data_type_of shapes.Names = 0x00
+data_type_of shapes.Rates = 0x00
 
 -- the commands that it has. Table A-16.
 abbrev pub class_of : Rights → ℕ
@@ -72,6 +102,7 @@ class_of rights.Both = 0x03
 -- how many numbers the data can say, and one where they are no number
 abbrev pub span_of : Shape → ℕ
 span_of shapes.Byte = 0x100
+span_of shapes.Choice = 0x100
 span_of shapes.Word = 0x10000
 span_of shapes.Long = 0x100000000
 span_of shapes.SignedByte = 0x100

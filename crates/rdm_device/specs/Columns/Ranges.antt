@@ -12,7 +12,7 @@ abbrev pub Range : Type 0
 Range = Spot → Value → Bool
 
 -- a test of the 8-bit number, if the value is one
-abbrev for_byte : (ℕ → Bool) → Value → Bool
+abbrev pub for_byte : (ℕ → Bool) → Value → Bool
 for_byte test v = option_map_or test (byte_in v) false
 
 -- a test of the 16-bit number, if the value is one

@@ -4,9 +4,9 @@ use Rattle.rdm_device.specs.declared.profile.Profile.{Profile}
 use Rattle.rdm_device.specs.declared.profile.own.ParameterDef.{ParameterDef}
 use Rattle.rdm_device.specs.declared.profile.Unit.{Unit as DeviceUnit}
 use Rattle.rdm_device.specs.declared.profile.faults.ProfileFault.{ProfileFault}
-use Rattle.rdm_device.specs.declared.profile.faults.ProfileFault.TheVariants.{SubDevices, Presets, Personalities, Start, RootFootprint, SubFootprint, Languages, TestNumber, TwinTests, TwinStatusTexts, LeftOut, LeftOutNeeded, ParameterCount, ParameterPid, ParameterLimits, ParameterStart, ParameterOrder, ParameterFields, ParameterStandard}
+use Rattle.rdm_device.specs.declared.profile.faults.ProfileFault.TheVariants.{SubDevices, Presets, Personalities, Start, RootFootprint, SubFootprint, Languages, TestNumber, TwinTests, TwinStatusTexts, LeftOut, LeftOutNeeded, ParameterCount, ParameterPid, ParameterLimits, ParameterStart, ParameterOrder, ParameterFields, ParameterStandard, ParameterNames}
 use Rattle.rdm_device.specs.Device.LeftOut.{leave_no_need}
-use Rattle.rdm_device.specs.Device.Profiles.{root_slots, AreOptional, HaveFreePids, HaveLimits, HaveStarts, Ascend, HaveFields, FollowStandards}
+use Rattle.rdm_device.specs.Device.Profiles.{root_slots, AreOptional, HaveFreePids, HaveLimits, HaveStarts, Ascend, HaveFields, FollowStandards, Agree}
 
 -- The start address is one of DMX512. Section 10.6.3.
 abbrev pub IsStart : DeviceUnit → Type 0
@@ -33,6 +33,7 @@ Keeps ParameterStart p = HaveStarts p.own
 Keeps ParameterOrder p = Ascend p.own
 Keeps ParameterFields p = HaveFields p.own
 Keeps ParameterStandard p = FollowStandards p.own
+Keeps ParameterNames p = Agree p.own
 
 -- the rules that don't speak of parameters, kept
 abbrev pub KeepsOthers : Profile → Type 0
@@ -79,6 +80,7 @@ KeepsBefore ParameterOrder p =
     KeepsLeftOut p × Keeps ParameterCount p × Keeps ParameterPid p × Keeps ParameterLimits p × Keeps ParameterStart p
 KeepsBefore ParameterFields p = KeepsListed p
 KeepsBefore ParameterStandard p = KeepsListed p × Keeps ParameterFields p
+KeepsBefore ParameterNames p = KeepsListed p × Keeps ParameterFields p × Keeps ParameterStandard p
 
 -- It is the first rule that the profile breaks.
 abbrev pub IsFirstBroken : ProfileFault → Profile → Type 0

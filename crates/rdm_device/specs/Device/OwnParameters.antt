@@ -10,9 +10,9 @@ use Rattle.rdm_device.specs.declared.profile.own.Rights.TheVariants as rights
 use Rattle.rdm_device.specs.declared.profile.own.Shape.{Shape}
 use Rattle.rdm_device.specs.declared.profile.own.Shape.TheVariants as shapes
 use Rattle.rdm_device.specs.declared.value.Value.{Value}
-use Rattle.rdm_device.specs.Columns.Forms.{Form, byte, word, long, label, sized, has_form, value_of}
+use Rattle.rdm_device.specs.Columns.Forms.{Form, nothing, byte, word, long, label, sized, has_form, value_of}
 use Rattle.rdm_device.specs.Device.Fields.{says, can_say, are_taken}
-use Rattle.rdm_device.specs.Device.Standards.{standards}
+use Rattle.rdm_device.specs.Device.Standards.{is_of_standards}
 use Rattle.rdm_device.specs.Device.Values.{byte_in, word_in, long_in}
 
 -- ---- which data it has
@@ -28,10 +28,14 @@ form_of shapes.SignedLong = long
 form_of shapes.Text = label
 form_of (shapes.Bits n) = sized n
 form_of (shapes.Slots n) = sized n
+form_of shapes.Choice = byte
+form_of shapes.Names = nothing
+form_of shapes.Rates = nothing
 
 -- the number that a value says in a shape, in two's complement where that is signed
 abbrev pub number_in : Shape → Value → Option ℤ
 number_in shapes.Byte v = option_map pos (byte_in v)
+number_in shapes.Choice v = option_map pos (byte_in v)
 number_in shapes.Word v = option_map pos (word_in v)
 number_in shapes.Long v = option_map pos (long_in v)
 number_in shapes.SignedByte v = option_map (cast_signed w8) (byte_in v)
@@ -54,6 +58,7 @@ lies least greatest n = int_le least n && int_le n greatest
 -- whether a number can be said in a shape; where the data are no number, any can
 abbrev pub has_number : Shape → ℤ → Bool
 has_number shapes.Byte n = lies (pos 0) (pos 255) n
+has_number shapes.Choice n = lies (pos 0) (pos 255) n
 has_number shapes.Word n = lies (pos 0) (pos 65535) n
 has_number shapes.Long n = lies (pos 0) (pos 4294967295) n
 has_number shapes.SignedByte n = lies (neg_ℤ (pos 128)) (pos 127) n
@@ -65,6 +70,8 @@ has_number _ n = true
 -- whether they have at most 32 slots
 abbrev pub has_limits : Shape → ℤ → ℤ → Bool
 has_limits shapes.Text low high = true
+has_limits shapes.Names low high = true
+has_limits shapes.Rates low high = true
 has_limits (shapes.Bits n) low high = nat_le n 32
 has_limits (shapes.Slots n) low high = nat_le n 32
 has_limits shape low high = has_number shape low && has_number shape high && int_le low high
@@ -91,7 +98,7 @@ is_makers pid = nat_le 0x8000 pid && nat_lt pid 0xFFE0
 
 -- the PIDs of E1.20 and of E1.37-1 that a profile can add
 abbrev pub is_lent : ℕ → Bool
-is_lent pid = list_any (λ s. s.pid == pid) standards
+is_lent pid = is_of_standards pid
 
 abbrev pub is_addable : ℕ → Bool
 is_addable pid = is_makers pid || is_lent pid

@@ -3,6 +3,7 @@ use Rattle.std.specs.Prelude.{◌≢◌, ℕ, ◌+◌, ◌<◌, ◌≤◌, min, 
 use Rattle.rdm_device.specs.declared.profile.Profile.{Profile}
 use Rattle.rdm_device.specs.declared.profile.own.ParameterDef.{ParameterDef}
 use Rattle.rdm_device.specs.declared.profile.Unit.{Unit as DeviceUnit}
+use Rattle.rdm_device.specs.Device.Choices.{agrees}
 use Rattle.rdm_device.specs.Device.LeftOut.{is_optional, leave_no_need}
 use Rattle.rdm_device.specs.Device.OwnParameters.{is_addable, has_limits, can_start, has_good_fields}
 use Rattle.rdm_device.specs.Device.Standards.{follows}
@@ -42,6 +43,10 @@ HaveFields ds = All (λ d. IsTrue (has_good_fields d)) ds
 abbrev pub FollowStandards : List ParameterDef → Type 0
 FollowStandards ds = All (λ d. IsTrue (follows d)) ds
 
+-- Each choice has its names, and each list of names its choice; and DIMMER_INFO has as many curves as CURVE.
+abbrev pub Agree : List ParameterDef → Type 0
+Agree ds = All (λ d. IsTrue (agrees ds d)) ds
+
 -- They are in the order of their PIDs.
 abbrev pub Ascend : List ParameterDef → Type 0
 Ascend ds = AllPairs (λ s t. s.pid < t.pid) ds
@@ -55,6 +60,7 @@ pub record AreGoodParameters (ds : List ParameterDef) : Type 0 where
   pub ascending : Ascend ds
   pub fields : HaveFields ds
   pub standards : FollowStandards ds
+  pub agree : Agree ds
 
 -- Only parameters are left out that may be, and none that another needs which stays.
 pub record MayBeLeftOut (pids : List ℕ) : Type 0 where

@@ -1,7 +1,8 @@
 -- The parameters of E1.20 and of E1.37-1 that a profile can add to the table, a line each, in the order of their PIDs: the commands that
 -- the standard gives it, and the data. E1.20 section 10 and table A-3; E1.37-1 sections 3 to 5 and its table of PIDs.
-use Rattle.std.specs.Prelude.{ℕ, ◌*◌, ◌%◌, Bool, true, false, ◌==◌, ◌&&◌, ◌||◌, not, nat_le, bytes_eq, List, [], ◌∷◌, length}
-use Rattle.std.specs.List.{list_all}
+use Rattle.std.specs.Prelude.{ℕ, pos, ◌*◌, ◌%◌, Bool, true, false, ◌==◌, ◌&&◌, ◌||◌, not, nat_le, bytes_eq, List, [], ◌∷◌, length}
+use Rattle.std.specs.List.{list_all, list_any}
+use Rattle.std.specs.Ordering.{int_eq}
 use Rattle.rdm_device.specs.declared.profile.fields.Field.{Field}
 use Rattle.rdm_device.specs.declared.profile.own.ParameterDef.{ParameterDef}
 use Rattle.rdm_device.specs.declared.profile.own.Rights.{Rights}
@@ -39,6 +40,30 @@ are_words most _ = false
 abbrev pub words : ℕ → ParameterDef → Bool
 words most d = are_words most d.shape
 
+-- the number of one of several things, from 1
+abbrev pub is_choice : Shape → Bool
+is_choice shapes.Choice = true
+is_choice _ = false
+
+abbrev pub choice : ParameterDef → Bool
+choice d = is_choice d.shape && int_eq d.low (pos 1)
+
+-- what these are called
+abbrev pub is_names : Shape → Bool
+is_names shapes.Names = true
+is_names _ = false
+
+abbrev pub names : ParameterDef → Bool
+names d = is_names d.shape
+
+-- what these are called, and the frequency of each
+abbrev pub is_rates : Shape → Bool
+is_rates shapes.Rates = true
+is_rates _ = false
+
+abbrev pub rates : ParameterDef → Bool
+rates d = is_rates d.shape
+
 -- the lines
 abbrev pub standards : List Standard
 standards =
@@ -48,6 +73,12 @@ standards =
     ∷ standard 0x0340 rights.Get (numbers 11 (2 ∷ 2 ∷ 2 ∷ 2 ∷ 1 ∷ 1 ∷ 1 ∷ []))  -- DIMMER_INFO: limits of the levels, curves, bits, split
     ∷ standard 0x0341 rights.Both (numbers 5 (2 ∷ 2 ∷ 1 ∷ []))  -- MINIMUM_LEVEL: increasing, decreasing, on below it
     ∷ standard 0x0342 rights.Both (numbers 2 (2 ∷ []))  -- MAXIMUM_LEVEL
+    ∷ standard 0x0343 rights.Both choice  -- CURVE
+    ∷ standard 0x0344 rights.Get names  -- CURVE_DESCRIPTION
+    ∷ standard 0x0345 rights.Both choice  -- OUTPUT_RESPONSE_TIME
+    ∷ standard 0x0346 rights.Get names  -- OUTPUT_RESPONSE_TIME_DESCRIPTION
+    ∷ standard 0x0347 rights.Both choice  -- MODULATION_FREQUENCY
+    ∷ standard 0x0348 rights.Get rates  -- MODULATION_FREQUENCY_DESCRIPTION
     ∷ standard 0x0440 rights.Both (numbers 1 (1 ∷ []))  -- BURN_IN: hours
     ∷ standard 0x0603 rights.Both (numbers 7 (2 ∷ 1 ∷ 1 ∷ 1 ∷ 1 ∷ 1 ∷ []))  -- REAL_TIME_CLOCK: year, month, day, hour, minute, second
     ∷ standard 0x1040 rights.Both (numbers 1 (1 ∷ []))  -- IDENTIFY_MODE
@@ -64,9 +95,17 @@ may_have rights.Set rights.Set = true
 may_have rights.Set _ = false
 may_have rights.Both _ = true
 
+-- whether data are of a shape that only a parameter of the standards has
+abbrev pub is_standards : Shape → Bool
+is_standards shape = is_choice shape || is_names shape || is_rates shape
+
 -- whether a parameter is as each line of this PID says
 abbrev pub follows_at : ℕ → ParameterDef → Bool
 follows_at pid d = list_all (λ s. not (s.pid == pid) || (may_have s.rights d.rights && s.fits d)) standards
 
+abbrev pub is_of_standards : ℕ → Bool
+is_of_standards pid = list_any (λ s. s.pid == pid) standards
+
+-- as its line says; where it has none, its data have a shape that makers can describe
 abbrev pub follows : ParameterDef → Bool
-follows d = follows_at d.pid d
+follows d = follows_at d.pid d && (not (is_standards d.shape) || is_of_standards d.pid)

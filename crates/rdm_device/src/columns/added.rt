@@ -1,5 +1,6 @@
 //! What the parameters that a maker adds take and reply.
 
+mod choosing;
 mod description;
 mod fields;
 mod resetting;
@@ -16,6 +17,7 @@ ghost use Rattle.rdm_device.specs.Device.Spot.{Spot};
 ghost use Rattle.rdm_device.specs.Device.Values.{bytes_of};
 ghost use Rattle.rdm_device.specs.Views.State.{added_entries, own_entries, kept_entry, stored_in, no_entry};
 
+pub use crate::columns::added::choosing::{a_name, choice_shown, name_shown};
 pub use crate::columns::added::description::{data_type_of, described, size_of};
 pub use crate::columns::added::resetting::{are_at_start, set_added_back};
 use crate::columns::{forms, writes};
@@ -44,12 +46,13 @@ pub fn read_shape(shape: Shape, data: &[u8]) -> Option<Argument<'_>>
     ensures { result ≡ value_of (form_of shape) data.now }
 {
     match shape {
-        Shape::Byte | Shape::SignedByte => forms::byte(data),
+        Shape::Byte | Shape::SignedByte | Shape::Choice => forms::byte(data),
         Shape::Word | Shape::SignedWord => forms::word(data),
         Shape::Long | Shape::SignedLong => forms::long(data),
         Shape::Text => forms::label(data),
         Shape::Bits(size) => sized(size, data),
         Shape::Slots(size) => sized(size, data),
+        Shape::Names | Shape::Rates => forms::nothing(data),
     }
 }
 
@@ -69,13 +72,13 @@ pub fn number_in(shape: Shape, value: &Argument<'_>) -> Option<i64>
     ensures { result ≡ number_in shape value.now }
 {
     match shape {
-        Shape::Byte => Some(value.byte()? as i64),
+        Shape::Byte | Shape::Choice => Some(value.byte()? as i64),
         Shape::Word => Some(value.word()? as i64),
         Shape::Long => Some(value.long()? as i64),
         Shape::SignedByte => Some(value.byte()?.cast_signed() as i64),
         Shape::SignedWord => Some(value.word()?.cast_signed() as i64),
         Shape::SignedLong => Some(value.long()?.cast_signed() as i64),
-        Shape::Text | Shape::Bits(_) | Shape::Slots(_) => None,
+        Shape::Text | Shape::Bits(_) | Shape::Slots(_) | Shape::Names | Shape::Rates => None,
     }
 }
 
@@ -84,12 +87,13 @@ fn has_form(shape: Shape, value: &Argument<'_>) -> bool
     ensures { result ≡ has_form (form_of shape) value.now }
 {
     match shape {
-        Shape::Byte | Shape::SignedByte => value.byte().is_some(),
+        Shape::Byte | Shape::SignedByte | Shape::Choice => value.byte().is_some(),
         Shape::Word | Shape::SignedWord => value.word().is_some(),
         Shape::Long | Shape::SignedLong => value.long().is_some(),
         Shape::Text => value.is_label(),
         Shape::Bits(size) => has_size(value, size),
         Shape::Slots(size) => has_size(value, size),
+        Shape::Names | Shape::Rates => value.is_nothing(),
     }
 }
 
@@ -164,7 +168,8 @@ fn has_pid(defs: &[ParameterDef], pid: u16) -> bool
 /// Writes what is kept of a parameter that the maker adds into an empty list.
 pub fn write_added(place: &Place<'_>, pid: u16, body: &mut Body)
     requires { body.old ≡ [] }
-    ensures { body.new ≡ added_value pid place.now }
+    ensures value { body.new ≡ added_value pid place.now }
+    ensures few { length body.new ≤ 32 }
 {
     if let Some(own) = place.own {
         write_kept(own.added.as_slice(), pid, body);
@@ -174,7 +179,8 @@ pub fn write_added(place: &Place<'_>, pid: u16, body: &mut Body)
 #[tactic(auto, using(crate::proofs::Added::kept_is))]
 fn write_kept(values: &[Kept], pid: u16, body: &mut Body)
     requires { body.old ≡ [] }
-    ensures { body.new ≡ lookup (added_entries values.now) pid 0 }
+    ensures value { body.new ≡ lookup (added_entries values.now) pid 0 }
+    ensures few { length body.new ≤ 32 }
 {
     if let Some(kept) = kept_of(values, pid) {
         write_bytes(kept.bytes.as_slice(), body);

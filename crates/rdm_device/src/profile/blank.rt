@@ -6,8 +6,8 @@ ghost use Rattle.rdm_device.specs.declared.profile.own.Rights.TheVariants as rig
 ghost use Rattle.rdm_device.specs.declared.profile.own.Shape.TheVariants as shapes;
 
 use crate::{
-    Field, Fields, ParameterDef, Personality, Rights, SelfTest, SensorDef, Shape, Slot, StatusText,
-    Width,
+    ChoiceName, ChoiceNames, Field, Fields, ParameterDef, Personality, Rights, SelfTest, SensorDef,
+    Shape, Slot, StatusText, Width,
 };
 use rdm_frame::Text;
 
@@ -76,6 +76,17 @@ impl Default for StatusText {
     }
 }
 
+impl Default for ChoiceName {
+    ghost is_default = { λ blank. blank ≡ record { hertz = 0; name = [] } };
+
+    fn default() -> ChoiceName {
+        ChoiceName {
+            hertz: 0,
+            name: Text::new(),
+        }
+    }
+}
+
 impl Default for Field {
     ghost is_default = { λ blank. blank ≡ record { width = widths.One; low = 0; high = 0; also = 0 } };
 
@@ -90,7 +101,7 @@ impl Default for Field {
 }
 
 impl Default for ParameterDef {
-    ghost is_default = { λ blank. blank ≡ record { pid = 0; rights = rights.Get; shape = shapes.Byte; low = pos 0; high = pos 0; fields = []; start = []; unit = 0; prefix = 0; name = []; resets = false } };
+    ghost is_default = { λ blank. blank ≡ record { pid = 0; rights = rights.Get; shape = shapes.Byte; low = pos 0; high = pos 0; fields = []; names = []; start = []; unit = 0; prefix = 0; name = []; resets = false } };
 
     fn default() -> ParameterDef {
         ParameterDef {
@@ -100,6 +111,7 @@ impl Default for ParameterDef {
             low: 0,
             high: 0,
             fields: Fields::none(),
+            names: ChoiceNames::none(),
             start: Text::new(),
             unit: 0,
             prefix: 0,

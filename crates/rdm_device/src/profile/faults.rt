@@ -2,9 +2,10 @@
 
 ghost use Rattle.std.specs.Prelude.{◌≡◌, ◌↔◌, ℕ, List, None, IfSome, IsTrue};
 ghost use Rattle.rdm_device.specs.Device.Faults.{IsFirstBroken, IsStart, KeepsOthers, KeepsListed, with_parameters};
-ghost use Rattle.rdm_device.specs.Device.Profiles.{CanBeMade, MayBeLeftOut, AreGoodParameters, HaveFields, FollowStandards};
+ghost use Rattle.rdm_device.specs.Device.Profiles.{CanBeMade, MayBeLeftOut, AreGoodParameters, HaveFields, FollowStandards, Agree};
 
 use crate::profile::checks::{are_numbered, fit, root_slots, statuses_differ, tests_differ};
+use crate::profile::choice_checks::agree;
 use crate::profile::field_checks::have_fields;
 use crate::profile::left_out::{are_optional, leave_no_need};
 use crate::profile::own_checks::{
@@ -58,6 +59,9 @@ pub enum ProfileFault {
     ParameterFields,
     /// A parameter of the maker's own has a PID of one of the standards, and a command that it hasn't there, or other data.
     ParameterStandard,
+    /// A choice has no names, or names have no choice: of n things that can be chosen, the parameter with the next PID has n names; or
+    /// DIMMER_INFO has another number of curves than CURVE.
+    ParameterNames,
 }
 
 /// The first rule that the profile breaks, or `None` if it breaks none: a device can be made with it then.
@@ -158,7 +162,7 @@ pub(crate) fn parameter_fault(without: &[u16], own: &[ParameterDef]) -> Option<P
 
 /// The first rule that is broken by what the slots of these parameters of the maker's own say.
 fn slots_fault(own: &[ParameterDef]) -> Option<ProfileFault>
-    ensures good { (result ≡ None) ↔ (HaveFields own.now × FollowStandards own.now) }
+    ensures good { (result ≡ None) ↔ (HaveFields own.now × FollowStandards own.now × Agree own.now) }
     ensures first { (p : Profile) → p.own ≡ own.now → KeepsListed p → IfSome result (λ fault. IsFirstBroken fault p) }
 {
     if !have_fields(own) {
@@ -166,6 +170,9 @@ fn slots_fault(own: &[ParameterDef]) -> Option<ProfileFault>
     }
     if !follow_standards(own) {
         return Some(ProfileFault::ParameterStandard);
+    }
+    if !agree(own) {
+        return Some(ProfileFault::ParameterNames);
     }
     None
 }

@@ -52,7 +52,10 @@ fn are_taken(shape: Shape, fields: &[Field]) -> bool
         | Shape::SignedWord
         | Shape::SignedLong
         | Shape::Text
-        | Shape::Bits(_) => fields.is_empty(),
+        | Shape::Bits(_)
+        | Shape::Choice
+        | Shape::Names
+        | Shape::Rates => fields.is_empty(),
     }
 }
 

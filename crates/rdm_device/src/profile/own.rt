@@ -2,7 +2,7 @@
 
 ghost use Rattle.std.specs.Prelude.{◌≡◌, ◌<◌, ◌≤◌, [], ◌∷◌, ◌++◌, length, IfOk, OnErr, OnOk};
 
-use crate::Fields;
+use crate::{ChoiceNames, Fields};
 use arrayvec::ArrayVec;
 use rdm_frame::Text;
 use std::alloc::{AllocError, Global};
@@ -38,8 +38,15 @@ pub enum Shape {
     Text,
     /// A field of bits of so many slots, of which there are at most 32.
     Bits(u8),
-    /// So many slots, of which there are at most 32, of a form that the maker tells elsewhere.
+    /// So many slots, of which there are at most 32: numbers, if the parameter has fields, else of a form that the maker tells elsewhere.
     Slots(u8),
+    /// The number of one of several things, in one slot; a GET also replies the greatest (E1.37-1 CURVE and the like).
+    Choice,
+    /// No data of its own: it tells what the things of a choice are called, of which a GET asks with their number, from 1 (E1.37-1
+    /// CURVE_DESCRIPTION and the like).
+    Names,
+    /// The same, with a frequency of each (E1.37-1 MODULATION_FREQUENCY_DESCRIPTION).
+    Rates,
 }
 
 /// A parameter that the maker of the fixture adds, at the root device.
@@ -57,6 +64,8 @@ pub struct ParameterDef {
     pub high: i64,
     /// The numbers that its slots say, one after another, where the data are slots; none where the maker tells elsewhere what they are.
     pub fields: Fields,
+    /// What the things of a choice are called, of which the first has number 1, where the parameter tells that.
+    pub names: ChoiceNames,
     /// The data that it starts with.
     pub start: Text,
     /// The unit of its values (table A-13).

@@ -76,11 +76,12 @@ pub(crate) fn is_makers(pid: u16) -> bool
 }
 
 /// Whether the PID is one of the standards' that a profile can add.
-fn is_lent(pid: u16) -> bool
+pub(crate) fn is_lent(pid: u16) -> bool
     ensures { result ≡ is_lent pid }
 {
     match pid {
         0x0070 | 0x0141 | 0x0142 | 0x0340 | 0x0341 | 0x0342 | 0x0440 | 0x0603 => true,
+        0x0343 | 0x0344 | 0x0345 | 0x0346 | 0x0347 | 0x0348 => true,
         0x1040 | 0x1041 | 0x1043 | 0x1044 => true,
         _ => false,
     }
@@ -91,13 +92,13 @@ fn has_number(shape: Shape, number: i64) -> bool
     ensures { result ≡ has_number shape number }
 {
     match shape {
-        Shape::Byte => 0 <= number && number <= 255,
+        Shape::Byte | Shape::Choice => 0 <= number && number <= 255,
         Shape::Word => 0 <= number && number <= 65535,
         Shape::Long => 0 <= number && number <= 4_294_967_295,
         Shape::SignedByte => -128 <= number && number <= 127,
         Shape::SignedWord => -32768 <= number && number <= 32767,
         Shape::SignedLong => -2_147_483_648 <= number && number <= 2_147_483_647,
-        Shape::Text | Shape::Bits(_) | Shape::Slots(_) => true,
+        Shape::Text | Shape::Bits(_) | Shape::Slots(_) | Shape::Names | Shape::Rates => true,
     }
 }
 
@@ -107,10 +108,11 @@ fn has_limits(shape: Shape, low: i64, high: i64) -> bool
     ensures { result ≡ has_limits shape low high }
 {
     match shape {
-        Shape::Text => true,
+        Shape::Text | Shape::Names | Shape::Rates => true,
         Shape::Bits(size) => size as usize <= MOST_TEXT,
         Shape::Slots(size) => size as usize <= MOST_TEXT,
         Shape::Byte
+        | Shape::Choice
         | Shape::Word
         | Shape::Long
         | Shape::SignedByte

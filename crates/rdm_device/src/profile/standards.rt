@@ -4,8 +4,9 @@ ghost use Rattle.std.specs.Prelude.{◌≡◌, ◌↔◌, ◌*◌, ◌≤◌, �
 ghost use Rattle.rdm_device.specs.declared.profile.own.Rights.TheVariants as rights;
 ghost use Rattle.rdm_device.specs.Device.Fields.{have_sizes};
 ghost use Rattle.rdm_device.specs.Device.Profiles.{FollowStandards};
-ghost use Rattle.rdm_device.specs.Device.Standards.{are_words, numbers, words, may_have, follows_at, follows};
+ghost use Rattle.rdm_device.specs.Device.Standards.{are_words, choice, names, numbers, rates, words, is_standards, may_have, follows_at, follows};
 
+use crate::profile::own_checks::is_lent;
 use crate::{Field, ParameterDef, Rights, Shape};
 
 /// Whether each has the commands and the data of its standard, if its PID is one of a standard.
@@ -19,7 +20,7 @@ pub(crate) fn follow_standards(defs: &[ParameterDef]) -> bool
 fn follows(def: &ParameterDef) -> bool
     ensures { result ≡ follows def.now }
 {
-    follows_at(def.pid, def)
+    follows_at(def.pid, def) && (!is_standards(def.shape) || is_lent(def.pid))
 }
 
 /// Whether a parameter has the commands and the data of the standard's parameter with this PID, if it is one that a profile can add.
@@ -33,6 +34,12 @@ fn follows_at(pid: u16, def: &ParameterDef) -> bool
         0x0340 => is_read(def) && has_numbers(def, 11, &[2, 2, 2, 2, 1, 1, 1]),
         0x0341 => has_numbers(def, 5, &[2, 2, 1]),
         0x0342 => has_numbers(def, 2, &[2]),
+        0x0343 => is_choice(def),
+        0x0344 => is_read(def) && has_names(def),
+        0x0345 => is_choice(def),
+        0x0346 => is_read(def) && has_names(def),
+        0x0347 => is_choice(def),
+        0x0348 => is_read(def) && has_rates(def),
         0x0440 => has_numbers(def, 1, &[1]),
         0x0603 => has_numbers(def, 7, &[2, 1, 1, 1, 1, 1]),
         0x1040 => has_numbers(def, 1, &[1]),
@@ -41,6 +48,37 @@ fn follows_at(pid: u16, def: &ParameterDef) -> bool
         0x1044 => has_numbers(def, 1, &[1]),
         _ => true,
     }
+}
+
+/// Whether data are of a shape that only a parameter of the standards has.
+fn is_standards(shape: Shape) -> bool
+    ensures { result ≡ is_standards shape }
+{
+    match shape {
+        Shape::Choice | Shape::Names | Shape::Rates => true,
+        _ => false,
+    }
+}
+
+/// Whether its data are the number of one of several things, from 1.
+fn is_choice(def: &ParameterDef) -> bool
+    ensures { result ≡ choice def.now }
+{
+    matches!(def.shape, Shape::Choice) && def.low == 1
+}
+
+/// Whether it tells what these are called.
+fn has_names(def: &ParameterDef) -> bool
+    ensures { result ≡ names def.now }
+{
+    matches!(def.shape, Shape::Names)
+}
+
+/// Whether it tells what these are called, and the frequency of each.
+fn has_rates(def: &ParameterDef) -> bool
+    ensures { result ≡ rates def.now }
+{
+    matches!(def.shape, Shape::Rates)
 }
 
 /// Whether the parameter has a GET alone.

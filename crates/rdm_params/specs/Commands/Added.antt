@@ -19,6 +19,10 @@ row_here profile pid = row_in (added_rows profile) pid
 abbrev pub handed_here : Spot → Option Row → Verb → List ℕ → Result Value Nack
 handed_here spot row verb bytes = access row true verb >>= (λ found. read_data_at (command_in row verb) spot bytes)
 
+-- the data of the reply to a command that the parameter has: rules 9 and 10
+abbrev pub reply_of : Spot → Option Command → List ℕ → Result (List ℕ) Nack
+reply_of spot command bytes = read_data_at command spot bytes >>= (λ value. Ok (reply command spot value))
+
 -- the data of its reply
 abbrev pub reply_here : Spot → Option Row → Verb → List ℕ → Result (List ℕ) Nack
 reply_here spot row verb bytes = handed_here spot row verb bytes >>= (λ value. Ok (reply (command_in row verb) spot value))

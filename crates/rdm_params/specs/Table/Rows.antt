@@ -8,9 +8,11 @@ use Rattle.rdm_params.specs.declared.jobs.slow.Slow.TheVariants.{Lamp, Power, Se
 use Rattle.rdm_params.specs.declared.jobs.way.Way.{Way}
 use Rattle.rdm_params.specs.declared.jobs.way.Way.TheVariants.{AtOnce, ByJob, FromQueue, FromStatus, Clears}
 use Rattle.rdm_device.specs.declared.profile.own.ParameterDef.{ParameterDef}
+use Rattle.rdm_device.specs.declared.profile.own.Shape.{Shape}
+use Rattle.rdm_device.specs.declared.profile.own.Shape.TheVariants as shapes
 use Rattle.rdm_device.specs.declared.profile.Profile.{Profile}
 use Rattle.rdm_device.specs.declared.value.Value.{Value}
-use Rattle.rdm_device.specs.Columns.Added.{within, added_value, added_stored, added_set_back, has_makers_pid, a_makers_pid, described}
+use Rattle.rdm_device.specs.Columns.Added.{within, added_value, choice_shown, a_name, name_shown, added_stored, added_set_back, has_makers_pid, a_makers_pid, described}
 use Rattle.rdm_device.specs.Columns.Changes.{Change, unchanged, stored_at, set_back, sensors_reset, sensors_recorded}
 use Rattle.rdm_device.specs.Columns.Forms.{Form, nothing, byte, word, long, preset, label}
 use Rattle.rdm_device.specs.Device.LeftOut.{lacks}
@@ -195,6 +197,14 @@ is_required pid = list_any (λ required. pid == required) (0x0060 ∷ 0x00C0 ∷
 abbrev pub shows_added : Cell
 shows_added pid = reads (added_value pid) pid
 
+-- the GET of a parameter that the maker adds, by the shape of its data: the number of a choice has the greatest behind it, names are
+-- asked for by their numbers, and of all others the GET shows what is kept
+abbrev pub gets_added : Shape → ParameterDef → Cell
+gets_added shapes.Choice d = reads (choice_shown d)
+gets_added shapes.Names d = asks byte (a_name d) (name_shown d)
+gets_added shapes.Rates d = asks byte (a_name d) (name_shown d)
+gets_added _ d = shows_added
+
 -- a SET that keeps its data as the value of a parameter that the maker adds
 abbrev pub takes_added : Form → (Form → Range) → Cell
 takes_added form range pid =
@@ -205,7 +215,7 @@ abbrev pub added_row : ParameterDef → Row
 added_row d = record {
   pid = d.pid;
   root_only = root;
-  get = if has_get d.rights then shows_added d.pid else None;
+  get = if has_get d.rights then gets_added d.shape d d.pid else None;
   set = if has_set d.rights then takes_added (form_of d.shape) (within d) d.pid else None;
 }
 

@@ -4,17 +4,18 @@ ghost use Rattle.std.specs.Prelude.{◌≡◌, ◌≢◌, ◌↔◌, ◌==◌, �
 ghost use Rattle.std.specs.List.{list_any};
 ghost use Rattle.std.specs.Option.{option_copied};
 ghost use Rattle.rdm_params.specs.declared.kind.Verb.TheVariants.{Get, Set};
+ghost use Rattle.rdm_device.specs.declared.profile.own.Shape.TheVariants as shapes;
 ghost use Rattle.rdm_device.specs.Columns.Added.{has_makers_pid, is_pid_of};
 ghost use Rattle.rdm_device.specs.Device.Spot.{Spot};
 ghost use Rattle.rdm_device.specs.Views.State.{own_entries, added_entries};
-ghost use Rattle.rdm_params.specs.Commands.Added.{row_here, handed_here, reply_here, after_here};
+ghost use Rattle.rdm_params.specs.Commands.Added.{row_here, handed_here, reply_of, reply_here, after_here};
 ghost use Rattle.rdm_params.specs.Commands.Commands.{root_spot};
-ghost use Rattle.rdm_params.specs.Table.Rows.{description_row, added_row};
+ghost use Rattle.rdm_params.specs.Table.Rows.{description_row, added_row, gets_added, shows_added};
 
 use super::Devices;
 use crate::{Nack, Profile};
 use rdm_device::columns::{added, forms};
-use rdm_device::{ParameterDef, Place, RootValues};
+use rdm_device::{ParameterDef, Place, RootValues, Shape};
 use rdm_frame::Body;
 use rdm_frame::standard::PARAMETER_DESCRIPTION;
 
@@ -93,7 +94,7 @@ fn get_description(place: &Place<'_>, data: &[u8], body: &mut Body) -> Result<()
     Ok(())
 }
 
-/// What is kept of a parameter that the maker adds.
+/// What a parameter that the maker adds replies to a GET.
 fn get_parameter(
     place: &Place<'_>,
     def: &ParameterDef,
@@ -108,10 +109,84 @@ fn get_parameter(
     if !added::has_get(def.rights) {
         return Err(Nack::UnsupportedCommandClass);
     }
+    get_by_shape(place, def.shape, def, data, body)
+}
+
+/// What such a parameter replies whose data have this shape.
+fn get_by_shape(
+    place: &Place<'_>,
+    shape: Shape,
+    def: &ParameterDef,
+    data: &[u8],
+    body: &mut Body,
+) -> Result<(), Nack>
+    requires { body.old ≡ [] }
+    ensures ok { IfOk result (λ u. reply_of place.now (gets_added shape def.now def.now.pid) data.now ≡ Ok body.new) }
+    ensures err { IfErr result (λ nack. reply_of place.now (gets_added shape def.now def.now.pid) data.now ≡ Err nack) }
+    ensures empty { result ≢ Ok tt → body.new ≡ [] }
+{
+    match shape {
+        Shape::Choice => get_choice(place, def, data, body),
+        Shape::Names | Shape::Rates => get_name(place, def, data, body),
+        Shape::Byte
+        | Shape::Word
+        | Shape::Long
+        | Shape::SignedByte
+        | Shape::SignedWord
+        | Shape::SignedLong
+        | Shape::Text
+        | Shape::Bits(_)
+        | Shape::Slots(_) => get_kept(place, def, data, body),
+    }
+}
+
+/// What is kept of it.
+fn get_kept(place: &Place<'_>, def: &ParameterDef, data: &[u8], body: &mut Body) -> Result<(), Nack>
+    requires { body.old ≡ [] }
+    ensures ok { IfOk result (λ u. reply_of place.now (shows_added def.now.pid) data.now ≡ Ok body.new) }
+    ensures err { IfErr result (λ nack. reply_of place.now (shows_added def.now.pid) data.now ≡ Err nack) }
+    ensures empty { result ≢ Ok tt → body.new ≡ [] }
+{
     if !data.is_empty() {
         return Err(Nack::FormatError);
     }
     added::write_added(place, def.pid, body);
+    Ok(())
+}
+
+/// The number that is chosen, and the greatest that can be.
+fn get_choice(
+    place: &Place<'_>,
+    def: &ParameterDef,
+    data: &[u8],
+    body: &mut Body,
+) -> Result<(), Nack>
+    requires { body.old ≡ [] }
+    ensures ok { IfOk result (λ u. reply_of place.now (gets_added shapes.Choice def.now def.now.pid) data.now ≡ Ok body.new) }
+    ensures err { IfErr result (λ nack. reply_of place.now (gets_added shapes.Choice def.now def.now.pid) data.now ≡ Err nack) }
+    ensures empty { result ≢ Ok tt → body.new ≡ [] }
+{
+    if !data.is_empty() {
+        return Err(Nack::FormatError);
+    }
+    added::choice_shown(place, def, body);
+    Ok(())
+}
+
+/// What one of the things is called of which one is chosen.
+fn get_name(place: &Place<'_>, def: &ParameterDef, data: &[u8], body: &mut Body) -> Result<(), Nack>
+    requires { body.old ≡ [] }
+    ensures ok { IfOk result (λ u. reply_of place.now (gets_added shapes.Names def.now def.now.pid) data.now ≡ Ok body.new) }
+    ensures err { IfErr result (λ nack. reply_of place.now (gets_added shapes.Names def.now def.now.pid) data.now ≡ Err nack) }
+    ensures empty { result ≢ Ok tt → body.new ≡ [] }
+{
+    let Some(number) = forms::byte(data) else {
+        return Err(Nack::FormatError);
+    };
+    if !added::a_name(place, def, &number) {
+        return Err(Nack::DataOutOfRange);
+    }
+    added::name_shown(place, def, &number, body);
     Ok(())
 }
 

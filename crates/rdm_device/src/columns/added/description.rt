@@ -45,12 +45,13 @@ pub fn size_of(shape: Shape) -> u8
     ensures { result ≡ size_of shape }
 {
     match shape {
-        Shape::Byte | Shape::SignedByte => 1,
+        Shape::Byte | Shape::SignedByte | Shape::Choice => 1,
         Shape::Word | Shape::SignedWord => 2,
         Shape::Long | Shape::SignedLong => 4,
         Shape::Text => MOST_TEXT as u8,
         Shape::Bits(size) => size,
         Shape::Slots(size) => size,
+        Shape::Names | Shape::Rates => 0,
     }
 }
 
@@ -59,10 +60,10 @@ pub fn data_type_of(shape: Shape) -> u8
     ensures { result ≡ data_type_of shape }
 {
     match shape {
-        Shape::Slots(_) => 0x00,
+        Shape::Slots(_) | Shape::Names | Shape::Rates => 0x00,
         Shape::Bits(_) => 0x01,
         Shape::Text => 0x02,
-        Shape::Byte => 0x03,
+        Shape::Byte | Shape::Choice => 0x03,
         Shape::SignedByte => 0x04,
         Shape::Word => 0x05,
         Shape::SignedWord => 0x06,
@@ -89,10 +90,10 @@ fn span_of(shape: Shape) -> u64
     ensures few { result ≤ 0x100000000 }
 {
     match shape {
-        Shape::Byte | Shape::SignedByte => 0x100,
+        Shape::Byte | Shape::SignedByte | Shape::Choice => 0x100,
         Shape::Word | Shape::SignedWord => 0x1_0000,
         Shape::Long | Shape::SignedLong => 0x1_0000_0000,
-        Shape::Text | Shape::Bits(_) | Shape::Slots(_) => 1,
+        Shape::Text | Shape::Bits(_) | Shape::Slots(_) | Shape::Names | Shape::Rates => 1,
     }
 }
 

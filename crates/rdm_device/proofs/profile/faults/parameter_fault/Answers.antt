@@ -17,9 +17,10 @@ returns-clause-good c =
           ascending = c.are_ascending.ensures.0 c.if-not-are_ascending.false;
           fields = (c.slots_fault.ensures.good.0 e).0;
           standards = (c.slots_fault.ensures.good.0 e).1;
+          agree = (c.slots_fault.ensures.good.0 e).2;
         },
       ),
-      λ good. c.slots_fault.ensures.good.1 (good.1.fields, good.1.standards),
+      λ good. c.slots_fault.ensures.good.1 (good.1.fields, good.1.standards, good.1.agree),
     )
 
 pub returns-clause-first : goal.returns-clause-first
