@@ -7,10 +7,11 @@ use Rattle.rdm_device.specs.declared.profile.Personality.{Personality}
 use Rattle.rdm_device.specs.declared.profile.SelfTest.{SelfTest}
 use Rattle.rdm_device.specs.declared.profile.StatusText.{StatusText}
 use Rattle.rdm_device.specs.Device.Demo.{demo, demo_root, demo_sub, demo_slots, demo_tests, demo_statuses}
+use Rattle.rdm_device.specs.declared.profile.choices.ChoiceName.{ChoiceName}
 use Rattle.rdm_device.specs.declared.profile.own.ParameterDef.{ParameterDef}
 use Rattle.rdm_device.specs.Device.LeftOut.{is_optional}
 use Rattle.rdm_device.specs.Device.OwnParameters.{is_addable, has_limits, can_start, has_good_fields}
-use Rattle.rdm_device.specs.Device.Choices.{agrees}
+use Rattle.rdm_device.specs.Device.Choices.{agrees, is_needed, comes_before}
 use Rattle.rdm_device.specs.Device.Standards.{follows}
 use Rattle.rdm_device.specs.Device.Profiles.{CanBeMade, AreGoodParameters, MayBeLeftOut, root_slots}
 
@@ -22,7 +23,7 @@ two_differ R a b differ =
     AllPairs-cons R a (b ∷ []) (All-from_recursion (R a) (b ∷ []) (differ, tt)) (AllPairs-cons R b [] (All-from_recursion (R b) [] tt) (none_differ R))
 
 -- no parameters of the maker's own are good, and none can be left out
-pub none_good : AreGoodParameters []
+pub none_good : AreGoodParameters [] []
 none_good = record {
   count = lit≤ tt;
   pids = (All-from_recursion (λ (d : ParameterDef). IsTrue (is_addable d.pid)) [] tt, none_differ (λ (s t : ParameterDef). s.pid ≢ t.pid));
@@ -31,7 +32,12 @@ none_good = record {
   ascending = none_differ (λ (s t : ParameterDef). s.pid < t.pid);
   fields = All-from_recursion (λ (d : ParameterDef). IsTrue (has_good_fields d)) [] tt;
   standards = All-from_recursion (λ (d : ParameterDef). IsTrue (follows d)) [] tt;
-  agree = All-from_recursion (λ (d : ParameterDef). IsTrue (agrees [] d)) [] tt;
+  agree = record {
+    count = lit≤ tt;
+    parameters = All-from_recursion (λ (d : ParameterDef). IsTrue (agrees [] [] d)) [] tt;
+    names = All-from_recursion (λ (c : ChoiceName). IsTrue (is_needed [] c)) [] tt;
+    ascending = none_differ (λ (c e : ChoiceName). IsTrue (comes_before c e));
+  };
 }
 
 pub none_left_out : MayBeLeftOut []

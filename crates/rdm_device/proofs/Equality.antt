@@ -119,34 +119,37 @@ field_decides each a b =
 
 -- ---- the names of choices
 
-abbrev choice_of : ℕ → List ℕ → ChoiceName
-choice_of a0 a1 = record { hertz = a0; name = a1 }
+abbrev choice_of : ℕ → ℕ → ℕ → List ℕ → ChoiceName
+choice_of a0 a1 a2 a3 =
+    record { pid = a0; number = a1; hertz = a2; name = a3 }
 
-same_choice : {a0 b0 : ℕ} {a1 b1 : List ℕ} → (a0 ≡ b0) × (a1 ≡ b1) → choice_of a0 a1 ≡ choice_of b0 b1
-same_choice e = rw (e.0, e.1) refl
+same_choice : {a0 b0 : ℕ} {a1 b1 : ℕ} {a2 b2 : ℕ} {a3 b3 : List ℕ}
+    → (a0 ≡ b0) × ((a1 ≡ b1) × ((a2 ≡ b2) × (a3 ≡ b3)))
+    → choice_of a0 a1 a2 a3 ≡ choice_of b0 b1 b2 b3
+same_choice e = rw (e.0, e.1.0, e.1.1.0, e.1.1.1) refl
 
 pub choice_decides : IsByValue choice_names.ghosts.eq
 choice_decides a b =
     Decides-like _ same_choice
-    (λ e. (ap (λ (x : ChoiceName). x.hertz) e, ap (λ (x : ChoiceName). x.name) e))
-    (number a.hertz b.hertz (text_decides a.name b.name))
+    (λ e. (ap (λ (x : ChoiceName). x.pid) e, (ap (λ (x : ChoiceName). x.number) e, (ap (λ (x : ChoiceName). x.hertz) e, ap (λ (x : ChoiceName). x.name) e))))
+    (number a.pid b.pid (number a.number b.number (number a.hertz b.hertz (text_decides a.name b.name))))
 
 -- ---- parameters of the maker's own
 
-abbrev parameter_of : ℕ → Rights → Shape → ℤ → ℤ → List Field → List ChoiceName → List ℕ → ℕ → ℕ → List ℕ → Bool → ParameterDef
-parameter_of a0 a1 a2 a3 a4 a5 a6 a7 a8 a9 a10 a11 =
-    record { pid = a0; rights = a1; shape = a2; low = a3; high = a4; fields = a5; names = a6; start = a7; unit = a8; prefix = a9; name = a10; resets = a11 }
+abbrev parameter_of : ℕ → Rights → Shape → ℤ → ℤ → ArrayVec Field 8 (Unit {0}) → List ℕ → ℕ → ℕ → List ℕ → Bool → ParameterDef
+parameter_of a0 a1 a2 a3 a4 a5 a6 a7 a8 a9 a10 =
+    record { pid = a0; rights = a1; shape = a2; low = a3; high = a4; fields = a5; start = a6; unit = a7; prefix = a8; name = a9; resets = a10 }
 
-same_parameter : {a0 b0 : ℕ} {a1 b1 : Rights} {a2 b2 : Shape} {a3 b3 : ℤ} {a4 b4 : ℤ} {a5 b5 : List Field} {a6 b6 : List ChoiceName} {a7 b7 : List ℕ} {a8 b8 : ℕ} {a9 b9 : ℕ} {a10 b10 : List ℕ} {a11 b11 : Bool}
-    → (a0 ≡ b0) × ((a1 ≡ b1) × ((a2 ≡ b2) × ((a3 ≡ b3) × ((a4 ≡ b4) × ((a5 ≡ b5) × ((a6 ≡ b6) × ((a7 ≡ b7) × ((a8 ≡ b8) × ((a9 ≡ b9) × ((a10 ≡ b10) × (a11 ≡ b11)))))))))))
-    → parameter_of a0 a1 a2 a3 a4 a5 a6 a7 a8 a9 a10 a11 ≡ parameter_of b0 b1 b2 b3 b4 b5 b6 b7 b8 b9 b10 b11
-same_parameter e = rw (e.0, e.1.0, e.1.1.0, e.1.1.1.0, e.1.1.1.1.0, e.1.1.1.1.1.0, e.1.1.1.1.1.1.0, e.1.1.1.1.1.1.1.0, e.1.1.1.1.1.1.1.1.0, e.1.1.1.1.1.1.1.1.1.0, e.1.1.1.1.1.1.1.1.1.1.0, e.1.1.1.1.1.1.1.1.1.1.1) refl
+same_parameter : {a0 b0 : ℕ} {a1 b1 : Rights} {a2 b2 : Shape} {a3 b3 : ℤ} {a4 b4 : ℤ} {a5 b5 : ArrayVec Field 8 (Unit {0})} {a6 b6 : List ℕ} {a7 b7 : ℕ} {a8 b8 : ℕ} {a9 b9 : List ℕ} {a10 b10 : Bool}
+    → (a0 ≡ b0) × ((a1 ≡ b1) × ((a2 ≡ b2) × ((a3 ≡ b3) × ((a4 ≡ b4) × ((a5 ≡ b5) × ((a6 ≡ b6) × ((a7 ≡ b7) × ((a8 ≡ b8) × ((a9 ≡ b9) × (a10 ≡ b10))))))))))
+    → parameter_of a0 a1 a2 a3 a4 a5 a6 a7 a8 a9 a10 ≡ parameter_of b0 b1 b2 b3 b4 b5 b6 b7 b8 b9 b10
+same_parameter e = rw (e.0, e.1.0, e.1.1.0, e.1.1.1.0, e.1.1.1.1.0, e.1.1.1.1.1.0, e.1.1.1.1.1.1.0, e.1.1.1.1.1.1.1.0, e.1.1.1.1.1.1.1.1.0, e.1.1.1.1.1.1.1.1.1.0, e.1.1.1.1.1.1.1.1.1.1) refl
 
-pub parameter_decides : IsByValue rights.ghosts.eq → IsByValue shapes.ghosts.eq → IsByValue fields.ghosts.eq → IsByValue choice_names.ghosts.eq → IsByValue parameter_defs.ghosts.eq
-parameter_decides rights shape field choice a b =
+pub parameter_decides : IsByValue rights.ghosts.eq → IsByValue shapes.ghosts.eq → IsByValue fields.ghosts.eq → IsByValue parameter_defs.ghosts.eq
+parameter_decides rights shape field a b =
     Decides-like _ same_parameter
-    (λ e. (ap (λ (d : ParameterDef). d.pid) e, (ap (λ (d : ParameterDef). d.rights) e, (ap (λ (d : ParameterDef). d.shape) e, (ap (λ (d : ParameterDef). d.low) e, (ap (λ (d : ParameterDef). d.high) e, (ap (λ (d : ParameterDef). d.fields) e, (ap (λ (d : ParameterDef). d.names) e, (ap (λ (d : ParameterDef). d.start) e, (ap (λ (d : ParameterDef). d.unit) e, (ap (λ (d : ParameterDef). d.prefix) e, (ap (λ (d : ParameterDef). d.name) e, ap (λ (d : ParameterDef). d.resets) e))))))))))))
-    (number a.pid b.pid (Decides-and _ _ (rights a.rights b.rights) (Decides-and _ _ (shape a.shape b.shape) (integer a.low b.low (integer a.high b.high (Decides-and _ _ (slice_eq-Decides field a.fields b.fields _ refl) (Decides-and _ _ (slice_eq-Decides choice a.names b.names _ refl) (text a.start b.start (number a.unit b.unit (number a.prefix b.prefix (text a.name b.name (bools a.resets b.resets))))))))))))
+    (λ e. (ap (λ (d : ParameterDef). d.pid) e, (ap (λ (d : ParameterDef). d.rights) e, (ap (λ (d : ParameterDef). d.shape) e, (ap (λ (d : ParameterDef). d.low) e, (ap (λ (d : ParameterDef). d.high) e, (ap (λ (d : ParameterDef). d.fields) e, (ap (λ (d : ParameterDef). d.start) e, (ap (λ (d : ParameterDef). d.unit) e, (ap (λ (d : ParameterDef). d.prefix) e, (ap (λ (d : ParameterDef). d.name) e, ap (λ (d : ParameterDef). d.resets) e)))))))))))
+    (number a.pid b.pid (Decides-and _ _ (rights a.rights b.rights) (Decides-and _ _ (shape a.shape b.shape) (integer a.low b.low (integer a.high b.high (Decides-and _ _ (list_decides 8 field a.fields b.fields) (text a.start b.start (number a.unit b.unit (number a.prefix b.prefix (text a.name b.name (bools a.resets b.resets)))))))))))
 
 -- ---- estimates
 
@@ -178,17 +181,17 @@ workers_decide each a b =
 
 -- ---- profiles
 
-abbrev profile_of : DeviceUnit → DeviceUnit → ℕ → ℕ → List ℕ → ArrayVec ℕ 8 (Unit {0}) → ArrayVec Slot 46 (Unit {0}) → ArrayVec SensorDef 8 (Unit {0}) → ArrayVec SelfTest 8 (Unit {0}) → ArrayVec StatusText 8 (Unit {0}) → ℕ → List ParameterDef → ArrayVec ℕ 36 (Unit {0}) → ℕ → Estimates → Workers → Profile
-profile_of a0 a1 a2 a3 a4 a5 a6 a7 a8 a9 a10 a11 a12 a13 a14 a15 =
-    record { root = a0; sub = a1; subs = a2; boot = a3; boot_text = a4; languages = a5; slots = a6; sensors = a7; tests = a8; status_texts = a9; presets = a10; own = a11; without = a12; more_slots = a13; estimates = a14; workers = a15 }
+abbrev profile_of : DeviceUnit → DeviceUnit → ℕ → ℕ → List ℕ → ArrayVec ℕ 8 (Unit {0}) → ArrayVec Slot 46 (Unit {0}) → ArrayVec SensorDef 8 (Unit {0}) → ArrayVec SelfTest 8 (Unit {0}) → ArrayVec StatusText 8 (Unit {0}) → ℕ → List ParameterDef → List ChoiceName → ArrayVec ℕ 36 (Unit {0}) → ℕ → Estimates → Workers → Profile
+profile_of a0 a1 a2 a3 a4 a5 a6 a7 a8 a9 a10 a11 a12 a13 a14 a15 a16 =
+    record { root = a0; sub = a1; subs = a2; boot = a3; boot_text = a4; languages = a5; slots = a6; sensors = a7; tests = a8; status_texts = a9; presets = a10; own = a11; choices = a12; without = a13; more_slots = a14; estimates = a15; workers = a16 }
 
-same_profile : {a0 b0 : DeviceUnit} {a1 b1 : DeviceUnit} {a2 b2 : ℕ} {a3 b3 : ℕ} {a4 b4 : List ℕ} {a5 b5 : ArrayVec ℕ 8 (Unit {0})} {a6 b6 : ArrayVec Slot 46 (Unit {0})} {a7 b7 : ArrayVec SensorDef 8 (Unit {0})} {a8 b8 : ArrayVec SelfTest 8 (Unit {0})} {a9 b9 : ArrayVec StatusText 8 (Unit {0})} {a10 b10 : ℕ} {a11 b11 : List ParameterDef} {a12 b12 : ArrayVec ℕ 36 (Unit {0})} {a13 b13 : ℕ} {a14 b14 : Estimates} {a15 b15 : Workers}
-    → (a0 ≡ b0) × ((a1 ≡ b1) × ((a2 ≡ b2) × ((a3 ≡ b3) × ((a4 ≡ b4) × ((a5 ≡ b5) × ((a6 ≡ b6) × ((a7 ≡ b7) × ((a8 ≡ b8) × ((a9 ≡ b9) × ((a10 ≡ b10) × ((a11 ≡ b11) × ((a12 ≡ b12) × ((a13 ≡ b13) × ((a14 ≡ b14) × (a15 ≡ b15)))))))))))))))
-    → profile_of a0 a1 a2 a3 a4 a5 a6 a7 a8 a9 a10 a11 a12 a13 a14 a15 ≡ profile_of b0 b1 b2 b3 b4 b5 b6 b7 b8 b9 b10 b11 b12 b13 b14 b15
-same_profile e = rw (e.0, e.1.0, e.1.1.0, e.1.1.1.0, e.1.1.1.1.0, e.1.1.1.1.1.0, e.1.1.1.1.1.1.0, e.1.1.1.1.1.1.1.0, e.1.1.1.1.1.1.1.1.0, e.1.1.1.1.1.1.1.1.1.0, e.1.1.1.1.1.1.1.1.1.1.0, e.1.1.1.1.1.1.1.1.1.1.1.0, e.1.1.1.1.1.1.1.1.1.1.1.1.0, e.1.1.1.1.1.1.1.1.1.1.1.1.1.0, e.1.1.1.1.1.1.1.1.1.1.1.1.1.1.0, e.1.1.1.1.1.1.1.1.1.1.1.1.1.1.1) refl
+same_profile : {a0 b0 : DeviceUnit} {a1 b1 : DeviceUnit} {a2 b2 : ℕ} {a3 b3 : ℕ} {a4 b4 : List ℕ} {a5 b5 : ArrayVec ℕ 8 (Unit {0})} {a6 b6 : ArrayVec Slot 46 (Unit {0})} {a7 b7 : ArrayVec SensorDef 8 (Unit {0})} {a8 b8 : ArrayVec SelfTest 8 (Unit {0})} {a9 b9 : ArrayVec StatusText 8 (Unit {0})} {a10 b10 : ℕ} {a11 b11 : List ParameterDef} {a12 b12 : List ChoiceName} {a13 b13 : ArrayVec ℕ 36 (Unit {0})} {a14 b14 : ℕ} {a15 b15 : Estimates} {a16 b16 : Workers}
+    → (a0 ≡ b0) × ((a1 ≡ b1) × ((a2 ≡ b2) × ((a3 ≡ b3) × ((a4 ≡ b4) × ((a5 ≡ b5) × ((a6 ≡ b6) × ((a7 ≡ b7) × ((a8 ≡ b8) × ((a9 ≡ b9) × ((a10 ≡ b10) × ((a11 ≡ b11) × ((a12 ≡ b12) × ((a13 ≡ b13) × ((a14 ≡ b14) × ((a15 ≡ b15) × (a16 ≡ b16))))))))))))))))
+    → profile_of a0 a1 a2 a3 a4 a5 a6 a7 a8 a9 a10 a11 a12 a13 a14 a15 a16 ≡ profile_of b0 b1 b2 b3 b4 b5 b6 b7 b8 b9 b10 b11 b12 b13 b14 b15 b16
+same_profile e = rw (e.0, e.1.0, e.1.1.0, e.1.1.1.0, e.1.1.1.1.0, e.1.1.1.1.1.0, e.1.1.1.1.1.1.0, e.1.1.1.1.1.1.1.0, e.1.1.1.1.1.1.1.1.0, e.1.1.1.1.1.1.1.1.1.0, e.1.1.1.1.1.1.1.1.1.1.0, e.1.1.1.1.1.1.1.1.1.1.1.0, e.1.1.1.1.1.1.1.1.1.1.1.1.0, e.1.1.1.1.1.1.1.1.1.1.1.1.1.0, e.1.1.1.1.1.1.1.1.1.1.1.1.1.1.0, e.1.1.1.1.1.1.1.1.1.1.1.1.1.1.1.0, e.1.1.1.1.1.1.1.1.1.1.1.1.1.1.1.1) refl
 
-pub profile_decides : IsByValue units.ghosts.eq → IsByValue slots.ghosts.eq → IsByValue sensor_defs.ghosts.eq → IsByValue self_tests.ghosts.eq → IsByValue status_texts.ghosts.eq → IsByValue parameter_defs.ghosts.eq → IsByValue estimates.ghosts.eq → IsByValue workers.ghosts.eq → IsByValue profiles.ghosts.eq
-profile_decides unit slot sensor self_test status parameter estimate chosen a b =
+pub profile_decides : IsByValue units.ghosts.eq → IsByValue slots.ghosts.eq → IsByValue sensor_defs.ghosts.eq → IsByValue self_tests.ghosts.eq → IsByValue status_texts.ghosts.eq → IsByValue parameter_defs.ghosts.eq → IsByValue choice_names.ghosts.eq → IsByValue estimates.ghosts.eq → IsByValue workers.ghosts.eq → IsByValue profiles.ghosts.eq
+profile_decides unit slot sensor self_test status parameter choice estimate chosen a b =
     Decides-like _ same_profile
-    (λ e. (ap (λ (p : Profile). p.root) e, (ap (λ (p : Profile). p.sub) e, (ap (λ (p : Profile). p.subs) e, (ap (λ (p : Profile). p.boot) e, (ap (λ (p : Profile). p.boot_text) e, (ap (λ (p : Profile). p.languages) e, (ap (λ (p : Profile). p.slots) e, (ap (λ (p : Profile). p.sensors) e, (ap (λ (p : Profile). p.tests) e, (ap (λ (p : Profile). p.status_texts) e, (ap (λ (p : Profile). p.presets) e, (ap (λ (p : Profile). p.own) e, (ap (λ (p : Profile). p.without) e, (ap (λ (p : Profile). p.more_slots) e, (ap (λ (p : Profile). p.estimates) e, ap (λ (p : Profile). p.workers) e))))))))))))))))
-    (Decides-and _ _ (unit a.root b.root) (Decides-and _ _ (unit a.sub b.sub) (number a.subs b.subs (number a.boot b.boot (text a.boot_text b.boot_text (Decides-and _ _ (list_decides 8 Decides-eqb a.languages b.languages) (Decides-and _ _ (list_decides 46 slot a.slots b.slots) (Decides-and _ _ (list_decides 8 sensor a.sensors b.sensors) (Decides-and _ _ (list_decides 8 self_test a.tests b.tests) (Decides-and _ _ (list_decides 8 status a.status_texts b.status_texts) (number a.presets b.presets (Decides-and _ _ (slice_eq-Decides parameter a.own b.own _ refl) (Decides-and _ _ (list_decides 36 Decides-eqb a.without b.without) (number a.more_slots b.more_slots (Decides-and _ _ (estimate a.estimates b.estimates) (chosen a.workers b.workers))))))))))))))))
+    (λ e. (ap (λ (p : Profile). p.root) e, (ap (λ (p : Profile). p.sub) e, (ap (λ (p : Profile). p.subs) e, (ap (λ (p : Profile). p.boot) e, (ap (λ (p : Profile). p.boot_text) e, (ap (λ (p : Profile). p.languages) e, (ap (λ (p : Profile). p.slots) e, (ap (λ (p : Profile). p.sensors) e, (ap (λ (p : Profile). p.tests) e, (ap (λ (p : Profile). p.status_texts) e, (ap (λ (p : Profile). p.presets) e, (ap (λ (p : Profile). p.own) e, (ap (λ (p : Profile). p.choices) e, (ap (λ (p : Profile). p.without) e, (ap (λ (p : Profile). p.more_slots) e, (ap (λ (p : Profile). p.estimates) e, ap (λ (p : Profile). p.workers) e)))))))))))))))))
+    (Decides-and _ _ (unit a.root b.root) (Decides-and _ _ (unit a.sub b.sub) (number a.subs b.subs (number a.boot b.boot (text a.boot_text b.boot_text (Decides-and _ _ (list_decides 8 Decides-eqb a.languages b.languages) (Decides-and _ _ (list_decides 46 slot a.slots b.slots) (Decides-and _ _ (list_decides 8 sensor a.sensors b.sensors) (Decides-and _ _ (list_decides 8 self_test a.tests b.tests) (Decides-and _ _ (list_decides 8 status a.status_texts b.status_texts) (number a.presets b.presets (Decides-and _ _ (slice_eq-Decides parameter a.own b.own _ refl) (Decides-and _ _ (slice_eq-Decides choice a.choices b.choices _ refl) (Decides-and _ _ (list_decides 36 Decides-eqb a.without b.without) (number a.more_slots b.more_slots (Decides-and _ _ (estimate a.estimates b.estimates) (chosen a.workers b.workers)))))))))))))))))

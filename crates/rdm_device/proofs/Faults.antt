@@ -1,13 +1,14 @@
 -- The rules of a profile: all of them, and one by one.
 use Rattle.std.proofs.Common.{◌≡◌, ℕ, List, ap, ◌∙◌}
 use Rattle.rdm_device.specs.declared.profile.Profile.{Profile}
+use Rattle.rdm_device.specs.declared.profile.choices.ChoiceName.{ChoiceName}
 use Rattle.rdm_device.specs.declared.profile.own.ParameterDef.{ParameterDef}
 use Rattle.rdm_device.specs.Device.Faults.{KeepsOthers, with_parameters}
 use Rattle.rdm_device.specs.Device.Profiles.{CanBeMade, MayBeLeftOut, AreGoodParameters}
 
 -- a profile that keeps the rules which don't speak of parameters, with good ones
-pub made : (p : Profile) (without : List ℕ) (own : List ParameterDef) → KeepsOthers p → MayBeLeftOut without × AreGoodParameters own → CanBeMade (with_parameters p without own)
-made p without own h good = (
+pub made : (p : Profile) (without : List ℕ) (own : List ParameterDef) (choices : List ChoiceName) → KeepsOthers p → MayBeLeftOut without × AreGoodParameters own choices → CanBeMade (with_parameters p without own choices)
+made p without own choices h good = (
   h.0,
   record {
     root = record { personality = h.2.0; start_least = h.3.0.0; start_greatest = h.3.0.1; footprints = h.4 };
@@ -23,14 +24,15 @@ made p without own h good = (
 )
 
 -- what a profile keeps that a device can be made with
-pub keeps_others : (p : Profile) (without : List ℕ) (own : List ParameterDef) → CanBeMade (with_parameters p without own) → KeepsOthers p
-keeps_others p without own can =
+pub keeps_others : (p : Profile) (without : List ℕ) (own : List ParameterDef) (choices : List ChoiceName) → CanBeMade (with_parameters p without own choices) → KeepsOthers p
+keeps_others p without own choices can =
     let good = can.1 in
     (can.0, good.presets, (good.root.personality, good.sub.personality), ((good.root.start_least, good.root.start_greatest), (good.sub.start_least, good.sub.start_greatest)), good.root.footprints, good.sub.footprints, good.language, good.test_numbers, good.tests_differ, good.statuses_differ)
 
-pub keeps_parameters : (p : Profile) (without : List ℕ) (own : List ParameterDef) → CanBeMade (with_parameters p without own) → MayBeLeftOut without × AreGoodParameters own
-keeps_parameters p without own can = (can.1.without, can.1.own)
+pub keeps_parameters : (p : Profile) (without : List ℕ) (own : List ParameterDef) (choices : List ChoiceName) → CanBeMade (with_parameters p without own choices) → MayBeLeftOut without × AreGoodParameters own choices
+keeps_parameters p without own choices can = (can.1.without, can.1.own)
 
 -- a profile with its own parameters, and without those that it leaves out
-pub same_profile : (p : Profile) (without : List ℕ) (own : List ParameterDef) → without ≡ p.without.items → own ≡ p.own → with_parameters p without own ≡ p
-same_profile p without own e f = ap (λ (pids : List ℕ). with_parameters p pids own) e ∙ ap (λ (ds : List ParameterDef). with_parameters p p.without.items ds) f
+pub same_profile : (p : Profile) (without : List ℕ) (own : List ParameterDef) (choices : List ChoiceName) → without ≡ p.without.items → own ≡ p.own → choices ≡ p.choices → with_parameters p without own choices ≡ p
+same_profile p without own choices e f g =
+    ap (λ (pids : List ℕ). with_parameters p pids own choices) e ∙ ap (λ (ds : List ParameterDef). with_parameters p p.without.items ds choices) f ∙ ap (λ (cs : List ChoiceName). with_parameters p p.without.items p.own cs) g

@@ -1,4 +1,5 @@
 pub mod Added
+pub mod ChoiceSteps
 pub mod DemoLemmas
 pub mod Faults
 pub mod FieldSteps

@@ -73,7 +73,6 @@ pub fn parameter_defs_are_equal_by_value()
     rights_are_equal_by_value();
     shapes_are_equal_by_value();
     fields_are_equal_by_value();
-    choice_names_are_equal_by_value();
 }
 
 /// Two values of `Estimates` are equal by `==` exactly when each of their fields is.
@@ -103,6 +102,7 @@ pub fn profiles_are_equal_by_value()
     self_tests_are_equal_by_value();
     status_texts_are_equal_by_value();
     parameter_defs_are_equal_by_value();
+    choice_names_are_equal_by_value();
     estimates_are_equal_by_value();
     choices_of_workers_are_equal_by_value();
 }

@@ -27,7 +27,7 @@ pub use profile::checks::is_good;
 pub use profile::choices::{ChoiceName, ChoiceNames};
 pub use profile::estimates::Estimates;
 pub use profile::faults::{ProfileFault, profile_fault, profile_fault_with};
-pub use profile::fields::{Field, Fields, Width};
+pub use profile::fields::{Field, Width};
 pub use profile::left_out::{are_optional, leave_no_need};
 pub use profile::own::{OwnParameters, ParameterDef, Rights, Shape};
 pub use profile::own_checks::is_addable;

@@ -18,7 +18,7 @@ pub(crate) mod workers;
 
 ghost use Rattle.std.specs.Prelude.{◌≡◌};
 
-use crate::{Estimates, OwnParameters, Workers};
+use crate::{ChoiceNames, Estimates, OwnParameters, Workers};
 use arrayvec::ArrayVec;
 use rdm_frame::Text;
 
@@ -157,6 +157,8 @@ pub struct Profile {
     pub presets: u16,
     /// The parameters that the maker adds, in the order of their PIDs.
     pub own: OwnParameters,
+    /// What the things are called of which parameters let choose one, by ascending PID and number.
+    pub choices: ChoiceNames,
     /// The PIDs of the standard's parameters that the device doesn't have. Most devices need not have them (table A-3).
     pub without: ArrayVec<u16, 36>,
     /// How many DMX512 slots the root device uses beside those that `slots` describes.

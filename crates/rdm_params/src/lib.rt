@@ -40,7 +40,7 @@ pub use nack::{Nack, reason_name, reason_name_for_c};
 pub use panel::{Change, Plate};
 pub use placing::PlaceError;
 pub use rdm_device::{
-    ChoiceName, ChoiceNames, Estimates, Field, Fields, OwnParameters, ParameterDef, Personality,
+    ChoiceName, ChoiceNames, Estimates, Field, OwnParameters, ParameterDef, Personality,
     Profile, Rights, SelfTest, SensorDef, Shape, Slot, StatusText, Unit, Value, Width, Worker,
     Workers, write_value,
 };

@@ -1,5 +1,5 @@
 -- What the commands of a parameter that the maker adds read and write. E1.20 section 10.4.2 and tables A-15 and A-16.
-use Rattle.std.specs.Prelude.{ℕ, ℤ, pos, ◌-◌, ◌%◌, Bool, nat_le, ◌==◌, ◌&&◌, List, [], ◌∷◌, ◌++◌, find, length, slice_get, unwrap_or, if◌then◌else◌}
+use Rattle.std.specs.Prelude.{ℕ, ℤ, pos, ◌%◌, Bool, ◌==◌, ◌&&◌, List, [], ◌∷◌, ◌++◌, find, unwrap_or, if◌then◌else◌}
 use Rattle.std.specs.List.{list_any}
 use Rattle.std.specs.Option.{option_map_or}
 use Rattle.std.specs.Int.{w64, cast_unsigned}
@@ -13,6 +13,7 @@ use Rattle.rdm_device.specs.declared.value.Value.{Value}
 use Rattle.rdm_device.specs.Columns.Changes.{Change}
 use Rattle.rdm_device.specs.Columns.Forms.{Form, value_of}
 use Rattle.rdm_device.specs.Columns.Ranges.{Range, for_byte, for_word}
+use Rattle.rdm_device.specs.Device.Choices.{greatest, is_name_of, has_name}
 use Rattle.rdm_device.specs.Device.Map.{Entry, has_key, lookup}
 use Rattle.rdm_device.specs.Device.OwnParameters.{form_of, number_in, is_within, is_makers}
 use Rattle.rdm_device.specs.Device.Spot.{Spot}
@@ -40,26 +41,23 @@ added_set_back spot v e = set_back_in spot.profile.own e
 
 -- ---- choices: E1.37-1, CURVE, OUTPUT_RESPONSE_TIME, MODULATION_FREQUENCY and their descriptions
 
--- the greatest number that can be chosen
-abbrev pub greatest : ParameterDef → ℕ
-greatest d = cast_unsigned w64 d.high % 256
-
 -- the number that is chosen, and the greatest
 abbrev pub choice_shown : ParameterDef → Spot → List ℕ
 choice_shown d spot = added_value d.pid spot ++ greatest d ∷ []
 
 -- the number of a thing that has a name
 abbrev pub a_name : ParameterDef → Form → Range
-a_name d form spot v = for_byte (λ n. nat_le 1 n && nat_le n (length d.names)) v
+a_name d form spot v = for_byte (has_name spot.profile.choices d.pid) v
 
--- its frequency, if it tells that, and what it is called
+-- the frequency of a thing, if it is told, and what it is called
 abbrev pub name_slots : Shape → ChoiceName → List ℕ
 name_slots shapes.Rates c = long_slots c.hertz ++ c.name
 name_slots _ c = c.name
 
 -- its number and its name
 abbrev pub name_shown : ParameterDef → Spot → Value → List ℕ
-name_shown d spot v = byte_or_0 v ∷ option_map_or (name_slots d.shape) (slice_get d.names (byte_or_0 v - 1)) []
+name_shown d spot v =
+    byte_or_0 v ∷ option_map_or (name_slots d.shape) (find (is_name_of d.pid (byte_or_0 v)) spot.profile.choices) []
 
 -- ---- PARAMETER_DESCRIPTION: section 10.4.2
 

@@ -96,6 +96,7 @@ demo subs = record {
   status_texts = record { items = demo_statuses };
   presets = 4;
   own = [];
+  choices = [];
   without = record { items = [] };
   more_slots = 0;
   estimates = usual;

@@ -1,6 +1,7 @@
 -- The rules of a profile, one by one, and which is the first that it breaks. E1.20 sections 9 and 10.
 use Rattle.std.specs.Prelude.{◌≢◌, ℕ, ◌<◌, ◌≤◌, List, length, All, AllPairs, IsTrue}
 use Rattle.rdm_device.specs.declared.profile.Profile.{Profile}
+use Rattle.rdm_device.specs.declared.profile.choices.ChoiceName.{ChoiceName}
 use Rattle.rdm_device.specs.declared.profile.own.ParameterDef.{ParameterDef}
 use Rattle.rdm_device.specs.declared.profile.Unit.{Unit as DeviceUnit}
 use Rattle.rdm_device.specs.declared.profile.faults.ProfileFault.{ProfileFault}
@@ -33,7 +34,7 @@ Keeps ParameterStart p = HaveStarts p.own
 Keeps ParameterOrder p = Ascend p.own
 Keeps ParameterFields p = HaveFields p.own
 Keeps ParameterStandard p = FollowStandards p.own
-Keeps ParameterNames p = Agree p.own
+Keeps ParameterNames p = Agree p.own p.choices
 
 -- the rules that don't speak of parameters, kept
 abbrev pub KeepsOthers : Profile → Type 0
@@ -86,6 +87,6 @@ KeepsBefore ParameterNames p = KeepsListed p × Keeps ParameterFields p × Keeps
 abbrev pub IsFirstBroken : ProfileFault → Profile → Type 0
 IsFirstBroken fault p = KeepsBefore fault p × ¬ Keeps fault p
 
--- a profile with these parameters left out and these of the maker's own
-abbrev pub with_parameters : Profile → List ℕ → List ParameterDef → Profile
-with_parameters p without own = record p { without = record { items = without }; own = own }
+-- a profile with these parameters left out, these of the maker's own, and these names of choices
+abbrev pub with_parameters : Profile → List ℕ → List ParameterDef → List ChoiceName → Profile
+with_parameters p without own choices = record p { without = record { items = without }; own = own; choices = choices }

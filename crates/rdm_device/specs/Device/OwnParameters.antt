@@ -45,7 +45,7 @@ number_in _ v = None
 
 -- a number from the least to the greatest, slots of the form that say numbers of the fields, or any text
 abbrev pub is_within : ParameterDef → Value → Bool
-is_within d v = option_map_or (λ n. int_le d.low n && int_le n d.high) (number_in d.shape v) (has_form (form_of d.shape) v && says d.fields v)
+is_within d v = option_map_or (λ n. int_le d.low n && int_le n d.high) (number_in d.shape v) (has_form (form_of d.shape) v && says d.fields.items v)
 
 -- whether data that it starts with have the length of the shape and are in range
 abbrev pub can_start : ParameterDef → Bool
@@ -78,7 +78,7 @@ has_limits shape low high = has_number shape low && has_number shape high && int
 
 -- whether its fields take all of its slots, if it has any, and can say their limits
 abbrev pub has_good_fields : ParameterDef → Bool
-has_good_fields d = list_all can_say d.fields && are_taken d.shape d.fields
+has_good_fields d = list_all can_say d.fields.items && are_taken d.shape d.fields.items
 
 -- ---- which commands it has
 

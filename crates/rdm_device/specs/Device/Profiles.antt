@@ -1,9 +1,10 @@
 -- Which profiles a device can be made with.
 use Rattle.std.specs.Prelude.{◌≢◌, ℕ, ◌+◌, ◌<◌, ◌≤◌, min, List, length, All, AllPairs, IsTrue}
 use Rattle.rdm_device.specs.declared.profile.Profile.{Profile}
+use Rattle.rdm_device.specs.declared.profile.choices.ChoiceName.{ChoiceName}
 use Rattle.rdm_device.specs.declared.profile.own.ParameterDef.{ParameterDef}
 use Rattle.rdm_device.specs.declared.profile.Unit.{Unit as DeviceUnit}
-use Rattle.rdm_device.specs.Device.Choices.{agrees}
+use Rattle.rdm_device.specs.Device.Choices.{agrees, is_needed, comes_before}
 use Rattle.rdm_device.specs.Device.LeftOut.{is_optional, leave_no_need}
 use Rattle.rdm_device.specs.Device.OwnParameters.{is_addable, has_limits, can_start, has_good_fields}
 use Rattle.rdm_device.specs.Device.Standards.{follows}
@@ -43,16 +44,21 @@ HaveFields ds = All (λ d. IsTrue (has_good_fields d)) ds
 abbrev pub FollowStandards : List ParameterDef → Type 0
 FollowStandards ds = All (λ d. IsTrue (follows d)) ds
 
--- Each choice has its names, and each list of names its choice; and DIMMER_INFO has as many curves as CURVE.
-abbrev pub Agree : List ParameterDef → Type 0
-Agree ds = All (λ d. IsTrue (agrees ds d)) ds
+-- Each choice has a parameter that tells what its things are called, and a name for each; DIMMER_INFO has as many curves as CURVE. Each
+-- name is that of a thing that can be chosen, no two are of the same, and they are at most 64.
+pub record Agree (ds : List ParameterDef) (cs : List ChoiceName) : Type 0 where
+  pub count : length cs ≤ 64
+  pub parameters : All (λ d. IsTrue (agrees ds cs d)) ds
+  pub names : All (λ c. IsTrue (is_needed ds c)) cs
+  pub ascending : AllPairs (λ c e. IsTrue (comes_before c e)) cs
 
 -- They are in the order of their PIDs.
 abbrev pub Ascend : List ParameterDef → Type 0
 Ascend ds = AllPairs (λ s t. s.pid < t.pid) ds
 
--- The parameters of the maker's own are at most 16, each of them is good, and they are in their order.
-pub record AreGoodParameters (ds : List ParameterDef) : Type 0 where
+-- The parameters of the maker's own are at most 16, each of them is good, and they are in their order; and these names are those of their
+-- choices.
+pub record AreGoodParameters (ds : List ParameterDef) (cs : List ChoiceName) : Type 0 where
   pub count : length ds ≤ 16
   pub pids : HaveFreePids ds
   pub limits : HaveLimits ds
@@ -60,7 +66,7 @@ pub record AreGoodParameters (ds : List ParameterDef) : Type 0 where
   pub ascending : Ascend ds
   pub fields : HaveFields ds
   pub standards : FollowStandards ds
-  pub agree : Agree ds
+  pub agree : Agree ds cs
 
 -- Only parameters are left out that may be, and none that another needs which stays.
 pub record MayBeLeftOut (pids : List ℕ) : Type 0 where
@@ -78,7 +84,7 @@ pub record IsGoodProfile (p : Profile) : Type 0 where
   pub tests_differ : AllPairs (λ s t. s.number ≢ t.number) p.tests.items
   pub statuses_differ : AllPairs (λ s t. s.id ≢ t.id) p.status_texts.items
   pub presets : p.presets < 65535
-  pub own : AreGoodParameters p.own
+  pub own : AreGoodParameters p.own p.choices
   pub without : MayBeLeftOut p.without.items
 
 -- It is good, and has no more sub-devices than there can be.

@@ -29,7 +29,7 @@ are_numbers size sizes (shapes.Slots n) fs = (n == size) && ((length fs == 0) ||
 are_numbers size sizes _ fs = false
 
 abbrev pub numbers : ℕ → List ℕ → ParameterDef → Bool
-numbers size sizes d = are_numbers size sizes d.shape d.fields
+numbers size sizes d = are_numbers size sizes d.shape d.fields.items
 
 -- a list of numbers of two slots: one at least, and so many at most
 abbrev pub are_words : ℕ → Shape → Bool

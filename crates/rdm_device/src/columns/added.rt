@@ -18,6 +18,7 @@ ghost use Rattle.rdm_device.specs.Device.Values.{bytes_of};
 ghost use Rattle.rdm_device.specs.Views.State.{added_entries, own_entries, kept_entry, stored_in, no_entry};
 
 pub use crate::columns::added::choosing::{a_name, choice_shown, name_shown};
+pub(crate) use crate::columns::added::choosing::{greatest, has_name};
 pub use crate::columns::added::description::{data_type_of, described, size_of};
 pub use crate::columns::added::resetting::{are_at_start, set_added_back};
 use crate::columns::{forms, writes};

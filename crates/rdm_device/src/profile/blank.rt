@@ -6,9 +6,10 @@ ghost use Rattle.rdm_device.specs.declared.profile.own.Rights.TheVariants as rig
 ghost use Rattle.rdm_device.specs.declared.profile.own.Shape.TheVariants as shapes;
 
 use crate::{
-    ChoiceName, ChoiceNames, Field, Fields, ParameterDef, Personality, Rights, SelfTest, SensorDef,
-    Shape, Slot, StatusText, Width,
+    ChoiceName, Field, ParameterDef, Personality, Rights, SelfTest, SensorDef, Shape, Slot,
+    StatusText, Width,
 };
+use arrayvec::ArrayVec;
 use rdm_frame::Text;
 
 impl Default for Personality {
@@ -77,10 +78,12 @@ impl Default for StatusText {
 }
 
 impl Default for ChoiceName {
-    ghost is_default = { λ blank. blank ≡ record { hertz = 0; name = [] } };
+    ghost is_default = { λ blank. blank ≡ record { pid = 0; number = 0; hertz = 0; name = [] } };
 
     fn default() -> ChoiceName {
         ChoiceName {
+            pid: 0,
+            number: 0,
             hertz: 0,
             name: Text::new(),
         }
@@ -101,7 +104,7 @@ impl Default for Field {
 }
 
 impl Default for ParameterDef {
-    ghost is_default = { λ blank. blank ≡ record { pid = 0; rights = rights.Get; shape = shapes.Byte; low = pos 0; high = pos 0; fields = []; names = []; start = []; unit = 0; prefix = 0; name = []; resets = false } };
+    ghost is_default = { λ blank. blank ≡ record { pid = 0; rights = rights.Get; shape = shapes.Byte; low = pos 0; high = pos 0; fields = record { items = [] }; start = []; unit = 0; prefix = 0; name = []; resets = false } };
 
     fn default() -> ParameterDef {
         ParameterDef {
@@ -110,8 +113,7 @@ impl Default for ParameterDef {
             shape: Shape::Byte,
             low: 0,
             high: 0,
-            fields: Fields::none(),
-            names: ChoiceNames::none(),
+            fields: ArrayVec::new(),
             start: Text::new(),
             unit: 0,
             prefix: 0,

@@ -4,7 +4,7 @@ ghost use Rattle.std.specs.Prelude.{◌≡◌, ◌≢◌, ◌↔◌, ◌<◌, �
 ghost use Rattle.rdm_device.specs.Device.Profiles.{IsGoodUnit, IsGoodProfile, MayBeLeftOut, AreGoodParameters, root_slots};
 
 use crate::profile::faults::parameter_fault;
-use crate::{ParameterDef, Personality, Profile, SelfTest, StatusText, Unit};
+use crate::{ChoiceName, ParameterDef, Personality, Profile, SelfTest, StatusText, Unit};
 use rdm_frame::standard::MOST_DMX_SLOTS;
 
 /// Whether a device can be made with the profile.
@@ -18,14 +18,18 @@ pub fn is_good(profile: &Profile) -> bool
         && tests_differ(profile.tests.as_slice())
         && statuses_differ(profile.status_texts.as_slice())
         && profile.presets < 65535
-        && are_good(profile.without.as_slice(), profile.own.as_slice())
+        && are_good(
+            profile.without.as_slice(),
+            profile.own.as_slice(),
+            profile.choices.as_slice(),
+        )
 }
 
 /// Whether a device can lack the parameters with these PIDs, and have these of the maker's own.
-fn are_good(without: &[u16], own: &[ParameterDef]) -> bool
-    ensures { IsTrue result ↔ (MayBeLeftOut without.now × AreGoodParameters own.now) }
+fn are_good(without: &[u16], own: &[ParameterDef], choices: &[ChoiceName]) -> bool
+    ensures { IsTrue result ↔ (MayBeLeftOut without.now × AreGoodParameters own.now choices.now) }
 {
-    match parameter_fault(without, own) {
+    match parameter_fault(without, own, choices) {
         None => true,
         Some(_) => false,
     }

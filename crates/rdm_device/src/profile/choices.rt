@@ -7,20 +7,24 @@ use rdm_frame::Text;
 use std::alloc::{AllocError, Global};
 use std::marker::Model;
 
-/// One of several things, of which one is chosen, as a curve or a frequency (E1.37-1).
+/// What one of several things is called of which one is chosen, as a curve or a frequency (E1.37-1).
 #[derive(Debug, Drop, PartialEq, Eq)]
 pub struct ChoiceName {
+    /// The PID of the parameter that tells it, such as CURVE_DESCRIPTION.
+    pub pid: u16,
+    /// The number of the thing, from 1.
+    pub number: u8,
     /// The frequency, in hertz, if it is one; else it isn't told.
     pub hertz: u32,
     /// What it is called.
     pub name: Text,
 }
 
-/// What the things are called of which one is chosen: at most 32, and most often none. A contract sees the list of them.
+/// What the things are called of which one is chosen: at most 64, and most often none. A contract sees the list of them.
 // Behind a pointer, as `OwnParameters`.
 #[derive(Debug, Drop)]
 pub struct ChoiceNames {
-    list: Option<Box<ArrayVec<ChoiceName, 32>>>,
+    list: Option<Box<ArrayVec<ChoiceName, 64>>>,
 }
 
 impl Model for ChoiceNames {
@@ -30,7 +34,7 @@ impl Model for ChoiceNames {
 
     ghost Value = { List ChoiceName };
 
-    ghost view = { λ c. listed 32 c.list };
+    ghost view = { λ c. listed 64 c.list };
 }
 
 impl ChoiceNames {
@@ -42,7 +46,7 @@ impl ChoiceNames {
     }
 
     /// These names. They take memory unless there are none.
-    pub fn of(alloc: Global, list: ArrayVec<ChoiceName, 32>) -> Result<Self, AllocError>
+    pub fn of(alloc: Global, list: ArrayVec<ChoiceName, 64>) -> Result<Self, AllocError>
         ensures { IfOk result (λ names. names ≡ list.items) }
     {
         if list.is_empty() {
@@ -55,7 +59,7 @@ impl ChoiceNames {
     /// The names.
     pub fn as_slice(&self) -> &[ChoiceName]
         ensures value { result.now ≡ self.now }
-        ensures few { length result.now ≤ 32 }
+        ensures few { length result.now ≤ 64 }
     {
         match &self.list {
             Some(list) => list.as_slice(),
@@ -65,7 +69,7 @@ impl ChoiceNames {
 
     /// Adds a name, behind those that there are. There must be room.
     pub fn push(&mut self, alloc: Global, name: ChoiceName) -> Result<(), AllocError>
-        requires { length self.old < 32 }
+        requires { length self.old < 64 }
         ensures pushed { OnOk result (self.new ≡ self.old ++ name ∷ []) }
         ensures same { OnErr result (self.new ≡ self.old) }
     {

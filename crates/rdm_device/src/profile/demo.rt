@@ -5,8 +5,8 @@ ghost use Rattle.rdm_device.specs.Device.Profiles.{CanBeMade};
 ghost use Rattle.rdm_device.specs.Device.Demo.{demo, demo_root, demo_sub, demo_sensor, demo_slots, demo_sensors, demo_tests, demo_statuses};
 
 use crate::{
-    Estimates, OwnParameters, Personality, Profile, SelfTest, SensorDef, Slot, StatusText, Unit,
-    Workers,
+    ChoiceNames, Estimates, OwnParameters, Personality, Profile, SelfTest, SensorDef, Slot,
+    StatusText, Unit, Workers,
 };
 use arrayvec::ArrayVec;
 use rdm_frame::Text;
@@ -41,6 +41,7 @@ fn moving_head(subs: u16) -> Profile
         status_texts: status_texts(),
         presets: 4,
         own: OwnParameters::none(),
+        choices: ChoiceNames::none(),
         without: ArrayVec::new(),
         more_slots: 0,
         estimates: Estimates::usual(),

@@ -12,7 +12,7 @@ use crate::profile::own_checks::{
     are_ascending, are_few, have_free_pids, have_limits, have_starts,
 };
 use crate::profile::standards::follow_standards;
-use crate::{ParameterDef, Profile, Unit};
+use crate::{ChoiceName, ParameterDef, Profile, Unit};
 use rdm_frame::standard::{MOST_DMX_SLOTS, MOST_SUB_DEVICES};
 
 /// A rule of profiles that is broken, in the order in which they are tested.
@@ -59,8 +59,9 @@ pub enum ProfileFault {
     ParameterFields,
     /// A parameter of the maker's own has a PID of one of the standards, and a command that it hasn't there, or other data.
     ParameterStandard,
-    /// A choice has no names, or names have no choice: of n things that can be chosen, the parameter with the next PID has n names; or
-    /// DIMMER_INFO has another number of curves than CURVE.
+    /// A choice has no parameter that tells what its things are called, or one of them has no name; there is such a parameter without a
+    /// choice, or a name of nothing that can be chosen; two names are of one thing, or not in the order of their PIDs and numbers, or
+    /// there are more than 64; or DIMMER_INFO has another number of curves than CURVE.
     ParameterNames,
 }
 
@@ -69,31 +70,37 @@ pub fn profile_fault(profile: &Profile) -> Option<ProfileFault>
     ensures good { (result ≡ None) ↔ CanBeMade profile.now }
     ensures first { IfSome result (λ fault. IsFirstBroken fault profile.now) }
 {
-    profile_fault_with(profile, profile.without.as_slice(), profile.own.as_slice())
+    profile_fault_with(
+        profile,
+        profile.without.as_slice(),
+        profile.own.as_slice(),
+        profile.choices.as_slice(),
+    )
 }
 
-/// The first rule that the profile would break if it left out the parameters with these PIDs and had these of the maker's own, and no
-/// others, or `None` if it would break none. So they can be judged before there is memory for them.
+/// The first rule that the profile would break if it left out the parameters with these PIDs and had these of the maker's own with these
+/// names of choices, and no others, or `None` if it would break none. So they can be judged before there is memory for them.
 #[tactic(auto, using(crate::proofs::Faults::made, crate::proofs::Faults::keeps_others, crate::proofs::Faults::keeps_parameters))]
 pub fn profile_fault_with(
     profile: &Profile,
     without: &[u16],
     own: &[ParameterDef],
+    choices: &[ChoiceName],
 ) -> Option<ProfileFault>
-    ensures good { (result ≡ None) ↔ CanBeMade (with_parameters profile.now without.now own.now) }
-    ensures first { IfSome result (λ fault. IsFirstBroken fault (with_parameters profile.now without.now own.now)) }
+    ensures good { (result ≡ None) ↔ CanBeMade (with_parameters profile.now without.now own.now choices.now) }
+    ensures first { IfSome result (λ fault. IsFirstBroken fault (with_parameters profile.now without.now own.now choices.now)) }
 {
     match other_fault(profile) {
         Some(fault) => Some(fault),
-        None => parameter_fault(without, own),
+        None => parameter_fault(without, own, choices),
     }
 }
 
 /// The first rule that is broken, of those that don't speak of parameters.
 fn other_fault(profile: &Profile) -> Option<ProfileFault>
     ensures good { (result ≡ None) ↔ KeepsOthers profile.now }
-    ensures first { (without : List ℕ) (own : List ParameterDef)
-        → IfSome result (λ fault. IsFirstBroken fault (with_parameters profile.now without own)) }
+    ensures first { (without : List ℕ) (own : List ParameterDef) (choices : List ChoiceName)
+        → IfSome result (λ fault. IsFirstBroken fault (with_parameters profile.now without own choices)) }
 {
     if profile.subs > MOST_SUB_DEVICES {
         return Some(ProfileFault::SubDevices);
@@ -132,9 +139,13 @@ fn other_fault(profile: &Profile) -> Option<ProfileFault>
 }
 
 /// The first rule of parameters that is broken by those with these PIDs, if they are left out, and by these of the maker's own.
-pub(crate) fn parameter_fault(without: &[u16], own: &[ParameterDef]) -> Option<ProfileFault>
-    ensures good { (result ≡ None) ↔ (MayBeLeftOut without.now × AreGoodParameters own.now) }
-    ensures first { (p : Profile) → KeepsOthers p → IfSome result (λ fault. IsFirstBroken fault (with_parameters p without.now own.now)) }
+pub(crate) fn parameter_fault(
+    without: &[u16],
+    own: &[ParameterDef],
+    choices: &[ChoiceName],
+) -> Option<ProfileFault>
+    ensures good { (result ≡ None) ↔ (MayBeLeftOut without.now × AreGoodParameters own.now choices.now) }
+    ensures first { (p : Profile) → KeepsOthers p → IfSome result (λ fault. IsFirstBroken fault (with_parameters p without.now own.now choices.now)) }
 {
     if !are_optional(without) {
         return Some(ProfileFault::LeftOut);
@@ -157,13 +168,13 @@ pub(crate) fn parameter_fault(without: &[u16], own: &[ParameterDef]) -> Option<P
     if !are_ascending(own) {
         return Some(ProfileFault::ParameterOrder);
     }
-    slots_fault(own)
+    slots_fault(own, choices)
 }
 
 /// The first rule that is broken by what the slots of these parameters of the maker's own say.
-fn slots_fault(own: &[ParameterDef]) -> Option<ProfileFault>
-    ensures good { (result ≡ None) ↔ (HaveFields own.now × FollowStandards own.now × Agree own.now) }
-    ensures first { (p : Profile) → p.own ≡ own.now → KeepsListed p → IfSome result (λ fault. IsFirstBroken fault p) }
+fn slots_fault(own: &[ParameterDef], choices: &[ChoiceName]) -> Option<ProfileFault>
+    ensures good { (result ≡ None) ↔ (HaveFields own.now × FollowStandards own.now × Agree own.now choices.now) }
+    ensures first { (p : Profile) → p.own ≡ own.now → p.choices ≡ choices.now → KeepsListed p → IfSome result (λ fault. IsFirstBroken fault p) }
 {
     if !have_fields(own) {
         return Some(ProfileFault::ParameterFields);
@@ -171,7 +182,7 @@ fn slots_fault(own: &[ParameterDef]) -> Option<ProfileFault>
     if !follow_standards(own) {
         return Some(ProfileFault::ParameterStandard);
     }
-    if !agree(own) {
+    if !agree(own, choices) {
         return Some(ProfileFault::ParameterNames);
     }
     None

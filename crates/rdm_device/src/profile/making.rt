@@ -3,7 +3,7 @@
 ghost use Rattle.std.specs.Prelude.{◌≡◌, ◌≤◌, length};
 ghost use Rattle.rdm_device.specs.Device.Plain.{plain_unit, plain_profile};
 
-use crate::{Estimates, OwnParameters, Personality, Profile, Slot, Unit, Workers};
+use crate::{ChoiceNames, Estimates, OwnParameters, Personality, Profile, Slot, Unit, Workers};
 use arrayvec::ArrayVec;
 use rdm_frame::Text;
 
@@ -77,6 +77,7 @@ impl Profile {
             status_texts: ArrayVec::new(),
             presets: 0,
             own: OwnParameters::none(),
+            choices: ChoiceNames::none(),
             without: ArrayVec::new(),
             more_slots: 0,
             estimates: Estimates::usual(),

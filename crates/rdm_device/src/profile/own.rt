@@ -2,7 +2,7 @@
 
 ghost use Rattle.std.specs.Prelude.{◌≡◌, ◌<◌, ◌≤◌, [], ◌∷◌, ◌++◌, length, IfOk, OnErr, OnOk};
 
-use crate::{ChoiceNames, Fields};
+use crate::Field;
 use arrayvec::ArrayVec;
 use rdm_frame::Text;
 use std::alloc::{AllocError, Global};
@@ -63,9 +63,7 @@ pub struct ParameterDef {
     /// The greatest value, where the data are a number.
     pub high: i64,
     /// The numbers that its slots say, one after another, where the data are slots; none where the maker tells elsewhere what they are.
-    pub fields: Fields,
-    /// What the things of a choice are called, of which the first has number 1, where the parameter tells that.
-    pub names: ChoiceNames,
+    pub fields: ArrayVec<Field, 8>,
     /// The data that it starts with.
     pub start: Text,
     /// The unit of its values (table A-13).

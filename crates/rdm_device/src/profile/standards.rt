@@ -4,7 +4,7 @@ ghost use Rattle.std.specs.Prelude.{◌≡◌, ◌↔◌, ◌*◌, ◌≤◌, �
 ghost use Rattle.rdm_device.specs.declared.profile.own.Rights.TheVariants as rights;
 ghost use Rattle.rdm_device.specs.Device.Fields.{have_sizes};
 ghost use Rattle.rdm_device.specs.Device.Profiles.{FollowStandards};
-ghost use Rattle.rdm_device.specs.Device.Standards.{are_words, choice, names, numbers, rates, words, is_standards, may_have, follows_at, follows};
+ghost use Rattle.rdm_device.specs.Device.Standards.{are_words, is_choice, choice, names, numbers, rates, words, is_standards, may_have, follows_at, follows};
 
 use crate::profile::own_checks::is_lent;
 use crate::{Field, ParameterDef, Rights, Shape};
@@ -34,11 +34,11 @@ fn follows_at(pid: u16, def: &ParameterDef) -> bool
         0x0340 => is_read(def) && has_numbers(def, 11, &[2, 2, 2, 2, 1, 1, 1]),
         0x0341 => has_numbers(def, 5, &[2, 2, 1]),
         0x0342 => has_numbers(def, 2, &[2]),
-        0x0343 => is_choice(def),
+        0x0343 => has_choice(def),
         0x0344 => is_read(def) && has_names(def),
-        0x0345 => is_choice(def),
+        0x0345 => has_choice(def),
         0x0346 => is_read(def) && has_names(def),
-        0x0347 => is_choice(def),
+        0x0347 => has_choice(def),
         0x0348 => is_read(def) && has_rates(def),
         0x0440 => has_numbers(def, 1, &[1]),
         0x0603 => has_numbers(def, 7, &[2, 1, 1, 1, 1, 1]),
@@ -60,11 +60,18 @@ fn is_standards(shape: Shape) -> bool
     }
 }
 
+/// Whether data are the number of one of several things.
+pub(crate) fn is_choice(shape: Shape) -> bool
+    ensures { result ≡ is_choice shape }
+{
+    matches!(shape, Shape::Choice)
+}
+
 /// Whether its data are the number of one of several things, from 1.
-fn is_choice(def: &ParameterDef) -> bool
+fn has_choice(def: &ParameterDef) -> bool
     ensures { result ≡ choice def.now }
 {
-    matches!(def.shape, Shape::Choice) && def.low == 1
+    is_choice(def.shape) && def.low == 1
 }
 
 /// Whether it tells what these are called.

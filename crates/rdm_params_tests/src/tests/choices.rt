@@ -17,26 +17,29 @@ fn choice(pid: u16, count: i64) -> ParameterDef {
     def
 }
 
-/// What the things are called of a choice; the PID is the one after it.
-fn names(
-    rt: &impl Abort,
-    alloc: Global,
-    pid: u16,
-    shape: Shape,
-    names: &[(u32, &[u8])],
-) -> ParameterDef {
+/// The parameter that tells what the things of a choice are called.
+fn told(pid: u16, shape: Shape) -> ParameterDef {
     let mut def = ParameterDef::default();
     def.pid = pid;
     def.shape = shape;
-    for (hertz, name) in names {
-        assert!(rt; name.len() <= 32 && def.names.as_slice().len() < 32);
-        let name = ChoiceName {
-            hertz: *hertz,
-            name: Text::of(name),
-        };
-        def.names.push(alloc, name).expect(rt, "memory");
-    }
     def
+}
+
+/// Adds these names, of which the first is that of the thing with number 1.
+fn name(rt: &impl Abort, alloc: Global, profile: &mut Profile, pid: u16, names: &[(u32, &[u8])]) {
+    let mut number = 0u8;
+    for (hertz, text) in names {
+        assert!(rt; text.len() <= 32 && number < 255);
+        assert!(rt; profile.choices.as_slice().len() < 64);
+        number += 1;
+        let name = ChoiceName {
+            pid,
+            number,
+            hertz: *hertz,
+            name: Text::of(text),
+        };
+        profile.choices.push(alloc, name).expect(rt, "memory");
+    }
 }
 
 const CURVES: [(u32, &'static [u8]); 3] = [(0, b"Linear"), (0, b"Square law"), (0, b"S")];
@@ -48,12 +51,14 @@ fn dimmer(rt: &impl Abort, alloc: Global) -> Profile {
     let mut profile = Profile::demo(1);
     let mut own = OwnParameters::none();
     own.push(alloc, choice(0x0343, 3)).expect(rt, "memory");
-    let curves = names(rt, alloc, 0x0344, Shape::Names, &CURVES);
-    own.push(alloc, curves).expect(rt, "memory");
+    own.push(alloc, told(0x0344, Shape::Names))
+        .expect(rt, "memory");
     own.push(alloc, choice(0x0347, 2)).expect(rt, "memory");
-    let rates = names(rt, alloc, 0x0348, Shape::Rates, &RATES);
-    own.push(alloc, rates).expect(rt, "memory");
+    own.push(alloc, told(0x0348, Shape::Rates))
+        .expect(rt, "memory");
     profile.own = own;
+    name(rt, alloc, &mut profile, 0x0344, &CURVES);
+    name(rt, alloc, &mut profile, 0x0348, &RATES);
     profile
 }
 
@@ -93,37 +98,67 @@ fn choices_are_named(rt: HostRuntime) {
     plays(&rt, &mut made(&rt, rt.alloc(), profile), &STEPS);
 }
 
-fn refuses(rt: &impl Abort, alloc: Global, own: OwnParameters) {
+/// The names of curves, of which the first is that of the thing with number 1, told by the parameter with this PID.
+type Names<'a> = (u16, &'a [(u32, &'a [u8])]);
+
+/// A device can't be made with these parameters and names.
+fn refuses(
+    rt: &impl Abort,
+    alloc: Global,
+    first: ParameterDef,
+    second: Option<ParameterDef>,
+    names: Names<'_>,
+) {
     let mut profile = Profile::demo(0);
-    profile.own = own;
+    profile.own.push(alloc, first).expect(rt, "memory");
+    if let Some(second) = second {
+        profile.own.push(alloc, second).expect(rt, "memory");
+    }
+    name(rt, alloc, &mut profile, names.0, names.1);
     assert!(rt; matches!(Devices::new(alloc, profile), Err(NewError::BadProfile)));
 }
 
 #[test]
 fn a_choice_has_a_name_for_each(rt: HostRuntime) {
     let alloc = rt.alloc();
-    // No names, no choice, and one name too few.
-    let mut own = OwnParameters::none();
-    own.push(alloc, choice(0x0343, 3)).expect(&rt, "memory");
-    refuses(&rt, alloc, own);
-    let mut own = OwnParameters::none();
-    let curves = names(&rt, alloc, 0x0344, Shape::Names, &CURVES);
-    own.push(alloc, curves).expect(&rt, "memory");
-    refuses(&rt, alloc, own);
-    let mut own = OwnParameters::none();
-    own.push(alloc, choice(0x0343, 4)).expect(&rt, "memory");
-    let curves = names(&rt, alloc, 0x0344, Shape::Names, &CURVES);
-    own.push(alloc, curves).expect(&rt, "memory");
-    refuses(&rt, alloc, own);
-    // Curves have no frequencies, and a maker's own parameter is no choice.
-    let mut own = OwnParameters::none();
-    own.push(alloc, choice(0x0343, 3)).expect(&rt, "memory");
-    let curves = names(&rt, alloc, 0x0344, Shape::Rates, &CURVES);
-    own.push(alloc, curves).expect(&rt, "memory");
-    refuses(&rt, alloc, own);
-    let mut own = OwnParameters::none();
-    own.push(alloc, choice(0x8001, 3)).expect(&rt, "memory");
-    let curves = names(&rt, alloc, 0x8002, Shape::Names, &CURVES);
-    own.push(alloc, curves).expect(&rt, "memory");
-    refuses(&rt, alloc, own);
+    let named = told(0x0344, Shape::Names);
+    // Nothing tells the names.
+    refuses(&rt, alloc, choice(0x0343, 3), None, (0x0344, &CURVES));
+    // There is one too few.
+    refuses(
+        &rt,
+        alloc,
+        choice(0x0343, 4),
+        Some(named),
+        (0x0344, &CURVES),
+    );
+    // There is one too many.
+    let named = told(0x0344, Shape::Names);
+    refuses(
+        &rt,
+        alloc,
+        choice(0x0343, 2),
+        Some(named),
+        (0x0344, &CURVES),
+    );
+    // Curves have no frequencies.
+    let rated = told(0x0344, Shape::Rates);
+    refuses(
+        &rt,
+        alloc,
+        choice(0x0343, 3),
+        Some(rated),
+        (0x0344, &CURVES),
+    );
+    // A maker's own parameter is no choice.
+    let named = told(0x8002, Shape::Names);
+    refuses(
+        &rt,
+        alloc,
+        choice(0x8001, 3),
+        Some(named),
+        (0x8002, &CURVES),
+    );
+    // Names without a choice.
+    refuses(&rt, alloc, told(0x0344, Shape::Names), None, (0x0344, &[]));
 }

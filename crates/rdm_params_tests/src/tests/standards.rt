@@ -17,59 +17,52 @@ fn slots(pid: u16, rights: Rights, start: &[u8]) -> ParameterDef
 }
 
 /// Adds a field of this width to a parameter: from the least to the greatest, and also.
-fn add(
-    rt: &impl Abort,
-    alloc: Global,
-    def: &mut ParameterDef,
-    width: Width,
-    range: (u32, u32, u32),
-) {
+fn add(rt: &impl Abort, def: &mut ParameterDef, width: Width, range: (u32, u32, u32)) {
     let field = Field {
         width,
         low: range.0,
         high: range.1,
         also: range.2,
     };
-    assert!(rt; def.fields.as_slice().len() < 8);
-    def.fields.push(alloc, field).expect(rt, "memory");
+    assert!(rt; def.fields.try_push(field).is_ok());
 }
 
 /// DMX_FAIL_MODE: one of four scenes, delays of 1 to 25.5 seconds, hold times, both also without end, and a level.
-fn fail_mode(rt: &impl Abort, alloc: Global) -> ParameterDef {
+fn fail_mode(rt: &impl Abort) -> ParameterDef {
     let mut def = slots(0x0141, Rights::Both, &[0, 0, 0, 10, 0, 0, 0]);
-    add(rt, alloc, &mut def, Width::Two, (0, 4, 0));
-    add(rt, alloc, &mut def, Width::Two, (10, 255, 0xFFFF));
-    add(rt, alloc, &mut def, Width::Two, (0, 0xFF00, 0xFFFF));
-    add(rt, alloc, &mut def, Width::One, (0, 255, 0));
+    add(rt, &mut def, Width::Two, (0, 4, 0));
+    add(rt, &mut def, Width::Two, (10, 255, 0xFFFF));
+    add(rt, &mut def, Width::Two, (0, 0xFF00, 0xFFFF));
+    add(rt, &mut def, Width::One, (0, 255, 0));
     def.resets = true;
     def
 }
 
 /// MINIMUM_LEVEL, from 0 to 7FFF.
-fn minimum_level(rt: &impl Abort, alloc: Global) -> ParameterDef {
+fn minimum_level(rt: &impl Abort) -> ParameterDef {
     let mut def = slots(0x0341, Rights::Both, &[0, 10, 0, 20, 1]);
-    add(rt, alloc, &mut def, Width::Two, (0, 0x7FFF, 0));
-    add(rt, alloc, &mut def, Width::Two, (0, 0x7FFF, 0));
-    add(rt, alloc, &mut def, Width::One, (0, 1, 0));
+    add(rt, &mut def, Width::Two, (0, 0x7FFF, 0));
+    add(rt, &mut def, Width::Two, (0, 0x7FFF, 0));
+    add(rt, &mut def, Width::One, (0, 1, 0));
     def
 }
 
 /// REAL_TIME_CLOCK.
-fn clock(rt: &impl Abort, alloc: Global) -> ParameterDef {
+fn clock(rt: &impl Abort) -> ParameterDef {
     let mut def = slots(0x0603, Rights::Both, &[0x07, 0xEA, 1, 1, 0, 0, 0]);
-    add(rt, alloc, &mut def, Width::Two, (2003, 65535, 2003));
-    add(rt, alloc, &mut def, Width::One, (1, 12, 1));
-    add(rt, alloc, &mut def, Width::One, (1, 31, 1));
-    add(rt, alloc, &mut def, Width::One, (0, 23, 0));
-    add(rt, alloc, &mut def, Width::One, (0, 59, 0));
-    add(rt, alloc, &mut def, Width::One, (0, 60, 0));
+    add(rt, &mut def, Width::Two, (2003, 65535, 2003));
+    add(rt, &mut def, Width::One, (1, 12, 1));
+    add(rt, &mut def, Width::One, (1, 31, 1));
+    add(rt, &mut def, Width::One, (0, 23, 0));
+    add(rt, &mut def, Width::One, (0, 59, 0));
+    add(rt, &mut def, Width::One, (0, 60, 0));
     def
 }
 
 /// IDENTIFY_MODE: quiet, which is 00, or loud, which is FF.
-fn identify_mode(rt: &impl Abort, alloc: Global) -> ParameterDef {
+fn identify_mode(rt: &impl Abort) -> ParameterDef {
     let mut def = slots(0x1040, Rights::Both, &[0]);
-    add(rt, alloc, &mut def, Width::One, (0, 0, 0xFF));
+    add(rt, &mut def, Width::One, (0, 0, 0xFF));
     def
 }
 
@@ -81,14 +74,12 @@ fn dimmer(rt: &impl Abort, alloc: Global) -> Profile {
     let mut own = OwnParameters::none();
     let details = slots(0x0070, Rights::Get, &[0x04, 0x03, 0x04, 0x00]);
     own.push(alloc, details).expect(rt, "memory");
-    own.push(alloc, fail_mode(rt, alloc)).expect(rt, "memory");
+    own.push(alloc, fail_mode(rt)).expect(rt, "memory");
     let info = slots(0x0340, Rights::Get, &DIMMER);
     own.push(alloc, info).expect(rt, "memory");
-    own.push(alloc, minimum_level(rt, alloc))
-        .expect(rt, "memory");
-    own.push(alloc, clock(rt, alloc)).expect(rt, "memory");
-    own.push(alloc, identify_mode(rt, alloc))
-        .expect(rt, "memory");
+    own.push(alloc, minimum_level(rt)).expect(rt, "memory");
+    own.push(alloc, clock(rt)).expect(rt, "memory");
+    own.push(alloc, identify_mode(rt)).expect(rt, "memory");
     profile.own = own;
     profile
 }
@@ -238,30 +229,30 @@ fn fields_take_all_slots_and_can_say_their_limits(rt: HostRuntime) {
     let alloc = rt.alloc();
     // One slot too few, and one too many.
     let mut short = slots(0x8001, Rights::Both, &[0, 0, 0]);
-    add(&rt, alloc, &mut short, Width::Two, (0, 1, 0));
+    add(&rt, &mut short, Width::Two, (0, 1, 0));
     refuses(&rt, alloc, short);
     let mut long = slots(0x8001, Rights::Both, &[0]);
-    add(&rt, alloc, &mut long, Width::Two, (0, 1, 0));
+    add(&rt, &mut long, Width::Two, (0, 1, 0));
     refuses(&rt, alloc, long);
     // A number is no slots.
     let mut number = ParameterDef::default();
     number.pid = 0x8001;
     number.start = Text::of(&[0]);
-    add(&rt, alloc, &mut number, Width::One, (0, 1, 0));
+    add(&rt, &mut number, Width::One, (0, 1, 0));
     refuses(&rt, alloc, number);
     // What one slot can't say, and limits that are upside down.
     let mut wide = slots(0x8001, Rights::Both, &[0]);
-    add(&rt, alloc, &mut wide, Width::One, (0, 256, 0));
+    add(&rt, &mut wide, Width::One, (0, 256, 0));
     refuses(&rt, alloc, wide);
     let mut also = slots(0x8001, Rights::Both, &[0]);
-    add(&rt, alloc, &mut also, Width::One, (0, 1, 256));
+    add(&rt, &mut also, Width::One, (0, 1, 256));
     refuses(&rt, alloc, also);
     let mut turned = slots(0x8001, Rights::Both, &[2]);
-    add(&rt, alloc, &mut turned, Width::One, (2, 1, 2));
+    add(&rt, &mut turned, Width::One, (2, 1, 2));
     refuses(&rt, alloc, turned);
     // It starts out of range.
     let mut start = slots(0x8001, Rights::Both, &[2]);
-    add(&rt, alloc, &mut start, Width::One, (0, 1, 0));
+    add(&rt, &mut start, Width::One, (0, 1, 0));
     refuses(&rt, alloc, start);
 }
 
@@ -276,9 +267,9 @@ fn parameters_of_the_standards_are_as_these_say(rt: HostRuntime) {
     refuses(&rt, alloc, slots(0x0070, Rights::Get, &[0; 14]));
     // The first number of MINIMUM_LEVEL has two slots.
     let mut level = slots(0x0341, Rights::Both, &[0, 0, 0, 0, 0]);
-    add(&rt, alloc, &mut level, Width::One, (0, 1, 0));
-    add(&rt, alloc, &mut level, Width::Two, (0, 1, 0));
-    add(&rt, alloc, &mut level, Width::Two, (0, 1, 0));
+    add(&rt, &mut level, Width::One, (0, 1, 0));
+    add(&rt, &mut level, Width::Two, (0, 1, 0));
+    add(&rt, &mut level, Width::Two, (0, 1, 0));
     refuses(&rt, alloc, level);
     // Without fields its slots are whatever the maker tells.
     let level = slots(0x0341, Rights::Both, &[0, 0, 0, 0, 0]);

@@ -1,9 +1,11 @@
 //! What the choices reply, and the parameters that tell what the things are called of which one is chosen (E1.37-1).
 
-ghost use Rattle.std.specs.Prelude.{◌≡◌, ◌++◌, ◌≤◌, ◌-◌, [], length, slice_get};
+ghost use Rattle.std.specs.Prelude.{◌≡◌, ◌++◌, ◌≤◌, [], find, length};
+ghost use Rattle.std.specs.List.{list_any};
 ghost use Rattle.std.specs.Option.{option_copied};
-ghost use Rattle.rdm_device.specs.Columns.Added.{greatest, choice_shown, a_name, name_slots, name_shown};
+ghost use Rattle.rdm_device.specs.Columns.Added.{choice_shown, a_name, name_slots, name_shown};
 ghost use Rattle.rdm_device.specs.Columns.Forms.{byte};
+ghost use Rattle.rdm_device.specs.Device.Choices.{greatest, has_name, is_name_of};
 
 use crate::columns::added::write_added;
 use crate::device::Place;
@@ -21,7 +23,7 @@ pub fn choice_shown(place: &Place<'_>, def: &ParameterDef, body: &mut Body)
 }
 
 /// The greatest number that can be chosen.
-fn greatest(def: &ParameterDef) -> u8
+pub(crate) fn greatest(def: &ParameterDef) -> u8
     ensures { result ≡ greatest def.now }
 {
     (def.high.cast_unsigned() % 256) as u8
@@ -32,9 +34,22 @@ pub fn a_name(place: &Place<'_>, def: &ParameterDef, value: &Argument<'_>) -> bo
     ensures { result ≡ a_name def.now byte place.now value.now }
 {
     match value.byte() {
-        Some(number) => 1 <= number && number as usize <= def.names.as_slice().len(),
+        Some(number) => has_name(place.profile.choices.as_slice(), def.pid as u32, number),
         None => false,
     }
+}
+
+/// Whether the thing of this number has a name that the parameter with this PID tells.
+pub(crate) fn has_name(choices: &[ChoiceName], pid: u32, number: u8) -> bool
+    ensures { result ≡ has_name choices.now pid number }
+{
+    choices.iter().any(|name| is_name_of(name, pid, number))
+}
+
+fn is_name_of(name: &ChoiceName, pid: u32, number: u8) -> bool
+    ensures { result ≡ is_name_of pid number name.now }
+{
+    name.pid as u32 == pid && name.number == number
 }
 
 /// Writes the number of a thing and its name into an empty list.
@@ -44,16 +59,18 @@ pub fn name_shown(place: &Place<'_>, def: &ParameterDef, value: &Argument<'_>, b
 {
     let number = value.byte().unwrap_or(0);
     body.append(&[number]);
-    if let Some(name) = named(def.names.as_slice(), number) {
+    if let Some(name) = named(place.profile.choices.as_slice(), def.pid, number) {
         write_name(def.shape, name, body);
     }
 }
 
-/// The thing of this number, from 1.
-fn named(names: &[ChoiceName], number: u8) -> Option<&ChoiceName>
-    ensures { option_copied result ≡ slice_get names.now (number - 1) }
+/// The name of the thing with this number, which the parameter with this PID tells.
+fn named(choices: &[ChoiceName], pid: u16, number: u8) -> Option<&ChoiceName>
+    ensures { option_copied result ≡ find (is_name_of pid number) choices.now }
 {
-    names.get((number as usize).saturating_sub(1))
+    choices
+        .iter()
+        .find(|name| name.pid == pid && name.number == number)
 }
 
 /// Writes the frequency of a thing, if it is told, and its name, behind what a list has.

@@ -26,5 +26,5 @@ returns-clause-good c =
 pub returns-clause-first : goal.returns-clause-first
 returns-clause-first c p others =
     let needs : IsTrue (leave_no_need c.args.without.now) = search rules in
-    let listed : KeepsListed (with_parameters p c.args.without.now c.args.own.now) = ((others, c.are_optional.ensures.0 c.if-not-are_optional.false, needs), c.are_few.ensures.0 c.if-not-are_few.false, c.have_free_pids.ensures.0 c.if-not-have_free_pids.false, c.have_limits.ensures.0 c.if-not-have_limits.false, c.have_starts.ensures.0 c.if-not-have_starts.false, c.are_ascending.ensures.0 c.if-not-are_ascending.false) in
-    c.slots_fault.ensures.first (with_parameters p c.args.without.now c.args.own.now) refl listed
+    let listed : KeepsListed (with_parameters p c.args.without.now c.args.own.now c.args.choices.now) = ((others, c.are_optional.ensures.0 c.if-not-are_optional.false, needs), c.are_few.ensures.0 c.if-not-are_few.false, c.have_free_pids.ensures.0 c.if-not-have_free_pids.false, c.have_limits.ensures.0 c.if-not-have_limits.false, c.have_starts.ensures.0 c.if-not-have_starts.false, c.are_ascending.ensures.0 c.if-not-are_ascending.false) in
+    c.slots_fault.ensures.first (with_parameters p c.args.without.now c.args.own.now c.args.choices.now) refl refl listed
