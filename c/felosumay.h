@@ -130,16 +130,36 @@ enum {
     FELOSUMAY_DS_UNSIGNED_WORD = 0x05,
     FELOSUMAY_DS_SIGNED_WORD = 0x06,
     FELOSUMAY_DS_UNSIGNED_DWORD = 0x07,
-    FELOSUMAY_DS_SIGNED_DWORD = 0x08
+    FELOSUMAY_DS_SIGNED_DWORD = 0x08,
+    /* None of table A-15: of parameters of E1.37-1, which PARAMETER_DESCRIPTION doesn't describe. */
+    FELOSUMAY_DS_CHOICE = 0xF0, /* the number of one of several things, from low, which is 1, to high; its GET has high behind */
+    FELOSUMAY_DS_NAMES = 0xF1,  /* no data: it tells what these are called, whose PID is the one before */
+    FELOSUMAY_DS_RATES = 0xF2   /* the same, with a frequency of each */
 };
 enum { FELOSUMAY_CC_GET = 0x01, FELOSUMAY_CC_SET = 0x02, FELOSUMAY_CC_GET_SET = 0x03 };
+
+/* One of the numbers in the slots of a parameter, one after another, the most significant byte first. */
+typedef struct {
+    uint32_t low; /* the least and the greatest number that it can be */
+    uint32_t high;
+    uint32_t also; /* one more number that it can be, as 0xFFFF for a time without end; if there is none, `low` again */
+    uint8_t slots; /* 1, 2 or 4 */
+} felosumay_field;
+
+/* What one of several things is called of which one is chosen. */
+typedef struct {
+    uint32_t hertz; /* the frequency, if it is one */
+    uint16_t pid;   /* that of the parameter that tells it, of kind DS_NAMES or DS_RATES */
+    uint8_t number; /* from 1 */
+    felosumay_text name;
+} felosumay_choice;
 
 /* A parameter of the maker's own, which the root has (section 10.4.2). PARAMETER_DESCRIPTION tells all but `resets` of those of
  * 0x8000 to 0xFFDF. Its values are in `unit`, times what `prefix` stands for. */
 typedef struct {
     int64_t low; /* the least and the greatest number that it takes: numbers of its type, or of other data without meaning */
     int64_t high;
-    uint16_t pid;     /* 0x8000 to 0xFFDF, or 0x0070, 0x0340, 0x0341, 0x0342 or 0x1040 of the standards; no two alike */
+    uint16_t pid;     /* 0x8000 to 0xFFDF, or one of the standards' that docs/PARAMETERS.md lends; no two alike */
     uint8_t kind;     /* the type of its data, FELOSUMAY_DS_.. */
     uint8_t commands; /* FELOSUMAY_CC_.. */
     uint8_t size;     /* how many slots a bit field or data of no defined type have: 0 to 32; of other types without meaning */
@@ -148,6 +168,8 @@ typedef struct {
     uint8_t resets;   /* 1 if FACTORY_DEFAULTS sets it back, as a setting; 0 if it doesn't, as of a counter */
     felosumay_text start; /* what it starts with: the data of a SET, in its range, the most significant byte first */
     felosumay_text name;
+    uint8_t field_count;       /* how many numbers the slots of data of no defined type say: 0 to 8, and 0 if that is told elsewhere */
+    felosumay_field fields[8]; /* they take all of its slots */
 } felosumay_parameter;
 
 typedef struct {
@@ -210,6 +232,8 @@ typedef struct {
     size_t without_count;                  /* 0 to 36 */
     felosumay_estimates estimates;         /* how long slow commands take */
     felosumay_workers workers;             /* and which worker carries them out */
+    const felosumay_choice *choices;       /* the names of choices, by ascending PID and number; NULL if there are none */
+    size_t choice_count;                   /* 0 to 64 */
 } felosumay_profile;
 
 /* The rules of a profile, in the order in which they are tested. BAD_PROFILE says that one of them is broken. */
@@ -231,7 +255,10 @@ enum {
     FELOSUMAY_FAULT_PARAMETER_PID = 14,     /* each has a PID that is free for it, and no two the same */
     FELOSUMAY_FAULT_PARAMETER_LIMITS = 15,  /* kind and commands are of those above; size is at most 32; low and high fit, in order */
     FELOSUMAY_FAULT_PARAMETER_START = 16,   /* start has as many bytes as the data, and is in range */
-    FELOSUMAY_FAULT_PARAMETER_ORDER = 17    /* their PIDs ascend */
+    FELOSUMAY_FAULT_PARAMETER_ORDER = 17,   /* their PIDs ascend */
+    FELOSUMAY_FAULT_PARAMETER_FIELDS = 18,  /* the fields of each take all of its slots, and can say their limits, in order */
+    FELOSUMAY_FAULT_PARAMETER_STANDARD = 19, /* one of a standard has the commands and the data of it, or fewer commands */
+    FELOSUMAY_FAULT_PARAMETER_NAMES = 20    /* each choice has its names, each name its choice; CURVE has as many as DIMMER_INFO */
 };
 
 /* Which rule the profile breaks: the first of them, or NO_FAULT, and then `new` doesn't call it a BAD_PROFILE. */

@@ -2,18 +2,28 @@
 use Rattle.std.proofs.Common.{◌≢◌, ℕ, ◌<◌, ◌≤◌, Bool, true, false, [], refl, IsTrue, arith, lit<, lit≤}
 use Rattle.std.proofs.lemmas.List.Elements.{All-from_recursion}
 use Rattle.rdm_device.specs.declared.profile.own.ParameterDef.{ParameterDef}
-use Rattle.rdm_device.specs.Device.OwnParameters.{is_addable, has_limits, can_start}
+use Rattle.rdm_device.specs.Device.Choices.{agrees}
+use Rattle.rdm_device.specs.Device.OwnParameters.{is_addable, has_limits, can_start, has_good_fields}
+use Rattle.rdm_device.specs.Device.Standards.{follows}
 use Rattle.rdm_device.specs.Device.Profiles.{AreGoodParameters, CanBeMade}
-use Rattle.rdm_device.proofs.DemoLemmas.{demo_can_be_made, two_differ}
+use Rattle.rdm_device.proofs.DemoLemmas.{demo_can_be_made, none_good, two_differ}
 use Rattle.rdm_bench.specs.Device.{own_numbers, bench_profile}
 
-numbers_good : AreGoodParameters own_numbers
+numbers_good : AreGoodParameters own_numbers []
 numbers_good = record {
   count = lit≤ tt;
   pids = (All-from_recursion (λ (d : ParameterDef). IsTrue (is_addable d.pid)) own_numbers (refl, (refl, tt)), two_differ (λ (s t : ParameterDef). s.pid ≢ t.pid) _ _ (λ e. absurd (omega (arith, e))));
   limits = All-from_recursion (λ (d : ParameterDef). IsTrue (has_limits d.shape d.low d.high)) own_numbers (refl, (refl, tt));
   starts = All-from_recursion (λ (d : ParameterDef). IsTrue (can_start d)) own_numbers (refl, (refl, tt));
   ascending = two_differ (λ (s t : ParameterDef). s.pid < t.pid) _ _ (lit< tt);
+  fields = All-from_recursion (λ (d : ParameterDef). IsTrue (has_good_fields d)) own_numbers (refl, (refl, tt));
+  standards = All-from_recursion (λ (d : ParameterDef). IsTrue (follows d)) own_numbers (refl, (refl, tt));
+  agree = record {
+    count = lit≤ tt;
+    parameters = All-from_recursion (λ (d : ParameterDef). IsTrue (agrees own_numbers [] d)) own_numbers (refl, (refl, tt));
+    names = none_good.agree.names;
+    ascending = none_good.agree.ascending;
+  };
 }
 
 pub bench_can_be_made : (own : Bool) (subs : ℕ) → subs ≤ 512 → CanBeMade (bench_profile own subs)

@@ -10,7 +10,7 @@ use Rattle.rdm_device.specs.Device.Demo.{demo}
 -- a number from 0 on, with GET and SET
 abbrev pub own_number : ℕ → Shape → ℤ → List ℕ → ParameterDef
 own_number pid shape high start =
-    record { pid = pid; rights = Both; shape = shape; low = pos 0; high = high; start = start; unit = 0; prefix = 0; name = []; resets = true }
+    record { pid = pid; rights = Both; shape = shape; low = pos 0; high = high; fields = record { items = [] }; start = start; unit = 0; prefix = 0; name = []; resets = true }
 
 -- a number of two slots at PID 8000, and one of one slot at 8001
 abbrev pub own_numbers : List ParameterDef

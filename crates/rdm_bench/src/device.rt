@@ -62,16 +62,12 @@ fn number(pid: u16, shape: Shape, high: i64, start: &[u8]) -> ParameterDef
     requires { length start.now ≤ 32 }
     ensures { result ≡ own_number pid shape high start.now }
 {
-    ParameterDef {
-        pid,
-        rights: Rights::Both,
-        shape,
-        low: 0,
-        high,
-        start: Text::of(start),
-        unit: 0,
-        prefix: 0,
-        name: Text::new(),
-        resets: true,
-    }
+    let mut def = ParameterDef::default();
+    def.pid = pid;
+    def.rights = Rights::Both;
+    def.shape = shape;
+    def.high = high;
+    def.start = Text::of(start);
+    def.resets = true;
+    def
 }

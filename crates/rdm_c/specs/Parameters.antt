@@ -1,10 +1,17 @@
 -- The parameter of the maker's own that a plain struct of C's stands for. E1.20 section 10.4.2, tables A-15 and A-16.
-use Rattle.std.specs.Prelude.{ℕ, ◌==◌, ◌&&◌, nat_le, not, if◌then◌else◌}
+use Rattle.std.specs.Prelude.{ℕ, Bool, ◌==◌, ◌&&◌, ◌||◌, nat_le, not, map, take, if◌then◌else◌}
+use Rattle.std.specs.List.{list_all}
+use Rattle.rdm_device.specs.declared.profile.choices.ChoiceName.{ChoiceName}
+use Rattle.rdm_device.specs.declared.profile.fields.Field.{Field}
+use Rattle.rdm_device.specs.declared.profile.fields.Width.{Width}
+use Rattle.rdm_device.specs.declared.profile.fields.Width.TheVariants as widths
 use Rattle.rdm_device.specs.declared.profile.own.ParameterDef.{ParameterDef}
 use Rattle.rdm_device.specs.declared.profile.own.Rights.{Rights}
 use Rattle.rdm_device.specs.declared.profile.own.Rights.TheVariants as rights
 use Rattle.rdm_device.specs.declared.profile.own.Shape.{Shape}
 use Rattle.rdm_device.specs.declared.profile.own.Shape.TheVariants as shapes
+use Rattle.rdm_c.specs.declared.profile.parameters.ChoiceNumbers.{ChoiceNumbers}
+use Rattle.rdm_c.specs.declared.profile.parameters.FieldNumbers.{FieldNumbers}
 use Rattle.rdm_c.specs.declared.profile.parameters.ParameterNumbers.{ParameterNumbers}
 use Rattle.rdm_c.specs.Texts.{text_in}
 
@@ -16,7 +23,7 @@ rights_in commands = if commands == 0x01 then rights.Get else if commands == 0x0
 abbrev pub too_long : Shape
 too_long = shapes.Slots 255
 
--- the data of a type of table A-15, with so many slots where it doesn't say how many
+-- the data of a type of table A-15, with so many slots where it doesn't say how many; the last three numbers are none of the table's
 abbrev pub shape_of : ℕ → ℕ → Shape
 shape_of kind size =
     if kind == 0x00 then shapes.Slots size
@@ -27,23 +34,46 @@ shape_of kind size =
     else if kind == 0x05 then shapes.Word
     else if kind == 0x06 then shapes.SignedWord
     else if kind == 0x07 then shapes.Long
-    else if kind == 0x08 then shapes.SignedLong else too_long
+    else if kind == 0x08 then shapes.SignedLong
+    else if kind == 0xF0 then shapes.Choice
+    else if kind == 0xF1 then shapes.Names
+    else if kind == 0xF2 then shapes.Rates else too_long
 
 -- those data, where the commands are a number of table A-16
 abbrev pub shape_in : ℕ → ℕ → ℕ → Shape
 shape_in commands kind size = if nat_le 1 commands && nat_le commands 3 then shape_of kind size else too_long
 
--- The parameter. If its type or its commands aren't a number of the tables, its data are too long, and so the profile is refused.
+-- the width of a number of so many slots; of another number of slots there is none, and one slot stands for it
+abbrev pub width_in : ℕ → Width
+width_in slots = if slots == 2 then widths.Two else if slots == 4 then widths.Four else widths.One
+
+abbrev pub has_width : FieldNumbers → Bool
+has_width f = (f.slots == 1) || (f.slots == 2) || (f.slots == 4)
+
+abbrev pub field_in : FieldNumbers → Field
+field_in f = record { width = width_in f.slots; low = f.low; high = f.high; also = f.also }
+
+-- whether there are no more fields than there can be, and each has 1, 2 or 4 slots
+abbrev pub has_widths : ParameterNumbers → Bool
+has_widths p = nat_le p.field_count 8 && list_all has_width (take p.field_count p.fields)
+
+-- The parameter. If its type or its commands aren't a number of the tables, or its fields aren't ones, its data are too long, and so the
+-- profile is refused.
 abbrev pub parameter_in : ParameterNumbers → ParameterDef
 parameter_in p = record {
   pid = p.pid;
   rights = rights_in p.commands;
-  shape = shape_in p.commands p.kind p.size;
+  shape = if has_widths p then shape_in p.commands p.kind p.size else too_long;
   low = p.low;
   high = p.high;
+  fields = record { items = map field_in (take p.field_count p.fields) };
   start = text_in p.start;
   unit = p.unit;
   prefix = p.prefix;
   name = text_in p.name;
   resets = not (p.resets == 0);
 }
+
+-- the name of a thing that can be chosen
+abbrev pub choice_in : ChoiceNumbers → ChoiceName
+choice_in c = record { pid = c.pid; number = c.number; hertz = c.hertz; name = text_in c.name }

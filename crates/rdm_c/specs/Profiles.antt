@@ -23,7 +23,7 @@ use Rattle.rdm_c.specs.declared.profile.slow.EstimatesNumbers.{EstimatesNumbers}
 use Rattle.rdm_c.specs.declared.profile.slow.WorkersNumbers.{WorkersNumbers}
 use Rattle.rdm_c.specs.declared.profile.UnitNumbers.{UnitNumbers}
 use Rattle.rdm_c.specs.declared.profile.ProfileNumbers.{ProfileNumbers}
-use Rattle.rdm_c.specs.Parameters.{parameter_in}
+use Rattle.rdm_c.specs.Parameters.{parameter_in, choice_in}
 use Rattle.rdm_c.specs.Texts.{text_in}
 
 abbrev pub personality_in : PersonalityNumbers → Personality
@@ -103,6 +103,7 @@ profile_in p = record {
   status_texts = record { items = map status_text_in (take p.status_text_count p.status_texts) };
   presets = p.presets;
   own = map parameter_in p.parameters.now;
+  choices = map choice_in p.choices.now;
   without = record { items = p.without.now };
   more_slots = p.more_slots;
   estimates = estimates_in p.estimates;

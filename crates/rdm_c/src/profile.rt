@@ -10,7 +10,7 @@ ghost use Rattle.rdm_device.specs.Device.Faults.{with_parameters};
 ghost use Rattle.rdm_c.specs.Profiles.{personality_in, slot_in, sensor_in, test_in, status_text_in, unit_in, profile_in};
 ghost use Rattle.rdm_c.specs.Texts.{text_in};
 
-use crate::profile::parameters::ParameterNumbers;
+use crate::profile::parameters::{ChoiceNumbers, ParameterNumbers};
 use crate::profile::slow::{EstimatesNumbers, WorkersNumbers};
 use rdm_frame::Text;
 use rdm_params::{Personality, Profile, SelfTest, SensorDef, Slot, StatusText, Unit};
@@ -167,6 +167,8 @@ pub struct ProfileNumbers<'a> {
     pub estimates: EstimatesNumbers,
     /// Which worker carries out which of them.
     pub workers: WorkersNumbers,
+    /// What the things are called of which parameters let choose one. In C a pointer, and how many there are.
+    pub choices: &'a [ChoiceNumbers],
 }
 
 impl TextNumbers {
@@ -267,9 +269,9 @@ impl UnitNumbers {
 }
 
 impl ProfileNumbers<'_> {
-    /// Makes a profile this one, but for the parameters that are left out and those of the maker's own.
+    /// Makes a profile this one, but for the parameters that are left out, those of the maker's own, and the names of choices.
     pub(crate) fn write(&self, profile: &mut Profile)
-        ensures { profile.new ≡ with_parameters (profile_in self.now) profile.old.without.items profile.old.own }
+        ensures { profile.new ≡ with_parameters (profile_in self.now) profile.old.without.items profile.old.own profile.old.choices }
     {
         self.root.write(&mut profile.root);
         self.sub.write(&mut profile.sub);

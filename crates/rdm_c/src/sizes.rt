@@ -7,7 +7,7 @@ use crate::job::{JobNumbers, SteppedNumbers};
 use crate::message::{CommandNumbers, MessageNumbers};
 use crate::names::NameNumbers;
 use crate::outcome::OutcomeNumbers;
-use crate::profile::parameters::ParameterNumbers;
+use crate::profile::parameters::{ChoiceNumbers, FieldNumbers, ParameterNumbers};
 use crate::profile::slow::{EstimatesNumbers, WorkersNumbers};
 use crate::profile::{
     PersonalityNumbers, ProfileNumbers, SelfTestNumbers, SensorNumbers, SlotNumbers,
@@ -36,9 +36,13 @@ const _: () = prove!(size_of::<WorkersNumbers>() == 4);
 
 const _: () = prove!(size_of::<UnitNumbers>() == 432);
 
-const _: () = prove!(size_of::<ParameterNumbers>() == 96);
+const _: () = prove!(size_of::<FieldNumbers>() == 16);
 
-const _: () = prove!(size_of::<ProfileNumbers<'static>>() == 3656);
+const _: () = prove!(size_of::<ChoiceNumbers>() == 40);
+
+const _: () = prove!(size_of::<ParameterNumbers>() == 224);
+
+const _: () = prove!(size_of::<ProfileNumbers<'static>>() == 3672);
 
 const _: () = prove!(size_of::<JobNumbers>() == 16);
 

@@ -12,7 +12,10 @@ pub fn put_own(text: &mut String, def: &ParameterDef) -> Result<(), AllocError> 
     let name = str::from_utf8(def.name.as_slice()).unwrap_or("");
     writeln!(text, "{pid:04X} \"{name}\", root")?;
     if has_get(def.rights) {
-        text.push_str("  GET: no data\n")?;
+        text.push_str(match def.shape {
+            Shape::Names | Shape::Rates => "  GET: 1 byte, the number of a choice\n",
+            _ => "  GET: no data\n",
+        })?;
     }
     if has_set(def.rights) {
         text.push_str("  SET: ")?;
@@ -27,7 +30,7 @@ fn put_data(text: &mut String, def: &ParameterDef) -> Result<(), AllocError> {
     let size = size_of(def.shape);
     let (low, high) = (def.low.cast_unsigned(), def.high.cast_unsigned());
     match def.shape {
-        Shape::Byte | Shape::SignedByte => {
+        Shape::Byte | Shape::SignedByte | Shape::Choice => {
             let (low, high) = (low % 0x100, high % 0x100);
             write!(text, "1 byte, {low:02X} to {high:02X}")
         }
@@ -41,5 +44,6 @@ fn put_data(text: &mut String, def: &ParameterDef) -> Result<(), AllocError> {
         }
         Shape::Text => write!(text, "0 to {size} bytes, any"),
         Shape::Bits(_) | Shape::Slots(_) => write!(text, "{size} bytes, any"),
+        Shape::Names | Shape::Rates => text.push_str("no data"),
     }
 }

@@ -18,9 +18,10 @@ use rdm_device::ProfileFault;
 pub extern "C" fn felosumay_profile_fault(profile: &ProfileNumbers<'_>) -> u8
     ensures good { (result ≡ 0) ↔ CanBeMade (profile_in profile.now) }
     ensures broken { IfSome (fault_in result) (λ fault. IsFirstBroken fault (profile_in profile.now)) }
-    ensures numbers { result ≤ 17 }
+    ensures numbers { result ≤ 20 }
     ensures no_parameters { length profile.now.parameters.now ≡ 0 → (profile_in profile.now).own ≡ [] }
     ensures none_left_out { length profile.now.without.now ≡ 0 → (profile_in profile.now).without.items ≡ [] }
+    ensures no_names { length profile.now.choices.now ≡ 0 → (profile_in profile.now).choices ≡ [] }
 {
     match fault_of(profile) {
         None => 0,
@@ -41,5 +42,8 @@ pub extern "C" fn felosumay_profile_fault(profile: &ProfileNumbers<'_>) -> u8
         Some(ProfileFault::ParameterLimits) => 15,
         Some(ProfileFault::ParameterStart) => 16,
         Some(ProfileFault::ParameterOrder) => 17,
+        Some(ProfileFault::ParameterFields) => 18,
+        Some(ProfileFault::ParameterStandard) => 19,
+        Some(ProfileFault::ParameterNames) => 20,
     }
 }

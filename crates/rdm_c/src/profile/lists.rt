@@ -1,15 +1,18 @@
 //! The lists of a profile, each written in its place. Each has at most as many elements as its array.
 
 ghost use Rattle.std.specs.Prelude.{◌≡◌, ◌≤◌, IfOk, length, map};
-ghost use Rattle.rdm_c.specs.Parameters.{parameter_in};
+ghost use Rattle.rdm_c.specs.Parameters.{choice_in, parameter_in};
 ghost use Rattle.rdm_c.specs.Profiles.{personality_in, slot_in, sensor_in, test_in, status_text_in};
 
-use crate::profile::parameters::ParameterNumbers;
+use crate::profile::parameters::{ChoiceNumbers, ParameterNumbers};
 use crate::profile::{
     PersonalityNumbers, SelfTestNumbers, SensorNumbers, SlotNumbers, StatusTextNumbers,
 };
 use arrayvec::ArrayVec;
-use rdm_params::{OwnParameters, ParameterDef, Personality, SelfTest, SensorDef, Slot, StatusText};
+use rdm_params::{
+    ChoiceName, ChoiceNames, OwnParameters, ParameterDef, Personality, SelfTest, SensorDef, Slot,
+    StatusText,
+};
 use std::alloc::{AllocError, Global};
 
 /// Makes a list that of these languages.
@@ -97,7 +100,19 @@ pub(super) fn parameters(entries: &[ParameterNumbers]) -> ArrayVec<ParameterDef,
     list
 }
 
-/// The same, as a profile keeps them.
+/// The names of choices, without memory.
+pub(super) fn choices(entries: &[ChoiceNumbers]) -> ArrayVec<ChoiceName, 64>
+    requires { length entries.now ≤ 64 }
+    ensures { result.items ≡ map choice_in entries.now }
+{
+    let mut list = ArrayVec::new();
+    for entry in entries {
+        list.push(entry.choice());
+    }
+    list
+}
+
+/// The same of the parameters, as a profile keeps them.
 pub(super) fn own_parameters(
     alloc: Global,
     entries: &[ParameterNumbers],
@@ -110,4 +125,19 @@ pub(super) fn own_parameters(
         own.push(alloc, entry.parameter())?;
     }
     Ok(own)
+}
+
+/// The names of choices, as a profile keeps them.
+pub(super) fn choice_names(
+    alloc: Global,
+    entries: &[ChoiceNumbers],
+) -> Result<ChoiceNames, AllocError>
+    requires { length entries.now ≤ 64 }
+    ensures { IfOk result (λ names. names ≡ map choice_in entries.now) }
+{
+    let mut names = ChoiceNames::none();
+    for entry in entries {
+        names.push(alloc, entry.choice())?;
+    }
+    Ok(names)
 }

@@ -11,20 +11,27 @@ use crate::profile::{ProfileNumbers, lists};
 use arrayvec::ArrayVec;
 use rdm_device::{ProfileFault, profile_fault, profile_fault_with};
 use rdm_frame::Text;
-use rdm_params::{ParameterDef, Profile, Unit};
+use rdm_params::{ChoiceName, ParameterDef, Profile, Unit};
 use std::alloc::Global;
 
 /// How many parameters of the maker's own there can be.
 const MOST_OWN: usize = 16;
+
+/// How many names of choices there can be.
+const MOST_CHOICES: usize = 64;
 
 /// The profile of these numbers on the heap, if there is memory for it.
 #[inline(never)]
 pub(crate) fn boxed(alloc: Global, numbers: &ProfileNumbers<'_>) -> Option<Box<Profile>>
     requires own { length numbers.now.parameters.now ≤ 16 }
     requires without { length numbers.now.without.now ≤ 36 }
+    requires choices { length numbers.now.choices.now ≤ 64 }
     ensures { IfSome result (λ boxed. boxed.value ≡ profile_in numbers.now) }
 {
     let Ok(own) = lists::own_parameters(alloc, numbers.parameters) else {
+        return None;
+    };
+    let Ok(choices) = lists::choice_names(alloc, numbers.choices) else {
         return None;
     };
     let Ok(mut boxed) = Box::new(alloc, blank()) else {
@@ -33,6 +40,7 @@ pub(crate) fn boxed(alloc: Global, numbers: &ProfileNumbers<'_>) -> Option<Box<P
     numbers.write(&mut boxed);
     lists::pids(numbers.without, &mut boxed.without);
     boxed.own = own;
+    boxed.choices = choices;
     Some(boxed)
 }
 
@@ -55,6 +63,7 @@ pub(crate) fn fault_of(numbers: &ProfileNumbers<'_>) -> Option<ProfileFault>
     ensures first { IfSome result (λ fault. IsFirstBroken fault (profile_in numbers.now)) }
     ensures own { result ≡ None → length numbers.now.parameters.now ≤ 16 }
     ensures without { result ≡ None → length numbers.now.without.now ≤ 36 }
+    ensures choices { result ≡ None → length numbers.now.choices.now ≤ 64 }
 {
     let mut others = blank();
     numbers.write(&mut others);
@@ -62,15 +71,30 @@ pub(crate) fn fault_of(numbers: &ProfileNumbers<'_>) -> Option<ProfileFault>
         return Some(fault_of_many(&others, numbers.without));
     }
     let own = lists::parameters(numbers.parameters);
-    profile_fault_with(&others, numbers.without, own.as_slice())
+    if numbers.choices.len() > MOST_CHOICES {
+        return Some(fault_of_names(&others, numbers.without, own.as_slice()));
+    }
+    let choices = lists::choices(numbers.choices);
+    profile_fault_with(&others, numbers.without, own.as_slice(), choices.as_slice())
+}
+
+/// The first rule that a profile breaks which has more names of choices than there can be.
+#[tactic(auto, using(crate::proofs::Many::still_before, crate::proofs::Many::names_first))]
+fn fault_of_names(others: &Profile, without: &[u16], own: &[ParameterDef]) -> ProfileFault
+    ensures { (choices : List ChoiceName) → 64 < length choices → IsFirstBroken result (with_parameters others.now without.now own.now choices) }
+{
+    match profile_fault_with(others, without, own, &[]) {
+        Some(fault) => fault,
+        None => ProfileFault::ParameterNames,
+    }
 }
 
 /// The first rule that a profile breaks which has more parameters of the maker's own than there can be.
 #[tactic(auto, using(crate::proofs::Many::still_first, crate::proofs::Many::count_first))]
 fn fault_of_many(others: &Profile, without: &[u16]) -> ProfileFault
-    ensures { (own : List ParameterDef) → 16 < length own → IsFirstBroken result (with_parameters others.now without.now own) }
+    ensures { (own : List ParameterDef) (choices : List ChoiceName) → 16 < length own → IsFirstBroken result (with_parameters others.now without.now own choices) }
 {
-    match profile_fault_with(others, without, &[]) {
+    match profile_fault_with(others, without, &[], &[]) {
         Some(fault) => fault,
         None => ProfileFault::ParameterCount,
     }

@@ -1,10 +1,11 @@
 //! A parameter of the maker's own as a plain struct of C's.
 
-ghost use Rattle.std.specs.Prelude.{◌≡◌};
-ghost use Rattle.rdm_c.specs.Parameters.{parameter_in, rights_in, shape_in, shape_of};
+ghost use Rattle.std.specs.Prelude.{◌≡◌, ◌≤◌, length, map};
+ghost use Rattle.rdm_c.specs.Parameters.{parameter_in, rights_in, shape_in, shape_of, width_in, has_width, has_widths, field_in, choice_in};
 
 use crate::profile::TextNumbers;
-use rdm_params::{ParameterDef, Rights, Shape};
+use arrayvec::ArrayVec;
+use rdm_params::{ChoiceName, Field, ParameterDef, Rights, Shape, Width};
 
 /// More slots than the data of a parameter can have.
 const TOO_MANY_SLOTS: u8 = 255;
@@ -35,6 +36,84 @@ pub struct ParameterNumbers {
     pub start: TextNumbers,
     /// What it is called.
     pub name: TextNumbers,
+    /// How many fields its slots have: 0 to 8.
+    pub field_count: u8,
+    /// The numbers that its slots say, one after another.
+    pub fields: [FieldNumbers; 8],
+}
+
+/// One of the numbers in the slots of a parameter. The header calls it `felosumay_field`.
+#[repr(C)]
+#[derive(Clone, Copy)]
+pub struct FieldNumbers {
+    /// The least number that it can be.
+    pub low: u32,
+    /// The greatest number that it can be.
+    pub high: u32,
+    /// One more number that it can be; where there is none, one of its range again.
+    pub also: u32,
+    /// How many slots it has: 1, 2 or 4.
+    pub slots: u8,
+}
+
+/// What one of several things is called of which one is chosen. The header calls it `felosumay_choice`.
+#[repr(C)]
+#[derive(Clone, Copy)]
+pub struct ChoiceNumbers {
+    /// The frequency, in hertz, if it is one.
+    pub hertz: u32,
+    /// The PID of the parameter that tells it.
+    pub pid: u16,
+    /// The number of the thing, from 1.
+    pub number: u8,
+    /// What it is called.
+    pub name: TextNumbers,
+}
+
+impl FieldNumbers {
+    /// The field.
+    fn field(&self) -> Field
+        ensures { result ≡ field_in self.now }
+    {
+        Field {
+            width: width_in(self.slots),
+            low: self.low,
+            high: self.high,
+            also: self.also,
+        }
+    }
+
+    /// Whether it has 1, 2 or 4 slots.
+    fn has_width(&self) -> bool
+        ensures { result ≡ has_width self.now }
+    {
+        self.slots == 1 || self.slots == 2 || self.slots == 4
+    }
+}
+
+/// The width of a number of so many slots; one slot stands for those that there aren't.
+fn width_in(slots: u8) -> Width
+    ensures { result ≡ width_in slots }
+{
+    match slots {
+        2 => Width::Two,
+        4 => Width::Four,
+        _ => Width::One,
+    }
+}
+
+impl ChoiceNumbers {
+    /// The name.
+    pub(crate) fn choice(&self) -> ChoiceName
+        ensures { result ≡ choice_in self.now }
+    {
+        ChoiceName {
+            pid: self.pid,
+            number: self.number,
+            hertz: self.hertz,
+            name: self.name.text(),
+        }
+    }
 }
 
 impl ParameterNumbers {
@@ -45,9 +124,10 @@ impl ParameterNumbers {
         ParameterDef {
             pid: self.pid,
             rights: rights_in(self.commands),
-            shape: shape_in(self.commands, self.kind, self.size),
+            shape: self.shape(),
             low: self.low,
             high: self.high,
+            fields: self.fields(),
             start: self.start.text(),
             unit: self.unit,
             prefix: self.prefix,
@@ -55,6 +135,45 @@ impl ParameterNumbers {
             resets: self.resets != 0,
         }
     }
+
+    /// Its data, if its fields are ones.
+    fn shape(&self) -> Shape
+        ensures { result ≡ (parameter_in self.now).shape }
+    {
+        if self.has_widths() {
+            shape_in(self.commands, self.kind, self.size)
+        } else {
+            Shape::Slots(TOO_MANY_SLOTS)
+        }
+    }
+
+    /// Whether there are no more fields than there can be, and each has 1, 2 or 4 slots.
+    fn has_widths(&self) -> bool
+        ensures { result ≡ has_widths self.now }
+    {
+        let count = usize::from(self.field_count);
+        count <= 8 && self.fields[..count].iter().all(|field| field.has_width())
+    }
+
+    /// The numbers that its slots say.
+    fn fields(&self) -> ArrayVec<Field, 8>
+        ensures { result ≡ (parameter_in self.now).fields }
+    {
+        let count = usize::from(self.field_count).min(8);
+        fields_of(&self.fields[..count])
+    }
+}
+
+/// These fields.
+fn fields_of(numbers: &[FieldNumbers]) -> ArrayVec<Field, 8>
+    requires { length numbers.now ≤ 8 }
+    ensures { result.items ≡ map field_in numbers.now }
+{
+    let mut fields = ArrayVec::new();
+    for number in numbers {
+        fields.push(number.field());
+    }
+    fields
 }
 
 /// The commands of this number of table A-16.
@@ -79,7 +198,7 @@ fn shape_in(commands: u8, kind: u8, size: u8) -> Shape
     }
 }
 
-/// The data of this type of table A-15, with so many slots where it doesn't say how many.
+/// The data of this type of table A-15, with so many slots where it doesn't say how many. The last three are none of the table's.
 fn shape_of(kind: u8, size: u8) -> Shape
     ensures { result ≡ shape_of kind size }
 {
@@ -93,6 +212,9 @@ fn shape_of(kind: u8, size: u8) -> Shape
         0x06 => Shape::SignedWord,
         0x07 => Shape::Long,
         0x08 => Shape::SignedLong,
+        0xF0 => Shape::Choice,
+        0xF1 => Shape::Names,
+        0xF2 => Shape::Rates,
         _ => Shape::Slots(TOO_MANY_SLOTS),
     }
 }

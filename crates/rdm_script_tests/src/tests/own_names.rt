@@ -1,5 +1,6 @@
 //! Names of parameters of the maker's own in friendly scripts.
 
+use arrayvec::ArrayVec;
 use rdm_crew::CrewStep;
 use rdm_device::{ParameterDef, Rights, Shape};
 use rdm_frame::{Text, Uid};
@@ -21,6 +22,7 @@ fn named(pid: u16, name: Text) -> ParameterDef {
         shape: Shape::Byte,
         low: 0,
         high: 2,
+        fields: ArrayVec::new(),
         start: Text::of(&[0]),
         unit: 0,
         prefix: 0,

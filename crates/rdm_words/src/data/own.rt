@@ -193,6 +193,9 @@ fn put_shape(text: &mut String, shape: Shape) -> Result<(), AllocError> {
         Shape::Text => text.push_str("ASCII"),
         Shape::Bits(slots) => write!(text, "bit field of {slots} slots"),
         Shape::Slots(slots) => write!(text, "{slots} slots"),
+        Shape::Choice => text.push_str("number of a choice"),
+        Shape::Names => text.push_str("names of a choice"),
+        Shape::Rates => text.push_str("names and frequencies of a choice"),
     }
 }
 
