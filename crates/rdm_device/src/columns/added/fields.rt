@@ -8,7 +8,7 @@ use crate::value::argument::Argument;
 use crate::{Field, Width};
 
 /// Whether a value that is slots says numbers of these fields, one after another.
-pub fn says(fields: &[Field], value: &Argument<'_>) -> bool
+pub(crate) fn says(fields: &[Field], value: &Argument<'_>) -> bool
     ensures { result ≡ says fields.now value.now }
 {
     match value.label() {
