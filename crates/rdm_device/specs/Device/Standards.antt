@@ -1,5 +1,5 @@
 -- The parameters of E1.20 and of E1.37-1 that a profile can add to the table, a line each, in the order of their PIDs: the commands that
--- the standard gives it, and the data. E1.20 section 10 and table A-3; E1.37-1 sections 3 to 5 and its table of PIDs.
+-- the standard gives it, and the data. E1.20 section 10 and table A-3; E1.37-1, its sections on these parameters and its table of PIDs.
 use Rattle.std.specs.Prelude.{ℕ, pos, ◌*◌, ◌%◌, Bool, true, false, ◌==◌, ◌&&◌, ◌||◌, not, nat_le, bytes_eq, List, [], ◌∷◌, length}
 use Rattle.std.specs.List.{list_all, list_any}
 use Rattle.std.specs.Ordering.{int_eq}
