@@ -34,6 +34,7 @@ plain_profile root sub subs = record {
   status_texts = record { items = [] };
   presets = 0;
   own = [];
+  choices = [];
   without = record { items = [] };
   more_slots = 0;
   estimates = usual;
