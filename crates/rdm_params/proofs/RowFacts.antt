@@ -11,12 +11,14 @@ use Rattle.rdm_params.specs.Commands.Added.{row_here}
 use Rattle.rdm_device.specs.Columns.Forms.{byte}
 use Rattle.rdm_device.specs.Columns.Ranges.{a_message_type}
 use Rattle.rdm_device.specs.declared.profile.own.ParameterDef.{ParameterDef}
+use Rattle.rdm_device.specs.declared.profile.own.Shape.{Shape}
+use Rattle.rdm_device.specs.declared.profile.own.Shape.TheVariants as shapes
 use Rattle.rdm_device.specs.declared.profile.Profile.{Profile}
 use Rattle.rdm_device.specs.Columns.Added.{within}
 use Rattle.rdm_device.specs.Device.OwnParameters.{form_of, has_get, has_set}
 use Rattle.rdm_device.specs.Device.Parameters.{Parameters}
 use Rattle.rdm_device.specs.Device.Spot.{Spot}
-use Rattle.rdm_params.specs.Table.Rows.{Command, Row, table, row_of, row_in, is_left_out, added_rows, added_row, shows_added, takes_added, command_in}
+use Rattle.rdm_params.specs.Table.Rows.{Command, Row, table, row_of, row_in, is_left_out, added_rows, added_row, gets_added, takes_added, command_in}
 use Rattle.rdm_params.specs.Table.Uses.{way_of, is_by_job, is_slow, estimate_for, worker_for}
 use Rattle.rdm_params.specs.Jobs.Laws.{table_estimate, table_worker}
 use Rattle.rdm_device.specs.Device.Estimates.{usual}
@@ -68,8 +70,22 @@ facts_of pid verb = of_row pid (row_in table pid) refl verb
 
 -- ---- of the command that a profile's devices have for a PID
 
-get_facts : (pid : ℕ) (d : ParameterDef) (has : Bool) → Facts pid Get (cond has (shows_added d.pid) None)
-get_facts pid d true = tt
+shape_facts : (pid : ℕ) (shape : Shape) (d : ParameterDef) → Facts pid Get (gets_added shape d d.pid)
+shape_facts pid shapes.Byte d = tt
+shape_facts pid shapes.Word d = tt
+shape_facts pid shapes.Long d = tt
+shape_facts pid shapes.SignedByte d = tt
+shape_facts pid shapes.SignedWord d = tt
+shape_facts pid shapes.SignedLong d = tt
+shape_facts pid shapes.Text d = tt
+shape_facts pid (shapes.Bits n) d = tt
+shape_facts pid (shapes.Slots n) d = tt
+shape_facts pid shapes.Choice d = tt
+shape_facts pid shapes.Names d = tt
+shape_facts pid shapes.Rates d = tt
+
+get_facts : (pid : ℕ) (d : ParameterDef) (has : Bool) → Facts pid Get (cond has (gets_added d.shape d d.pid) None)
+get_facts pid d true = shape_facts pid d.shape d
 get_facts pid d false = tt
 
 set_facts : (pid : ℕ) (d : ParameterDef) (has : Bool) → Facts pid Set (cond has (takes_added (form_of d.shape) (within d) d.pid) None)
