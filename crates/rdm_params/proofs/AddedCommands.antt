@@ -12,9 +12,9 @@ use Rattle.rdm_params.specs.declared.verdict.Verdict.{Verdict}
 use Rattle.rdm_params.specs.declared.verdict.Verdict.TheVariants.{Reply, Refuse}
 use Rattle.rdm_device.specs.declared.profile.own.ParameterDef.{ParameterDef}
 use Rattle.rdm_device.specs.declared.profile.Profile.{Profile}
-use Rattle.rdm_device.specs.Columns.Added.{within, added_stored}
+use Rattle.rdm_device.specs.Columns.Added.{set_form, set_range, takes, own_stored}
 use Rattle.rdm_device.specs.Columns.Forms.{has_length, value_in, value_of}
-use Rattle.rdm_device.specs.Device.OwnParameters.{form_of, is_within, has_set}
+use Rattle.rdm_device.specs.Device.OwnParameters.{has_set}
 use Rattle.rdm_device.specs.declared.value.Value.{Value}
 use Rattle.rdm_device.specs.Device.Map.{Entry, update}
 use Rattle.rdm_device.specs.Device.Parameters.{Parameters}
@@ -256,12 +256,12 @@ read_is false x v e = absurd cc
 
 -- the row of the parameter, with or without a SET
 abbrev row_with : ParameterDef → Bool → Row
-row_with d set = record { pid = d.pid; root_only = true; get = (added_row d).get; set = cond set (takes_added (form_of d.shape) (within d) d.pid) None }
+row_with d set = record { pid = d.pid; root_only = true; get = (added_row d).get; set = cond set (takes_added (set_form d) (set_range d) (own_stored d) d.pid) None }
 
-pub set_stores : (d : ParameterDef) (spot : Spot) (bytes : List ℕ) (v : Value) (old new : List Entry) → has_set d.rights ≡ true → value_of (form_of d.shape) bytes ≡ Some v → is_within d v ≡ true → spot.added ≡ old → new ≡ update (added_stored d.pid spot v) old → new ≡ after_here spot (Some (added_row d)) bytes
+pub set_stores : (d : ParameterDef) (spot : Spot) (bytes : List ℕ) (v : Value) (old new : List Entry) → has_set d.rights ≡ true → value_of (set_form d) bytes ≡ Some v → takes d v ≡ true → spot.added ≡ old → new ≡ update (own_stored d spot v) old → new ≡ after_here spot (Some (added_row d)) bytes
 set_stores d spot bytes v old new set value inside same e =
-    let handed : handed_here spot (Some (row_with d true)) Set bytes ≡ ok v = ap (λ (r : Result Value Nack). r >>= taken_by (is_within d)) (read_is (has_length (form_of d.shape) (length bytes)) (value_in (form_of d.shape) bytes) v value) ∙ ap (λ (b : Bool). check b DataOutOfRange >>= (λ u. ok v)) inside in
-    sym (ap (λ (b : Bool). after_here spot (Some (row_with d b)) bytes) set ∙ ap (stored_here spot (takes_added (form_of d.shape) (within d) d.pid)) handed ∙ ap (update (added_stored d.pid spot v)) same ∙ sym e)
+    let handed : handed_here spot (Some (row_with d true)) Set bytes ≡ ok v = ap (λ (r : Result Value Nack). r >>= taken_by (takes d)) (read_is (has_length (set_form d) (length bytes)) (value_in (set_form d) bytes) v value) ∙ ap (λ (b : Bool). check b DataOutOfRange >>= (λ u. ok v)) inside in
+    sym (ap (λ (b : Bool). after_here spot (Some (row_with d b)) bytes) set ∙ ap (stored_here spot (takes_added (set_form d) (set_range d) (own_stored d) d.pid)) handed ∙ ap (update (own_stored d spot v)) same ∙ sym e)
 
 pub set_ok_at : {A : Type 0} (p : Parameters) (pid : ℕ) (bytes : List ℕ) (d : ParameterDef) (r : Result A Nack) → row_here p.profile pid ≡ Some (added_row d) → IfOk r (λ u. (spot : Spot) → is_ok (handed_here spot (Some (added_row d)) Set bytes) ≡ true) → IfOk r (λ u. is_ok (handed_here (root_spot p) (row_here p.profile pid) Set bytes) ≡ true)
 set_ok_at p pid bytes d (Err n) e h = tt

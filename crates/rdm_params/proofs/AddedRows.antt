@@ -13,9 +13,9 @@ use Rattle.rdm_device.specs.declared.profile.own.Shape.{Shape}
 use Rattle.rdm_device.specs.declared.profile.own.Shape.TheVariants as shapes
 use Rattle.rdm_device.specs.declared.profile.Profile.{Profile}
 use Rattle.rdm_device.specs.declared.value.Value.{Value}
-use Rattle.rdm_device.specs.Columns.Added.{within, has_makers_pid, is_pid_of, added_set_back}
+use Rattle.rdm_device.specs.Columns.Added.{set_form, set_range, own_stored, has_makers_pid, is_pid_of, added_set_back}
 use Rattle.rdm_device.specs.Device.Map.{Entry, update}
-use Rattle.rdm_device.specs.Device.OwnParameters.{form_of, has_get, has_set}
+use Rattle.rdm_device.specs.Device.OwnParameters.{has_get, has_set}
 use Rattle.rdm_device.specs.Device.Spot.{Spot}
 use Rattle.rdm_params.specs.Commands.Added.{row_here}
 use Rattle.rdm_params.specs.Commands.Commands.{command_of}
@@ -113,17 +113,17 @@ get_way shapes.Choice d pid = refl
 get_way shapes.Names d pid = refl
 get_way shapes.Rates d pid = refl
 
-row_way : (d : ParameterDef) (get set : Bool) (verb : Verb) → way_of (command_in (Some (record { pid = d.pid; root_only = true; get = cond get (gets_added d.shape d d.pid) None; set = cond set (takes_added (form_of d.shape) (within d) d.pid) None })) verb) ≡ AtOnce
+row_way : (d : ParameterDef) (get set : Bool) (verb : Verb) → way_of (command_in (Some (record { pid = d.pid; root_only = true; get = cond get (gets_added d.shape d d.pid) None; set = cond set (takes_added (set_form d) (set_range d) (own_stored d) d.pid) None })) verb) ≡ AtOnce
 row_way d true set Get = get_way d.shape d d.pid
 row_way d false set Get = refl
 row_way d get true Set = refl
 row_way d get false Set = refl
 
-row_leaves : (d : ParameterDef) (set : Bool) (spot : Spot) (v : Value) (e : Entry) → change (cond set (takes_added (form_of d.shape) (within d) d.pid) None) spot v e ≡ e.bytes
+row_leaves : (d : ParameterDef) (set : Bool) (spot : Spot) (v : Value) (e : Entry) → change (cond set (takes_added (set_form d) (set_range d) (own_stored d) d.pid) None) spot v e ≡ e.bytes
 row_leaves d true spot v e = refl
 row_leaves d false spot v e = refl
 
-row_silent : (d : ParameterDef) (set : Bool) (spot : Spot) (v : Value) → reply (cond set (takes_added (form_of d.shape) (within d) d.pid) None) spot v ≡ []
+row_silent : (d : ParameterDef) (set : Bool) (spot : Spot) (v : Value) → reply (cond set (takes_added (set_form d) (set_range d) (own_stored d) d.pid) None) spot v ≡ []
 row_silent d true spot v = refl
 row_silent d false spot v = refl
 

@@ -6,6 +6,7 @@ pub mod Changes
 pub mod Endings
 pub mod Fetches
 pub mod KindNames
+pub mod Orders
 pub mod OtherDevices
 pub mod OtherForms
 pub mod OtherRanges

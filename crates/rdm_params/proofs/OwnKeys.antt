@@ -21,8 +21,10 @@ use Rattle.rdm_params.specs.Table.Uses.{is_slow, change, added_change}
 use Rattle.rdm_device.specs.Device.Values.{bytes_of, byte_or_0}
 use Rattle.rdm_device.specs.declared.profile.own.ParameterDef.{ParameterDef}
 use Rattle.rdm_device.specs.declared.profile.Profile.{Profile}
-use Rattle.rdm_device.specs.Columns.Added.{within, added_set_back}
-use Rattle.rdm_device.specs.Device.OwnParameters.{form_of, has_set}
+use Rattle.rdm_device.specs.Columns.Added.{counted, set_form, set_range, stored_by, own_stored, added_set_back, start_in}
+use Rattle.rdm_device.specs.declared.profile.own.Rights.{Rights}
+use Rattle.rdm_device.specs.declared.profile.own.Rights.TheVariants as rights
+use Rattle.rdm_device.specs.Device.OwnParameters.{has_set}
 use Rattle.rdm_params.proofs.AddedRows.{row_has, added_have, here_is}
 use Rattle.rdm_params.proofs.Bools.{both_true}
 use Rattle.rdm_params.proofs.Rows.{found}
@@ -112,9 +114,13 @@ none_reset (d ∷ ds) key n apart at =
     let parts = not_reset d.resets false d d.pid n key (filter (λ (x : ParameterDef). x.resets) ds) apart refl at in
     pass_over (d.resets && (d.pid == n)) d (find (λ (x : ParameterDef). x.resets && (x.pid == n)) ds) parts.0 (none_reset ds key n parts.1 at)
 
+either_is : (here : Bool) (x y : List ℕ) → x ≡ y → cond here x y ≡ y
+either_is true x y e = e
+either_is false x y e = refl
+
 added_back : (spot : Spot) (v : Value) (key : ℕ) → list_any (λ k. k == key) (factory_pids ++ reset_pids spot.profile.own) ≡ false → Keeps key (added_set_back spot v)
 added_back spot v key apart e at =
-    ap (λ (found : Option ParameterDef). option_map_or (λ (d : ParameterDef). d.start) found e.bytes) (none_reset spot.profile.own key e.pid (none_either key factory_pids (reset_pids spot.profile.own) apart).1 at)
+    either_is (e.index == 0) (start_in spot.profile.own e.pid e.bytes) e.bytes (ap (λ (found : Option ParameterDef). option_map_or (λ (d : ParameterDef). d.start) found e.bytes) (none_reset spot.profile.own key e.pid (none_either key factory_pids (reset_pids spot.profile.own) apart).1 at))
 
 idle : (pid : ℕ) (spot : Spot) (v : Value) (key : ℕ) → IsApart spot.profile pid key → Keeps key (λ e. e.bytes)
 idle pid spot v key apart e at = refl
@@ -191,8 +197,16 @@ no_store false b x y e = refl
 abbrev OnlyAdded : Row → Type 0
 OnlyAdded r = (spot : Spot) (v : Value) (key : ℕ) → (r.pid == key) ≡ false → Keeps key (added_change (command_in (Some r) Set) spot v)
 
-one_added : (d : ParameterDef) (set : Bool) (spot : Spot) (v : Value) (key : ℕ) → (d.pid == key) ≡ false → Keeps key (added_change (cond set (takes_added (form_of d.shape) (within d) d.pid) None) spot v)
-one_added d true spot v key apart e at = no_store (e.pid == d.pid) (e.index == 0) (bytes_of v) e.bytes (apart_test d.pid key e.pid apart at)
+one_stored : (by : Rights) (d : ParameterDef) (spot : Spot) (v : Value) (key : ℕ) → (d.pid == key) ≡ false → Keeps key (stored_by by d spot v)
+one_stored rights.Get d spot v key apart e at = no_store (e.pid == d.pid) (e.index == 0) (bytes_of v) e.bytes (apart_test d.pid key e.pid apart at)
+one_stored rights.Set d spot v key apart e at =
+    no_store (e.pid == d.pid) (e.index == 0) (bytes_of v) (cond (has_key d.pid 1 e) (counted (lookup spot.added d.pid 1)) e.bytes) (apart_test d.pid key e.pid apart at)
+    ∙ no_store (e.pid == d.pid) (e.index == 1) (counted (lookup spot.added d.pid 1)) e.bytes (apart_test d.pid key e.pid apart at)
+one_stored rights.Both d spot v key apart e at = no_store (e.pid == d.pid) (e.index == 0) (bytes_of v) e.bytes (apart_test d.pid key e.pid apart at)
+one_stored rights.Clear d spot v key apart e at = no_store (e.pid == d.pid) (e.index == 0) d.start e.bytes (apart_test d.pid key e.pid apart at)
+
+one_added : (d : ParameterDef) (set : Bool) (spot : Spot) (v : Value) (key : ℕ) → (d.pid == key) ≡ false → Keeps key (added_change (cond set (takes_added (set_form d) (set_range d) (own_stored d) d.pid) None) spot v)
+one_added d true spot v key apart e at = one_stored d.rights d spot v key apart e at
 one_added d false spot v key apart e at = refl
 
 of_added : (p : Profile) (pid : ℕ) (row : Option Row) → row_in (added_rows p) pid ≡ row → (spot : Spot) (v : Value) (key : ℕ) → (pid == key) ≡ false → Keeps key (added_change (command_in row Set) spot v)

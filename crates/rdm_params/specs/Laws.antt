@@ -1,5 +1,5 @@
 -- Laws of the table, for every value, command and device.
-use Rattle.std.specs.Prelude.{◌≡◌, ◌≢◌, ℕ, ℤ, suc, ◌^◌, ◌<◌, ◌≤◌, ◌==◌, false, List, [], ◌∷◌, ◌++◌, length, Option, Some, None, Ok, IsTrue, Bool, true, slice_index_or, if◌then◌else◌}
+use Rattle.std.specs.Prelude.{◌≡◌, ◌≢◌, ℕ, ℤ, suc, ◌^◌, ◌<◌, ◌≤◌, ◌==◌, false, List, [], ◌∷◌, ◌++◌, length, Option, Some, None, Ok, IsTrue, All, Bool, true, slice_index_or, if◌then◌else◌}
 use Rattle.std.specs.List.{list_any}
 use Rattle.std.specs.List.Sorted.{IsStrictlyIncreasing}
 use Rattle.rdm_params.specs.declared.kind.Verb.{Verb}
@@ -20,12 +20,14 @@ use Rattle.rdm_params.specs.Commands.Placing.{place_refusal, after_place}
 use Rattle.rdm_params.specs.Jobs.Commit.{after_commit}
 use Rattle.rdm_params.specs.Jobs.Outcome.{fits}
 use Rattle.rdm_device.specs.Columns.Forms.{has_form}
-use Rattle.rdm_device.specs.Device.Map.{lookup}
+use Rattle.rdm_device.specs.Device.Map.{has_key, lookup}
+use Rattle.rdm_device.specs.declared.profile.own.ParameterDef.{ParameterDef}
+use Rattle.rdm_device.specs.Device.OwnParameters.{is_order}
 use Rattle.rdm_device.specs.declared.profile.Profile.{Profile}
-use Rattle.rdm_device.specs.Device.Parameters.{Parameters}
+use Rattle.rdm_device.specs.Device.Parameters.{Parameters, parameters_of}
 use Rattle.rdm_device.specs.Device.Profiles.{IsGoodProfile}
 use Rattle.rdm_device.specs.Columns.Replies.{factory_pids, reset_pids}
-use Rattle.rdm_params.specs.Table.Rows.{Command, row_of, row_at, supported_pids}
+use Rattle.rdm_params.specs.Table.Rows.{Command, row_of, row_at, added_row, supported_pids}
 use Rattle.rdm_params.specs.Table.Uses.{read, keeps}
 use Rattle.rdm_device.specs.Device.Values.{bytes_of}
 
@@ -87,6 +89,25 @@ pub record IsSameBut (sub : ℕ) (old new : Parameters) : Type 0 where
 -- A SET changes nothing but the values of the devices that it addresses.
 abbrev pub LeavesTheRest : Type 0
 LeavesTheRest = (p : Parameters) (sub pid : ℕ) (bytes : List ℕ) → IsSameBut sub p (after_set p sub pid bytes)
+
+-- whether the orders of this PID are counted
+abbrev pub is_counted : Parameters → ℕ → Bool
+is_counted p pid = list_any (has_key pid 1) p.added
+
+-- An order that the root accepts leaves other values than before, also if its data are those of the last: so each is told as a change.
+abbrev pub OrdersAreTold : Type 0
+OrdersAreTold =
+    (p : Parameters) (d : ParameterDef) (bytes reply : List ℕ)
+    → row_at p.profile d.pid ≡ Some (added_row d) → is_order d.rights ≡ true → is_counted p d.pid ≡ true
+    → answer_to_set p 0 d.pid bytes ≡ Reply reply → after_set p 0 d.pid bytes ≢ p
+
+-- Each order of a profile is counted when the devices are made.
+abbrev pub OrdersAreCounted : Type 0
+OrdersAreCounted = (p : Profile) → All (λ d. is_order d.rights ≡ true → is_counted (parameters_of p) d.pid ≡ true) p.own
+
+-- No SET ends that, of any parameter and device.
+abbrev pub CountsStay : Type 0
+CountsStay = (p : Parameters) (sub pid order : ℕ) (bytes : List ℕ) → is_counted (after_set p sub pid bytes) order ≡ is_counted p order
 
 -- A SET that tells of one value changes no value of another parameter, at any device.
 abbrev pub ChangesWhatItTells : Type 0

@@ -13,6 +13,7 @@ mod added;
 mod changes;
 mod choices;
 mod devices;
+mod orders;
 mod panel;
 mod placing;
 mod profiles;

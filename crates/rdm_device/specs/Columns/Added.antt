@@ -1,5 +1,5 @@
 -- What the commands of a parameter that the maker adds read and write. E1.20 section 10.4.2 and tables A-15 and A-16.
-use Rattle.std.specs.Prelude.{ℕ, ℤ, pos, ◌%◌, Bool, ◌==◌, ◌&&◌, List, [], ◌∷◌, ◌++◌, find, unwrap_or, if◌then◌else◌}
+use Rattle.std.specs.Prelude.{ℕ, ℤ, pos, ◌+◌, ◌%◌, Bool, true, ◌==◌, ◌&&◌, List, [], ◌∷◌, ◌++◌, find, slice_index, unwrap_or, if◌then◌else◌}
 use Rattle.std.specs.List.{list_any}
 use Rattle.std.specs.Option.{option_map_or}
 use Rattle.std.specs.Int.{w64, cast_unsigned}
@@ -11,17 +11,13 @@ use Rattle.rdm_device.specs.declared.profile.own.Shape.{Shape}
 use Rattle.rdm_device.specs.declared.profile.own.Shape.TheVariants as shapes
 use Rattle.rdm_device.specs.declared.value.Value.{Value}
 use Rattle.rdm_device.specs.Columns.Changes.{Change}
-use Rattle.rdm_device.specs.Columns.Forms.{Form, value_of}
+use Rattle.rdm_device.specs.Columns.Forms.{Form, nothing, value_of}
 use Rattle.rdm_device.specs.Columns.Ranges.{Range, for_byte, for_word}
 use Rattle.rdm_device.specs.Device.Choices.{greatest, is_name_of, has_name}
 use Rattle.rdm_device.specs.Device.Map.{Entry, has_key, lookup}
 use Rattle.rdm_device.specs.Device.OwnParameters.{form_of, number_in, is_within, is_makers}
 use Rattle.rdm_device.specs.Device.Spot.{Spot}
 use Rattle.rdm_device.specs.Device.Values.{bytes_of, word_slots, long_slots, byte_or_0, word_or_0}
-
--- the values in the range of a parameter
-abbrev pub within : ParameterDef → Form → Range
-within d form spot v = is_within d v
 
 -- what is kept of it
 abbrev pub added_value : ℕ → Spot → List ℕ
@@ -31,9 +27,60 @@ added_value pid spot = lookup spot.added pid 0
 abbrev pub added_stored : ℕ → Change
 added_stored pid spot v e = if has_key pid 0 e then bytes_of v else e.bytes
 
--- what the bytes of an entry become when those of these parameters that FACTORY_DEFAULTS sets back take the data that they start with
+-- the count of an order with one more, of which there are 256 numbers
+abbrev pub counted : List ℕ → List ℕ
+counted bytes = (slice_index bytes 0 + 1) % 256 ∷ []
+
+-- An order: its entry takes the value, and it is counted, so that one is told as a change which is as the last.
+abbrev pub order_stored : ℕ → Change
+order_stored pid spot v e =
+    if has_key pid 0 e then bytes_of v else (if has_key pid 1 e then counted (lookup spot.added pid 1) else e.bytes)
+
+-- its entry takes the data that it starts with
+abbrev pub start_stored : ParameterDef → Change
+start_stored d spot v e = if has_key d.pid 0 e then d.start else e.bytes
+
+-- ---- what a SET of a parameter takes, and keeps, by the commands that it has
+
+-- the form of its data
+abbrev pub form_by : Rights → Shape → Form
+form_by rights.Clear shape = nothing
+form_by _ shape = form_of shape
+
+abbrev pub set_form : ParameterDef → Form
+set_form d = form_by d.rights d.shape
+
+-- whether it takes a value
+abbrev pub taken_by : Rights → ParameterDef → Value → Bool
+taken_by rights.Clear d v = true
+taken_by _ d v = is_within d v
+
+abbrev pub takes : ParameterDef → Value → Bool
+takes d v = taken_by d.rights d v
+
+-- the range
+abbrev pub set_range : ParameterDef → Form → Range
+set_range d form spot v = takes d v
+
+-- what its entries become
+abbrev pub stored_by : Rights → ParameterDef → Change
+stored_by rights.Set d = order_stored d.pid
+stored_by rights.Clear d = start_stored d
+stored_by _ d = added_stored d.pid
+
+abbrev pub own_stored : ParameterDef → Change
+own_stored d = stored_by d.rights d
+
+-- ---- FACTORY_DEFAULTS: section 10.5.6
+
+-- the data that a parameter of this PID starts with, if it is one that FACTORY_DEFAULTS sets back, else these
+abbrev pub start_in : List ParameterDef → ℕ → List ℕ → List ℕ
+start_in ds pid bytes = option_map_or (λ d. d.start) (find (λ d. d.resets && (d.pid == pid)) ds) bytes
+
+-- What the bytes of an entry become when those of these parameters that FACTORY_DEFAULTS sets back take the data that they start with.
+-- Orders stay counted.
 abbrev pub set_back_in : List ParameterDef → Entry → List ℕ
-set_back_in ds e = option_map_or (λ d. d.start) (find (λ d. d.resets && (d.pid == e.pid)) ds) e.bytes
+set_back_in ds e = if e.index == 0 then start_in ds e.pid e.bytes else e.bytes
 
 -- FACTORY_DEFAULTS sets back those of the maker's own that say so. Section 10.5.6.
 abbrev pub added_set_back : Change
@@ -96,6 +143,7 @@ abbrev pub class_of : Rights → ℕ
 class_of rights.Get = 0x01
 class_of rights.Set = 0x02
 class_of rights.Both = 0x03
+class_of rights.Clear = 0x03
 
 -- how many numbers the data can say, and one where they are no number
 abbrev pub span_of : Shape → ℕ

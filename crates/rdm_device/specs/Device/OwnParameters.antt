@@ -90,6 +90,11 @@ abbrev pub has_set : Rights → Bool
 has_set rights.Get = false
 has_set _ = true
 
+-- whether it is an order: there is nothing to read, so a SET of it asks for something to be done
+abbrev pub is_order : Rights → Bool
+is_order rights.Set = true
+is_order _ = false
+
 -- ---- which PIDs it can have
 
 -- the PIDs that E1.20 leaves to makers

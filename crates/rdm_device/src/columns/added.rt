@@ -4,6 +4,7 @@ mod choosing;
 mod description;
 mod fields;
 mod resetting;
+mod setting;
 
 ghost use Rattle.std.specs.Prelude.{◌≡◌, ◌↔◌, ◌<◌, ◌≤◌, ◌==◌, ◌&&◌, int_le, [], length, map, slice_set, slice_index_or, false, find};
 ghost use Rattle.std.specs.List.{list_any};
@@ -11,8 +12,8 @@ ghost use Rattle.std.specs.Option.{option_copied};
 ghost use Rattle.rdm_device.specs.Columns.Forms.{sized, has_form, value_of};
 ghost use Rattle.rdm_device.specs.Columns.Added.{added_value, added_stored, is_pid_of, has_makers_pid, a_makers_pid};
 ghost use Rattle.rdm_device.specs.Columns.Forms.{word};
-ghost use Rattle.rdm_device.specs.Device.Map.{lookup, update};
-ghost use Rattle.rdm_device.specs.Device.OwnParameters.{form_of, number_in, is_within, is_makers, has_get, has_set};
+ghost use Rattle.rdm_device.specs.Device.Map.{lookup, value_at, update};
+ghost use Rattle.rdm_device.specs.Device.OwnParameters.{form_of, number_in, is_within, is_makers, has_get, has_set, is_order};
 ghost use Rattle.rdm_device.specs.Device.Spot.{Spot};
 ghost use Rattle.rdm_device.specs.Device.Values.{bytes_of};
 ghost use Rattle.rdm_device.specs.Views.State.{added_entries, own_entries, kept_entry, stored_in, no_entry};
@@ -21,6 +22,7 @@ pub use crate::columns::added::choosing::{a_name, choice_shown, name_shown};
 pub(crate) use crate::columns::added::choosing::{greatest, has_name};
 pub use crate::columns::added::description::{data_type_of, described, size_of};
 pub use crate::columns::added::resetting::{are_at_start, set_added_back};
+pub use crate::columns::added::setting::{read_set, store_set, takes};
 use crate::columns::{forms, writes};
 use crate::device::Place;
 use crate::device::state::{Kept, RootValues};
@@ -121,7 +123,7 @@ pub fn has_get(rights: Rights) -> bool
 {
     match rights {
         Rights::Set => false,
-        Rights::Get | Rights::Both => true,
+        Rights::Get | Rights::Both | Rights::Clear => true,
     }
 }
 
@@ -131,7 +133,17 @@ pub fn has_set(rights: Rights) -> bool
 {
     match rights {
         Rights::Get => false,
-        Rights::Set | Rights::Both => true,
+        Rights::Set | Rights::Both | Rights::Clear => true,
+    }
+}
+
+/// Whether a parameter is an order: it has no GET.
+pub fn is_order(rights: Rights) -> bool
+    ensures { result ≡ is_order rights }
+{
+    match rights {
+        Rights::Set => true,
+        Rights::Get | Rights::Both | Rights::Clear => false,
     }
 }
 
@@ -183,7 +195,7 @@ fn write_kept(values: &[Kept], pid: u16, body: &mut Body)
     ensures value { body.new ≡ lookup (added_entries values.now) pid 0 }
     ensures few { length body.new ≤ 32 }
 {
-    if let Some(kept) = kept_of(values, pid) {
+    if let Some(kept) = kept_of(values, pid, 0) {
         write_bytes(kept.bytes.as_slice(), body);
     }
 }
@@ -203,10 +215,23 @@ fn write_bytes(bytes: &[u8], body: &mut Body)
     }
 }
 
-fn kept_of(values: &[Kept], pid: u16) -> Option<&Kept>
-    ensures { option_copied result ≡ find (λ k. k.pid == pid) values.now }
+fn kept_of(values: &[Kept], pid: u16, index: u16) -> Option<&Kept>
+    ensures { option_copied result ≡ find (λ k. (k.pid == pid) && (k.index == index)) values.now }
 {
-    values.iter().find(|kept| kept.pid == pid)
+    values
+        .iter()
+        .find(|kept| kept.pid == pid && kept.index == index)
+}
+
+/// What is kept of a parameter that the maker adds, if there is one with this PID: its data, whether or not it has a GET.
+#[tactic(auto, using(crate::proofs::Added::value_is))]
+pub fn value_of(values: &[Kept], pid: u16) -> Option<&[u8]>
+    ensures { option_copied result ≡ value_at (added_entries values.now) pid }
+{
+    match kept_of(values, pid, 0) {
+        Some(kept) => Some(kept.bytes.as_slice()),
+        None => None,
+    }
 }
 
 /// Keeps the value of a parameter that the maker adds, and says whether it is another one.
@@ -217,16 +242,16 @@ pub fn store_added(pid: u16, value: &Argument<'_>, own: &mut RootValues) -> bool
     ensures same { (result ≡ false) ↔ (added_entries own.new.added.items ≡ added_entries own.old.added.items) }
 {
     let bytes = bytes_of(value);
-    store_in(&mut own.added, pid, bytes.as_slice())
+    store_in(&mut own.added, pid, 0, bytes.as_slice())
 }
 
-/// Keeps these bytes as the value of a parameter, and says whether it is another one.
-fn store_in(values: &mut Vec<Kept>, pid: u16, bytes: &[u8]) -> bool
+/// Keeps these bytes as a value of a parameter, and says whether they are others.
+fn store_in(values: &mut Vec<Kept>, pid: u16, index: u16, bytes: &[u8]) -> bool
     requires { length bytes.now ≤ 32 }
-    ensures after { added_entries values.new.items ≡ map (stored_in pid bytes.now) (added_entries values.old.items) }
+    ensures after { added_entries values.new.items ≡ map (stored_in pid index bytes.now) (added_entries values.old.items) }
     ensures same { (result ≡ false) ↔ (added_entries values.new.items ≡ added_entries values.old.items) }
 {
-    store_among(values.as_mut_slice(), pid, bytes)
+    store_among(values.as_mut_slice(), pid, index, bytes)
 }
 
 /// The bytes that stand for the value of a command.
@@ -248,38 +273,38 @@ fn bytes_of(value: &Argument<'_>) -> Text
     text
 }
 
-/// Keeps these bytes as each value of a parameter, and says whether one is another.
-fn store_among(values: &mut [Kept], pid: u16, bytes: &[u8]) -> bool
+/// Keeps these bytes as each value at a key, and says whether one is another.
+fn store_among(values: &mut [Kept], pid: u16, index: u16, bytes: &[u8]) -> bool
     requires { length bytes.now ≤ 32 }
-    ensures after { added_entries values.new ≡ map (stored_in pid bytes.now) (added_entries values.old) }
+    ensures after { added_entries values.new ≡ map (stored_in pid index bytes.now) (added_entries values.old) }
     ensures same { (result ≡ false) ↔ (added_entries values.new ≡ added_entries values.old) }
 {
     let mut changed = false;
     for i in 0..values.len() {
-        let here = store_at(values, i, pid, bytes);
+        let here = store_at(values, i, pid, index, bytes);
         changed = changed || here;
     }
     changed
 }
 
-/// Keeps these bytes at one place, if the parameter is kept there, and says whether they are others.
-fn store_at(values: &mut [Kept], index: usize, pid: u16, bytes: &[u8]) -> bool
-    requires place { index < length values.old }
+/// Keeps these bytes at one place, if it has this key, and says whether they are others.
+fn store_at(values: &mut [Kept], place: usize, pid: u16, index: u16, bytes: &[u8]) -> bool
+    requires place { place < length values.old }
     requires few { length bytes.now ≤ 32 }
     ensures after { added_entries values.new
-        ≡ slice_set (added_entries values.old) index (stored_in pid bytes.now (slice_index_or (added_entries values.old) index no_entry)) }
+        ≡ slice_set (added_entries values.old) place (stored_in pid index bytes.now (slice_index_or (added_entries values.old) place no_entry)) }
     ensures same { (result ≡ false) ↔ (added_entries values.new ≡ added_entries values.old) }
 {
-    store_one(&mut values[index], pid, bytes)
+    store_one(&mut values[place], pid, index, bytes)
 }
 
-/// Keeps these bytes, if it is this parameter's value, and says whether they are others.
-fn store_one(kept: &mut Kept, pid: u16, bytes: &[u8]) -> bool
+/// Keeps these bytes, if it is the value at this key, and says whether they are others.
+fn store_one(kept: &mut Kept, pid: u16, index: u16, bytes: &[u8]) -> bool
     requires { length bytes.now ≤ 32 }
-    ensures after { kept_entry kept.new ≡ stored_in pid bytes.now (kept_entry kept.old) }
+    ensures after { kept_entry kept.new ≡ stored_in pid index bytes.now (kept_entry kept.old) }
     ensures same { (result ≡ false) ↔ (kept_entry kept.new ≡ kept_entry kept.old) }
 {
-    if kept.pid == pid {
+    if kept.pid == pid && kept.index == index {
         writes::text(&mut kept.bytes, bytes)
     } else {
         false

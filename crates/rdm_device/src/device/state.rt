@@ -1,9 +1,10 @@
 //! The values that devices keep.
 
-ghost use Rattle.std.specs.Prelude.{◌≡◌, IfOk};
-ghost use Rattle.rdm_device.specs.Device.Parameters.{added_at_start};
+ghost use Rattle.std.specs.Prelude.{◌≡◌, ◌++◌, IfOk, OnOk};
+ghost use Rattle.rdm_device.specs.Device.Parameters.{added_at_start, kept_at_start};
 ghost use Rattle.rdm_device.specs.Views.State.{added_entries};
 
+use crate::columns::added::is_order;
 use crate::{ParameterDef, Profile, SensorDef, Unit};
 use arrayvec::ArrayVec;
 use rdm_frame::Text;
@@ -76,7 +77,9 @@ pub struct Measured {
 pub struct Kept {
     /// Its PID.
     pub pid: u16,
-    /// Its data.
+    /// Which of its values it is: 0 for its data, and 1 for how many orders there were, of a parameter that is one.
+    pub index: u16,
+    /// The value.
     pub bytes: Text,
 }
 
@@ -161,11 +164,27 @@ fn start_added(alloc: Global, defs: &[ParameterDef]) -> Result<Vec<Kept>, AllocE
 {
     let mut added = Vec::with_capacity(alloc, defs.len())?;
     for i in 0..defs.len() {
-        let def = &defs[i];
-        added.push(Kept {
-            pid: def.pid,
-            bytes: def.start.copy(),
-        })?;
+        start_one(&defs[i], &mut added)?;
     }
     Ok(added)
+}
+
+/// Adds what one of them starts with.
+#[tactic(auto, using(crate::proofs::Added::start_data, crate::proofs::Added::start_order))]
+fn start_one(def: &ParameterDef, added: &mut Vec<Kept>) -> Result<(), AllocError>
+    ensures { OnOk result (added_entries added.new.items ≡ added_entries added.old.items ++ kept_at_start def.now) }
+{
+    added.push(Kept {
+        pid: def.pid,
+        index: 0,
+        bytes: def.start.copy(),
+    })?;
+    if is_order(def.rights) {
+        added.push(Kept {
+            pid: def.pid,
+            index: 1,
+            bytes: Text::of(&[0]),
+        })?;
+    }
+    Ok(())
 }

@@ -13,10 +13,12 @@ use std::marker::Model;
 pub enum Rights {
     /// GET alone.
     Get,
-    /// SET alone.
+    /// SET alone: it is an order. Each that is accepted is told as a change, also one as the last.
     Set,
     /// GET and SET.
     Both,
+    /// GET, and a SET without data that sets it back to what it starts with (COMMS_STATUS, section 10.2).
+    Clear,
 }
 
 /// Which data a parameter has (section 10.4.2 and table A-15).

@@ -6,6 +6,7 @@ ghost use Rattle.std.specs.Option.{option_copied};
 ghost use Rattle.rdm_params.specs.declared.kind.Verb.TheVariants.{Get, Set};
 ghost use Rattle.rdm_device.specs.declared.profile.own.Shape.TheVariants as shapes;
 ghost use Rattle.rdm_device.specs.Columns.Added.{has_makers_pid, is_pid_of};
+ghost use Rattle.rdm_device.specs.Device.Map.{value_at};
 ghost use Rattle.rdm_device.specs.Device.Spot.{Spot};
 ghost use Rattle.rdm_device.specs.Views.State.{own_entries, added_entries};
 ghost use Rattle.rdm_params.specs.Commands.Added.{row_here, handed_here, reply_of, reply_here, after_here};
@@ -20,6 +21,14 @@ use rdm_frame::Body;
 use rdm_frame::standard::PARAMETER_DESCRIPTION;
 
 impl Devices {
+    /// What is kept at the root of a parameter that the profile adds, also of one that has no GET: an order. `None` if the profile adds
+    /// none with this PID.
+    pub fn own_value(&self, pid: u16) -> Option<&[u8]>
+        ensures { option_copied result ≡ value_at self.now.added pid }
+    {
+        added::value_of(self.own.added.as_slice(), pid)
+    }
+
     /// What a GET of the root answers, by what the profile adds.
     // A call, so that the commands of the table don't make room for it.
     #[cold]
@@ -202,11 +211,11 @@ fn set_parameter(def: &ParameterDef, data: &[u8], own: &mut RootValues) -> Resul
     if !added::has_set(def.rights) {
         return Err(Nack::UnsupportedCommandClass);
     }
-    let Some(value) = added::read_shape(def.shape, data) else {
+    let Some(value) = added::read_set(def, data) else {
         return Err(Nack::FormatError);
     };
-    if !added::is_within(def, &value) {
+    if !added::takes(def, &value) {
         return Err(Nack::DataOutOfRange);
     }
-    Ok(added::store_added(def.pid, &value, own))
+    Ok(added::store_set(def, &value, own))
 }

@@ -79,7 +79,7 @@ fn class_of(rights: Rights) -> u8
     match rights {
         Rights::Get => 0x01,
         Rights::Set => 0x02,
-        Rights::Both => 0x03,
+        Rights::Both | Rights::Clear => 0x03,
     }
 }
 
