@@ -3,7 +3,7 @@ use Rattle.std.proofs.Common.{◌≡◌, ◌≢◌, ℕ, zero, suc, ◌+◌, ◌
 use Rattle.std.specs.Prelude.{slice_index_or, slice_set}
 use Rattle.std.specs.List.{list_any, AllByRecursion}
 use Rattle.std.proofs.Math.Nat.{mod-lt, mod-eq_of_lt}
-use Rattle.std.proofs.lemmas.Bool.{cases_lt, eqb-true}
+use Rattle.std.proofs.lemmas.Bool.{cases_lt, eq-eqb, eqb-true}
 use Rattle.std.proofs.lemmas.List.Elements.{All-from_recursion}
 use Rattle.std.proofs.lemmas.List.Folds.{list_any-append}
 use Rattle.rdm_params.specs.declared.kind.Verb.TheVariants.{Set}
@@ -64,9 +64,9 @@ pick true false false a c kept apart here = absurd (never here)
 pick false first more a c kept apart here = absurd (never here)
 
 never_both : (a b : Bool) → (a ≡ true → b ≡ true → ⊥) → (a && b) ≡ false
-never_both true true no = absurd (no refl refl)
-never_both true false no = refl
-never_both false b no = refl
+never_both true true apart = absurd (apart refl refl)
+never_both true false apart = refl
+never_both false b apart = refl
 
 zero_or_one : (n : ℕ) → ((n == 0) && (n == 1)) ≡ false
 zero_or_one n = never_both (n == 0) (n == 1) (λ (is : (n == 0) ≡ true) (one : (n == 1) ≡ true). let at : n ≡ 0 = eqb-true n 0 is in let also : n ≡ 1 = eqb-true n 1 one in omega (arith, at, also))
@@ -82,14 +82,15 @@ abbrev rest_of : List Entry → List Entry
 rest_of [] = []
 rest_of (e ∷ es) = es
 
+at_or_behind : (e : Entry) (es : List Entry) (f : Entry → List ℕ) (pid : ℕ) (count : List ℕ) (b : Bool) → has_key pid 1 e ≡ b → (b || list_any (has_key pid 1) es) ≡ true → update f (e ∷ es) ≡ e ∷ es → ((x : Entry) → has_key pid 1 x ≡ true → f x ≡ count) → (list_any (has_key pid 1) es ≡ true → count ≡ lookup es pid 1) → count ≡ cond b e.bytes (lookup es pid 1)
+at_or_behind e es f pid count true is any same each later = sym (each e is) ∙ ap head_bytes same
+at_or_behind e es f pid count false is any same each later = later any
+
 -- where a change leaves all, what it makes of a counted entry is what stands there
 at_first : (es : List Entry) (f : Entry → List ℕ) (pid : ℕ) (count : List ℕ) → list_any (has_key pid 1) es ≡ true → update f es ≡ es → ((e : Entry) → has_key pid 1 e ≡ true → f e ≡ count) → count ≡ lookup es pid 1
 at_first [] f pid count some same each = absurd (never some)
-at_first (e ∷ es) f pid count some same each = here (has_key pid 1 e) refl some
-  where
-    here : (b : Bool) → has_key pid 1 e ≡ b → (b || list_any (has_key pid 1) es) ≡ true → count ≡ cond b e.bytes (lookup es pid 1)
-    here true is any = sym (each e is) ∙ ap head_bytes same
-    here false is any = at_first es f pid count any (ap rest_of same) each
+at_first (e ∷ es) f pid count some same each =
+    at_or_behind e es f pid count (has_key pid 1 e) refl some same each (λ (any : list_any (has_key pid 1) es ≡ true). at_first es f pid count any (ap rest_of same) each)
 
 is_set : (r : Rights) → is_order r ≡ true → r ≡ rights.Set
 is_set rights.Get e = absurd (never e)
@@ -138,8 +139,7 @@ behind front back (d ∷ ds) all =
     ((λ (order : is_order d.rights ≡ true). list_any-append (has_key d.pid 1) front back ∙ or_right (list_any (has_key d.pid 1) front) (list_any (has_key d.pid 1) back) (all.0 order)), behind front back ds all.1)
 
 self_key : (n : ℕ) → (n == n) ≡ true
-self_key zero = refl
-self_key (suc n) = self_key n
+self_key n = eq-eqb n n refl
 
 counted_here : (d : ParameterDef) (r : Rights) → is_order r ≡ true → list_any (has_key d.pid 1) (entry d.pid 0 d.start ∷ cond (is_order r) (entry d.pid 1 (0 ∷ []) ∷ []) []) ≡ true
 counted_here d rights.Get e = absurd (never e)
