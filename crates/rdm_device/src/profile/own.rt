@@ -17,7 +17,7 @@ pub enum Rights {
     Set,
     /// GET and SET.
     Both,
-    /// GET, and a SET without data that sets it back to what it starts with (COMMS_STATUS, section 10.2).
+    /// GET, and a SET without data that sets it back to what it starts with, as COMMS_STATUS has (E1.20).
     Clear,
 }
 
