@@ -8,28 +8,32 @@ use Rattle.rdm_device.specs.declared.device.state.Kept.{Kept}
 use Rattle.rdm_device.specs.declared.profile.own.ParameterDef.{ParameterDef}
 use Rattle.rdm_device.specs.Device.LeftOut.{is_optional, lacks}
 use Rattle.rdm_device.specs.Device.Map.{Entry, entry, has_key, lookup, value_at, update}
+use Rattle.rdm_device.specs.Columns.Scenes.{scenes_by}
 use Rattle.rdm_device.specs.Device.OwnParameters.{is_order}
 use Rattle.rdm_device.specs.Device.Parameters.{no_orders, kept_at_start, added_at_start}
-use Rattle.rdm_device.specs.Columns.Added.{added_stored, order_stored, start_stored, counted, set_back_in, added_set_back}
+use Rattle.rdm_device.specs.Columns.Added.{added_stored, order_stored, start_stored, kept_stored, index_kept, bytes_kept, counted, set_back_in, added_set_back}
 use Rattle.rdm_device.specs.Device.Spot.{Spot}
 use Rattle.rdm_device.specs.Device.Values.{bytes_of}
 use Rattle.rdm_device.specs.declared.value.Value.{Value}
 use Rattle.rdm_device.specs.Views.State.{kept_entry, added_entries, stored_in, made_of}
 
--- the data that a parameter starts with, behind what is kept of others
-pub start_data : (ks : List Kept) (d : ParameterDef) (k : Kept) → k.pid ≡ d.pid → k.index ≡ 0 → k.bytes ≡ d.start → is_order d.rights ≡ false → added_entries (ks ++ k ∷ []) ≡ added_entries ks ++ kept_at_start d
-start_data ks d k same_pid at_zero same_bytes other =
+-- the data that a parameter starts with, behind what is kept of others, and then its scenes
+pub start_data : (ks : List Kept) (d : ParameterDef) (k : Kept) (new : List Entry) → k.pid ≡ d.pid → k.index ≡ 0 → k.bytes ≡ d.start → is_order d.rights ≡ false → new ≡ added_entries (ks ++ k ∷ []) ++ scenes_by d.shape d → new ≡ added_entries ks ++ kept_at_start d
+start_data ks d k new same_pid at_zero same_bytes other is =
     let one : kept_entry k ≡ entry d.pid 0 d.start = rw (same_pid, at_zero, same_bytes) refl in
     let none : no_orders d ≡ [] = ap (λ (b : Bool). cond b (entry d.pid 1 (0 ∷ []) ∷ []) []) other in
-    map-append kept_entry ks (k ∷ []) ∙ ap (λ (e : Entry). added_entries ks ++ (e ∷ [])) one ∙ ap (λ (es : List Entry). added_entries ks ++ (entry d.pid 0 d.start ∷ es)) (sym none)
+    let scenes : List Entry = scenes_by d.shape d in
+    is ∙ ap (λ (es : List Entry). es ++ scenes) (map-append kept_entry ks (k ∷ [])) ∙ append_assoc (added_entries ks) (kept_entry k ∷ []) scenes ∙ ap (λ (e : Entry). added_entries ks ++ (e ∷ scenes)) one ∙ ap (λ (es : List Entry). added_entries ks ++ (entry d.pid 0 d.start ∷ es ++ scenes)) (sym none)
 
 -- and the count of an order
-pub start_order : (ks : List Kept) (d : ParameterDef) (k c : Kept) → k.pid ≡ d.pid → k.index ≡ 0 → k.bytes ≡ d.start → c.pid ≡ d.pid → c.index ≡ 1 → c.bytes ≡ 0 ∷ [] → is_order d.rights ≡ true → added_entries ((ks ++ k ∷ []) ++ c ∷ []) ≡ added_entries ks ++ kept_at_start d
-start_order ks d k c same_pid at_zero same_bytes pid_too one_more none is =
+pub start_order : (ks : List Kept) (d : ParameterDef) (k c : Kept) (new : List Entry) → k.pid ≡ d.pid → k.index ≡ 0 → k.bytes ≡ d.start → c.pid ≡ d.pid → c.index ≡ 1 → c.bytes ≡ 0 ∷ [] → is_order d.rights ≡ true → new ≡ added_entries ((ks ++ k ∷ []) ++ c ∷ []) ++ scenes_by d.shape d → new ≡ added_entries ks ++ kept_at_start d
+start_order ks d k c new same_pid at_zero same_bytes pid_too one_more none is e =
     let one : kept_entry k ≡ entry d.pid 0 d.start = rw (same_pid, at_zero, same_bytes) refl in
     let two : kept_entry c ≡ entry d.pid 1 (0 ∷ []) = rw (pid_too, one_more, none) refl in
     let some : no_orders d ≡ entry d.pid 1 (0 ∷ []) ∷ [] = ap (λ (b : Bool). cond b (entry d.pid 1 (0 ∷ []) ∷ []) []) is in
-    ap added_entries (append_assoc ks (k ∷ []) (c ∷ [])) ∙ map-append kept_entry ks (k ∷ c ∷ []) ∙ ap (λ (e : Entry). added_entries ks ++ (e ∷ kept_entry c ∷ [])) one ∙ ap (λ (e : Entry). added_entries ks ++ (entry d.pid 0 d.start ∷ e ∷ [])) two ∙ ap (λ (es : List Entry). added_entries ks ++ (entry d.pid 0 d.start ∷ es)) (sym some)
+    let scenes : List Entry = scenes_by d.shape d in
+    let both : added_entries ((ks ++ k ∷ []) ++ c ∷ []) ≡ added_entries ks ++ (kept_entry k ∷ kept_entry c ∷ []) = ap added_entries (append_assoc ks (k ∷ []) (c ∷ [])) ∙ map-append kept_entry ks (k ∷ c ∷ []) in
+    e ∙ ap (λ (es : List Entry). es ++ scenes) both ∙ append_assoc (added_entries ks) (kept_entry k ∷ kept_entry c ∷ []) scenes ∙ ap (λ (x : Entry). added_entries ks ++ (x ∷ kept_entry c ∷ scenes)) one ∙ ap (λ (x : Entry). added_entries ks ++ (entry d.pid 0 d.start ∷ x ∷ scenes)) two ∙ ap (λ (es : List Entry). added_entries ks ++ (entry d.pid 0 d.start ∷ es ++ scenes)) (sym some)
 
 -- one more parameter that starts
 pub start_step : (now next : List Entry) (i : ℕ) (ds : List ParameterDef) (d : ParameterDef) (total : List Entry) → i < length ds → next ≡ now ++ kept_at_start (get_or ds i d) → now ++ added_at_start (drop i ds) ≡ total → next ++ added_at_start (drop (i + 1) ds) ≡ total
@@ -91,6 +95,15 @@ update_is_map pid spot v (e ∷ es) = ap (λ (rest : List Entry). stored_in pid 
 -- each entry that is stored
 pub stored_all : (pid : ℕ) (spot : Spot) (v : Value) (es new : List Entry) (bytes : List ℕ) → bytes ≡ bytes_of v → new ≡ map (stored_in pid 0 bytes) es → new ≡ update (added_stored pid spot v) es
 stored_all pid spot v es new bytes same e = e ∙ ap (λ (xs : List ℕ). map (stored_in pid 0 xs) es) same ∙ sym (update_is_map pid spot v es)
+
+kept_is_map : (d : ParameterDef) (spot : Spot) (v : Value) (es : List Entry) → update (kept_stored d spot v) es ≡ map (stored_in d.pid (index_kept d.shape v) (bytes_kept d.shape v)) es
+kept_is_map d spot v [] = refl
+kept_is_map d spot v (e ∷ es) = ap (λ (rest : List Entry). stored_in d.pid (index_kept d.shape v) (bytes_kept d.shape v) e ∷ rest) (kept_is_map d spot v es)
+
+-- each entry that a SET stores
+pub kept_all : (d : ParameterDef) (spot : Spot) (v : Value) (es new : List Entry) (index : ℕ) (bytes : List ℕ) → index ≡ index_kept d.shape v → bytes ≡ bytes_kept d.shape v → new ≡ map (stored_in d.pid index bytes) es → new ≡ update (kept_stored d spot v) es
+kept_all d spot v es new index bytes at same e =
+    e ∙ ap (λ (i : ℕ). map (stored_in d.pid i bytes) es) at ∙ ap (λ (xs : List ℕ). map (stored_in d.pid (index_kept d.shape v) xs) es) same ∙ sym (kept_is_map d spot v es)
 
 start_is_map : (d : ParameterDef) (spot : Spot) (v : Value) (es : List Entry) → update (start_stored d spot v) es ≡ map (stored_in d.pid 0 d.start) es
 start_is_map d spot v [] = refl

@@ -5,6 +5,7 @@ pub mod Faults
 pub mod FieldSteps
 pub mod ListSteps
 pub mod Maps
+pub mod SceneSteps
 pub mod SensorReads
 pub mod Sensors
 pub mod Words

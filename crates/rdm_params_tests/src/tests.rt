@@ -2,7 +2,10 @@
 //! out by hand.
 
 use Expected::{Clear, Queue, Refuse, Reply, Start, Status};
-use Nack::{DataOutOfRange, FormatError, SubDeviceOutOfRange, UnknownPid, UnsupportedCommandClass};
+use Nack::{
+    DataOutOfRange, FormatError, SubDeviceOutOfRange, UnknownPid, UnsupportedCommandClass,
+    WriteProtect,
+};
 use Verb::{Get, Set};
 use rdm_frame::{Body, Text};
 use rdm_params::*;
@@ -18,6 +21,7 @@ mod panel;
 mod placing;
 mod profiles;
 mod rows;
+mod scenes;
 mod scalars;
 mod slow;
 mod standards;

@@ -11,13 +11,14 @@ use Rattle.rdm_device.specs.declared.profile.own.Shape.{Shape}
 use Rattle.rdm_device.specs.declared.profile.own.Shape.TheVariants as shapes
 use Rattle.rdm_device.specs.declared.value.Value.{Value}
 use Rattle.rdm_device.specs.Columns.Changes.{Change}
-use Rattle.rdm_device.specs.Columns.Forms.{Form, nothing, value_of}
+use Rattle.rdm_device.specs.Columns.Forms.{Form, nothing, sized, value_of}
+use Rattle.rdm_device.specs.Columns.Scenes.{is_set_of, scene_of, scene_kept}
 use Rattle.rdm_device.specs.Columns.Ranges.{Range, for_byte, for_word}
 use Rattle.rdm_device.specs.Device.Choices.{greatest, is_name_of, has_name}
 use Rattle.rdm_device.specs.Device.Map.{Entry, has_key, lookup}
 use Rattle.rdm_device.specs.Device.OwnParameters.{form_of, number_in, is_within, is_makers}
 use Rattle.rdm_device.specs.Device.Spot.{Spot}
-use Rattle.rdm_device.specs.Device.Values.{bytes_of, word_slots, long_slots, byte_or_0, word_or_0}
+use Rattle.rdm_device.specs.Device.Values.{bytes_of, word_slots, long_slots, byte_or_0, word_or_0, label_in}
 
 -- what is kept of it
 abbrev pub added_value : ℕ → Spot → List ℕ
@@ -42,18 +43,30 @@ start_stored d spot v e = if has_key d.pid 0 e then d.start else e.bytes
 
 -- ---- what a SET of a parameter takes, and keeps, by the commands that it has
 
--- the form of its data
+-- the slots of a value that is slots
+abbrev pub slots_in : Value → List ℕ
+slots_in v = unwrap_or (label_in v) []
+
+-- the form of its data, by their shape
+abbrev pub form_taken : Shape → Form
+form_taken shapes.Scenes = sized 9
+form_taken shape = form_of shape
+
 abbrev pub form_by : Rights → Shape → Form
 form_by rights.Clear shape = nothing
-form_by _ shape = form_of shape
+form_by _ shape = form_taken shape
 
 abbrev pub set_form : ParameterDef → Form
 set_form d = form_by d.rights d.shape
 
--- whether it takes a value
+-- whether it takes a value, by the shape of its data
+abbrev pub taken_as : Shape → ParameterDef → Value → Bool
+taken_as shapes.Scenes d v = is_set_of d (slots_in v)
+taken_as _ d v = is_within d v
+
 abbrev pub taken_by : Rights → ParameterDef → Value → Bool
 taken_by rights.Clear d v = true
-taken_by _ d v = is_within d v
+taken_by _ d v = taken_as d.shape d v
 
 abbrev pub takes : ParameterDef → Value → Bool
 takes d v = taken_by d.rights d v
@@ -62,11 +75,23 @@ takes d v = taken_by d.rights d v
 abbrev pub set_range : ParameterDef → Form → Range
 set_range d form spot v = takes d v
 
+-- which of its entries takes the value, and what that keeps
+abbrev pub index_kept : Shape → Value → ℕ
+index_kept shapes.Scenes v = scene_of (slots_in v)
+index_kept _ v = 0
+
+abbrev pub bytes_kept : Shape → Value → List ℕ
+bytes_kept shapes.Scenes v = scene_kept (slots_in v)
+bytes_kept _ v = bytes_of v
+
+abbrev pub kept_stored : ParameterDef → Change
+kept_stored d spot v e = if has_key d.pid (index_kept d.shape v) e then bytes_kept d.shape v else e.bytes
+
 -- what its entries become
 abbrev pub stored_by : Rights → ParameterDef → Change
 stored_by rights.Set d = order_stored d.pid
 stored_by rights.Clear d = start_stored d
-stored_by _ d = added_stored d.pid
+stored_by _ d = kept_stored d
 
 abbrev pub own_stored : ParameterDef → Change
 own_stored d = stored_by d.rights d
@@ -122,6 +147,7 @@ size_of (shapes.Slots n) = n
 size_of shapes.Choice = 1
 size_of shapes.Names = 0
 size_of shapes.Rates = 0
+size_of shapes.Scenes = 9
 
 -- the type of its data. Table A-15.
 abbrev pub data_type_of : Shape → ℕ
@@ -137,6 +163,7 @@ data_type_of (shapes.Slots n) = 0x00
 data_type_of shapes.Choice = 0x03
 data_type_of shapes.Names = 0x00
 data_type_of shapes.Rates = 0x00
+data_type_of shapes.Scenes = 0x00
 
 -- the commands that it has. Table A-16.
 abbrev pub class_of : Rights → ℕ

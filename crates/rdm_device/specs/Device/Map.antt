@@ -2,7 +2,8 @@
 use Rattle.std.specs.Prelude.{ℕ, Bool, ◌==◌, ◌&&◌, List, [], ◌∷◌, Option, find, if◌then◌else◌}
 use Rattle.std.specs.Option.{option_map}
 
--- The index is 0, but for sensors, where it is the number of the sensor, and for orders, where 1 is the key of their count.
+-- The index is 0, but for sensors, where it is the number of the sensor, and for orders, where 1 is the key of their count,
+-- and for scenes, where it is the number of the scene.
 pub record Entry : Type 0 where
   pub pid : ℕ
   pub index : ℕ

@@ -31,6 +31,7 @@ form_of (shapes.Slots n) = sized n
 form_of shapes.Choice = byte
 form_of shapes.Names = nothing
 form_of shapes.Rates = nothing
+form_of shapes.Scenes = nothing
 
 -- the number that a value says in a shape, in two's complement where that is signed
 abbrev pub number_in : Shape → Value → Option ℤ
@@ -59,6 +60,7 @@ lies least greatest n = int_le least n && int_le n greatest
 abbrev pub has_number : Shape → ℤ → Bool
 has_number shapes.Byte n = lies (pos 0) (pos 255) n
 has_number shapes.Choice n = lies (pos 0) (pos 255) n
+has_number shapes.Scenes n = lies (pos 0) (pos 255) n
 has_number shapes.Word n = lies (pos 0) (pos 65535) n
 has_number shapes.Long n = lies (pos 0) (pos 4294967295) n
 has_number shapes.SignedByte n = lies (neg_ℤ (pos 128)) (pos 127) n

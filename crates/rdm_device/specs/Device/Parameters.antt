@@ -5,6 +5,7 @@ use Rattle.rdm_device.specs.declared.profile.Profile.{Profile}
 use Rattle.rdm_device.specs.declared.profile.SensorDef.{SensorDef}
 use Rattle.rdm_device.specs.declared.profile.Unit.{Unit as DeviceUnit}
 use Rattle.rdm_device.specs.Device.Map.{Entry, entry}
+use Rattle.rdm_device.specs.Columns.Scenes.{scenes_by}
 use Rattle.rdm_device.specs.Device.OwnParameters.{is_order}
 use Rattle.rdm_device.specs.Device.Values.{word_slots, long_slots}
 
@@ -60,9 +61,9 @@ root_at_start p = common_at_start p.root ++ own_at_start p
 abbrev pub no_orders : ParameterDef → List Entry
 no_orders d = if is_order d.rights then entry d.pid 1 (0 ∷ []) ∷ [] else []
 
--- what a parameter that the maker adds starts with: its data, and the count of it, if it is an order
+-- what a parameter that the maker adds starts with: its data, the count of it, if it is an order, and its scenes, if it has some
 abbrev pub kept_at_start : ParameterDef → List Entry
-kept_at_start d = entry d.pid 0 d.start ∷ no_orders d
+kept_at_start d = entry d.pid 0 d.start ∷ no_orders d ++ scenes_by d.shape d
 
 -- what the parameters that the maker adds start with
 abbrev pub added_at_start : List ParameterDef → List Entry

@@ -64,6 +64,14 @@ is_rates _ = false
 abbrev pub rates : ParameterDef → Bool
 rates d = is_rates d.shape
 
+-- each of several scenes
+abbrev pub is_scenes : Shape → Bool
+is_scenes shapes.Scenes = true
+is_scenes _ = false
+
+abbrev pub scenes : ParameterDef → Bool
+scenes d = is_scenes d.shape
+
 -- the lines
 abbrev pub standards : List Standard
 standards =
@@ -86,6 +94,7 @@ standards =
     ∷ standard 0x1030 rights.Set (numbers 8 (2 ∷ 2 ∷ 2 ∷ 2 ∷ []))  -- CAPTURE_PRESET: scene, times up and down, wait time
     ∷ standard 0x1040 rights.Both (numbers 1 (1 ∷ []))  -- IDENTIFY_MODE
     ∷ standard 0x1041 rights.Get (numbers 32 [])  -- PRESET_INFO: 6 of one slot and 13 of two, more than a profile can say
+    ∷ standard 0x1042 rights.Both scenes  -- PRESET_STATUS
     ∷ standard 0x1043 rights.Both (numbers 1 (1 ∷ []))  -- PRESET_MERGEMODE
     ∷ standard 0x1044 rights.Both (numbers 1 (1 ∷ []))  -- POWER_ON_SELF_TEST
     ∷ []
@@ -109,7 +118,7 @@ is_clear _ = false
 
 -- whether data are of a shape that only a parameter of the standards has
 abbrev pub is_standards : Shape → Bool
-is_standards shape = is_choice shape || is_names shape || is_rates shape
+is_standards shape = is_choice shape || is_names shape || is_rates shape || is_scenes shape
 
 -- whether a parameter is as each line of this PID says
 abbrev pub follows_at : ℕ → ParameterDef → Bool

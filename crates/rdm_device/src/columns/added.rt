@@ -4,6 +4,7 @@ mod choosing;
 mod description;
 mod fields;
 mod resetting;
+mod scenes;
 mod setting;
 
 ghost use Rattle.std.specs.Prelude.{◌≡◌, ◌↔◌, ◌<◌, ◌≤◌, ◌==◌, ◌&&◌, int_le, [], length, map, slice_set, slice_index_or, false, find};
@@ -22,6 +23,8 @@ pub use crate::columns::added::choosing::{a_name, choice_shown, name_shown};
 pub(crate) use crate::columns::added::choosing::{greatest, has_name};
 pub use crate::columns::added::description::{data_type_of, described, size_of};
 pub use crate::columns::added::resetting::{are_at_start, set_added_back};
+pub use crate::columns::added::scenes::{a_scene, is_protected_scene, scene_shown};
+pub(crate) use crate::columns::added::scenes::{is_set_of, scene_kept, scene_of, start_scenes};
 pub use crate::columns::added::setting::{read_set, store_set, takes};
 use crate::columns::{forms, writes};
 use crate::device::Place;
@@ -55,7 +58,7 @@ pub fn read_shape(shape: Shape, data: &[u8]) -> Option<Argument<'_>>
         Shape::Text => forms::label(data),
         Shape::Bits(size) => sized(size, data),
         Shape::Slots(size) => sized(size, data),
-        Shape::Names | Shape::Rates => forms::nothing(data),
+        Shape::Names | Shape::Rates | Shape::Scenes => forms::nothing(data),
     }
 }
 
@@ -81,7 +84,12 @@ pub fn number_in(shape: Shape, value: &Argument<'_>) -> Option<i64>
         Shape::SignedByte => Some(value.byte()?.cast_signed() as i64),
         Shape::SignedWord => Some(value.word()?.cast_signed() as i64),
         Shape::SignedLong => Some(value.long()?.cast_signed() as i64),
-        Shape::Text | Shape::Bits(_) | Shape::Slots(_) | Shape::Names | Shape::Rates => None,
+        Shape::Text
+        | Shape::Bits(_)
+        | Shape::Slots(_)
+        | Shape::Names
+        | Shape::Rates
+        | Shape::Scenes => None,
     }
 }
 
@@ -96,7 +104,7 @@ fn has_form(shape: Shape, value: &Argument<'_>) -> bool
         Shape::Text => value.is_label(),
         Shape::Bits(size) => has_size(value, size),
         Shape::Slots(size) => has_size(value, size),
-        Shape::Names | Shape::Rates => value.is_nothing(),
+        Shape::Names | Shape::Rates | Shape::Scenes => value.is_nothing(),
     }
 }
 

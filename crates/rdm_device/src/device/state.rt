@@ -4,7 +4,7 @@ ghost use Rattle.std.specs.Prelude.{◌≡◌, ◌++◌, IfOk, OnOk};
 ghost use Rattle.rdm_device.specs.Device.Parameters.{added_at_start, kept_at_start};
 ghost use Rattle.rdm_device.specs.Views.State.{added_entries};
 
-use crate::columns::added::is_order;
+use crate::columns::added::{is_order, start_scenes};
 use crate::{ParameterDef, Profile, SensorDef, Unit};
 use arrayvec::ArrayVec;
 use rdm_frame::Text;
@@ -186,5 +186,5 @@ fn start_one(def: &ParameterDef, added: &mut Vec<Kept>) -> Result<(), AllocError
             bytes: Text::of(&[0]),
         })?;
     }
-    Ok(())
+    start_scenes(def, added)
 }

@@ -68,7 +68,8 @@ fn is_paired(
         | Shape::SignedLong
         | Shape::Text
         | Shape::Bits(_)
-        | Shape::Slots(_) => true,
+        | Shape::Slots(_)
+        | Shape::Scenes => true,
     }
 }
 

@@ -55,7 +55,8 @@ fn are_taken(shape: Shape, fields: &[Field]) -> bool
         | Shape::Bits(_)
         | Shape::Choice
         | Shape::Names
-        | Shape::Rates => fields.is_empty(),
+        | Shape::Rates
+        | Shape::Scenes => fields.is_empty(),
     }
 }
 

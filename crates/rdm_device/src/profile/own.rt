@@ -49,6 +49,9 @@ pub enum Shape {
     Names,
     /// The same, with a frequency of each (E1.37-1 MODULATION_FREQUENCY_DESCRIPTION).
     Rates,
+    /// The times of each of several scenes, from 1 to the greatest number, and whether it is programmed, of which the first can only be
+    /// read: as many as the least number (E1.37-1 PRESET_STATUS).
+    Scenes,
 }
 
 /// A parameter that the maker of the fixture adds, at the root device.

@@ -4,7 +4,7 @@ ghost use Rattle.std.specs.Prelude.{◌≡◌, ◌↔◌, ◌*◌, ◌≤◌, �
 ghost use Rattle.rdm_device.specs.declared.profile.own.Rights.TheVariants as rights;
 ghost use Rattle.rdm_device.specs.Device.Fields.{have_sizes};
 ghost use Rattle.rdm_device.specs.Device.Profiles.{FollowStandards};
-ghost use Rattle.rdm_device.specs.Device.Standards.{are_words, is_choice, choice, names, numbers, rates, words, is_standards, is_clear, is_only_standards, may_have, follows_at, follows};
+ghost use Rattle.rdm_device.specs.Device.Standards.{are_words, is_choice, choice, names, numbers, rates, scenes, words, is_standards, is_clear, is_only_standards, may_have, follows_at, follows};
 
 use crate::profile::own_checks::is_lent;
 use crate::{Field, ParameterDef, Rights, Shape};
@@ -47,6 +47,7 @@ fn follows_at(pid: u16, def: &ParameterDef) -> bool
         0x1030 => is_ordered(def) && has_numbers(def, 8, &[2, 2, 2, 2]),
         0x1040 => may_be_both(def) && has_numbers(def, 1, &[1]),
         0x1041 => is_read(def) && has_numbers(def, 32, &[]),
+        0x1042 => may_be_both(def) && has_scenes(def),
         0x1043 => may_be_both(def) && has_numbers(def, 1, &[1]),
         0x1044 => may_be_both(def) && has_numbers(def, 1, &[1]),
         _ => true,
@@ -65,7 +66,7 @@ fn is_standards(shape: Shape) -> bool
     ensures { result ≡ is_standards shape }
 {
     match shape {
-        Shape::Choice | Shape::Names | Shape::Rates => true,
+        Shape::Choice | Shape::Names | Shape::Rates | Shape::Scenes => true,
         _ => false,
     }
 }
@@ -96,6 +97,13 @@ fn has_rates(def: &ParameterDef) -> bool
     ensures { result ≡ rates def.now }
 {
     matches!(def.shape, Shape::Rates)
+}
+
+/// Whether its data are those of each of several scenes.
+fn has_scenes(def: &ParameterDef) -> bool
+    ensures { result ≡ scenes def.now }
+{
+    matches!(def.shape, Shape::Scenes)
 }
 
 /// Whether the parameter has a GET alone.

@@ -1,13 +1,16 @@
 -- What GET and SET commands answer, and which values they leave. E1.20 sections 6.3, 9 and 10.
-use Rattle.std.specs.Prelude.{ℕ, ◌-◌, Bool, true, false, ◌==◌, ◌&&◌, not, List, [], ◌∷◌, map, Option, Result, Ok, Err, is_ok, is_some, slice_get, slice_index_or, slice_set, option_to_list, if◌then◌else◌}
+use Rattle.std.specs.Prelude.{ℕ, ◌-◌, Bool, true, false, ◌==◌, ◌&&◌, not, List, [], ◌∷◌, map, Option, Result, Ok, Err, is_ok, is_some, slice_get, slice_index_or, slice_set, option_to_list, find, if◌then◌else◌}
 use Rattle.std.specs.List.{list_all}
 use Rattle.std.specs.Option.{option_map_or}
 use Rattle.rdm_params.specs.declared.kind.Kind.{Kind}
 use Rattle.rdm_params.specs.declared.kind.Verb.{Verb}
 use Rattle.rdm_params.specs.declared.kind.Verb.TheVariants.{Get, Set}
 use Rattle.rdm_params.specs.declared.nack.Nack.{Nack}
-use Rattle.rdm_params.specs.declared.nack.Nack.TheVariants.{DataOutOfRange, SubDeviceOutOfRange}
+use Rattle.rdm_params.specs.declared.nack.Nack.TheVariants.{DataOutOfRange, WriteProtect, SubDeviceOutOfRange}
 use Rattle.rdm_device.specs.declared.profile.Profile.{Profile}
+use Rattle.rdm_device.specs.declared.profile.own.ParameterDef.{ParameterDef}
+use Rattle.rdm_device.specs.Columns.Added.{is_pid_of}
+use Rattle.rdm_device.specs.Columns.Scenes.{protects_by}
 use Rattle.rdm_device.specs.declared.value.Value.{Value}
 use Rattle.rdm_params.specs.declared.verdict.Verdict.{Verdict}
 use Rattle.rdm_params.specs.declared.verdict.Verdict.TheVariants.{Reply, Start, Queue, Status, Clear, Refuse}
@@ -76,6 +79,19 @@ known p sub row verb = do
   exists ← check (is_some_device (addressed p sub verb)) SubDeviceOutOfRange
   access row (sub == 0) verb
 
+-- whether data of a SET are of a scene of PRESET_STATUS that can only be read. E1.37-1.
+abbrev pub is_read_only : List ParameterDef → ℕ → List ℕ → Bool
+is_read_only ds pid bytes = (pid == 0x1042) && option_map_or (λ d. protects_by d.shape d bytes) (find (is_pid_of pid) ds) false
+
+-- whether what a command would write is protected
+abbrev pub is_protected : Profile → ℕ → Verb → List ℕ → Bool
+is_protected profile pid Get bytes = false
+is_protected profile pid Set bytes = is_read_only profile.own pid bytes
+
+-- Behind rule 8: nothing protects what the command would write. Table A-17.
+abbrev pub unprotected : Profile → ℕ → Verb → List ℕ → Result (Unit {0}) Nack
+unprotected profile pid verb bytes = check (not (is_protected profile pid verb bytes)) WriteProtect
+
 -- Rule 10: the value is in range at each device that is addressed. Rule 11: it starts no jobs at all sub-devices at once.
 abbrev pub suits : Parameters → ℕ → Option Command → Verb → Value → Result (Unit {0}) Nack
 suits p sub command verb value = do
@@ -101,10 +117,11 @@ read_data p sub command verb bytes = do
   value ← read command bytes
   taken p sub command verb value
 
--- Rules 6 to 11: the value that the data of a command stand for, or the first reason to refuse it.
+-- Rules 6 to 11: the value that the data of a command stand for, or the first reason to refuse it; behind rule 8 that it is protected.
 unfoldable pub accepted : Parameters → ℕ → ℕ → Verb → List ℕ → Result Value Nack
 accepted p sub pid verb bytes = do
   found ← known p sub (row_at p.profile pid) verb
+  free ← unprotected p.profile pid verb bytes
   read_data p sub (command_at p pid verb) verb bytes
 
 -- Whether a value is in the range of a command at each device that it addresses; it isn't if there is none, or

@@ -12,6 +12,7 @@ use Rattle.rdm_device.specs.declared.profile.own.Shape.{Shape}
 use Rattle.rdm_device.specs.declared.profile.own.Shape.TheVariants as shapes
 use Rattle.rdm_device.specs.declared.profile.Profile.{Profile}
 use Rattle.rdm_device.specs.declared.value.Value.{Value}
+use Rattle.rdm_device.specs.Columns.Scenes.{a_scene, scene_shown}
 use Rattle.rdm_device.specs.Columns.Added.{added_value, choice_shown, a_name, name_shown, set_form, set_range, own_stored, added_set_back, has_makers_pid, a_makers_pid, described}
 use Rattle.rdm_device.specs.Columns.Changes.{Change, unchanged, stored_at, set_back, sensors_reset, sensors_recorded}
 use Rattle.rdm_device.specs.Columns.Forms.{Form, nothing, byte, word, long, preset, label}
@@ -198,11 +199,12 @@ abbrev pub shows_added : Cell
 shows_added pid = reads (added_value pid) pid
 
 -- the GET of a parameter that the maker adds, by the shape of its data: the number of a choice has the greatest behind it, names are
--- asked for by their numbers, and of all others the GET shows what is kept
+-- asked for by their numbers and so are scenes, and of all others the GET shows what is kept
 abbrev pub gets_added : Shape → ParameterDef → Cell
 gets_added shapes.Choice d = reads (choice_shown d)
 gets_added shapes.Names d = asks byte (a_name d) (name_shown d)
 gets_added shapes.Rates d = asks byte (a_name d) (name_shown d)
+gets_added shapes.Scenes d = asks word (a_scene d) (scene_shown d)
 gets_added _ d = shows_added
 
 -- a SET of a parameter that the maker adds, with what it makes of the entries of it

@@ -9,8 +9,9 @@ ghost use Rattle.rdm_device.specs.Columns.Added.{has_makers_pid, is_pid_of};
 ghost use Rattle.rdm_device.specs.Device.Map.{value_at};
 ghost use Rattle.rdm_device.specs.Device.Spot.{Spot};
 ghost use Rattle.rdm_device.specs.Views.State.{own_entries, added_entries};
-ghost use Rattle.rdm_params.specs.Commands.Added.{row_here, handed_here, reply_of, reply_here, after_here};
-ghost use Rattle.rdm_params.specs.Commands.Commands.{root_spot};
+ghost use Rattle.rdm_params.specs.Commands.Added.{row_here, handed_with, handed_here, reply_of, reply_here, after_with, after_here};
+ghost use Rattle.rdm_params.specs.Commands.Commands.{root_spot, is_protected};
+ghost use Rattle.rdm_device.specs.declared.profile.Profile.{Profile};
 ghost use Rattle.rdm_params.specs.Table.Rows.{description_row, added_row, gets_added, shows_added};
 
 use super::Devices;
@@ -19,6 +20,9 @@ use rdm_device::columns::{added, forms};
 use rdm_device::{ParameterDef, Place, RootValues, Shape};
 use rdm_frame::Body;
 use rdm_frame::standard::PARAMETER_DESCRIPTION;
+
+/// PRESET_STATUS (E1.37-1).
+const PRESET_STATUS: u16 = 0x1042;
 
 impl Devices {
     /// What is kept at the root of a parameter that the profile adds, also of one that has no GET: an order. `None` if the profile adds
@@ -36,8 +40,8 @@ impl Devices {
     #[tactic(auto, using(crate::proofs::AddedRows::description_here, crate::proofs::AddedRows::parameter_here, crate::proofs::AddedRows::nothing_here))]
     pub(super) fn get_at_root(&self, pid: u16, data: &[u8], body: &mut Body) -> Result<(), Nack>
         requires { body.old ≡ [] }
-        ensures ok { IfOk result (λ u. reply_here (root_spot self.now) (row_here self.now.profile pid) Get data.now ≡ Ok body.new) }
-        ensures err { IfErr result (λ nack. reply_here (root_spot self.now) (row_here self.now.profile pid) Get data.now ≡ Err nack) }
+        ensures ok { IfOk result (λ u. reply_here (root_spot self.now) pid (row_here self.now.profile pid) Get data.now ≡ Ok body.new) }
+        ensures err { IfErr result (λ nack. reply_here (root_spot self.now) pid (row_here self.now.profile pid) Get data.now ≡ Err nack) }
         ensures empty { result ≢ Ok tt → body.new ≡ [] }
     {
         let place = self.root_place();
@@ -56,9 +60,9 @@ impl Devices {
     #[inline(never)]
     #[tactic(auto, using(crate::proofs::AddedRows::description_here, crate::proofs::AddedRows::parameter_here, crate::proofs::AddedRows::nothing_here))]
     pub(super) fn set_at_root(&mut self, pid: u16, data: &[u8]) -> Result<bool, Nack>
-        ensures ok { IfOk result (λ differs. is_ok (handed_here (root_spot self.old) (row_here self.old.profile pid) Set data.now) ≡ true) }
-        ensures err { IfErr result (λ nack. handed_here (root_spot self.old) (row_here self.old.profile pid) Set data.now ≡ Err nack) }
-        ensures after { self.new ≡ record self.old { added = after_here (root_spot self.old) (row_here self.old.profile pid) data.now } }
+        ensures ok { IfOk result (λ differs. is_ok (handed_here (root_spot self.old) pid (row_here self.old.profile pid) Set data.now) ≡ true) }
+        ensures err { IfErr result (λ nack. handed_here (root_spot self.old) pid (row_here self.old.profile pid) Set data.now ≡ Err nack) }
+        ensures after { self.new ≡ record self.old { added = after_here (root_spot self.old) pid (row_here self.old.profile pid) data.now } }
         ensures same { IfOk result (λ differs. (differs ≡ false) ↔ (self.new ≡ self.old)) }
     {
         let profile = &self.profile;
@@ -66,7 +70,10 @@ impl Devices {
             return Err(Nack::UnsupportedCommandClass);
         }
         match parameter_of(profile, pid) {
-            Some(def) => set_parameter(def, data, &mut self.own),
+            Some(def) => {
+                let protected = is_protected(pid, def, data);
+                set_parameter(def, protected, data, &mut self.own)
+            }
             None => Err(Nack::UnknownPid),
         }
     }
@@ -86,11 +93,18 @@ pub(super) fn parameter_of(profile: &Profile, pid: u16) -> Option<&ParameterDef>
     added::parameter_of(profile.own.as_slice(), pid)
 }
 
+/// Whether what a SET of this parameter, which has this PID, would write can only be read: a scene of PRESET_STATUS.
+fn is_protected(pid: u16, def: &ParameterDef, data: &[u8]) -> bool
+    ensures { (profile : Profile) → find (is_pid_of pid) profile.own ≡ Some def.now → result ≡ is_protected profile pid Set data.now }
+{
+    pid == PRESET_STATUS && added::is_protected_scene(def, data)
+}
+
 /// What describes a parameter that the maker adds.
 fn get_description(place: &Place<'_>, data: &[u8], body: &mut Body) -> Result<(), Nack>
     requires { body.old ≡ [] }
-    ensures ok { IfOk result (λ u. reply_here place.now (Some description_row) Get data.now ≡ Ok body.new) }
-    ensures err { IfErr result (λ nack. reply_here place.now (Some description_row) Get data.now ≡ Err nack) }
+    ensures ok { IfOk result (λ u. reply_here place.now 0x0051 (Some description_row) Get data.now ≡ Ok body.new) }
+    ensures err { IfErr result (λ nack. reply_here place.now 0x0051 (Some description_row) Get data.now ≡ Err nack) }
     ensures empty { result ≢ Ok tt → body.new ≡ [] }
 {
     let Some(value) = forms::word(data) else {
@@ -111,8 +125,8 @@ fn get_parameter(
     body: &mut Body,
 ) -> Result<(), Nack>
     requires { body.old ≡ [] }
-    ensures ok { IfOk result (λ u. reply_here place.now (Some (added_row def.now)) Get data.now ≡ Ok body.new) }
-    ensures err { IfErr result (λ nack. reply_here place.now (Some (added_row def.now)) Get data.now ≡ Err nack) }
+    ensures ok { IfOk result (λ u. reply_here place.now def.now.pid (Some (added_row def.now)) Get data.now ≡ Ok body.new) }
+    ensures err { IfErr result (λ nack. reply_here place.now def.now.pid (Some (added_row def.now)) Get data.now ≡ Err nack) }
     ensures empty { result ≢ Ok tt → body.new ≡ [] }
 {
     if !added::has_get(def.rights) {
@@ -137,6 +151,7 @@ fn get_by_shape(
     match shape {
         Shape::Choice => get_choice(place, def, data, body),
         Shape::Names | Shape::Rates => get_name(place, def, data, body),
+        Shape::Scenes => get_scene(place, def, data, body),
         Shape::Byte
         | Shape::Word
         | Shape::Long
@@ -199,17 +214,47 @@ fn get_name(place: &Place<'_>, def: &ParameterDef, data: &[u8], body: &mut Body)
     Ok(())
 }
 
+/// What is kept of a scene.
+fn get_scene(
+    place: &Place<'_>,
+    def: &ParameterDef,
+    data: &[u8],
+    body: &mut Body,
+) -> Result<(), Nack>
+    requires { body.old ≡ [] }
+    ensures ok { IfOk result (λ u. reply_of place.now (gets_added shapes.Scenes def.now def.now.pid) data.now ≡ Ok body.new) }
+    ensures err { IfErr result (λ nack. reply_of place.now (gets_added shapes.Scenes def.now def.now.pid) data.now ≡ Err nack) }
+    ensures empty { result ≢ Ok tt → body.new ≡ [] }
+{
+    let Some(number) = forms::word(data) else {
+        return Err(Nack::FormatError);
+    };
+    if !added::a_scene(def, &number) {
+        return Err(Nack::DataOutOfRange);
+    }
+    added::scene_shown(place, def, &number, body);
+    Ok(())
+}
+
 /// Keeps what the data of a SET stand for, if the parameter takes that, and says whether it is another value.
-fn set_parameter(def: &ParameterDef, data: &[u8], own: &mut RootValues) -> Result<bool, Nack>
-    ensures ok { IfOk result (λ differs. (spot : Spot) → is_ok (handed_here spot (Some (added_row def.now)) Set data.now) ≡ true) }
-    ensures err { IfErr result (λ nack. (spot : Spot) → handed_here spot (Some (added_row def.now)) Set data.now ≡ Err nack) }
+fn set_parameter(
+    def: &ParameterDef,
+    protected: bool,
+    data: &[u8],
+    own: &mut RootValues,
+) -> Result<bool, Nack>
+    ensures ok { IfOk result (λ differs. (spot : Spot) → is_ok (handed_with protected spot (Some (added_row def.now)) Set data.now) ≡ true) }
+    ensures err { IfErr result (λ nack. (spot : Spot) → handed_with protected spot (Some (added_row def.now)) Set data.now ≡ Err nack) }
     ensures own { own_entries own.new ≡ own_entries own.old }
     ensures added { (spot : Spot) → spot.added ≡ added_entries own.old.added.items
-        → added_entries own.new.added.items ≡ after_here spot (Some (added_row def.now)) data.now }
+        → added_entries own.new.added.items ≡ after_with protected spot (Some (added_row def.now)) data.now }
     ensures same { IfOk result (λ differs. (differs ≡ false) ↔ (added_entries own.new.added.items ≡ added_entries own.old.added.items)) }
 {
     if !added::has_set(def.rights) {
         return Err(Nack::UnsupportedCommandClass);
+    }
+    if protected {
+        return Err(Nack::WriteProtect);
     }
     let Some(value) = added::read_set(def, data) else {
         return Err(Nack::FormatError);

@@ -52,6 +52,7 @@ pub fn size_of(shape: Shape) -> u8
         Shape::Bits(size) => size,
         Shape::Slots(size) => size,
         Shape::Names | Shape::Rates => 0,
+        Shape::Scenes => 9,
     }
 }
 
@@ -60,7 +61,7 @@ pub fn data_type_of(shape: Shape) -> u8
     ensures { result ≡ data_type_of shape }
 {
     match shape {
-        Shape::Slots(_) | Shape::Names | Shape::Rates => 0x00,
+        Shape::Slots(_) | Shape::Names | Shape::Rates | Shape::Scenes => 0x00,
         Shape::Bits(_) => 0x01,
         Shape::Text => 0x02,
         Shape::Byte | Shape::Choice => 0x03,
@@ -93,7 +94,12 @@ fn span_of(shape: Shape) -> u64
         Shape::Byte | Shape::SignedByte | Shape::Choice => 0x100,
         Shape::Word | Shape::SignedWord => 0x1_0000,
         Shape::Long | Shape::SignedLong => 0x1_0000_0000,
-        Shape::Text | Shape::Bits(_) | Shape::Slots(_) | Shape::Names | Shape::Rates => 1,
+        Shape::Text
+        | Shape::Bits(_)
+        | Shape::Slots(_)
+        | Shape::Names
+        | Shape::Rates
+        | Shape::Scenes => 1,
     }
 }
 

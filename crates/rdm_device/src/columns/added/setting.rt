@@ -2,17 +2,20 @@
 
 ghost use Rattle.std.specs.Prelude.{◌≡◌, ◌↔◌, ◌≤◌, ◌||◌, ◌∷◌, [], length, map, slice_index, false};
 ghost use Rattle.rdm_device.specs.declared.value.Value.{Value};
-ghost use Rattle.rdm_device.specs.Columns.Added.{order_stored, start_stored, counted, set_form, takes, stored_by, own_stored};
+ghost use Rattle.rdm_device.specs.Columns.Added.{order_stored, start_stored, counted, form_taken, set_form, slots_in, taken_as, takes, index_kept, bytes_kept, kept_stored, stored_by, own_stored};
 ghost use Rattle.rdm_device.specs.Columns.Forms.{value_of};
 ghost use Rattle.rdm_device.specs.Device.Map.{lookup, update};
 ghost use Rattle.rdm_device.specs.Device.Spot.{Spot};
 ghost use Rattle.rdm_device.specs.Views.State.{added_entries, own_entries, stored_in};
 
-use crate::columns::added::{bytes_of, is_within, kept_of, read_shape, store_added, store_in};
+use crate::columns::added::{
+    bytes_of, is_set_of, is_within, kept_of, read_shape, scene_kept, scene_of, sized, store_in,
+};
 use crate::columns::forms;
 use crate::device::state::{Kept, RootValues};
 use crate::value::argument::Argument;
-use crate::{ParameterDef, Rights};
+use crate::{ParameterDef, Rights, Shape};
+use rdm_frame::Text;
 
 /// The value that the data of a SET say, if they have the length that it takes.
 pub fn read_set<'a>(def: &ParameterDef, data: &'a [u8]) -> Option<Argument<'a>>
@@ -20,7 +23,17 @@ pub fn read_set<'a>(def: &ParameterDef, data: &'a [u8]) -> Option<Argument<'a>>
 {
     match def.rights {
         Rights::Clear => forms::nothing(data),
-        Rights::Get | Rights::Set | Rights::Both => read_shape(def.shape, data),
+        Rights::Get | Rights::Set | Rights::Both => read_taken(def.shape, data),
+    }
+}
+
+/// The value that the data of a SET say, by their shape.
+fn read_taken(shape: Shape, data: &[u8]) -> Option<Argument<'_>>
+    ensures { result ≡ value_of (form_taken shape) data.now }
+{
+    match shape {
+        Shape::Scenes => sized(9, data),
+        _ => read_shape(shape, data),
     }
 }
 
@@ -30,7 +43,28 @@ pub fn takes(def: &ParameterDef, value: &Argument<'_>) -> bool
 {
     match def.rights {
         Rights::Clear => true,
-        Rights::Get | Rights::Set | Rights::Both => is_within(def, value),
+        Rights::Get | Rights::Set | Rights::Both => takes_shape(def.shape, def, value),
+    }
+}
+
+/// Whether a SET takes a value, by the shape of its data.
+fn takes_shape(shape: Shape, def: &ParameterDef, value: &Argument<'_>) -> bool
+    ensures { result ≡ taken_as shape def.now value.now }
+{
+    match shape {
+        Shape::Scenes => is_set_of(def, slots_in(value)),
+        _ => is_within(def, value),
+    }
+}
+
+/// The slots of a value that is slots, else none.
+fn slots_in<'a>(value: &'a Argument<'_>) -> &'a [u8]
+    ensures value { result.now ≡ slots_in value.now }
+    ensures few { length result.now ≤ 32 }
+{
+    match value.label() {
+        Some(slots) => slots,
+        None => &[],
     }
 }
 
@@ -55,8 +89,40 @@ fn store_by(rights: Rights, def: &ParameterDef, value: &Argument<'_>, own: &mut 
     match rights {
         Rights::Set => store_order(def.pid, value, own),
         Rights::Clear => store_start(def, own),
-        Rights::Get => store_added(def.pid, value, own),
-        Rights::Both => store_added(def.pid, value, own),
+        Rights::Get => store_kept(def, value, own),
+        Rights::Both => store_kept(def, value, own),
+    }
+}
+
+/// Keeps what the data of a SET stand for, and says whether it is another value.
+#[tactic(auto, unfolding(crate::specs::Views::State::own_entries), using(crate::proofs::Added::kept_all))]
+fn store_kept(def: &ParameterDef, value: &Argument<'_>, own: &mut RootValues) -> bool
+    ensures own { own_entries own.new ≡ own_entries own.old }
+    ensures after { (spot : Spot) → added_entries own.new.added.items ≡ update (kept_stored def.now spot value.now) (added_entries own.old.added.items) }
+    ensures same { (result ≡ false) ↔ (added_entries own.new.added.items ≡ added_entries own.old.added.items) }
+{
+    let index = index_kept(def.shape, value);
+    let bytes = bytes_kept(def.shape, value);
+    store_in(&mut own.added, def.pid, index, bytes.as_slice())
+}
+
+/// Which of the values of a parameter takes that of a SET.
+fn index_kept(shape: Shape, value: &Argument<'_>) -> u16
+    ensures { result ≡ index_kept shape value.now }
+{
+    match shape {
+        Shape::Scenes => scene_of(slots_in(value)),
+        _ => 0,
+    }
+}
+
+/// What is kept of the value of a SET.
+fn bytes_kept(shape: Shape, value: &Argument<'_>) -> Text
+    ensures { result ≡ bytes_kept shape value.now }
+{
+    match shape {
+        Shape::Scenes => scene_kept(slots_in(value)),
+        _ => bytes_of(value),
     }
 }
 
