@@ -1,6 +1,7 @@
 -- Commands of PIDs that the table doesn't have, or that a profile leaves out.
-use Rattle.std.proofs.Common.{◌≡◌, ◌≢◌, ℕ, ◌==◌, Bool, true, false, cond, List, [], length, Option, Some, None, Result, Ok, Err, refl, sym, ap, subst, ◌∙◌}
-use Rattle.std.specs.Prelude.{is_some, is_ok, IfOk, IfErr}
+use Rattle.std.proofs.Common.{◌≡◌, ◌≢◌, ℕ, ◌==◌, ◌&&◌, Bool, true, false, cond, List, [], length, Option, Some, None, Result, Ok, Err, refl, sym, ap, subst, ◌∙◌}
+use Rattle.std.specs.Prelude.{is_some, is_ok, find, IfOk, IfErr}
+use Rattle.std.specs.Option.{option_map_or}
 use Rattle.std.proofs.lemmas.Bool.{ne_eqb}
 use Rattle.rdm_params.specs.declared.kind.Verb.{Verb}
 use Rattle.rdm_params.specs.declared.kind.Verb.TheVariants.{Get, Set}
@@ -12,17 +13,18 @@ use Rattle.rdm_params.specs.declared.verdict.Verdict.{Verdict}
 use Rattle.rdm_params.specs.declared.verdict.Verdict.TheVariants.{Reply, Refuse}
 use Rattle.rdm_device.specs.declared.profile.own.ParameterDef.{ParameterDef}
 use Rattle.rdm_device.specs.declared.profile.Profile.{Profile}
-use Rattle.rdm_device.specs.Columns.Added.{set_form, set_range, takes, own_stored}
+use Rattle.rdm_device.specs.Columns.Added.{set_form, set_range, takes, own_stored, is_pid_of}
+use Rattle.rdm_device.specs.Columns.Scenes.{protects_by}
 use Rattle.rdm_device.specs.Columns.Forms.{has_length, value_in, value_of}
 use Rattle.rdm_device.specs.Device.OwnParameters.{has_set}
 use Rattle.rdm_device.specs.declared.value.Value.{Value}
 use Rattle.rdm_device.specs.Device.Map.{Entry, update}
 use Rattle.rdm_device.specs.Device.Parameters.{Parameters}
 use Rattle.rdm_device.specs.Device.Spot.{Spot}
-use Rattle.rdm_params.specs.Commands.Added.{row_here, handed_here, reply_here, after_here, stored_here}
-use Rattle.rdm_params.specs.Commands.Commands.{command_at, accepted, read_data, read_data_at, addressed, is_some_device, is_all_call, root_spot, verdict, answered, work, got, answer_to_set, after_set, after_accepted, carried_out, added_written, check, ◌>>=◌}
+use Rattle.rdm_params.specs.Commands.Added.{row_here, handed_with, handed_here, reply_here, after_with, after_here, stored_here}
+use Rattle.rdm_params.specs.Commands.Commands.{command_at, accepted, is_protected, unprotected, read_data, read_data_at, addressed, is_some_device, is_all_call, root_spot, verdict, answered, work, got, answer_to_set, after_set, after_accepted, carried_out, added_written, check, ◌>>=◌}
 use Rattle.rdm_params.specs.Jobs.Asks.{ask_of}
-use Rattle.rdm_params.specs.Table.Rows.{Command, Row, row_of, row_or, row_at, is_left_out, added_row, takes_added, command_in}
+use Rattle.rdm_params.specs.Table.Rows.{Command, Row, row_of, row_or, row_at, table, is_left_out, added_row, takes_added, command_in}
 use Rattle.rdm_params.specs.Table.Uses.{access, change, reply, way_of, way_at, way_here, is_by_job}
 use Rattle.rdm_device.specs.Device.Values.{byte_or_0}
 use Rattle.rdm_params.proofs.AddedRows.{here_is, update_leaves}
@@ -55,7 +57,7 @@ refuses false r f nack h e = absurd cc
 not_accepted : (p : Parameters) (sub pid : ℕ) (verb : Verb) (bytes : List ℕ) (nack : Nack) → is_some_device (addressed p sub verb) ≡ true → access (row_at p.profile pid) (sub == 0) verb ≡ Err nack → accepted p sub pid verb bytes ≡ Err nack
 unfolding accepted
 not_accepted p sub pid verb bytes nack here e =
-    refuses (is_some_device (addressed p sub verb)) (access (row_at p.profile pid) (sub == 0) verb) (λ u. read_data p sub (command_at p pid verb) verb bytes) nack here e
+    refuses (is_some_device (addressed p sub verb)) (access (row_at p.profile pid) (sub == 0) verb) (λ u. unprotected p.profile pid verb bytes >>= (λ w. read_data p sub (command_at p pid verb) verb bytes)) nack here e
 
 refused_get : (p : Parameters) (sub pid : ℕ) (bytes : List ℕ) (nack : Nack) → is_some_device (addressed p sub Get) ≡ true → access (row_at p.profile pid) (sub == 0) Get ≡ Err nack → got p sub pid bytes ≡ Refuse nack
 unfolding got
@@ -137,18 +139,19 @@ no_all_call : (verb : Verb) → is_all_call 0 verb ≡ false
 no_all_call Get = refl
 no_all_call Set = refl
 
-abbrev taken_at_root : Parameters → Option Row → Verb → List ℕ → Result Value Nack
-taken_at_root p row verb bytes = access row true verb >>= (λ u. read_data p 0 (command_in row verb) verb bytes)
+abbrev taken_at_root : Parameters → Result (Unit {0}) Nack → Option Row → Verb → List ℕ → Result Value Nack
+taken_at_root p free row verb bytes = access row true verb >>= (λ u. free >>= (λ w. read_data p 0 (command_in row verb) verb bytes))
 
 then_alike : (r : Result (Unit {0}) Nack) (f g : Unit {0} → Result Value Nack) → ((u : Unit {0}) → f u ≡ g u) → (r >>= f) ≡ (r >>= g)
 then_alike (Ok u) f g same = same u
 then_alike (Err nack) f g same = refl
 
-pub accepted_here : (p : Parameters) (pid : ℕ) (verb : Verb) (bytes : List ℕ) → row_at p.profile pid ≡ row_here p.profile pid → accepted p 0 pid verb bytes ≡ handed_here (root_spot p) (row_here p.profile pid) verb bytes
+pub accepted_here : (p : Parameters) (pid : ℕ) (verb : Verb) (bytes : List ℕ) → row_at p.profile pid ≡ row_here p.profile pid → accepted p 0 pid verb bytes ≡ handed_here (root_spot p) pid (row_here p.profile pid) verb bytes
 unfolding accepted
 accepted_here p pid verb bytes e =
     let here = row_here p.profile pid in
-    ap (λ (row : Option Row). taken_at_root p row verb bytes) e ∙ then_alike (access here true verb) (λ u. read_data p 0 (command_in here verb) verb bytes) (λ u. read_data_at (command_in here verb) (root_spot p) bytes) (λ u. one_device p 0 (command_in here verb) verb (root_spot p) bytes refl (no_all_call verb))
+    let free : Result (Unit {0}) Nack = unprotected p.profile pid verb bytes in
+    ap (λ (row : Option Row). taken_at_root p free row verb bytes) e ∙ then_alike (access here true verb) (λ u. free >>= (λ w. read_data p 0 (command_in here verb) verb bytes)) (λ u. free >>= (λ w. read_data_at (command_in here verb) (root_spot p) bytes)) (λ u. then_alike free (λ w. read_data p 0 (command_in here verb) verb bytes) (λ w. read_data_at (command_in here verb) (root_spot p) bytes) (λ w. one_device p 0 (command_in here verb) verb (root_spot p) bytes refl (no_all_call verb)))
 
 abbrev reply_of : List ℕ → Verdict
 reply_of body = Reply body
@@ -179,18 +182,18 @@ told_err : (r : Result Value Nack) (command : Option Command) (spot : Spot) (nac
 told_err (Err n) command spot nack e = cc
 told_err (Ok v) command spot nack e = absurd cc
 
-got_at : (p : Parameters) (pid : ℕ) (bytes : List ℕ) → row_at p.profile pid ≡ row_here p.profile pid → got p 0 pid bytes ≡ verdict p 0 pid (command_in (row_here p.profile pid) Get) Get (handed_here (root_spot p) (row_here p.profile pid) Get bytes)
+got_at : (p : Parameters) (pid : ℕ) (bytes : List ℕ) → row_at p.profile pid ≡ row_here p.profile pid → got p 0 pid bytes ≡ verdict p 0 pid (command_in (row_here p.profile pid) Get) Get (handed_here (root_spot p) pid (row_here p.profile pid) Get bytes)
 unfolding got
 got_at p pid bytes e =
     ap (λ (row : Option Row). verdict p 0 pid (command_in row Get) Get (accepted p 0 pid Get bytes)) e ∙ ap (verdict p 0 pid (command_in (row_here p.profile pid) Get) Get) (accepted_here p pid Get bytes e)
 
-pub get_here_replies : (p : Parameters) (pid : ℕ) (bytes body : List ℕ) → is_left_out p.profile pid ≡ false → access (row_of pid) true Get ≡ Err UnknownPid → reply_here (root_spot p) (row_here p.profile pid) Get bytes ≡ Ok body → Reply body ≡ got p 0 pid bytes
+pub get_here_replies : (p : Parameters) (pid : ℕ) (bytes body : List ℕ) → is_left_out p.profile pid ≡ false → access (row_of pid) true Get ≡ Err UnknownPid → reply_here (root_spot p) pid (row_here p.profile pid) Get bytes ≡ Ok body → Reply body ≡ got p 0 pid bytes
 get_here_replies p pid bytes body stays unknown e =
     let at = at_here p.profile pid Get stays unknown in
     let here = row_here p.profile pid in
-    sym (got_at p pid bytes at ∙ replies p pid (command_in here Get) Get (handed_here (root_spot p) here Get bytes) body ((here_is p.profile pid).way Get) e)
+    sym (got_at p pid bytes at ∙ replies p pid (command_in here Get) Get (handed_here (root_spot p) pid here Get bytes) body ((here_is p.profile pid).way Get) e)
 
-set_at : (p q : Parameters) (pid : ℕ) (bytes : List ℕ) → row_at p.profile pid ≡ row_here p.profile pid → verdict q 0 pid (command_at p pid Set) Set (accepted p 0 pid Set bytes) ≡ verdict q 0 pid (command_in (row_here p.profile pid) Set) Set (handed_here (root_spot p) (row_here p.profile pid) Set bytes)
+set_at : (p q : Parameters) (pid : ℕ) (bytes : List ℕ) → row_at p.profile pid ≡ row_here p.profile pid → verdict q 0 pid (command_at p pid Set) Set (accepted p 0 pid Set bytes) ≡ verdict q 0 pid (command_in (row_here p.profile pid) Set) Set (handed_here (root_spot p) pid (row_here p.profile pid) Set bytes)
 set_at p q pid bytes e =
     ap (λ (row : Option Row). verdict q 0 pid (command_in row Set) Set (accepted p 0 pid Set bytes)) e ∙ ap (verdict q 0 pid (command_in (row_here p.profile pid) Set) Set) (accepted_here p pid Set bytes e)
 
@@ -199,13 +202,13 @@ silent_reply q pid command (Err nack) at_once silent e = absurd cc
 silent_reply q pid command (Ok v) at_once silent e =
     ap (λ (way : Way). answered way (reply command (root_spot q) v) (work 0 pid Set v) (ask_of (byte_or_0 v))) at_once ∙ ap reply_of (silent (root_spot q) v)
 
-pub set_here_replies : (p : Parameters) (pid : ℕ) (bytes : List ℕ) → is_left_out p.profile pid ≡ false → access (row_of pid) true Set ≡ Err UnknownPid → is_ok (handed_here (root_spot p) (row_here p.profile pid) Set bytes) ≡ true → Reply [] ≡ answer_to_set p 0 pid bytes
+pub set_here_replies : (p : Parameters) (pid : ℕ) (bytes : List ℕ) → is_left_out p.profile pid ≡ false → access (row_of pid) true Set ≡ Err UnknownPid → is_ok (handed_here (root_spot p) pid (row_here p.profile pid) Set bytes) ≡ true → Reply [] ≡ answer_to_set p 0 pid bytes
 unfolding answer_to_set
 set_here_replies p pid bytes stays unknown e =
     let at = at_here p.profile pid Set stays unknown in
     let here = row_here p.profile pid in
     let is = here_is p.profile pid in
-    sym (set_at p (after_set p 0 pid bytes) pid bytes at ∙ silent_reply (after_set p 0 pid bytes) pid (command_in here Set) (handed_here (root_spot p) here Set bytes) (is.way Set) is.silent e)
+    sym (set_at p (after_set p 0 pid bytes) pid bytes at ∙ silent_reply (after_set p 0 pid bytes) pid (command_in here Set) (handed_here (root_spot p) pid here Set bytes) (is.way Set) is.silent e)
 
 quick : (way : Way) → way ≡ AtOnce → is_by_job way ≡ false
 quick way e = ap is_by_job e
@@ -215,30 +218,30 @@ leaves_root p command (Err nack) at_once leaves = refl
 leaves_root p command (Ok v) at_once leaves =
     ap (λ (slow : Bool). cond slow p (carried_out p 0 command v)) (quick (way_of command) at_once) ∙ ap (λ (root : List Entry). record p { root = root; added = added_written command v (root_spot p) }) (update_leaves (change command (root_spot p) v) p.root (leaves (root_spot p) v))
 
-pub set_here_leaves : (p : Parameters) (pid : ℕ) (bytes : List ℕ) → is_left_out p.profile pid ≡ false → access (row_of pid) true Set ≡ Err UnknownPid → after_set p 0 pid bytes ≡ record p { added = after_here (root_spot p) (row_here p.profile pid) bytes }
+pub set_here_leaves : (p : Parameters) (pid : ℕ) (bytes : List ℕ) → is_left_out p.profile pid ≡ false → access (row_of pid) true Set ≡ Err UnknownPid → after_set p 0 pid bytes ≡ record p { added = after_here (root_spot p) pid (row_here p.profile pid) bytes }
 unfolding after_set
 set_here_leaves p pid bytes stays unknown =
     let at = at_here p.profile pid Set stays unknown in
     let here = row_here p.profile pid in
     let is = here_is p.profile pid in
-    ap (λ (row : Option Row). after_accepted p 0 (command_in row Set) (accepted p 0 pid Set bytes)) at ∙ ap (after_accepted p 0 (command_in here Set)) (accepted_here p pid Set bytes at) ∙ leaves_root p (command_in here Set) (handed_here (root_spot p) here Set bytes) (is.way Set) is.leaves
+    ap (λ (row : Option Row). after_accepted p 0 (command_in row Set) (accepted p 0 pid Set bytes)) at ∙ ap (after_accepted p 0 (command_in here Set)) (accepted_here p pid Set bytes at) ∙ leaves_root p (command_in here Set) (handed_here (root_spot p) pid here Set bytes) (is.way Set) is.leaves
 
 -- ---- what the calls at the root say of the command
 
 at_root_unknown : (pid sub : ℕ) (verb : Verb) (nack : Nack) → sub ≡ 0 → nack ≡ UnknownPid → access (row_of pid) (sub == 0) verb ≡ Err nack → access (row_of pid) true verb ≡ Err UnknownPid
 at_root_unknown pid sub verb nack zero unknown e = subst (λ (s : ℕ). access (row_of pid) (s == 0) verb ≡ Err nack) zero e ∙ ap unit_err unknown
 
-pub get_ok : {A : Type 0} (p : Parameters) (sub pid : ℕ) (bytes body : List ℕ) (nack : Nack) (r : Result A Nack) → sub ≡ 0 → nack ≡ UnknownPid → is_left_out p.profile pid ≡ false → access (row_of pid) (sub == 0) Get ≡ Err nack → IfOk r (λ u. reply_here (root_spot p) (row_here p.profile pid) Get bytes ≡ Ok body) → IfOk r (λ u. Reply body ≡ got p sub pid bytes)
+pub get_ok : {A : Type 0} (p : Parameters) (sub pid : ℕ) (bytes body : List ℕ) (nack : Nack) (r : Result A Nack) → sub ≡ 0 → nack ≡ UnknownPid → is_left_out p.profile pid ≡ false → access (row_of pid) (sub == 0) Get ≡ Err nack → IfOk r (λ u. reply_here (root_spot p) pid (row_here p.profile pid) Get bytes ≡ Ok body) → IfOk r (λ u. Reply body ≡ got p sub pid bytes)
 get_ok p sub pid bytes body nack (Err n) zero unknown stays e h = tt
 get_ok p sub pid bytes body nack (Ok u) zero unknown stays e h =
     subst (λ (s : ℕ). Reply body ≡ got p s pid bytes) (sym zero) (get_here_replies p pid bytes body stays (at_root_unknown pid sub Get nack zero unknown e) h)
 
-pub set_ok : {A : Type 0} (p : Parameters) (sub pid : ℕ) (bytes : List ℕ) (nack : Nack) (r : Result A Nack) → sub ≡ 0 → nack ≡ UnknownPid → is_left_out p.profile pid ≡ false → access (row_of pid) (sub == 0) Set ≡ Err nack → IfOk r (λ u. is_ok (handed_here (root_spot p) (row_here p.profile pid) Set bytes) ≡ true) → IfOk r (λ u. Reply [] ≡ answer_to_set p sub pid bytes)
+pub set_ok : {A : Type 0} (p : Parameters) (sub pid : ℕ) (bytes : List ℕ) (nack : Nack) (r : Result A Nack) → sub ≡ 0 → nack ≡ UnknownPid → is_left_out p.profile pid ≡ false → access (row_of pid) (sub == 0) Set ≡ Err nack → IfOk r (λ u. is_ok (handed_here (root_spot p) pid (row_here p.profile pid) Set bytes) ≡ true) → IfOk r (λ u. Reply [] ≡ answer_to_set p sub pid bytes)
 set_ok p sub pid bytes nack (Err n) zero unknown stays e h = tt
 set_ok p sub pid bytes nack (Ok u) zero unknown stays e h =
     subst (λ (s : ℕ). Reply [] ≡ answer_to_set p s pid bytes) (sym zero) (set_here_replies p pid bytes stays (at_root_unknown pid sub Set nack zero unknown e) h)
 
-pub set_after : (p new : Parameters) (sub pid : ℕ) (bytes : List ℕ) (nack : Nack) → sub ≡ 0 → nack ≡ UnknownPid → is_left_out p.profile pid ≡ false → access (row_of pid) (sub == 0) Set ≡ Err nack → new ≡ record p { added = after_here (root_spot p) (row_here p.profile pid) bytes } → new ≡ after_set p sub pid bytes
+pub set_after : (p new : Parameters) (sub pid : ℕ) (bytes : List ℕ) (nack : Nack) → sub ≡ 0 → nack ≡ UnknownPid → is_left_out p.profile pid ≡ false → access (row_of pid) (sub == 0) Set ≡ Err nack → new ≡ record p { added = after_here (root_spot p) pid (row_here p.profile pid) bytes } → new ≡ after_set p sub pid bytes
 set_after p new sub pid bytes nack zero unknown stays e after =
     subst (λ (s : ℕ). new ≡ after_set p s pid bytes) (sym zero) (after ∙ sym (set_here_leaves p pid bytes stays (at_root_unknown pid sub Set nack zero unknown e)))
 
@@ -258,20 +261,40 @@ read_is false x v e = absurd cc
 abbrev row_with : ParameterDef → Bool → Row
 row_with d set = record { pid = d.pid; root_only = true; get = (added_row d).get; set = cond set (takes_added (set_form d) (set_range d) (own_stored d) d.pid) None }
 
-pub set_stores : (d : ParameterDef) (spot : Spot) (bytes : List ℕ) (v : Value) (old new : List Entry) → has_set d.rights ≡ true → value_of (set_form d) bytes ≡ Some v → takes d v ≡ true → spot.added ≡ old → new ≡ update (own_stored d spot v) old → new ≡ after_here spot (Some (added_row d)) bytes
-set_stores d spot bytes v old new set value inside same e =
-    let handed : handed_here spot (Some (row_with d true)) Set bytes ≡ ok v = ap (λ (r : Result Value Nack). r >>= taken_by (takes d)) (read_is (has_length (set_form d) (length bytes)) (value_in (set_form d) bytes) v value) ∙ ap (λ (b : Bool). check b DataOutOfRange >>= (λ u. ok v)) inside in
-    sym (ap (λ (b : Bool). after_here spot (Some (row_with d b)) bytes) set ∙ ap (stored_here spot (takes_added (set_form d) (set_range d) (own_stored d) d.pid)) handed ∙ ap (update (own_stored d spot v)) same ∙ sym e)
+pub set_stores : (d : ParameterDef) (protected : Bool) (spot : Spot) (bytes : List ℕ) (v : Value) (old new : List Entry) → has_set d.rights ≡ true → protected ≡ false → value_of (set_form d) bytes ≡ Some v → takes d v ≡ true → spot.added ≡ old → new ≡ update (own_stored d spot v) old → new ≡ after_with protected spot (Some (added_row d)) bytes
+set_stores d protected spot bytes v old new set free value inside same e =
+    let handed : handed_with false spot (Some (row_with d true)) Set bytes ≡ ok v = ap (λ (r : Result Value Nack). r >>= taken_by (takes d)) (read_is (has_length (set_form d) (length bytes)) (value_in (set_form d) bytes) v value) ∙ ap (λ (b : Bool). check b DataOutOfRange >>= (λ u. ok v)) inside in
+    sym (ap (λ (b : Bool). after_with b spot (Some (added_row d)) bytes) free ∙ ap (λ (b : Bool). after_with false spot (Some (row_with d b)) bytes) set ∙ ap (stored_here spot (takes_added (set_form d) (set_range d) (own_stored d) d.pid)) handed ∙ ap (update (own_stored d spot v)) same ∙ sym e)
 
-pub set_ok_at : {A : Type 0} (p : Parameters) (pid : ℕ) (bytes : List ℕ) (d : ParameterDef) (r : Result A Nack) → row_here p.profile pid ≡ Some (added_row d) → IfOk r (λ u. (spot : Spot) → is_ok (handed_here spot (Some (added_row d)) Set bytes) ≡ true) → IfOk r (λ u. is_ok (handed_here (root_spot p) (row_here p.profile pid) Set bytes) ≡ true)
-set_ok_at p pid bytes d (Err n) e h = tt
-set_ok_at p pid bytes d (Ok u) e h = ap (λ (row : Option Row). is_ok (handed_here (root_spot p) row Set bytes)) e ∙ h (root_spot p)
+pub set_ok_at : {A : Type 0} (p : Parameters) (pid : ℕ) (bytes : List ℕ) (d : ParameterDef) (protected : Bool) (r : Result A Nack) → row_here p.profile pid ≡ Some (added_row d) → protected ≡ is_protected p.profile pid Set bytes → IfOk r (λ u. (spot : Spot) → is_ok (handed_with protected spot (Some (added_row d)) Set bytes) ≡ true) → IfOk r (λ u. is_ok (handed_here (root_spot p) pid (row_here p.profile pid) Set bytes) ≡ true)
+set_ok_at p pid bytes d protected (Err n) e f h = tt
+set_ok_at p pid bytes d protected (Ok u) e f h =
+    ap (λ (row : Option Row). is_ok (handed_here (root_spot p) pid row Set bytes)) e ∙ ap (λ (b : Bool). is_ok (handed_with b (root_spot p) (Some (added_row d)) Set bytes)) (sym f) ∙ h (root_spot p)
 
-pub set_err_at : {A : Type 0} (p : Parameters) (pid : ℕ) (bytes : List ℕ) (d : ParameterDef) (r : Result A Nack) → row_here p.profile pid ≡ Some (added_row d) → IfErr r (λ nack. (spot : Spot) → handed_here spot (Some (added_row d)) Set bytes ≡ Err nack) → IfErr r (λ nack. handed_here (root_spot p) (row_here p.profile pid) Set bytes ≡ Err nack)
-set_err_at p pid bytes d (Ok u) e h = tt
-set_err_at p pid bytes d (Err n) e h = ap (λ (row : Option Row). handed_here (root_spot p) row Set bytes) e ∙ h (root_spot p)
+pub set_err_at : {A : Type 0} (p : Parameters) (pid : ℕ) (bytes : List ℕ) (d : ParameterDef) (protected : Bool) (r : Result A Nack) → row_here p.profile pid ≡ Some (added_row d) → protected ≡ is_protected p.profile pid Set bytes → IfErr r (λ nack. (spot : Spot) → handed_with protected spot (Some (added_row d)) Set bytes ≡ Err nack) → IfErr r (λ nack. handed_here (root_spot p) pid (row_here p.profile pid) Set bytes ≡ Err nack)
+set_err_at p pid bytes d protected (Ok u) e f h = tt
+set_err_at p pid bytes d protected (Err n) e f h =
+    ap (λ (row : Option Row). handed_here (root_spot p) pid row Set bytes) e ∙ ap (λ (b : Bool). handed_with b (root_spot p) (Some (added_row d)) Set bytes) (sym f) ∙ h (root_spot p)
 
 -- the values in which those of the root's own parameters are others
-pub set_viewed : (p : Parameters) (root' added' : List Entry) (pid : ℕ) (bytes : List ℕ) (d : ParameterDef) → root' ≡ p.root → added' ≡ after_here (root_spot p) (Some (added_row d)) bytes → row_here p.profile pid ≡ Some (added_row d) → record p { root = root'; added = added' } ≡ record p { added = after_here (root_spot p) (row_here p.profile pid) bytes }
-set_viewed p root' added' pid bytes d e f g =
-    ap (λ (root : List Entry). record p { root = root; added = added' }) e ∙ ap (λ (added : List Entry). record p { added = added }) (f ∙ ap (λ (row : Option Row). after_here (root_spot p) row bytes) (sym g))
+pub set_viewed : (p : Parameters) (root' added' : List Entry) (pid : ℕ) (bytes : List ℕ) (d : ParameterDef) (protected : Bool) → root' ≡ p.root → added' ≡ after_with protected (root_spot p) (Some (added_row d)) bytes → row_here p.profile pid ≡ Some (added_row d) → protected ≡ is_protected p.profile pid Set bytes → record p { root = root'; added = added' } ≡ record p { added = after_here (root_spot p) pid (row_here p.profile pid) bytes }
+set_viewed p root' added' pid bytes d protected e f g h =
+    ap (λ (root : List Entry). record p { root = root; added = added' }) e ∙ ap (λ (added : List Entry). record p { added = added }) (f ∙ ap (λ (b : Bool). after_with b (root_spot p) (Some (added_row d)) bytes) h ∙ ap (λ (row : Option Row). after_here (root_spot p) pid row bytes) (sym g))
+
+-- a row of the table protects nothing, since it has no scenes
+no_scenes : row_of 0x1042 ≡ None
+unfolding row_of table
+no_scenes = refl
+
+not_scenes : (at : Bool) (scenes : Bool) → at ≡ false → (at && scenes) ≡ false
+not_scenes true scenes e = absurd cc
+not_scenes false scenes e = refl
+
+nothing_known : (is_root : Bool) (verb : Verb) → access None is_root verb ≡ Ok tt → ⊥
+nothing_known is_root verb e = cc
+
+pub tabled_free : (profile : Profile) (pid : ℕ) (is_root : Bool) (verb : Verb) (bytes : List ℕ) → access (row_of pid) is_root verb ≡ Ok tt → is_protected profile pid verb bytes ≡ false
+tabled_free profile pid is_root Get bytes e = refl
+tabled_free profile pid is_root Set bytes e =
+    let other : (pid == 0x1042) ≡ false = ne_eqb pid 0x1042 (λ (same : pid ≡ 0x1042). nothing_known is_root Set (ap (λ (row : Option Row). access row is_root Set) (sym no_scenes ∙ ap row_of (sym same)) ∙ e)) in
+    not_scenes (pid == 0x1042) (option_map_or (λ d. protects_by d.shape d bytes) (find (is_pid_of pid) profile.own) false) other

@@ -112,6 +112,7 @@ get_way (shapes.Slots n) d pid = refl
 get_way shapes.Choice d pid = refl
 get_way shapes.Names d pid = refl
 get_way shapes.Rates d pid = refl
+get_way shapes.Scenes d pid = refl
 
 row_way : (d : ParameterDef) (get set : Bool) (verb : Verb) → way_of (command_in (Some (record { pid = d.pid; root_only = true; get = cond get (gets_added d.shape d d.pid) None; set = cond set (takes_added (set_form d) (set_range d) (own_stored d) d.pid) None })) verb) ≡ AtOnce
 row_way d true set Get = get_way d.shape d d.pid

@@ -17,7 +17,7 @@ use Rattle.rdm_device.specs.declared.value.Value.{Value}
 use Rattle.rdm_device.specs.declared.value.Value.TheVariants.{Byte}
 use Rattle.rdm_params.specs.declared.verdict.Verdict.{Verdict}
 use Rattle.rdm_params.specs.declared.verdict.Verdict.TheVariants.{Start, Queue, Status, Clear}
-use Rattle.rdm_params.specs.Commands.Commands.{command_at, accepted, addressed, answered, verdict, work, known, suits, check, is_some_device, got, answer_to_set, after_set, reply_at, ◌>>=◌}
+use Rattle.rdm_params.specs.Commands.Commands.{command_at, accepted, addressed, answered, verdict, work, known, unprotected, suits, check, is_some_device, got, answer_to_set, after_set, reply_at, ◌>>=◌}
 use Rattle.rdm_device.specs.Columns.Forms.{byte}
 use Rattle.rdm_device.specs.Device.Parameters.{Parameters}
 use Rattle.rdm_device.specs.Columns.Ranges.{a_message_type}
@@ -163,7 +163,8 @@ unfolding accepted
 accepts p sub pid verb bytes v e =
     let command : Option Command = command_at p pid verb in
     let first = then_ok (known p sub (row_at p.profile pid) verb) _ v e in
-    let second = then_ok (read command bytes) _ v first.1.1 in
+    let free = then_ok (unprotected p.profile pid verb bytes) _ v first.1.1 in
+    let second = then_ok (read command bytes) _ v free.1.1 in
     let third = then_ok (suits p sub command verb second.0) _ v second.1.1 in
     let same : second.0 ≡ v = ok_is second.0 v third.1.1 in
     record {

@@ -15,7 +15,7 @@ use Rattle.rdm_params.specs.declared.jobs.way.Way.TheVariants.{AtOnce, ByJob, Fr
 use Rattle.rdm_params.specs.declared.jobs.work.Work.{Work}
 use Rattle.rdm_params.specs.declared.verdict.Verdict.TheVariants.{Reply}
 use Rattle.rdm_device.specs.declared.value.Value.{Value}
-use Rattle.rdm_params.specs.Commands.Commands.{command_of, command_at, accepted, after_set, answer_to_set, answered, verdict, carried_out, addressed, is_some_device, is_all_call, root_spot, sub_spot, known, taken, after_accepted, check, ◌>>=◌}
+use Rattle.rdm_params.specs.Commands.Commands.{command_of, command_at, accepted, after_set, answer_to_set, answered, verdict, carried_out, addressed, is_some_device, is_all_call, root_spot, sub_spot, known, unprotected, taken, after_accepted, check, ◌>>=◌}
 use Rattle.rdm_params.specs.Commands.Placing.{device, has_set, value_refusal, place_refusal, after_value, after_place}
 use Rattle.rdm_device.specs.Device.Parameters.{Parameters}
 use Rattle.rdm_device.specs.Device.Spot.{Spot}
@@ -105,6 +105,11 @@ says p sub row (Ok v) w e =
       within = subst (λ (x : Value). list_all (λ spot. in_range_of (command_in row Set) spot x) (addressed p sub Set) ≡ true) passed.1 passed.0.within_range;
     }
 
+-- the same where a step before it can refuse
+says_behind : (p : Parameters) (sub : ℕ) (row : Option Row) (free : Result (Unit {0}) Nack) (r : Result Value Nack) (w : Value) → (known p sub row Set >>= (λ u. free >>= (λ x. r >>= (λ value. taken p sub (command_in row Set) Set value)))) ≡ ok w → Says p sub row r w
+says_behind p sub row (Err nack) r w e = absurd (err_is_no_value (known p sub row Set) nack w e)
+says_behind p sub row (Ok u) r w e = says p sub row r w e
+
 -- a SET of the table that keeps its data, and that these devices have, isn't left out
 kept_row : (left : Bool) (first later : Option Row) (is_root : Bool) → keeps (command_in first Set) ≡ true → is_ok (access (cond left None (row_or first later)) is_root Set) ≡ true → (left ≡ false) × (cond left None (row_or first later) ≡ first)
 kept_row true first later is_root kept e = absurd cc
@@ -134,7 +139,7 @@ unfolding accepted
 of_accepted p sub pid bytes reply (Err nack) e apart kept told = absurd cc
 of_accepted p sub pid bytes reply (Ok w) e apart kept told =
     let row : Option Row = row_at p.profile pid in
-    let at = says p sub row (read (command_in row Set) bytes) w e in
+    let at = says_behind p sub row (unprotected p.profile pid Set bytes) (read (command_in row Set) bytes) w e in
     let is = kept_row (is_left_out p.profile pid) (row_of pid) (row_in (added_rows p.profile) pid) (sub == 0) kept at.allowed in
     let same : row ≡ row_of pid = is.1 in
     let quick : is_slow (command_in row Set) ≡ false = no_reply (way_of (command_in row Set)) _ _ _ reply told in

@@ -83,6 +83,7 @@ shape_facts pid (shapes.Slots n) d = tt
 shape_facts pid shapes.Choice d = tt
 shape_facts pid shapes.Names d = tt
 shape_facts pid shapes.Rates d = tt
+shape_facts pid shapes.Scenes d = tt
 
 get_facts : (pid : ℕ) (d : ParameterDef) (has : Bool) → Facts pid Get (cond has (gets_added d.shape d d.pid) None)
 get_facts pid d true = shape_facts pid d.shape d

@@ -14,7 +14,7 @@ use Rattle.rdm_params.specs.declared.jobs.way.Way.{Way}
 use Rattle.rdm_params.specs.declared.jobs.way.Way.TheVariants.{AtOnce, ByJob, FromQueue, FromStatus, Clears}
 use Rattle.rdm_device.specs.declared.value.Value.{Value}
 use Rattle.rdm_device.specs.declared.value.Value.TheVariants.{Byte}
-use Rattle.rdm_params.specs.Commands.Commands.{command_of, command_at, accepted, read_data, after_set, after_accepted, carried_out, written, added_written, addressed, root_spot, sub_spot, is_all_call, is_some_device, known, suits, check, ◌>>=◌}
+use Rattle.rdm_params.specs.Commands.Commands.{command_of, command_at, accepted, read_data, after_set, after_accepted, carried_out, written, added_written, addressed, root_spot, sub_spot, is_all_call, is_some_device, known, unprotected, suits, check, ◌>>=◌}
 use Rattle.rdm_params.specs.Commands.Panel.{changed_pid, changed_value, can_change, after_change}
 use Rattle.rdm_params.specs.Commands.Placing.{place_refusal, after_value, after_place, has_set, own_at, own_placed}
 use Rattle.rdm_device.specs.declared.profile.own.ParameterDef.{ParameterDef}
@@ -113,7 +113,8 @@ slow_range verb false None later slow decides = absurd cc
 slow_range verb false (Some r) later slow decides = decides
 
 abbrev accepted_by : Parameters → Profile → ℕ → ℕ → Verb → List ℕ → Result Value Nack
-accepted_by p profile sub pid verb bytes = known p sub (row_at profile pid) verb >>= (λ u. read_data p sub (command_in (row_at profile pid) verb) verb bytes)
+accepted_by p profile sub pid verb bytes =
+    known p sub (row_at profile pid) verb >>= (λ u. unprotected profile pid verb bytes >>= (λ w. read_data p sub (command_in (row_at profile pid) verb) verb bytes))
 
 pub stays_accepted : StaysAccepted
 unfolding accepted
@@ -121,8 +122,10 @@ stays_accepted p q sub pid verb bytes same slow =
     let row : Option Row = row_at p.profile pid in
     let command : Option Command = command_in row verb in
     let decides : Decides command = slow_range verb (is_left_out p.profile pid) (row_of pid) (row_in (added_rows p.profile) pid) slow (λ s t v e. profile_decides pid verb (command_of pid verb) (facts_of pid verb) slow s t v e) in
-    let rest : Parameters → Unit {0} → Result Value Nack = λ d u. read command bytes >>= (λ value. suits d sub command verb value >>= (λ w. Ok value)) in
-    ap (λ (profile : Profile). accepted_by q profile sub pid verb bytes) same.profile ∙ ap (λ (r : Result (Unit {0}) Nack). r >>= rest q) (known_alike p q sub row verb same) ∙ then_same (known p sub row verb) (rest q) (rest p) (λ u. then_same (read command bytes) _ _ (λ value. ap (λ (r : Result (Unit {0}) Nack). r >>= (λ w. Ok value)) (suits_alike p q sub command verb value same decides)))
+    let free : Result (Unit {0}) Nack = unprotected p.profile pid verb bytes in
+    let later : Parameters → Unit {0} → Result Value Nack = λ d u. read command bytes >>= (λ value. suits d sub command verb value >>= (λ w. Ok value)) in
+    let rest : Parameters → Unit {0} → Result Value Nack = λ d u. free >>= later d in
+    ap (λ (profile : Profile). accepted_by q profile sub pid verb bytes) same.profile ∙ ap (λ (r : Result (Unit {0}) Nack). r >>= rest q) (known_alike p q sub row verb same) ∙ then_same (known p sub row verb) (rest q) (rest p) (λ u. then_same free (later q) (later p) (λ w. then_same (read command bytes) _ _ (λ value. ap (λ (r : Result (Unit {0}) Nack). r >>= (λ w. Ok value)) (suits_alike p q sub command verb value same decides))))
 
 -- ---- the devices after a SET and after the end of a job
 

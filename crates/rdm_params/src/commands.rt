@@ -228,7 +228,7 @@ impl Devices {
 
     /// What a SET answers, or the first reason to reject it. `changed` tells whether it changed a value.
     #[inline(always)]
-    #[tactic(auto, unfolding(crate::specs::Commands::Commands::answer_to_set, crate::specs::Commands::Commands::after_set, crate::specs::Commands::Commands::accepted), using(crate::proofs::AddedCommands::tabled, crate::proofs::AddedCommands::lacking_set, crate::proofs::AddedCommands::lacking_leaves))]
+    #[tactic(auto, unfolding(crate::specs::Commands::Commands::answer_to_set, crate::specs::Commands::Commands::after_set, crate::specs::Commands::Commands::accepted), using(crate::proofs::AddedCommands::tabled, crate::proofs::AddedCommands::tabled_free, crate::proofs::AddedCommands::lacking_set, crate::proofs::AddedCommands::lacking_leaves))]
     fn try_set(
         &mut self,
         sub: u16,

@@ -1,4 +1,4 @@
-use Rattle.std.proofs.Common.{rules, ◌≡◌, Some, true}
+use Rattle.std.proofs.Common.{rules, ◌≡◌, Some, true, false}
 use Rattle.rdm_device.specs.Columns.Added.{set_form, takes}
 use Rattle.rdm_device.specs.Columns.Forms.{value_of}
 use Rattle.rdm_device.specs.Device.OwnParameters.{has_set}
@@ -11,4 +11,5 @@ returns-clause-added c spot same =
     let set : has_set c.args.def.now.rights ≡ true = search rules in
     let value : value_of (set_form c.args.def.now) c.args.data.now ≡ Some c.in-Some.value = search rules in
     let inside : takes c.args.def.now c.in-Some.value ≡ true = search rules in
-    set_stores c.args.def.now spot c.args.data.now c.in-Some.value (added_entries c.args.own.now.added.items) (added_entries c.store_set.new.own.added.items) set value inside same (c.store_set.ensures.after spot same)
+    let free : c.args.protected ≡ false = search rules in
+    set_stores c.args.def.now c.args.protected spot c.args.data.now c.in-Some.value (added_entries c.args.own.now.added.items) (added_entries c.store_set.new.own.added.items) set free value inside same (c.store_set.ensures.after spot same)
