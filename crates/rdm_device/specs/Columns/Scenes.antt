@@ -1,6 +1,6 @@
 -- What is kept of scenes, and how it is read and written. E1.37-1, PRESET_STATUS.
 use Rattle.std.specs.Prelude.{ℕ, zero, suc, ◌%◌, Bool, false, ◌==◌, ◌&&◌, nat_le, List, [], ◌∷◌, ◌++◌, length, take, drop, replicate, slice_index, if◌then◌else◌}
-use Rattle.std.specs.Int.{w16, w64, from_be_bytes, cast_unsigned}
+use Rattle.std.specs.Int.{w64, cast_unsigned}
 use Rattle.rdm_device.specs.declared.profile.own.ParameterDef.{ParameterDef}
 use Rattle.rdm_device.specs.declared.profile.own.Shape.{Shape}
 use Rattle.rdm_device.specs.declared.profile.own.Shape.TheVariants as shapes
@@ -10,7 +10,7 @@ use Rattle.rdm_device.specs.Columns.Ranges.{Range, for_word}
 use Rattle.rdm_device.specs.Device.Choices.{greatest}
 use Rattle.rdm_device.specs.Device.Map.{Entry, entry, lookup}
 use Rattle.rdm_device.specs.Device.Spot.{Spot}
-use Rattle.rdm_device.specs.Device.Values.{word_slots, word_or_0}
+use Rattle.rdm_device.specs.Device.Values.{front_word, word_slots, word_or_0}
 
 -- whether it is the number of a scene
 abbrev pub is_scene : ParameterDef → ℕ → Bool
@@ -52,7 +52,7 @@ scene_shown d spot v = word_slots (word_or_0 v) ++ lookup spot.added d.pid (word
 
 -- the number of the scene
 abbrev pub scene_of : List ℕ → ℕ
-scene_of slots = from_be_bytes w16 (take 2 slots)
+scene_of slots = front_word slots
 
 -- a scene that there is, and that is or isn't cleared
 abbrev pub is_set_of : ParameterDef → List ℕ → Bool

@@ -231,6 +231,18 @@ fn kept_of(values: &[Kept], pid: u16, index: u16) -> Option<&Kept>
         .find(|kept| kept.pid == pid && kept.index == index)
 }
 
+/// The bytes at a key, and none if there is no such key.
+#[tactic(auto, using(crate::proofs::Added::kept_is))]
+fn bytes_at(values: &[Kept], pid: u16, index: u16) -> &[u8]
+    ensures value { result.now ≡ lookup (added_entries values.now) pid index }
+    ensures few { length result.now ≤ 32 }
+{
+    match kept_of(values, pid, index) {
+        Some(kept) => kept.bytes.as_slice(),
+        None => &[],
+    }
+}
+
 /// What is kept of a parameter that the maker adds, if there is one with this PID: its data, whether or not it has a GET.
 #[tactic(auto, using(crate::proofs::Added::value_is))]
 pub fn value_of(values: &[Kept], pid: u16) -> Option<&[u8]>

@@ -3,11 +3,10 @@
 ghost use Rattle.std.specs.Prelude.{◌≡◌, ◌≤◌, ◌++◌, [], length, slice_index, take, drop, OnOk};
 ghost use Rattle.rdm_device.specs.Columns.Forms.{word};
 ghost use Rattle.rdm_device.specs.Columns.Scenes.{is_scene, read_only, programmed_at_start, scene_at_start, scenes_to, scenes_by, a_scene, scene_shown, scene_of, is_set_of, scene_kept, is_of_read_only, protects_by};
-ghost use Rattle.rdm_device.specs.Device.Map.{lookup};
 ghost use Rattle.rdm_device.specs.Device.Spot.{Spot};
 ghost use Rattle.rdm_device.specs.Views.State.{added_entries, kept_entry};
 
-use crate::columns::added::{greatest, kept_of};
+use crate::columns::added::{bytes_at, greatest};
 use crate::device::Place;
 use crate::device::state::Kept;
 use crate::value::argument::Argument;
@@ -90,29 +89,24 @@ pub fn scene_shown(place: &Place<'_>, def: &ParameterDef, value: &Argument<'_>, 
     let number = value.word().unwrap_or(0);
     body.append(&number.to_be_bytes());
     if let Some(own) = place.own {
-        append_kept(own.added.as_slice(), def.pid, number, body);
+        body.append(bytes_at(own.added.as_slice(), def.pid, number));
     }
 }
 
-/// Appends what is kept at a key, if there is anything.
-#[tactic(auto, using(crate::proofs::Added::kept_is))]
-fn append_kept(values: &[Kept], pid: u16, index: u16, body: &mut Body)
-    requires { length body.old ≤ 2 }
-    ensures { body.new ≡ body.old ++ lookup (added_entries values.now) pid index }
-{
-    if let Some(kept) = kept_of(values, pid, index) {
-        body.append(kept.bytes.as_slice());
-    }
-}
-
-/// The number of the scene that slots begin with, or less if they are fewer than two.
+/// The number of the scene that slots begin with.
 pub(crate) fn scene_of(slots: &[u8]) -> u16
     ensures { result ≡ scene_of slots.now }
 {
-    match slots {
-        [a, b, ..] => u16::from_be_bytes([*a, *b]),
-        [a] => *a as u16,
-        [] => 0,
+    256 * slot_at(slots, 0) as u16 + slot_at(slots, 1) as u16
+}
+
+/// A slot, or 0 if there are fewer.
+fn slot_at(slots: &[u8], place: usize) -> u8
+    ensures { result ≡ slice_index slots.now place }
+{
+    match slots.get(place) {
+        Some(slot) => *slot,
+        None => 0,
     }
 }
 
@@ -127,10 +121,7 @@ pub(crate) fn is_set_of(def: &ParameterDef, slots: &[u8]) -> bool
 fn clearing_of(slots: &[u8]) -> u8
     ensures { result ≡ slice_index slots.now 8 }
 {
-    match slots.get(8) {
-        Some(clearing) => *clearing,
-        None => 0,
-    }
+    slot_at(slots, 8)
 }
 
 /// What is kept of a scene: its times, and that it is programmed; or nothing, if it is cleared.
