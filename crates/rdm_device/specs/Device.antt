@@ -4,6 +4,7 @@ pub mod Estimates
 pub mod Faults
 pub mod Fields
 pub mod LeftOut
+pub mod Locks
 pub mod Map
 pub mod Measuring
 pub mod OwnParameters

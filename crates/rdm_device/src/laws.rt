@@ -3,7 +3,7 @@
 ghost use Rattle.std.specs.Prelude.{◌≡◌, ◌↔◌, IsTrue};
 
 use crate::{
-    ChoiceName, Estimates, Field, ParameterDef, Personality, Profile, ProfileFault, Rights,
+    ChoiceName, Estimates, Field, Lock, ParameterDef, Personality, Profile, ProfileFault, Rights,
     SelfTest, SensorDef, Shape, Slot, StatusText, Unit, Value, Width, Worker, Workers,
 };
 
@@ -66,6 +66,11 @@ pub fn choice_names_are_equal_by_value()
     ensures { (a b : ChoiceName) → IsTrue (⟦<ChoiceName as PartialEq>⟧.eq a b) ↔ (a ≡ b) }
 {}
 
+/// Two locks are equal by `==` exactly when their states and their PIDs are.
+pub fn locks_are_equal_by_value()
+    ensures { (a b : Lock) → IsTrue (⟦<Lock as PartialEq>⟧.eq a b) ↔ (a ≡ b) }
+{}
+
 /// Two parameters of the maker's own are equal by `==` exactly when each of their fields is.
 pub fn parameter_defs_are_equal_by_value()
     ensures { (a b : ParameterDef) → IsTrue (⟦<ParameterDef as PartialEq>⟧.eq a b) ↔ (a ≡ b) }
@@ -103,6 +108,7 @@ pub fn profiles_are_equal_by_value()
     status_texts_are_equal_by_value();
     parameter_defs_are_equal_by_value();
     choice_names_are_equal_by_value();
+    locks_are_equal_by_value();
     estimates_are_equal_by_value();
     choices_of_workers_are_equal_by_value();
 }

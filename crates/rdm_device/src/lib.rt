@@ -16,12 +16,12 @@ pub use device::measuring::{measure, place_measured};
 pub use device::state::{CommonValues, Kept, Measured, RootValues};
 pub use laws::{
     choice_names_are_equal_by_value, choices_of_workers_are_equal_by_value,
-    estimates_are_equal_by_value, fields_are_equal_by_value, parameter_defs_are_equal_by_value,
-    personalities_are_equal_by_value, profile_faults_are_equal_by_value,
-    profiles_are_equal_by_value, rights_are_equal_by_value, self_tests_are_equal_by_value,
-    sensor_defs_are_equal_by_value, shapes_are_equal_by_value, slots_are_equal_by_value,
-    status_texts_are_equal_by_value, units_are_equal_by_value, values_are_equal_by_value,
-    widths_are_equal_by_value, workers_are_equal_by_value,
+    estimates_are_equal_by_value, fields_are_equal_by_value, locks_are_equal_by_value,
+    parameter_defs_are_equal_by_value, personalities_are_equal_by_value,
+    profile_faults_are_equal_by_value, profiles_are_equal_by_value, rights_are_equal_by_value,
+    self_tests_are_equal_by_value, sensor_defs_are_equal_by_value, shapes_are_equal_by_value,
+    slots_are_equal_by_value, status_texts_are_equal_by_value, units_are_equal_by_value,
+    values_are_equal_by_value, widths_are_equal_by_value, workers_are_equal_by_value,
 };
 pub use profile::checks::is_good;
 pub use profile::choices::{ChoiceName, ChoiceNames};
@@ -29,6 +29,7 @@ pub use profile::estimates::Estimates;
 pub use profile::faults::{ProfileFault, profile_fault, profile_fault_with};
 pub use profile::fields::{Field, Width};
 pub use profile::left_out::{are_optional, leave_no_need};
+pub use profile::locks::{Lock, Locks};
 pub use profile::own::{OwnParameters, ParameterDef, Rights, Shape};
 pub use profile::own_checks::is_addable;
 pub use profile::workers::{Worker, Workers};

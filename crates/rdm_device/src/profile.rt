@@ -10,6 +10,7 @@ pub(crate) mod faults;
 pub(crate) mod field_checks;
 pub(crate) mod fields;
 pub(crate) mod left_out;
+pub(crate) mod locks;
 mod making;
 pub(crate) mod own;
 pub(crate) mod own_checks;
@@ -18,7 +19,7 @@ pub(crate) mod workers;
 
 ghost use Rattle.std.specs.Prelude.{◌≡◌};
 
-use crate::{ChoiceNames, Estimates, OwnParameters, Workers};
+use crate::{ChoiceNames, Estimates, Locks, OwnParameters, Workers};
 use arrayvec::ArrayVec;
 use rdm_frame::Text;
 
@@ -159,6 +160,8 @@ pub struct Profile {
     pub own: OwnParameters,
     /// What the things are called of which parameters let choose one, by ascending PID and number.
     pub choices: ChoiceNames,
+    /// Which parameters the lock states keep from being set.
+    pub locks: Locks,
     /// The PIDs of the standard's parameters that the device doesn't have. Most devices need not have them (table A-3).
     pub without: ArrayVec<u16, 36>,
     /// How many DMX512 slots the root device uses beside those that `slots` describes.

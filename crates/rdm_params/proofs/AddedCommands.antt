@@ -1,12 +1,12 @@
 -- Commands of PIDs that the table doesn't have, or that a profile leaves out.
-use Rattle.std.proofs.Common.{◌≡◌, ◌≢◌, ℕ, ◌==◌, ◌&&◌, Bool, true, false, cond, List, [], length, Option, Some, None, Result, Ok, Err, refl, sym, ap, subst, ◌∙◌}
-use Rattle.std.specs.Prelude.{is_some, is_ok, find, IfOk, IfErr}
+use Rattle.std.proofs.Common.{◌≡◌, ◌≢◌, ℕ, ◌==◌, ◌&&◌, ◌||◌, not, Bool, true, false, cond, List, [], length, Option, Some, None, Result, Ok, Err, refl, sym, ap, subst, ◌∙◌}
+use Rattle.std.specs.Prelude.{is_some, is_ok, find, take, nat_lt, IfOk, IfErr}
 use Rattle.std.specs.Option.{option_map_or}
 use Rattle.std.proofs.lemmas.Bool.{ne_eqb}
 use Rattle.rdm_params.specs.declared.kind.Verb.{Verb}
 use Rattle.rdm_params.specs.declared.kind.Verb.TheVariants.{Get, Set}
 use Rattle.rdm_params.specs.declared.nack.Nack.{Nack}
-use Rattle.rdm_params.specs.declared.nack.Nack.TheVariants.{FormatError, UnknownPid, UnsupportedCommandClass, DataOutOfRange, SubDeviceOutOfRange}
+use Rattle.rdm_params.specs.declared.nack.Nack.TheVariants.{WriteProtect, FormatError, UnknownPid, UnsupportedCommandClass, DataOutOfRange, SubDeviceOutOfRange}
 use Rattle.rdm_params.specs.declared.jobs.way.Way.{Way}
 use Rattle.rdm_params.specs.declared.jobs.way.Way.TheVariants.{AtOnce}
 use Rattle.rdm_params.specs.declared.verdict.Verdict.{Verdict}
@@ -15,6 +15,8 @@ use Rattle.rdm_device.specs.declared.profile.own.ParameterDef.{ParameterDef}
 use Rattle.rdm_device.specs.declared.profile.Profile.{Profile}
 use Rattle.rdm_device.specs.Columns.Added.{set_form, set_range, takes, own_stored, is_pid_of}
 use Rattle.rdm_device.specs.Columns.Scenes.{protects_by}
+use Rattle.rdm_device.specs.Device.Locks.{is_locked, is_no_pin, pin_kept}
+use Rattle.std.specs.Int.{w16, from_be_bytes}
 use Rattle.rdm_device.specs.Columns.Forms.{has_length, value_in, value_of}
 use Rattle.rdm_device.specs.Device.OwnParameters.{has_set}
 use Rattle.rdm_device.specs.declared.value.Value.{Value}
@@ -22,12 +24,12 @@ use Rattle.rdm_device.specs.Device.Map.{Entry, update}
 use Rattle.rdm_device.specs.Device.Parameters.{Parameters}
 use Rattle.rdm_device.specs.Device.Spot.{Spot}
 use Rattle.rdm_params.specs.Commands.Added.{row_here, handed_with, handed_here, reply_here, after_with, after_here, stored_here}
-use Rattle.rdm_params.specs.Commands.Commands.{command_at, accepted, is_protected, unprotected, read_data, read_data_at, addressed, is_some_device, is_all_call, root_spot, verdict, answered, work, got, answer_to_set, after_set, after_accepted, carried_out, added_written, check, ◌>>=◌}
+use Rattle.rdm_params.specs.Commands.Commands.{command_of, command_at, accepted, is_read_only, is_lockable, open_to, unprotected, read_data, read_data_at, addressed, is_some_device, is_all_call, root_spot, verdict, answered, work, got, answer_to_set, after_set, after_accepted, carried_out, added_written, check, ◌>>=◌}
 use Rattle.rdm_params.specs.Jobs.Asks.{ask_of}
 use Rattle.rdm_params.specs.Table.Rows.{Command, Row, row_of, row_or, row_at, table, is_left_out, added_row, takes_added, command_in}
 use Rattle.rdm_params.specs.Table.Uses.{access, change, reply, way_of, way_at, way_here, is_by_job}
 use Rattle.rdm_device.specs.Device.Values.{byte_or_0}
-use Rattle.rdm_params.proofs.AddedRows.{here_is, update_leaves}
+use Rattle.rdm_params.proofs.AddedRows.{here_is, parameter_is, update_leaves}
 use Rattle.rdm_params.proofs.ReadData.{one_device}
 use Rattle.rdm_params.proofs.Supported.{nothing_added, row_alone}
 
@@ -57,7 +59,7 @@ refuses false r f nack h e = absurd cc
 not_accepted : (p : Parameters) (sub pid : ℕ) (verb : Verb) (bytes : List ℕ) (nack : Nack) → is_some_device (addressed p sub verb) ≡ true → access (row_at p.profile pid) (sub == 0) verb ≡ Err nack → accepted p sub pid verb bytes ≡ Err nack
 unfolding accepted
 not_accepted p sub pid verb bytes nack here e =
-    refuses (is_some_device (addressed p sub verb)) (access (row_at p.profile pid) (sub == 0) verb) (λ u. unprotected p.profile pid verb bytes >>= (λ w. read_data p sub (command_at p pid verb) verb bytes)) nack here e
+    refuses (is_some_device (addressed p sub verb)) (access (row_at p.profile pid) (sub == 0) verb) (λ u. unprotected p.profile p.added pid (command_at p pid verb) verb bytes >>= (λ w. read_data p sub (command_at p pid verb) verb bytes)) nack here e
 
 refused_get : (p : Parameters) (sub pid : ℕ) (bytes : List ℕ) (nack : Nack) → is_some_device (addressed p sub Get) ≡ true → access (row_at p.profile pid) (sub == 0) Get ≡ Err nack → got p sub pid bytes ≡ Refuse nack
 unfolding got
@@ -139,8 +141,8 @@ no_all_call : (verb : Verb) → is_all_call 0 verb ≡ false
 no_all_call Get = refl
 no_all_call Set = refl
 
-abbrev taken_at_root : Parameters → Result (Unit {0}) Nack → Option Row → Verb → List ℕ → Result Value Nack
-taken_at_root p free row verb bytes = access row true verb >>= (λ u. free >>= (λ w. read_data p 0 (command_in row verb) verb bytes))
+abbrev taken_at_root : Parameters → ℕ → Option Row → Verb → List ℕ → Result Value Nack
+taken_at_root p pid row verb bytes = access row true verb >>= (λ u. unprotected p.profile p.added pid (command_in row verb) verb bytes >>= (λ w. read_data p 0 (command_in row verb) verb bytes))
 
 then_alike : (r : Result (Unit {0}) Nack) (f g : Unit {0} → Result Value Nack) → ((u : Unit {0}) → f u ≡ g u) → (r >>= f) ≡ (r >>= g)
 then_alike (Ok u) f g same = same u
@@ -150,8 +152,8 @@ pub accepted_here : (p : Parameters) (pid : ℕ) (verb : Verb) (bytes : List ℕ
 unfolding accepted
 accepted_here p pid verb bytes e =
     let here = row_here p.profile pid in
-    let free : Result (Unit {0}) Nack = unprotected p.profile pid verb bytes in
-    ap (λ (row : Option Row). taken_at_root p free row verb bytes) e ∙ then_alike (access here true verb) (λ u. free >>= (λ w. read_data p 0 (command_in here verb) verb bytes)) (λ u. free >>= (λ w. read_data_at (command_in here verb) (root_spot p) bytes)) (λ u. then_alike free (λ w. read_data p 0 (command_in here verb) verb bytes) (λ w. read_data_at (command_in here verb) (root_spot p) bytes) (λ w. one_device p 0 (command_in here verb) verb (root_spot p) bytes refl (no_all_call verb)))
+    let free : Result (Unit {0}) Nack = unprotected p.profile p.added pid (command_in here verb) verb bytes in
+    ap (λ (row : Option Row). taken_at_root p pid row verb bytes) e ∙ then_alike (access here true verb) (λ u. free >>= (λ w. read_data p 0 (command_in here verb) verb bytes)) (λ u. free >>= (λ w. read_data_at (command_in here verb) (root_spot p) bytes)) (λ u. then_alike free (λ w. read_data p 0 (command_in here verb) verb bytes) (λ w. read_data_at (command_in here verb) (root_spot p) bytes) (λ w. one_device p 0 (command_in here verb) verb (root_spot p) bytes refl (no_all_call verb)))
 
 abbrev reply_of : List ℕ → Verdict
 reply_of body = Reply body
@@ -261,40 +263,107 @@ read_is false x v e = absurd cc
 abbrev row_with : ParameterDef → Bool → Row
 row_with d set = record { pid = d.pid; root_only = true; get = (added_row d).get; set = cond set (takes_added (set_form d) (set_range d) (own_stored d) d.pid) None }
 
-pub set_stores : (d : ParameterDef) (protected : Bool) (spot : Spot) (bytes : List ℕ) (v : Value) (old new : List Entry) → has_set d.rights ≡ true → protected ≡ false → value_of (set_form d) bytes ≡ Some v → takes d v ≡ true → spot.added ≡ old → new ≡ update (own_stored d spot v) old → new ≡ after_with protected spot (Some (added_row d)) bytes
-set_stores d protected spot bytes v old new set free value inside same e =
-    let handed : handed_with false spot (Some (row_with d true)) Set bytes ≡ ok v = ap (λ (r : Result Value Nack). r >>= taken_by (takes d)) (read_is (has_length (set_form d) (length bytes)) (value_in (set_form d) bytes) v value) ∙ ap (λ (b : Bool). check b DataOutOfRange >>= (λ u. ok v)) inside in
-    sym (ap (λ (b : Bool). after_with b spot (Some (added_row d)) bytes) free ∙ ap (λ (b : Bool). after_with false spot (Some (row_with d b)) bytes) set ∙ ap (stored_here spot (takes_added (set_form d) (set_range d) (own_stored d) d.pid)) handed ∙ ap (update (own_stored d spot v)) same ∙ sym e)
+pub set_stores : (d : ParameterDef) (protected no_pin : Bool) (spot : Spot) (bytes : List ℕ) (v : Value) (old new : List Entry) → has_set d.rights ≡ true → protected ≡ false → no_pin ≡ false → value_of (set_form d) bytes ≡ Some v → takes d (pin_kept spot.added) v ≡ true → spot.added ≡ old → new ≡ update (own_stored d spot v) old → new ≡ after_with (open_to protected no_pin) spot (Some (added_row d)) bytes
+set_stores d protected no_pin spot bytes v old new set free fit value inside same e =
+    let handed : handed_with (Ok tt) spot (Some (row_with d true)) Set bytes ≡ ok v = ap (λ (r : Result Value Nack). r >>= taken_by (takes d (pin_kept spot.added))) (read_is (has_length (set_form d) (length bytes)) (value_in (set_form d) bytes) v value) ∙ ap (λ (b : Bool). check b DataOutOfRange >>= (λ u. ok v)) inside in
+    sym (ap (λ (b : Bool). after_with (open_to b no_pin) spot (Some (added_row d)) bytes) free ∙ ap (λ (b : Bool). after_with (open_to false b) spot (Some (added_row d)) bytes) fit ∙ ap (λ (b : Bool). after_with (Ok tt) spot (Some (row_with d b)) bytes) set ∙ ap (stored_here spot (takes_added (set_form d) (set_range d) (own_stored d) d.pid)) handed ∙ ap (update (own_stored d spot v)) same ∙ sym e)
 
-pub set_ok_at : {A : Type 0} (p : Parameters) (pid : ℕ) (bytes : List ℕ) (d : ParameterDef) (protected : Bool) (r : Result A Nack) → row_here p.profile pid ≡ Some (added_row d) → protected ≡ is_protected p.profile pid Set bytes → IfOk r (λ u. (spot : Spot) → is_ok (handed_with protected spot (Some (added_row d)) Set bytes) ≡ true) → IfOk r (λ u. is_ok (handed_here (root_spot p) pid (row_here p.profile pid) Set bytes) ≡ true)
-set_ok_at p pid bytes d protected (Err n) e f h = tt
-set_ok_at p pid bytes d protected (Ok u) e f h =
-    ap (λ (row : Option Row). is_ok (handed_here (root_spot p) pid row Set bytes)) e ∙ ap (λ (b : Bool). is_ok (handed_with b (root_spot p) (Some (added_row d)) Set bytes)) (sym f) ∙ h (root_spot p)
+-- what the root's own parameter is tested by, in the words of every command
+quick_set : (d : ParameterDef) → is_some (added_row d).set ≡ true → is_lockable (added_row d).set ≡ true
+quick_set d some = quick_at (added_row d).set some ((parameter_is d).way Set)
+  where
+    quick_at : (o : Option Command) → is_some o ≡ true → way_of o ≡ AtOnce → is_lockable o ≡ true
+    quick_at None some at_once = absurd cc
+    quick_at (Some c) some at_once = ap (λ (way : Way). not (is_by_job way)) at_once
 
-pub set_err_at : {A : Type 0} (p : Parameters) (pid : ℕ) (bytes : List ℕ) (d : ParameterDef) (protected : Bool) (r : Result A Nack) → row_here p.profile pid ≡ Some (added_row d) → protected ≡ is_protected p.profile pid Set bytes → IfErr r (λ nack. (spot : Spot) → handed_with protected spot (Some (added_row d)) Set bytes ≡ Err nack) → IfErr r (λ nack. handed_here (root_spot p) pid (row_here p.profile pid) Set bytes ≡ Err nack)
-set_err_at p pid bytes d protected (Ok u) e f h = tt
-set_err_at p pid bytes d protected (Err n) e f h =
-    ap (λ (row : Option Row). handed_here (root_spot p) pid row Set bytes) e ∙ ap (λ (b : Bool). handed_with b (root_spot p) (Some (added_row d)) Set bytes) (sym f) ∙ h (root_spot p)
+open_as : (read locked lockable no_pin : Bool) → lockable ≡ true → open_to (read || (locked && lockable)) no_pin ≡ open_to (read || locked) no_pin
+open_as true locked lockable no_pin e = refl
+open_as false true true no_pin e = refl
+open_as false true false no_pin e = absurd cc
+open_as false false lockable no_pin e = refl
+
+abbrev IsTestOf : Parameters → ℕ → List ℕ → ParameterDef → Bool → Bool → Type 0
+IsTestOf p pid bytes d protected no_pin =
+    (protected ≡ (is_read_only p.profile.own pid bytes || is_locked p.profile.locks p.added pid)) × (no_pin ≡ is_no_pin pid bytes)
+
+test_is : (p : Parameters) (pid : ℕ) (bytes : List ℕ) (d : ParameterDef) (protected no_pin : Bool) → is_some (added_row d).set ≡ true → IsTestOf p pid bytes d protected no_pin → open_to protected no_pin ≡ unprotected p.profile p.added pid (added_row d).set Set bytes
+test_is p pid bytes d protected no_pin some is =
+    ap (λ (b : Bool). open_to b no_pin) is.0 ∙ ap (λ (b : Bool). open_to (is_read_only p.profile.own pid bytes || is_locked p.profile.locks p.added pid) b) is.1
+    ∙ sym (open_as (is_read_only p.profile.own pid bytes) (is_locked p.profile.locks p.added pid) (is_lockable (added_row d).set) (is_no_pin pid bytes) (quick_set d some))
+
+-- where there is no SET it is refused before
+no_set : (free other : Result (Unit {0}) Nack) (spot : Spot) (d : ParameterDef) (bytes : List ℕ) → is_some (added_row d).set ≡ false → handed_with free spot (Some (added_row d)) Set bytes ≡ handed_with other spot (Some (added_row d)) Set bytes
+no_set free other spot d bytes none =
+    ap (λ (b : Bool). cond b (Ok tt) (Err UnsupportedCommandClass) >>= (λ found. free >>= (λ passed. read_data_at (added_row d).set spot bytes))) none
+    ∙ sym (ap (λ (b : Bool). cond b (Ok tt) (Err UnsupportedCommandClass) >>= (λ found. other >>= (λ passed. read_data_at (added_row d).set spot bytes))) none)
+
+handed_as : (p : Parameters) (pid : ℕ) (bytes : List ℕ) (d : ParameterDef) (protected no_pin some : Bool) → is_some (added_row d).set ≡ some → IsTestOf p pid bytes d protected no_pin → handed_with (open_to protected no_pin) (root_spot p) (Some (added_row d)) Set bytes ≡ handed_here (root_spot p) pid (Some (added_row d)) Set bytes
+handed_as p pid bytes d protected no_pin true some is = ap (λ (free : Result (Unit {0}) Nack). handed_with free (root_spot p) (Some (added_row d)) Set bytes) (test_is p pid bytes d protected no_pin some is)
+handed_as p pid bytes d protected no_pin false none is = no_set (open_to protected no_pin) (unprotected p.profile p.added pid (added_row d).set Set bytes) (root_spot p) d bytes none
+
+handed_is : (p : Parameters) (pid : ℕ) (bytes : List ℕ) (d : ParameterDef) (protected no_pin : Bool) → IsTestOf p pid bytes d protected no_pin → handed_with (open_to protected no_pin) (root_spot p) (Some (added_row d)) Set bytes ≡ handed_here (root_spot p) pid (Some (added_row d)) Set bytes
+handed_is p pid bytes d protected no_pin is = handed_as p pid bytes d protected no_pin (is_some (added_row d).set) refl is
+
+pub set_ok_at : {A : Type 0} (p : Parameters) (pid : ℕ) (bytes : List ℕ) (d : ParameterDef) (protected no_pin : Bool) (r : Result A Nack) → row_here p.profile pid ≡ Some (added_row d) → IsTestOf p pid bytes d protected no_pin → IfOk r (λ u. (spot : Spot) → spot.added ≡ p.added → is_ok (handed_with (open_to protected no_pin) spot (Some (added_row d)) Set bytes) ≡ true) → IfOk r (λ u. is_ok (handed_here (root_spot p) pid (row_here p.profile pid) Set bytes) ≡ true)
+set_ok_at p pid bytes d protected no_pin (Err n) e f h = tt
+set_ok_at p pid bytes d protected no_pin (Ok u) e f h =
+    ap (λ (row : Option Row). is_ok (handed_here (root_spot p) pid row Set bytes)) e ∙ ap is_ok (sym (handed_is p pid bytes d protected no_pin f)) ∙ h (root_spot p) refl
+
+pub set_err_at : {A : Type 0} (p : Parameters) (pid : ℕ) (bytes : List ℕ) (d : ParameterDef) (protected no_pin : Bool) (r : Result A Nack) → row_here p.profile pid ≡ Some (added_row d) → IsTestOf p pid bytes d protected no_pin → IfErr r (λ nack. (spot : Spot) → spot.added ≡ p.added → handed_with (open_to protected no_pin) spot (Some (added_row d)) Set bytes ≡ Err nack) → IfErr r (λ nack. handed_here (root_spot p) pid (row_here p.profile pid) Set bytes ≡ Err nack)
+set_err_at p pid bytes d protected no_pin (Ok u) e f h = tt
+set_err_at p pid bytes d protected no_pin (Err n) e f h =
+    ap (λ (row : Option Row). handed_here (root_spot p) pid row Set bytes) e ∙ sym (handed_is p pid bytes d protected no_pin f) ∙ h (root_spot p) refl
 
 -- the values in which those of the root's own parameters are others
-pub set_viewed : (p : Parameters) (root' added' : List Entry) (pid : ℕ) (bytes : List ℕ) (d : ParameterDef) (protected : Bool) → root' ≡ p.root → added' ≡ after_with protected (root_spot p) (Some (added_row d)) bytes → row_here p.profile pid ≡ Some (added_row d) → protected ≡ is_protected p.profile pid Set bytes → record p { root = root'; added = added' } ≡ record p { added = after_here (root_spot p) pid (row_here p.profile pid) bytes }
-set_viewed p root' added' pid bytes d protected e f g h =
-    ap (λ (root : List Entry). record p { root = root; added = added' }) e ∙ ap (λ (added : List Entry). record p { added = added }) (f ∙ ap (λ (b : Bool). after_with b (root_spot p) (Some (added_row d)) bytes) h ∙ ap (λ (row : Option Row). after_here (root_spot p) pid row bytes) (sym g))
+pub set_viewed : (p : Parameters) (root' added' : List Entry) (pid : ℕ) (bytes : List ℕ) (d : ParameterDef) (protected no_pin : Bool) → root' ≡ p.root → added' ≡ after_with (open_to protected no_pin) (root_spot p) (Some (added_row d)) bytes → row_here p.profile pid ≡ Some (added_row d) → IsTestOf p pid bytes d protected no_pin → record p { root = root'; added = added' } ≡ record p { added = after_here (root_spot p) pid (row_here p.profile pid) bytes }
+set_viewed p root' added' pid bytes d protected no_pin e f g h =
+    ap (λ (root : List Entry). record p { root = root; added = added' }) e ∙ ap (λ (added : List Entry). record p { added = added }) (f ∙ ap (stored_here (root_spot p) (added_row d).set) (handed_is p pid bytes d protected no_pin h) ∙ ap (λ (row : Option Row). after_here (root_spot p) pid row bytes) (sym g))
 
--- a row of the table protects nothing, since it has no scenes
+-- ---- a SET of the table
+
 no_scenes : row_of 0x1042 ≡ None
 unfolding row_of table
 no_scenes = refl
 
-not_scenes : (at : Bool) (scenes : Bool) → at ≡ false → (at && scenes) ≡ false
-not_scenes true scenes e = absurd cc
-not_scenes false scenes e = refl
+no_pins : row_of 0x0640 ≡ None
+unfolding row_of table
+no_pins = refl
+
+not_both : (at : Bool) (b : Bool) → at ≡ false → (at && b) ≡ false
+not_both true b e = absurd cc
+not_both false b e = refl
 
 nothing_known : (is_root : Bool) (verb : Verb) → access None is_root verb ≡ Ok tt → ⊥
 nothing_known is_root verb e = cc
 
-pub tabled_free : (profile : Profile) (pid : ℕ) (is_root : Bool) (verb : Verb) (bytes : List ℕ) → access (row_of pid) is_root verb ≡ Ok tt → is_protected profile pid verb bytes ≡ false
-tabled_free profile pid is_root Get bytes e = refl
-tabled_free profile pid is_root Set bytes e =
-    let other : (pid == 0x1042) ≡ false = ne_eqb pid 0x1042 (λ (same : pid ≡ 0x1042). nothing_known is_root Set (ap (λ (row : Option Row). access row is_root Set) (sym no_scenes ∙ ap row_of (sym same)) ∙ e)) in
-    not_scenes (pid == 0x1042) (option_map_or (λ d. protects_by d.shape d bytes) (find (is_pid_of pid) profile.own) false) other
+is_other : (pid n : ℕ) (is_root : Bool) → row_of n ≡ None → access (row_of pid) is_root Set ≡ Ok tt → (pid == n) ≡ false
+is_other pid n is_root none e = ne_eqb pid n (λ (same : pid ≡ n). nothing_known is_root Set (ap (λ (row : Option Row). access row is_root Set) (sym none ∙ ap row_of (sym same)) ∙ e))
+
+-- what the table has can't be only read, and is no PIN
+tabled_open : (profile : Profile) (added : List Entry) (pid : ℕ) (command : Option Command) (is_root : Bool) (bytes : List ℕ) → access (row_of pid) is_root Set ≡ Ok tt → unprotected profile added pid command Set bytes ≡ open_to (is_locked profile.locks added pid && is_lockable command) false
+tabled_open profile added pid command is_root bytes e =
+    ap (λ (b : Bool). open_to (b || (is_locked profile.locks added pid && is_lockable command)) (is_no_pin pid bytes)) (not_both (pid == 0x1042) (option_map_or (λ d. protects_by d.shape d bytes) (find (is_pid_of pid) profile.own) false) (is_other pid 0x1042 is_root no_scenes e))
+    ∙ ap (open_to (is_locked profile.locks added pid && is_lockable command)) (not_both (pid == 0x0640) ((length bytes == 4) && nat_lt 9999 (from_be_bytes w16 (take 2 bytes))) (is_other pid 0x0640 is_root no_pins e))
+
+pub tabled_free : (profile : Profile) (added : List Entry) (pid : ℕ) (is_root : Bool) (bytes : List ℕ) → access (row_of pid) is_root Set ≡ Ok tt → (is_locked profile.locks added pid && is_lockable (command_of pid Set)) ≡ false → unprotected profile added pid (command_of pid Set) Set bytes ≡ Ok tt
+tabled_free profile added pid is_root bytes e free = tabled_open profile added pid (command_of pid Set) is_root bytes e ∙ ap (λ (b : Bool). open_to b false) free
+
+-- what is locked is refused
+locked_accepted : (p : Parameters) (sub pid : ℕ) (bytes : List ℕ) → is_some_device (addressed p sub Set) ≡ true → is_left_out p.profile pid ≡ false → access (row_of pid) (sub == 0) Set ≡ Ok tt → (is_locked p.profile.locks p.added pid && is_lockable (command_of pid Set)) ≡ true → accepted p sub pid Set bytes ≡ Err WriteProtect
+unfolding accepted
+locked_accepted p sub pid bytes here stays e locked =
+    let row : row_at p.profile pid ≡ row_of pid = tabled p.profile pid (sub == 0) Set stays e in
+    let barred : unprotected p.profile p.added pid (command_of pid Set) Set bytes ≡ Err WriteProtect = tabled_open p.profile p.added pid (command_of pid Set) (sub == 0) bytes e ∙ ap (λ (b : Bool). open_to b false) locked in
+    ap (λ (r : Option Row). (check (is_some_device (addressed p sub Set)) SubDeviceOutOfRange >>= (λ u. access r (sub == 0) Set)) >>= (λ u. unprotected p.profile p.added pid (command_in r Set) Set bytes >>= (λ w. read_data p sub (command_in r Set) Set bytes))) row
+    ∙ barred_at (is_some_device (addressed p sub Set)) (access (row_of pid) (sub == 0) Set) (unprotected p.profile p.added pid (command_of pid Set) Set bytes) (λ w. read_data p sub (command_of pid Set) Set bytes) here e barred
+  where
+    barred_at : (b : Bool) (r free : Result (Unit {0}) Nack) (f : Unit {0} → Result Value Nack) → b ≡ true → r ≡ Ok tt → free ≡ Err WriteProtect → ((check b SubDeviceOutOfRange >>= (λ u. r)) >>= (λ u. free >>= f)) ≡ Err WriteProtect
+    barred_at b r free f x y z = rw (x, y, z) refl
+
+pub locked_set : (p : Parameters) (sub pid : ℕ) (bytes : List ℕ) → is_some_device (addressed p sub Set) ≡ true → is_left_out p.profile pid ≡ false → access (row_of pid) (sub == 0) Set ≡ Ok tt → (is_locked p.profile.locks p.added pid && is_lockable (command_of pid Set)) ≡ true → answer_to_set p sub pid bytes ≡ Refuse WriteProtect
+unfolding answer_to_set
+locked_set p sub pid bytes here stays e locked = ap (verdict (after_set p sub pid bytes) sub pid (command_at p pid Set) Set) (locked_accepted p sub pid bytes here stays e locked)
+
+pub locked_leaves : (p : Parameters) (sub pid : ℕ) (bytes : List ℕ) → is_some_device (addressed p sub Set) ≡ true → is_left_out p.profile pid ≡ false → access (row_of pid) (sub == 0) Set ≡ Ok tt → (is_locked p.profile.locks p.added pid && is_lockable (command_of pid Set)) ≡ true → p ≡ after_set p sub pid bytes
+unfolding after_set
+locked_leaves p sub pid bytes here stays e locked = sym (ap (after_accepted p sub (command_at p pid Set)) (locked_accepted p sub pid bytes here stays e locked))

@@ -113,6 +113,8 @@ get_way shapes.Choice d pid = refl
 get_way shapes.Names d pid = refl
 get_way shapes.Rates d pid = refl
 get_way shapes.Scenes d pid = refl
+get_way shapes.Lock d pid = refl
+get_way shapes.Pin d pid = refl
 
 row_way : (d : ParameterDef) (get set : Bool) (verb : Verb) → way_of (command_in (Some (record { pid = d.pid; root_only = true; get = cond get (gets_added d.shape d d.pid) None; set = cond set (takes_added (set_form d) (set_range d) (own_stored d) d.pid) None })) verb) ≡ AtOnce
 row_way d true set Get = get_way d.shape d d.pid
@@ -128,7 +130,7 @@ row_silent : (d : ParameterDef) (set : Bool) (spot : Spot) (v : Value) → reply
 row_silent d true spot v = refl
 row_silent d false spot v = refl
 
-parameter_is : (d : ParameterDef) → IsAdded (added_row d)
+pub parameter_is : (d : ParameterDef) → IsAdded (added_row d)
 parameter_is d = record { root_only = refl; way = row_way d (has_get d.rights) (has_set d.rights); leaves = row_leaves d (has_set d.rights); silent = row_silent d (has_set d.rights) }
 
 description_is : IsAdded description_row

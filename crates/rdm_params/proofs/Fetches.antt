@@ -163,7 +163,7 @@ unfolding accepted
 accepts p sub pid verb bytes v e =
     let command : Option Command = command_at p pid verb in
     let first = then_ok (known p sub (row_at p.profile pid) verb) _ v e in
-    let free = then_ok (unprotected p.profile pid verb bytes) _ v first.1.1 in
+    let free = then_ok (unprotected p.profile p.added pid command verb bytes) _ v first.1.1 in
     let second = then_ok (read command bytes) _ v free.1.1 in
     let third = then_ok (suits p sub command verb second.0) _ v second.1.1 in
     let same : second.0 ≡ v = ok_is second.0 v third.1.1 in

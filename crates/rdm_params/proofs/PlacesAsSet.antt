@@ -139,7 +139,7 @@ unfolding accepted
 of_accepted p sub pid bytes reply (Err nack) e apart kept told = absurd cc
 of_accepted p sub pid bytes reply (Ok w) e apart kept told =
     let row : Option Row = row_at p.profile pid in
-    let at = says_behind p sub row (unprotected p.profile pid Set bytes) (read (command_in row Set) bytes) w e in
+    let at = says_behind p sub row (unprotected p.profile p.added pid (command_in row Set) Set bytes) (read (command_in row Set) bytes) w e in
     let is = kept_row (is_left_out p.profile pid) (row_of pid) (row_in (added_rows p.profile) pid) (sub == 0) kept at.allowed in
     let same : row ≡ row_of pid = is.1 in
     let quick : is_slow (command_in row Set) ≡ false = no_reply (way_of (command_in row Set)) _ _ _ reply told in

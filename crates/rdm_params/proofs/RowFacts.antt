@@ -84,6 +84,8 @@ shape_facts pid shapes.Choice d = tt
 shape_facts pid shapes.Names d = tt
 shape_facts pid shapes.Rates d = tt
 shape_facts pid shapes.Scenes d = tt
+shape_facts pid shapes.Lock d = tt
+shape_facts pid shapes.Pin d = tt
 
 get_facts : (pid : ℕ) (d : ParameterDef) (has : Bool) → Facts pid Get (cond has (gets_added d.shape d d.pid) None)
 get_facts pid d true = shape_facts pid d.shape d

@@ -2,11 +2,13 @@
 
 mod sub_devices;
 
-ghost use Rattle.std.specs.Prelude.{[], Some, None, IfSome, false, length, ◌≡◌, ◌≢◌, ◌↔◌, IfOk, IfErr, slice_get};
+ghost use Rattle.std.specs.Prelude.{◌&&◌, true, [], Some, None, IfSome, false, length, ◌≡◌, ◌≢◌, ◌↔◌, IfOk, IfErr, slice_get};
 ghost use Rattle.std.specs.List.{list_all};
 ghost use Rattle.std.specs.Option.{option_copied, option_map_or};
 ghost use Rattle.rdm_params.specs.declared.kind.Verb.TheVariants.{Set};
 ghost use Rattle.rdm_params.specs.declared.verdict.Verdict.TheVariants.{Refuse};
+ghost use Rattle.std.specs.Prelude.{is_some};
+ghost use Rattle.rdm_params.specs.Commands.Commands.{is_lockable};
 ghost use Rattle.rdm_params.specs.Commands.Commands.{got, answer_to_set, after_set, in_range, answered, work};
 ghost use Rattle.rdm_params.specs.Commands.Commands.{addressed, command_of, carried_out, reply_at};
 ghost use Rattle.rdm_params.specs.Commands.Changed.{change_of};
@@ -16,6 +18,7 @@ ghost use Rattle.rdm_device.specs.Device.Spot.{Spot};
 ghost use Rattle.rdm_device.specs.Device.Values.{byte_or_0};
 ghost use Rattle.rdm_device.specs.declared.value.Value.{Value};
 ghost use Rattle.rdm_params.specs.Views.Verdicts.{verdict_with, NamesItsJob};
+ghost use Rattle.rdm_device.specs.Device.Locks.{is_locked};
 ghost use Rattle.rdm_params.specs.Table.Uses.{way_of, way_at, in_range_of, reply};
 ghost use Rattle.rdm_params.specs.Jobs.Asks.{ask_of};
 
@@ -39,6 +42,7 @@ use crate::table::respond::reply_into;
 use crate::table::store::{store_added, store_common, store_own};
 use crate::table::within::is_in_range;
 use crate::{Answer, Ask, Changed, Kind, Nack, Profile, Value, Verb, Verdict, Work};
+use rdm_device::columns::added as own_parameters;
 use rdm_device::{Argument, CommonValues, Place, RootValues};
 use rdm_frame::Body;
 use rdm_frame::standard::SUB_DEVICE_ALL_CALL;
@@ -180,6 +184,17 @@ impl Devices {
         self.profile.lacks(pid)
     }
 
+    /// Whether the lock state keeps a SET of the table from being carried out.
+    #[inline(always)]
+    fn is_locked(&self, pid: u16, found: Found) -> bool
+        requires way { found.way ≡ way_of (command_of pid Set) }
+        requires known { is_some (command_of pid Set) ≡ true }
+        ensures { result ≡ (is_locked self.now.profile.locks self.now.added pid && is_lockable (command_of pid Set)) }
+    {
+        own_parameters::is_locked(&self.profile, self.own.added.as_slice(), pid)
+            && !found.way.is_by_job()
+    }
+
     /// What a GET answers, or the first reason to reject it.
     // This and its steps are inlined, since a call would hand the argument on through memory.
     #[inline(always)]
@@ -228,7 +243,7 @@ impl Devices {
 
     /// What a SET answers, or the first reason to reject it. `changed` tells whether it changed a value.
     #[inline(always)]
-    #[tactic(auto, unfolding(crate::specs::Commands::Commands::answer_to_set, crate::specs::Commands::Commands::after_set, crate::specs::Commands::Commands::accepted), using(crate::proofs::AddedCommands::tabled, crate::proofs::AddedCommands::tabled_free, crate::proofs::AddedCommands::lacking_set, crate::proofs::AddedCommands::lacking_leaves))]
+    #[tactic(auto, unfolding(crate::specs::Commands::Commands::answer_to_set, crate::specs::Commands::Commands::after_set, crate::specs::Commands::Commands::accepted), using(crate::proofs::AddedCommands::tabled, crate::proofs::AddedCommands::tabled_free, crate::proofs::AddedCommands::locked_set, crate::proofs::AddedCommands::locked_leaves, crate::proofs::AddedCommands::lacking_set, crate::proofs::AddedCommands::lacking_leaves))]
     fn try_set(
         &mut self,
         sub: u16,
@@ -271,6 +286,9 @@ impl Devices {
             }
             Err(nack) => return Err(nack),
         };
+        if self.is_locked(pid, found) {
+            return Err(Nack::WriteProtect);
+        }
         let value = self.read_data(sub, Verb::Set, found, &place, data)?;
         if !found.way.is_by_job() {
             *changed = self.carry_out(sub, found.kind, &value);

@@ -41,9 +41,9 @@ pub use nack::{Nack, reason_name, reason_name_for_c};
 pub use panel::{Change, Plate};
 pub use placing::PlaceError;
 pub use rdm_device::{
-    ChoiceName, ChoiceNames, Estimates, Field, OwnParameters, ParameterDef, Personality, Profile,
-    Rights, SelfTest, SensorDef, Shape, Slot, StatusText, Unit, Value, Width, Worker, Workers,
-    write_value,
+    ChoiceName, ChoiceNames, Estimates, Field, Lock, Locks, OwnParameters, ParameterDef,
+    Personality, Profile, Rights, SelfTest, SensorDef, Shape, Slot, StatusText, Unit, Value, Width,
+    Worker, Workers, write_value,
 };
 pub use rdm_saved::{RestoreError, SaveError};
 pub use table::names::{other_name, parameter_name, parameter_name_for_c, pid_named};

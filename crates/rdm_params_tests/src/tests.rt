@@ -16,6 +16,7 @@ mod added;
 mod changes;
 mod choices;
 mod devices;
+mod locks;
 mod orders;
 mod panel;
 mod placing;

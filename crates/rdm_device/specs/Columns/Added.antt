@@ -2,7 +2,7 @@
 use Rattle.std.specs.Prelude.{ℕ, ℤ, pos, ◌+◌, ◌%◌, Bool, true, ◌==◌, ◌&&◌, List, [], ◌∷◌, ◌++◌, find, slice_index, unwrap_or, if◌then◌else◌}
 use Rattle.std.specs.List.{list_any}
 use Rattle.std.specs.Option.{option_map_or}
-use Rattle.std.specs.Int.{w64, cast_unsigned}
+use Rattle.std.specs.Int.{w16, w64, from_be_bytes, cast_unsigned}
 use Rattle.rdm_device.specs.declared.profile.choices.ChoiceName.{ChoiceName}
 use Rattle.rdm_device.specs.declared.profile.own.ParameterDef.{ParameterDef}
 use Rattle.rdm_device.specs.declared.profile.own.Rights.{Rights}
@@ -10,6 +10,8 @@ use Rattle.rdm_device.specs.declared.profile.own.Rights.TheVariants as rights
 use Rattle.rdm_device.specs.declared.profile.own.Shape.{Shape}
 use Rattle.rdm_device.specs.declared.profile.own.Shape.TheVariants as shapes
 use Rattle.rdm_device.specs.declared.value.Value.{Value}
+use Rattle.rdm_device.specs.declared.value.Value.TheVariants.{Byte, Word}
+use Rattle.rdm_device.specs.Device.Locks.{pin_kept, knows_pin, knows_old_pin, state_of, new_pin}
 use Rattle.rdm_device.specs.Columns.Changes.{Change}
 use Rattle.rdm_device.specs.Columns.Forms.{Form, nothing, sized, value_of}
 use Rattle.rdm_device.specs.Columns.Scenes.{is_set_of, scene_of, scene_kept}
@@ -50,6 +52,8 @@ slots_in v = unwrap_or (label_in v) []
 -- the form of its data, by their shape
 abbrev pub form_taken : Shape → Form
 form_taken shapes.Scenes = sized 9
+form_taken shapes.Lock = sized 3
+form_taken shapes.Pin = sized 4
 form_taken shape = form_of shape
 
 abbrev pub form_by : Rights → Shape → Form
@@ -59,21 +63,23 @@ form_by _ shape = form_taken shape
 abbrev pub set_form : ParameterDef → Form
 set_form d = form_by d.rights d.shape
 
--- whether it takes a value, by the shape of its data
-abbrev pub taken_as : Shape → ParameterDef → Value → Bool
-taken_as shapes.Scenes d v = is_set_of d (slots_in v)
-taken_as _ d v = is_within d v
+-- whether it takes a value, by the shape of its data, where this PIN is kept
+abbrev pub taken_as : Shape → ParameterDef → List ℕ → Value → Bool
+taken_as shapes.Scenes d pin v = is_set_of d (slots_in v)
+taken_as shapes.Lock d pin v = knows_pin pin (slots_in v) && is_within d (Byte (state_of (slots_in v)))
+taken_as shapes.Pin d pin v = knows_old_pin pin (slots_in v) && is_within d (Word (from_be_bytes w16 (new_pin (slots_in v))))
+taken_as _ d pin v = is_within d v
 
-abbrev pub taken_by : Rights → ParameterDef → Value → Bool
-taken_by rights.Clear d v = true
-taken_by _ d v = taken_as d.shape d v
+abbrev pub taken_by : Rights → ParameterDef → List ℕ → Value → Bool
+taken_by rights.Clear d pin v = true
+taken_by _ d pin v = taken_as d.shape d pin v
 
-abbrev pub takes : ParameterDef → Value → Bool
-takes d v = taken_by d.rights d v
+abbrev pub takes : ParameterDef → List ℕ → Value → Bool
+takes d pin v = taken_by d.rights d pin v
 
 -- the range
 abbrev pub set_range : ParameterDef → Form → Range
-set_range d form spot v = takes d v
+set_range d form spot v = takes d (pin_kept spot.added) v
 
 -- which of its entries takes the value, and what that keeps
 abbrev pub index_kept : Shape → Value → ℕ
@@ -82,6 +88,8 @@ index_kept _ v = 0
 
 abbrev pub bytes_kept : Shape → Value → List ℕ
 bytes_kept shapes.Scenes v = scene_kept (slots_in v)
+bytes_kept shapes.Lock v = state_of (slots_in v) ∷ []
+bytes_kept shapes.Pin v = new_pin (slots_in v)
 bytes_kept _ v = bytes_of v
 
 abbrev pub kept_stored : ParameterDef → Change
@@ -148,6 +156,8 @@ size_of shapes.Choice = 1
 size_of shapes.Names = 0
 size_of shapes.Rates = 0
 size_of shapes.Scenes = 9
+size_of shapes.Lock = 1
+size_of shapes.Pin = 2
 
 -- the type of its data. Table A-15.
 abbrev pub data_type_of : Shape → ℕ
@@ -164,6 +174,8 @@ data_type_of shapes.Choice = 0x03
 data_type_of shapes.Names = 0x00
 data_type_of shapes.Rates = 0x00
 data_type_of shapes.Scenes = 0x00
+data_type_of shapes.Lock = 0x03
+data_type_of shapes.Pin = 0x05
 
 -- the commands that it has. Table A-16.
 abbrev pub class_of : Rights → ℕ
@@ -176,7 +188,9 @@ class_of rights.Clear = 0x03
 abbrev pub span_of : Shape → ℕ
 span_of shapes.Byte = 0x100
 span_of shapes.Choice = 0x100
+span_of shapes.Lock = 0x100
 span_of shapes.Word = 0x10000
+span_of shapes.Pin = 0x10000
 span_of shapes.Long = 0x100000000
 span_of shapes.SignedByte = 0x100
 span_of shapes.SignedWord = 0x10000

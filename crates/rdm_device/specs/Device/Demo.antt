@@ -97,6 +97,7 @@ demo subs = record {
   presets = 4;
   own = [];
   choices = [];
+  locks = [];
   without = record { items = [] };
   more_slots = 0;
   estimates = usual;

@@ -32,12 +32,16 @@ form_of shapes.Choice = byte
 form_of shapes.Names = nothing
 form_of shapes.Rates = nothing
 form_of shapes.Scenes = nothing
+form_of shapes.Lock = byte
+form_of shapes.Pin = word
 
 -- the number that a value says in a shape, in two's complement where that is signed
 abbrev pub number_in : Shape → Value → Option ℤ
 number_in shapes.Byte v = option_map pos (byte_in v)
 number_in shapes.Choice v = option_map pos (byte_in v)
+number_in shapes.Lock v = option_map pos (byte_in v)
 number_in shapes.Word v = option_map pos (word_in v)
+number_in shapes.Pin v = option_map pos (word_in v)
 number_in shapes.Long v = option_map pos (long_in v)
 number_in shapes.SignedByte v = option_map (cast_signed w8) (byte_in v)
 number_in shapes.SignedWord v = option_map (cast_signed w16) (word_in v)
@@ -61,6 +65,8 @@ abbrev pub has_number : Shape → ℤ → Bool
 has_number shapes.Byte n = lies (pos 0) (pos 255) n
 has_number shapes.Choice n = lies (pos 0) (pos 255) n
 has_number shapes.Scenes n = lies (pos 0) (pos 255) n
+has_number shapes.Lock n = lies (pos 0) (pos 255) n
+has_number shapes.Pin n = lies (pos 0) (pos 9999) n
 has_number shapes.Word n = lies (pos 0) (pos 65535) n
 has_number shapes.Long n = lies (pos 0) (pos 4294967295) n
 has_number shapes.SignedByte n = lies (neg_ℤ (pos 128)) (pos 127) n

@@ -35,6 +35,7 @@ plain_profile root sub subs = record {
   presets = 0;
   own = [];
   choices = [];
+  locks = [];
   without = record { items = [] };
   more_slots = 0;
   estimates = usual;

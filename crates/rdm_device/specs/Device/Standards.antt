@@ -72,6 +72,22 @@ is_scenes _ = false
 abbrev pub scenes : ParameterDef → Bool
 scenes d = is_scenes d.shape
 
+-- the number of a lock state, from 0
+abbrev pub is_lock : Shape → Bool
+is_lock shapes.Lock = true
+is_lock _ = false
+
+abbrev pub lock : ParameterDef → Bool
+lock d = is_lock d.shape && int_eq d.low (pos 0)
+
+-- a PIN
+abbrev pub is_pin : Shape → Bool
+is_pin shapes.Pin = true
+is_pin _ = false
+
+abbrev pub pin : ParameterDef → Bool
+pin d = is_pin d.shape && int_eq d.low (pos 0) && int_eq d.high (pos 9999)
+
 -- the lines
 abbrev pub standards : List Standard
 standards =
@@ -90,6 +106,9 @@ standards =
     ∷ standard 0x0348 rights.Get rates  -- MODULATION_FREQUENCY_DESCRIPTION
     ∷ standard 0x0440 rights.Both (numbers 1 (1 ∷ []))  -- BURN_IN: hours
     ∷ standard 0x0603 rights.Both (numbers 7 (2 ∷ 1 ∷ 1 ∷ 1 ∷ 1 ∷ 1 ∷ []))  -- REAL_TIME_CLOCK: year, month, day, hour, minute, second
+    ∷ standard 0x0640 rights.Both pin  -- LOCK_PIN
+    ∷ standard 0x0641 rights.Both lock  -- LOCK_STATE
+    ∷ standard 0x0642 rights.Get names  -- LOCK_STATE_DESCRIPTION
     ∷ standard 0x1001 rights.Set (numbers 1 (1 ∷ []))  -- RESET_DEVICE: warm or cold
     ∷ standard 0x1030 rights.Set (numbers 8 (2 ∷ 2 ∷ 2 ∷ 2 ∷ []))  -- CAPTURE_PRESET: scene, times up and down, wait time
     ∷ standard 0x1040 rights.Both (numbers 1 (1 ∷ []))  -- IDENTIFY_MODE
@@ -118,7 +137,7 @@ is_clear _ = false
 
 -- whether data are of a shape that only a parameter of the standards has
 abbrev pub is_standards : Shape → Bool
-is_standards shape = is_choice shape || is_names shape || is_rates shape || is_scenes shape
+is_standards shape = is_choice shape || is_names shape || is_rates shape || is_scenes shape || is_lock shape || is_pin shape
 
 -- whether a parameter is as each line of this PID says
 abbrev pub follows_at : ℕ → ParameterDef → Bool

@@ -3,6 +3,7 @@
 mod choosing;
 mod description;
 mod fields;
+mod locking;
 mod resetting;
 mod scenes;
 mod setting;
@@ -22,9 +23,12 @@ ghost use Rattle.rdm_device.specs.Views.State.{added_entries, own_entries, kept_
 pub use crate::columns::added::choosing::{a_name, choice_shown, name_shown};
 pub(crate) use crate::columns::added::choosing::{greatest, has_name};
 pub use crate::columns::added::description::{data_type_of, described, size_of};
+pub use crate::columns::added::locking::{is_locked, is_no_pin};
+pub(crate) use crate::columns::added::locking::{knows_old_pin, knows_pin, new_pin, state_of};
 pub use crate::columns::added::resetting::{are_at_start, set_added_back};
 pub use crate::columns::added::scenes::{a_scene, is_protected_scene, scene_shown};
 pub(crate) use crate::columns::added::scenes::{is_set_of, scene_kept, scene_of, start_scenes};
+pub(crate) use crate::columns::added::setting::first_of;
 pub use crate::columns::added::setting::{read_set, store_set, takes};
 use crate::columns::{forms, writes};
 use crate::device::Place;
@@ -52,8 +56,8 @@ pub fn read_shape(shape: Shape, data: &[u8]) -> Option<Argument<'_>>
     ensures { result ≡ value_of (form_of shape) data.now }
 {
     match shape {
-        Shape::Byte | Shape::SignedByte | Shape::Choice => forms::byte(data),
-        Shape::Word | Shape::SignedWord => forms::word(data),
+        Shape::Byte | Shape::SignedByte | Shape::Choice | Shape::Lock => forms::byte(data),
+        Shape::Word | Shape::SignedWord | Shape::Pin => forms::word(data),
         Shape::Long | Shape::SignedLong => forms::long(data),
         Shape::Text => forms::label(data),
         Shape::Bits(size) => sized(size, data),
@@ -78,8 +82,8 @@ pub fn number_in(shape: Shape, value: &Argument<'_>) -> Option<i64>
     ensures { result ≡ number_in shape value.now }
 {
     match shape {
-        Shape::Byte | Shape::Choice => Some(value.byte()? as i64),
-        Shape::Word => Some(value.word()? as i64),
+        Shape::Byte | Shape::Choice | Shape::Lock => Some(value.byte()? as i64),
+        Shape::Word | Shape::Pin => Some(value.word()? as i64),
         Shape::Long => Some(value.long()? as i64),
         Shape::SignedByte => Some(value.byte()?.cast_signed() as i64),
         Shape::SignedWord => Some(value.word()?.cast_signed() as i64),
@@ -98,8 +102,8 @@ fn has_form(shape: Shape, value: &Argument<'_>) -> bool
     ensures { result ≡ has_form (form_of shape) value.now }
 {
     match shape {
-        Shape::Byte | Shape::SignedByte | Shape::Choice => value.byte().is_some(),
-        Shape::Word | Shape::SignedWord => value.word().is_some(),
+        Shape::Byte | Shape::SignedByte | Shape::Choice | Shape::Lock => value.byte().is_some(),
+        Shape::Word | Shape::SignedWord | Shape::Pin => value.word().is_some(),
         Shape::Long | Shape::SignedLong => value.long().is_some(),
         Shape::Text => value.is_label(),
         Shape::Bits(size) => has_size(value, size),

@@ -5,7 +5,7 @@ ghost use Rattle.rdm_device.specs.Device.Profiles.{CanBeMade};
 ghost use Rattle.rdm_device.specs.Device.Demo.{demo, demo_root, demo_sub, demo_sensor, demo_slots, demo_sensors, demo_tests, demo_statuses};
 
 use crate::{
-    ChoiceNames, Estimates, OwnParameters, Personality, Profile, SelfTest, SensorDef, Slot,
+    ChoiceNames, Estimates, Locks, OwnParameters, Personality, Profile, SelfTest, SensorDef, Slot,
     StatusText, Unit, Workers,
 };
 use arrayvec::ArrayVec;
@@ -42,6 +42,7 @@ fn moving_head(subs: u16) -> Profile
         presets: 4,
         own: OwnParameters::none(),
         choices: ChoiceNames::none(),
+        locks: Locks::none(),
         without: ArrayVec::new(),
         more_slots: 0,
         estimates: Estimates::usual(),

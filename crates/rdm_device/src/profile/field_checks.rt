@@ -56,7 +56,9 @@ fn are_taken(shape: Shape, fields: &[Field]) -> bool
         | Shape::Choice
         | Shape::Names
         | Shape::Rates
-        | Shape::Scenes => fields.is_empty(),
+        | Shape::Scenes
+        | Shape::Lock
+        | Shape::Pin => fields.is_empty(),
     }
 }
 

@@ -3,7 +3,9 @@
 ghost use Rattle.std.specs.Prelude.{◌≡◌, ◌≤◌, length};
 ghost use Rattle.rdm_device.specs.Device.Plain.{plain_unit, plain_profile};
 
-use crate::{ChoiceNames, Estimates, OwnParameters, Personality, Profile, Slot, Unit, Workers};
+use crate::{
+    ChoiceNames, Estimates, Locks, OwnParameters, Personality, Profile, Slot, Unit, Workers,
+};
 use arrayvec::ArrayVec;
 use rdm_frame::Text;
 
@@ -78,6 +80,7 @@ impl Profile {
             presets: 0,
             own: OwnParameters::none(),
             choices: ChoiceNames::none(),
+            locks: Locks::none(),
             without: ArrayVec::new(),
             more_slots: 0,
             estimates: Estimates::usual(),

@@ -52,6 +52,11 @@ pub enum Shape {
     /// The times of each of several scenes, from 1 to the greatest number, and whether it is programmed, of which the first can only be
     /// read: as many as the least number (E1.37-1 PRESET_STATUS).
     Scenes,
+    /// The number of a lock state: 0, which is unlocked, to the greatest, which a GET also replies; a SET hands in the PIN before it
+    /// (E1.37-1 LOCK_STATE).
+    Lock,
+    /// The PIN of four digits with which that is set; a SET hands in the new one, and then that which is kept (E1.37-1 LOCK_PIN).
+    Pin,
 }
 
 /// A parameter that the maker of the fixture adds, at the root device.

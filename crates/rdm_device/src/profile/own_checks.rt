@@ -82,6 +82,7 @@ pub(crate) fn is_lent(pid: u16) -> bool
     match pid {
         0x0015 | 0x0070 | 0x0141 | 0x0142 | 0x0340 | 0x0341 | 0x0342 | 0x0440 | 0x0603 => true,
         0x0343 | 0x0344 | 0x0345 | 0x0346 | 0x0347 | 0x0348 => true,
+        0x0640 | 0x0641 | 0x0642 => true,
         0x1001 | 0x1030 | 0x1040 | 0x1041 | 0x1042 | 0x1043 | 0x1044 => true,
         _ => false,
     }
@@ -92,7 +93,8 @@ fn has_number(shape: Shape, number: i64) -> bool
     ensures { result ≡ has_number shape number }
 {
     match shape {
-        Shape::Byte | Shape::Choice | Shape::Scenes => 0 <= number && number <= 255,
+        Shape::Byte | Shape::Choice | Shape::Scenes | Shape::Lock => 0 <= number && number <= 255,
+        Shape::Pin => 0 <= number && number <= 9999,
         Shape::Word => 0 <= number && number <= 65535,
         Shape::Long => 0 <= number && number <= 4_294_967_295,
         Shape::SignedByte => -128 <= number && number <= 127,
@@ -114,6 +116,8 @@ fn has_limits(shape: Shape, low: i64, high: i64) -> bool
         Shape::Byte
         | Shape::Choice
         | Shape::Scenes
+        | Shape::Lock
+        | Shape::Pin
         | Shape::Word
         | Shape::Long
         | Shape::SignedByte

@@ -4,7 +4,7 @@ ghost use Rattle.std.specs.Prelude.{◌≡◌, ◌↔◌, ◌*◌, ◌≤◌, �
 ghost use Rattle.rdm_device.specs.declared.profile.own.Rights.TheVariants as rights;
 ghost use Rattle.rdm_device.specs.Device.Fields.{have_sizes};
 ghost use Rattle.rdm_device.specs.Device.Profiles.{FollowStandards};
-ghost use Rattle.rdm_device.specs.Device.Standards.{are_words, is_choice, choice, names, numbers, rates, scenes, words, is_standards, is_clear, is_only_standards, may_have, follows_at, follows};
+ghost use Rattle.rdm_device.specs.Device.Standards.{are_words, is_choice, choice, names, numbers, rates, scenes, lock, pin, words, is_standards, is_clear, is_only_standards, may_have, follows_at, follows};
 
 use crate::profile::own_checks::is_lent;
 use crate::{Field, ParameterDef, Rights, Shape};
@@ -43,6 +43,9 @@ fn follows_at(pid: u16, def: &ParameterDef) -> bool
         0x0348 => is_read(def) && has_rates(def),
         0x0440 => may_be_both(def) && has_numbers(def, 1, &[1]),
         0x0603 => may_be_both(def) && has_numbers(def, 7, &[2, 1, 1, 1, 1, 1]),
+        0x0640 => may_be_both(def) && has_pin(def),
+        0x0641 => may_be_both(def) && has_lock(def),
+        0x0642 => is_read(def) && has_names(def),
         0x1001 => is_ordered(def) && has_numbers(def, 1, &[1]),
         0x1030 => is_ordered(def) && has_numbers(def, 8, &[2, 2, 2, 2]),
         0x1040 => may_be_both(def) && has_numbers(def, 1, &[1]),
@@ -66,13 +69,14 @@ fn is_standards(shape: Shape) -> bool
     ensures { result ≡ is_standards shape }
 {
     match shape {
-        Shape::Choice | Shape::Names | Shape::Rates | Shape::Scenes => true,
+        Shape::Choice | Shape::Names | Shape::Rates => true,
+        Shape::Scenes | Shape::Lock | Shape::Pin => true,
         _ => false,
     }
 }
 
 /// Whether data are the number of one of several things.
-pub(crate) fn is_choice(shape: Shape) -> bool
+fn is_choice(shape: Shape) -> bool
     ensures { result ≡ is_choice shape }
 {
     matches!(shape, Shape::Choice)
@@ -104,6 +108,20 @@ fn has_scenes(def: &ParameterDef) -> bool
     ensures { result ≡ scenes def.now }
 {
     matches!(def.shape, Shape::Scenes)
+}
+
+/// Whether its data are the number of a lock state, from 0.
+fn has_lock(def: &ParameterDef) -> bool
+    ensures { result ≡ lock def.now }
+{
+    matches!(def.shape, Shape::Lock) && def.low == 0
+}
+
+/// Whether its data are a PIN.
+fn has_pin(def: &ParameterDef) -> bool
+    ensures { result ≡ pin def.now }
+{
+    matches!(def.shape, Shape::Pin) && def.low == 0 && def.high == 9999
 }
 
 /// Whether the parameter has a GET alone.

@@ -1,16 +1,17 @@
 -- What GET and SET commands answer, and which values they leave. E1.20 sections 6.3, 9 and 10.
-use Rattle.std.specs.Prelude.{ℕ, ◌-◌, Bool, true, false, ◌==◌, ◌&&◌, not, List, [], ◌∷◌, map, Option, Result, Ok, Err, is_ok, is_some, slice_get, slice_index_or, slice_set, option_to_list, find, if◌then◌else◌}
+use Rattle.std.specs.Prelude.{ℕ, ◌-◌, Bool, true, false, ◌==◌, ◌&&◌, ◌||◌, not, List, [], ◌∷◌, map, Option, Some, None, Result, Ok, Err, is_ok, is_some, slice_get, slice_index_or, slice_set, option_to_list, find, if◌then◌else◌}
 use Rattle.std.specs.List.{list_all}
 use Rattle.std.specs.Option.{option_map_or}
 use Rattle.rdm_params.specs.declared.kind.Kind.{Kind}
 use Rattle.rdm_params.specs.declared.kind.Verb.{Verb}
 use Rattle.rdm_params.specs.declared.kind.Verb.TheVariants.{Get, Set}
 use Rattle.rdm_params.specs.declared.nack.Nack.{Nack}
-use Rattle.rdm_params.specs.declared.nack.Nack.TheVariants.{DataOutOfRange, WriteProtect, SubDeviceOutOfRange}
+use Rattle.rdm_params.specs.declared.nack.Nack.TheVariants.{FormatError, DataOutOfRange, WriteProtect, SubDeviceOutOfRange}
 use Rattle.rdm_device.specs.declared.profile.Profile.{Profile}
 use Rattle.rdm_device.specs.declared.profile.own.ParameterDef.{ParameterDef}
 use Rattle.rdm_device.specs.Columns.Added.{is_pid_of}
 use Rattle.rdm_device.specs.Columns.Scenes.{protects_by}
+use Rattle.rdm_device.specs.Device.Locks.{is_locked, is_no_pin}
 use Rattle.rdm_device.specs.declared.value.Value.{Value}
 use Rattle.rdm_params.specs.declared.verdict.Verdict.{Verdict}
 use Rattle.rdm_params.specs.declared.verdict.Verdict.TheVariants.{Reply, Start, Queue, Status, Clear, Refuse}
@@ -23,7 +24,7 @@ use Rattle.rdm_device.specs.Device.Map.{Entry, update}
 use Rattle.rdm_device.specs.Device.Parameters.{Parameters}
 use Rattle.rdm_device.specs.Device.Spot.{Spot}
 use Rattle.rdm_params.specs.Table.Rows.{Command, Row, row_of, row_at, is_left_out, command_in}
-use Rattle.rdm_params.specs.Table.Uses.{access, read, way_at, is_slow, in_range_of, change, added_change, reply}
+use Rattle.rdm_params.specs.Table.Uses.{access, read, way_at, is_by_job, is_slow, in_range_of, change, added_change, reply}
 use Rattle.rdm_params.specs.Jobs.Asks.{ask_of}
 use Rattle.rdm_device.specs.Device.Values.{byte_or_0}
 
@@ -83,14 +84,26 @@ known p sub row verb = do
 abbrev pub is_read_only : List ParameterDef → ℕ → List ℕ → Bool
 is_read_only ds pid bytes = (pid == 0x1042) && option_map_or (λ d. protects_by d.shape d bytes) (find (is_pid_of pid) ds) false
 
--- whether what a command would write is protected
-abbrev pub is_protected : Profile → ℕ → Verb → List ℕ → Bool
-is_protected profile pid Get bytes = false
-is_protected profile pid Set bytes = is_read_only profile.own pid bytes
+-- whether there is the command, and no job carries it out
+abbrev pub is_lockable : Option Command → Bool
+is_lockable None = false
+is_lockable (Some c) = not (is_by_job c.way)
 
--- Behind rule 8: nothing protects what the command would write. Table A-17.
-abbrev pub unprotected : Profile → ℕ → Verb → List ℕ → Result (Unit {0}) Nack
-unprotected profile pid verb bytes = check (not (is_protected profile pid verb bytes)) WriteProtect
+-- Whether what a SET would write is protected: it can only be read, or the lock state locks it. It locks no SET that a job carries out,
+-- since a job that was accepted is one that is accepted until it ends.
+abbrev pub is_protected : Profile → List Entry → ℕ → Option Command → List ℕ → Bool
+is_protected profile added pid command bytes =
+    is_read_only profile.own pid bytes || (is_locked profile.locks added pid && is_lockable command)
+
+-- Behind rule 8: nothing protects it, and it is no PIN that can't be one, which has no form. Table A-17 and E1.37-1, LOCK_PIN.
+abbrev pub open_to : Bool → Bool → Result (Unit {0}) Nack
+open_to protected no_pin = do
+  free ← check (not protected) WriteProtect
+  check (not no_pin) FormatError
+
+abbrev pub unprotected : Profile → List Entry → ℕ → Option Command → Verb → List ℕ → Result (Unit {0}) Nack
+unprotected profile added pid command Get bytes = Ok tt
+unprotected profile added pid command Set bytes = open_to (is_protected profile added pid command bytes) (is_no_pin pid bytes)
 
 -- Rule 10: the value is in range at each device that is addressed. Rule 11: it starts no jobs at all sub-devices at once.
 abbrev pub suits : Parameters → ℕ → Option Command → Verb → Value → Result (Unit {0}) Nack
@@ -121,7 +134,7 @@ read_data p sub command verb bytes = do
 unfoldable pub accepted : Parameters → ℕ → ℕ → Verb → List ℕ → Result Value Nack
 accepted p sub pid verb bytes = do
   found ← known p sub (row_at p.profile pid) verb
-  free ← unprotected p.profile pid verb bytes
+  free ← unprotected p.profile p.added pid (command_at p pid verb) verb bytes
   read_data p sub (command_at p pid verb) verb bytes
 
 -- Whether a value is in the range of a command at each device that it addresses; it isn't if there is none, or

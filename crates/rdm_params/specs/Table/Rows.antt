@@ -202,6 +202,7 @@ shows_added pid = reads (added_value pid) pid
 -- asked for by their numbers and so are scenes, and of all others the GET shows what is kept
 abbrev pub gets_added : Shape → ParameterDef → Cell
 gets_added shapes.Choice d = reads (choice_shown d)
+gets_added shapes.Lock d = reads (choice_shown d)
 gets_added shapes.Names d = asks byte (a_name d) (name_shown d)
 gets_added shapes.Rates d = asks byte (a_name d) (name_shown d)
 gets_added shapes.Scenes d = asks word (a_scene d) (scene_shown d)

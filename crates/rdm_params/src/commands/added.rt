@@ -1,6 +1,6 @@
 //! The commands of the parameters that a profile adds to the table, which the root alone has.
 
-ghost use Rattle.std.specs.Prelude.{◌≡◌, ◌≢◌, ◌↔◌, ◌==◌, ◌&&◌, [], Some, Ok, Err, IfOk, IfErr, true, false, is_ok, find};
+ghost use Rattle.std.specs.Prelude.{◌≡◌, ◌≢◌, ◌↔◌, ◌==◌, ◌&&◌, List, [], Some, Ok, Err, IfOk, IfErr, true, false, is_ok, find};
 ghost use Rattle.std.specs.List.{list_any};
 ghost use Rattle.std.specs.Option.{option_copied};
 ghost use Rattle.rdm_params.specs.declared.kind.Verb.TheVariants.{Get, Set};
@@ -10,8 +10,8 @@ ghost use Rattle.rdm_device.specs.Device.Map.{value_at};
 ghost use Rattle.rdm_device.specs.Device.Spot.{Spot};
 ghost use Rattle.rdm_device.specs.Views.State.{own_entries, added_entries};
 ghost use Rattle.rdm_params.specs.Commands.Added.{row_here, handed_with, handed_here, reply_of, reply_here, after_with, after_here};
-ghost use Rattle.rdm_params.specs.Commands.Commands.{root_spot, is_protected};
-ghost use Rattle.rdm_device.specs.declared.profile.Profile.{Profile};
+ghost use Rattle.rdm_params.specs.Commands.Commands.{root_spot, is_read_only, open_to};
+ghost use Rattle.rdm_device.specs.declared.profile.own.ParameterDef.{ParameterDef};
 ghost use Rattle.rdm_params.specs.Table.Rows.{description_row, added_row, gets_added, shows_added};
 
 use super::Devices;
@@ -71,8 +71,10 @@ impl Devices {
         }
         match parameter_of(profile, pid) {
             Some(def) => {
-                let protected = is_protected(pid, def, data);
-                set_parameter(def, protected, data, &mut self.own)
+                let protected = is_read_only(pid, def, data)
+                    || added::is_locked(profile, self.own.added.as_slice(), pid);
+                let no_pin = added::is_no_pin(pid, data);
+                set_parameter(def, protected, no_pin, data, &mut self.own)
             }
             None => Err(Nack::UnknownPid),
         }
@@ -93,9 +95,9 @@ pub(super) fn parameter_of(profile: &Profile, pid: u16) -> Option<&ParameterDef>
     added::parameter_of(profile.own.as_slice(), pid)
 }
 
-/// Whether what a SET of this parameter, which has this PID, would write can only be read: a scene of PRESET_STATUS.
-fn is_protected(pid: u16, def: &ParameterDef, data: &[u8]) -> bool
-    ensures { (profile : Profile) → find (is_pid_of pid) profile.own ≡ Some def.now → result ≡ is_protected profile pid Set data.now }
+/// Whether what a SET of this parameter, which has this PID, would write can only be read, as a scene of PRESET_STATUS.
+fn is_read_only(pid: u16, def: &ParameterDef, data: &[u8]) -> bool
+    ensures { (ds : List ParameterDef) → find (is_pid_of pid) ds ≡ Some def.now → result ≡ is_read_only ds pid data.now }
 {
     pid == PRESET_STATUS && added::is_protected_scene(def, data)
 }
@@ -149,7 +151,7 @@ fn get_by_shape(
     ensures empty { result ≢ Ok tt → body.new ≡ [] }
 {
     match shape {
-        Shape::Choice => get_choice(place, def, data, body),
+        Shape::Choice | Shape::Lock => get_choice(place, def, data, body),
         Shape::Names | Shape::Rates => get_name(place, def, data, body),
         Shape::Scenes => get_scene(place, def, data, body),
         Shape::Byte
@@ -160,7 +162,8 @@ fn get_by_shape(
         | Shape::SignedLong
         | Shape::Text
         | Shape::Bits(_)
-        | Shape::Slots(_) => get_kept(place, def, data, body),
+        | Shape::Slots(_)
+        | Shape::Pin => get_kept(place, def, data, body),
     }
 }
 
@@ -240,14 +243,15 @@ fn get_scene(
 fn set_parameter(
     def: &ParameterDef,
     protected: bool,
+    no_pin: bool,
     data: &[u8],
     own: &mut RootValues,
 ) -> Result<bool, Nack>
-    ensures ok { IfOk result (λ differs. (spot : Spot) → is_ok (handed_with protected spot (Some (added_row def.now)) Set data.now) ≡ true) }
-    ensures err { IfErr result (λ nack. (spot : Spot) → handed_with protected spot (Some (added_row def.now)) Set data.now ≡ Err nack) }
+    ensures ok { IfOk result (λ differs. (spot : Spot) → spot.added ≡ added_entries own.old.added.items → is_ok (handed_with (open_to protected no_pin) spot (Some (added_row def.now)) Set data.now) ≡ true) }
+    ensures err { IfErr result (λ nack. (spot : Spot) → spot.added ≡ added_entries own.old.added.items → handed_with (open_to protected no_pin) spot (Some (added_row def.now)) Set data.now ≡ Err nack) }
     ensures own { own_entries own.new ≡ own_entries own.old }
     ensures added { (spot : Spot) → spot.added ≡ added_entries own.old.added.items
-        → added_entries own.new.added.items ≡ after_with protected spot (Some (added_row def.now)) data.now }
+        → added_entries own.new.added.items ≡ after_with (open_to protected no_pin) spot (Some (added_row def.now)) data.now }
     ensures same { IfOk result (λ differs. (differs ≡ false) ↔ (added_entries own.new.added.items ≡ added_entries own.old.added.items)) }
 {
     if !added::has_set(def.rights) {
@@ -256,10 +260,13 @@ fn set_parameter(
     if protected {
         return Err(Nack::WriteProtect);
     }
+    if no_pin {
+        return Err(Nack::FormatError);
+    }
     let Some(value) = added::read_set(def, data) else {
         return Err(Nack::FormatError);
     };
-    if !added::takes(def, &value) {
+    if !added::takes(def, &value, own) {
         return Err(Nack::DataOutOfRange);
     }
     Ok(added::store_set(def, &value, own))

@@ -45,8 +45,8 @@ pub fn size_of(shape: Shape) -> u8
     ensures { result ≡ size_of shape }
 {
     match shape {
-        Shape::Byte | Shape::SignedByte | Shape::Choice => 1,
-        Shape::Word | Shape::SignedWord => 2,
+        Shape::Byte | Shape::SignedByte | Shape::Choice | Shape::Lock => 1,
+        Shape::Word | Shape::SignedWord | Shape::Pin => 2,
         Shape::Long | Shape::SignedLong => 4,
         Shape::Text => MOST_TEXT as u8,
         Shape::Bits(size) => size,
@@ -64,9 +64,9 @@ pub fn data_type_of(shape: Shape) -> u8
         Shape::Slots(_) | Shape::Names | Shape::Rates | Shape::Scenes => 0x00,
         Shape::Bits(_) => 0x01,
         Shape::Text => 0x02,
-        Shape::Byte | Shape::Choice => 0x03,
+        Shape::Byte | Shape::Choice | Shape::Lock => 0x03,
         Shape::SignedByte => 0x04,
-        Shape::Word => 0x05,
+        Shape::Word | Shape::Pin => 0x05,
         Shape::SignedWord => 0x06,
         Shape::Long => 0x07,
         Shape::SignedLong => 0x08,
@@ -91,8 +91,8 @@ fn span_of(shape: Shape) -> u64
     ensures few { result ≤ 0x100000000 }
 {
     match shape {
-        Shape::Byte | Shape::SignedByte | Shape::Choice => 0x100,
-        Shape::Word | Shape::SignedWord => 0x1_0000,
+        Shape::Byte | Shape::SignedByte | Shape::Choice | Shape::Lock => 0x100,
+        Shape::Word | Shape::SignedWord | Shape::Pin => 0x1_0000,
         Shape::Long | Shape::SignedLong => 0x1_0000_0000,
         Shape::Text
         | Shape::Bits(_)

@@ -1,15 +1,20 @@
 //! What a SET of a parameter that a maker adds takes, and keeps.
 
-ghost use Rattle.std.specs.Prelude.{◌≡◌, ◌↔◌, ◌≤◌, ◌||◌, ◌∷◌, [], length, map, slice_index, false};
+ghost use Rattle.std.specs.Prelude.{◌≡◌, ◌↔◌, ◌≤◌, ◌||◌, ◌&&◌, ◌∷◌, [], length, map, slice_index, false};
 ghost use Rattle.rdm_device.specs.declared.value.Value.{Value};
 ghost use Rattle.rdm_device.specs.Columns.Added.{order_stored, start_stored, counted, form_taken, set_form, slots_in, taken_as, takes, index_kept, bytes_kept, kept_stored, stored_by, own_stored};
 ghost use Rattle.rdm_device.specs.Columns.Forms.{value_of};
+ghost use Rattle.std.specs.Int.{w16, from_be_bytes};
+ghost use Rattle.rdm_device.specs.declared.value.Value.TheVariants.{Byte, Word};
+ghost use Rattle.rdm_device.specs.Device.Locks.{pin_kept, knows_pin, knows_old_pin, state_of, new_pin};
+ghost use Rattle.rdm_device.specs.Device.OwnParameters.{is_within};
 ghost use Rattle.rdm_device.specs.Device.Map.{lookup, update};
 ghost use Rattle.rdm_device.specs.Device.Spot.{Spot};
 ghost use Rattle.rdm_device.specs.Views.State.{added_entries, own_entries, stored_in};
 
 use crate::columns::added::{
-    bytes_of, is_set_of, is_within, kept_of, read_shape, scene_kept, scene_of, sized, store_in,
+    bytes_of, is_set_of, is_within, kept_of, knows_old_pin, knows_pin, new_pin, read_shape,
+    scene_kept, scene_of, sized, state_of, store_in,
 };
 use crate::columns::forms;
 use crate::device::state::{Kept, RootValues};
@@ -33,28 +38,51 @@ fn read_taken(shape: Shape, data: &[u8]) -> Option<Argument<'_>>
 {
     match shape {
         Shape::Scenes => sized(9, data),
+        Shape::Lock => sized(3, data),
+        Shape::Pin => sized(4, data),
         _ => read_shape(shape, data),
     }
 }
 
 /// Whether a SET takes a value.
-pub fn takes(def: &ParameterDef, value: &Argument<'_>) -> bool
-    ensures { result ≡ takes def.now value.now }
+pub fn takes(def: &ParameterDef, value: &Argument<'_>, own: &RootValues) -> bool
+    ensures { result ≡ takes def.now (pin_kept (added_entries own.now.added.items)) value.now }
 {
     match def.rights {
         Rights::Clear => true,
-        Rights::Get | Rights::Set | Rights::Both => takes_shape(def.shape, def, value),
+        Rights::Get | Rights::Set | Rights::Both => takes_shape(
+            def.shape,
+            def,
+            own.added.as_slice(),
+            value,
+        ),
     }
 }
 
 /// Whether a SET takes a value, by the shape of its data.
-fn takes_shape(shape: Shape, def: &ParameterDef, value: &Argument<'_>) -> bool
-    ensures { result ≡ taken_as shape def.now value.now }
+fn takes_shape(shape: Shape, def: &ParameterDef, values: &[Kept], value: &Argument<'_>) -> bool
+    ensures { result ≡ taken_as shape def.now (pin_kept (added_entries values.now)) value.now }
 {
     match shape {
         Shape::Scenes => is_set_of(def, slots_in(value)),
+        Shape::Lock => takes_state(def, values, slots_in(value)),
+        Shape::Pin => takes_pin(def, values, slots_in(value)),
         _ => is_within(def, value),
     }
+}
+
+/// Whether slots begin with the PIN that is kept, and name a lock state.
+fn takes_state(def: &ParameterDef, values: &[Kept], slots: &[u8]) -> bool
+    ensures { result ≡ (knows_pin (pin_kept (added_entries values.now)) slots.now && is_within def.now (Byte (state_of slots.now))) }
+{
+    knows_pin(values, slots) && is_within(def, &Argument::from_byte(state_of(slots)))
+}
+
+/// Whether slots end with the PIN that is kept, and begin with one that can be.
+fn takes_pin(def: &ParameterDef, values: &[Kept], slots: &[u8]) -> bool
+    ensures { result ≡ (knows_old_pin (pin_kept (added_entries values.now)) slots.now && is_within def.now (Word (from_be_bytes w16 (new_pin slots.now)))) }
+{
+    knows_old_pin(values, slots) && is_within(def, &Argument::from_word(scene_of(slots)))
 }
 
 /// The slots of a value that is slots, else none.
@@ -122,6 +150,8 @@ fn bytes_kept(shape: Shape, value: &Argument<'_>) -> Text
 {
     match shape {
         Shape::Scenes => scene_kept(slots_in(value)),
+        Shape::Lock => Text::of(&[state_of(slots_in(value))]),
+        Shape::Pin => Text::of(new_pin(slots_in(value))),
         _ => bytes_of(value),
     }
 }
@@ -168,7 +198,7 @@ fn next_count(values: &[Kept], pid: u16) -> u8
 }
 
 /// The first byte, or 0 if there is none.
-fn first_of(bytes: &[u8]) -> u8
+pub(crate) fn first_of(bytes: &[u8]) -> u8
     ensures { result ≡ slice_index bytes.now 0 }
 {
     match bytes {

@@ -15,13 +15,13 @@ pub returns-in-Some-clause-ok : goal.returns-in-Some-clause-ok
 returns-in-Some-clause-ok c =
     let here : row_here c.args.self.now.profile c.args.pid ≡ Some (added_row c.in-Some.def.now) = search (rules, parameter_here) in
     let found : find (is_pid_of c.args.pid) c.args.self.now.profile.own ≡ Some c.in-Some.def.now = search rules in
-    set_ok_at c.args.self.now c.args.pid c.args.data.now c.in-Some.def.now c.is_protected.result c.set_parameter.result here (c.is_protected.ensures c.args.self.now.profile found) c.set_parameter.ensures.ok
+    set_ok_at c.args.self.now c.args.pid c.args.data.now c.in-Some.def.now _ c.is_no_pin.result c.set_parameter.result here (search rules, c.is_no_pin.ensures) c.set_parameter.ensures.ok
 
 pub returns-in-Some-clause-err : goal.returns-in-Some-clause-err
 returns-in-Some-clause-err c =
     let here : row_here c.args.self.now.profile c.args.pid ≡ Some (added_row c.in-Some.def.now) = search (rules, parameter_here) in
     let found : find (is_pid_of c.args.pid) c.args.self.now.profile.own ≡ Some c.in-Some.def.now = search rules in
-    set_err_at c.args.self.now c.args.pid c.args.data.now c.in-Some.def.now c.is_protected.result c.set_parameter.result here (c.is_protected.ensures c.args.self.now.profile found) c.set_parameter.ensures.err
+    set_err_at c.args.self.now c.args.pid c.args.data.now c.in-Some.def.now _ c.is_no_pin.result c.set_parameter.result here (search rules, c.is_no_pin.ensures) c.set_parameter.ensures.err
 
 pub returns-in-Some-clause-after : goal.returns-in-Some-clause-after
 returns-in-Some-clause-after c =
