@@ -2,7 +2,7 @@
 use Rattle.std.specs.Prelude.{ℕ, ℤ, pos, ◌+◌, ◌%◌, Bool, true, ◌==◌, ◌&&◌, List, [], ◌∷◌, ◌++◌, find, slice_index, unwrap_or, if◌then◌else◌}
 use Rattle.std.specs.List.{list_any}
 use Rattle.std.specs.Option.{option_map_or}
-use Rattle.std.specs.Int.{w16, w64, from_be_bytes, cast_unsigned}
+use Rattle.std.specs.Int.{w64, cast_unsigned}
 use Rattle.rdm_device.specs.declared.profile.choices.ChoiceName.{ChoiceName}
 use Rattle.rdm_device.specs.declared.profile.own.ParameterDef.{ParameterDef}
 use Rattle.rdm_device.specs.declared.profile.own.Rights.{Rights}
@@ -20,7 +20,7 @@ use Rattle.rdm_device.specs.Device.Choices.{greatest, is_name_of, has_name}
 use Rattle.rdm_device.specs.Device.Map.{Entry, has_key, lookup}
 use Rattle.rdm_device.specs.Device.OwnParameters.{form_of, number_in, is_within, is_makers}
 use Rattle.rdm_device.specs.Device.Spot.{Spot}
-use Rattle.rdm_device.specs.Device.Values.{bytes_of, word_slots, long_slots, byte_or_0, word_or_0, label_in}
+use Rattle.rdm_device.specs.Device.Values.{front_word, bytes_of, word_slots, long_slots, byte_or_0, word_or_0, label_in}
 
 -- what is kept of it
 abbrev pub added_value : ℕ → Spot → List ℕ
@@ -67,7 +67,7 @@ set_form d = form_by d.rights d.shape
 abbrev pub taken_as : Shape → ParameterDef → List ℕ → Value → Bool
 taken_as shapes.Scenes d pin v = is_set_of d (slots_in v)
 taken_as shapes.Lock d pin v = knows_pin pin (slots_in v) && is_within d (Byte (state_of (slots_in v)))
-taken_as shapes.Pin d pin v = knows_old_pin pin (slots_in v) && is_within d (Word (from_be_bytes w16 (new_pin (slots_in v))))
+taken_as shapes.Pin d pin v = knows_old_pin pin (slots_in v) && is_within d (Word (front_word (slots_in v)))
 taken_as _ d pin v = is_within d v
 
 abbrev pub taken_by : Rights → ParameterDef → List ℕ → Value → Bool

@@ -5,7 +5,7 @@ ghost use Rattle.std.specs.List.{list_any};
 ghost use Rattle.rdm_device.specs.Device.Locks.{lock_state, pin_kept, is_lock_of, is_locked, is_no_pin, state_of, knows_pin, knows_old_pin, new_pin};
 ghost use Rattle.rdm_device.specs.Views.State.{added_entries};
 
-use crate::columns::added::{first_of, kept_of};
+use crate::columns::added::{bytes_at, first_of};
 use crate::device::state::Kept;
 use crate::{Lock, Profile};
 
@@ -36,14 +36,10 @@ fn does_one_lock(locks: &[Lock], state: u8, pid: u16) -> bool
 }
 
 /// The lock state that is kept, and 0 where there is none.
-#[tactic(auto, using(crate::proofs::Added::kept_is))]
 fn lock_state(values: &[Kept]) -> u8
     ensures { result ≡ lock_state (added_entries values.now) }
 {
-    match kept_of(values, LOCK_STATE, 0) {
-        Some(kept) => first_of(kept.bytes.as_slice()),
-        None => 0,
-    }
+    first_of(bytes_at(values, LOCK_STATE, 0))
 }
 
 /// Whether the data of a SET of LOCK_PIN say a new PIN that is none.
@@ -70,14 +66,14 @@ pub(crate) fn state_of(slots: &[u8]) -> u8
 pub(crate) fn knows_pin(values: &[Kept], slots: &[u8]) -> bool
     ensures { result ≡ knows_pin (pin_kept (added_entries values.now)) slots.now }
 {
-    front_of(slots) == pin_of(values)
+    front_of(slots) == bytes_at(values, LOCK_PIN, 0)
 }
 
 /// Whether the slots of a SET of the PIN end with that which is kept.
 pub(crate) fn knows_old_pin(values: &[Kept], slots: &[u8]) -> bool
     ensures { result ≡ knows_old_pin (pin_kept (added_entries values.now)) slots.now }
 {
-    &slots[slots.len().min(2)..] == pin_of(values)
+    &slots[slots.len().min(2)..] == bytes_at(values, LOCK_PIN, 0)
 }
 
 /// The new PIN that the slots of a SET begin with.
@@ -93,15 +89,4 @@ fn front_of(slots: &[u8]) -> &[u8]
     ensures few { length result.now ≤ 2 }
 {
     &slots[..slots.len().min(2)]
-}
-
-/// The PIN that is kept.
-#[tactic(auto, using(crate::proofs::Added::kept_is))]
-fn pin_of(values: &[Kept]) -> &[u8]
-    ensures { result.now ≡ pin_kept (added_entries values.now) }
-{
-    match kept_of(values, LOCK_PIN, 0) {
-        Some(kept) => kept.bytes.as_slice(),
-        None => &[],
-    }
 }

@@ -4,7 +4,7 @@ ghost use Rattle.std.specs.Prelude.{◌≡◌, ◌↔◌, ◌≤◌, ◌||◌, �
 ghost use Rattle.rdm_device.specs.declared.value.Value.{Value};
 ghost use Rattle.rdm_device.specs.Columns.Added.{order_stored, start_stored, counted, form_taken, set_form, slots_in, taken_as, takes, index_kept, bytes_kept, kept_stored, stored_by, own_stored};
 ghost use Rattle.rdm_device.specs.Columns.Forms.{value_of};
-ghost use Rattle.std.specs.Int.{w16, from_be_bytes};
+ghost use Rattle.rdm_device.specs.Device.Values.{front_word};
 ghost use Rattle.rdm_device.specs.declared.value.Value.TheVariants.{Byte, Word};
 ghost use Rattle.rdm_device.specs.Device.Locks.{pin_kept, knows_pin, knows_old_pin, state_of, new_pin};
 ghost use Rattle.rdm_device.specs.Device.OwnParameters.{is_within};
@@ -80,7 +80,7 @@ fn takes_state(def: &ParameterDef, values: &[Kept], slots: &[u8]) -> bool
 
 /// Whether slots end with the PIN that is kept, and begin with one that can be.
 fn takes_pin(def: &ParameterDef, values: &[Kept], slots: &[u8]) -> bool
-    ensures { result ≡ (knows_old_pin (pin_kept (added_entries values.now)) slots.now && is_within def.now (Word (from_be_bytes w16 (new_pin slots.now)))) }
+    ensures { result ≡ (knows_old_pin (pin_kept (added_entries values.now)) slots.now && is_within def.now (Word (front_word slots.now))) }
 {
     knows_old_pin(values, slots) && is_within(def, &Argument::from_word(scene_of(slots)))
 }
