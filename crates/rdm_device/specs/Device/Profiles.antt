@@ -56,10 +56,10 @@ pub record Agree (ds : List ParameterDef) (cs : List ChoiceName) : Type 0 where
 abbrev pub Ascend : List ParameterDef → Type 0
 Ascend ds = AllPairs (λ s t. s.pid < t.pid) ds
 
--- The parameters of the maker's own are at most 16, each of them is good, and they are in their order; and these names are those of their
+-- The parameters of the maker's own are at most 32, each of them is good, and they are in their order; and these names are those of their
 -- choices.
 pub record AreGoodParameters (ds : List ParameterDef) (cs : List ChoiceName) : Type 0 where
-  pub count : length ds ≤ 16
+  pub count : length ds ≤ 32
   pub pids : HaveFreePids ds
   pub limits : HaveLimits ds
   pub starts : HaveStarts ds

@@ -42,7 +42,7 @@ pub enum ProfileFault {
     LeftOut,
     /// A parameter is left out without one that needs it, such as DMX_PERSONALITY without DMX_PERSONALITY_DESCRIPTION.
     LeftOutNeeded,
-    /// There are more than 16 parameters of the maker's own.
+    /// There are more than 32 parameters of the maker's own.
     ParameterCount,
     /// A parameter of the maker's own has a PID that isn't 0x8000 to 0xFFDF, nor one of the standards' that is lent to makers; or two have
     /// the same.

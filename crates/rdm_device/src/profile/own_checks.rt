@@ -9,11 +9,11 @@ use crate::{ParameterDef, Shape};
 use rdm_frame::standard::MOST_TEXT;
 
 /// How many parameters a profile can add.
-const MOST_OWN: usize = 16;
+const MOST_OWN: usize = 32;
 
 /// Whether they are no more than a profile can add.
 pub(crate) fn are_few(defs: &[ParameterDef]) -> bool
-    ensures { IsTrue result ↔ (length defs.now ≤ 16) }
+    ensures { IsTrue result ↔ (length defs.now ≤ 32) }
 {
     defs.len() <= MOST_OWN
 }
