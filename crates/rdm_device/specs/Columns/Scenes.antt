@@ -35,6 +35,11 @@ abbrev pub scenes_to : ParameterDef → ℕ → List Entry
 scenes_to d zero = []
 scenes_to d (suc n) = scenes_to d n ++ scene_at_start d (suc n) ∷ []
 
+-- how many it has
+abbrev pub scene_count : Shape → ParameterDef → ℕ
+scene_count shapes.Scenes d = greatest d
+scene_count _ d = 0
+
 abbrev pub scenes_by : Shape → ParameterDef → List Entry
 scenes_by shapes.Scenes d = scenes_to d (greatest d)
 scenes_by _ d = []

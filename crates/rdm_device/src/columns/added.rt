@@ -27,7 +27,9 @@ pub use crate::columns::added::locking::{is_locked, is_no_pin};
 pub(crate) use crate::columns::added::locking::{knows_old_pin, knows_pin, new_pin, state_of};
 pub use crate::columns::added::resetting::{are_at_start, set_added_back};
 pub use crate::columns::added::scenes::{a_scene, is_protected_scene, scene_shown};
-pub(crate) use crate::columns::added::scenes::{is_set_of, scene_kept, scene_of, start_scenes};
+pub(crate) use crate::columns::added::scenes::{
+    is_set_of, scene_count, scene_kept, scene_of, start_scenes,
+};
 pub(crate) use crate::columns::added::setting::first_of;
 pub use crate::columns::added::setting::{read_set, store_set, takes};
 use crate::columns::{forms, writes};

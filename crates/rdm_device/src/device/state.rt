@@ -4,7 +4,7 @@ ghost use Rattle.std.specs.Prelude.{◌≡◌, ◌++◌, IfOk, OnOk};
 ghost use Rattle.rdm_device.specs.Device.Parameters.{added_at_start, kept_at_start};
 ghost use Rattle.rdm_device.specs.Views.State.{added_entries};
 
-use crate::columns::added::{is_order, start_scenes};
+use crate::columns::added::{is_order, scene_count, start_scenes};
 use crate::{ParameterDef, Profile, SensorDef, Unit};
 use arrayvec::ArrayVec;
 use rdm_frame::Text;
@@ -162,11 +162,27 @@ impl RootValues {
 fn start_added(alloc: Global, defs: &[ParameterDef]) -> Result<Vec<Kept>, AllocError>
     ensures { IfOk result (λ added. added_entries added.items ≡ added_at_start defs.now) }
 {
-    let mut added = Vec::with_capacity(alloc, defs.len())?;
+    let mut added = Vec::with_capacity(alloc, values_of(defs))?;
     for i in 0..defs.len() {
         start_one(&defs[i], &mut added)?;
     }
     Ok(added)
+}
+
+/// How many values are kept of them, so that memory is taken once, and for no more.
+// A hint: were it wrong, the list would grow.
+fn values_of(defs: &[ParameterDef]) -> usize {
+    let mut values: usize = 0;
+    for i in 0..defs.len() {
+        values = values.saturating_add(values_of_one(&defs[i]));
+    }
+    values
+}
+
+/// How many are kept of one: its data, the count of an order, and its scenes.
+fn values_of_one(def: &ParameterDef) -> usize {
+    let count = if is_order(def.rights) { 1 } else { 0 };
+    1 + count + scene_count(def) as usize
 }
 
 /// Adds what one of them starts with.

@@ -2,7 +2,7 @@
 
 ghost use Rattle.std.specs.Prelude.{◌≡◌, ◌≤◌, ◌++◌, [], length, slice_index, take, drop, OnOk};
 ghost use Rattle.rdm_device.specs.Columns.Forms.{word};
-ghost use Rattle.rdm_device.specs.Columns.Scenes.{is_scene, read_only, programmed_at_start, scene_at_start, scenes_to, scenes_by, a_scene, scene_shown, scene_of, is_set_of, scene_kept, is_of_read_only, protects_by};
+ghost use Rattle.rdm_device.specs.Columns.Scenes.{is_scene, read_only, programmed_at_start, scene_at_start, scenes_to, scene_count, scenes_by, a_scene, scene_shown, scene_of, is_set_of, scene_kept, is_of_read_only, protects_by};
 ghost use Rattle.rdm_device.specs.Device.Spot.{Spot};
 ghost use Rattle.rdm_device.specs.Views.State.{added_entries, kept_entry};
 
@@ -29,6 +29,16 @@ fn read_only(def: &ParameterDef) -> u8
     ensures { result ≡ read_only def.now }
 {
     (def.low.cast_unsigned() % 256) as u8
+}
+
+/// How many scenes a parameter has.
+pub(crate) fn scene_count(def: &ParameterDef) -> u8
+    ensures { result ≡ scene_count def.now.shape def.now }
+{
+    match def.shape {
+        Shape::Scenes => greatest(def),
+        _ => 0,
+    }
 }
 
 /// Adds what the scenes of a parameter start with, if it has some.
