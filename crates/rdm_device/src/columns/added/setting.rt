@@ -123,7 +123,7 @@ fn store_by(rights: Rights, def: &ParameterDef, value: &Argument<'_>, own: &mut 
 }
 
 /// Keeps what the data of a SET stand for, and says whether it is another value.
-#[tactic(auto, unfolding(crate::specs::Views::State::own_entries), using(crate::proofs::Added::kept_all))]
+#[tactic(auto, unfolding(crate::specs::Views::State::own_entries))]
 fn store_kept(def: &ParameterDef, value: &Argument<'_>, own: &mut RootValues) -> bool
     ensures own { own_entries own.new ≡ own_entries own.old }
     ensures after { (spot : Spot) → added_entries own.new.added.items ≡ update (kept_stored def.now spot value.now) (added_entries own.old.added.items) }
