@@ -282,7 +282,7 @@ open_as false true true no_pin e = refl
 open_as false true false no_pin e = absurd cc
 open_as false false lockable no_pin e = refl
 
-abbrev IsTestOf : Parameters → ℕ → List ℕ → ParameterDef → Bool → Bool → Type 0
+abbrev pub IsTestOf : Parameters → ℕ → List ℕ → ParameterDef → Bool → Bool → Type 0
 IsTestOf p pid bytes d protected no_pin =
     (protected ≡ (is_read_only p.profile.own pid bytes || is_locked p.profile.locks p.added pid)) × (no_pin ≡ is_no_pin pid bytes)
 

@@ -1,12 +1,13 @@
 //! The commands of the parameters that a profile adds to the table, which the root alone has.
 
-ghost use Rattle.std.specs.Prelude.{◌≡◌, ◌≢◌, ◌↔◌, ◌==◌, ◌&&◌, List, [], Some, Ok, Err, IfOk, IfErr, true, false, is_ok, find};
+ghost use Rattle.std.specs.Prelude.{◌≡◌, ◌≢◌, ◌↔◌, ◌==◌, ◌&&◌, ◌||◌, List, [], Some, Ok, Err, IfOk, IfErr, true, false, is_ok, find};
 ghost use Rattle.std.specs.List.{list_any};
 ghost use Rattle.std.specs.Option.{option_copied};
 ghost use Rattle.rdm_params.specs.declared.kind.Verb.TheVariants.{Get, Set};
 ghost use Rattle.rdm_device.specs.declared.profile.own.Shape.TheVariants as shapes;
 ghost use Rattle.rdm_device.specs.Columns.Added.{has_makers_pid, is_pid_of};
 ghost use Rattle.rdm_device.specs.Device.Map.{value_at};
+ghost use Rattle.rdm_device.specs.Device.Locks.{is_locked};
 ghost use Rattle.rdm_device.specs.Device.Spot.{Spot};
 ghost use Rattle.rdm_device.specs.Views.State.{own_entries, added_entries};
 ghost use Rattle.rdm_params.specs.Commands.Added.{row_here, handed_with, handed_here, reply_of, reply_here, after_with, after_here};
@@ -17,7 +18,7 @@ ghost use Rattle.rdm_params.specs.Table.Rows.{description_row, added_row, gets_a
 use super::Devices;
 use crate::{Nack, Profile};
 use rdm_device::columns::{added, forms};
-use rdm_device::{ParameterDef, Place, RootValues, Shape};
+use rdm_device::{Kept, ParameterDef, Place, RootValues, Shape};
 use rdm_frame::Body;
 use rdm_frame::standard::PARAMETER_DESCRIPTION;
 
@@ -71,8 +72,8 @@ impl Devices {
         }
         match parameter_of(profile, pid) {
             Some(def) => {
-                let protected = is_read_only(pid, def, data)
-                    || added::is_locked(profile, self.own.added.as_slice(), pid);
+                let values = self.own.added.as_slice();
+                let protected = is_protected(profile, values, pid, def, data);
                 let no_pin = added::is_no_pin(pid, data);
                 set_parameter(def, protected, no_pin, data, &mut self.own)
             }
@@ -93,6 +94,20 @@ pub(super) fn parameter_of(profile: &Profile, pid: u16) -> Option<&ParameterDef>
     ensures { option_copied result ≡ find (is_pid_of pid) profile.now.own }
 {
     added::parameter_of(profile.own.as_slice(), pid)
+}
+
+/// Whether what a SET of this parameter, which the profile adds with this PID, would write can only be read, or is locked.
+fn is_protected(
+    profile: &Profile,
+    values: &[Kept],
+    pid: u16,
+    def: &ParameterDef,
+    data: &[u8],
+) -> bool
+    requires { find (is_pid_of pid) profile.now.own ≡ Some def.now }
+    ensures { result ≡ (is_read_only profile.now.own pid data.now || is_locked profile.now.locks (added_entries values.now) pid) }
+{
+    is_read_only(pid, def, data) || added::is_locked(profile, values, pid)
 }
 
 /// Whether what a SET of this parameter, which has this PID, would write can only be read, as a scene of PRESET_STATUS.
