@@ -101,7 +101,7 @@ static felosumay_result nothing(void) {
     return result;
 }
 
-static felosumay_parameter parameters[17];
+static felosumay_parameter parameters[33];
 static felosumay_profile profile;
 
 /* A good profile, with two bytes of 1 to 9 as its own parameters, and 15 more that it doesn't count. */
@@ -112,7 +112,7 @@ static void begin(void) {
     profile.root.personality_count = profile.sub.personality_count = 1;
     profile.root.start = profile.sub.start = 1;
     profile.language_count = 1;
-    for (uint16_t i = 0; i < 17; i++) {
+    for (uint16_t i = 0; i < 33; i++) {
         parameters[i] = number;
         parameters[i].pid = (uint16_t)(0x8000 + i);
     }
@@ -138,8 +138,8 @@ static void own_parameters(void) {
     profile.parameters = NULL;
     profile.parameter_count = 0;
     judge("NULL");
-    profile.parameter_count = 17;
-    judge("17 of them");
+    profile.parameter_count = 33;
+    judge("33 of them");
     parameters[1].pid = 0xFFE0;
     judge("PID FFE0");
     parameters[1].pid = FELOSUMAY_PID_DEVICE_LABEL;

@@ -134,9 +134,18 @@ enum {
     /* None of table A-15: of parameters of E1.37-1, which PARAMETER_DESCRIPTION doesn't describe. */
     FELOSUMAY_DS_CHOICE = 0xF0, /* the number of one of several things, from low, which is 1, to high; its GET has high behind */
     FELOSUMAY_DS_NAMES = 0xF1,  /* no data: it tells what these are called, whose PID is the one before */
-    FELOSUMAY_DS_RATES = 0xF2   /* the same, with a frequency of each */
+    FELOSUMAY_DS_RATES = 0xF2,  /* the same, with a frequency of each */
+    FELOSUMAY_DS_SCENES = 0xF3, /* the times of scenes 1 to high, of which those up to low can only be read (PRESET_STATUS); starts empty */
+    FELOSUMAY_DS_LOCK = 0xF4,   /* the number of a lock state, 0 to high, which a SET with the PIN sets (LOCK_STATE); low is 0 */
+    FELOSUMAY_DS_PIN = 0xF5,    /* that PIN: two bytes, from low, which is 0, to high, which is 9999 (LOCK_PIN) */
+    FELOSUMAY_DS_BLOCK = 0xF6   /* no data of its own: the start addresses of all sub-devices (DMX_BLOCK_ADDRESS); starts empty */
 };
-enum { FELOSUMAY_CC_GET = 0x01, FELOSUMAY_CC_SET = 0x02, FELOSUMAY_CC_GET_SET = 0x03 };
+enum {
+    FELOSUMAY_CC_GET = 0x01,
+    FELOSUMAY_CC_SET = 0x02, /* an order: each that is accepted is told as a change, and `own_value` reads its data */
+    FELOSUMAY_CC_GET_SET = 0x03,
+    FELOSUMAY_CC_GET_CLEAR = 0xF0 /* none of table A-16: a SET has no data, and sets it back to its start (COMMS_STATUS) */
+};
 
 /* One of the numbers in the slots of a parameter, one after another, the most significant byte first. */
 typedef struct {
@@ -153,6 +162,12 @@ typedef struct {
     uint8_t number; /* from 1 */
     felosumay_text name;
 } felosumay_choice;
+
+/* A parameter that a lock state keeps from being set by a controller; the firmware changes it all the same. */
+typedef struct {
+    uint16_t pid;  /* one of the table or of the maker's own; a slow command is never locked */
+    uint8_t state; /* the state of LOCK_STATE, from 1 */
+} felosumay_lock;
 
 /* A parameter of the maker's own, which the root has (section 10.4.2). PARAMETER_DESCRIPTION tells all but `resets` of those of
  * 0x8000 to 0xFFDF. Its values are in `unit`, times what `prefix` stands for. */
@@ -230,13 +245,15 @@ typedef struct {
     uint16_t more_slots; /* how many DMX512 slots the root has beside those of `slots`, which nothing describes: 0 to 512 */
     /* What lies outside: `new` reads it once, and it may be NULL if there is none. */
     const felosumay_parameter *parameters; /* the maker's own, by ascending PID */
-    size_t parameter_count;                /* 0 to 16 */
+    size_t parameter_count;                /* 0 to 32 */
     const uint16_t *without;               /* the PIDs of those of docs/PARAMETERS.md that the fixture hasn't, in any order */
     size_t without_count;                  /* 0 to 36 */
     felosumay_estimates estimates;         /* how long slow commands take */
     felosumay_workers workers;             /* and which worker carries them out */
     const felosumay_choice *choices;       /* the names of choices, by ascending PID and number; NULL if there are none */
     size_t choice_count;                   /* 0 to 64 */
+    uint8_t lock_count;                    /* 0 to 64 */
+    felosumay_lock locks[64];              /* which parameters the lock states keep from being set, in any order */
 } felosumay_profile;
 
 /* The rules of a profile, in the order in which they are tested. BAD_PROFILE says that one of them is broken. */
@@ -254,14 +271,15 @@ enum {
     FELOSUMAY_FAULT_TWIN_TEXTS = 10,   /* no two status texts have the same ID */
     FELOSUMAY_FAULT_LEFT_OUT = 11, /* without_count is at most 36, and each of `without` is a parameter that a device may lack */
     FELOSUMAY_FAULT_LEFT_OUT_NEEDED = 12,   /* whoever leaves out a parameter leaves out those that need it */
-    FELOSUMAY_FAULT_PARAMETER_COUNT = 13,   /* parameter_count is at most 16 */
+    FELOSUMAY_FAULT_PARAMETER_COUNT = 13,   /* parameter_count is at most 32 */
     FELOSUMAY_FAULT_PARAMETER_PID = 14,     /* each has a PID that is free for it, and no two the same */
     FELOSUMAY_FAULT_PARAMETER_LIMITS = 15,  /* kind and commands are of those above; size is at most 32; low and high fit, in order */
     FELOSUMAY_FAULT_PARAMETER_START = 16,   /* start has as many bytes as the data, and is in range */
     FELOSUMAY_FAULT_PARAMETER_ORDER = 17,   /* their PIDs ascend */
     FELOSUMAY_FAULT_PARAMETER_FIELDS = 18,  /* the fields of each take all of its slots, and can say their limits, in order */
     FELOSUMAY_FAULT_PARAMETER_STANDARD = 19, /* one of a standard has the commands and the data of it, or fewer commands */
-    FELOSUMAY_FAULT_PARAMETER_NAMES = 20    /* each choice has its names, each name its choice; CURVE has as many as DIMMER_INFO */
+    FELOSUMAY_FAULT_PARAMETER_NAMES = 20,   /* each choice has its names, each name its choice; CURVE has as many as DIMMER_INFO */
+    FELOSUMAY_FAULT_PARAMETER_LOCKS = 21    /* each lock is of a state from 1 to the greatest of LOCK_STATE */
 };
 
 /* Which rule the profile breaks: the first of them, or NO_FAULT, and then `new` doesn't call it a BAD_PROFILE. */
@@ -295,7 +313,7 @@ typedef struct {
 enum {
     FELOSUMAY_NOTHING_CHANGED = 0, /* every value is what it was, even if there was a SET */
     FELOSUMAY_ONE_CHANGED = 1,     /* one parameter of one device; after RECORD_SENSORS it is SENSOR_VALUE, of one sensor or all */
-    FELOSUMAY_SEVERAL_CHANGED = 2  /* several: by a SET of all sub-devices, or by FACTORY_DEFAULTS */
+    FELOSUMAY_SEVERAL_CHANGED = 2  /* several: by a SET of all sub-devices, or of DMX_BLOCK_ADDRESS, or by FACTORY_DEFAULTS */
 };
 
 typedef struct {
@@ -331,8 +349,10 @@ felosumay_result felosumay_responder_demo(felosumay_responder *responder, uint16
 
 /* How many bytes of memory a responder takes with room for so many messages and jobs and status entries, and with so many
  * sub-devices, each block rounded up to 16 bytes: `new` asks the heap for no more, and no later call asks it for any.
- * FELOSUMAY_RESPONDER_BYTES is the same as a constant, for the size of an array. A profile with so many parameters of the
- * maker's own takes FELOSUMAY_OWN_PARAMETERS_BYTES more, and one with so many names of choices FELOSUMAY_CHOICES_BYTES.
+ * FELOSUMAY_RESPONDER_BYTES is the same as a constant, for the size of an array. A profile takes more if it has anything that few
+ * have, each of these that applies: FELOSUMAY_PARTICULARS_BYTES if it has `parameters`, `without`, `choices`, `locks`, `more_slots` or
+ * unusual `estimates`; FELOSUMAY_OWN_PARAMETERS_BYTES of the number of its parameters; FELOSUMAY_VALUES_BYTES of how many of them are
+ * orders, and how many scenes PRESET_STATUS has; FELOSUMAY_CHOICES_BYTES and FELOSUMAY_LOCKS_BYTES of those numbers.
  * `fits` says whether a responder of this size has room in so many bytes of memory from this address on, as
  * felosumay_memory.h makes one: UNALIGNED, SHORT_MEMORY, in this order. Any sizes are reckoned with, and it is `new` that
  * calls one a BAD_SIZE. */
@@ -340,10 +360,13 @@ size_t felosumay_responder_size(uint16_t queue_size, uint16_t entries, uint16_t 
 felosumay_result felosumay_responder_fits(uintptr_t address, size_t bytes, uint16_t queue_size, uint16_t entries,
                                           uint16_t sub_devices);
 #define FELOSUMAY_ROUNDED(bytes) (((size_t)(bytes) + 15) / 16 * 16)
-#define FELOSUMAY_OWN_PARAMETERS_BYTES(count) ((count) == 0 ? (size_t)0 : FELOSUMAY_ROUNDED(4104) + 48 * (size_t)(count))
+#define FELOSUMAY_PARTICULARS_BYTES FELOSUMAY_ROUNDED(144)
+#define FELOSUMAY_OWN_PARAMETERS_BYTES(count) ((count) == 0 ? (size_t)0 : FELOSUMAY_ROUNDED(24) + (256 + 48) * (size_t)(count))
+#define FELOSUMAY_VALUES_BYTES(count) (48 * (size_t)(count))
 #define FELOSUMAY_CHOICES_BYTES(count) ((count) == 0 ? (size_t)0 : FELOSUMAY_ROUNDED(3080))
+#define FELOSUMAY_LOCKS_BYTES(count) ((count) == 0 ? (size_t)0 : FELOSUMAY_ROUNDED(264))
 #define FELOSUMAY_RESPONDER_BYTES(queue_size, entries, sub_devices)                                                             \
-    (FELOSUMAY_ROUNDED(5984) + FELOSUMAY_ROUNDED(64 * (size_t)(sub_devices)) + 2 * FELOSUMAY_ROUNDED(12 * (size_t)(queue_size)) + \
+    (FELOSUMAY_ROUNDED(5856) + FELOSUMAY_ROUNDED(56 * (size_t)(sub_devices)) + 2 * FELOSUMAY_ROUNDED(12 * (size_t)(queue_size)) + \
      FELOSUMAY_ROUNDED(248 * (size_t)(queue_size)) + FELOSUMAY_ROUNDED(9 * (size_t)(entries)))
 
 /* Hears bytes. If there is a reply, it stands at the front of `reply`; the answer to discovery is a reply like any other,
@@ -375,7 +398,8 @@ felosumay_result felosumay_responder_room(const felosumay_responder *responder, 
  * at once, with no message, and needs no room, even if a SET on the line is slow; the factory's defaults stay the profile's.
  * `data` are those of the SET, in its range and units, the most significant byte first (DEVICE_HOURS: 4 bytes, in hours, E1.20
  * section 10.8.1); what a sensor shows is placed as SENSOR_VALUE, 0x0201, at the root, by the 9 bytes with which that replies:
- * the sensor's number, then its present, lowest, highest and recorded value (section 10.7.2). docs/PARAMETERS.md has the list.
+ * the sensor's number, then its present, lowest, highest and recorded value (section 10.7.2); a scene, also one that can only
+ * be read, as PRESET_STATUS, 0x1042, by the 9 bytes of its SET (E1.37-1). docs/PARAMETERS.md has the list.
  * ABSENT; NO_DEVICE if there is no such sub-device; NOT_STORED if the device stores no value of `pid`; BAD_LENGTH;
  * OUT_OF_RANGE, in this order; nothing changes then. */
 static inline felosumay_result felosumay_responder_place(felosumay_responder *responder, uint16_t sub, uint16_t pid,
@@ -407,12 +431,35 @@ static inline felosumay_result felosumay_responder_get(const felosumay_responder
                                                        const uint8_t *argument, size_t length, uint8_t value[FELOSUMAY_VALUE_BYTES],
                                                        size_t *count, uint16_t *reason);
 
+/* Reads what is kept of a parameter of `parameters`, whichever commands it has: the data of an order, which no GET reads. The firmware
+ * does so when `step` tells that it changed, sends the reply, and carries the order out. ABSENT; NOT_STORED if the profile adds no
+ * parameter of this PID. Nothing changes. */
+felosumay_result felosumay_responder_own_value(const felosumay_responder *responder, uint16_t pid,
+                                               uint8_t value[FELOSUMAY_VALUE_BYTES], size_t *count);
+
 /* How many messages wait, and how many jobs are outstanding. ABSENT. */
 felosumay_result felosumay_responder_waiting(const felosumay_responder *responder, size_t *count);
 felosumay_result felosumay_responder_outstanding(const felosumay_responder *responder, size_t *count);
 
 /* Gives up what the handle holds, if anything. The handle is {0} again. NULL is no handle, and nothing happens then. */
 void felosumay_responder_free(felosumay_responder *responder);
+
+/* ---- frames */
+
+/* What bytes of a frame keep, in the order in which it is tested (E1.20 section 6.2). */
+enum {
+    FELOSUMAY_IS_FRAME = 0,        /* they keep all of it */
+    FELOSUMAY_FRAME_SHORT = 1,     /* there are 26 at least */
+    FELOSUMAY_FRAME_START = 2,     /* the first is CC */
+    FELOSUMAY_FRAME_SUB_START = 3, /* the second is 01 */
+    FELOSUMAY_FRAME_LENGTH = 4,    /* the third, the message length, is two less than their number */
+    FELOSUMAY_FRAME_DATA_LENGTH = 5, /* the parameter data length is what the message length leaves for it */
+    FELOSUMAY_FRAME_CHECKSUM = 6   /* the last two are the sum of the others */
+};
+
+/* What bytes break of this first, or IS_FRAME. A responder and a collector take nothing else for a frame, and say no more of it: for
+ * the counts of COMMS_STATUS. The answer to discovery is no frame. */
+static inline uint8_t felosumay_frame_fault(const uint8_t *bytes, size_t length);
 
 /* ---- the collector */
 
@@ -676,6 +723,11 @@ static inline felosumay_result felosumay_responder_get(const felosumay_responder
                                                        const uint8_t *argument, size_t length, uint8_t value[FELOSUMAY_VALUE_BYTES],
                                                        size_t *count, uint16_t *reason) {
     return felosumay_responder_get_nonnull(responder, sub, pid, felosumay_bytes(argument, length), length, value, count, reason);
+}
+
+uint8_t felosumay_frame_fault_nonnull(const uint8_t *bytes, size_t length);
+static inline uint8_t felosumay_frame_fault(const uint8_t *bytes, size_t length) {
+    return felosumay_frame_fault_nonnull(felosumay_bytes(bytes, length), length);
 }
 
 felosumay_result felosumay_reply_read_nonnull(const uint8_t *bytes, size_t length, felosumay_reply *reply);

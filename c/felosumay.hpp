@@ -62,11 +62,14 @@ inline result read_reply(bytes heard, felosumay_reply &reply) noexcept {
     return felosumay_reply_read(heard.data(), heard.size(), &reply);
 }
 
+// What bytes of a frame break first, FELOSUMAY_FRAME_.., or FELOSUMAY_IS_FRAME.
+inline std::uint8_t frame_fault(bytes heard) noexcept { return felosumay_frame_fault(heard.data(), heard.size()); }
+
 // Which rule a profile breaks, FELOSUMAY_FAULT_..: the first of them, or FELOSUMAY_NO_FAULT.
 inline std::uint8_t profile_fault(const felosumay_profile &profile) noexcept { return felosumay_profile_fault(&profile); }
 
-// Lend a profile the parameters of the maker's own, and the PIDs of those that the fixture hasn't: of an array, a std::vector or any
-// other range with data and size, which has to stay as it is until the responder is made.
+// Lend a profile the parameters of the maker's own, the PIDs of those that the fixture hasn't, and the names of choices: of an array, a
+// std::vector or any other range with data and size, which has to stay as it is until the responder is made.
 template <class Parameters> void lend_parameters(felosumay_profile &profile, const Parameters &parameters) noexcept {
     profile.parameters = std::data(parameters);
     profile.parameter_count = std::size(parameters);
@@ -74,6 +77,10 @@ template <class Parameters> void lend_parameters(felosumay_profile &profile, con
 template <class Pids> void lend_without(felosumay_profile &profile, const Pids &without) noexcept {
     profile.without = std::data(without);
     profile.without_count = std::size(without);
+}
+template <class Choices> void lend_choices(felosumay_profile &profile, const Choices &choices) noexcept {
+    profile.choices = std::data(choices);
+    profile.choice_count = std::size(choices);
 }
 
 // A handle of C's that frees what it holds.
@@ -153,6 +160,10 @@ public:
     [[nodiscard]] result get_value(std::uint16_t sub, std::uint16_t pid, bytes argument, value &read,
                                    std::uint16_t &reason) const noexcept {
         return felosumay_responder_get(get(), sub, pid, argument.data(), argument.size(), read.room.data(), &read.count, &reason);
+    }
+    // Also the data of an order, which no GET reads.
+    [[nodiscard]] result own_value(std::uint16_t pid, value &read) const noexcept {
+        return felosumay_responder_own_value(get(), pid, read.room.data(), &read.count);
     }
     [[nodiscard]] result waiting(std::size_t &count) const noexcept { return felosumay_responder_waiting(get(), &count); }
     [[nodiscard]] result outstanding(std::size_t &count) const noexcept { return felosumay_responder_outstanding(get(), &count); }

@@ -25,12 +25,12 @@ extern "C" {
  *
  *     FELOSUMAY_ALIGNED static uint8_t memory[FELOSUMAY_RESPONDER_BYTES(8, 64, 0)];
  *
- * If the profile has parameters of the maker's own, add FELOSUMAY_OWN_PARAMETERS_BYTES(their number), and if it has names of choices,
- * FELOSUMAY_CHOICES_BYTES(their number).
+ * A profile that has what few have needs more: felosumay.h says there which of FELOSUMAY_PARTICULARS_BYTES,
+ * FELOSUMAY_OWN_PARAMETERS_BYTES, FELOSUMAY_VALUES_BYTES, FELOSUMAY_CHOICES_BYTES and FELOSUMAY_LOCKS_BYTES to add.
  *
  * UNALIGNED; SHORT_MEMORY, if there are fewer bytes than FELOSUMAY_RESPONDER_BYTES of these sizes and the profile's sub-devices;
- * IN_USE, if a responder lies in some of it; and then as `new_with`, in this order, where OUT_OF_MEMORY says that the parameters of the
- * maker's own, or the names of choices, lack room. If it isn't DONE, the handle stays as it was, and
+ * IN_USE, if a responder lies in some of it; and then as `new_with`, in this order, where OUT_OF_MEMORY says that what few profiles have
+ * lacks room. If it isn't DONE, the handle stays as it was, and
  * the memory is the program's again. */
 felosumay_result felosumay_responder_new_in(void *memory, size_t bytes, felosumay_responder *responder, uint16_t maker, uint32_t device,
                                             const felosumay_profile *profile, uint16_t queue_size, uint16_t entries, uint32_t first_job);

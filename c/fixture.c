@@ -31,8 +31,8 @@ static const felosumay_profile PROFILE = {
     /* the usual times and workers of slow commands */
     {0, 0, 0, 0},
     {0, 0, 0, 0},
-    /* no names of choices */
-    NULL, 0,
+    /* no names of choices, and no locks */
+    NULL, 0, 0, {{0, 0}},
 };
 
 static void print_bytes(const char *what, const uint8_t *bytes, size_t count) {

@@ -63,60 +63,93 @@ static void sizes(void) {
         }
 }
 
-/* A profile with parameters of the maker's own takes more: for each number of them exactly what is said. */
-static void own_parameters(void) {
-    static felosumay_parameter own[16];
+/* The profile as it stands takes so much more: exactly that, and a byte less won't do. */
+static void expect_more(const char *what, size_t more) {
     const size_t bytes = FELOSUMAY_RESPONDER_BYTES(2, 1, 0);
     felosumay_responder responder = {0};
+    expect(what, make(&responder, memory, bytes + more, 2, 1), FELOSUMAY_DONE);
+    if (felosumay_arenas != NULL)
+        expect(what, (unsigned)(felosumay_arenas->end - felosumay_arenas->free), 0);
+    felosumay_responder_free(&responder);
+    if (more == 0)
+        return;
+    expect(what, make(&responder, memory, bytes + more - 1, 2, 1), FELOSUMAY_OUT_OF_MEMORY);
+    expect(what, make(&responder, memory, bytes, 2, 1), FELOSUMAY_OUT_OF_MEMORY);
+}
+
+/* What sets a fixture apart takes one block, whatever it is. */
+static void particulars(void) {
+    static const uint16_t without[] = {FELOSUMAY_PID_LAMP_STATE};
     profile.subs = 0;
+    profile.estimates.lamp = 50;
+    expect_more("a usual time", 0);
+    profile.estimates.lamp = 51;
+    expect_more("another time", FELOSUMAY_PARTICULARS_BYTES);
+    profile.estimates.lamp = 0;
+    profile.more_slots = 1;
+    expect_more("more slots", FELOSUMAY_PARTICULARS_BYTES);
+    profile.more_slots = 0;
+    profile.without = without;
+    profile.without_count = 1;
+    expect_more("a parameter less", FELOSUMAY_PARTICULARS_BYTES);
+    profile.without = NULL;
+    profile.without_count = 0;
+    expect_more("nothing of these", 0);
+}
+
+/* A profile with parameters of the maker's own takes more: for each number of them exactly what is said. */
+static void own_parameters(void) {
+    static felosumay_parameter own[32];
     profile.parameters = own;
-    for (uint16_t count = 1; count <= 16; count++) {
-        const size_t more = bytes + FELOSUMAY_OWN_PARAMETERS_BYTES(count);
+    for (uint16_t count = 1; count <= 32; count++) {
         own[count - 1].pid = (uint16_t)(0x8000 + count);
         own[count - 1].kind = FELOSUMAY_DS_UNSIGNED_BYTE;
         own[count - 1].commands = FELOSUMAY_CC_GET;
         own[count - 1].start.count = 1;
         profile.parameter_count = count;
-        expect("own parameters, without more", make(&responder, memory, bytes, 2, 1), FELOSUMAY_OUT_OF_MEMORY);
-        expect("own parameters, a byte less", make(&responder, memory, more - 1, 2, 1), FELOSUMAY_OUT_OF_MEMORY);
-        expect("own parameters", make(&responder, memory, more, 2, 1), FELOSUMAY_DONE);
-        if (felosumay_arenas != NULL)
-            expect("what own parameters leave", (unsigned)(felosumay_arenas->end - felosumay_arenas->free), 0);
-        felosumay_responder_free(&responder);
+        expect_more("own parameters", FELOSUMAY_PARTICULARS_BYTES + FELOSUMAY_OWN_PARAMETERS_BYTES(count));
     }
+    own[0].commands = own[31].commands = FELOSUMAY_CC_SET;
+    expect_more("two orders", FELOSUMAY_PARTICULARS_BYTES + FELOSUMAY_OWN_PARAMETERS_BYTES(32) + FELOSUMAY_VALUES_BYTES(2));
+    own[0].pid = FELOSUMAY_PID_PRESET_STATUS;
+    own[0].kind = FELOSUMAY_DS_SCENES;
+    own[0].commands = FELOSUMAY_CC_GET_SET;
+    own[0].start.count = 0;
+    own[0].high = 255;
+    profile.parameter_count = 1;
+    expect_more("255 scenes", FELOSUMAY_PARTICULARS_BYTES + FELOSUMAY_OWN_PARAMETERS_BYTES(1) + FELOSUMAY_VALUES_BYTES(255));
     profile.parameters = NULL;
     profile.parameter_count = 0;
 }
 
-/* One with names of choices takes more, too. */
-static void names_of_choices(void) {
+/* One with names of choices and with locks takes more, too. */
+static void names_and_locks(void) {
     static felosumay_parameter own[2];
     static felosumay_choice name;
-    const size_t more = FELOSUMAY_RESPONDER_BYTES(2, 1, 0) + FELOSUMAY_OWN_PARAMETERS_BYTES(2) + FELOSUMAY_CHOICES_BYTES(1);
-    felosumay_responder responder = {0};
-    own[0].pid = FELOSUMAY_PID_OUTPUT_RESPONSE_TIME;
-    own[0].kind = FELOSUMAY_DS_CHOICE;
+    const size_t more = FELOSUMAY_PARTICULARS_BYTES + FELOSUMAY_OWN_PARAMETERS_BYTES(2) + FELOSUMAY_CHOICES_BYTES(1);
+    own[0].pid = FELOSUMAY_PID_LOCK_STATE;
+    own[0].kind = FELOSUMAY_DS_LOCK;
     own[0].commands = FELOSUMAY_CC_GET_SET;
-    own[0].low = own[0].high = 1;
+    own[0].high = 1;
     own[0].start.count = 1;
-    own[0].start.bytes[0] = 1;
-    own[1].pid = FELOSUMAY_PID_OUTPUT_RESPONSE_TIME_DESCRIPTION;
+    own[1].pid = FELOSUMAY_PID_LOCK_STATE_DESCRIPTION;
     own[1].kind = FELOSUMAY_DS_NAMES;
     own[1].commands = FELOSUMAY_CC_GET;
-    name.pid = FELOSUMAY_PID_OUTPUT_RESPONSE_TIME_DESCRIPTION;
+    name.pid = FELOSUMAY_PID_LOCK_STATE_DESCRIPTION;
     name.number = 1;
     profile.parameters = own;
     profile.parameter_count = 2;
     profile.choices = &name;
     profile.choice_count = 1;
-    expect("names of choices, a byte less", make(&responder, memory, more - 1, 2, 1), FELOSUMAY_OUT_OF_MEMORY);
-    expect("names of choices", make(&responder, memory, more, 2, 1), FELOSUMAY_DONE);
-    if (felosumay_arenas != NULL)
-        expect("what names of choices leave", (unsigned)(felosumay_arenas->end - felosumay_arenas->free), 0);
-    felosumay_responder_free(&responder);
+    expect_more("names of choices", more);
+    for (uint8_t count = 1; count <= 64; count++) {
+        profile.locks[count - 1].state = 1;
+        profile.lock_count = count;
+        expect_more("locks", more + FELOSUMAY_LOCKS_BYTES(count));
+    }
     profile.parameters = NULL;
     profile.choices = NULL;
-    profile.parameter_count = profile.choice_count = 0;
+    profile.parameter_count = profile.choice_count = profile.lock_count = 0;
 }
 
 /* What is refused, and leaves the memory free. */
@@ -194,8 +227,9 @@ int main(void) {
     profile.root.start = profile.sub.start = 1;
     profile.language_count = 1;
     sizes();
+    particulars();
     own_parameters();
-    names_of_choices();
+    names_and_locks();
     refusals();
     in_use();
     numbers();

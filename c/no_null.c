@@ -78,6 +78,10 @@ felosumay_result felosumay_responder_get_nonnull(const felosumay_responder *resp
     return look(argument, length);
 }
 
+uint8_t felosumay_frame_fault_nonnull(const uint8_t *bytes, size_t length) {
+    return look(bytes, length);
+}
+
 felosumay_result felosumay_reply_read_nonnull(const uint8_t *bytes, size_t length, felosumay_reply *reply) {
     (void)reply;
     return look(bytes, length);
@@ -134,6 +138,7 @@ static void call_each(void) {
     felosumay_responder_place(NULL, 0, 0, read, count);
     felosumay_responder_restore(NULL, read, count);
     felosumay_responder_get(NULL, 0, 0, read, count, NULL, NULL, NULL);
+    felosumay_frame_fault(read, count);
     felosumay_reply_read(read, count, NULL);
     felosumay_collector_ask(NULL, NULL, read, count, NULL, NULL);
     felosumay_collector_hear(NULL, read, count, NULL);
@@ -151,7 +156,7 @@ int main(void) {
     passed = parameters;
     passed_count = 2;
     call_each();
-    if (calls != 4 * 20)
-        printf("%d calls, not 4 times 20\n", calls);
-    return wrong != 0 || calls != 4 * 20;
+    if (calls != 4 * 21)
+        printf("%d calls, not 4 times 21\n", calls);
+    return wrong != 0 || calls != 4 * 21;
 }

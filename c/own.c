@@ -44,8 +44,8 @@ static const felosumay_profile PROFILE = {
     /* the usual times and workers of slow commands */
     {0, 0, 0, 0},
     {0, 0, 0, 0},
-    /* no names of choices */
-    NULL, 0,
+    /* no names of choices, and no locks */
+    NULL, 0, 0, {{0, 0}},
 };
 
 /* Asks the fixture, and prints its reply. */

@@ -6,7 +6,7 @@
 #include <string.h>
 
 static felosumay_profile profile;
-static felosumay_parameter parameters[17];
+static felosumay_parameter parameters[33];
 static int failed;
 
 /* The least profile that keeps the rules. */
@@ -120,7 +120,7 @@ static void left_out(void) {
 /* The least profile with so many parameters of the maker's own, each of this type, with this number of slots. */
 static felosumay_parameter *own(size_t count, uint8_t kind, uint8_t slots) {
     memset(parameters, 0, sizeof parameters);
-    for (uint16_t i = 0; i < 17; i++) {
+    for (uint16_t i = 0; i < 33; i++) {
         parameters[i].pid = (uint16_t)(0x8000 + i);
         parameters[i].kind = kind;
         parameters[i].commands = FELOSUMAY_CC_GET_SET;
@@ -134,11 +134,13 @@ static felosumay_parameter *own(size_t count, uint8_t kind, uint8_t slots) {
 
 static void own_pids(void) {
     static const uint16_t lent[] = {0x8000, 0xFFDF, 0x0440, 0x1040, 0x1043, 0x1044},
-                          taken[] = {0x0000, 0x0050, 0x0051, 0x0140, 0x0640, 0x7FFF, 0xFFE0};
-    own(16, FELOSUMAY_DS_UNSIGNED_BYTE, 1);
-    expect(13, "16 of them", FELOSUMAY_DONE);
-    profile.parameter_count = 17;
-    expect(13, "17 of them", FELOSUMAY_BAD_PROFILE);
+                          taken[] = {0x0000, 0x0050, 0x0051, 0x0101, 0x7FFF, 0xFFE0};
+    own(32, FELOSUMAY_DS_UNSIGNED_BYTE, 1);
+    expect(13, "32 of them", FELOSUMAY_DONE);
+    profile.parameter_count = 33;
+    expect(13, "33 of them", FELOSUMAY_BAD_PROFILE);
+    profile.subs = 513;
+    expect(1, "33 of them, and 513 sub-devices", FELOSUMAY_BAD_PROFILE);
     own(1, FELOSUMAY_DS_UNSIGNED_BYTE, 1);
     for (size_t i = 0; i < sizeof lent / sizeof *lent; i++) {
         parameters[0].pid = lent[i];
@@ -200,6 +202,10 @@ static void own_data(void) {
     expect(15, "no commands", FELOSUMAY_BAD_PROFILE);
     parameters[0].commands = 4;
     expect(15, "other commands", FELOSUMAY_BAD_PROFILE);
+    own(1, FELOSUMAY_DS_UNSIGNED_BYTE, 1)->commands = FELOSUMAY_CC_SET;
+    expect(15, "an order", FELOSUMAY_DONE);
+    own(1, FELOSUMAY_DS_BLOCK + 1, 1);
+    expect(15, "no type beyond the last", FELOSUMAY_BAD_PROFILE);
 }
 
 /* The numbers that slots say. */
@@ -237,6 +243,80 @@ static void standards(void) {
     expect(19, "DIMMER_INFO that is set", FELOSUMAY_BAD_PROFILE);
     parameters[0].commands = FELOSUMAY_CC_GET;
     expect(19, "DIMMER_INFO", FELOSUMAY_DONE);
+    own(1, FELOSUMAY_DS_UNSIGNED_BYTE, 1)->pid = FELOSUMAY_PID_RESET_DEVICE;
+    expect(19, "RESET_DEVICE that is read", FELOSUMAY_BAD_PROFILE);
+    parameters[0].commands = FELOSUMAY_CC_SET;
+    expect(19, "RESET_DEVICE", FELOSUMAY_DONE);
+    own(1, FELOSUMAY_DS_BLOCK, 0)->pid = FELOSUMAY_PID_DMX_BLOCK_ADDRESS;
+    expect(19, "DMX_BLOCK_ADDRESS", FELOSUMAY_DONE);
+    parameters[0].pid = 0x8000;
+    expect(19, "a block of the maker's own", FELOSUMAY_BAD_PROFILE);
+    own(1, FELOSUMAY_DS_NOT_DEFINED, 6)->pid = FELOSUMAY_PID_COMMS_STATUS;
+    expect(19, "COMMS_STATUS that is set", FELOSUMAY_BAD_PROFILE);
+    parameters[0].commands = FELOSUMAY_CC_GET_CLEAR;
+    expect(19, "COMMS_STATUS", FELOSUMAY_DONE);
+    own(1, FELOSUMAY_DS_UNSIGNED_BYTE, 1)->commands = FELOSUMAY_CC_GET_CLEAR;
+    expect(19, "one of the maker's own that is cleared", FELOSUMAY_BAD_PROFILE);
+}
+
+/* Scenes, of which the first can only be read, and a PIN. */
+static void scenes_and_pins(void) {
+    felosumay_parameter *scenes = own(1, FELOSUMAY_DS_SCENES, 0);
+    scenes->pid = FELOSUMAY_PID_PRESET_STATUS;
+    scenes->low = scenes->high = 255;
+    expect(15, "255 scenes", FELOSUMAY_DONE);
+    scenes->high = 256;
+    expect(15, "256 scenes", FELOSUMAY_BAD_PROFILE);
+    scenes->high = 2;
+    expect(15, "more that can only be read than there are", FELOSUMAY_BAD_PROFILE);
+    scenes->low = 1;
+    scenes->start.count = 1;
+    expect(16, "scenes that start with data", FELOSUMAY_BAD_PROFILE);
+    scenes->start.count = 0;
+    scenes->pid = 0x8000;
+    expect(19, "scenes of the maker's own", FELOSUMAY_BAD_PROFILE);
+    own(2, FELOSUMAY_DS_NAMES, 0)[0].pid = FELOSUMAY_PID_LOCK_PIN;
+    parameters[0].kind = FELOSUMAY_DS_PIN;
+    parameters[0].high = 9999;
+    parameters[0].start.count = 2;
+    profile.parameter_count = 1;
+    expect(19, "a PIN", FELOSUMAY_DONE);
+    parameters[0].high = 10000;
+    expect(15, "a PIN of five digits", FELOSUMAY_BAD_PROFILE);
+}
+
+/* Lock states with their names, and what they lock. */
+static void locks(void) {
+    static felosumay_choice choices[2];
+    own(2, FELOSUMAY_DS_NAMES, 0);
+    parameters[0].pid = FELOSUMAY_PID_LOCK_STATE;
+    parameters[0].kind = FELOSUMAY_DS_LOCK;
+    parameters[0].high = 2;
+    parameters[0].start.count = 1;
+    parameters[1].pid = FELOSUMAY_PID_LOCK_STATE_DESCRIPTION;
+    parameters[1].commands = FELOSUMAY_CC_GET;
+    for (uint8_t i = 0; i < 2; i++) {
+        choices[i].pid = FELOSUMAY_PID_LOCK_STATE_DESCRIPTION;
+        choices[i].number = (uint8_t)(i + 1);
+    }
+    profile.choices = choices;
+    profile.choice_count = 1;
+    expect(20, "a lock state without its name", FELOSUMAY_BAD_PROFILE);
+    profile.choice_count = 2;
+    expect(20, "lock states with their names", FELOSUMAY_DONE);
+    profile.lock_count = 255; /* they stand for 64 */
+    for (uint8_t i = 0; i < 64; i++)
+        profile.locks[i].state = (uint8_t)(1 + i % 2);
+    expect(21, "locks of states 1 and 2", FELOSUMAY_DONE);
+    profile.locks[63].state = 3;
+    expect(21, "a lock of state 3", FELOSUMAY_BAD_PROFILE);
+    profile.lock_count = 63;
+    expect(21, "no such lock", FELOSUMAY_DONE);
+    profile.locks[0].state = 0;
+    expect(21, "a lock of state 0", FELOSUMAY_BAD_PROFILE);
+    least()->lock_count = 1;
+    profile.locks[0].state = 1;
+    expect(21, "a lock without LOCK_STATE", FELOSUMAY_BAD_PROFILE);
 }
 
 /* A choice, and what its things are called. */
@@ -279,6 +359,8 @@ int main(void) {
     own_data();
     fields();
     standards();
+    scenes_and_pins();
     names();
+    locks();
     return failed;
 }

@@ -9,8 +9,12 @@
 
 enum { STACK = 1 << 18, PAINT = 0xA5, UNPAINTED = 256, MOST_TO_MAKE = 12 * 1024, MOST = 2 * 1024 };
 
-FELOSUMAY_ALIGNED static uint8_t memory[FELOSUMAY_RESPONDER_BYTES(8, 64, 512)], stack[STACK];
+FELOSUMAY_ALIGNED static uint8_t memory[FELOSUMAY_RESPONDER_BYTES(8, 64, 512) + FELOSUMAY_PARTICULARS_BYTES +
+                                        FELOSUMAY_OWN_PARAMETERS_BYTES(32) + FELOSUMAY_CHOICES_BYTES(64) + FELOSUMAY_LOCKS_BYTES(64)];
+FELOSUMAY_ALIGNED static uint8_t stack[STACK];
 static felosumay_profile profile;
+static felosumay_parameter parameters[32];
+static felosumay_choice choices[64];
 static felosumay_responder fixture;
 static felosumay_result result;
 
@@ -67,8 +71,49 @@ static int is_over(const char *name, void (*calls)(void), size_t most) {
     return result != FELOSUMAY_DONE || touched > most;
 }
 
+/* A parameter that has so many things to choose from, and the one that tells their names. */
+static void add_choice(felosumay_parameter *parameter, uint16_t pid, uint8_t kind, uint8_t low, uint8_t high) {
+    for (int i = 0; i < 2; i++)
+        parameter[i].size = parameter[i].field_count = parameter[i].start.count = 0;
+    parameter[0].pid = pid;
+    parameter[0].kind = kind;
+    parameter[0].low = parameter[0].start.bytes[0] = low;
+    parameter[0].high = high;
+    parameter[0].start.count = 1;
+    parameter[1].pid = (uint16_t)(pid + 1);
+    parameter[1].kind = FELOSUMAY_DS_NAMES;
+    parameter[1].commands = FELOSUMAY_CC_GET;
+}
+
+/* As many parameters of the maker's own, names of choices and locks as there can be. */
+static void add_parameters(void) {
+    for (uint16_t i = 0; i < 32; i++) {
+        parameters[i].pid = (uint16_t)(0x8000 + i);
+        parameters[i].kind = FELOSUMAY_DS_NOT_DEFINED;
+        parameters[i].commands = FELOSUMAY_CC_GET_SET;
+        parameters[i].size = parameters[i].start.count = 32;
+        parameters[i].field_count = 8;
+        for (int k = 0; k < 8; k++) {
+            parameters[i].fields[k].slots = 4;
+            parameters[i].fields[k].high = 0xFFFFFFFF;
+        }
+    }
+    add_choice(parameters, FELOSUMAY_PID_CURVE, FELOSUMAY_DS_CHOICE, 1, 63);
+    add_choice(parameters + 2, FELOSUMAY_PID_LOCK_STATE, FELOSUMAY_DS_LOCK, 0, 1);
+    for (uint8_t i = 0; i < 64; i++) {
+        choices[i].pid = i < 63 ? FELOSUMAY_PID_CURVE_DESCRIPTION : FELOSUMAY_PID_LOCK_STATE_DESCRIPTION;
+        choices[i].number = (uint8_t)(i < 63 ? i + 1 : 1);
+        profile.locks[i].state = 1;
+    }
+    profile.parameters = parameters;
+    profile.parameter_count = 32;
+    profile.choices = choices;
+    profile.choice_count = profile.lock_count = 64;
+}
+
 int main(void) {
     int failed;
+    add_parameters();
     profile.subs = 512;
     profile.root.personality_count = profile.sub.personality_count = 1;
     profile.root.start = profile.sub.start = 1;

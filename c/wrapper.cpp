@@ -43,14 +43,17 @@ felosumay_reply set(felosumay::collector &console, felosumay::responder &fixture
     return reply;
 }
 
-// The least fixture, of which the maker adds the mode of a fan, and which has no lamp.
+// The least fixture, of which the maker adds the mode of a fan and an order to flash, and which has no lamp.
 int add_parameter() {
-    std::vector<felosumay_parameter> parameters(1);
+    std::vector<felosumay_parameter> parameters(2);
     parameters[0].pid = 0x8000;
     parameters[0].kind = FELOSUMAY_DS_UNSIGNED_BYTE;
     parameters[0].commands = FELOSUMAY_CC_GET_SET;
     parameters[0].high = 2;
     parameters[0].start.count = 1;
+    parameters[1] = parameters[0];
+    parameters[1].pid = 0x8001;
+    parameters[1].commands = FELOSUMAY_CC_SET;
     const std::uint16_t without[] = {FELOSUMAY_PID_LAMP_STATE};
     felosumay_profile profile{};
     profile.root.personality_count = profile.sub.personality_count = 1;
@@ -67,6 +70,16 @@ int add_parameter() {
         fixture.place(0, 0x8000, fast) != FELOSUMAY_DONE || fixture.get_value(0, 0x8000, {}, value, reason) != FELOSUMAY_DONE)
         return 1;
     std::printf("fan mode %u\n", value.room[0]);
+    felosumay::collector console;
+    if (console.make(CONSOLE, FIXTURE, FELOSUMAY_STATUS_ADVISORY) != FELOSUMAY_DONE)
+        return 1;
+    set(console, fixture, 0x8001, fast);
+    const felosumay::result asked = fixture.get_value(0, 0x8001, {}, value, reason);
+    std::printf("flash: %s, %s\n", felosumay::status_name(asked).data(), felosumay::reason_name(reason).data());
+    if (fixture.own_value(0x8001, value) != FELOSUMAY_DONE)
+        return 1;
+    std::printf("flash %u\n", value.room[0]);
+    std::printf("no frame: fault %u\n", felosumay::frame_fault(fast));
     const felosumay::result lamp = fixture.get_value(0, FELOSUMAY_PID_LAMP_STATE, {}, value, reason);
     std::printf("no lamp: %s, %s\n", felosumay::status_name(lamp).data(), felosumay::reason_name(reason).data());
     parameters[0].high = -1;

@@ -95,7 +95,7 @@ fn kinds_of(alloc: Global, profile: &Profile, name: Option<&str>) -> Result<Vec<
 /// The same of the parameters that the maker adds, in words.
 fn own_of(alloc: Global, profile: &Profile, name: Option<&str>) -> Result<String, AllocError> {
     let mut text = String::new(alloc);
-    for def in profile.own.as_slice() {
+    for def in profile.particulars.own() {
         let is_asked = match name {
             Some(name) => is_named(name, def.pid, def.name.as_slice()),
             None => true,

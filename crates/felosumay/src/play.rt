@@ -123,7 +123,7 @@ impl<'a> Setting<'a> {
         Dialect {
             device: self.fixture.uid,
             spelling: Spelling::Friendly,
-            own: self.fixture.profile.own.as_slice(),
+            own: self.fixture.profile.particulars.own(),
         }
     }
 

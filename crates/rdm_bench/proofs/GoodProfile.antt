@@ -7,7 +7,7 @@ use Rattle.rdm_device.specs.Device.Demo.{demo}
 use Rattle.rdm_device.specs.Device.OwnParameters.{is_addable, has_limits, can_start, has_good_fields}
 use Rattle.rdm_device.specs.Device.Standards.{follows}
 use Rattle.rdm_device.specs.Device.Profiles.{AreGoodParameters, CanBeMade}
-use Rattle.rdm_device.proofs.DemoLemmas.{demo_can_be_made, none_good, two_differ}
+use Rattle.rdm_device.proofs.DemoLemmas.{demo_can_be_made, none_good, none_locked, two_differ}
 use Rattle.rdm_bench.specs.Device.{own_numbers, bench_profile}
 
 numbers_good : AreGoodParameters own_numbers []
@@ -42,6 +42,7 @@ bench_can_be_made true subs few =
         presets = good.presets;
         own = numbers_good;
         without = good.without;
+        locks = none_locked own_numbers;
       },
     )
 bench_can_be_made false subs few = demo_can_be_made subs few

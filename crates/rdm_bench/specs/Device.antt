@@ -6,6 +6,7 @@ use Rattle.rdm_device.specs.declared.profile.own.Rights.TheVariants.{Both}
 use Rattle.rdm_device.specs.declared.profile.own.Shape.{Shape}
 use Rattle.rdm_device.specs.declared.profile.own.Shape.TheVariants.{Byte, Word}
 use Rattle.rdm_device.specs.Device.Demo.{demo}
+use Rattle.rdm_device.specs.Device.Particulars.{usual_particular}
 
 -- a number from 0 on, with GET and SET
 abbrev pub own_number : ℕ → Shape → ℤ → List ℕ → ParameterDef
@@ -18,4 +19,4 @@ own_numbers = own_number 0x8000 Word (pos 65535) (0 ∷ 0 ∷ []) ∷ own_number
 
 -- the demo fixture with so many sub-devices, with those two parameters of its maker's own or with none
 abbrev pub bench_profile : Bool → ℕ → Profile
-bench_profile own subs = if own then record (demo subs) { own = own_numbers } else demo subs
+bench_profile own subs = if own then record (demo subs) { particulars = record usual_particular { own = own_numbers } } else demo subs

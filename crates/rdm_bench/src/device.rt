@@ -7,7 +7,7 @@ ghost use Rattle.rdm_bench.specs.Device.{own_number, own_numbers, bench_profile}
 ghost use Rattle.rdm_bench.specs.Replay.{bench_setup};
 
 use rdm_frame::{Text, Uid};
-use rdm_params::{OwnParameters, ParameterDef, Profile, Rights, Shape};
+use rdm_params::{OwnParameters, ParameterDef, Particular, Particulars, Profile, Rights, Shape};
 use rdm_responder::{NewError, Responder};
 use std::alloc::{AllocError, Global};
 
@@ -43,7 +43,9 @@ fn profile_with(alloc: Global, own: bool, subs: u16) -> Result<Profile, AllocErr
     if !own {
         return Ok(profile);
     }
-    profile.own = own_numbers(alloc)?;
+    let mut particular = Particular::usual();
+    particular.own = own_numbers(alloc)?;
+    profile.particulars = Particulars::of(alloc, particular)?;
     Ok(profile)
 }
 

@@ -21,7 +21,7 @@ use Rattle.rdm_params.specs.declared.jobs.work.Work.{Work}
 use Rattle.rdm_params.specs.declared.verdict.Verdict.{Verdict}
 use Rattle.rdm_params.specs.declared.verdict.Verdict.TheVariants.{Reply, Start, Queue, Status, Clear, Refuse}
 use Rattle.rdm_params.specs.Commands.Panel.{change_message}
-use Rattle.rdm_params.specs.Commands.Commands.{got, answer_to_set, accepted}
+use Rattle.rdm_params.specs.Commands.Commands.{got, got_by_row, answer_to_set, accepted}
 use Rattle.rdm_params.specs.Device.Parameters.{Parameters}
 use Rattle.rdm_params.specs.Table.Rows.{row_of, table}
 use Rattle.rdm_params.specs.Jobs.Laws.{GetQueues, GetStatuses, SetFetchesNothing}
@@ -255,19 +255,19 @@ change_told h change message is =
 -- ---- a poll
 
 pub got_last : (p : Parameters) → got p 0 0x0020 (1 ∷ []) ≡ Queue asks.Last
-unfolding got accepted row_of table
+unfolding got got_by_row accepted row_of table
 got_last p = refl
 
 pub got_advisory : (p : Parameters) → got p 0 0x0020 (2 ∷ []) ≡ Queue asks.Advisory
-unfolding got accepted row_of table
+unfolding got got_by_row accepted row_of table
 got_advisory p = refl
 
 pub got_warning : (p : Parameters) → got p 0 0x0020 (3 ∷ []) ≡ Queue asks.Warning
-unfolding got accepted row_of table
+unfolding got got_by_row accepted row_of table
 got_warning p = refl
 
 pub got_error : (p : Parameters) → got p 0 0x0020 (4 ∷ []) ≡ Queue asks.Error
-unfolding got accepted row_of table
+unfolding got got_by_row accepted row_of table
 got_error p = refl
 
 slice_get-map : (ms : List Message) (n : ℕ) (m : Message) → slice_get ms n ≡ Some m → slice_get (map carried ms) n ≡ Some (carried m)

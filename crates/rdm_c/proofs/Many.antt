@@ -1,117 +1,106 @@
--- The rules of a profile, judged in parts: with no parameters of the maker's own, with no names of choices, and the names alone.
-use Rattle.std.proofs.Common.{◌≡◌, ◌≢◌, refl, sym, ap, ◌∙◌, ◌↔◌, ◌<◌, ℕ, List, [], Option, Some, None, IfSome, length, subst, arith}
+-- The rules of a profile, judged in parts: without parameters of the maker's own, these alone, and what the things of choices are called.
+use Rattle.std.proofs.Common.{◌≡◌, sym, ℕ, ◌≤◌, ◌<◌, List, [], Option, Some, None, IfSome, length, subst, arith}
 use Rattle.rdm_device.specs.declared.profile.Profile.{Profile}
 use Rattle.rdm_device.specs.declared.profile.choices.ChoiceName.{ChoiceName}
+use Rattle.rdm_device.specs.declared.profile.locks.Lock.{Lock}
 use Rattle.rdm_device.specs.declared.profile.own.ParameterDef.{ParameterDef}
+use Rattle.rdm_device.specs.declared.profile.particulars.Particular.{Particular}
 use Rattle.rdm_device.specs.declared.profile.faults.ProfileFault.{ProfileFault}
-use Rattle.rdm_device.specs.declared.profile.faults.ProfileFault.TheVariants.{SubDevices, Presets, Personalities, Start, RootFootprint, SubFootprint, Languages, TestNumber, TwinTests, TwinStatusTexts, LeftOut, LeftOutNeeded, ParameterCount, ParameterPid, ParameterLimits, ParameterStart, ParameterOrder, ParameterFields, ParameterStandard, ParameterNames}
-use Rattle.rdm_device.specs.Device.Faults.{Keeps, KeepsBefore, IsFirstBroken, with_parameters}
-use Rattle.rdm_device.specs.Device.Profiles.{Agree, CanBeMade}
-use Rattle.rdm_device.proofs.DemoLemmas.{none_good}
+use Rattle.rdm_device.specs.declared.profile.faults.ProfileFault.TheVariants.{SubDevices, Presets, Personalities, Start, RootFootprint, SubFootprint, Languages, TestNumber, TwinTests, TwinStatusTexts, LeftOut, LeftOutNeeded, ParameterCount, ParameterPid, ParameterLimits, ParameterStart, ParameterOrder, ParameterFields, ParameterStandard, ParameterNames, ParameterLocks}
+use Rattle.rdm_device.specs.Device.Faults.{Keeps, KeepsBefore, KeepsLeftOut, KeepsOwn, IsFirstBroken, with_parameters}
+use Rattle.rdm_device.specs.Device.Profiles.{Agree, AreGoodParameters, CanBeMade, HaveStates}
+use Rattle.rdm_device.proofs.DemoLemmas.{none_good, none_locked}
 use Rattle.rdm_device.proofs.Faults.{keeps_others, made}
+use Rattle.rdm_c.specs.Parameters.{HasOwn}
 
--- the first rule that it breaks with none of them is the first that it breaks
-pub still_first : (f : ProfileFault) (p : Profile) (without : List ℕ) (own : List ParameterDef) (choices : List ChoiceName) → IsFirstBroken f (with_parameters p without [] []) → IsFirstBroken f (with_parameters p without own choices)
-still_first SubDevices p without own choices h = h
-still_first Presets p without own choices h = h
-still_first Personalities p without own choices h = h
-still_first Start p without own choices h = h
-still_first RootFootprint p without own choices h = h
-still_first SubFootprint p without own choices h = h
-still_first Languages p without own choices h = h
-still_first TestNumber p without own choices h = h
-still_first TwinTests p without own choices h = h
-still_first TwinStatusTexts p without own choices h = h
-still_first LeftOut p without own choices h = h
-still_first LeftOutNeeded p without own choices h = h
-still_first ParameterCount p without own choices h = absurd (h.1 none_good.count)
-still_first ParameterPid p without own choices h = absurd (h.1 none_good.pids)
-still_first ParameterLimits p without own choices h = absurd (h.1 none_good.limits)
-still_first ParameterStart p without own choices h = absurd (h.1 none_good.starts)
-still_first ParameterOrder p without own choices h = absurd (h.1 none_good.ascending)
-still_first ParameterFields p without own choices h = absurd (h.1 none_good.fields)
-still_first ParameterStandard p without own choices h = absurd (h.1 none_good.standards)
-still_first ParameterNames p without own choices h = absurd (h.1 none_good.agree)
+-- the first rule that a profile breaks without parameters of the maker's own and locks is the first that it breaks with what sets it apart
+pub still_first : (f : ProfileFault) (p : Profile) (x : Particular) → p.particulars.locks ≡ [] → IsFirstBroken f (with_parameters p x.more_slots x.without.items [] []) → IsFirstBroken f (record p { particulars = x })
+still_first SubDevices p x none h = h
+still_first Presets p x none h = h
+still_first Personalities p x none h = h
+still_first Start p x none h = h
+still_first RootFootprint p x none h = h
+still_first SubFootprint p x none h = h
+still_first Languages p x none h = h
+still_first TestNumber p x none h = h
+still_first TwinTests p x none h = h
+still_first TwinStatusTexts p x none h = h
+still_first LeftOut p x none h = h
+still_first LeftOutNeeded p x none h = h
+still_first ParameterCount p x none h = absurd (h.1 none_good.count)
+still_first ParameterPid p x none h = absurd (h.1 none_good.pids)
+still_first ParameterLimits p x none h = absurd (h.1 none_good.limits)
+still_first ParameterStart p x none h = absurd (h.1 none_good.starts)
+still_first ParameterOrder p x none h = absurd (h.1 none_good.ascending)
+still_first ParameterFields p x none h = absurd (h.1 none_good.fields)
+still_first ParameterStandard p x none h = absurd (h.1 none_good.standards)
+still_first ParameterNames p x none h = absurd (h.1 none_good.agree)
+still_first ParameterLocks p x none h = absurd (h.1 (subst (λ (ls : List Lock). HaveStates [] ls) (sym none) (none_locked [])))
 
--- if it breaks none with none of them, their number is the first
-pub count_first : (p : Profile) (without : List ℕ) (own : List ParameterDef) (choices : List ChoiceName) → CanBeMade (with_parameters p without [] []) → 16 < length own → IsFirstBroken ParameterCount (with_parameters p without own choices)
-count_first p without own choices can many =
+pub still_first_if : (result : Option ProfileFault) (p : Profile) (x : Particular) → p.particulars.locks ≡ [] → IfSome result (λ f. IsFirstBroken f (with_parameters p x.more_slots x.without.items [] [])) → IfSome result (λ f. IsFirstBroken f (record p { particulars = x }))
+still_first_if None p x none h = tt
+still_first_if (Some f) p x none h = still_first f p x none h
+
+-- if it breaks none without them, it keeps the rules that don't speak of them
+pub keeps_left_out : (p : Profile) (x : Particular) → CanBeMade (with_parameters p x.more_slots x.without.items [] []) → KeepsLeftOut (record p { particulars = x })
+keeps_left_out p x can =
     let left_out = can.1.without in
-    ((keeps_others p without [] [] can, left_out.optional, left_out.needs), λ few. absurd (omega (arith, few, many)))
+    (keeps_others p x.more_slots x.without.items [] [] can, left_out.optional, left_out.needs)
 
--- the first rule that a profile breaks with its own parameters put back is the first that it breaks
-pub put_back : (f : ProfileFault) (p others : Profile) (without : List ℕ) (own : List ParameterDef) (choices : List ChoiceName) → others ≡ with_parameters p without own choices → IsFirstBroken f (with_parameters others p.without.items p.own p.choices) → IsFirstBroken f p
-put_back f p others without own choices e h = subst (λ (q : Profile). IsFirstBroken f (with_parameters q p.without.items p.own p.choices)) e h
+-- a device can be made with a profile that keeps these, and whose parameters of the maker's own are good, with their names and locks
+pub made_with : (p : Profile) → KeepsLeftOut p → AreGoodParameters p.particulars.own p.particulars.choices × HaveStates p.particulars.own p.particulars.locks → CanBeMade p
+made_with p h good =
+    made p p.particulars.more_slots p.particulars.without.items p.particulars.own p.particulars.choices h.0 (record { optional = h.1; needs = h.2 }, good.0, good.1)
 
--- the first rule that a profile breaks with no names is the first that it breaks, if that isn't the one of names
-pub still_but_names : (f : ProfileFault) (p : Profile) (without : List ℕ) (own : List ParameterDef) (choices : List ChoiceName) → f ≢ ParameterNames → IsFirstBroken f (with_parameters p without own []) → IsFirstBroken f (with_parameters p without own choices)
-still_but_names SubDevices p without own choices other h = h
-still_but_names Presets p without own choices other h = h
-still_but_names Personalities p without own choices other h = h
-still_but_names Start p without own choices other h = h
-still_but_names RootFootprint p without own choices other h = h
-still_but_names SubFootprint p without own choices other h = h
-still_but_names Languages p without own choices other h = h
-still_but_names TestNumber p without own choices other h = h
-still_but_names TwinTests p without own choices other h = h
-still_but_names TwinStatusTexts p without own choices other h = h
-still_but_names LeftOut p without own choices other h = h
-still_but_names LeftOutNeeded p without own choices other h = h
-still_but_names ParameterCount p without own choices other h = h
-still_but_names ParameterPid p without own choices other h = h
-still_but_names ParameterLimits p without own choices other h = h
-still_but_names ParameterStart p without own choices other h = h
-still_but_names ParameterOrder p without own choices other h = h
-still_but_names ParameterFields p without own choices other h = h
-still_but_names ParameterStandard p without own choices other h = h
-still_but_names ParameterNames p without own choices other h = absurd (other refl)
+-- parameters of the maker's own are good exactly if they keep the rules that speak of them, and their names are those of their choices
+pub good_own : (ds : List ParameterDef) (cs : List ChoiceName) → KeepsOwn ds → Agree ds cs → AreGoodParameters ds cs
+good_own ds cs h agree =
+    record { count = h.0; pids = h.1; limits = h.2; starts = h.3; ascending = h.4; fields = h.5; standards = h.6; agree = agree }
 
--- the rules before that of names are kept by a profile with which a device can be made, whatever its names are
-pub before_names : (p : Profile) (without : List ℕ) (own : List ParameterDef) (names choices : List ChoiceName) → CanBeMade (with_parameters p without own names) → KeepsBefore ParameterNames (with_parameters p without own choices)
-before_names p without own names choices can =
-    let left_out = can.1.without in
-    let good = can.1.own in
-    (((keeps_others p without own names can, left_out.optional, left_out.needs), good.count, good.pids, good.limits, good.starts, good.ascending), good.fields, good.standards)
+pub keeps_own : (ds : List ParameterDef) (cs : List ChoiceName) → AreGoodParameters ds cs → KeepsOwn ds
+keeps_own ds cs good = (good.count, good.pids, good.limits, good.starts, good.ascending, good.fields, good.standards)
 
--- a device can be made with a profile that keeps these, and whose names are those of its choices
-pub made_with_names : (p : Profile) (without : List ℕ) (own : List ParameterDef) (choices : List ChoiceName) → KeepsBefore ParameterNames (with_parameters p without own choices) → Agree own choices → CanBeMade (with_parameters p without own choices)
-made_with_names p without own choices h agree =
-    made p without own choices h.0.0.0 (
-      record { optional = h.0.0.1; needs = h.0.0.2 },
-      record { count = h.0.1; pids = h.0.2; limits = h.0.3; starts = h.0.4; ascending = h.0.5; fields = h.1; standards = h.2; agree = agree },
-    )
+-- the rules before that of names
+pub before_names : (p : Profile) (ds : List ParameterDef) → p.particulars.own ≡ ds → KeepsLeftOut p → KeepsOwn ds → KeepsBefore ParameterNames p
+before_names p ds same h own =
+    let kept : KeepsOwn p.particulars.own = subst (λ (es : List ParameterDef). KeepsOwn es) (sym same) own in
+    ((h, kept.0, kept.1, kept.2, kept.3, kept.4), kept.5, kept.6)
+
+-- a profile with too many parameters of the maker's own
+pub too_many : (p : Profile) (ds : List ParameterDef) → p.particulars.own ≡ ds → KeepsLeftOut p → 32 < length ds → IsFirstBroken ParameterCount p
+too_many p ds same h many =
+    (h, λ few. absurd (omega (arith, subst (λ (es : List ParameterDef). length es ≤ 32) same few, many)))
+
+-- the rule of names, and that of locks, are the first that is broken
+pub names_first : (p : Profile) (ds : List ParameterDef) (cs : List ChoiceName) (ls : List Lock) → HasOwn p ds cs ls → KeepsBefore ParameterNames p → (¬ Agree ds cs) → IsFirstBroken ParameterNames p
+names_first p ds cs ls has before broken =
+    (before, subst (λ (es : List ParameterDef). ¬ Agree es p.particulars.choices) (sym has.0) (subst (λ (ns : List ChoiceName). ¬ Agree ds ns) (sym has.1) broken))
+
+pub locks_first : (p : Profile) (ds : List ParameterDef) (cs : List ChoiceName) (ls : List Lock) → HasOwn p ds cs ls → KeepsBefore ParameterNames p → Agree ds cs → (¬ HaveStates ds ls) → IsFirstBroken ParameterLocks p
+locks_first p ds cs ls has before agree broken =
+    let agrees : Agree p.particulars.own p.particulars.choices = subst (λ (es : List ParameterDef). Agree es p.particulars.choices) (sym has.0) (subst (λ (ns : List ChoiceName). Agree ds ns) (sym has.1) agree) in
+    ((before.0, before.1, before.2, agrees), subst (λ (es : List ParameterDef). ¬ HaveStates es p.particulars.locks) (sym has.0) (subst (λ (ks : List Lock). ¬ HaveStates ds ks) (sym has.2) broken))
 
 -- no device can be made with a profile that breaks a rule
-pub keeps_each : (f : ProfileFault) (p : Profile) (without : List ℕ) (own : List ParameterDef) (choices : List ChoiceName) → CanBeMade (with_parameters p without own choices) → Keeps f (with_parameters p without own choices)
-keeps_each SubDevices p without own choices can = (keeps_others p without own choices can).0
-keeps_each Presets p without own choices can = (keeps_others p without own choices can).1
-keeps_each Personalities p without own choices can = (keeps_others p without own choices can).2
-keeps_each Start p without own choices can = (keeps_others p without own choices can).3
-keeps_each RootFootprint p without own choices can = (keeps_others p without own choices can).4
-keeps_each SubFootprint p without own choices can = (keeps_others p without own choices can).5
-keeps_each Languages p without own choices can = (keeps_others p without own choices can).6
-keeps_each TestNumber p without own choices can = (keeps_others p without own choices can).7
-keeps_each TwinTests p without own choices can = (keeps_others p without own choices can).8
-keeps_each TwinStatusTexts p without own choices can = (keeps_others p without own choices can).9
-keeps_each LeftOut p without own choices can = can.1.without.optional
-keeps_each LeftOutNeeded p without own choices can = can.1.without.needs
-keeps_each ParameterCount p without own choices can = can.1.own.count
-keeps_each ParameterPid p without own choices can = can.1.own.pids
-keeps_each ParameterLimits p without own choices can = can.1.own.limits
-keeps_each ParameterStart p without own choices can = can.1.own.starts
-keeps_each ParameterOrder p without own choices can = can.1.own.ascending
-keeps_each ParameterFields p without own choices can = can.1.own.fields
-keeps_each ParameterStandard p without own choices can = can.1.own.standards
-keeps_each ParameterNames p without own choices can = can.1.own.agree
-
--- if the rules before that of names are kept, it is the first that is broken, or none is
-pub first_of_names : (result : Option ProfileFault) (p : Profile) (without : List ℕ) (own : List ParameterDef) (choices : List ChoiceName) → KeepsBefore ParameterNames (with_parameters p without own choices) → (result ≡ None) ↔ Agree own choices → IfSome result (λ f. f ≡ ParameterNames) → IfSome result (λ f. IsFirstBroken f (with_parameters p without own choices))
-first_of_names None p without own choices before good rule = tt
-first_of_names (Some f) p without own choices before good rule =
-    let broken : ¬ Agree own choices = λ agrees. (let never : Some f ≡ None = good.1 agrees in cc) in
-    subst (λ (g : ProfileFault). IsFirstBroken g (with_parameters p without own choices)) (sym rule) (before, broken)
-
--- a profile with other parameters, left-out ones and names is the one that they were put into before
-pub moved : (p others : Profile) (without_before : List ℕ) (own_before : List ParameterDef) (choices_before : List ChoiceName) (without : List ℕ) (own ds : List ParameterDef) (choices : List ChoiceName) → others ≡ with_parameters p without_before own_before choices_before → own ≡ ds → with_parameters others without own choices ≡ with_parameters p without ds choices
-moved p others without_before own_before choices_before without own ds choices e f =
-    ap (λ (q : Profile). with_parameters q without own choices) e ∙ ap (λ (o : List ParameterDef). with_parameters p without o choices) f
+pub keeps_each : (f : ProfileFault) (p : Profile) → CanBeMade p → Keeps f p
+keeps_each SubDevices p can = can.0
+keeps_each Presets p can = can.1.presets
+keeps_each Personalities p can = (can.1.root.personality, can.1.sub.personality)
+keeps_each Start p can = ((can.1.root.start_least, can.1.root.start_greatest), (can.1.sub.start_least, can.1.sub.start_greatest))
+keeps_each RootFootprint p can = can.1.root.footprints
+keeps_each SubFootprint p can = can.1.sub.footprints
+keeps_each Languages p can = can.1.language
+keeps_each TestNumber p can = can.1.test_numbers
+keeps_each TwinTests p can = can.1.tests_differ
+keeps_each TwinStatusTexts p can = can.1.statuses_differ
+keeps_each LeftOut p can = can.1.without.optional
+keeps_each LeftOutNeeded p can = can.1.without.needs
+keeps_each ParameterCount p can = can.1.own.count
+keeps_each ParameterPid p can = can.1.own.pids
+keeps_each ParameterLimits p can = can.1.own.limits
+keeps_each ParameterStart p can = can.1.own.starts
+keeps_each ParameterOrder p can = can.1.own.ascending
+keeps_each ParameterFields p can = can.1.own.fields
+keeps_each ParameterStandard p can = can.1.own.standards
+keeps_each ParameterNames p can = can.1.own.agree
+keeps_each ParameterLocks p can = can.1.locks

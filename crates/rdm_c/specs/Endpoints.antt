@@ -128,6 +128,11 @@ GetTold code count value reason (Reply body) = (code ≡ code_of status.Done) ×
 GetTold code count value reason (Refuse nack) = (code ≡ code_of status.Refused) × (reason ≡ nack_code nack)
 GetTold code count value reason _ = code ≡ code_of status.NoValue
 
+-- what C is told of what is kept of a parameter: it stands at the front; or there is no such parameter
+abbrev pub KeptTold : ℕ → ℕ → List ℕ → Option (List ℕ) → Type 0
+KeptTold code count value None = code ≡ code_of status.NotStored
+KeptTold code count value (Some bytes) = (code ≡ code_of status.Done) × (count ≡ length bytes) × (take count value ≡ bytes)
+
 -- What `save` leaves of the bytes that it is lent: if it is done, the image of so many bytes at the front, and behind it what was there;
 -- else all that was there.
 abbrev pub LeavesBytes : Option Endpoint → ℕ → ℕ → List ℕ → List ℕ → Type 0

@@ -17,3 +17,4 @@ pub mod Searches
 pub mod Names
 pub mod Replies
 pub mod Faults
+pub mod Frames

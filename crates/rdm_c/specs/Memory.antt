@@ -7,7 +7,7 @@ use Rattle.rdm_c.specs.declared.status.Status.TheVariants.{Done, Unaligned, Shor
 -- the responder itself, with the room for a reply.
 abbrev pub blocks : ℕ → ℕ → ℕ → List ℕ
 blocks queue_size entries sub_devices =
-    4800 ∷ 64 * sub_devices ∷ 12 * queue_size ∷ 12 * queue_size ∷ 248 * queue_size ∷ 9 * entries ∷ 1144 ∷ []
+    4688 ∷ 56 * sub_devices ∷ 12 * queue_size ∷ 12 * queue_size ∷ 248 * queue_size ∷ 9 * entries ∷ 1136 ∷ []
 
 -- the next multiple of 16, where a block can begin
 abbrev pub rounded : ℕ → ℕ

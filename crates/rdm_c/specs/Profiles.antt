@@ -9,11 +9,12 @@ use Rattle.rdm_device.specs.declared.profile.Slot.{Slot}
 use Rattle.rdm_device.specs.declared.profile.StatusText.{StatusText}
 use Rattle.rdm_device.specs.declared.profile.Unit.{Unit as DeviceUnit}
 use Rattle.rdm_device.specs.declared.profile.estimates.Estimates.{Estimates}
+use Rattle.rdm_device.specs.declared.profile.particulars.Particular.{Particular}
 use Rattle.rdm_device.specs.declared.profile.workers.Worker.{Worker}
 use Rattle.rdm_device.specs.declared.profile.workers.Worker.TheVariants.{First, Second}
 use Rattle.rdm_device.specs.declared.profile.workers.Workers.{Workers}
 use Rattle.rdm_device.specs.Device.Estimates.{usual}
-use Rattle.rdm_device.specs.Device.Faults.{with_parameters}
+use Rattle.rdm_device.specs.Device.Particulars.{usual_particular}
 use Rattle.rdm_device.specs.Device.Workers.{usual_workers}
 use Rattle.rdm_c.specs.declared.profile.PersonalityNumbers.{PersonalityNumbers}
 use Rattle.rdm_c.specs.declared.profile.SlotNumbers.{SlotNumbers}
@@ -26,7 +27,7 @@ use Rattle.rdm_c.specs.declared.profile.UnitNumbers.{UnitNumbers}
 use Rattle.rdm_c.specs.declared.profile.ProfileNumbers.{ProfileNumbers}
 use Rattle.rdm_c.specs.declared.profile.parameters.ParameterNumbers.{ParameterNumbers}
 use Rattle.rdm_c.specs.declared.profile.parameters.ChoiceNumbers.{ChoiceNumbers}
-use Rattle.rdm_c.specs.Parameters.{parameter_in, choice_in}
+use Rattle.rdm_c.specs.Parameters.{parameter_in, choice_in, lock_in}
 use Rattle.rdm_c.specs.Texts.{text_in}
 
 abbrev pub personality_in : PersonalityNumbers → Personality
@@ -92,12 +93,14 @@ unit_in u = record {
   start = u.start;
 }
 
--- the profile of the struct alone: no parameter is the maker's own, none is left out, and there are no names of choices
+-- the profile of the struct, if nothing sets it apart from one that has the standard's parameters as the table has them
 abbrev pub plain_profile_in : ProfileNumbers → Profile
 plain_profile_in p = record {
   root = unit_in p.root;
   sub = unit_in p.sub;
   subs = p.subs;
+  presets = p.presets;
+  workers = workers_in p.workers;
   boot = p.boot;
   boot_text = text_in p.boot_text;
   languages = record { items = take p.language_count p.languages };
@@ -105,16 +108,21 @@ plain_profile_in p = record {
   sensors = record { items = map sensor_in (take p.sensor_count p.sensors) };
   tests = record { items = map test_in (take p.test_count p.tests) };
   status_texts = record { items = map status_text_in (take p.status_text_count p.status_texts) };
-  presets = p.presets;
-  own = [];
-  choices = [];
-  without = record { items = [] };
+  particulars = usual_particular;
+}
+
+-- what sets it apart, of the struct and of the three lists
+abbrev pub particular_in : ProfileNumbers → List ParameterNumbers → List ℕ → List ChoiceNumbers → Particular
+particular_in p parameters without choices = record {
+  own = map parameter_in parameters;
+  choices = map choice_in choices;
+  locks = map lock_in (take p.lock_count p.locks);
+  without = record { items = without };
   more_slots = p.more_slots;
   estimates = estimates_in p.estimates;
-  workers = workers_in p.workers;
 }
 
 -- the profile of the struct and of the three lists
 abbrev pub profile_in : ProfileNumbers → List ParameterNumbers → List ℕ → List ChoiceNumbers → Profile
 profile_in p parameters without choices =
-    with_parameters (plain_profile_in p) without (map parameter_in parameters) (map choice_in choices)
+    record (plain_profile_in p) { particulars = particular_in p parameters without choices }

@@ -47,14 +47,15 @@ pub use exports::device_collector::{
     felosumay_device_collector_poll,
 };
 pub use exports::firmware::{felosumay_responder_note, felosumay_responder_place_nonnull};
+pub use exports::frame::felosumay_frame_fault_nonnull;
 pub use exports::memory::{felosumay_responder_fits, felosumay_responder_size};
 pub use exports::names::{
     felosumay_tell_parameter, felosumay_tell_reason, felosumay_tell_status, felosumay_tell_version,
 };
 pub use exports::profile::felosumay_profile_fault_nonnull;
 pub use exports::reading::{
-    felosumay_responder_get_nonnull, felosumay_responder_outstanding, felosumay_responder_room,
-    felosumay_responder_waiting,
+    felosumay_responder_get_nonnull, felosumay_responder_outstanding,
+    felosumay_responder_own_value, felosumay_responder_room, felosumay_responder_waiting,
 };
 pub use exports::reply::felosumay_reply_read_nonnull;
 pub use exports::responder::{

@@ -6,16 +6,16 @@ ghost use Rattle.rdm_c.specs.Memory.{memory_size, memory_status, rounded};
 use crate::endpoint::Endpoint;
 use crate::status::Status;
 use arrayvec::ArrayVec;
-use rdm_device::{ChoiceName, CommonValues, ParameterDef, Profile};
+use rdm_device::{ChoiceName, CommonValues, Kept, Lock, ParameterDef, Particular, Profile};
 use rdm_outbox::Job;
 use rdm_params::Message;
 use std::mem::size_of;
 
 /// How many bytes the profile takes.
-const PROFILE: usize = 4800;
+const PROFILE: usize = 4688;
 
 /// How many bytes a sub-device takes.
-const SUB_DEVICE: usize = 64;
+const SUB_DEVICE: usize = 56;
 
 /// How many bytes a job takes, of which each worker may have as many as the queue is long.
 const JOB: usize = 12;
@@ -27,7 +27,7 @@ const MESSAGE: usize = 248;
 const ENTRY: usize = 9;
 
 /// How many bytes the responder itself takes, with the room for a reply.
-const RESPONDER: usize = 1144;
+const RESPONDER: usize = 1136;
 
 /// How many bytes stand before the blocks.
 const HEAD: usize = 32;
@@ -45,10 +45,18 @@ const _: () = prove!(size_of::<Message>() == MESSAGE);
 
 const _: () = prove!(size_of::<Endpoint>() == RESPONDER);
 
-// What the header's macros say of the lists that few profiles have.
-const _: () = prove!(size_of::<ArrayVec<ParameterDef, 16>>() == 4104);
+// What the header's macros say of what few profiles have.
+const _: () = prove!(size_of::<Particular>() == 144);
+
+const _: () = prove!(size_of::<Vec<ParameterDef>>() == 24);
+
+const _: () = prove!(size_of::<ParameterDef>() == 256);
+
+const _: () = prove!(size_of::<Kept>() == 48);
 
 const _: () = prove!(size_of::<ArrayVec<ChoiceName, 64>>() == 3080);
+
+const _: () = prove!(size_of::<ArrayVec<Lock, 64>>() == 264);
 
 /// How many bytes of memory a responder takes with room for so many results of slow commands and status entries, and with so
 /// many sub-devices.

@@ -5,12 +5,11 @@ pub(crate) mod making;
 pub(crate) mod parameters;
 pub(crate) mod slow;
 
-ghost use Rattle.std.specs.Prelude.{◌≡◌};
-ghost use Rattle.rdm_device.specs.Device.Faults.{with_parameters};
+ghost use Rattle.std.specs.Prelude.{◌≡◌, ◌≤◌, length, take};
 ghost use Rattle.rdm_c.specs.Profiles.{personality_in, slot_in, sensor_in, test_in, status_text_in, unit_in, plain_profile_in};
 ghost use Rattle.rdm_c.specs.Texts.{text_in};
 
-use crate::profile::parameters::{ChoiceNumbers, ParameterNumbers};
+use crate::profile::parameters::{ChoiceNumbers, LockNumbers, ParameterNumbers};
 use crate::profile::slow::{EstimatesNumbers, WorkersNumbers};
 use rdm_frame::Text;
 use rdm_params::{Personality, Profile, SelfTest, SensorDef, Slot, StatusText, Unit};
@@ -176,6 +175,10 @@ pub struct ProfileNumbers {
     pub choices: *const ChoiceNumbers,
     /// How many there are.
     pub choice_count: usize,
+    /// How many locks there are.
+    pub lock_count: u8,
+    /// Which parameters the lock states keep from being set.
+    pub locks: [LockNumbers; 64],
 }
 
 impl TextNumbers {
@@ -276,10 +279,9 @@ impl UnitNumbers {
 }
 
 impl ProfileNumbers {
-    /// Makes a profile this one, but for the parameters that are left out, those of the maker's own, and the names of choices, which
-    /// stay.
+    /// Makes a profile this one, but for what sets it apart, which stays.
     pub(crate) fn write(&self, profile: &mut Profile)
-        ensures { profile.new ≡ with_parameters (plain_profile_in self.now) profile.old.without.items profile.old.own profile.old.choices }
+        ensures { profile.new ≡ record (plain_profile_in self.now) { particulars = profile.old.particulars } }
     {
         self.root.write(&mut profile.root);
         self.sub.write(&mut profile.sub);
@@ -288,9 +290,15 @@ impl ProfileNumbers {
         profile.boot_text = self.boot_text.text();
         self.write_lists(profile);
         profile.presets = self.presets;
-        profile.more_slots = self.more_slots;
-        profile.estimates = self.estimates.estimates();
         profile.workers = self.workers.workers();
+    }
+
+    /// Which parameters the lock states keep from being set.
+    pub(crate) fn lock_entries(&self) -> &[LockNumbers]
+        ensures value { result.now ≡ take self.now.lock_count self.now.locks }
+        ensures few { length result.now ≤ 64 }
+    {
+        first_locks(&self.locks, self.lock_count)
     }
 
     /// Makes the lists of a profile those of this one.
@@ -314,4 +322,12 @@ impl ProfileNumbers {
         let count = usize::from(self.status_text_count).min(8);
         lists::status_texts(&self.status_texts[..count], &mut profile.status_texts);
     }
+}
+
+/// So many locks, or all of them.
+fn first_locks(locks: &[LockNumbers; 64], count: u8) -> &[LockNumbers]
+    ensures value { result.now ≡ take count locks.now }
+    ensures few { length result.now ≤ 64 }
+{
+    &locks[..usize::from(count).min(64)]
 }

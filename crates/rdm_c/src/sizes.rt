@@ -7,7 +7,7 @@ use crate::job::{JobNumbers, SteppedNumbers};
 use crate::message::{CommandNumbers, MessageNumbers};
 use crate::names::NameNumbers;
 use crate::outcome::OutcomeNumbers;
-use crate::profile::parameters::{ChoiceNumbers, FieldNumbers, ParameterNumbers};
+use crate::profile::parameters::{ChoiceNumbers, FieldNumbers, LockNumbers, ParameterNumbers};
 use crate::profile::slow::{EstimatesNumbers, WorkersNumbers};
 use crate::profile::{
     PersonalityNumbers, ProfileNumbers, SelfTestNumbers, SensorNumbers, SlotNumbers,
@@ -42,7 +42,9 @@ const _: () = prove!(size_of::<ChoiceNumbers>() == 40);
 
 const _: () = prove!(size_of::<ParameterNumbers>() == 224);
 
-const _: () = prove!(size_of::<ProfileNumbers>() == 3672);
+const _: () = prove!(size_of::<LockNumbers>() == 4);
+
+const _: () = prove!(size_of::<ProfileNumbers>() == 3936);
 
 const _: () = prove!(size_of::<JobNumbers>() == 16);
 

@@ -1,25 +1,45 @@
 -- The values of the parameters that the maker adds.
 use Rattle.std.proofs.Common.{◌≡◌, ◌↔◌, ℕ, zero, suc, ◌+◌, ◌<◌, ◌==◌, ◌&&◌, ◌||◌, Bool, true, false, cond, List, [], ◌∷◌, ◌++◌, length, map, get_or, set, take, drop, Option, Some, None, refl, sym, ap, subst, ◌∙◌, append_assoc, add-one, arith}
 use Rattle.std.specs.Prelude.{find}
-use Rattle.std.specs.Option.{option_map_or}
+use Rattle.std.specs.Option.{option_map, option_map_or}
 use Rattle.std.proofs.lemmas.List.{at_drop_more, map-append, map-set, get_or-map, get_or-set_same, length-map, length-set}
+use Rattle.std.proofs.lemmas.Bool.{eqb-true}
 use Rattle.rdm_device.specs.declared.device.state.Kept.{Kept}
 use Rattle.rdm_device.specs.declared.profile.own.ParameterDef.{ParameterDef}
 use Rattle.rdm_device.specs.Device.LeftOut.{is_optional, lacks}
-use Rattle.rdm_device.specs.Device.Map.{Entry, entry, lookup, update}
-use Rattle.rdm_device.specs.Device.Parameters.{added_at_start}
-use Rattle.rdm_device.specs.Columns.Added.{added_stored, set_back_in, added_set_back}
+use Rattle.rdm_device.specs.Device.Map.{Entry, entry, has_key, lookup, value_at, update}
+use Rattle.rdm_device.specs.Columns.Scenes.{scenes_by}
+use Rattle.rdm_device.specs.Device.OwnParameters.{is_order}
+use Rattle.rdm_device.specs.Device.Parameters.{no_orders, kept_at_start, added_at_start}
+use Rattle.rdm_device.specs.Columns.Added.{order_stored, start_stored, kept_stored, placed_stored, index_kept, bytes_kept, bytes_placed, counted, set_back_in, added_set_back}
 use Rattle.rdm_device.specs.Device.Spot.{Spot}
 use Rattle.rdm_device.specs.Device.Values.{bytes_of}
 use Rattle.rdm_device.specs.declared.value.Value.{Value}
 use Rattle.rdm_device.specs.Views.State.{kept_entry, added_entries, stored_in, made_of}
 
+-- the data that a parameter starts with, behind what is kept of others, and then its scenes
+pub start_data : (ks : List Kept) (d : ParameterDef) (k : Kept) (new : List Entry) → k.pid ≡ d.pid → k.index ≡ 0 → k.bytes ≡ d.start → is_order d.rights ≡ false → new ≡ added_entries (ks ++ k ∷ []) ++ scenes_by d.shape d → new ≡ added_entries ks ++ kept_at_start d
+start_data ks d k new same_pid at_zero same_bytes other is =
+    let one : kept_entry k ≡ entry d.pid 0 d.start = rw (same_pid, at_zero, same_bytes) refl in
+    let none : no_orders d ≡ [] = ap (λ (b : Bool). cond b (entry d.pid 1 (0 ∷ []) ∷ []) []) other in
+    let scenes : List Entry = scenes_by d.shape d in
+    is ∙ ap (λ (es : List Entry). es ++ scenes) (map-append kept_entry ks (k ∷ [])) ∙ append_assoc (added_entries ks) (kept_entry k ∷ []) scenes ∙ ap (λ (e : Entry). added_entries ks ++ (e ∷ scenes)) one ∙ ap (λ (es : List Entry). added_entries ks ++ (entry d.pid 0 d.start ∷ es ++ scenes)) (sym none)
+
+-- and the count of an order
+pub start_order : (ks : List Kept) (d : ParameterDef) (k c : Kept) (new : List Entry) → k.pid ≡ d.pid → k.index ≡ 0 → k.bytes ≡ d.start → c.pid ≡ d.pid → c.index ≡ 1 → c.bytes ≡ 0 ∷ [] → is_order d.rights ≡ true → new ≡ added_entries ((ks ++ k ∷ []) ++ c ∷ []) ++ scenes_by d.shape d → new ≡ added_entries ks ++ kept_at_start d
+start_order ks d k c new same_pid at_zero same_bytes pid_too one_more none is e =
+    let one : kept_entry k ≡ entry d.pid 0 d.start = rw (same_pid, at_zero, same_bytes) refl in
+    let two : kept_entry c ≡ entry d.pid 1 (0 ∷ []) = rw (pid_too, one_more, none) refl in
+    let some : no_orders d ≡ entry d.pid 1 (0 ∷ []) ∷ [] = ap (λ (b : Bool). cond b (entry d.pid 1 (0 ∷ []) ∷ []) []) is in
+    let scenes : List Entry = scenes_by d.shape d in
+    let both : added_entries ((ks ++ k ∷ []) ++ c ∷ []) ≡ added_entries ks ++ (kept_entry k ∷ kept_entry c ∷ []) = ap added_entries (append_assoc ks (k ∷ []) (c ∷ [])) ∙ map-append kept_entry ks (k ∷ c ∷ []) in
+    e ∙ ap (λ (es : List Entry). es ++ scenes) both ∙ append_assoc (added_entries ks) (kept_entry k ∷ kept_entry c ∷ []) scenes ∙ ap (λ (x : Entry). added_entries ks ++ (x ∷ kept_entry c ∷ scenes)) one ∙ ap (λ (x : Entry). added_entries ks ++ (entry d.pid 0 d.start ∷ x ∷ scenes)) two ∙ ap (λ (es : List Entry). added_entries ks ++ (entry d.pid 0 d.start ∷ es ++ scenes)) (sym some)
+
 -- one more parameter that starts
-pub start_step : (ks : List Kept) (i : ℕ) (ds : List ParameterDef) (d : ParameterDef) (k : Kept) (total : List Entry) → i < length ds → k.pid ≡ (get_or ds i d).pid → k.bytes ≡ (get_or ds i d).start → added_entries ks ++ added_at_start (drop i ds) ≡ total → added_entries (ks ++ k ∷ []) ++ added_at_start (drop (i + 1) ds) ≡ total
-start_step ks i ds d k total lt same_pid same_bytes so_far =
-    let more : added_at_start (drop i ds) ≡ entry (get_or ds i d).pid 0 (get_or ds i d).start ∷ added_at_start (drop (i + 1) ds) = at_drop_more added_at_start ds i d lt in
-    let one : kept_entry k ≡ entry (get_or ds i d).pid 0 (get_or ds i d).start = rw (same_pid, same_bytes) refl in
-    ap (λ (es : List Entry). es ++ added_at_start (drop (i + 1) ds)) (map-append kept_entry ks (k ∷ [])) ∙ append_assoc (added_entries ks) (kept_entry k ∷ []) (added_at_start (drop (i + 1) ds)) ∙ ap (λ (e : Entry). added_entries ks ++ (e ∷ added_at_start (drop (i + 1) ds))) one ∙ ap (λ (es : List Entry). added_entries ks ++ es) (sym more) ∙ so_far
+pub start_step : (now next : List Entry) (i : ℕ) (ds : List ParameterDef) (d : ParameterDef) (total : List Entry) → i < length ds → next ≡ now ++ kept_at_start (get_or ds i d) → now ++ added_at_start (drop i ds) ≡ total → next ++ added_at_start (drop (i + 1) ds) ≡ total
+start_step now next i ds d total lt one so_far =
+    let more : added_at_start (drop i ds) ≡ kept_at_start (get_or ds i d) ++ added_at_start (drop (i + 1) ds) = at_drop_more added_at_start ds i d lt in
+    ap (λ (es : List Entry). es ++ added_at_start (drop (i + 1) ds)) one ∙ append_assoc now (kept_at_start (get_or ds i d)) (added_at_start (drop (i + 1) ds)) ∙ ap (λ (es : List Entry). now ++ es) (sym more) ∙ so_far
 
 and_false : (b : Bool) → (b && false) ≡ false
 and_false true = refl
@@ -31,43 +51,141 @@ none_lacked pids pid e = ap (λ (ps : List ℕ). lacks ps pid) e ∙ and_false (
 
 -- ---- what is kept of one parameter
 
-here_or_later : (here : Bool) (bytes later later' : List ℕ) (k : Kept) (rest : Option Kept) → k.bytes ≡ bytes → later ≡ option_map_or (λ (x : Kept). x.bytes) rest [] → cond (here && true) bytes later ≡ option_map_or (λ (x : Kept). x.bytes) (cond here (Some k) rest) []
-here_or_later true bytes later later' k rest same e = sym same
-here_or_later false bytes later later' k rest same e = e
+here_or_later : (here : Bool) (bytes later : List ℕ) (k : Kept) (rest : Option Kept) → k.bytes ≡ bytes → later ≡ option_map_or (λ (x : Kept). x.bytes) rest [] → cond here bytes later ≡ option_map_or (λ (x : Kept). x.bytes) (cond here (Some k) rest) []
+here_or_later true bytes later k rest same e = sym same
+here_or_later false bytes later k rest same e = e
 
-lookup_is : (ks : List Kept) (pid : ℕ) → lookup (added_entries ks) pid 0 ≡ option_map_or (λ (k : Kept). k.bytes) (find (λ (k : Kept). k.pid == pid) ks) []
-lookup_is [] pid = refl
-lookup_is (k ∷ ks) pid = here_or_later (k.pid == pid) k.bytes (lookup (added_entries ks) pid 0) [] k (find (λ (k : Kept). k.pid == pid) ks) refl (lookup_is ks pid)
+abbrev is_at : ℕ → ℕ → Kept → Bool
+is_at pid index k = (k.pid == pid) && (k.index == index)
+
+lookup_is : (ks : List Kept) (pid index : ℕ) → lookup (added_entries ks) pid index ≡ option_map_or (λ (k : Kept). k.bytes) (find (is_at pid index) ks) []
+lookup_is [] pid index = refl
+lookup_is (k ∷ ks) pid index = here_or_later (is_at pid index k) k.bytes (lookup (added_entries ks) pid index) k (find (is_at pid index) ks) refl (lookup_is ks pid index)
 
 -- the bytes at the key of the parameter
-pub kept_is : (ks : List Kept) (pid : ℕ) (o : Option Kept) → o ≡ find (λ (k : Kept). k.pid == pid) ks → lookup (added_entries ks) pid 0 ≡ option_map_or (λ (k : Kept). k.bytes) o []
-kept_is ks pid o e = lookup_is ks pid ∙ ap (λ (x : Option Kept). option_map_or (λ (k : Kept). k.bytes) x []) (sym e)
+pub kept_is : (ks : List Kept) (pid index : ℕ) (o : Option Kept) → o ≡ find (is_at pid index) ks → lookup (added_entries ks) pid index ≡ option_map_or (λ (k : Kept). k.bytes) o []
+kept_is ks pid index o e = lookup_is ks pid index ∙ ap (λ (x : Option Kept). option_map_or (λ (k : Kept). k.bytes) x []) (sym e)
+
+value_or_later : (here : Bool) (k : Kept) (later : Option Entry) (rest : Option Kept) → option_map (λ (e : Entry). e.bytes) later ≡ option_map (λ (x : Kept). x.bytes) rest → option_map (λ (e : Entry). e.bytes) (cond here (Some (kept_entry k)) later) ≡ option_map (λ (x : Kept). x.bytes) (cond here (Some k) rest)
+value_or_later true k later rest e = refl
+value_or_later false k later rest e = e
+
+found_is : (ks : List Kept) (pid : ℕ) → value_at (added_entries ks) pid ≡ option_map (λ (k : Kept). k.bytes) (find (is_at pid 0) ks)
+found_is [] pid = refl
+found_is (k ∷ ks) pid = value_or_later (is_at pid 0 k) k (find (has_key pid 0) (added_entries ks)) (find (is_at pid 0) ks) (found_is ks pid)
+
+-- the value of a parameter, if there is one
+pub value_is : (ks : List Kept) (pid : ℕ) (o : Option Kept) → o ≡ find (is_at pid 0) ks → value_at (added_entries ks) pid ≡ option_map (λ (k : Kept). k.bytes) o
+value_is ks pid o e = found_is ks pid ∙ ap (λ (x : Option Kept). option_map (λ (k : Kept). k.bytes) x) (sym e)
+
+pub not_either : (a b : Bool) → (a || b) ≡ false → (a ≡ false) × (b ≡ false)
+not_either true b h = absurd cc
+not_either false b h = (refl, h)
+
+pub either_false : (a b : Bool) → a ≡ false → b ≡ false → (a || b) ≡ false
+either_false true b e f = absurd cc
+either_false false b e f = f
 
 -- ---- storing
 
-pub update_is_map : (pid : ℕ) (spot : Spot) (v : Value) (es : List Entry) → update (added_stored pid spot v) es ≡ map (stored_in pid (bytes_of v)) es
-update_is_map pid spot v [] = refl
-update_is_map pid spot v (e ∷ es) = ap (λ (rest : List Entry). stored_in pid (bytes_of v) e ∷ rest) (update_is_map pid spot v es)
+placed_is_map : (d : ParameterDef) (spot : Spot) (v : Value) (es : List Entry) → update (placed_stored d spot v) es ≡ map (stored_in d.pid (index_kept d.shape v) (bytes_placed d.shape d v)) es
+placed_is_map d spot v [] = refl
+placed_is_map d spot v (e ∷ es) = ap (λ (rest : List Entry). stored_in d.pid (index_kept d.shape v) (bytes_placed d.shape d v) e ∷ rest) (placed_is_map d spot v es)
 
--- each entry that is stored
-pub stored_all : (pid : ℕ) (spot : Spot) (v : Value) (es new : List Entry) (bytes : List ℕ) → bytes ≡ bytes_of v → new ≡ map (stored_in pid bytes) es → new ≡ update (added_stored pid spot v) es
-stored_all pid spot v es new bytes same e = e ∙ ap (λ (xs : List ℕ). map (stored_in pid xs) es) same ∙ sym (update_is_map pid spot v es)
+-- each entry that the firmware places
+pub placed_all : (d : ParameterDef) (spot : Spot) (v : Value) (es new : List Entry) → new ≡ map (stored_in d.pid (index_kept d.shape v) (bytes_placed d.shape d v)) es → new ≡ update (placed_stored d spot v) es
+placed_all d spot v es new e = e ∙ sym (placed_is_map d spot v es)
+
+kept_is_map : (d : ParameterDef) (spot : Spot) (v : Value) (es : List Entry) → update (kept_stored d spot v) es ≡ map (stored_in d.pid (index_kept d.shape v) (bytes_kept d.shape v)) es
+kept_is_map d spot v [] = refl
+kept_is_map d spot v (e ∷ es) = ap (λ (rest : List Entry). stored_in d.pid (index_kept d.shape v) (bytes_kept d.shape v) e ∷ rest) (kept_is_map d spot v es)
+
+-- each entry that a SET stores
+pub kept_all : (d : ParameterDef) (spot : Spot) (v : Value) (es new : List Entry) (index : ℕ) (bytes : List ℕ) → index ≡ index_kept d.shape v → bytes ≡ bytes_kept d.shape v → new ≡ map (stored_in d.pid index bytes) es → new ≡ update (kept_stored d spot v) es
+kept_all d spot v es new index bytes at same e =
+    e ∙ ap (λ (i : ℕ). map (stored_in d.pid i bytes) es) at ∙ ap (λ (xs : List ℕ). map (stored_in d.pid (index_kept d.shape v) xs) es) same ∙ sym (kept_is_map d spot v es)
+
+start_is_map : (d : ParameterDef) (spot : Spot) (v : Value) (es : List Entry) → update (start_stored d spot v) es ≡ map (stored_in d.pid 0 d.start) es
+start_is_map d spot v [] = refl
+start_is_map d spot v (e ∷ es) = ap (λ (rest : List Entry). stored_in d.pid 0 d.start e ∷ rest) (start_is_map d spot v es)
+
+-- each entry that is set back to what it starts with
+pub started_all : (d : ParameterDef) (spot : Spot) (v : Value) (es new : List Entry) (pid : ℕ) (bytes : List ℕ) → pid ≡ d.pid → bytes ≡ d.start → new ≡ map (stored_in pid 0 bytes) es → new ≡ update (start_stored d spot v) es
+started_all d spot v es new pid bytes at same e =
+    e ∙ ap (λ (p : ℕ). map (stored_in p 0 bytes) es) at ∙ ap (λ (xs : List ℕ). map (stored_in d.pid 0 xs) es) same ∙ sym (start_is_map d spot v es)
+
+-- ---- an order: its data, and its count
+
+-- of two keys an entry has one at most
+one_key : (pid index : Bool) (a b kept : List ℕ) → (more : Bool) → (index && more) ≡ false → cond (pid && more) b (cond (pid && index) a kept) ≡ cond (pid && index) a (cond (pid && more) b kept)
+one_key true true a b kept true apart = absurd cc
+one_key true true a b kept false apart = refl
+one_key true false a b kept more apart = refl
+one_key false index a b kept more apart = refl
+
+never_both : (a b : Bool) → (a ≡ true → b ≡ true → ⊥) → (a && b) ≡ false
+never_both true true never = absurd (never refl refl)
+never_both true false never = refl
+never_both false b never = refl
+
+zero_or_one : (n : ℕ) → ((n == 0) && (n == 1)) ≡ false
+zero_or_one n = never_both (n == 0) (n == 1) (λ (is : (n == 0) ≡ true) (one : (n == 1) ≡ true). let at : n ≡ 0 = eqb-true n 0 is in let also : n ≡ 1 = eqb-true n 1 one in omega (arith, at, also))
+
+both_keys : (pid : ℕ) (a b : List ℕ) (e : Entry) → stored_in pid 1 b (stored_in pid 0 a e) ≡ entry e.pid e.index (cond (has_key pid 0 e) a (cond (has_key pid 1 e) b e.bytes))
+both_keys pid a b e = ap (entry e.pid e.index) (one_key (e.pid == pid) (e.index == 0) a b e.bytes (e.index == 1) (zero_or_one e.index))
+
+order_is_map : (pid : ℕ) (spot : Spot) (v : Value) (count : List ℕ) (es : List Entry) → count ≡ counted (lookup spot.added pid 1) → update (order_stored pid spot v) es ≡ map (stored_in pid 1 count) (map (stored_in pid 0 (bytes_of v)) es)
+order_is_map pid spot v count [] same = refl
+order_is_map pid spot v count (e ∷ es) same =
+    let one : entry e.pid e.index (order_stored pid spot v e) ≡ stored_in pid 1 count (stored_in pid 0 (bytes_of v) e) = ap (λ (c : List ℕ). entry e.pid e.index (cond (has_key pid 0 e) (bytes_of v) (cond (has_key pid 1 e) c e.bytes))) (sym same) ∙ sym (both_keys pid (bytes_of v) count e) in
+    ap (λ (x : Entry). x ∷ update (order_stored pid spot v) es) one ∙ ap (λ (rest : List Entry). stored_in pid 1 count (stored_in pid 0 (bytes_of v) e) ∷ rest) (order_is_map pid spot v count es same)
+
+-- each entry that an order stores
+pub ordered_all : (pid : ℕ) (spot : Spot) (v : Value) (es new : List Entry) (bytes : List ℕ) → bytes ≡ bytes_of v → spot.added ≡ es → new ≡ map (stored_in pid 1 (counted (lookup es pid 1))) (map (stored_in pid 0 bytes) es) → new ≡ update (order_stored pid spot v) es
+ordered_all pid spot v es new bytes same is e =
+    e ∙ ap (λ (xs : List ℕ). map (stored_in pid 1 (counted (lookup es pid 1))) (map (stored_in pid 0 xs) es)) same ∙ sym (order_is_map pid spot v (counted (lookup es pid 1)) es (ap (λ (xs : List Entry). counted (lookup xs pid 1)) (sym is)))
+
+own_bytes : (pid first more : Bool) (a b kept : List ℕ) → (first && more) ≡ false → cond (pid && more) b (cond (pid && first) a kept) ≡ kept → cond (pid && first) a kept ≡ kept
+own_bytes true true true a b kept apart e = absurd cc
+own_bytes true true false a b kept apart e = e
+own_bytes true false more a b kept apart e = refl
+own_bytes false first more a b kept apart e = refl
+
+heads_same : (x y : Entry) (xs ys : List Entry) → x ∷ xs ≡ y ∷ ys → (x.bytes ≡ y.bytes) × (xs ≡ ys)
+heads_same x y xs ys e = (ap (λ (l : List Entry). head_bytes l) e, ap tail_of e)
+  where
+    head_bytes : List Entry → List ℕ
+    head_bytes [] = []
+    head_bytes (z ∷ zs) = z.bytes
+
+    tail_of : List Entry → List Entry
+    tail_of [] = []
+    tail_of (z ∷ zs) = zs
+
+-- where both leave all as it was, the first does
+first_leaves : (pid : ℕ) (a b : List ℕ) (es : List Entry) → map (stored_in pid 1 b) (map (stored_in pid 0 a) es) ≡ es → map (stored_in pid 0 a) es ≡ es
+first_leaves pid a b [] e = refl
+first_leaves pid a b (x ∷ xs) e =
+    let parts = heads_same (stored_in pid 1 b (stored_in pid 0 a x)) x (map (stored_in pid 1 b) (map (stored_in pid 0 a) xs)) xs e in
+    let here : cond (has_key pid 0 x) a x.bytes ≡ x.bytes = own_bytes (x.pid == pid) (x.index == 0) (x.index == 1) a b x.bytes (zero_or_one x.index) parts.0 in
+    ap (λ (bytes : List ℕ). entry x.pid x.index bytes ∷ map (stored_in pid 0 a) xs) here ∙ ap (λ (rest : List Entry). x ∷ rest) (first_leaves pid a b xs parts.1)
+
+-- both leave all as it was exactly if each says so
+pub two_same : (pid : ℕ) (a b : List ℕ) (first second both : Bool) (es mid new : List Entry) → mid ≡ map (stored_in pid 0 a) es → new ≡ map (stored_in pid 1 b) mid → ((first ≡ false) ↔ (mid ≡ es)) → ((second ≡ false) ↔ (new ≡ mid)) → both ≡ (first || second) → ((both ≡ false) ↔ (new ≡ es))
+two_same pid a b first second both es mid new one two same same_too is = (
+  λ e. let parts = not_either first second (sym is ∙ e) in same_too.0 parts.1 ∙ same.0 parts.0,
+  λ e.
+      let left : map (stored_in pid 0 a) es ≡ es = first_leaves pid a b es (ap (map (stored_in pid 1 b)) (sym one) ∙ sym two ∙ e) in
+      is ∙ either_false first second (same.1 (one ∙ left)) (same_too.1 (e ∙ sym (one ∙ left))),
+)
 
 update_is_made : (f : Entry → List ℕ) (es : List Entry) → update f es ≡ map (made_of f) es
 update_is_made f [] = refl
 update_is_made f (e ∷ es) = ap (λ (rest : List Entry). made_of f e ∷ rest) (update_is_made f es)
 
 -- each entry that is set back
-pub all_set_back : (spot : Spot) (v : Value) (es new : List Entry) (ds : List ParameterDef) → ds ≡ spot.profile.own → new ≡ map (made_of (set_back_in ds)) es → new ≡ update (added_set_back spot v) es
+pub all_set_back : (spot : Spot) (v : Value) (es new : List Entry) (ds : List ParameterDef) → ds ≡ spot.profile.particulars.own → new ≡ map (made_of (set_back_in ds)) es → new ≡ update (added_set_back spot v) es
 all_set_back spot v es new ds same e = e ∙ ap (λ (own : List ParameterDef). map (made_of (set_back_in own)) es) same ∙ sym (update_is_made (added_set_back spot v) es)
-
-not_either : (a b : Bool) → (a || b) ≡ false → (a ≡ false) × (b ≡ false)
-not_either true b h = absurd cc
-not_either false b h = (refl, h)
-
-either_false : (a b : Bool) → a ≡ false → b ≡ false → (a || b) ≡ false
-either_false true b e f = absurd cc
-either_false false b e f = f
 
 module _ {A B : Type 0} (h : A → B) (d : B) where
   -- a write of one
@@ -78,7 +196,7 @@ module _ {A B : Type 0} (h : A → B) (d : B) where
 
 module _ {B : Type 0} (d : B) where
   -- a list in which an element was replaced by itself
-  set_own : (xs : List B) (i : ℕ) (x : B) → i < length xs → x ≡ get_or xs i d → set xs i x ≡ xs
+  pub set_own : (xs : List B) (i : ℕ) (x : B) → i < length xs → x ≡ get_or xs i d → set xs i x ≡ xs
   set_own [] i x lt e = absurd (omega arith)
   set_own (y ∷ ys) zero x lt e = ap (λ (z : B). z ∷ ys) e
   set_own (y ∷ ys) (suc i) x lt e = ap (λ (zs : List B). y ∷ zs) (set_own ys i x (omega arith) e)

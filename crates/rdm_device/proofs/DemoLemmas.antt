@@ -1,5 +1,5 @@
 -- The demo profile keeps the rules of a profile.
-use Rattle.std.proofs.Common.{◌≢◌, ℕ, ◌<◌, ◌≤◌, [], ◌∷◌, refl, IsTrue, arith, lit<, lit≤}
+use Rattle.std.proofs.Common.{◌≢◌, ℕ, List, ◌<◌, ◌≤◌, [], ◌∷◌, refl, IsTrue, arith, lit<, lit≤}
 use Rattle.std.specs.List.{AllPairs}
 use Rattle.std.proofs.lemmas.List.Elements.{All-from_recursion}
 use Rattle.std.proofs.lemmas.List.Kept.{AllPairs-cons}
@@ -8,12 +8,14 @@ use Rattle.rdm_device.specs.declared.profile.SelfTest.{SelfTest}
 use Rattle.rdm_device.specs.declared.profile.StatusText.{StatusText}
 use Rattle.rdm_device.specs.Device.Demo.{demo, demo_root, demo_sub, demo_slots, demo_tests, demo_statuses}
 use Rattle.rdm_device.specs.declared.profile.choices.ChoiceName.{ChoiceName}
+use Rattle.rdm_device.specs.declared.profile.locks.Lock.{Lock}
 use Rattle.rdm_device.specs.declared.profile.own.ParameterDef.{ParameterDef}
 use Rattle.rdm_device.specs.Device.LeftOut.{is_optional}
+use Rattle.rdm_device.specs.Device.Locks.{has_state}
 use Rattle.rdm_device.specs.Device.OwnParameters.{is_addable, has_limits, can_start, has_good_fields}
 use Rattle.rdm_device.specs.Device.Choices.{agrees, is_needed, comes_before}
 use Rattle.rdm_device.specs.Device.Standards.{follows}
-use Rattle.rdm_device.specs.Device.Profiles.{CanBeMade, AreGoodParameters, MayBeLeftOut, root_slots}
+use Rattle.rdm_device.specs.Device.Profiles.{CanBeMade, AreGoodParameters, HaveStates, MayBeLeftOut, root_slots}
 
 none_differ : {X : Type 0} (R : X → X → Type 0) → AllPairs R []
 none_differ R i j d lt within = absurd (omega arith)
@@ -43,6 +45,10 @@ none_good = record {
 pub none_left_out : MayBeLeftOut []
 none_left_out = record { optional = (lit≤ tt, All-from_recursion (λ (pid : ℕ). IsTrue (is_optional pid)) [] tt); needs = refl }
 
+-- no lock is of a state that there isn't
+pub none_locked : (ds : List ParameterDef) → HaveStates ds []
+none_locked ds = All-from_recursion (λ (l : Lock). IsTrue (has_state ds l)) [] tt
+
 pub demo_can_be_made : (subs : ℕ) → subs ≤ 512 → CanBeMade (demo subs)
 unfolding demo demo_root demo_sub demo_slots demo_tests demo_statuses
 demo_can_be_made subs few = (
@@ -57,5 +63,6 @@ demo_can_be_made subs few = (
     presets = lit< tt;
     own = none_good;
     without = none_left_out;
+    locks = none_locked [];
   },
 )

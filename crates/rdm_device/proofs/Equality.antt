@@ -9,6 +9,7 @@ use Rattle.arrayvec.specs.declared.array_vec.ArrayVec.{ArrayVec}
 use Rattle.rdm_device.specs.declared.profile.estimates.Estimates.{Estimates}
 use Rattle.rdm_device.specs.declared.profile.choices.ChoiceName.{ChoiceName}
 use Rattle.rdm_device.specs.declared.profile.fields.Field.{Field}
+use Rattle.rdm_device.specs.declared.profile.locks.Lock.{Lock}
 use Rattle.rdm_device.specs.declared.profile.fields.Width.{Width}
 use Rattle.rdm_device.specs.declared.profile.Personality.{Personality}
 use Rattle.rdm_device.specs.declared.profile.Profile.{Profile}
@@ -20,6 +21,7 @@ use Rattle.rdm_device.specs.declared.profile.Unit.{Unit as DeviceUnit}
 use Rattle.rdm_device.specs.declared.profile.workers.Worker.{Worker}
 use Rattle.rdm_device.specs.declared.profile.workers.Workers.{Workers}
 use Rattle.rdm_device.specs.declared.profile.own.ParameterDef.{ParameterDef}
+use Rattle.rdm_device.specs.declared.profile.particulars.Particular.{Particular}
 use Rattle.rdm_device.specs.declared.profile.own.Rights.{Rights}
 use Rattle.rdm_device.specs.declared.profile.own.Shape.{Shape}
 use Rattle.rdm_device.specs.contracts.profile.PersonalityPartialEq.TheImpl as personalities
@@ -32,10 +34,12 @@ use Rattle.rdm_device.specs.contracts.profile.UnitPartialEq.TheImpl as units
 use Rattle.rdm_device.specs.contracts.profile.estimates.EstimatesPartialEq.TheImpl as estimates
 use Rattle.rdm_device.specs.contracts.profile.choices.ChoiceNamePartialEq.TheImpl as choice_names
 use Rattle.rdm_device.specs.contracts.profile.fields.FieldPartialEq.TheImpl as fields
+use Rattle.rdm_device.specs.contracts.profile.locks.LockPartialEq.TheImpl as locks
 use Rattle.rdm_device.specs.contracts.profile.fields.WidthPartialEq.TheImpl as widths
 use Rattle.rdm_device.specs.contracts.profile.workers.WorkerPartialEq.TheImpl as worker
 use Rattle.rdm_device.specs.contracts.profile.workers.WorkersPartialEq.TheImpl as workers
 use Rattle.rdm_device.specs.contracts.profile.own.ParameterDefPartialEq.TheImpl as parameter_defs
+use Rattle.rdm_device.specs.contracts.profile.particulars.ParticularPartialEq.TheImpl as particulars
 use Rattle.rdm_device.specs.contracts.profile.own.RightsPartialEq.TheImpl as rights
 use Rattle.rdm_device.specs.contracts.profile.own.ShapePartialEq.TheImpl as shapes
 use lib.Pointwise.{pointwise}
@@ -134,6 +138,18 @@ choice_decides a b =
     (λ e. (ap (λ (x : ChoiceName). x.pid) e, (ap (λ (x : ChoiceName). x.number) e, (ap (λ (x : ChoiceName). x.hertz) e, ap (λ (x : ChoiceName). x.name) e))))
     (number a.pid b.pid (number a.number b.number (number a.hertz b.hertz (text_decides a.name b.name))))
 
+-- ---- locks
+
+abbrev lock_of : ℕ → ℕ → Lock
+lock_of a0 a1 = record { state = a0; pid = a1 }
+
+same_lock : {a0 b0 : ℕ} {a1 b1 : ℕ} → (a0 ≡ b0) × (a1 ≡ b1) → lock_of a0 a1 ≡ lock_of b0 b1
+same_lock e = rw (e.0, e.1) refl
+
+pub lock_decides : IsByValue locks.ghosts.eq
+lock_decides a b =
+    Decides-like _ same_lock (λ e. (ap (λ (x : Lock). x.state) e, ap (λ (x : Lock). x.pid) e)) (number a.state b.state (Decides-eqb a.pid b.pid))
+
 -- ---- parameters of the maker's own
 
 abbrev parameter_of : ℕ → Rights → Shape → ℤ → ℤ → ArrayVec Field 8 (Unit {0}) → List ℕ → ℕ → ℕ → List ℕ → Bool → ParameterDef
@@ -179,19 +195,36 @@ workers_decide each a b =
     (λ e. (ap (λ (x : Workers). x.lamp) e, (ap (λ (x : Workers). x.power) e, (ap (λ (x : Workers). x.self_test) e, ap (λ (x : Workers). x.sensor) e))))
     (Decides-and _ _ (each a.lamp b.lamp) (Decides-and _ _ (each a.power b.power) (Decides-and _ _ (each a.self_test b.self_test) (each a.sensor b.sensor))))
 
+-- ---- particulars
+
+abbrev particular_of : List ParameterDef → List ChoiceName → List Lock → ArrayVec ℕ 36 (Unit {0}) → ℕ → Estimates → Particular
+particular_of a0 a1 a2 a3 a4 a5 =
+    record { own = a0; choices = a1; locks = a2; without = a3; more_slots = a4; estimates = a5 }
+
+same_particular : {a0 b0 : List ParameterDef} {a1 b1 : List ChoiceName} {a2 b2 : List Lock} {a3 b3 : ArrayVec ℕ 36 (Unit {0})} {a4 b4 : ℕ} {a5 b5 : Estimates}
+    → (a0 ≡ b0) × ((a1 ≡ b1) × ((a2 ≡ b2) × ((a3 ≡ b3) × ((a4 ≡ b4) × (a5 ≡ b5)))))
+    → particular_of a0 a1 a2 a3 a4 a5 ≡ particular_of b0 b1 b2 b3 b4 b5
+same_particular e = rw (e.0, e.1.0, e.1.1.0, e.1.1.1.0, e.1.1.1.1.0, e.1.1.1.1.1) refl
+
+pub particular_decides : IsByValue parameter_defs.ghosts.eq → IsByValue choice_names.ghosts.eq → IsByValue locks.ghosts.eq → IsByValue estimates.ghosts.eq → IsByValue particulars.ghosts.eq
+particular_decides parameter choice lock estimate a b =
+    Decides-like _ same_particular
+    (λ e. (ap (λ (p : Particular). p.own) e, (ap (λ (p : Particular). p.choices) e, (ap (λ (p : Particular). p.locks) e, (ap (λ (p : Particular). p.without) e, (ap (λ (p : Particular). p.more_slots) e, ap (λ (p : Particular). p.estimates) e))))))
+    (Decides-and _ _ (slice_eq-Decides parameter a.own b.own _ refl) (Decides-and _ _ (slice_eq-Decides choice a.choices b.choices _ refl) (Decides-and _ _ (slice_eq-Decides lock a.locks b.locks _ refl) (Decides-and _ _ (list_decides 36 Decides-eqb a.without b.without) (number a.more_slots b.more_slots (estimate a.estimates b.estimates))))))
+
 -- ---- profiles
 
-abbrev profile_of : DeviceUnit → DeviceUnit → ℕ → ℕ → List ℕ → ArrayVec ℕ 8 (Unit {0}) → ArrayVec Slot 46 (Unit {0}) → ArrayVec SensorDef 8 (Unit {0}) → ArrayVec SelfTest 8 (Unit {0}) → ArrayVec StatusText 8 (Unit {0}) → ℕ → List ParameterDef → List ChoiceName → ArrayVec ℕ 36 (Unit {0}) → ℕ → Estimates → Workers → Profile
-profile_of a0 a1 a2 a3 a4 a5 a6 a7 a8 a9 a10 a11 a12 a13 a14 a15 a16 =
-    record { root = a0; sub = a1; subs = a2; boot = a3; boot_text = a4; languages = a5; slots = a6; sensors = a7; tests = a8; status_texts = a9; presets = a10; own = a11; choices = a12; without = a13; more_slots = a14; estimates = a15; workers = a16 }
+abbrev profile_of : DeviceUnit → DeviceUnit → ℕ → ℕ → Workers → ℕ → List ℕ → ArrayVec ℕ 8 (Unit {0}) → ArrayVec Slot 46 (Unit {0}) → ArrayVec SensorDef 8 (Unit {0}) → ArrayVec SelfTest 8 (Unit {0}) → ArrayVec StatusText 8 (Unit {0}) → Particular → Profile
+profile_of a0 a1 a2 a3 a4 a5 a6 a7 a8 a9 a10 a11 a12 =
+    record { root = a0; sub = a1; subs = a2; presets = a3; workers = a4; boot = a5; boot_text = a6; languages = a7; slots = a8; sensors = a9; tests = a10; status_texts = a11; particulars = a12 }
 
-same_profile : {a0 b0 : DeviceUnit} {a1 b1 : DeviceUnit} {a2 b2 : ℕ} {a3 b3 : ℕ} {a4 b4 : List ℕ} {a5 b5 : ArrayVec ℕ 8 (Unit {0})} {a6 b6 : ArrayVec Slot 46 (Unit {0})} {a7 b7 : ArrayVec SensorDef 8 (Unit {0})} {a8 b8 : ArrayVec SelfTest 8 (Unit {0})} {a9 b9 : ArrayVec StatusText 8 (Unit {0})} {a10 b10 : ℕ} {a11 b11 : List ParameterDef} {a12 b12 : List ChoiceName} {a13 b13 : ArrayVec ℕ 36 (Unit {0})} {a14 b14 : ℕ} {a15 b15 : Estimates} {a16 b16 : Workers}
-    → (a0 ≡ b0) × ((a1 ≡ b1) × ((a2 ≡ b2) × ((a3 ≡ b3) × ((a4 ≡ b4) × ((a5 ≡ b5) × ((a6 ≡ b6) × ((a7 ≡ b7) × ((a8 ≡ b8) × ((a9 ≡ b9) × ((a10 ≡ b10) × ((a11 ≡ b11) × ((a12 ≡ b12) × ((a13 ≡ b13) × ((a14 ≡ b14) × ((a15 ≡ b15) × (a16 ≡ b16))))))))))))))))
-    → profile_of a0 a1 a2 a3 a4 a5 a6 a7 a8 a9 a10 a11 a12 a13 a14 a15 a16 ≡ profile_of b0 b1 b2 b3 b4 b5 b6 b7 b8 b9 b10 b11 b12 b13 b14 b15 b16
-same_profile e = rw (e.0, e.1.0, e.1.1.0, e.1.1.1.0, e.1.1.1.1.0, e.1.1.1.1.1.0, e.1.1.1.1.1.1.0, e.1.1.1.1.1.1.1.0, e.1.1.1.1.1.1.1.1.0, e.1.1.1.1.1.1.1.1.1.0, e.1.1.1.1.1.1.1.1.1.1.0, e.1.1.1.1.1.1.1.1.1.1.1.0, e.1.1.1.1.1.1.1.1.1.1.1.1.0, e.1.1.1.1.1.1.1.1.1.1.1.1.1.0, e.1.1.1.1.1.1.1.1.1.1.1.1.1.1.0, e.1.1.1.1.1.1.1.1.1.1.1.1.1.1.1.0, e.1.1.1.1.1.1.1.1.1.1.1.1.1.1.1.1) refl
+same_profile : {a0 b0 : DeviceUnit} {a1 b1 : DeviceUnit} {a2 b2 : ℕ} {a3 b3 : ℕ} {a4 b4 : Workers} {a5 b5 : ℕ} {a6 b6 : List ℕ} {a7 b7 : ArrayVec ℕ 8 (Unit {0})} {a8 b8 : ArrayVec Slot 46 (Unit {0})} {a9 b9 : ArrayVec SensorDef 8 (Unit {0})} {a10 b10 : ArrayVec SelfTest 8 (Unit {0})} {a11 b11 : ArrayVec StatusText 8 (Unit {0})} {a12 b12 : Particular}
+    → (a0 ≡ b0) × ((a1 ≡ b1) × ((a2 ≡ b2) × ((a3 ≡ b3) × ((a4 ≡ b4) × ((a5 ≡ b5) × ((a6 ≡ b6) × ((a7 ≡ b7) × ((a8 ≡ b8) × ((a9 ≡ b9) × ((a10 ≡ b10) × ((a11 ≡ b11) × (a12 ≡ b12))))))))))))
+    → profile_of a0 a1 a2 a3 a4 a5 a6 a7 a8 a9 a10 a11 a12 ≡ profile_of b0 b1 b2 b3 b4 b5 b6 b7 b8 b9 b10 b11 b12
+same_profile e = rw (e.0, e.1.0, e.1.1.0, e.1.1.1.0, e.1.1.1.1.0, e.1.1.1.1.1.0, e.1.1.1.1.1.1.0, e.1.1.1.1.1.1.1.0, e.1.1.1.1.1.1.1.1.0, e.1.1.1.1.1.1.1.1.1.0, e.1.1.1.1.1.1.1.1.1.1.0, e.1.1.1.1.1.1.1.1.1.1.1.0, e.1.1.1.1.1.1.1.1.1.1.1.1) refl
 
-pub profile_decides : IsByValue units.ghosts.eq → IsByValue slots.ghosts.eq → IsByValue sensor_defs.ghosts.eq → IsByValue self_tests.ghosts.eq → IsByValue status_texts.ghosts.eq → IsByValue parameter_defs.ghosts.eq → IsByValue choice_names.ghosts.eq → IsByValue estimates.ghosts.eq → IsByValue workers.ghosts.eq → IsByValue profiles.ghosts.eq
-profile_decides unit slot sensor self_test status parameter choice estimate chosen a b =
+pub profile_decides : IsByValue units.ghosts.eq → IsByValue slots.ghosts.eq → IsByValue sensor_defs.ghosts.eq → IsByValue self_tests.ghosts.eq → IsByValue status_texts.ghosts.eq → IsByValue workers.ghosts.eq → IsByValue particulars.ghosts.eq → IsByValue profiles.ghosts.eq
+profile_decides unit slot sensor self_test status chosen particular a b =
     Decides-like _ same_profile
-    (λ e. (ap (λ (p : Profile). p.root) e, (ap (λ (p : Profile). p.sub) e, (ap (λ (p : Profile). p.subs) e, (ap (λ (p : Profile). p.boot) e, (ap (λ (p : Profile). p.boot_text) e, (ap (λ (p : Profile). p.languages) e, (ap (λ (p : Profile). p.slots) e, (ap (λ (p : Profile). p.sensors) e, (ap (λ (p : Profile). p.tests) e, (ap (λ (p : Profile). p.status_texts) e, (ap (λ (p : Profile). p.presets) e, (ap (λ (p : Profile). p.own) e, (ap (λ (p : Profile). p.choices) e, (ap (λ (p : Profile). p.without) e, (ap (λ (p : Profile). p.more_slots) e, (ap (λ (p : Profile). p.estimates) e, ap (λ (p : Profile). p.workers) e)))))))))))))))))
-    (Decides-and _ _ (unit a.root b.root) (Decides-and _ _ (unit a.sub b.sub) (number a.subs b.subs (number a.boot b.boot (text a.boot_text b.boot_text (Decides-and _ _ (list_decides 8 Decides-eqb a.languages b.languages) (Decides-and _ _ (list_decides 46 slot a.slots b.slots) (Decides-and _ _ (list_decides 8 sensor a.sensors b.sensors) (Decides-and _ _ (list_decides 8 self_test a.tests b.tests) (Decides-and _ _ (list_decides 8 status a.status_texts b.status_texts) (number a.presets b.presets (Decides-and _ _ (slice_eq-Decides parameter a.own b.own _ refl) (Decides-and _ _ (slice_eq-Decides choice a.choices b.choices _ refl) (Decides-and _ _ (list_decides 36 Decides-eqb a.without b.without) (number a.more_slots b.more_slots (Decides-and _ _ (estimate a.estimates b.estimates) (chosen a.workers b.workers)))))))))))))))))
+    (λ e. (ap (λ (p : Profile). p.root) e, (ap (λ (p : Profile). p.sub) e, (ap (λ (p : Profile). p.subs) e, (ap (λ (p : Profile). p.presets) e, (ap (λ (p : Profile). p.workers) e, (ap (λ (p : Profile). p.boot) e, (ap (λ (p : Profile). p.boot_text) e, (ap (λ (p : Profile). p.languages) e, (ap (λ (p : Profile). p.slots) e, (ap (λ (p : Profile). p.sensors) e, (ap (λ (p : Profile). p.tests) e, (ap (λ (p : Profile). p.status_texts) e, ap (λ (p : Profile). p.particulars) e)))))))))))))
+    (Decides-and _ _ (unit a.root b.root) (Decides-and _ _ (unit a.sub b.sub) (number a.subs b.subs (number a.presets b.presets (Decides-and _ _ (chosen a.workers b.workers) (number a.boot b.boot (text a.boot_text b.boot_text (Decides-and _ _ (list_decides 8 Decides-eqb a.languages b.languages) (Decides-and _ _ (list_decides 46 slot a.slots b.slots) (Decides-and _ _ (list_decides 8 sensor a.sensors b.sensors) (Decides-and _ _ (list_decides 8 self_test a.tests b.tests) (Decides-and _ _ (list_decides 8 status a.status_texts b.status_texts) (particular a.particulars b.particulars)))))))))))))

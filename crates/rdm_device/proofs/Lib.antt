@@ -1,10 +1,13 @@
 pub mod Added
+pub mod BlockLaws
+pub mod BlockSteps
 pub mod ChoiceSteps
 pub mod DemoLemmas
 pub mod Faults
 pub mod FieldSteps
 pub mod ListSteps
 pub mod Maps
+pub mod SceneSteps
 pub mod SensorReads
 pub mod Sensors
 pub mod Words

@@ -3,3 +3,4 @@ pub mod Changes
 pub mod Forms
 pub mod Ranges
 pub mod Replies
+pub mod Scenes

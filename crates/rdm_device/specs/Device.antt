@@ -1,13 +1,16 @@
+pub mod Blocks
 pub mod Choices
 pub mod Demo
 pub mod Estimates
 pub mod Faults
 pub mod Fields
 pub mod LeftOut
+pub mod Locks
 pub mod Map
 pub mod Measuring
 pub mod OwnParameters
 pub mod Parameters
+pub mod Particulars
 pub mod Plain
 pub mod Profiles
 pub mod Spot

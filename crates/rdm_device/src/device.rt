@@ -1,5 +1,6 @@
 //! One addressed device.
 
+pub(crate) mod blocks;
 pub(crate) mod footprint;
 pub(crate) mod measuring;
 pub(crate) mod state;

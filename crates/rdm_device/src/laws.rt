@@ -3,8 +3,9 @@
 ghost use Rattle.std.specs.Prelude.{◌≡◌, ◌↔◌, IsTrue};
 
 use crate::{
-    ChoiceName, Estimates, Field, ParameterDef, Personality, Profile, ProfileFault, Rights,
-    SelfTest, SensorDef, Shape, Slot, StatusText, Unit, Value, Width, Worker, Workers,
+    ChoiceName, Estimates, Field, Lock, ParameterDef, Particular, Particulars, Personality,
+    Profile, ProfileFault, Rights, SelfTest, SensorDef, Shape, Slot, StatusText, Unit, Value,
+    Width, Worker, Workers,
 };
 
 /// Two personalities are equal by `==` exactly when their footprints and their names are.
@@ -66,6 +67,11 @@ pub fn choice_names_are_equal_by_value()
     ensures { (a b : ChoiceName) → IsTrue (⟦<ChoiceName as PartialEq>⟧.eq a b) ↔ (a ≡ b) }
 {}
 
+/// Two locks are equal by `==` exactly when their states and their PIDs are.
+pub fn locks_are_equal_by_value()
+    ensures { (a b : Lock) → IsTrue (⟦<Lock as PartialEq>⟧.eq a b) ↔ (a ≡ b) }
+{}
+
 /// Two parameters of the maker's own are equal by `==` exactly when each of their fields is.
 pub fn parameter_defs_are_equal_by_value()
     ensures { (a b : ParameterDef) → IsTrue (⟦<ParameterDef as PartialEq>⟧.eq a b) ↔ (a ≡ b) }
@@ -92,6 +98,16 @@ pub fn choices_of_workers_are_equal_by_value()
     workers_are_equal_by_value();
 }
 
+/// Two devices are set apart alike by `==` exactly when each field of what sets them apart is equal, whether or not it takes memory.
+pub fn particulars_are_equal_by_value()
+    ensures { (a b : Particular) → IsTrue (⟦<Particulars as PartialEq>⟧.eq a b) ↔ (a ≡ b) }
+{
+    parameter_defs_are_equal_by_value();
+    choice_names_are_equal_by_value();
+    locks_are_equal_by_value();
+    estimates_are_equal_by_value();
+}
+
 /// Two profiles are equal by `==` exactly when each of their fields is.
 pub fn profiles_are_equal_by_value()
     ensures { (p q : Profile) → IsTrue (⟦<Profile as PartialEq>⟧.eq p q) ↔ (p ≡ q) }
@@ -101,10 +117,8 @@ pub fn profiles_are_equal_by_value()
     sensor_defs_are_equal_by_value();
     self_tests_are_equal_by_value();
     status_texts_are_equal_by_value();
-    parameter_defs_are_equal_by_value();
-    choice_names_are_equal_by_value();
-    estimates_are_equal_by_value();
     choices_of_workers_are_equal_by_value();
+    particulars_are_equal_by_value();
 }
 
 /// Two values are equal by `==` exactly when they have the same form and all that they hold is equal.

@@ -11,12 +11,14 @@ mod profile;
 mod value;
 
 pub use device::Place;
+pub use device::blocks::{block_fits, block_shown, moved_block_is_told, start_block};
 pub use device::footprint::footprint;
 pub use device::measuring::{measure, place_measured};
 pub use device::state::{CommonValues, Kept, Measured, RootValues};
 pub use laws::{
     choice_names_are_equal_by_value, choices_of_workers_are_equal_by_value,
-    estimates_are_equal_by_value, fields_are_equal_by_value, parameter_defs_are_equal_by_value,
+    estimates_are_equal_by_value, fields_are_equal_by_value, locks_are_equal_by_value,
+    parameter_defs_are_equal_by_value, particulars_are_equal_by_value,
     personalities_are_equal_by_value, profile_faults_are_equal_by_value,
     profiles_are_equal_by_value, rights_are_equal_by_value, self_tests_are_equal_by_value,
     sensor_defs_are_equal_by_value, shapes_are_equal_by_value, slots_are_equal_by_value,
@@ -27,12 +29,14 @@ pub use profile::checks::is_good;
 pub use profile::choice_checks::agree;
 pub use profile::choices::{ChoiceName, ChoiceNames};
 pub use profile::estimates::Estimates;
-pub use profile::faults::{ProfileFault, profile_fault, profile_fault_with};
+pub use profile::faults::{ProfileFault, own_fault, profile_fault, profile_fault_with};
 pub use profile::field_checks::has_good_fields;
 pub use profile::fields::{Field, Width};
 pub use profile::left_out::{are_optional, leave_no_need};
+pub use profile::locks::{Lock, Locks, have_states};
 pub use profile::own::{OwnParameters, ParameterDef, Rights, Shape};
 pub use profile::own_checks::{can_start, is_addable};
+pub use profile::particulars::{Particular, Particulars};
 pub use profile::standards::follows;
 pub use profile::workers::{Worker, Workers};
 pub use profile::{Personality, Profile, SelfTest, SensorDef, Slot, StatusText, Unit};

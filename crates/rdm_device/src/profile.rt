@@ -10,15 +10,17 @@ pub(crate) mod faults;
 pub(crate) mod field_checks;
 pub(crate) mod fields;
 pub(crate) mod left_out;
+pub(crate) mod locks;
 mod making;
 pub(crate) mod own;
 pub(crate) mod own_checks;
+pub(crate) mod particulars;
 pub(crate) mod standards;
 pub(crate) mod workers;
 
 ghost use Rattle.std.specs.Prelude.{◌≡◌};
 
-use crate::{ChoiceNames, Estimates, OwnParameters, Workers};
+use crate::{Particulars, Workers};
 use arrayvec::ArrayVec;
 use rdm_frame::Text;
 
@@ -131,6 +133,7 @@ pub struct Unit {
 }
 
 /// What a root device and its sub-devices are made with.
+// The numbers of 16 bits and fewer stand side by side, so that none leaves a gap: on a small machine each byte counts.
 #[derive(Debug, Drop, PartialEq, Eq)]
 pub struct Profile {
     /// The root device.
@@ -139,6 +142,10 @@ pub struct Profile {
     pub sub: Unit,
     /// How many sub-devices there are.
     pub subs: u16,
+    /// How many presets there are (section 10.11).
+    pub presets: u16,
+    /// Which of the two workers carries out its slow commands.
+    pub workers: Workers,
     /// The boot software version ID (section 10.5.10).
     pub boot: u32,
     /// What the boot software version is called (section 10.5.11).
@@ -153,18 +160,6 @@ pub struct Profile {
     pub tests: ArrayVec<SelfTest, 8>,
     /// The status IDs of the device (section 10.3.3).
     pub status_texts: ArrayVec<StatusText, 8>,
-    /// How many presets there are (section 10.11).
-    pub presets: u16,
-    /// The parameters that the maker adds, in the order of their PIDs.
-    pub own: OwnParameters,
-    /// What the things are called of which parameters let choose one, by ascending PID and number.
-    pub choices: ChoiceNames,
-    /// The PIDs of the standard's parameters that the device doesn't have. Most devices need not have them (table A-3).
-    pub without: ArrayVec<u16, 36>,
-    /// How many DMX512 slots the root device uses beside those that `slots` describes.
-    pub more_slots: u16,
-    /// How long its slow commands take.
-    pub estimates: Estimates,
-    /// Which of the two workers carries them out.
-    pub workers: Workers,
+    /// What sets it apart from a device that has the standard's parameters as the table has them.
+    pub particulars: Particulars,
 }

@@ -4,10 +4,9 @@ use Rattle.std.specs.List.{list_any}
 use Rattle.std.proofs.lemmas.Bool.{and_parts, leb-true}
 use Rattle.rdm_device.specs.declared.profile.choices.ChoiceName.{ChoiceName}
 use Rattle.rdm_device.specs.declared.profile.own.ParameterDef.{ParameterDef}
-use Rattle.rdm_device.specs.Device.Choices.{greatest, is_of_choice, is_needed}
-use Rattle.rdm_device.specs.Device.Standards.{is_choice}
+use Rattle.rdm_device.specs.Device.Choices.{greatest, has_names_behind, is_of_choice, is_needed}
 
-one_of_two : (a b : Bool) (P : Type 0) → (a ≡ true → P) → (b ≡ true → P) → (a || b) ≡ true → P
+pub one_of_two : (a b : Bool) (P : Type 0) → (a ≡ true → P) → (b ≡ true → P) → (a || b) ≡ true → P
 one_of_two true b P first second h = first h
 one_of_two false b P first second h = second h
 
@@ -22,7 +21,7 @@ numbered : (ds : List ParameterDef) (c : ChoiceName) → IsTrue (is_needed ds c)
 numbered [] c h = absurd (cc)
 numbered (d ∷ ds) c h =
     one_of_two (is_of_choice c d) (list_any (is_of_choice c) ds) (1 ≤ c.number)
-    (λ here. leb-true 1 c.number (from_one (is_choice d.shape) (c.pid == d.pid + 1) (nat_le 1 c.number) (nat_le c.number (greatest d)) here))
+    (λ here. leb-true 1 c.number (from_one (has_names_behind d.shape) (c.pid == d.pid + 1) (nat_le 1 c.number) (nat_le c.number (greatest d)) here))
     (λ later. numbered ds c later) h
 
 pub all_numbered : (ds : List ParameterDef) (cs : List ChoiceName) → All (λ c. IsTrue (is_needed ds c)) cs → All (λ c. 1 ≤ c.number) cs

@@ -2,6 +2,7 @@ pub mod OnlyKeys
 pub mod ListEntries
 pub mod Readings
 pub mod OneFixture
+pub mod Locks
 pub mod NumberSlots
 pub mod Starts
 pub mod Printables

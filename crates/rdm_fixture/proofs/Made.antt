@@ -144,13 +144,13 @@ all_parameters Q gives t ds h = all_at _ Q (of_table IsParameter Q gives) (get_m
 pub made : (t : Members) (p : Profile) → IsProfile t p → CanBeMade p
 made t p h =
     let count : length p.slots.items ≡ slot_count (get_member (codes "slot") t) = slot_count-of _ (get_member (codes "slot") t) _ h.slots.items in
-    let slots : root_slots t ≡ min 512 (length p.slots.items + p.more_slots) =
-    all_slots (may 0 (number 0 512) (get_member (codes "more_slots") t)) (slot_count (get_member (codes "slot") t)) (length p.slots.items) p.more_slots h.more_slots (sym count) in
+    let slots : root_slots t ≡ min 512 (length p.slots.items + p.particulars.more_slots) =
+    all_slots (may 0 (number 0 512) (get_member (codes "more_slots") t)) (slot_count (get_member (codes "slot") t)) (length p.slots.items) p.particulars.more_slots h.more_slots (sym count) in
     let (subs, sub) = good_sub (root_slots t) t (get_member (codes "sub_devices") t) _ _ (omega arith) h.sub in
     let (low, high) = may_range 0 0 65534 (get_member (codes "presets") t) _ (omega arith) (omega arith) h.presets in (
       subs,
       record {
-        root = good_unit (root_slots t) (min 512 (length p.slots.items + p.more_slots)) t p.root (omega (arith, slots)) h.root;
+        root = good_unit (root_slots t) (min 512 (length p.slots.items + p.particulars.more_slots)) t p.root (omega (arith, slots)) h.root;
         sub = sub;
         language = some_language (get_member (codes "languages") t) _ h.languages;
         test_numbers = all_at _ (λ s. (0 < s.number) × (s.number < 255)) (of_table IsSelfTest _ numbered) (get_member (codes "self_test") t) _ h.tests.items;
@@ -171,5 +171,6 @@ made t p h =
           agree = h.agree;
         };
         without = h.may_lack;
+        locks = h.states;
       },
     )

@@ -38,7 +38,11 @@ in_shape (shapes.Bits n) z a b = refl
 in_shape (shapes.Slots n) z a b = refl
 in_shape shapes.Choice z a b = and_from (int_le (pos 0) z) (int_le z (pos 255)) a b
 in_shape shapes.Names z a b = refl
+in_shape shapes.Scenes z a b = and_from (int_le (pos 0) z) (int_le z (pos 255)) a b
+in_shape shapes.Lock z a b = and_from (int_le (pos 0) z) (int_le z (pos 255)) a b
+in_shape shapes.Pin z a b = and_from (int_le (pos 0) z) (int_le z (pos 9999)) a b
 in_shape shapes.Rates z a b = refl
+in_shape shapes.Block z a b = refl
 
 pub least_greatest : (s : Shape) → int_le (least_of s) (greatest_of s) ≡ true
 least_greatest shapes.Byte = refl
@@ -53,6 +57,10 @@ least_greatest (shapes.Slots n) = refl
 least_greatest shapes.Choice = refl
 least_greatest shapes.Names = refl
 least_greatest shapes.Rates = refl
+least_greatest shapes.Block = refl
+least_greatest shapes.Scenes = refl
+least_greatest shapes.Lock = refl
+least_greatest shapes.Pin = refl
 
 from_if : (b : Bool) (k z : ℤ) → (if b then Some k else None) ≡ Some z → (b ≡ true) × (k ≡ z)
 from_if true k z h = (refl, same_Some _ _ h)
@@ -212,6 +220,10 @@ slots_again shapes.Choice z xs fits said =
     let (long, value) = parts_of shapes.Choice xs z said in
     let one : length xs ≡ 1 = eqb-true (length xs) 1 long in
     subst (λ (k : ℤ). number_slots shapes.Choice k ≡ xs) (same_Some (pos (slice_index xs 0)) z value) (byte_again xs one fits)
+slots_again shapes.Lock z xs fits said =
+    let (long, value) = parts_of shapes.Lock xs z said in
+    let one : length xs ≡ 1 = eqb-true (length xs) 1 long in
+    subst (λ (k : ℤ). number_slots shapes.Lock k ≡ xs) (same_Some (pos (slice_index xs 0)) z value) (byte_again xs one fits)
 slots_again shapes.SignedByte z xs fits said =
     let (long, value) = parts_of shapes.SignedByte xs z said in
     let one : length xs ≡ 1 = eqb-true (length xs) 1 long in
@@ -223,6 +235,13 @@ slots_again shapes.Word z xs fits said =
     let small : from_be_bytes w16 xs < 65536 = word_small xs two fits in
     let same : from_be_bytes w16 xs % 65536 ≡ from_be_bytes w16 xs = below_16 (from_be_bytes w16 xs) small in
     subst (λ (k : ℤ). number_slots shapes.Word k ≡ xs) (same_Some (pos (from_be_bytes w16 xs)) z value)
+    (ap word_slots same ∙ be_bytes_2 xs (from_be_bytes w16 xs) two fits refl)
+slots_again shapes.Pin z xs fits said =
+    let (long, value) = parts_of shapes.Pin xs z said in
+    let two : length xs ≡ 2 = eqb-true (length xs) 2 long in
+    let small : from_be_bytes w16 xs < 65536 = word_small xs two fits in
+    let same : from_be_bytes w16 xs % 65536 ≡ from_be_bytes w16 xs = below_16 (from_be_bytes w16 xs) small in
+    subst (λ (k : ℤ). number_slots shapes.Pin k ≡ xs) (same_Some (pos (from_be_bytes w16 xs)) z value)
     (ap word_slots same ∙ be_bytes_2 xs (from_be_bytes w16 xs) two fits refl)
 slots_again shapes.SignedWord z xs fits said =
     let (long, value) = parts_of shapes.SignedWord xs z said in
@@ -246,3 +265,5 @@ slots_again (shapes.Bits n) z xs fits said = absurd (never_some z (parts_of (sha
 slots_again (shapes.Slots n) z xs fits said = absurd (never_some z (parts_of (shapes.Slots n) xs z said).1)
 slots_again shapes.Names z xs fits said = absurd (never_some z (parts_of shapes.Names xs z said).1)
 slots_again shapes.Rates z xs fits said = absurd (never_some z (parts_of shapes.Rates xs z said).1)
+slots_again shapes.Block z xs fits said = absurd (never_some z (parts_of shapes.Block xs z said).1)
+slots_again shapes.Scenes z xs fits said = absurd (never_some z (parts_of shapes.Scenes xs z said).1)

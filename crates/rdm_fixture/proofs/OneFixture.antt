@@ -8,13 +8,14 @@ use Rattle.rdm_device.specs.declared.profile.estimates.Estimates.{Estimates}
 use Rattle.rdm_device.specs.declared.profile.fields.Field.{Field}
 use Rattle.rdm_device.specs.declared.profile.fields.Width.{Width}
 use Rattle.rdm_device.specs.declared.profile.Personality.{Personality}
+use Rattle.rdm_device.specs.declared.profile.locks.Lock.{Lock}
+use Rattle.rdm_device.specs.declared.profile.particulars.Particular.{Particular}
 use Rattle.rdm_device.specs.declared.profile.Profile.{Profile}
 use Rattle.rdm_device.specs.declared.profile.workers.Worker.{Worker}
 use Rattle.rdm_device.specs.declared.profile.workers.Workers.{Workers}
 use Rattle.rdm_device.specs.declared.profile.own.ParameterDef.{ParameterDef}
 use Rattle.rdm_device.specs.declared.profile.own.Rights.{Rights}
 use Rattle.rdm_device.specs.declared.profile.own.Shape.{Shape}
-use Rattle.rdm_device.specs.Device.OwnParameters.{has_set}
 use Rattle.rdm_device.specs.declared.profile.SelfTest.{SelfTest}
 use Rattle.rdm_device.specs.declared.profile.SensorDef.{SensorDef}
 use Rattle.rdm_device.specs.declared.profile.Slot.{Slot}
@@ -25,13 +26,14 @@ use Rattle.rdm_outcomes.specs.declared.rule.Rule.{Rule}
 use Rattle.rdm_outcomes.specs.declared.rule.Task.{Task}
 use Rattle.toml.specs.Data.{Data, string, integer, float, boolean, datetime, array, table, no_items, item, Members, get_member}
 use Rattle.rdm_fixture.specs.declared.fixture.Fixture.{Fixture}
+use Rattle.rdm_fixture.specs.declared.profile.locks.Locking.{Locking}
 use Rattle.rdm_fixture.specs.Describes.{Describes}
-use Rattle.rdm_fixture.specs.FirstWrong.{AreNamed}
+use Rattle.rdm_fixture.specs.FirstWrong.{AreNamed, AreLocked}
 use Rattle.rdm_fixture.specs.Keys.{may, must, OfTable, EachIs, ListAt, Lists}
-use Rattle.rdm_fixture.specs.Parameters.{IsField, SaysParameter, IsParameter, greatest_said, low_in, high_in, start, flag}
+use Rattle.rdm_fixture.specs.Parameters.{IsField, SaysParameter, IsParameter, greatest_said, low_in, high_in, start, flag, is_setting}
 use Rattle.rdm_fixture.specs.Values.{number, language}
 use Rattle.rdm_fixture.specs.Outcomes.{IsOutcome}
-use Rattle.rdm_fixture.specs.Format.{IsPersonality, IsSlot, IsSensor, IsSelfTest, IsStatus, IsChoice, IsUnit, SubDevices, IsEstimates, EstimatesAt, IsWorkers, WorkersAt, LanguagesAt, IsProfile, IsFixture, parameter_named}
+use Rattle.rdm_fixture.specs.Format.{IsPersonality, IsSlot, IsSensor, IsSelfTest, IsStatus, IsChoice, IsUnit, SubDevices, IsEstimates, EstimatesAt, IsWorkers, WorkersAt, LanguagesAt, IsProfile, IsFixture, parameter_named, IsLocking, AreLocks, all_locks, locked_pid}
 
 -- what is said is one thing
 abbrev pub SaysOne : {S A : Type 0} → (S → A → Type 0) → Type 0
@@ -197,8 +199,10 @@ one_start : (found : Option Data) (s r : Shape) (l m h i : ℤ) (x y : List ℕ)
 one_start found s r l m h i x y e f g p q =
     one (subst (λ (k : ℤ). must (start r m k) found ≡ Some x) g (subst (λ (k : ℤ). must (start r k h) found ≡ Some x) f (subst (λ (k : Shape). must (start k l h) found ≡ Some x) e p))) q
 
-one_flag : (found : Option Data) (a b : Rights) (x y : Bool) → a ≡ b → may (has_set a) flag found ≡ Some x → may (has_set b) flag found ≡ Some y → x ≡ y
-one_flag found a b x y e p q = one (subst (λ (k : Rights). may (has_set k) flag found ≡ Some x) e p) q
+one_flag : (found : Option Data) (a b : Rights) (s r : Shape) (x y : Bool) → a ≡ b → s ≡ r
+    → may (is_setting a s) flag found ≡ Some x → may (is_setting b r) flag found ≡ Some y → x ≡ y
+one_flag found a b s r x y e f p q =
+    one (subst (λ (k : Shape). may (is_setting b k) flag found ≡ Some x) f (subst (λ (k : Rights). may (is_setting k s) flag found ≡ Some x) e p)) q
 
 pub one_said : SaysOne SaysParameter
 one_said t x y p q =
@@ -208,7 +212,7 @@ one_said t x y p q =
     let high : x.high ≡ y.high = one_high t x.shape y.shape x.low y.low x.high y.high shape low p.high q.high in
     let start : x.start ≡ y.start =
     one_start (get_member (codes "default_value") t) x.shape y.shape x.low y.low x.high y.high x.start y.start shape low high p.start q.start in
-    let resets : x.resets ≡ y.resets = one_flag (get_member (codes "factory_defaults") t) x.rights y.rights x.resets y.resets rights p.resets q.resets in
+    let resets : x.resets ≡ y.resets = one_flag (get_member (codes "factory_defaults") t) x.rights y.rights x.shape y.shape x.resets y.resets rights shape p.resets q.resets in
     let fields : x.fields ≡ y.fields = ap (listed 8) (one_list t _ IsField 0 8 _ _ one_field p.fields q.fields) in
     same_parameter (one p.pid q.pid) rights shape low high fields start (one p.unit q.unit) (one p.prefix q.prefix) (one p.name q.name) resets
 
@@ -217,6 +221,23 @@ one_parameter t x y p q = one_said t x y p.said q.said
 
 pub one_names : (t : Members) (xs ys : List ℕ) → AreNamed t xs → AreNamed t ys → xs ≡ ys
 one_names t xs ys p q = one_at (λ d pid. parameter_named d ≡ Some pid) (λ d a b. one) (get_member (codes "without") t) xs ys p.items q.items
+
+-- ---- the locks
+
+one_locked : (t : Members) (xs ys : List ℕ) → AreLocked t xs → AreLocked t ys → xs ≡ ys
+one_locked t xs ys p q = one_at (λ d pid. locked_pid d ≡ Some pid) (λ d a b. one) (get_member (codes "parameters") t) xs ys p.items q.items
+
+abbrev locking_from : ℕ → ArrayVec ℕ 64 (Unit {0}) → Locking
+locking_from a0 a1 = record { state = a0; pids = a1 }
+
+same_locking : {a0 b0 : ℕ} {a1 b1 : ArrayVec ℕ 64 (Unit {0})} → a0 ≡ b0 → a1 ≡ b1 → locking_from a0 a1 ≡ locking_from b0 b1
+same_locking e0 e1 = rw (e0, e1) refl
+
+pub one_locking : SaysOne IsLocking
+one_locking t x y p q = same_locking (one p.state q.state) (ap (listed 64) (one_locked t _ _ p.parameters q.parameters))
+
+pub one_locks : SaysOne AreLocks
+one_locks t x y p q = p.locked ∙ ap all_locks (one_list t _ IsLocking 0 64 _ _ one_locking p.tables q.tables) ∙ sym q.locked
 
 -- ---- the devices
 
@@ -281,13 +302,32 @@ one_choice (Some (float f)) x y p q = absurd p
 one_choice (Some (boolean b)) x y p q = absurd p
 one_choice (Some (datetime dt)) x y p q = absurd p
 
-abbrev pub profile_of : DeviceUnit → DeviceUnit → ℕ → ℕ → List ℕ → ArrayVec ℕ 8 (Unit {0}) → ArrayVec Slot 46 (Unit {0}) → ArrayVec SensorDef 8 (Unit {0}) → ArrayVec SelfTest 8 (Unit {0}) → ArrayVec StatusText 8 (Unit {0}) → ℕ → List ParameterDef → ArrayVec ℕ 36 (Unit {0}) → ℕ → Estimates → Workers → List ChoiceName → Profile
-profile_of a0 a1 a2 a3 a4 a5 a6 a7 a8 a9 a10 a11 a12 a13 a14 a15 a16 = record { root = a0; sub = a1; subs = a2; boot = a3; boot_text = a4; languages = a5; slots = a6; sensors = a7; tests = a8; status_texts = a9; presets = a10; own = a11; without = a12; more_slots = a13; estimates = a14; workers = a15; choices = a16 }
+abbrev particular_of : List ParameterDef → List ChoiceName → List Lock → ArrayVec ℕ 36 (Unit {0}) → ℕ → Estimates → Particular
+particular_of a0 a1 a2 a3 a4 a5 = record { own = a0; choices = a1; locks = a2; without = a3; more_slots = a4; estimates = a5 }
 
-pub same_profile : {a0 b0 : DeviceUnit} {a1 b1 : DeviceUnit} {a2 b2 : ℕ} {a3 b3 : ℕ} {a4 b4 : List ℕ} {a5 b5 : ArrayVec ℕ 8 (Unit {0})} {a6 b6 : ArrayVec Slot 46 (Unit {0})} {a7 b7 : ArrayVec SensorDef 8 (Unit {0})} {a8 b8 : ArrayVec SelfTest 8 (Unit {0})} {a9 b9 : ArrayVec StatusText 8 (Unit {0})} {a10 b10 : ℕ} {a11 b11 : List ParameterDef} {a12 b12 : ArrayVec ℕ 36 (Unit {0})} {a13 b13 : ℕ} {a14 b14 : Estimates} {a15 b15 : Workers} {a16 b16 : List ChoiceName}
-    → a0 ≡ b0 → a1 ≡ b1 → a2 ≡ b2 → a3 ≡ b3 → a4 ≡ b4 → a5 ≡ b5 → a6 ≡ b6 → a7 ≡ b7 → a8 ≡ b8 → a9 ≡ b9 → a10 ≡ b10 → a11 ≡ b11 → a12 ≡ b12 → a13 ≡ b13 → a14 ≡ b14 → a15 ≡ b15 → a16 ≡ b16
-    → profile_of a0 a1 a2 a3 a4 a5 a6 a7 a8 a9 a10 a11 a12 a13 a14 a15 a16 ≡ profile_of b0 b1 b2 b3 b4 b5 b6 b7 b8 b9 b10 b11 b12 b13 b14 b15 b16
-same_profile e0 e1 e2 e3 e4 e5 e6 e7 e8 e9 e10 e11 e12 e13 e14 e15 e16 = rw (e0, e1, e2, e3, e4, e5, e6, e7, e8, e9, e10, e11, e12, e13, e14, e15, e16) refl
+same_particular : {a0 b0 : List ParameterDef} {a1 b1 : List ChoiceName} {a2 b2 : List Lock} {a3 b3 : ArrayVec ℕ 36 (Unit {0})} {a4 b4 : ℕ} {a5 b5 : Estimates}
+    → a0 ≡ b0 → a1 ≡ b1 → a2 ≡ b2 → a3 ≡ b3 → a4 ≡ b4 → a5 ≡ b5
+    → particular_of a0 a1 a2 a3 a4 a5 ≡ particular_of b0 b1 b2 b3 b4 b5
+same_particular e0 e1 e2 e3 e4 e5 = rw (e0, e1, e2, e3, e4, e5) refl
+
+abbrev pub profile_of : DeviceUnit → DeviceUnit → ℕ → ℕ → List ℕ → ArrayVec ℕ 8 (Unit {0}) → ArrayVec Slot 46 (Unit {0}) → ArrayVec SensorDef 8 (Unit {0}) → ArrayVec SelfTest 8 (Unit {0}) → ArrayVec StatusText 8 (Unit {0}) → ℕ → Workers → Particular → Profile
+profile_of a0 a1 a2 a3 a4 a5 a6 a7 a8 a9 a10 a11 a12 = record { root = a0; sub = a1; subs = a2; boot = a3; boot_text = a4; languages = a5; slots = a6; sensors = a7; tests = a8; status_texts = a9; presets = a10; workers = a11; particulars = a12 }
+
+pub same_profile : {a0 b0 : DeviceUnit} {a1 b1 : DeviceUnit} {a2 b2 : ℕ} {a3 b3 : ℕ} {a4 b4 : List ℕ} {a5 b5 : ArrayVec ℕ 8 (Unit {0})} {a6 b6 : ArrayVec Slot 46 (Unit {0})} {a7 b7 : ArrayVec SensorDef 8 (Unit {0})} {a8 b8 : ArrayVec SelfTest 8 (Unit {0})} {a9 b9 : ArrayVec StatusText 8 (Unit {0})} {a10 b10 : ℕ} {a11 b11 : Workers} {a12 b12 : Particular}
+    → a0 ≡ b0 → a1 ≡ b1 → a2 ≡ b2 → a3 ≡ b3 → a4 ≡ b4 → a5 ≡ b5 → a6 ≡ b6 → a7 ≡ b7 → a8 ≡ b8 → a9 ≡ b9 → a10 ≡ b10 → a11 ≡ b11 → a12 ≡ b12
+    → profile_of a0 a1 a2 a3 a4 a5 a6 a7 a8 a9 a10 a11 a12 ≡ profile_of b0 b1 b2 b3 b4 b5 b6 b7 b8 b9 b10 b11 b12
+same_profile e0 e1 e2 e3 e4 e5 e6 e7 e8 e9 e10 e11 e12 = rw (e0, e1, e2, e3, e4, e5, e6, e7, e8, e9, e10, e11, e12) refl
+
+-- what sets it apart
+one_particular : (t : Members) (x y : Profile) → IsProfile t x → IsProfile t y → x.particulars ≡ y.particulars
+one_particular t x y p q =
+    same_particular
+    (one_list t _ IsParameter 0 32 _ _ one_parameter p.own q.own)
+    (one_list t _ IsChoice 0 64 _ _ one_choice_name p.choices q.choices)
+    (one_locks t _ _ p.locks q.locks)
+    (ap (listed 36) (one_names t _ _ p.without q.without))
+    (one p.more_slots q.more_slots)
+    (one_times _ _ _ p.estimates q.estimates)
 
 pub one_profile : SaysOne IsProfile
 one_profile t x y p q =
@@ -304,12 +344,8 @@ one_profile t x y p q =
     (ap (listed 8) (one_list t _ IsSelfTest 0 8 _ _ one_self_test p.tests q.tests))
     (ap (listed 8) (one_list t _ IsStatus 0 8 _ _ one_status p.statuses q.statuses))
     (one p.presets q.presets)
-    (one_list t _ IsParameter 0 16 _ _ one_parameter p.own q.own)
-    (ap (listed 36) (one_names t _ _ p.without q.without))
-    (one p.more_slots q.more_slots)
-    (one_times _ _ _ p.estimates q.estimates)
     (one_choice _ _ _ p.workers q.workers)
-    (one_list t _ IsChoice 0 64 _ _ one_choice_name p.choices q.choices)
+    (one_particular t x y p q)
 
 -- ---- the outcomes
 

@@ -8,11 +8,11 @@ use Rattle.rdm_device.specs.declared.profile.own.ParameterDef.{ParameterDef}
 use Rattle.rdm_device.specs.declared.profile.own.Rights.{Rights}
 use Rattle.rdm_device.specs.declared.profile.own.Shape.{Shape}
 use Rattle.rdm_device.specs.declared.profile.own.Shape.TheVariants as shapes
-use Rattle.rdm_device.specs.Device.OwnParameters.{is_addable, has_number, has_limits, has_set}
+use Rattle.rdm_device.specs.Device.OwnParameters.{is_addable, has_number, has_limits}
 use Rattle.toml.specs.Data.{Data, Members, get_member}
 use Rattle.rdm_fixture.specs.Describable.{are_printable, can_stand, limits_stand, is_sayable}
 use Rattle.rdm_fixture.specs.Keys.{may, must, Must, May, has_only, OfTable, Lists}
-use Rattle.rdm_fixture.specs.Parameters.{IsField, SaysParameter, IsParameter, parameter_keys, own_pid, command_class, least_of, greatest_of, limit, integer_from, low_in, high_in, shape_in, slots_of, spelled, start, start as starting, flag}
+use Rattle.rdm_fixture.specs.Parameters.{IsField, SaysParameter, IsParameter, parameter_keys, own_pid, command_class, least_of, greatest_of, limit, integer_from, low_in, high_in, shape_in, slots_of, spelled, start, start as starting, flag, is_setting}
 use Rattle.rdm_fixture.specs.Values.{number, text}
 use Rattle.rdm_fixture.proofs.NumberSlots.{le_through, le_same, least_greatest, in_shape, within_from}
 use Rattle.rdm_fixture.proofs.Starts.{IsSized, sized, spelled_slots, stands}
@@ -71,6 +71,10 @@ few_slots shapes.Text low high (Some d) xs k h = tt
 few_slots shapes.Choice low high (Some d) xs k h = tt
 few_slots shapes.Names low high (Some d) xs k h = tt
 few_slots shapes.Rates low high (Some d) xs k h = tt
+few_slots shapes.Block low high (Some d) xs k h = tt
+few_slots shapes.Scenes low high (Some d) xs k h = tt
+few_slots shapes.Lock low high (Some d) xs k h = tt
+few_slots shapes.Pin low high (Some d) xs k h = tt
 few_slots (shapes.Bits n) low high (Some d) xs k h = few_spelled n d xs k h
 few_slots (shapes.Slots n) low high (Some d) xs k h = few_spelled n d xs k h
 
@@ -85,6 +89,10 @@ limits_from shapes.Text low high few a b c = refl
 limits_from shapes.Choice low high few a b c = three _ _ _ a b c
 limits_from shapes.Names low high few a b c = refl
 limits_from shapes.Rates low high few a b c = refl
+limits_from shapes.Block low high few a b c = refl
+limits_from shapes.Scenes low high few a b c = three _ _ _ a b c
+limits_from shapes.Lock low high few a b c = three _ _ _ a b c
+limits_from shapes.Pin low high few a b c = three _ _ _ a b c
 limits_from (shapes.Bits n) low high few a b c = few
 limits_from (shapes.Slots n) low high few a b c = few
 
@@ -125,7 +133,7 @@ parameter_is : (t : Members) (pid : ℕ) (rights : Rights) (shape : Shape) (low 
     → shape_in t ≡ Some shape → low_in shape t ≡ Some low → high_in shape low t ≡ Some high
     → Lists t (codes "fields") (OfTable IsField) 0 8 fields.items → Must t (codes "default_value") (starting shape low high) start
     → May t (codes "unit") 0 (number 0 0xFF) unit → May t (codes "prefix") 0 (number 0 0xFF) prefix
-    → May t (codes "factory_defaults") (has_set rights) flag resets → May t (codes "description") [] text name
+    → May t (codes "factory_defaults") (is_setting rights shape) flag resets → May t (codes "description") [] text name
     → SaysParameter t (record { pid = pid; rights = rights; shape = shape; low = low; high = high; fields = fields; start = start; unit = unit; prefix = prefix; name = name; resets = resets })
 parameter_is t pid rights shape low high fields start unit prefix resets name keys at_pid at_rights at_shape at_low at_high at_fields at_start at_unit at_prefix at_resets at_name =
     record {
@@ -150,7 +158,7 @@ pub parameter_at : (t : Members) (pid : ℕ) (rights : Rights) (shape : Shape) (
     → shape_in t ≡ Some shape → low_in shape t ≡ Some low → high_in shape low t ≡ Some high
     → Lists t (codes "fields") (OfTable IsField) 0 8 fields.items → Must t (codes "default_value") (starting shape low high) start
     → May t (codes "unit") 0 (number 0 0xFF) unit → May t (codes "prefix") 0 (number 0 0xFF) prefix
-    → May t (codes "factory_defaults") (has_set rights) flag resets → May t (codes "description") [] text name
+    → May t (codes "factory_defaults") (is_setting rights shape) flag resets → May t (codes "description") [] text name
     → SaysParameter t (record { pid = pid; rights = rights; shape = shape; low = low2; high = high2; fields = fields; start = start; unit = unit; prefix = prefix; name = name; resets = resets })
 parameter_at t pid rights shape low high low2 high2 fields start unit prefix resets name same_low same_high keys at_pid at_rights at_shape at_low at_high at_fields at_start at_unit at_prefix at_resets at_name =
     subst (λ (l : ℤ). SaysParameter t (record { pid = pid; rights = rights; shape = shape; low = l; high = high2; fields = fields; start = start; unit = unit; prefix = prefix; name = name; resets = resets })) (sym same_low)

@@ -42,28 +42,33 @@ IsSized slots (shapes.Bits n) = n ≡ slots
 IsSized slots (shapes.Slots n) = n ≡ slots
 IsSized slots _ = Unit {0}
 
-named_shape : (slots : ℕ) (a b c d e f g h i j k l : Bool) (s : Shape)
-    → (if a then Some shapes.Byte else (if b then Some shapes.SignedByte else (if c then Some shapes.Word else (if d then Some shapes.SignedWord
-    else (if e then Some shapes.Long else (if f then Some shapes.SignedLong else (if g then Some shapes.Text else (if h then Some (shapes.Bits slots)
-    else (if i then Some (shapes.Slots slots) else (if j then Some shapes.Choice else (if k then Some shapes.Names else (if l then Some shapes.Rates
-    else None)))))))))))) ≡ Some s → IsSized slots s
-named_shape slots true b c d e f g h i j k l s is = subst (IsSized slots) (same_Some shapes.Byte s is) tt
-named_shape slots false true c d e f g h i j k l s is = subst (IsSized slots) (same_Some shapes.SignedByte s is) tt
-named_shape slots false false true d e f g h i j k l s is = subst (IsSized slots) (same_Some shapes.Word s is) tt
-named_shape slots false false false true e f g h i j k l s is = subst (IsSized slots) (same_Some shapes.SignedWord s is) tt
-named_shape slots false false false false true f g h i j k l s is = subst (IsSized slots) (same_Some shapes.Long s is) tt
-named_shape slots false false false false false true g h i j k l s is = subst (IsSized slots) (same_Some shapes.SignedLong s is) tt
-named_shape slots false false false false false false true h i j k l s is = subst (IsSized slots) (same_Some shapes.Text s is) tt
-named_shape slots false false false false false false false true i j k l s is = subst (IsSized slots) (same_Some (shapes.Bits slots) s is) refl
-named_shape slots false false false false false false false false true j k l s is = subst (IsSized slots) (same_Some (shapes.Slots slots) s is) refl
-named_shape slots false false false false false false false false false true k l s is = subst (IsSized slots) (same_Some shapes.Choice s is) tt
-named_shape slots false false false false false false false false false false true l s is = subst (IsSized slots) (same_Some shapes.Names s is) tt
-named_shape slots false false false false false false false false false false false true s is = subst (IsSized slots) (same_Some shapes.Rates s is) tt
-named_shape slots false false false false false false false false false false false false s is = absurd (cc)
+named_shape : (slots : ℕ) (a b c d e f g h i j k l m n o p : Bool) (s : Shape)
+    → (if a then Some shapes.Byte else (if b then Some shapes.SignedByte else (if c then Some shapes.Word else (if d then Some shapes.SignedWord else
+    (if e then Some shapes.Long else (if f then Some shapes.SignedLong else (if g then Some shapes.Text else (if h then Some (shapes.Bits slots) else
+    (if i then Some (shapes.Slots slots) else (if j then Some shapes.Choice else (if k then Some shapes.Names else (if l then Some shapes.Rates else
+    (if m then Some shapes.Scenes else (if n then Some shapes.Lock else (if o then Some shapes.Pin else (if p then Some shapes.Block else
+    None)))))))))))))))) ≡ Some s → IsSized slots s
+named_shape slots true b c d e f g h i j k l m n o p s is = subst (IsSized slots) (same_Some shapes.Byte s is) tt
+named_shape slots false true c d e f g h i j k l m n o p s is = subst (IsSized slots) (same_Some shapes.SignedByte s is) tt
+named_shape slots false false true d e f g h i j k l m n o p s is = subst (IsSized slots) (same_Some shapes.Word s is) tt
+named_shape slots false false false true e f g h i j k l m n o p s is = subst (IsSized slots) (same_Some shapes.SignedWord s is) tt
+named_shape slots false false false false true f g h i j k l m n o p s is = subst (IsSized slots) (same_Some shapes.Long s is) tt
+named_shape slots false false false false false true g h i j k l m n o p s is = subst (IsSized slots) (same_Some shapes.SignedLong s is) tt
+named_shape slots false false false false false false true h i j k l m n o p s is = subst (IsSized slots) (same_Some shapes.Text s is) tt
+named_shape slots false false false false false false false true i j k l m n o p s is = subst (IsSized slots) (same_Some (shapes.Bits slots) s is) refl
+named_shape slots false false false false false false false false true j k l m n o p s is = subst (IsSized slots) (same_Some (shapes.Slots slots) s is) refl
+named_shape slots false false false false false false false false false true k l m n o p s is = subst (IsSized slots) (same_Some shapes.Choice s is) tt
+named_shape slots false false false false false false false false false false true l m n o p s is = subst (IsSized slots) (same_Some shapes.Names s is) tt
+named_shape slots false false false false false false false false false false false true m n o p s is = subst (IsSized slots) (same_Some shapes.Rates s is) tt
+named_shape slots false false false false false false false false false false false false true n o p s is = subst (IsSized slots) (same_Some shapes.Scenes s is) tt
+named_shape slots false false false false false false false false false false false false false true o p s is = subst (IsSized slots) (same_Some shapes.Lock s is) tt
+named_shape slots false false false false false false false false false false false false false false true p s is = subst (IsSized slots) (same_Some shapes.Pin s is) tt
+named_shape slots false false false false false false false false false false false false false false false true s is = subst (IsSized slots) (same_Some shapes.Block s is) tt
+named_shape slots false false false false false false false false false false false false false false false false s is = absurd (cc)
 
 pub sized : (slots : ℕ) (found : Option Data) (s : Shape) → must (data_type slots) found ≡ Some s → IsSized slots s
 sized slots None s h = absurd (cc)
-sized slots (Some (string name)) s h = named_shape slots _ _ _ _ _ _ _ _ _ _ _ _ s h
+sized slots (Some (string name)) s h = named_shape slots _ _ _ _ _ _ _ _ _ _ _ _ _ _ _ _ s h
 sized slots (Some (integer z)) s h = absurd (cc)
 sized slots (Some (float f)) s h = absurd (cc)
 sized slots (Some (boolean b)) s h = absurd (cc)
@@ -82,9 +87,10 @@ differs s t h = not_true (bytes_eq s t) (λ e. h ((bytes_eq-Decides s t).0 e))
 pub no_shape : (slots : ℕ) (s : List ℕ) → (s ≡ codes "unsigned_byte" → ⊥) → (s ≡ codes "signed_byte" → ⊥) → (s ≡ codes "unsigned_word" → ⊥)
     → (s ≡ codes "signed_word" → ⊥) → (s ≡ codes "unsigned_dword" → ⊥) → (s ≡ codes "signed_dword" → ⊥) → (s ≡ codes "ascii" → ⊥)
     → (s ≡ codes "bit_field" → ⊥) → (s ≡ codes "not_defined" → ⊥) → (s ≡ codes "choice" → ⊥) → (s ≡ codes "names" → ⊥) → (s ≡ codes "rates" → ⊥)
+    → (s ≡ codes "scenes" → ⊥) → (s ≡ codes "lock" → ⊥) → (s ≡ codes "pin" → ⊥) → (s ≡ codes "block" → ⊥)
     → shape_named slots s ≡ None
-no_shape slots s a b c d e f g h i j k l =
-    rw (differs s _ a, differs s _ b, differs s _ c, differs s _ d, differs s _ e, differs s _ f, differs s _ g, differs s _ h, differs s _ i, differs s _ j, differs s _ k, differs s _ l) refl
+no_shape slots s a b c d e f g h i j k l m n o p =
+    rw (differs s _ a, differs s _ b, differs s _ c, differs s _ d, differs s _ e, differs s _ f, differs s _ g, differs s _ h, differs s _ i, differs s _ j, differs s _ k, differs s _ l, differs s _ m, differs s _ n, differs s _ o, differs s _ p) refl
 
 pub type_again : (slots : ℕ) (s : Shape) → IsSized slots s → data_type slots (string (shape_name s)) ≡ Some s
 type_again slots shapes.Byte h = refl
@@ -99,11 +105,16 @@ type_again slots (shapes.Slots n) h = ap (λ (m : ℕ). Some (shapes.Slots m)) (
 type_again slots shapes.Choice h = refl
 type_again slots shapes.Names h = refl
 type_again slots shapes.Rates h = refl
+type_again slots shapes.Block h = refl
+type_again slots shapes.Scenes h = refl
+type_again slots shapes.Lock h = refl
+type_again slots shapes.Pin h = refl
 
 pub rights_again : (r : Rights) → command_class (string (rights_name r)) ≡ Some r
 rights_again rights.Get = refl
 rights_again rights.Set = refl
 rights_again rights.Both = refl
+rights_again rights.Clear = refl
 
 -- ---- slots in digits
 
@@ -201,6 +212,10 @@ stands (shapes.Slots n) low high d xs h = refl
 stands shapes.Choice low high d xs h = refl
 stands shapes.Names low high d xs h = refl
 stands shapes.Rates low high d xs h = refl
+stands shapes.Block low high d xs h = refl
+stands shapes.Scenes low high d xs h = refl
+stands shapes.Lock low high d xs h = refl
+stands shapes.Pin low high d xs h = refl
 
 -- ---- what is written of what they start with
 
@@ -222,6 +237,10 @@ start_sized shapes.Text low high fs d xs h can = tt
 start_sized shapes.Choice low high fs d xs h can = tt
 start_sized shapes.Names low high fs d xs h can = tt
 start_sized shapes.Rates low high fs d xs h can = tt
+start_sized shapes.Block low high fs d xs h can = tt
+start_sized shapes.Scenes low high fs d xs h can = tt
+start_sized shapes.Lock low high fs d xs h can = tt
+start_sized shapes.Pin low high fs d xs h can = tt
 start_sized (shapes.Bits n) low high fs d xs h can =
     let is : ((length xs == n) && nat_le (length xs) 32) ≡ true = long_enough (shapes.Bits n) low high fs xs can in
     let (long, few) = and_parts (length xs == n) (nat_le (length xs) 32) is in
@@ -247,8 +266,12 @@ number_written shapes.SignedWord low high z fs xs fits said can = number_again s
 number_written shapes.Long low high z fs xs fits said can = number_again shapes.Long low high z fs xs refl fits said can
 number_written shapes.SignedLong low high z fs xs fits said can = number_again shapes.SignedLong low high z fs xs refl fits said can
 number_written shapes.Choice low high z fs xs fits said can = number_again shapes.Choice low high z fs xs refl fits said can
+number_written shapes.Lock low high z fs xs fits said can = number_again shapes.Lock low high z fs xs refl fits said can
+number_written shapes.Pin low high z fs xs fits said can = number_again shapes.Pin low high z fs xs refl fits said can
 number_written shapes.Names low high z fs xs fits said can = absurd (never_some z (parts_of shapes.Names xs z said).1)
 number_written shapes.Rates low high z fs xs fits said can = absurd (never_some z (parts_of shapes.Rates xs z said).1)
+number_written shapes.Block low high z fs xs fits said can = absurd (never_some z (parts_of shapes.Block xs z said).1)
+number_written shapes.Scenes low high z fs xs fits said can = absurd (never_some z (parts_of shapes.Scenes xs z said).1)
 number_written shapes.Text low high z fs xs fits said can = absurd (never_some z (parts_of shapes.Text xs z said).1)
 number_written (shapes.Bits n) low high z fs xs fits said can = absurd (never_some z (parts_of (shapes.Bits n) xs z said).1)
 number_written (shapes.Slots n) low high z fs xs fits said can = absurd (never_some z (parts_of (shapes.Slots n) xs z said).1)
@@ -298,8 +321,14 @@ slots_written shapes.SignedLong low high fs xs t fits none can stand e =
     absurd (never shapes.SignedLong xs _ (some_said shapes.SignedLong xs (cast_signed w32 (from_be_bytes w32 xs)) (long_enough shapes.SignedLong low high fs xs can) refl) none)
 slots_written shapes.Choice low high fs xs t fits none can stand e =
     absurd (never shapes.Choice xs _ (some_said shapes.Choice xs (pos (slice_index xs 0)) (long_enough shapes.Choice low high fs xs can) refl) none)
+slots_written shapes.Lock low high fs xs t fits none can stand e =
+    absurd (never shapes.Lock xs _ (some_said shapes.Lock xs (pos (slice_index xs 0)) (long_enough shapes.Lock low high fs xs can) refl) none)
+slots_written shapes.Pin low high fs xs t fits none can stand e =
+    absurd (never shapes.Pin xs _ (some_said shapes.Pin xs (pos (from_be_bytes w16 xs)) (long_enough shapes.Pin low high fs xs can) refl) none)
 slots_written shapes.Names low high fs xs t fits none can stand e = spelled_again xs t fits (no_slots xs (long_enough shapes.Names low high fs xs can)) e
 slots_written shapes.Rates low high fs xs t fits none can stand e = spelled_again xs t fits (no_slots xs (long_enough shapes.Rates low high fs xs can)) e
+slots_written shapes.Block low high fs xs t fits none can stand e = spelled_again xs t fits (no_slots xs (long_enough shapes.Block low high fs xs can)) e
+slots_written shapes.Scenes low high fs xs t fits none can stand e = spelled_again xs t fits (no_slots xs (long_enough shapes.Scenes low high fs xs can)) e
 
 -- ---- the same of a parameter
 

@@ -1,7 +1,8 @@
 -- What is written of the entries of lists.
-use Rattle.std.proofs.Common.{◌≡◌, false, ℕ, ◌≤◌, ◌<◌, ℤ, pos, neg_ℤ, List, [], ◌∷◌, Some, refl, arith, codes}
+use Rattle.std.proofs.Common.{◌≡◌, false, ℕ, ◌≤◌, ◌<◌, ℤ, pos, neg_ℤ, List, [], ◌∷◌, Option, Some, refl, sym, subst, arith, codes}
 use Rattle.rdm_device.specs.declared.profile.choices.ChoiceName.{ChoiceName}
 use Rattle.rdm_device.specs.declared.profile.estimates.Estimates.{Estimates}
+use Rattle.rdm_device.specs.declared.profile.locks.Lock.{Lock}
 use Rattle.rdm_device.specs.declared.profile.Personality.{Personality}
 use Rattle.rdm_device.specs.declared.profile.SelfTest.{SelfTest}
 use Rattle.rdm_device.specs.declared.profile.SensorDef.{SensorDef}
@@ -11,13 +12,13 @@ use Rattle.rdm_device.specs.declared.profile.workers.Worker.{Worker}
 use Rattle.rdm_device.specs.declared.profile.workers.Worker.TheVariants.{First, Second}
 use Rattle.rdm_device.specs.declared.profile.workers.Workers.{Workers}
 use Rattle.rdm_device.specs.Device.Workers.{worker_number}
-use Rattle.toml.specs.Data.{integer, boolean, table}
-use Rattle.rdm_fixture.specs.Format.{IsPersonality, IsSlot, IsSensor, IsSelfTest, IsStatus, IsChoice, IsEstimates, IsWorkers, estimates_keys, workers_keys, personality_keys, slot_keys, sensor_keys, self_test_keys, status_keys, choice_keys}
-use Rattle.rdm_fixture.specs.Keys.{may}
+use Rattle.toml.specs.Data.{Data, integer, boolean, table, get_member}
+use Rattle.rdm_fixture.specs.Format.{IsPersonality, IsSlot, IsSensor, IsSelfTest, IsStatus, IsChoice, IsLocking, locked_pid, IsEstimates, IsWorkers, estimates_keys, workers_keys, personality_keys, slot_keys, sensor_keys, self_test_keys, status_keys, choice_keys, locking_keys}
+use Rattle.rdm_fixture.specs.Keys.{may, ListAt}
 use Rattle.rdm_fixture.specs.Parameters.{flag}
 use Rattle.rdm_fixture.specs.Values.{number, worker, signed, text}
-use Rattle.rdm_fixture.specs.Writing.{text_field, IsPlain}
-use Rattle.rdm_fixture.proofs.Fields.{Field, members_from, only_from, plain_from}
+use Rattle.rdm_fixture.specs.Writing.{text_field, locking_of, IsPlain}
+use Rattle.rdm_fixture.proofs.Fields.{Field, members_from, get_from, only_from, plain_from}
 use Rattle.rdm_fixture.proofs.Said.{number_says, must_say, may_say, may_text, number_plain, flag_plain, text_plain}
 
 -- ---- slots
@@ -109,6 +110,27 @@ choice_says c low high pid hertz name = let fs = choice_fields c in record {
 
 pub choice_plain : (c : ChoiceName) → IsPlain 1 (table (members_from (choice_fields c)))
 choice_plain c = plain_from 0 (choice_fields c) (text_plain 0 (codes "description") c.name _ (number_plain 0 _, (number_plain 0 _, (number_plain 0 _, tt))))
+
+-- ---- locks
+
+abbrev pub lock_fields : ℕ → Data → List Field
+lock_fields state pids = (codes "parameters", Some pids) ∷ (codes "state", Some (integer (pos state))) ∷ []
+
+-- a list at its key
+listed_at : (l : Lock) (fs : List Field) (pids : Data) → get_member (codes "parameters") (members_from fs) ≡ Some pids
+    → ListAt (λ d p. locked_pid d ≡ Some p) (Some pids) (l.pid ∷ []) → ListAt (λ d p. locked_pid d ≡ Some p) (get_member (codes "parameters") (members_from fs)) (l.pid ∷ [])
+listed_at l fs pids at listed = subst (λ (o : Option Data). ListAt (λ d p. locked_pid d ≡ Some p) o (l.pid ∷ [])) (sym at) listed
+
+pub lock_says : (l : Lock) (pids : Data) → 1 ≤ l.state → l.state ≤ 0xFF → ListAt (λ d p. locked_pid d ≡ Some p) (Some pids) (l.pid ∷ [])
+    → IsLocking (members_from (lock_fields l.state pids)) (locking_of l)
+lock_says l pids low high listed = let fs = lock_fields l.state pids in record {
+  keys = only_from locking_keys fs refl;
+  state = must_say (codes "state") fs (number 1 0xFF) _ _ refl (from_one l.state low high);
+  parameters = record { items = listed_at l fs pids (get_from (codes "parameters") fs) listed; enough = omega arith; fit = omega arith };
+}
+
+pub lock_plain : (state : ℕ) (pids : Data) → IsPlain 1 pids → IsPlain 2 (table (members_from (lock_fields state pids)))
+lock_plain state pids is = plain_from 1 (lock_fields state pids) (is, (number_plain 1 _, tt))
 
 -- ---- entries with a number and a text
 

@@ -1,5 +1,5 @@
 -- What is written of a whole fixture, and of its UID and its languages.
-use Rattle.std.proofs.Common.{◌≡◌, ℕ, ◌+◌, ◌≤◌, ◌<◌, min, pos, false, List, [], ◌∷◌, ◌++◌, length, get_or, take, Option, Some, None, IsTrue, option_and_then, refl, sym, ap, ◌∙◌, arith, codes}
+use Rattle.std.proofs.Common.{◌≡◌, ℕ, ◌+◌, ◌≤◌, ◌<◌, min, pos, false, List, [], ◌∷◌, ◌++◌, length, map, get_or, take, Option, Some, None, IsTrue, option_and_then, refl, sym, ap, ◌∙◌, arith, codes}
 use Rattle.std.proofs.lemmas.List.{take_more}
 use Rattle.rdm_frame.specs.declared.uid.Uid.{Uid}
 use Rattle.rdm_frame.specs.Addressing.{is_broadcast}
@@ -11,14 +11,15 @@ use Rattle.toml.specs.View.{view, items_view}
 use Rattle.toml.specs.declared.value.Value.{Value}
 use Rattle.rdm_fixture.specs.declared.fixture.Fixture.{Fixture}
 use Rattle.rdm_fixture.specs.Describable.{CanBeDescribed}
-use Rattle.rdm_fixture.specs.Format.{IsFixture, IsUnit, IsSlot, IsSensor, IsSelfTest, IsStatus, IsChoice, SubDevices, EstimatesAt, WorkersAt, LanguagesAt, slot_count, root_slots, parameter_named, unit_keys, fixture_keys}
+use Rattle.rdm_fixture.specs.Format.{IsFixture, IsUnit, IsSlot, IsSensor, IsSelfTest, IsStatus, IsChoice, IsLocking, SubDevices, EstimatesAt, WorkersAt, LanguagesAt, slot_count, root_slots, parameter_named, unit_keys, fixture_keys}
 use Rattle.rdm_fixture.specs.Keys.{may, must, has_only, EachIs, ListAt, OfTable}
 use Rattle.rdm_fixture.specs.Outcomes.{IsOutcome}
 use Rattle.rdm_fixture.specs.Parameters.{IsParameter}
 use Rattle.rdm_fixture.specs.Values.{number, text, uid, own_uid, language}
-use Rattle.rdm_fixture.specs.Writing.{with_field, text_field, IsPlain}
+use Rattle.rdm_fixture.specs.Writing.{with_field, text_field, locking_of, IsPlain}
 use Rattle.rdm_fixture.proofs.Fields.{Field, members_on, find_on, or_else, get_on, only_on, absent, plain_on}
 use Rattle.rdm_fixture.proofs.ListEntries.{EachIs-last, slot_count-of}
+use Rattle.rdm_fixture.proofs.Locks.{locks_written, locks_again, map_count}
 use Rattle.rdm_fixture.proofs.Made.{all_slots}
 use Rattle.rdm_fixture.proofs.Said.{number_says, number_plain, text_plain, option_plain}
 use Rattle.rdm_fixture.proofs.WrittenEntries.{says_long, says_text}
@@ -49,36 +50,37 @@ deeper n m d less is = record { shallow = omega (arith, less, is.shallow); dates
 pub deeper_some : (n m : ℕ) (o : Option Data) → n ≤ m → ((d : Data) → o ≡ Some d → IsPlain n d) → (d : Data) → o ≡ Some d → IsPlain m d
 deeper_some n m o less is d e = deeper n m d less (is d e)
 
-module _ (f : Fixture) (base : Members) (uid_data languages : Data) (slots sensors tests statuses lacks owns names outcomes subs times chosen : Option Data) where
+module _ (f : Fixture) (base : Members) (uid_data languages : Data) (slots sensors tests statuses lacks owns names locks outcomes subs times chosen : Option Data) where
   abbrev pub fixture_fields : List Field
   fixture_fields =
-      (codes "workers", chosen) ∷ (codes "estimates", times) ∷ (codes "sub_devices", subs) ∷ (codes "outcome", outcomes) ∷ (codes "choice", names) ∷ (codes "parameter", owns) ∷ (codes "without", lacks)
+      (codes "workers", chosen) ∷ (codes "estimates", times) ∷ (codes "sub_devices", subs) ∷ (codes "outcome", outcomes) ∷ (codes "lock", locks) ∷ (codes "choice", names) ∷ (codes "parameter", owns) ∷ (codes "without", lacks)
       ∷ (codes "status", statuses) ∷ (codes "self_test", tests) ∷ (codes "sensor", sensors) ∷ (codes "slot", slots)
-      ∷ (codes "more_slots", Some (integer (pos f.profile.more_slots))) ∷ (codes "presets", Some (integer (pos f.profile.presets)))
+      ∷ (codes "more_slots", Some (integer (pos f.profile.particulars.more_slots))) ∷ (codes "presets", Some (integer (pos f.profile.presets)))
       ∷ (codes "languages", Some languages) ∷ (codes "boot_software_version_label", text_field f.profile.boot_text)
       ∷ (codes "boot_software_version_id", Some (integer (pos f.profile.boot))) ∷ (codes "uid", Some uid_data) ∷ []
 
   -- each table has one field more than the one before
-  pub fixture_members : (t1 t2 t3 t4 t5 t6 t7 t8 t9 t10 t11 t12 t13 t14 t15 t16 t17 : Members)
+  pub fixture_members : (t1 t2 t3 t4 t5 t6 t7 t8 t9 t10 t11 t12 t13 t14 t15 t16 t17 t18 : Members)
       → t1 ≡ with_field (codes "uid") (Some uid_data) base
       → t2 ≡ with_field (codes "boot_software_version_id") (Some (integer (pos f.profile.boot))) t1
       → t3 ≡ with_field (codes "boot_software_version_label") (text_field f.profile.boot_text) t2
       → t4 ≡ with_field (codes "languages") (Some languages) t3
       → t5 ≡ with_field (codes "presets") (Some (integer (pos f.profile.presets))) t4
-      → t6 ≡ with_field (codes "more_slots") (Some (integer (pos f.profile.more_slots))) t5
+      → t6 ≡ with_field (codes "more_slots") (Some (integer (pos f.profile.particulars.more_slots))) t5
       → t7 ≡ with_field (codes "slot") slots t6 → t8 ≡ with_field (codes "sensor") sensors t7
       → t9 ≡ with_field (codes "self_test") tests t8 → t10 ≡ with_field (codes "status") statuses t9
       → t11 ≡ with_field (codes "without") lacks t10 → t12 ≡ with_field (codes "parameter") owns t11
       → t13 ≡ with_field (codes "choice") names t12
-      → t14 ≡ with_field (codes "outcome") outcomes t13 → t15 ≡ with_field (codes "sub_devices") subs t14
-      → t16 ≡ with_field (codes "estimates") times t15 → t17 ≡ with_field (codes "workers") chosen t16
-      → t17 ≡ members_on base fixture_fields
-  fixture_members t1 t2 t3 t4 t5 t6 t7 t8 t9 t10 t11 t12 t13 t14 t15 t16 t17 e1 e2 e3 e4 e5 e6 e7 e8 e9 e10 e11 e12 e13 e14 e15 e16 e17 =
+      → t14 ≡ with_field (codes "lock") locks t13
+      → t15 ≡ with_field (codes "outcome") outcomes t14 → t16 ≡ with_field (codes "sub_devices") subs t15
+      → t17 ≡ with_field (codes "estimates") times t16 → t18 ≡ with_field (codes "workers") chosen t17
+      → t18 ≡ members_on base fixture_fields
+  fixture_members t1 t2 t3 t4 t5 t6 t7 t8 t9 t10 t11 t12 t13 t14 t15 t16 t17 t18 e1 e2 e3 e4 e5 e6 e7 e8 e9 e10 e11 e12 e13 e14 e15 e16 e17 e18 =
       let at2 = e2 ∙ ap (with_field (codes "boot_software_version_id") (Some (integer (pos f.profile.boot)))) e1 in
       let at3 = e3 ∙ ap (with_field (codes "boot_software_version_label") (text_field f.profile.boot_text)) at2 in
       let at4 = e4 ∙ ap (with_field (codes "languages") (Some languages)) at3 in
       let at5 = e5 ∙ ap (with_field (codes "presets") (Some (integer (pos f.profile.presets)))) at4 in
-      let at6 = e6 ∙ ap (with_field (codes "more_slots") (Some (integer (pos f.profile.more_slots)))) at5 in
+      let at6 = e6 ∙ ap (with_field (codes "more_slots") (Some (integer (pos f.profile.particulars.more_slots)))) at5 in
       let at7 = e7 ∙ ap (with_field (codes "slot") slots) at6 in
       let at8 = e8 ∙ ap (with_field (codes "sensor") sensors) at7 in
       let at9 = e9 ∙ ap (with_field (codes "self_test") tests) at8 in
@@ -86,10 +88,11 @@ module _ (f : Fixture) (base : Members) (uid_data languages : Data) (slots senso
       let at11 = e11 ∙ ap (with_field (codes "without") lacks) at10 in
       let at12 = e12 ∙ ap (with_field (codes "parameter") owns) at11 in
       let at13 = e13 ∙ ap (with_field (codes "choice") names) at12 in
-      let at14 = e14 ∙ ap (with_field (codes "outcome") outcomes) at13 in
-      let at15 = e15 ∙ ap (with_field (codes "sub_devices") subs) at14 in
-      let at16 = e16 ∙ ap (with_field (codes "estimates") times) at15 in
-      e17 ∙ ap (with_field (codes "workers") chosen) at16
+      let at14 = e14 ∙ ap (with_field (codes "lock") locks) at13 in
+      let at15 = e15 ∙ ap (with_field (codes "outcome") outcomes) at14 in
+      let at16 = e16 ∙ ap (with_field (codes "sub_devices") subs) at15 in
+      let at17 = e17 ∙ ap (with_field (codes "estimates") times) at16 in
+      e18 ∙ ap (with_field (codes "workers") chosen) at17
 
   or_absent : (o x : Option Data) → x ≡ None → or_else o x ≡ o
   or_absent None x none = none
@@ -99,29 +102,30 @@ module _ (f : Fixture) (base : Members) (uid_data languages : Data) (slots senso
       → get_member key (members_on base fixture_fields) ≡ o
   found key o is none = get_on base key fixture_fields ∙ is ∙ or_absent o (get_member key base) none
 
-  pub fixture_says : CanBeDescribed f → IsTrue (has_only unit_keys base) → ((slots : ℕ) → slots ≡ min 512 (length f.profile.slots.items + f.profile.more_slots) → IsUnit slots base f.profile.root)
+  pub fixture_says : CanBeDescribed f → IsTrue (has_only unit_keys base) → ((slots : ℕ) → slots ≡ min 512 (length f.profile.slots.items + f.profile.particulars.more_slots) → IsUnit slots base f.profile.root)
       → uid uid_data ≡ Some f.uid → says_long f.profile.boot → says_text f.profile.boot_text
       → LanguagesAt (Some languages) f.profile.languages.items
       → ListAt (OfTable IsSlot) slots f.profile.slots.items → length f.profile.slots.items ≤ 46
       → ListAt (OfTable IsSensor) sensors f.profile.sensors.items → length f.profile.sensors.items ≤ 8
       → ListAt (OfTable IsSelfTest) tests f.profile.tests.items → length f.profile.tests.items ≤ 8
       → ListAt (OfTable IsStatus) statuses f.profile.status_texts.items → length f.profile.status_texts.items ≤ 8
-      → ListAt (λ d pid. parameter_named d ≡ Some pid) lacks f.profile.without.items → length f.profile.without.items ≤ 36
-      → ListAt (OfTable IsParameter) owns f.profile.own → length f.profile.own ≤ 16
-      → ListAt (OfTable IsChoice) names f.profile.choices → length f.profile.choices ≤ 64
+      → ListAt (λ d pid. parameter_named d ≡ Some pid) lacks f.profile.particulars.without.items → length f.profile.particulars.without.items ≤ 36
+      → ListAt (OfTable IsParameter) owns f.profile.particulars.own → length f.profile.particulars.own ≤ 32
+      → ListAt (OfTable IsChoice) names f.profile.particulars.choices → length f.profile.particulars.choices ≤ 64
+      → ListAt (OfTable (λ t l. IsLocking t (locking_of l))) locks f.profile.particulars.locks → length f.profile.particulars.locks ≤ 64
       → ListAt (OfTable IsOutcome) outcomes f.outcomes.items → length f.outcomes.items ≤ 32
       → ((n : ℕ) (t : Members) → IsUnit n t f.profile.root → SubDevices n t subs f.profile.subs f.profile.sub)
-      → EstimatesAt times f.profile.estimates → WorkersAt chosen f.profile.workers
+      → EstimatesAt times f.profile.particulars.estimates → WorkersAt chosen f.profile.workers
       → IsFixture (members_on base fixture_fields) f
-  fixture_says can only root own boot boot_text langs slot slot_fit sensor sensor_fit test test_fit status status_fit lacked lacked_fit added added_fit named named_fit outcome outcome_fit sub time worker =
+  fixture_says can only root own boot boot_text langs slot slot_fit sensor sensor_fit test test_fit status status_fit lacked lacked_fit added added_fit named named_fit lock lock_fit outcome outcome_fit sub time worker =
       let fs = fixture_fields in
       let t = members_on base fs in
       let at_slot : get_member (codes "slot") t ≡ slots = found (codes "slot") slots refl (absent unit_keys (codes "slot") base only refl) in
       let count : slot_count (get_member (codes "slot") t) ≡ length f.profile.slots.items =
       ap slot_count at_slot ∙ sym (slot_count-of (OfTable IsSlot) slots f.profile.slots.items slot) in
-      let more : may 0 (number 0 512) (get_member (codes "more_slots") t) ≡ Some f.profile.more_slots =
-      ap (may 0 (number 0 512)) (get_on base (codes "more_slots") fs) ∙ number_says 0 512 f.profile.more_slots (omega arith) can.slots in
-      let all : root_slots t ≡ min 512 (length f.profile.slots.items + f.profile.more_slots) = all_slots _ _ _ _ more count in
+      let more : may 0 (number 0 512) (get_member (codes "more_slots") t) ≡ Some f.profile.particulars.more_slots =
+      ap (may 0 (number 0 512)) (get_on base (codes "more_slots") fs) ∙ number_says 0 512 f.profile.particulars.more_slots (omega arith) can.slots in
+      let all : root_slots t ≡ min 512 (length f.profile.slots.items + f.profile.particulars.more_slots) = all_slots _ _ _ _ more count in
       let unit : IsUnit (root_slots t) t f.profile.root =
       unit_kept base fs _ f.profile.root refl refl refl refl refl refl refl refl refl (root _ all) in
       let at_sub : get_member (codes "sub_devices") t ≡ subs = found (codes "sub_devices") subs refl (absent unit_keys (codes "sub_devices") base only refl) in
@@ -130,7 +134,7 @@ module _ (f : Fixture) (base : Members) (uid_data languages : Data) (slots senso
       record {
         keys = only_on fixture_keys base fs
             (wider (codes "uid" ∷ codes "boot_software_version_id" ∷ codes "boot_software_version_label" ∷ codes "languages" ∷ codes "presets"
-            ∷ codes "more_slots" ∷ codes "slot" ∷ codes "sensor" ∷ codes "self_test" ∷ codes "status" ∷ codes "without" ∷ codes "parameter" ∷ codes "choice" ∷ codes "outcome"
+            ∷ codes "more_slots" ∷ codes "slot" ∷ codes "sensor" ∷ codes "self_test" ∷ codes "status" ∷ codes "without" ∷ codes "parameter" ∷ codes "choice" ∷ codes "lock" ∷ codes "outcome"
             ∷ codes "sub_devices" ∷ codes "estimates" ∷ codes "workers" ∷ []) unit_keys base only) refl;
         own = ap (must uid) (get_on base (codes "uid") fs) ∙ own;
         profile = record {
@@ -154,6 +158,17 @@ module _ (f : Fixture) (base : Members) (uid_data languages : Data) (slots senso
           own_ascend = good.own.ascending;
           choices = record { items = rw (found (codes "choice") names refl (absent unit_keys (codes "choice") base only refl)) named; enough = omega arith; fit = named_fit };
           agree = good.own.agree;
+          locks = record {
+            states = map locking_of f.profile.particulars.locks;
+            tables = record {
+              items = rw (found (codes "lock") locks refl (absent unit_keys (codes "lock") base only refl)) (locks_written locks f.profile.particulars.locks lock);
+              enough = omega arith;
+              fit = rw (map_count f.profile.particulars.locks) lock_fit;
+            };
+            locked = locks_again f.profile.particulars.locks;
+            few = lock_fit;
+          };
+          states = good.locks;
           estimates = rw (found (codes "estimates") times refl (absent unit_keys (codes "estimates") base only refl)) time;
           workers = rw (found (codes "workers") chosen refl (absent unit_keys (codes "workers") base only refl)) worker;
         };
@@ -163,14 +178,14 @@ module _ (f : Fixture) (base : Members) (uid_data languages : Data) (slots senso
   pub fixture_plain : IsPlain 5 (table base) → IsPlain 4 uid_data → IsPlain 4 languages
       → ((d : Data) → slots ≡ Some d → IsPlain 4 d) → ((d : Data) → sensors ≡ Some d → IsPlain 4 d) → ((d : Data) → tests ≡ Some d → IsPlain 4 d)
       → ((d : Data) → statuses ≡ Some d → IsPlain 4 d) → ((d : Data) → lacks ≡ Some d → IsPlain 4 d) → ((d : Data) → owns ≡ Some d → IsPlain 4 d)
-      → ((d : Data) → names ≡ Some d → IsPlain 4 d)
+      → ((d : Data) → names ≡ Some d → IsPlain 4 d) → ((d : Data) → locks ≡ Some d → IsPlain 4 d)
       → ((d : Data) → outcomes ≡ Some d → IsPlain 4 d) → ((d : Data) → subs ≡ Some d → IsPlain 4 d) → ((d : Data) → times ≡ Some d → IsPlain 4 d)
       → ((d : Data) → chosen ≡ Some d → IsPlain 4 d)
       → IsPlain 5 (table (members_on base fixture_fields))
-  fixture_plain rest is_uid is_languages is_slots is_sensors is_tests is_statuses is_lacks is_own is_named is_outcomes is_subs is_times is_chosen =
+  fixture_plain rest is_uid is_languages is_slots is_sensors is_tests is_statuses is_lacks is_own is_named is_locks is_outcomes is_subs is_times is_chosen =
       plain_on 4 base fixture_fields rest
       (option_plain 4 (codes "workers") chosen _ is_chosen (option_plain 4 (codes "estimates") times _ is_times (option_plain 4 (codes "sub_devices") subs _ is_subs (option_plain 4 (codes "outcome") outcomes _ is_outcomes
-      (option_plain 4 (codes "choice") names _ is_named (option_plain 4 (codes "parameter") owns _ is_own (option_plain 4 (codes "without") lacks _ is_lacks
+      (option_plain 4 (codes "lock") locks _ is_locks (option_plain 4 (codes "choice") names _ is_named (option_plain 4 (codes "parameter") owns _ is_own (option_plain 4 (codes "without") lacks _ is_lacks
       (option_plain 4 (codes "status") statuses _ is_statuses (option_plain 4 (codes "self_test") tests _ is_tests
       (option_plain 4 (codes "sensor") sensors _ is_sensors (option_plain 4 (codes "slot") slots _ is_slots
-      (number_plain 4 _, (number_plain 4 _, (is_languages, text_plain 4 (codes "boot_software_version_label") f.profile.boot_text _ (number_plain 4 _, (is_uid, tt))))))))))))))))
+      (number_plain 4 _, (number_plain 4 _, (is_languages, text_plain 4 (codes "boot_software_version_label") f.profile.boot_text _ (number_plain 4 _, (is_uid, tt)))))))))))))))))

@@ -9,7 +9,7 @@ use Rattle.rdm_device.specs.declared.profile.fields.Width.TheVariants as widths
 use Rattle.rdm_device.specs.declared.profile.own.ParameterDef.{ParameterDef}
 use Rattle.rdm_device.specs.Device.Fields.{width_of}
 use Rattle.rdm_device.specs.Device.LeftOut.{optional_pids, is_optional}
-use Rattle.rdm_device.specs.Device.OwnParameters.{is_addable, has_set, can_start, has_good_fields}
+use Rattle.rdm_device.specs.Device.OwnParameters.{is_addable, can_start, has_good_fields}
 use Rattle.rdm_device.specs.Device.Standards.{follows}
 use Rattle.rdm_params.specs.declared.kind.Kind.{Kind}
 use Rattle.rdm_params.specs.Table.Kinds.{pid_of, name_of, kind_named, kind_with}
@@ -20,7 +20,7 @@ use Rattle.toml.specs.declared.value.Value.{Value}
 use Rattle.rdm_fixture.specs.Describable.{are_printable, can_stand, limits_stand, is_sayable}
 use Rattle.rdm_fixture.specs.Format.{parameter_named}
 use Rattle.rdm_fixture.specs.Keys.{must, EachIs, ListAt, OfTable}
-use Rattle.rdm_fixture.specs.Parameters.{IsField, field_keys, width, greatest_said, SaysParameter, IsParameter, parameter_keys, own_pid, command_class, data_type, slots_of, shape_in, least_of, greatest_of, limit, integer_from, start, flag}
+use Rattle.rdm_fixture.specs.Parameters.{IsField, field_keys, width, greatest_said, SaysParameter, IsParameter, parameter_keys, own_pid, command_class, data_type, slots_of, shape_in, least_of, greatest_of, limit, integer_from, start, flag, is_setting}
 use Rattle.rdm_fixture.specs.Values.{number}
 use Rattle.rdm_fixture.specs.Writing.{text_field, rights_name, shape_name, IsPlain}
 use Rattle.rdm_fixture.proofs.Fields.{Field, members_from, get_from, only_from, plain_from}
@@ -97,7 +97,7 @@ said_again d numbers given free good said pid unit prefix name listed few starts
       start = must_say (codes "default_value") fs (start d.shape d.low d.high) _ _ refl starts;
       unit = may_say (codes "unit") fs 0 (number 0 0xFF) _ _ refl unit;
       prefix = may_say (codes "prefix") fs 0 (number 0 0xFF) _ _ refl prefix;
-      resets = may_say (codes "factory_defaults") fs (has_set d.rights) flag _ _ refl refl;
+      resets = may_say (codes "factory_defaults") fs (is_setting d.rights d.shape) flag _ _ refl refl;
       name = may_text (codes "description") fs d.name refl name;
     }
 

@@ -9,10 +9,11 @@ use Rattle.toml.specs.declared.value.Value.{Value}
 use Rattle.toml.proofs.Views.{Entry}
 use Rattle.arrayvec.specs.declared.array_vec.ArrayVec.{ArrayVec}
 use Rattle.rdm_fixture.specs.declared.refusal.Refusal.{Refusal}
+use Rattle.rdm_fixture.specs.declared.refusal.Agreement.TheVariants as agreements
 use Rattle.rdm_fixture.specs.declared.refusal.Wanted.TheVariants as wanted
 use Rattle.rdm_fixture.specs.Faults.{Fault, fault, in_entry, told}
-use Rattle.rdm_fixture.specs.FirstWrong.{WrongLanguages, WrongNames}
-use Rattle.rdm_fixture.specs.Format.{parameter_named}
+use Rattle.rdm_fixture.specs.FirstWrong.{WrongLanguages, WrongLocked, WrongNames}
+use Rattle.rdm_fixture.specs.Format.{parameter_named, locked_pid}
 use Rattle.rdm_fixture.specs.Keys.{has_only, OfTable, EachIs, items_count, Reads}
 use Rattle.rdm_fixture.specs.Values.{within, language}
 use Rattle.rdm_fixture.specs.Wrong.{FirstOther, InEntry, FirstEntry}
@@ -59,3 +60,10 @@ pub name_wrong : (r : Result (ArrayVec ℕ 36 (Unit {0})) Refusal) (ds : Items)
     → IfErr r (λ e. WrongNames (Some (array ds)) (told e))
 name_wrong (Ok xs) ds h w = tt
 name_wrong (Err e) ds h w = inr (λ xs said. h (record { items = xs }) said, w)
+
+-- a list of PIDs and of names of parameters in which one is neither
+pub pid_wrong : (r : Result (ArrayVec ℕ 64 (Unit {0})) Refusal) (ds : Items)
+    → Reads (λ ds xs. EachIs (λ d pid. locked_pid d ≡ Some pid) ds xs.items) ds r
+    → IfErr r (λ e. told e ≡ fault (codes "parameters") (wanted.Agreement agreements.Pids)) → IfErr r (λ e. WrongLocked (Some (array ds)) (told e))
+pid_wrong (Ok xs) ds h w = tt
+pid_wrong (Err e) ds h w = inr (λ xs said. h (record { items = xs }) said, w)

@@ -41,7 +41,7 @@ pub record HasPrintableTexts (p : Profile) : Type 0 where
   pub sensors : All (λ s. IsTrue (are_printable s.name)) p.sensors.items
   pub tests : All (λ t. IsTrue (are_printable t.name)) p.tests.items
   pub statuses : All (λ s. IsTrue (are_printable s.text)) p.status_texts.items
-  pub choices : All (λ c. IsTrue (are_printable c.name)) p.choices
+  pub choices : All (λ c. IsTrue (are_printable c.name)) p.particulars.choices
 
 -- ---- parameters that the profile adds
 
@@ -89,8 +89,8 @@ is_ruled r = is_counted r.turn && (suits r.task r.outcome && is_told r.outcome)
 pub record CanBeDescribed (f : Fixture) : Type 0 where
   pub own : is_broadcast f.uid ≡ false
   pub made : CanBeMade f.profile
-  pub slots : f.profile.more_slots ≤ 512
-  pub parameters : All (λ d. IsTrue (is_sayable d)) f.profile.own
+  pub slots : f.profile.particulars.more_slots ≤ 512
+  pub parameters : All (λ d. IsTrue (is_sayable d)) f.profile.particulars.own
   pub texts : HasPrintableTexts f.profile
   pub languages : All (λ l. IsTrue (is_coded l)) f.profile.languages.items
   pub outcomes : All (λ r. IsTrue (is_ruled r)) f.outcomes.items

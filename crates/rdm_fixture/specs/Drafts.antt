@@ -1,13 +1,23 @@
--- A profile and a fixture that are read before there is memory for the parameters that they add and for the names of choices.
-use Rattle.std.specs.Prelude.{List}
+-- A profile and a fixture that are read before there is memory for what takes memory in them.
 use Rattle.rdm_device.specs.declared.profile.Profile.{Profile}
-use Rattle.rdm_device.specs.declared.profile.choices.ChoiceName.{ChoiceName}
-use Rattle.rdm_device.specs.declared.profile.own.ParameterDef.{ParameterDef}
+use Rattle.rdm_device.specs.declared.profile.particulars.Particular.{Particular}
 use Rattle.rdm_fixture.specs.declared.fixture.Fixture.{Fixture}
+use Rattle.rdm_fixture.specs.declared.profile.Apart.{Apart}
 
--- the same with these
-abbrev pub with_parameters : Profile → List ParameterDef → List ChoiceName → Profile
-with_parameters p ds cs = record p { own = ds; choices = cs }
+-- the same in a profile
+abbrev pub particular_from : Apart → Particular
+particular_from a = record {
+  own = a.added.own.items;
+  choices = a.added.choices.items;
+  locks = a.added.locks.items;
+  without = a.without;
+  more_slots = a.more_slots;
+  estimates = a.estimates;
+}
 
-abbrev pub fixture_with : Fixture → List ParameterDef → List ChoiceName → Fixture
-fixture_with f ds cs = record f { profile = with_parameters f.profile ds cs }
+-- the same set apart by this
+abbrev pub profile_with : Profile → Apart → Profile
+profile_with p a = record p { particulars = particular_from a }
+
+abbrev pub fixture_with : Fixture → Apart → Fixture
+fixture_with f a = record f { profile = profile_with f.profile a }

@@ -6,23 +6,25 @@ use Rattle.rdm_device.specs.declared.profile.Unit.{Unit as DeviceUnit}
 use Rattle.rdm_device.specs.declared.profile.workers.Workers.{Workers}
 use Rattle.rdm_device.specs.declared.profile.choices.ChoiceName.{ChoiceName}
 use Rattle.rdm_device.specs.declared.profile.fields.Field.{Field}
+use Rattle.rdm_device.specs.declared.profile.locks.Lock.{Lock}
 use Rattle.rdm_device.specs.declared.profile.own.ParameterDef.{ParameterDef}
 use Rattle.rdm_device.specs.declared.profile.own.Shape.{Shape}
 use Rattle.rdm_device.specs.declared.profile.own.Shape.TheVariants as shapes
 use Rattle.rdm_device.specs.Device.LeftOut.{leave_no_need}
 use Rattle.rdm_device.specs.Device.OwnParameters.{can_start, has_good_fields}
-use Rattle.rdm_device.specs.Device.Profiles.{AreOptional, Agree}
+use Rattle.rdm_device.specs.Device.Profiles.{AreOptional, Agree, HaveStates}
 use Rattle.rdm_device.specs.Device.Standards.{follows}
 use Rattle.rdm_params.specs.declared.jobs.outcome.Outcome.{Outcome}
 use Rattle.rdm_params.specs.declared.jobs.outcome.Outcome.TheVariants.{Done, Reading, Failed}
 use Rattle.rdm_outcomes.specs.declared.rule.Task.{Task}
 use Rattle.rdm_outcomes.specs.Outcomes as rules
+use Rattle.rdm_fixture.specs.declared.profile.locks.Locking.{Locking}
 use Rattle.rdm_fixture.specs.declared.refusal.Agreement.TheVariants as agreements
 use Rattle.rdm_fixture.specs.declared.refusal.Wanted.{Wanted}
 use Rattle.rdm_fixture.specs.declared.refusal.Wanted.TheVariants as wanted
 use Rattle.rdm_fixture.specs.declared.refusal.Section.TheVariants as sections
 use Rattle.rdm_fixture.specs.Faults.{Fault, fault, in_entry, in_section}
-use Rattle.rdm_fixture.specs.Format.{IsPersonality, IsSlot, IsSensor, IsSelfTest, IsStatus, IsChoice, IsUnit, SubDevices, EstimatesAt, WorkersAt, LanguagesAt, IsProfile, personality_keys, slot_keys, sensor_keys, self_test_keys, status_keys, choice_keys, estimates_keys, workers_keys, unit_keys, fixture_keys, root_slots, parameter_named}
+use Rattle.rdm_fixture.specs.Format.{IsPersonality, IsSlot, IsSensor, IsSelfTest, IsStatus, IsChoice, IsLocking, AreLocks, all_locks, IsUnit, SubDevices, EstimatesAt, WorkersAt, LanguagesAt, IsProfile, personality_keys, slot_keys, sensor_keys, self_test_keys, status_keys, choice_keys, locking_keys, locked_pid, estimates_keys, workers_keys, unit_keys, fixture_keys, root_slots, parameter_named}
 use Rattle.rdm_fixture.specs.Keys.{must, has_only, OfTable, EachIs, Lists, items_count}
 use Rattle.rdm_fixture.specs.Outcomes.{IsOutcome, task, severity, outcome_in, and_job_keys, rule_keys}
 use Rattle.rdm_fixture.specs.Parameters.{IsField, SaysParameter, IsParameter, parameter_keys, own_pid, command_class, data_type, slots_of, shape_in, least_of, greatest_of, limit, integer_from, low_in, high_in, start, flag}
@@ -58,6 +60,23 @@ choice_parts =
     only choice_keys ∷ needed_number (codes "pid") 0 0xFFFF ∷ needed_number (codes "number") 1 0xFF
     ∷ free_number (codes "hertz") 0 0xFFFFFFFF ∷ free_text (codes "description") ∷ []
 
+-- these are the PIDs of the parameters that are locked
+abbrev pub AreLocked : Members → List ℕ → Type 0
+AreLocked t pids = Lists t (codes "parameters") (λ d pid. locked_pid d ≡ Some pid) 1 64 pids
+
+abbrev pub WrongLocked : Option Data → Fault → Type 0
+WrongLocked None f = f ≡ fault (codes "parameters") wanted.Key
+WrongLocked (Some (array ds)) f =
+    ((within 1 64 (items_count ds) ≡ false) × (f ≡ fault (codes "parameters") (wanted.List 1 64)))
+    ⊎ (((pids : List ℕ) → ¬ EachIs (λ d pid. locked_pid d ≡ Some pid) ds pids) × (f ≡ fault (codes "parameters") (wanted.Agreement agreements.Pids)))
+WrongLocked (Some _) f = f ≡ fault (codes "parameters") (wanted.List 1 64)
+
+abbrev pub locked : Part
+locked = says_one AreLocked (λ t f. WrongLocked (get_member (codes "parameters") t) f)
+
+abbrev pub locking_parts : List Part
+locking_parts = only locking_keys ∷ needed_number (codes "state") 1 0xFF ∷ locked ∷ []
+
 -- ---- parameters that the profile adds
 
 -- the type of its data
@@ -81,6 +100,8 @@ wanted_start (shapes.Bits n) low high = wanted.Slots
 wanted_start (shapes.Slots n) low high = wanted.Slots
 wanted_start shapes.Names low high = wanted.Slots
 wanted_start shapes.Rates low high = wanted.Slots
+wanted_start shapes.Scenes low high = wanted.Slots
+wanted_start shapes.Block low high = wanted.Slots
 wanted_start _ low high = wanted.Number low high
 
 -- the numbers that its slots say
@@ -263,19 +284,38 @@ pub record IsFirstBelow (ds : List ParameterDef) (n : ℕ) : Type 0 where
 
 abbrev pub ascending : Part
 ascending =
-    says_one (λ t (ds : List ParameterDef). Lists t (codes "parameter") (OfTable IsParameter) 0 16 ds × AllPairs (λ a b. a.pid < b.pid) ds)
-    (λ t f. (ds : List ParameterDef) × (n : ℕ) × Lists t (codes "parameter") (OfTable IsParameter) 0 16 ds × IsFirstBelow ds n
+    says_one (λ t (ds : List ParameterDef). Lists t (codes "parameter") (OfTable IsParameter) 0 32 ds × AllPairs (λ a b. a.pid < b.pid) ds)
+    (λ t f. (ds : List ParameterDef) × (n : ℕ) × Lists t (codes "parameter") (OfTable IsParameter) 0 32 ds × IsFirstBelow ds n
     × (f ≡ in_entry (codes "parameter") (n + 1) (fault (codes "pid") wanted.Ascending)))
 
 -- these are the parameters and the names of choices
 abbrev pub AreAdded : Members → List ParameterDef → List ChoiceName → Type 0
-AreAdded t ds cs = Lists t (codes "parameter") (OfTable IsParameter) 0 16 ds × Lists t (codes "choice") (OfTable IsChoice) 0 64 cs
+AreAdded t ds cs = Lists t (codes "parameter") (OfTable IsParameter) 0 32 ds × Lists t (codes "choice") (OfTable IsChoice) 0 64 cs
 
 -- they agree
 abbrev pub agreeing : Part
 agreeing =
     says_one (λ t (r : List ParameterDef × List ChoiceName). AreAdded t r.0 r.1 × Agree r.0 r.1)
     (λ t f. (ds : List ParameterDef) × (cs : List ChoiceName) × AreAdded t ds cs × (¬ Agree ds cs) × (f ≡ fault (codes "choice") (wanted.Agreement agreements.Names)))
+
+-- they don't lock more often than there can be locks
+abbrev pub few_locks : Part
+few_locks =
+    says_one AreLocks
+    (λ t f. (ls : List Locking) × Lists t (codes "lock") (OfTable IsLocking) 0 64 ls × (64 < length (all_locks ls)) × (f ≡ fault (codes "lock") (wanted.Agreement agreements.Locks)))
+
+abbrev pub lock_parts : List Part
+lock_parts = entries (codes "lock") IsLocking (FirstWrong locking_parts) 0 64 ∷ few_locks ∷ []
+
+-- these are the parameters and the locks
+abbrev pub AreLockable : Members → List ParameterDef → List Lock → Type 0
+AreLockable t ds ls = Lists t (codes "parameter") (OfTable IsParameter) 0 32 ds × AreLocks t ls
+
+-- LOCK_STATE has each state that locks something
+abbrev pub stated : Part
+stated =
+    says_one (λ t (r : List ParameterDef × List Lock). AreLockable t r.0 r.1 × HaveStates r.0 r.1)
+    (λ t f. (ds : List ParameterDef) × (ls : List Lock) × AreLockable t ds ls × (¬ HaveStates ds ls) × (f ≡ fault (codes "lock") (wanted.Agreement agreements.States)))
 
 -- these are the PIDs of the parameters that the key names
 abbrev pub AreNamed : Members → List ℕ → Type 0
@@ -303,11 +343,11 @@ unneeded =
     says_one (λ t (pids : List ℕ). AreNamed t pids × (leave_no_need pids ≡ true))
     (λ t f. (pids : List ℕ) × AreNamed t pids × (leave_no_need pids ≡ false) × (f ≡ fault (codes "without") wanted.Unneeded))
 
--- the parameters and the names of choices, one part after the other
+-- the parameters, the names of choices and the locks, one part after the other
 abbrev pub added_parts : List Part
 added_parts =
-    entries (codes "parameter") IsParameter (FirstWrong parameter_parts) 0 16 ∷ ascending
-    ∷ entries (codes "choice") IsChoice (FirstWrong choice_parts) 0 64 ∷ agreeing ∷ []
+    entries (codes "parameter") IsParameter (FirstWrong parameter_parts) 0 32 ∷ ascending
+    ∷ entries (codes "choice") IsChoice (FirstWrong choice_parts) 0 64 ∷ agreeing ∷ (lock_parts ++ (stated ∷ []))
 
 abbrev pub profile_parts : List Part
 profile_parts =

@@ -1,8 +1,9 @@
 -- Which table is a fixture: each key, what it says, and its default. A key is named as the parameter or the field of
 -- E1.20 that it sets, in small letters.
-use Rattle.std.specs.Prelude.{◌≡◌, ◌≢◌, false, ℕ, ◌+◌, ◌<◌, ◌≤◌, min, pos, neg_ℤ, IsTrue, List, [], ◌∷◌, length, Option, Some, None, option_map, unwrap_or, AllPairs, codes}
+use Rattle.std.specs.Prelude.{◌≡◌, ◌≢◌, false, ℕ, ◌+◌, ◌<◌, ◌≤◌, min, pos, neg_ℤ, IsTrue, List, [], ◌∷◌, ◌++◌, length, Option, Some, None, option_map, unwrap_or, AllPairs, codes}
 use Rattle.toml.specs.Data.{Data, string, table, array, Members, get_member}
 use Rattle.rdm_device.specs.declared.profile.choices.ChoiceName.{ChoiceName}
+use Rattle.rdm_device.specs.declared.profile.locks.Lock.{Lock}
 use Rattle.rdm_device.specs.declared.profile.Personality.{Personality}
 use Rattle.rdm_device.specs.declared.profile.Profile.{Profile}
 use Rattle.rdm_device.specs.declared.profile.SelfTest.{SelfTest}
@@ -14,10 +15,12 @@ use Rattle.rdm_device.specs.declared.profile.estimates.Estimates.{Estimates}
 use Rattle.rdm_device.specs.declared.profile.workers.Worker.TheVariants.{First, Second}
 use Rattle.rdm_device.specs.declared.profile.workers.Workers.{Workers}
 use Rattle.rdm_device.specs.Device.Estimates.{usual}
-use Rattle.rdm_device.specs.Device.Profiles.{MayBeLeftOut, Agree}
+use Rattle.rdm_device.specs.Device.Profiles.{MayBeLeftOut, Agree, HaveStates}
 use Rattle.rdm_device.specs.Device.Workers.{usual_workers}
 use Rattle.rdm_params.specs.Table.Kinds.{pid_of, kind_named}
+use Rattle.rdm_params.specs.Table.Names.{pid_named}
 use Rattle.rdm_fixture.specs.declared.fixture.Fixture.{Fixture}
+use Rattle.rdm_fixture.specs.declared.profile.locks.Locking.{Locking}
 use Rattle.rdm_fixture.specs.Outcomes.{IsOutcome}
 use Rattle.rdm_fixture.specs.Parameters.{IsParameter, flag}
 use Rattle.rdm_fixture.specs.Values.{number, worker, signed, text, language, uid}
@@ -93,6 +96,39 @@ pub record IsChoice (t : Members) (c : ChoiceName) : Type 0 where
   pub hertz : May t (codes "hertz") 0 (number 0 0xFFFFFFFF) c.hertz
   pub number : Must t (codes "number") (number 1 0xFF) c.number
   pub name : May t (codes "description") [] text c.name
+
+-- ---- what lock states keep from being set
+
+abbrev pub locking_keys : List (List ℕ)
+locking_keys = codes "state" ∷ codes "parameters" ∷ []
+
+-- a PID, or that of the parameter of the standards with this name
+abbrev pub locked_pid : Data → Option ℕ
+locked_pid (string s) = pid_named s
+locked_pid d = number 0 0xFFFF d
+
+-- A lock state, and the parameters that can't be set in it. E1.37-1, LOCK_STATE. In state 0 all can be.
+pub record IsLocking (t : Members) (l : Locking) : Type 0 where
+  pub keys : IsTrue (has_only locking_keys t)
+  pub state : Must t (codes "state") (number 1 0xFF) l.state
+  pub parameters : Lists t (codes "parameters") (λ d pid. locked_pid d ≡ Some pid) 1 64 l.pids.items
+
+-- each of its parameters is locked in its state
+abbrev pub locks_of : ℕ → List ℕ → List Lock
+locks_of state [] = []
+locks_of state (pid ∷ pids) = record { state = state; pid = pid } ∷ locks_of state pids
+
+-- the same of all states, one after the other
+abbrev pub all_locks : List Locking → List Lock
+all_locks [] = []
+all_locks (l ∷ ls) = locks_of l.state l.pids.items ++ all_locks ls
+
+-- What the tables lock together, at most 64 times.
+pub record AreLocks (t : Members) (locks : List Lock) : Type 0 where
+  pub states : List Locking
+  pub tables : Lists t (codes "lock") (OfTable IsLocking) 0 64 states
+  pub locked : locks ≡ all_locks states
+  pub few : length locks ≤ 64
 
 -- ---- the root and the sub-devices
 
@@ -191,11 +227,12 @@ abbrev pub fixture_keys : List (List ℕ)
 fixture_keys =
     codes "uid" ∷ codes "boot_software_version_id" ∷ codes "boot_software_version_label" ∷ codes "languages"
     ∷ codes "presets" ∷ codes "more_slots" ∷ codes "slot" ∷ codes "sensor" ∷ codes "self_test" ∷ codes "status"
-    ∷ codes "without" ∷ codes "parameter" ∷ codes "choice" ∷ codes "outcome" ∷ codes "sub_devices" ∷ codes "estimates"
-    ∷ codes "workers" ∷ unit_keys
+    ∷ codes "without" ∷ codes "parameter" ∷ codes "choice" ∷ codes "lock" ∷ codes "outcome" ∷ codes "sub_devices"
+    ∷ codes "estimates" ∷ codes "workers" ∷ unit_keys
 
 -- What the devices are made with. The parameters that it adds are in the order of their PIDs, and each thing of which one is chosen has a
--- name. Those that the fixture lacks are ones that it may lack, and none that another one needs.
+-- name. LOCK_STATE has each state that locks something. Those that the fixture lacks are ones that it may lack, and none that another one
+-- needs.
 pub record IsProfile (t : Members) (p : Profile) : Type 0 where
   pub root : IsUnit (root_slots t) t p.root
   pub sub : SubDevices (root_slots t) t (get_member (codes "sub_devices") t) p.subs p.sub
@@ -209,14 +246,16 @@ pub record IsProfile (t : Members) (p : Profile) : Type 0 where
   pub statuses : Lists t (codes "status") (OfTable IsStatus) 0 8 p.status_texts.items
   pub statuses_differ : AllPairs (λ a b. a.id ≢ b.id) p.status_texts.items
   pub presets : May t (codes "presets") 0 (number 0 65534) p.presets
-  pub more_slots : May t (codes "more_slots") 0 (number 0 512) p.more_slots
-  pub without : Lists t (codes "without") (λ d pid. parameter_named d ≡ Some pid) 0 36 p.without.items
-  pub may_lack : MayBeLeftOut p.without.items
-  pub own : Lists t (codes "parameter") (OfTable IsParameter) 0 16 p.own
-  pub own_ascend : AllPairs (λ a b. a.pid < b.pid) p.own
-  pub choices : Lists t (codes "choice") (OfTable IsChoice) 0 64 p.choices
-  pub agree : Agree p.own p.choices
-  pub estimates : EstimatesAt (get_member (codes "estimates") t) p.estimates
+  pub more_slots : May t (codes "more_slots") 0 (number 0 512) p.particulars.more_slots
+  pub without : Lists t (codes "without") (λ d pid. parameter_named d ≡ Some pid) 0 36 p.particulars.without.items
+  pub may_lack : MayBeLeftOut p.particulars.without.items
+  pub own : Lists t (codes "parameter") (OfTable IsParameter) 0 32 p.particulars.own
+  pub own_ascend : AllPairs (λ a b. a.pid < b.pid) p.particulars.own
+  pub choices : Lists t (codes "choice") (OfTable IsChoice) 0 64 p.particulars.choices
+  pub agree : Agree p.particulars.own p.particulars.choices
+  pub locks : AreLocks t p.particulars.locks
+  pub states : HaveStates p.particulars.own p.particulars.locks
+  pub estimates : EstimatesAt (get_member (codes "estimates") t) p.particulars.estimates
   pub workers : WorkersAt (get_member (codes "workers") t) p.workers
 
 pub record IsFixture (t : Members) (f : Fixture) : Type 0 where

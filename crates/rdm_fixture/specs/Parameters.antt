@@ -1,6 +1,6 @@
 -- Which table is a parameter that a profile adds: one of the maker's own, or one of the standards'. A key is named as the field of
 -- PARAMETER_DESCRIPTION that it sets, in small letters; commands and types have the names of tables A-16 and A-15. E1.20 section 10.4.2.
-use Rattle.std.specs.Prelude.{◌≡◌, ℕ, ◌-◌, ◌/◌, ◌%◌, min, ℤ, pos, neg_ℤ, Bool, ◌&&◌, if◌then◌else◌, ◌==◌, nat_le, int_le, IsTrue, List, [], ◌∷◌, length, Option, Some, None, option_and_then, option_map, codes}
+use Rattle.std.specs.Prelude.{◌≡◌, ℕ, ◌-◌, ◌/◌, ◌%◌, min, ℤ, pos, neg_ℤ, Bool, true, false, ◌&&◌, if◌then◌else◌, ◌==◌, nat_le, int_le, IsTrue, List, [], ◌∷◌, length, Option, Some, None, option_and_then, option_map, codes}
 use Rattle.std.specs.Int.{w64, cast_unsigned}
 use Rattle.std.specs.Str.{bytes_eq}
 use Rattle.toml.specs.Data.{Data, string, integer, boolean, Members, get_member}
@@ -14,7 +14,7 @@ use Rattle.rdm_device.specs.declared.profile.own.Rights.TheVariants as rights
 use Rattle.rdm_device.specs.declared.profile.own.Shape.{Shape}
 use Rattle.rdm_device.specs.declared.profile.own.Shape.TheVariants as shapes
 use Rattle.rdm_device.specs.Device.Fields.{reach_of}
-use Rattle.rdm_device.specs.Device.OwnParameters.{is_addable, has_set, can_start, has_good_fields}
+use Rattle.rdm_device.specs.Device.OwnParameters.{is_addable, can_start, has_good_fields}
 use Rattle.rdm_device.specs.Device.Standards.{follows}
 use Rattle.rdm_device.specs.Device.Values.{word_slots, long_slots}
 use Rattle.rdm_fixture.specs.Keys.{must, may, Must, May, has_only, OfTable, Lists}
@@ -26,12 +26,13 @@ use Rattle.rdm_fixture.specs.Values.{number, text}
 abbrev pub own_pid : Data → Option ℕ
 own_pid d = option_and_then (λ pid. if is_addable pid then Some pid else None) (number 0 0xFFFF d)
 
--- the commands of this name. Table A-16.
+-- The commands of this name: table A-16, and a GET with a SET without data that sets back, as COMMS_STATUS has.
 abbrev pub rights_named : List ℕ → Option Rights
 rights_named s =
     if bytes_eq s (codes "get") then Some rights.Get
     else (if bytes_eq s (codes "set") then Some rights.Set
-    else (if bytes_eq s (codes "get_set") then Some rights.Both else None))
+    else (if bytes_eq s (codes "get_set") then Some rights.Both
+    else (if bytes_eq s (codes "get_clear") then Some rights.Clear else None)))
 
 abbrev pub command_class : Data → Option Rights
 command_class (string s) = rights_named s
@@ -39,8 +40,9 @@ command_class _ = None
 
 -- ---- its data
 
--- the data of the type with this name, and with so many slots if the type leaves that open. Table A-15; the last three are those of
--- E1.37-1, CURVE, CURVE_DESCRIPTION and MODULATION_FREQUENCY_DESCRIPTION and the like.
+-- the data of the type with this name, and with so many slots if the type leaves that open. Table A-15; the last seven are those
+-- of E1.37-1: CURVE, CURVE_DESCRIPTION and MODULATION_FREQUENCY_DESCRIPTION and the like, PRESET_STATUS, LOCK_STATE, LOCK_PIN and
+-- DMX_BLOCK_ADDRESS.
 abbrev pub shape_named : ℕ → List ℕ → Option Shape
 shape_named slots s =
     if bytes_eq s (codes "unsigned_byte") then Some shapes.Byte
@@ -54,7 +56,11 @@ shape_named slots s =
     else (if bytes_eq s (codes "not_defined") then Some (shapes.Slots slots)
     else (if bytes_eq s (codes "choice") then Some shapes.Choice
     else (if bytes_eq s (codes "names") then Some shapes.Names
-    else (if bytes_eq s (codes "rates") then Some shapes.Rates else None)))))))))))
+    else (if bytes_eq s (codes "rates") then Some shapes.Rates
+    else (if bytes_eq s (codes "scenes") then Some shapes.Scenes
+    else (if bytes_eq s (codes "lock") then Some shapes.Lock
+    else (if bytes_eq s (codes "pin") then Some shapes.Pin
+    else (if bytes_eq s (codes "block") then Some shapes.Block else None)))))))))))))))
 
 abbrev pub data_type : ℕ → Data → Option Shape
 data_type slots (string s) = shape_named slots s
@@ -69,7 +75,7 @@ slots_of _ = 0
 abbrev pub shape_in : Members → Option Shape
 shape_in t = must (data_type (slots_of (get_member (codes "default_value") t))) (get_member (codes "data_type") t)
 
--- the least and the greatest number that data can say; where they are no number, nothing but 0 stands for their limits
+-- the least and the greatest number that data can say, or of the scenes that they tell of; else nothing but 0 stands for their limits
 abbrev pub least_of : Shape → ℤ
 least_of shapes.SignedByte = neg_ℤ (pos 128)
 least_of shapes.SignedWord = neg_ℤ (pos 32768)
@@ -79,6 +85,9 @@ least_of _ = pos 0
 abbrev pub greatest_of : Shape → ℤ
 greatest_of shapes.Byte = pos 255
 greatest_of shapes.Choice = pos 255
+greatest_of shapes.Scenes = pos 255
+greatest_of shapes.Lock = pos 255
+greatest_of shapes.Pin = pos 9999
 greatest_of shapes.SignedByte = pos 127
 greatest_of shapes.Word = pos 65535
 greatest_of shapes.SignedWord = pos 32767
@@ -101,8 +110,10 @@ limit shape d = integer_from (least_of shape) (greatest_of shape) d
 abbrev pub number_slots : Shape → ℤ → List ℕ
 number_slots shapes.Byte z = cast_unsigned w64 z % 0x100 ∷ []
 number_slots shapes.Choice z = cast_unsigned w64 z % 0x100 ∷ []
+number_slots shapes.Lock z = cast_unsigned w64 z % 0x100 ∷ []
 number_slots shapes.SignedByte z = cast_unsigned w64 z % 0x100 ∷ []
 number_slots shapes.Word z = word_slots (cast_unsigned w64 z % 0x10000)
+number_slots shapes.Pin z = word_slots (cast_unsigned w64 z % 0x10000)
 number_slots shapes.SignedWord z = word_slots (cast_unsigned w64 z % 0x10000)
 number_slots shapes.Long z = long_slots (cast_unsigned w64 z % 0x100000000)
 number_slots shapes.SignedLong z = long_slots (cast_unsigned w64 z % 0x100000000)
@@ -120,6 +131,8 @@ start (shapes.Bits n) low high d = spelled d
 start (shapes.Slots n) low high d = spelled d
 start shapes.Names low high d = spelled d
 start shapes.Rates low high d = spelled d
+start shapes.Scenes low high d = spelled d
+start shapes.Block low high d = spelled d
 start shape low high d = option_map (number_slots shape) (integer_from low high d)
 
 -- ---- the numbers that its slots say
@@ -164,7 +177,17 @@ low_in shape t = may (least_of shape) (limit shape) (get_member (codes "minimum_
 abbrev pub high_in : Shape → ℤ → Members → Option ℤ
 high_in shape low t = may (greatest_of shape) (integer_from low (greatest_of shape)) (get_member (codes "maximum_valid_value") t)
 
--- What the keys of a parameter say. Where nothing is said of it, FACTORY_DEFAULTS sets back what has a SET. Section 10.5.6.
+-- whether it is a setting, which FACTORY_DEFAULTS sets back where nothing is said of it: not what can only be read, no order, no counts,
+-- no scenes, and neither a lock state nor its PIN, since nobody is asked for that then. Section 10.5.6.
+abbrev pub is_setting : Rights → Shape → Bool
+is_setting rights.Both shapes.Scenes = false
+is_setting rights.Both shapes.Lock = false
+is_setting rights.Both shapes.Pin = false
+is_setting rights.Both shapes.Block = false
+is_setting rights.Both _ = true
+is_setting _ shape = false
+
+-- What the keys of a parameter say.
 pub record SaysParameter (t : Members) (d : ParameterDef) : Type 0 where
   pub keys : IsTrue (has_only parameter_keys t)
   pub pid : Must t (codes "pid") own_pid d.pid
@@ -176,7 +199,7 @@ pub record SaysParameter (t : Members) (d : ParameterDef) : Type 0 where
   pub start : Must t (codes "default_value") (start d.shape d.low d.high) d.start
   pub unit : May t (codes "unit") 0 (number 0 0xFF) d.unit
   pub prefix : May t (codes "prefix") 0 (number 0 0xFF) d.prefix
-  pub resets : May t (codes "factory_defaults") (has_set d.rights) flag d.resets
+  pub resets : May t (codes "factory_defaults") (is_setting d.rights d.shape) flag d.resets
   pub name : May t (codes "description") [] text d.name
 
 -- Its fields take all of its slots, if it has any; it starts with data of its form that say numbers in range; and if its PID is one of

@@ -4,6 +4,7 @@ use Rattle.std.specs.Ordering.{nat_cmp, match_ordering}
 use Rattle.std.specs.Cmp.Lexicographic.{slice_cmp}
 use Rattle.std.specs.Str.Lossy.{utf8_lossy}
 use Rattle.rdm_frame.specs.Digits.{digits}
+use Rattle.rdm_device.specs.declared.profile.locks.Lock.{Lock}
 use Rattle.rdm_device.specs.declared.profile.own.Rights.{Rights}
 use Rattle.rdm_device.specs.declared.profile.own.Rights.TheVariants as rights
 use Rattle.rdm_device.specs.declared.profile.own.Shape.{Shape}
@@ -11,6 +12,7 @@ use Rattle.rdm_device.specs.declared.profile.own.Shape.TheVariants as shapes
 use Rattle.rdm_params.specs.Jobs.Severities.{severity_name}
 use Rattle.rdm_params.specs.declared.jobs.outcome.Outcome.{Outcome}
 use Rattle.rdm_params.specs.declared.jobs.outcome.Outcome.TheVariants.{Done, Reading, Failed}
+use Rattle.rdm_fixture.specs.declared.profile.locks.Locking.{Locking}
 use Rattle.rdm_fixture.specs.Values.{number, signed}
 use Rattle.toml.specs.Data.{Data, string, integer, boolean, depth, has_valid_dates, Members, no_members, member}
 
@@ -42,6 +44,7 @@ abbrev pub rights_name : Rights → List ℕ
 rights_name rights.Get = codes "get"
 rights_name rights.Set = codes "set"
 rights_name rights.Both = codes "get_set"
+rights_name rights.Clear = codes "get_clear"
 
 abbrev pub shape_name : Shape → List ℕ
 shape_name shapes.Byte = codes "unsigned_byte"
@@ -56,11 +59,21 @@ shape_name (shapes.Slots n) = codes "not_defined"
 shape_name shapes.Choice = codes "choice"
 shape_name shapes.Names = codes "names"
 shape_name shapes.Rates = codes "rates"
+shape_name shapes.Scenes = codes "scenes"
+shape_name shapes.Lock = codes "lock"
+shape_name shapes.Pin = codes "pin"
+shape_name shapes.Block = codes "block"
 
 -- what is written of data that are no number: a text as it is, and all else in digits
 abbrev pub written_slots : Shape → List ℕ → List ℕ
 written_slots shapes.Text slots = utf8_lossy slots
 written_slots _ slots = utf8_lossy (digits slots)
+
+-- ---- what lock states keep from being set
+
+-- what is written of a lock: its state, and its parameter alone
+abbrev pub locking_of : Lock → Locking
+locking_of l = record { state = l.state; pids = record { items = l.pid ∷ [] } }
 
 -- ---- how jobs end
 

@@ -6,7 +6,7 @@ ghost use Rattle.toml.specs.Parse.{parse_document};
 ghost use Rattle.toml.specs.View.{table_view};
 ghost use Rattle.rdm_device.specs.Device.Profiles.{CanBeMade};
 ghost use Rattle.rdm_fixture.specs.Describes.{Describes, DescribesNothing};
-ghost use Rattle.rdm_fixture.specs.Drafts.{with_parameters, fixture_with};
+ghost use Rattle.rdm_fixture.specs.Drafts.{particular_from, profile_with, fixture_with};
 ghost use Rattle.rdm_fixture.specs.Describable.{CanBeDescribed};
 ghost use Rattle.rdm_fixture.specs.Cause.{IsCause};
 ghost use Rattle.rdm_fixture.specs.Faults.{told};
@@ -18,10 +18,10 @@ ghost use Rattle.rdm_fixture.specs.Wrong.{FirstWrong};
 use crate::keys::{only, own_uid};
 use crate::line::with_line;
 use crate::lists::list;
-use crate::profile::{Added, profile};
+use crate::profile::{Added, Apart, profile};
 use crate::unit::and_unit_keys;
 use crate::{Fixture, Refusal};
-use rdm_device::{ChoiceNames, OwnParameters, Profile};
+use rdm_device::{ChoiceNames, Locks, OwnParameters, Particular, Particulars, Profile};
 use std::alloc::{AllocError, Global};
 use std::fmt;
 use thiserror::Error;
@@ -58,7 +58,7 @@ impl Fixture {
             Err(error) => return Err(not_read(error)),
         };
         match fixture_of(&table) {
-            Ok((fixture, added)) => match with_added(alloc, fixture, added) {
+            Ok((fixture, apart)) => match set_apart(alloc, fixture, apart) {
                 Ok(fixture) => Ok(fixture),
                 Err(_) => Err(FixtureError::OutOfMemory),
             },
@@ -79,20 +79,18 @@ fn not_read(error: toml::de::Error) -> FixtureError
     }
 }
 
-/// The fixture with these parameters and names in its profile. They take memory unless there are none.
-fn with_added(alloc: Global, fixture: Fixture, added: Added) -> Result<Fixture, AllocError>
-    ensures { IfOk result (λ f. f ≡ fixture_with fixture added.own.items added.choices.items) }
+/// The fixture with this in its profile. It takes memory unless nothing is set apart by it.
+fn set_apart(alloc: Global, fixture: Fixture, apart: Apart) -> Result<Fixture, AllocError>
+    ensures { IfOk result (λ f. f ≡ fixture_with fixture apart) }
 {
     let Fixture {
         uid,
         profile,
         outcomes,
     } = fixture;
-    let own = OwnParameters::of(alloc, added.own)?;
-    let choices = ChoiceNames::of(alloc, added.choices)?;
+    let particulars = particulars_of(alloc, apart)?;
     let profile = Profile {
-        own,
-        choices,
+        particulars,
         ..profile
     };
     Ok(Fixture {
@@ -102,11 +100,36 @@ fn with_added(alloc: Global, fixture: Fixture, added: Added) -> Result<Fixture, 
     })
 }
 
-/// The fixture of a table, with no key besides those of the format, but for what takes memory in its profile, which stands beside it.
-fn fixture_of(table: &Table) -> Result<(Fixture, Added), Refusal>
-    ensures read { Reads (λ t r. IsFixture t (fixture_with r.0 r.1.own.items r.1.choices.items)) (table_view table.now) result }
-    ensures made { IfOk result (λ r. CanBeMade (with_parameters r.0.profile r.1.own.items r.1.choices.items)) }
-    ensures describable { IfOk result (λ r. CanBeDescribed (fixture_with r.0 r.1.own.items r.1.choices.items)) }
+fn particulars_of(alloc: Global, apart: Apart) -> Result<Particulars, AllocError>
+    ensures { IfOk result (λ particulars. particulars ≡ particular_from apart) }
+{
+    let Apart {
+        added,
+        without,
+        more_slots,
+        estimates,
+    } = apart;
+    let Added {
+        own,
+        choices,
+        locks,
+    } = added;
+    let particular = Particular {
+        own: OwnParameters::of(alloc, own)?,
+        choices: ChoiceNames::of(alloc, choices)?,
+        locks: Locks::of(alloc, locks)?,
+        without,
+        more_slots,
+        estimates,
+    };
+    Particulars::of(alloc, particular)
+}
+
+/// The fixture of a table, with no key besides those of the format, but for what sets its profile apart, which stands beside it.
+fn fixture_of(table: &Table) -> Result<(Fixture, Apart), Refusal>
+    ensures read { Reads (λ t r. IsFixture t (fixture_with r.0 r.1)) (table_view table.now) result }
+    ensures made { IfOk result (λ r. CanBeMade (profile_with r.0.profile r.1)) }
+    ensures describable { IfOk result (λ r. CanBeDescribed (fixture_with r.0 r.1)) }
     ensures wrong { IfErr result (λ e. FirstWrong fixture_parts (table_view table.now) (told e)) }
 {
     only(
@@ -125,6 +148,7 @@ fn fixture_of(table: &Table) -> Result<(Fixture, Added), Refusal>
             "without",
             "parameter",
             "choice",
+            "lock",
             "outcome",
             "sub_devices",
             "estimates",
@@ -132,12 +156,12 @@ fn fixture_of(table: &Table) -> Result<(Fixture, Added), Refusal>
         ),
     )?;
     let uid = own_uid(table, "uid")?;
-    let (profile, added) = profile(table)?;
+    let (profile, apart) = profile(table)?;
     let outcomes = list(table, "outcome", 0, 0)?;
     let fixture = Fixture {
         uid,
         profile,
         outcomes,
     };
-    Ok((fixture, added))
+    Ok((fixture, apart))
 }

@@ -4,6 +4,7 @@ ghost use Rattle.std.specs.Prelude.{◌≡◌, Some, IfErr, codes};
 ghost use Rattle.std.specs.Result.{result_ok};
 ghost use Rattle.toml.specs.Data.{get_member};
 ghost use Rattle.toml.specs.View.{view, table_view};
+ghost use Rattle.rdm_device.specs.declared.profile.own.Rights.TheVariants as rights;
 ghost use Rattle.rdm_fixture.specs.Faults.{told};
 ghost use Rattle.rdm_fixture.specs.FirstWrong as parts;
 ghost use Rattle.rdm_fixture.specs.Keys.{must};
@@ -23,7 +24,6 @@ use crate::refusal::{Agreement, Refusal, Wanted};
 use fields::fields;
 use limits::{greatest, least};
 pub(crate) use limits::{greatest_of, least_of};
-use rdm_device::columns::added::has_set;
 use rdm_device::{ParameterDef, Rights, Shape, can_start, follows, has_good_fields, is_addable};
 use starting::start;
 use toml::{Table, Value};
@@ -78,7 +78,7 @@ fn parameter(table: &Table) -> Result<ParameterDef, Refusal>
     let start = start(table, shape, low, high)?;
     let unit = number_or(table, "unit", 0, 0, 0xFF)? as u8;
     let prefix = number_or(table, "prefix", 0, 0, 0xFF)? as u8;
-    let resets = flag_or(table, "factory_defaults", has_set(rights))?;
+    let resets = flag_or(table, "factory_defaults", is_setting(rights, shape))?;
     let name = text_or_none(table, "description")?;
     Ok(ParameterDef {
         pid,
@@ -137,8 +137,29 @@ fn rights_in(value: &Value) -> Option<Rights>
         "get" => Some(Rights::Get),
         "set" => Some(Rights::Set),
         "get_set" => Some(Rights::Both),
+        "get_clear" => Some(Rights::Clear),
         _ => None,
     }
+}
+
+/// Whether FACTORY_DEFAULTS sets it back, unless the file says otherwise: it does so if it is a setting.
+fn is_setting(rights: Rights, shape: Shape) -> bool
+    ensures { result ≡ says.is_setting rights shape }
+{
+    match rights {
+        Rights::Both => is_set_back(shape),
+        Rights::Get | Rights::Set | Rights::Clear => false,
+    }
+}
+
+/// Whether data that can be set are those of a setting.
+fn is_set_back(shape: Shape) -> bool
+    ensures { result ≡ says.is_setting rights.Both shape }
+{
+    !matches!(
+        shape,
+        Shape::Scenes | Shape::Lock | Shape::Pin | Shape::Block
+    )
 }
 
 // ---- its data
@@ -193,6 +214,10 @@ fn shape_in(value: &Value, slots: u8) -> Option<Shape>
         "choice" => Some(Shape::Choice),
         "names" => Some(Shape::Names),
         "rates" => Some(Shape::Rates),
+        "scenes" => Some(Shape::Scenes),
+        "lock" => Some(Shape::Lock),
+        "pin" => Some(Shape::Pin),
+        "block" => Some(Shape::Block),
         _ => None,
     }
 }

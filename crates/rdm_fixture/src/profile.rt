@@ -6,7 +6,7 @@ ghost use Rattle.toml.specs.Data.{get_member};
 ghost use Rattle.toml.specs.View.{view, array_view, table_view};
 ghost use Rattle.rdm_fixture.specs.Faults.{fault, in_entry, told};
 ghost use Rattle.rdm_fixture.specs.FirstWrong as parts;
-ghost use Rattle.rdm_fixture.specs.Drafts.{with_parameters};
+ghost use Rattle.rdm_fixture.specs.Drafts.{profile_with};
 ghost use Rattle.rdm_fixture.specs.Format.{IsProfile, IsSlot, IsSelfTest, IsStatus, LanguagesAt, slot_count};
 ghost use Rattle.rdm_fixture.specs.Keys.{Reads, may, OfTable, EachIs, Lists};
 ghost use Rattle.rdm_fixture.specs.Values as says;
@@ -14,6 +14,7 @@ ghost use Rattle.rdm_fixture.specs.Wrong.{FirstWrong, entries, free_number};
 ghost use Rattle.rdm_fixture.specs.declared.refusal.Wanted.TheVariants as wanted;
 
 mod added;
+mod locks;
 
 use crate::estimates::estimates;
 use crate::keys::{find, number_or, text_or_none};
@@ -24,13 +25,22 @@ use crate::workers::workers;
 pub(crate) use added::Added;
 use added::{additions, without};
 use arrayvec::ArrayVec;
-use rdm_device::{ChoiceNames, OwnParameters, Profile, SelfTest, Slot, StatusText};
+use rdm_device::{Estimates, Particulars, Profile, SelfTest, Slot, StatusText};
 use toml::value::Array;
 use toml::{Table, Value};
 
-/// The profile of a table, of which only the keys of a profile are looked at. What takes memory in it stands beside it.
-pub(crate) fn profile(table: &Table) -> Result<(Profile, Added), Refusal>
-    ensures read { Reads (λ t r. IsProfile t (with_parameters r.0 r.1.own.items r.1.choices.items)) (table_view table.now) result }
+/// What sets a fixture apart, before there is memory for it.
+#[derive(Drop)]
+pub(crate) struct Apart {
+    pub(crate) added: Added,
+    pub(crate) without: ArrayVec<u16, 36>,
+    pub(crate) more_slots: u16,
+    pub(crate) estimates: Estimates,
+}
+
+/// The profile of a table, of which only the keys of a profile are looked at. What sets it apart, and takes memory, stands beside it.
+pub(crate) fn profile(table: &Table) -> Result<(Profile, Apart), Refusal>
+    ensures read { Reads (λ t r. IsProfile t (profile_with r.0 r.1)) (table_view table.now) result }
     ensures wrong { IfErr result (λ e. FirstWrong parts.profile_parts (table_view table.now) (told e)) }
 {
     let boot = number_or(table, "boot_software_version_id", 0, 0, 0xFFFF_FFFF)?;
@@ -53,6 +63,8 @@ pub(crate) fn profile(table: &Table) -> Result<(Profile, Added), Refusal>
         root,
         sub,
         subs,
+        presets,
+        workers,
         boot,
         boot_text,
         languages,
@@ -60,15 +72,15 @@ pub(crate) fn profile(table: &Table) -> Result<(Profile, Added), Refusal>
         sensors,
         tests,
         status_texts,
-        presets,
-        own: OwnParameters::none(),
-        choices: ChoiceNames::none(),
+        particulars: Particulars::usual(),
+    };
+    let apart = Apart {
+        added,
         without,
         more_slots,
         estimates,
-        workers,
     };
-    Ok((profile, added))
+    Ok((profile, apart))
 }
 
 /// How many slots the root uses besides those that are described.

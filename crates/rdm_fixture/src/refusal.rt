@@ -79,6 +79,12 @@ pub enum Agreement {
     Standard,
     /// With the choices: a name for each thing that can be chosen, and no other, in their order (E1.37-1).
     Names,
+    /// With the standards: a list of PIDs, or of names of their parameters.
+    Pids,
+    /// With the other tables of the list: they lock at most 64 times together (E1.37-1).
+    Locks,
+    /// With LOCK_STATE: tables of states that it has (E1.37-1).
+    States,
 }
 
 /// An entry of a list.
@@ -267,10 +273,10 @@ fn write_wanted_parameter<W: fmt::Write>(
             "`{key}` isn't a PID that a fixture can add, such as 0x8000 to 0xFFDF"
         ),
         Wanted::Ascending => write!(f, "`{key}` isn't greater than in each earlier entry"),
-        Wanted::CommandClass => write!(f, "`{key}` must be get, set or get_set"),
+        Wanted::CommandClass => write!(f, "`{key}` must be get, set, get_set or get_clear"),
         Wanted::DataType => write!(
             f,
-            "`{key}` must be unsigned_byte, signed_byte, unsigned_word, signed_word, unsigned_dword, signed_dword, ascii, bit_field, not_defined, choice, names or rates"
+            "`{key}` must be unsigned_byte, signed_byte, unsigned_word, signed_word, unsigned_dword, signed_dword, ascii, bit_field, not_defined, choice, names, rates, scenes, lock, pin or block"
         ),
         Wanted::Slots => write!(
             f,
@@ -306,6 +312,12 @@ fn write_agreement<W: fmt::Write>(
             f,
             "`{key}` isn't a list with one name for each thing of which a parameter lets choose, in the order of their PIDs and numbers"
         ),
+        Agreement::Pids => write!(
+            f,
+            "`{key}` isn't a list of names of parameters and of PIDs, such as \"DMX_START_ADDRESS\" and 0x8001"
+        ),
+        Agreement::Locks => write!(f, "`{key}` names parameters more than 64 times in all"),
+        Agreement::States => write!(f, "`{key}` tells of a state that LOCK_STATE hasn't"),
     }
 }
 

@@ -2,6 +2,7 @@
 
 mod estimates;
 mod lines;
+mod locks;
 mod outcomes;
 mod parameters;
 mod refusals;

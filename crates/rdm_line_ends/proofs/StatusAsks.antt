@@ -13,7 +13,7 @@ use Rattle.rdm_device.specs.declared.value.Value.TheVariants.{Byte}
 use Rattle.rdm_device.specs.Columns.Forms.{byte}
 use Rattle.rdm_device.specs.Device.Parameters.{Parameters}
 use Rattle.rdm_device.specs.Device.Values.{byte_or_0}
-use Rattle.rdm_params.specs.Commands.Commands.{command_at, accepted, addressed, verdict, known, suits, check, is_some_device, got, ◌>>=◌}
+use Rattle.rdm_params.specs.Commands.Commands.{command_at, accepted, addressed, verdict, known, suits, check, is_some_device, got, got_by_row, ◌>>=◌}
 use Rattle.rdm_params.specs.Jobs.Asks.{ask_of}
 use Rattle.rdm_params.specs.Table.Rows.{Row, table, row_of, row_at, is_left_out, command_in}
 use Rattle.rdm_params.specs.Table.Uses.{access, read, read_as}
@@ -108,7 +108,7 @@ asked_with p sub bytes ask (Ok v) e answer =
     }
 
 asked_at : (p : Parameters) (sub : ℕ) (bytes : List ℕ) (ask : Ask) → got p sub 0x0030 bytes ≡ Status ask → IsAsked sub bytes ask
-unfolding got
+unfolding got got_by_row
 asked_at p sub bytes ask e = asked_with p sub bytes ask (accepted p sub 0x0030 Get bytes) refl e
 
 pub status_asked : (p : Parameters) (sub pid : ℕ) (bytes : List ℕ) (ask : Ask) → got p sub pid bytes ≡ Status ask → IsAsked sub bytes ask

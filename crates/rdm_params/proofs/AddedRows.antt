@@ -13,9 +13,9 @@ use Rattle.rdm_device.specs.declared.profile.own.Shape.{Shape}
 use Rattle.rdm_device.specs.declared.profile.own.Shape.TheVariants as shapes
 use Rattle.rdm_device.specs.declared.profile.Profile.{Profile}
 use Rattle.rdm_device.specs.declared.value.Value.{Value}
-use Rattle.rdm_device.specs.Columns.Added.{within, has_makers_pid, is_pid_of, added_set_back}
+use Rattle.rdm_device.specs.Columns.Added.{set_form, set_range, own_stored, has_makers_pid, is_pid_of, added_set_back}
 use Rattle.rdm_device.specs.Device.Map.{Entry, update}
-use Rattle.rdm_device.specs.Device.OwnParameters.{form_of, has_get, has_set}
+use Rattle.rdm_device.specs.Device.OwnParameters.{has_get, has_set}
 use Rattle.rdm_device.specs.Device.Spot.{Spot}
 use Rattle.rdm_params.specs.Commands.Added.{row_here}
 use Rattle.rdm_params.specs.Commands.Commands.{command_of}
@@ -42,7 +42,7 @@ described_first P false rows one all = all
 -- what holds of PARAMETER_DESCRIPTION's row and of that of each parameter holds of each row that is added
 pub added_have : (P : Row → Type 0) → P description_row → ((d : ParameterDef) → P (added_row d)) → (p : Profile) → AllByRecursion P (added_rows p)
 unfolding added_rows
-added_have P one each p = described_first P (list_any has_makers_pid p.own) (map added_row p.own) one (of_defs P each p.own)
+added_have P one each p = described_first P (list_any has_makers_pid p.particulars.own) (map added_row p.particulars.own) one (of_defs P each p.particulars.own)
 
 -- ---- what the table leaves
 
@@ -112,22 +112,26 @@ get_way (shapes.Slots n) d pid = refl
 get_way shapes.Choice d pid = refl
 get_way shapes.Names d pid = refl
 get_way shapes.Rates d pid = refl
+get_way shapes.Scenes d pid = refl
+get_way shapes.Lock d pid = refl
+get_way shapes.Pin d pid = refl
+get_way shapes.Block d pid = refl
 
-row_way : (d : ParameterDef) (get set : Bool) (verb : Verb) → way_of (command_in (Some (record { pid = d.pid; root_only = true; get = cond get (gets_added d.shape d d.pid) None; set = cond set (takes_added (form_of d.shape) (within d) d.pid) None })) verb) ≡ AtOnce
+row_way : (d : ParameterDef) (get set : Bool) (verb : Verb) → way_of (command_in (Some (record { pid = d.pid; root_only = true; get = cond get (gets_added d.shape d d.pid) None; set = cond set (takes_added (set_form d) (set_range d) (own_stored d) d.pid) None })) verb) ≡ AtOnce
 row_way d true set Get = get_way d.shape d d.pid
 row_way d false set Get = refl
 row_way d get true Set = refl
 row_way d get false Set = refl
 
-row_leaves : (d : ParameterDef) (set : Bool) (spot : Spot) (v : Value) (e : Entry) → change (cond set (takes_added (form_of d.shape) (within d) d.pid) None) spot v e ≡ e.bytes
+row_leaves : (d : ParameterDef) (set : Bool) (spot : Spot) (v : Value) (e : Entry) → change (cond set (takes_added (set_form d) (set_range d) (own_stored d) d.pid) None) spot v e ≡ e.bytes
 row_leaves d true spot v e = refl
 row_leaves d false spot v e = refl
 
-row_silent : (d : ParameterDef) (set : Bool) (spot : Spot) (v : Value) → reply (cond set (takes_added (form_of d.shape) (within d) d.pid) None) spot v ≡ []
+row_silent : (d : ParameterDef) (set : Bool) (spot : Spot) (v : Value) → reply (cond set (takes_added (set_form d) (set_range d) (own_stored d) d.pid) None) spot v ≡ []
 row_silent d true spot v = refl
 row_silent d false spot v = refl
 
-parameter_is : (d : ParameterDef) → IsAdded (added_row d)
+pub parameter_is : (d : ParameterDef) → IsAdded (added_row d)
 parameter_is d = record { root_only = refl; way = row_way d (has_get d.rights) (has_set d.rights); leaves = row_leaves d (has_set d.rights); silent = row_silent d (has_set d.rights) }
 
 description_is : IsAdded description_row
@@ -163,9 +167,9 @@ first_of false true rest pid e both = absurd cc
 first_of true false rest pid e both = absurd cc
 first_of false false rest pid e both = absurd cc
 
-pub description_here : (p : Profile) (pid : ℕ) → ((0x0051 == pid) && list_any has_makers_pid p.own) ≡ true → row_here p pid ≡ Some description_row
+pub description_here : (p : Profile) (pid : ℕ) → ((0x0051 == pid) && list_any has_makers_pid p.particulars.own) ≡ true → row_here p pid ≡ Some description_row
 unfolding added_rows
-description_here p pid both = first_of (list_any has_makers_pid p.own) (0x0051 == pid) (map added_row p.own) pid refl both
+description_here p pid both = first_of (list_any has_makers_pid p.particulars.own) (0x0051 == pid) (map added_row p.particulars.own) pid refl both
 
 not_first : (makers at : Bool) (rest : List Row) (pid : ℕ) → (0x0051 == pid) ≡ at → (at && makers) ≡ false → row_in (cond makers (description_row ∷ []) [] ++ rest) pid ≡ row_in rest pid
 not_first true true rest pid e neither = absurd cc
@@ -180,12 +184,12 @@ found_def : (ds : List ParameterDef) (pid : ℕ) → row_in (map added_row ds) p
 found_def [] pid = refl
 found_def (d ∷ ds) pid = one_mapped (d.pid == pid) d (row_in (map added_row ds) pid) (find (is_pid_of pid) ds) (found_def ds pid)
 
-here_of_defs : (p : Profile) (pid : ℕ) → ((0x0051 == pid) && list_any has_makers_pid p.own) ≡ false → row_here p pid ≡ option_map added_row (find (is_pid_of pid) p.own)
+here_of_defs : (p : Profile) (pid : ℕ) → ((0x0051 == pid) && list_any has_makers_pid p.particulars.own) ≡ false → row_here p pid ≡ option_map added_row (find (is_pid_of pid) p.particulars.own)
 unfolding added_rows
-here_of_defs p pid neither = not_first (list_any has_makers_pid p.own) (0x0051 == pid) (map added_row p.own) pid refl neither ∙ found_def p.own pid
+here_of_defs p pid neither = not_first (list_any has_makers_pid p.particulars.own) (0x0051 == pid) (map added_row p.particulars.own) pid refl neither ∙ found_def p.particulars.own pid
 
-pub parameter_here : (p : Profile) (pid : ℕ) (d : ParameterDef) → ((0x0051 == pid) && list_any has_makers_pid p.own) ≡ false → Some d ≡ find (is_pid_of pid) p.own → row_here p pid ≡ Some (added_row d)
+pub parameter_here : (p : Profile) (pid : ℕ) (d : ParameterDef) → ((0x0051 == pid) && list_any has_makers_pid p.particulars.own) ≡ false → Some d ≡ find (is_pid_of pid) p.particulars.own → row_here p pid ≡ Some (added_row d)
 parameter_here p pid d neither e = here_of_defs p pid neither ∙ ap (option_map added_row) (sym e)
 
-pub nothing_here : (p : Profile) (pid : ℕ) → ((0x0051 == pid) && list_any has_makers_pid p.own) ≡ false → None ≡ find (is_pid_of pid) p.own → row_here p pid ≡ None
+pub nothing_here : (p : Profile) (pid : ℕ) → ((0x0051 == pid) && list_any has_makers_pid p.particulars.own) ≡ false → None ≡ find (is_pid_of pid) p.particulars.own → row_here p pid ≡ None
 nothing_here p pid neither e = here_of_defs p pid neither ∙ ap (option_map added_row) (sym e)

@@ -178,12 +178,12 @@ pub ascend : (p : Profile) (is_root : Bool) → IsGoodProfile p → IsStrictlyIn
 unfolding supported_pids added_rows
 ascend p true good =
     let stays : ℕ → Bool = λ pid. not (is_left_out p pid) in
-    let makers : Bool = list_any has_makers_pid p.own in
+    let makers : Bool = list_any has_makers_pid p.particulars.own in
     let old : List ℕ = filter stays (table_pids true) in
     let own = good.own in
     let rise : RisesFrom 0 old = some_rise stays 0 (table_pids true) (table_rises true) in
     let free : Apart 0x0051 old = some_apart stays 0x0051 (table_pids true) (apart_by is_new (table_pids true) 0x0051 none_new refl) in
     let mid : List ℕ = cond makers (with_pid 0x0051 old) old in
-    let apart = mid_apart makers (map pid_of p.own) old (description_apart p.own own.pids.0) (own_apart p.own stays own.pids.0) in
-    subst IsStrictlyIncreasing (sym (with_first makers p.own old)) (increasing 0 (with_pids (map pid_of p.own) mid) (put_all (map pid_of p.own) mid (mid_rises makers old rise free) (own_differ p.own own.ascending) apart))
+    let apart = mid_apart makers (map pid_of p.particulars.own) old (description_apart p.particulars.own own.pids.0) (own_apart p.particulars.own stays own.pids.0) in
+    subst IsStrictlyIncreasing (sym (with_first makers p.particulars.own old)) (increasing 0 (with_pids (map pid_of p.particulars.own) mid) (put_all (map pid_of p.particulars.own) mid (mid_rises makers old rise free) (own_differ p.particulars.own own.ascending) apart))
 ascend p false good = increasing 0 (supported_pids p false) (some_rise (λ pid. not (is_left_out p pid)) 0 (table_pids false) (table_rises false))

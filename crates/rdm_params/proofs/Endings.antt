@@ -15,7 +15,7 @@ use Rattle.rdm_device.specs.declared.value.Value.{Value}
 use Rattle.rdm_device.specs.declared.value.Value.TheVariants.{Byte}
 use Rattle.rdm_params.specs.Commands.Commands.{command_of, carried_out, is_all_call}
 use Rattle.rdm_params.specs.Commands.Panel.{after_change, can_change, changed_pid, changed_value}
-use Rattle.rdm_params.specs.Laws.{keys_written, keys_committed, SameAt, IsSameBut, CommitChangesItsKey, CommitChangesItsKeys, ReadingChangesItsSensor, CommitLeavesTheRest, FailedChangesNothing, PanelChangesItsKey, PanelLeavesTheRest}
+use Rattle.rdm_params.specs.Laws.{keys_of_row, keys_committed, SameAt, IsSameBut, CommitChangesItsKey, CommitChangesItsKeys, ReadingChangesItsSensor, CommitLeavesTheRest, FailedChangesNothing, PanelChangesItsKey, PanelLeavesTheRest}
 use Rattle.rdm_params.specs.Jobs.Commit.{after_commit}
 use Rattle.rdm_params.specs.Jobs.Outcome.{ends}
 use Rattle.rdm_device.specs.Device.Map.{Entry, lookup, update}
@@ -90,7 +90,7 @@ failed_changes_nothing p w severity id v1 v2 = refl
 
 -- a slow GET is SENSOR_VALUE's, and a slow SET writes its own key
 abbrev SlowFacts : Row → Type 0
-SlowFacts r = (is_slow (command_in (Some r) Get) ≡ true → r.pid ≡ 0x0201) × (is_slow (command_in (Some r) Set) ≡ true → (profile : Profile) → keys_written profile r.pid ≡ r.pid ∷ [])
+SlowFacts r = (is_slow (command_in (Some r) Get) ≡ true → r.pid ≡ 0x0201) × (is_slow (command_in (Some r) Set) ≡ true → (profile : Profile) → keys_of_row profile r.pid ≡ r.pid ∷ [])
 
 -- the same as a test
 abbrev passes : Row → Bool
@@ -102,7 +102,7 @@ slow_or : (slow b : Bool) → (not slow || b) ≡ true → slow ≡ true → b �
 slow_or true b e slow = e
 slow_or false b e slow = absurd cc
 
-own_key : (pid : ℕ) → (not (pid == 0x0090) && not (pid == 0x0202)) ≡ true → (profile : Profile) → keys_written profile pid ≡ pid ∷ []
+own_key : (pid : ℕ) → (not (pid == 0x0090) && not (pid == 0x0202)) ≡ true → (profile : Profile) → keys_of_row profile pid ≡ pid ∷ []
 own_key pid e profile =
     let both = both_true (not (pid == 0x0090)) (not (pid == 0x0202)) e in
     rw (is_not (pid == 0x0090) both.0, is_not (pid == 0x0202) both.1) refl
@@ -127,13 +127,13 @@ rows_pass = refl
 rows_say : AllByRecursion SlowFacts table
 rows_say = all_say table rows_pass
 
-of_row : (pid : ℕ) (row : Option Row) → row_in table pid ≡ row → (is_slow (command_in row Get) ≡ true → pid ≡ 0x0201) × (is_slow (command_in row Set) ≡ true → (profile : Profile) → keys_written profile pid ≡ pid ∷ [])
+of_row : (pid : ℕ) (row : Option Row) → row_in table pid ≡ row → (is_slow (command_in row Get) ≡ true → pid ≡ 0x0201) × (is_slow (command_in row Set) ≡ true → (profile : Profile) → keys_of_row profile pid ≡ pid ∷ [])
 of_row pid None e = (λ slow. absurd cc, λ slow. absurd cc)
 of_row pid (Some r) e =
     let say = found SlowFacts table pid r rows_say e in
-    subst (λ (n : ℕ). (is_slow (command_in (Some r) Get) ≡ true → n ≡ 0x0201) × (is_slow (command_in (Some r) Set) ≡ true → (profile : Profile) → keys_written profile n ≡ n ∷ [])) say.1 say.0
+    subst (λ (n : ℕ). (is_slow (command_in (Some r) Get) ≡ true → n ≡ 0x0201) × (is_slow (command_in (Some r) Set) ≡ true → (profile : Profile) → keys_of_row profile n ≡ n ∷ [])) say.1 say.0
 
-slow_says : (pid : ℕ) → (is_slow (command_of pid Get) ≡ true → pid ≡ 0x0201) × (is_slow (command_of pid Set) ≡ true → (profile : Profile) → keys_written profile pid ≡ pid ∷ [])
+slow_says : (pid : ℕ) → (is_slow (command_of pid Get) ≡ true → pid ≡ 0x0201) × (is_slow (command_of pid Set) ≡ true → (profile : Profile) → keys_of_row profile pid ≡ pid ∷ [])
 unfolding row_of
 slow_says pid = of_row pid (row_in table pid) refl
 
@@ -142,7 +142,7 @@ one_key pid key pids e apart = rw (e, ne_eqb pid key (λ (at : pid ≡ key). apa
 
 -- the keys of an outcome that fits are the one of the parameter, or none
 its_key : (profile : Profile) (sub pid : ℕ) (verb : Verb) (arg : ℕ) (outcome : Outcome) (key : ℕ) → is_slow (command_of pid verb) ≡ true → ends verb outcome ≡ true → key ≢ pid → list_any (λ k. k == key) (keys_committed profile (record { sub = sub; pid = pid; verb = verb; arg = arg }) outcome) ≡ false
-its_key profile sub pid Set arg Done key slow end apart = one_key pid key (keys_written profile pid) ((slow_says pid).1 slow profile) apart
+its_key profile sub pid Set arg Done key slow end apart = one_key pid key (keys_of_row profile pid) ((slow_says pid).1 slow profile) apart
 its_key profile sub pid Get arg Done key slow end apart = absurd cc
 its_key profile sub pid Get arg (Reading v) key slow end apart = one_key pid key (0x0201 ∷ []) (rw ((slow_says pid).0 slow) refl) apart
 its_key profile sub pid Set arg (Reading v) key slow end apart = absurd cc
@@ -160,7 +160,7 @@ either : (P : Parameters → Type 0) (test : Bool) (new old : Parameters) → P 
 either P true new old one two = one
 either P false new old one two = two
 
-menu_key : (profile : Profile) (change : Change) → keys_written profile (changed_pid change) ≡ changed_pid change ∷ []
+menu_key : (profile : Profile) (change : Change) → keys_of_row profile (changed_pid change) ≡ changed_pid change ∷ []
 menu_key profile (changes.Start start) = refl
 menu_key profile (changes.Personality number) = refl
 menu_key profile (changes.Label plate) = refl
@@ -169,7 +169,7 @@ pub panel_changes_its_key : PanelChangesItsKey
 unfolding after_change
 panel_changes_its_key p change key index apart =
     either (SameAt key index p) (can_change p change) (carried_out p 0 (command_of (changed_pid change) Set) (changed_value change)) p
-    (carried_same p 0 (changed_pid change) (changed_value change) key index (one_key (changed_pid change) key (keys_written p.profile (changed_pid change)) (menu_key p.profile change) apart)) (same p key index)
+    (carried_same p 0 (changed_pid change) (changed_value change) key index (one_key (changed_pid change) key (keys_of_row p.profile (changed_pid change)) (menu_key p.profile change) apart)) (same p key index)
 
 pub panel_leaves_the_rest : PanelLeavesTheRest
 unfolding after_change

@@ -17,7 +17,7 @@ use Rattle.rdm_device.specs.declared.value.Value.{Value}
 use Rattle.rdm_device.specs.declared.value.Value.TheVariants.{Byte}
 use Rattle.rdm_params.specs.declared.verdict.Verdict.{Verdict}
 use Rattle.rdm_params.specs.declared.verdict.Verdict.TheVariants.{Start, Queue, Status, Clear}
-use Rattle.rdm_params.specs.Commands.Commands.{command_at, accepted, addressed, answered, verdict, work, known, suits, check, is_some_device, got, answer_to_set, after_set, reply_at, ◌>>=◌}
+use Rattle.rdm_params.specs.Commands.Commands.{command_at, accepted, addressed, answered, verdict, work, known, unprotected, suits, check, is_some_device, is_block, block_told, block_taken, block_answer, got, got_by_row, answer_to_set, answer_by_row, after_by_row, reply_at, ◌>>=◌}
 use Rattle.rdm_device.specs.Columns.Forms.{byte}
 use Rattle.rdm_device.specs.Device.Parameters.{Parameters}
 use Rattle.rdm_device.specs.Columns.Ranges.{a_message_type}
@@ -163,7 +163,8 @@ unfolding accepted
 accepts p sub pid verb bytes v e =
     let command : Option Command = command_at p pid verb in
     let first = then_ok (known p sub (row_at p.profile pid) verb) _ v e in
-    let second = then_ok (read command bytes) _ v first.1.1 in
+    let free = then_ok (unprotected p.profile p.added pid command verb bytes) _ v first.1.1 in
+    let second = then_ok (read command bytes) _ v free.1.1 in
     let third = then_ok (suits p sub command verb second.0) _ v second.1.1 in
     let same : second.0 ≡ v = ok_is second.0 v third.1.1 in
     record {
@@ -204,13 +205,38 @@ starts_its_work p now sub pid verb bytes w (Ok v) e answer =
     let by = started_by (way_at now.profile command verb v) (reply_at command (addressed now sub verb) v) (work sub pid verb v) (ask_of (byte_or_0 v)) w answer in
     subst (IsWorkOf p sub pid verb) by.1 (job_of p sub pid verb bytes v e (by_job_of_row now.profile (way_of command) verb (byte_or_0 v) by.0))
 
+-- a block's answer starts, asks and clears nothing
+abbrev IsSilent : Verdict → Type 0
+IsSilent v = ((w : Work) → v ≡ Start w → ⊥) × ((ask : Ask) → v ≡ Queue ask → ⊥) × ((ask : Ask) → v ≡ Status ask → ⊥) × (v ≡ Clear → ⊥)
+
+told_silent : (p : Parameters) (r : Result Value Nack) → IsSilent (block_told p r)
+told_silent p (Err nack) = (λ w e. absurd cc, λ a e. absurd cc, λ a e. absurd cc, λ e. absurd cc)
+told_silent p (Ok v) = (λ w e. absurd cc, λ a e. absurd cc, λ a e. absurd cc, λ e. absurd cc)
+
+answer_silent : (r : Result ℕ Nack) → IsSilent (block_answer r)
+answer_silent (Err nack) = (λ w e. absurd cc, λ a e. absurd cc, λ a e. absurd cc, λ e. absurd cc)
+answer_silent (Ok base) = (λ w e. absurd cc, λ a e. absurd cc, λ a e. absurd cc, λ e. absurd cc)
+
+by_row : (b : Bool) (x y v : Verdict) → (x ≡ v → ⊥) → cond b x y ≡ v → y ≡ v
+by_row true x y v silent e = absurd (silent e)
+by_row false x y v silent e = e
+
+-- so each other answer is that of the row
+pub got_row : (p : Parameters) (sub pid : ℕ) (bytes : List ℕ) (v : Verdict) → (block_told p (accepted p sub pid Get bytes) ≡ v → ⊥) → got p sub pid bytes ≡ v → verdict p sub pid (command_at p pid Get) Get (accepted p sub pid Get bytes) ≡ v
+unfolding got got_by_row
+got_row p sub pid bytes v silent e = by_row (is_block pid) (block_told p (accepted p sub pid Get bytes)) (got_by_row p sub pid bytes) v silent e
+
+pub answer_row : (p : Parameters) (sub pid : ℕ) (bytes : List ℕ) (v : Verdict) → (block_answer (block_taken p (accepted p sub pid Set bytes)) ≡ v → ⊥) → answer_to_set p sub pid bytes ≡ v → verdict (after_by_row p sub pid bytes) sub pid (command_at p pid Set) Set (accepted p sub pid Set bytes) ≡ v
+unfolding answer_to_set answer_by_row
+answer_row p sub pid bytes v silent e = by_row (is_block pid) (block_answer (block_taken p (accepted p sub pid Set bytes))) (answer_by_row p sub pid bytes) v silent e
+
 pub get_starts_its_work : GetStartsItsWork
-unfolding got
-get_starts_its_work p sub pid bytes w e = starts_its_work p p sub pid Get bytes w (accepted p sub pid Get bytes) refl e
+get_starts_its_work p sub pid bytes w e =
+    starts_its_work p p sub pid Get bytes w (accepted p sub pid Get bytes) refl (got_row p sub pid bytes (Start w) ((told_silent p (accepted p sub pid Get bytes)).0 w) e)
 
 pub set_starts_its_work : SetStartsItsWork
-unfolding answer_to_set
-set_starts_its_work p sub pid bytes w e = starts_its_work p (after_set p sub pid bytes) sub pid Set bytes w (accepted p sub pid Set bytes) refl e
+set_starts_its_work p sub pid bytes w e =
+    starts_its_work p (after_by_row p sub pid bytes) sub pid Set bytes w (accepted p sub pid Set bytes) refl (answer_row p sub pid bytes (Start w) ((answer_silent (block_taken p (accepted p sub pid Set bytes))).0 w) e)
 
 -- ---- what is fetched
 
@@ -254,24 +280,25 @@ statuses p now sub pid verb ask (Ok v) answer =
     in_status pid verb command (facts_at p pid verb) (as_row now.profile (way_of command) FromStatus verb (byte_or_0 v) status_later (status_by (way_at now.profile command verb v) (reply_at command (addressed now sub verb) v) (work sub pid verb v) (ask_of (byte_or_0 v)) ask answer))
 
 pub get_queues : GetQueues
-unfolding got
 get_queues p sub pid bytes ask e =
-    let says = queues p p sub pid Get bytes ask (accepted p sub pid Get bytes) refl e in
+    let row = got_row p sub pid bytes (Queue ask) ((told_silent p (accepted p sub pid Get bytes)).1 ask) e in
+    let says = queues p p sub pid Get bytes ask (accepted p sub pid Get bytes) refl row in
     (says.0, says.1.1)
 
 pub get_statuses : GetStatuses
-unfolding got
-get_statuses p sub pid bytes ask e = (statuses p p sub pid Get ask (accepted p sub pid Get bytes) e).0
+get_statuses p sub pid bytes ask e =
+    let row = got_row p sub pid bytes (Status ask) ((told_silent p (accepted p sub pid Get bytes)).2 ask) e in
+    (statuses p p sub pid Get ask (accepted p sub pid Get bytes) row).0
 
 set_is_no_get : Set ≢ Get
 set_is_no_get e = absurd cc
 
 pub set_fetches_nothing : SetFetchesNothing
-unfolding answer_to_set
-set_fetches_nothing p sub pid bytes ask = (
-  λ e. set_is_no_get (queues p (after_set p sub pid bytes) sub pid Set bytes ask (accepted p sub pid Set bytes) refl e).1.0,
-  λ e. set_is_no_get (statuses p (after_set p sub pid bytes) sub pid Set ask (accepted p sub pid Set bytes) e).1,
-)
+set_fetches_nothing p sub pid bytes ask =
+    let silent = answer_silent (block_taken p (accepted p sub pid Set bytes)) in (
+      λ e. set_is_no_get (queues p (after_by_row p sub pid bytes) sub pid Set bytes ask (accepted p sub pid Set bytes) refl (answer_row p sub pid bytes (Queue ask) (silent.1 ask) e)).1.0,
+      λ e. set_is_no_get (statuses p (after_by_row p sub pid bytes) sub pid Set ask (accepted p sub pid Set bytes) (answer_row p sub pid bytes (Status ask) (silent.2 ask) e)).1,
+    )
 
 -- ---- what clears status entries
 
@@ -282,12 +309,14 @@ clearing p now sub pid verb (Ok v) answer =
     in_clearing pid verb command (facts_at p pid verb) (as_row now.profile (way_of command) Clears verb (byte_or_0 v) clears_later (cleared_by (way_at now.profile command verb v) (reply_at command (addressed now sub verb) v) (work sub pid verb v) (ask_of (byte_or_0 v)) answer))
 
 pub set_clears : SetClears
-unfolding answer_to_set
-set_clears p sub pid bytes e = (clearing p (after_set p sub pid bytes) sub pid Set (accepted p sub pid Set bytes) e).0
+set_clears p sub pid bytes e =
+    let row = answer_row p sub pid bytes Clear (answer_silent (block_taken p (accepted p sub pid Set bytes))).3 e in
+    (clearing p (after_by_row p sub pid bytes) sub pid Set (accepted p sub pid Set bytes) row).0
 
 get_is_no_set : Get ≢ Set
 get_is_no_set e = absurd cc
 
 pub get_clears_nothing : GetClearsNothing
-unfolding got
-get_clears_nothing p sub pid bytes e = get_is_no_set (clearing p p sub pid Get (accepted p sub pid Get bytes) e).1
+get_clears_nothing p sub pid bytes e =
+    let row = got_row p sub pid bytes Clear (told_silent p (accepted p sub pid Get bytes)).3 e in
+    get_is_no_set (clearing p p sub pid Get (accepted p sub pid Get bytes) row).1

@@ -6,12 +6,13 @@ use Rattle.std.proofs.lemmas.List.{length-map}
 use Rattle.rdm_params.specs.declared.kind.Verb.TheVariants.{Set}
 use Rattle.rdm_params.specs.declared.nack.Nack.{Nack}
 use Rattle.rdm_device.specs.declared.value.Value.{Value}
-use Rattle.rdm_params.specs.Commands.Commands.{command_at, accepted, after_set, after_accepted, carried_out, written, added_written, root_spot, sub_spot}
+use Rattle.rdm_params.specs.Commands.Commands.{command_at, accepted, after_set, after_by_row, after_accepted, is_block, block_taken, block_moved, carried_out, written, added_written, root_spot, sub_spot}
 use Rattle.rdm_params.specs.Laws.{IsSameBut, LeavesTheRest}
 use Rattle.rdm_device.specs.Device.Map.{Entry}
 use Rattle.rdm_device.specs.Device.Parameters.{Parameters}
 use Rattle.rdm_params.specs.Table.Rows.{Command}
 use Rattle.rdm_params.specs.Table.Uses.{is_slow}
+use Rattle.rdm_params.proofs.BlockRows.{as_many}
 
 as_many_set : (subs : List (List Entry)) (i : ℕ) (new : List Entry) → length (slice_set subs i new) ≡ length subs
 as_many_set [] i new = refl
@@ -49,6 +50,21 @@ after : (p : Parameters) (sub : ℕ) (command : Option Command) (read : Result V
 after p sub command (Err nack) = unchanged p sub
 after p sub command (Ok v) = unless_slow p (carried_out p sub command v) sub (is_slow command) (carried p sub command v (sub == 0) (sub == 0xFFFF) refl refl)
 
+rest_by_row : (p : Parameters) (sub pid : ℕ) (bytes : List ℕ) → IsSameBut sub p (after_by_row p sub pid bytes)
+unfolding after_by_row
+rest_by_row p sub pid bytes = after p sub (command_at p pid Set) (accepted p sub pid Set bytes)
+
+-- of a block every sub-device may be another
+block_moves : (p : Parameters) (taken : Result ℕ Nack) → IsSameBut 0xFFFF p (block_moved p taken)
+block_moves p (Err nack) = unchanged p 0xFFFF
+block_moves p (Ok base) = record { profile = refl; count = as_many p base; root = λ n. refl; added = λ n. refl; subs = λ k n m. absurd (m refl) }
+
+either_rest : (b : Bool) (sub : ℕ) (p x y : Parameters) → IsSameBut 0xFFFF p x → IsSameBut sub p y → IsSameBut (cond b 0xFFFF sub) p (cond b x y)
+either_rest true sub p x y one other = one
+either_rest false sub p x y one other = other
+
 pub leaves_the_rest : LeavesTheRest
 unfolding after_set
-leaves_the_rest p sub pid bytes = after p sub (command_at p pid Set) (accepted p sub pid Set bytes)
+leaves_the_rest p sub pid bytes =
+    let taken : Result ℕ Nack = block_taken p (accepted p sub pid Set bytes) in
+    either_rest (is_block pid) sub p (block_moved p taken) (after_by_row p sub pid bytes) (block_moves p taken) (rest_by_row p sub pid bytes)

@@ -1,5 +1,5 @@
 -- A SET changes no value but at the keys of its parameter.
-use Rattle.std.proofs.Common.{◌≡◌, ℕ, zero, suc, ◌-◌, ◌==◌, ◌&&◌, ◌||◌, Bool, true, false, cond, List, [], ◌∷◌, ◌++◌, map, Option, Some, None, Result, Ok, Err, refl, sym, ap, subst, ◌∙◌}
+use Rattle.std.proofs.Common.{◌≡◌, ℕ, zero, suc, ◌+◌, ◌-◌, ◌==◌, ◌&&◌, ◌||◌, Bool, true, false, cond, List, [], ◌∷◌, ◌++◌, map, Option, Some, None, Result, Ok, Err, refl, sym, ap, subst, ◌∙◌}
 use Rattle.std.specs.Prelude.{filter, find, slice_index_or, slice_set}
 use Rattle.std.specs.Option.{option_map_or}
 use Rattle.std.specs.List.{list_any, AllByRecursion}
@@ -8,22 +8,27 @@ use Rattle.rdm_params.specs.declared.kind.Verb.TheVariants.{Set}
 use Rattle.rdm_params.specs.declared.nack.Nack.{Nack}
 use Rattle.rdm_device.specs.declared.value.Value.{Value}
 use Rattle.rdm_device.specs.Columns.Changes.{stored_at, set_back, sensor_change, reset, record_present}
-use Rattle.rdm_params.specs.Commands.Commands.{command_of, command_at, accepted, after_set, after_accepted, carried_out, written, added_written, root_spot, sub_spot, is_all_call}
+use Rattle.rdm_params.specs.Commands.Commands.{command_of, command_at, accepted, after_by_row, after_accepted, is_block, carried_out, written, added_written, root_spot, sub_spot, is_all_call}
 use Rattle.rdm_params.specs.Commands.Added.{row_here}
 use Rattle.rdm_device.specs.Columns.Forms.{Form, byte, word, long, preset, label, has_form}
-use Rattle.rdm_params.specs.Laws.{keys_written, SameAt, ChangesItsKeys}
+use Rattle.rdm_params.specs.Laws.{keys_written, keys_of_row, SameAt, ChangesItsKeys}
 use Rattle.rdm_device.specs.Device.Map.{Entry, has_key, lookup, update}
 use Rattle.rdm_device.specs.Device.Parameters.{Parameters}
 use Rattle.rdm_device.specs.Columns.Replies.{factory_pids, reset_pids}
-use Rattle.rdm_device.specs.Device.Spot.{Spot}
+use Rattle.rdm_device.specs.Device.Blocks.{started_from}
+use Rattle.rdm_device.specs.Device.Spot.{Spot, footprint}
+use Rattle.rdm_device.specs.declared.value.Value.TheVariants.{Word}
 use Rattle.rdm_params.specs.Table.Rows.{Command, Row, table, row_of, row_in, is_left_out, added_rows, takes_added, command_in}
 use Rattle.rdm_params.specs.Table.Uses.{is_slow, change, added_change}
 use Rattle.rdm_device.specs.Device.Values.{bytes_of, byte_or_0}
 use Rattle.rdm_device.specs.declared.profile.own.ParameterDef.{ParameterDef}
 use Rattle.rdm_device.specs.declared.profile.Profile.{Profile}
-use Rattle.rdm_device.specs.Columns.Added.{within, added_set_back}
-use Rattle.rdm_device.specs.Device.OwnParameters.{form_of, has_set}
+use Rattle.rdm_device.specs.Columns.Added.{counted, index_kept, bytes_kept, set_form, set_range, stored_by, own_stored, added_set_back, start_in}
+use Rattle.rdm_device.specs.declared.profile.own.Rights.{Rights}
+use Rattle.rdm_device.specs.declared.profile.own.Rights.TheVariants as rights
+use Rattle.rdm_device.specs.Device.OwnParameters.{has_set}
 use Rattle.rdm_params.proofs.AddedRows.{row_has, added_have, here_is}
+use Rattle.rdm_params.proofs.BlockRows.{after_either}
 use Rattle.rdm_params.proofs.Bools.{both_true}
 use Rattle.rdm_params.proofs.Rows.{found}
 
@@ -44,7 +49,7 @@ lookup-update key index f (e ∷ es) keeps = kept_at key index f e (lookup es ke
 -- ---- what the rows change
 
 abbrev pub IsApart : Profile → ℕ → ℕ → Type 0
-IsApart profile pid key = list_any (λ k. k == key) (keys_written profile pid) ≡ false
+IsApart profile pid key = list_any (λ k. k == key) (keys_of_row profile pid) ≡ false
 
 -- the SET of a row writes its own keys
 abbrev OnlyItsKeys : Row → Type 0
@@ -92,8 +97,8 @@ none_either key (x ∷ xs) ys e =
     let rest = none_either key xs ys first.1 in
     (either_not (x == key) (list_any (λ k. k == key) xs) first.0 rest.0, rest.1)
 
-sets_back : (spot : Spot) (v : Value) (key : ℕ) → list_any (λ k. k == key) (factory_pids ++ reset_pids spot.profile.own) ≡ false → Keeps key (set_back spot v)
-sets_back spot v key apart e at = rw (none_of factory_pids key e (none_either key factory_pids (reset_pids spot.profile.own) apart).0 at) refl
+sets_back : (spot : Spot) (v : Value) (key : ℕ) → list_any (λ k. k == key) (factory_pids ++ reset_pids spot.profile.particulars.own) ≡ false → Keeps key (set_back spot v)
+sets_back spot v key apart e at = rw (none_of factory_pids key e (none_either key factory_pids (reset_pids spot.profile.particulars.own) apart).0 at) refl
 
 -- of the parameters of the maker's own, one that isn't among those that are set back
 not_reset : (here later : Bool) (d : ParameterDef) (pid n key : ℕ) (rest : List ParameterDef) → list_any (λ k. k == key) (map (λ (x : ParameterDef). x.pid) (cond here (d ∷ rest) rest)) ≡ false → d.pid ≡ pid → n ≡ key → ((here && (pid == n)) ≡ false) × (list_any (λ k. k == key) (map (λ (x : ParameterDef). x.pid) rest) ≡ false)
@@ -112,9 +117,13 @@ none_reset (d ∷ ds) key n apart at =
     let parts = not_reset d.resets false d d.pid n key (filter (λ (x : ParameterDef). x.resets) ds) apart refl at in
     pass_over (d.resets && (d.pid == n)) d (find (λ (x : ParameterDef). x.resets && (x.pid == n)) ds) parts.0 (none_reset ds key n parts.1 at)
 
-added_back : (spot : Spot) (v : Value) (key : ℕ) → list_any (λ k. k == key) (factory_pids ++ reset_pids spot.profile.own) ≡ false → Keeps key (added_set_back spot v)
+either_is : (here : Bool) (x y : List ℕ) → x ≡ y → cond here x y ≡ y
+either_is true x y e = e
+either_is false x y e = refl
+
+added_back : (spot : Spot) (v : Value) (key : ℕ) → list_any (λ k. k == key) (factory_pids ++ reset_pids spot.profile.particulars.own) ≡ false → Keeps key (added_set_back spot v)
 added_back spot v key apart e at =
-    ap (λ (found : Option ParameterDef). option_map_or (λ (d : ParameterDef). d.start) found e.bytes) (none_reset spot.profile.own key e.pid (none_either key factory_pids (reset_pids spot.profile.own) apart).1 at)
+    either_is (e.index == 0) (start_in spot.profile.particulars.own e.pid e.bytes) e.bytes (ap (λ (found : Option ParameterDef). option_map_or (λ (d : ParameterDef). d.start) found e.bytes) (none_reset spot.profile.particulars.own key e.pid (none_either key factory_pids (reset_pids spot.profile.particulars.own) apart).1 at))
 
 idle : (pid : ℕ) (spot : Spot) (v : Value) (key : ℕ) → IsApart spot.profile pid key → Keeps key (λ e. e.bytes)
 idle pid spot v key apart e at = refl
@@ -181,7 +190,7 @@ other pid n some none = ne_eqb pid n (λ (same : pid ≡ n). never (sym (ap is_s
 
 own_key : (profile : Profile) (pid key : ℕ) → row_of pid ≡ None → IsApart profile pid key → (pid == key) ≡ false
 own_key profile pid key none apart =
-    let plain : keys_written profile pid ≡ pid ∷ [] = rw (other pid 0x0090 there_is_0090 none, other pid 0x0202 there_is_0202 none) refl in
+    let plain : keys_of_row profile pid ≡ pid ∷ [] = rw (other pid 0x0090 there_is_0090 none, other pid 0x0202 there_is_0202 none) refl in
     (not_either (pid == key) false (ap (list_any (λ k. k == key)) (sym plain) ∙ apart)).0
 
 no_store : (a b : Bool) (x y : List ℕ) → a ≡ false → cond (a && b) x y ≡ y
@@ -191,8 +200,16 @@ no_store false b x y e = refl
 abbrev OnlyAdded : Row → Type 0
 OnlyAdded r = (spot : Spot) (v : Value) (key : ℕ) → (r.pid == key) ≡ false → Keeps key (added_change (command_in (Some r) Set) spot v)
 
-one_added : (d : ParameterDef) (set : Bool) (spot : Spot) (v : Value) (key : ℕ) → (d.pid == key) ≡ false → Keeps key (added_change (cond set (takes_added (form_of d.shape) (within d) d.pid) None) spot v)
-one_added d true spot v key apart e at = no_store (e.pid == d.pid) (e.index == 0) (bytes_of v) e.bytes (apart_test d.pid key e.pid apart at)
+one_stored : (by : Rights) (d : ParameterDef) (spot : Spot) (v : Value) (key : ℕ) → (d.pid == key) ≡ false → Keeps key (stored_by by d spot v)
+one_stored rights.Get d spot v key apart e at = no_store (e.pid == d.pid) (e.index == index_kept d.shape v) (bytes_kept d.shape v) e.bytes (apart_test d.pid key e.pid apart at)
+one_stored rights.Set d spot v key apart e at =
+    no_store (e.pid == d.pid) (e.index == 0) (bytes_of v) (cond (has_key d.pid 1 e) (counted (lookup spot.added d.pid 1)) e.bytes) (apart_test d.pid key e.pid apart at)
+    ∙ no_store (e.pid == d.pid) (e.index == 1) (counted (lookup spot.added d.pid 1)) e.bytes (apart_test d.pid key e.pid apart at)
+one_stored rights.Both d spot v key apart e at = no_store (e.pid == d.pid) (e.index == index_kept d.shape v) (bytes_kept d.shape v) e.bytes (apart_test d.pid key e.pid apart at)
+one_stored rights.Clear d spot v key apart e at = no_store (e.pid == d.pid) (e.index == 0) d.start e.bytes (apart_test d.pid key e.pid apart at)
+
+one_added : (d : ParameterDef) (set : Bool) (spot : Spot) (v : Value) (key : ℕ) → (d.pid == key) ≡ false → Keeps key (added_change (cond set (takes_added (set_form d) (set_range d) (own_stored d) d.pid) None) spot v)
+one_added d true spot v key apart e at = one_stored d.rights d spot v key apart e at
 one_added d false spot v key apart e at = refl
 
 of_added : (p : Profile) (pid : ℕ) (row : Option Row) → row_in (added_rows p) pid ≡ row → (spot : Spot) (v : Value) (key : ℕ) → (pid == key) ≡ false → Keeps key (added_change (command_in row Set) spot v)
@@ -240,6 +257,26 @@ after_keeps : (p : Parameters) (sub pid : ℕ) (command : Option Command) (read 
 after_keeps p sub pid command (Err nack) key index only apart = record { root = refl; added = refl; subs = λ k. refl }
 after_keeps p sub pid command (Ok v) key index only apart = unless_slow p (carried_out p sub command v) key index (is_slow command) (carried_keeps p sub pid command v key index only apart (sub == 0) (is_all_call sub Set))
 
+keys_by_row : (p : Parameters) (sub pid : ℕ) (bytes : List ℕ) (key index : ℕ) → IsApart p.profile pid key → SameAt key index p (after_by_row p sub pid bytes)
+unfolding after_by_row
+keys_by_row p sub pid bytes key index apart = after_keeps p sub pid (command_at p pid Set) (accepted p sub pid Set bytes) key index (writes_only p pid) apart
+
+-- start addresses alone are another
+one_starts : (uses_none : Bool) (spot : Spot) (base key index : ℕ) → (0x00F0 == key) ≡ false → lookup (cond uses_none spot.entries (update (stored_at 0x00F0 word spot (Word base)) spot.entries)) key index ≡ lookup spot.entries key index
+one_starts true spot base key index apart = refl
+one_starts false spot base key index apart = lookup-update key index (stored_at 0x00F0 word spot (Word base)) spot.entries (stores_only 0x00F0 key word spot (Word base) apart)
+
+starts_keep : (p : Parameters) (key index base : ℕ) → (0x00F0 == key) ≡ false → (subs : List (List Entry)) (k : ℕ) → lookup (slice_index_or (started_from base (map (sub_spot p) subs)) k []) key index ≡ lookup (slice_index_or subs k []) key index
+starts_keep p key index base apart [] k = refl
+starts_keep p key index base apart (es ∷ subs) zero = one_starts (footprint (sub_spot p es) == 0) (sub_spot p es) base key index apart
+starts_keep p key index base apart (es ∷ subs) (suc k) = starts_keep p key index (base + footprint (sub_spot p es)) apart subs k
+
+apart_by : (profile : Profile) (pid key : ℕ) (b : Bool) → is_block pid ≡ b → list_any (λ k. k == key) (keys_written profile pid) ≡ false → list_any (λ k. k == key) (cond b (0x00F0 ∷ []) (keys_of_row profile pid)) ≡ false
+apart_by profile pid key b e apart = ap (λ (x : Bool). list_any (λ k. k == key) (cond x (0x00F0 ∷ []) (keys_of_row profile pid))) (sym e) ∙ apart
+
 pub changes_its_keys : ChangesItsKeys
-unfolding after_set
-changes_its_keys p sub pid bytes key index apart = after_keeps p sub pid (command_at p pid Set) (accepted p sub pid Set bytes) key index (writes_only p pid) apart
+changes_its_keys p sub pid bytes key index apart =
+    after_either (SameAt key index p) p sub pid bytes
+    (record { root = refl; added = refl; subs = λ k. refl })
+    (λ is base. record { root = refl; added = refl; subs = starts_keep p key index base (not_either (0x00F0 == key) false (apart_by p.profile pid key true is apart)).0 p.subs })
+    (λ no. keys_by_row p sub pid bytes key index (apart_by p.profile pid key false no apart))

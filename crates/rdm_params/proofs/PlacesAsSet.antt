@@ -1,5 +1,5 @@
 -- What a SET would make of the values, placing the same data makes of them.
-use Rattle.std.proofs.Common.{◌≡◌, ℕ, ◌-◌, ◌==◌, ◌&&◌, not, Bool, true, false, cond, List, [], ◌∷◌, map, Option, Some, None, Result, Ok, Err, refl, sym, ap, subst, ◌∙◌}
+use Rattle.std.proofs.Common.{◌≡◌, ◌≢◌, ℕ, ◌-◌, ◌==◌, ◌&&◌, not, Bool, true, false, cond, List, [], ◌∷◌, map, Option, Some, None, Result, Ok, Err, refl, sym, ap, subst, ◌∙◌}
 use Rattle.std.specs.Prelude.{slice_get, option_to_list, is_some, is_ok}
 use Rattle.std.specs.List.{list_all}
 use Rattle.std.specs.Option.{option_map_or}
@@ -15,13 +15,14 @@ use Rattle.rdm_params.specs.declared.jobs.way.Way.TheVariants.{AtOnce, ByJob, Fr
 use Rattle.rdm_params.specs.declared.jobs.work.Work.{Work}
 use Rattle.rdm_params.specs.declared.verdict.Verdict.TheVariants.{Reply}
 use Rattle.rdm_device.specs.declared.value.Value.{Value}
-use Rattle.rdm_params.specs.Commands.Commands.{command_of, command_at, accepted, after_set, answer_to_set, answered, verdict, carried_out, addressed, is_some_device, is_all_call, root_spot, sub_spot, known, taken, after_accepted, check, ◌>>=◌}
+use Rattle.rdm_params.specs.Commands.Commands.{command_of, command_at, accepted, is_block, after_by_row, answer_by_row, answered, verdict, carried_out, addressed, is_some_device, is_all_call, root_spot, sub_spot, known, unprotected, taken, after_accepted, check, ◌>>=◌}
 use Rattle.rdm_params.specs.Commands.Placing.{device, has_set, value_refusal, place_refusal, after_value, after_place}
 use Rattle.rdm_device.specs.Device.Parameters.{Parameters}
 use Rattle.rdm_device.specs.Device.Spot.{Spot}
 use Rattle.rdm_params.specs.Laws.{PlacesAsSet}
-use Rattle.rdm_params.specs.Table.Rows.{Command, Row, row_of, row_in, row_or, row_at, is_left_out, added_rows, command_in}
+use Rattle.rdm_params.specs.Table.Rows.{Command, Row, table, row_of, row_in, row_or, row_at, is_left_out, added_rows, command_in}
 use Rattle.rdm_params.specs.Table.Uses.{access, read, is_by_job, is_slow, way_of, in_range_of, keeps}
+use Rattle.rdm_params.proofs.BlockRows.{row_after, row_answer}
 use Rattle.rdm_params.proofs.Bools.{both_true}
 
 -- ---- what an accepted SET says
@@ -105,6 +106,11 @@ says p sub row (Ok v) w e =
       within = subst (λ (x : Value). list_all (λ spot. in_range_of (command_in row Set) spot x) (addressed p sub Set) ≡ true) passed.1 passed.0.within_range;
     }
 
+-- the same where a step before it can refuse
+says_behind : (p : Parameters) (sub : ℕ) (row : Option Row) (free : Result (Unit {0}) Nack) (r : Result Value Nack) (w : Value) → (known p sub row Set >>= (λ u. free >>= (λ x. r >>= (λ value. taken p sub (command_in row Set) Set value)))) ≡ ok w → Says p sub row r w
+says_behind p sub row (Err nack) r w e = absurd (err_is_no_value (known p sub row Set) nack w e)
+says_behind p sub row (Ok u) r w e = says p sub row r w e
+
 -- a SET of the table that keeps its data, and that these devices have, isn't left out
 kept_row : (left : Bool) (first later : Option Row) (is_root : Bool) → keeps (command_in first Set) ≡ true → is_ok (access (cond left None (row_or first later)) is_root Set) ≡ true → (left ≡ false) × (cond left None (row_or first later) ≡ first)
 kept_row true first later is_root kept e = absurd cc
@@ -134,14 +140,31 @@ unfolding accepted
 of_accepted p sub pid bytes reply (Err nack) e apart kept told = absurd cc
 of_accepted p sub pid bytes reply (Ok w) e apart kept told =
     let row : Option Row = row_at p.profile pid in
-    let at = says p sub row (read (command_in row Set) bytes) w e in
+    let at = says_behind p sub row (unprotected p.profile p.added pid (command_in row Set) Set bytes) (read (command_in row Set) bytes) w e in
     let is = kept_row (is_left_out p.profile pid) (row_of pid) (row_in (added_rows p.profile) pid) (sub == 0) kept at.allowed in
     let same : row ≡ row_of pid = is.1 in
     let quick : is_slow (command_in row Set) ≡ false = no_reply (way_of (command_in row Set)) _ _ _ reply told in
     let placed = placed_as p sub pid bytes w apart is.0 kept (ap (λ (x : Option Row). is_slow (command_in x Set)) (sym same) ∙ quick) (subst (λ (x : Option Row). Says p sub x (read (command_in x Set) bytes) w) same at) in
     subst (λ (x : Option Row). Placed p sub pid bytes (command_in x Set) (ok w)) (sym same) placed
 
-pub places_as_set : PlacesAsSet
-unfolding after_set answer_to_set
-places_as_set p sub pid bytes reply apart kept told =
+placed_by_row : (p : Parameters) (sub pid : ℕ) (bytes reply : List ℕ) → sub ≢ 0xFFFF → keeps (command_of pid Set) ≡ true → answer_by_row p sub pid bytes ≡ Reply reply → (place_refusal p sub pid bytes ≡ None) × (after_place p sub pid bytes ≡ after_by_row p sub pid bytes)
+unfolding after_by_row answer_by_row
+placed_by_row p sub pid bytes reply apart kept told =
     of_accepted p sub pid bytes reply (accepted p sub pid Set bytes) refl (ne_eqb sub 0xFFFF apart) kept told
+
+-- the table keeps no block
+block_kept : keeps (command_of 0x0140 Set) ≡ false
+unfolding row_of table
+block_kept = refl
+
+never : false ≡ true → ⊥
+never e = cc
+
+no_block : (pid : ℕ) → keeps (command_of pid Set) ≡ true → is_block pid ≡ false
+no_block pid kept = ne_eqb pid 0x0140 (λ (same : pid ≡ 0x0140). never (sym block_kept ∙ ap (λ (n : ℕ). keeps (command_of n Set)) (sym same) ∙ kept))
+
+pub places_as_set : PlacesAsSet
+places_as_set p sub pid bytes reply apart kept told =
+    let other = no_block pid kept in
+    let row = placed_by_row p sub pid bytes reply apart kept (sym (row_answer p sub pid bytes other) ∙ told) in
+    (row.0, row.1 ∙ sym (row_after p sub pid bytes other))

@@ -5,10 +5,9 @@ use Rattle.std.specs.Option.{option_map_or}
 use Rattle.std.proofs.lemmas.Bool.{ne_eqb}
 use Rattle.rdm_device.specs.declared.profile.own.ParameterDef.{ParameterDef}
 use Rattle.rdm_device.specs.declared.value.Value.{Value}
-use Rattle.rdm_device.specs.Columns.Added.{added_stored, is_pid_of}
+use Rattle.rdm_device.specs.Columns.Added.{placed_form, placed_stored, is_pid_of}
 use Rattle.rdm_device.specs.Columns.Forms.{value_of}
 use Rattle.rdm_device.specs.Device.Map.{Entry, update}
-use Rattle.rdm_device.specs.Device.OwnParameters.{form_of}
 use Rattle.rdm_device.specs.Device.Parameters.{Parameters}
 use Rattle.rdm_device.specs.Device.Spot.{Spot}
 use Rattle.rdm_params.specs.declared.kind.Verb.TheVariants.{Set}
@@ -38,12 +37,12 @@ of_table true root own = refl
 of_table false root own = refl
 
 pub own_left : (p : Parameters) (sub pid : ℕ) → is_left_out p.profile pid ≡ true → own_at p sub pid ≡ None
-own_left p sub pid left = ap (λ (b : Bool). third b (is_some (row_of pid)) (sub == 0) (find (is_pid_of pid) p.profile.own)) left
+own_left p sub pid left = ap (λ (b : Bool). third b (is_some (row_of pid)) (sub == 0) (find (is_pid_of pid) p.profile.particulars.own)) left
 
 pub own_sub : (p : Parameters) (sub pid : ℕ) → sub ≢ 0 → own_at p sub pid ≡ None
 own_sub p sub pid n =
-    ap (λ (b : Bool). third (is_left_out p.profile pid) (is_some (row_of pid)) b (find (is_pid_of pid) p.profile.own)) (ne_eqb sub 0 n)
-    ∙ at_sub (is_left_out p.profile pid) (is_some (row_of pid)) (find (is_pid_of pid) p.profile.own)
+    ap (λ (b : Bool). third (is_left_out p.profile pid) (is_some (row_of pid)) b (find (is_pid_of pid) p.profile.particulars.own)) (ne_eqb sub 0 n)
+    ∙ at_sub (is_left_out p.profile pid) (is_some (row_of pid)) (find (is_pid_of pid) p.profile.particulars.own)
 
 abbrev err : Nack → Result (Unit {0}) Nack
 err nack = Err nack
@@ -65,12 +64,12 @@ unknown (Some r) e = absurd (or_refused (is_some r.set) e)
 
 pub own_tabled : (p : Parameters) (sub pid : ℕ) (nack : Nack) → access (row_of pid) (sub == 0) Set ≡ Err nack → nack ≢ UnknownPid → own_at p sub pid ≡ None
 own_tabled p sub pid nack e n =
-    ap (λ (b : Bool). third (is_left_out p.profile pid) b (sub == 0) (find (is_pid_of pid) p.profile.own)) (known (row_of pid) (sub == 0) nack e n)
-    ∙ of_table (is_left_out p.profile pid) (sub == 0) (find (is_pid_of pid) p.profile.own)
+    ap (λ (b : Bool). third (is_left_out p.profile pid) b (sub == 0) (find (is_pid_of pid) p.profile.particulars.own)) (known (row_of pid) (sub == 0) nack e n)
+    ∙ of_table (is_left_out p.profile pid) (sub == 0) (find (is_pid_of pid) p.profile.particulars.own)
 
-pub own_root : (p : Parameters) (sub pid : ℕ) (nack : Nack) → sub ≡ 0 → nack ≡ UnknownPid → is_left_out p.profile pid ≡ false → access (row_of pid) (sub == 0) Set ≡ Err nack → own_at p sub pid ≡ find (is_pid_of pid) p.profile.own
+pub own_root : (p : Parameters) (sub pid : ℕ) (nack : Nack) → sub ≡ 0 → nack ≡ UnknownPid → is_left_out p.profile pid ≡ false → access (row_of pid) (sub == 0) Set ≡ Err nack → own_at p sub pid ≡ find (is_pid_of pid) p.profile.particulars.own
 own_root p sub pid nack zero is stays e =
-    let own : Option ParameterDef = find (is_pid_of pid) p.profile.own in
+    let own : Option ParameterDef = find (is_pid_of pid) p.profile.particulars.own in
     let at : access (row_of pid) true Set ≡ err UnknownPid = subst (λ (s : ℕ). access (row_of pid) (s == 0) Set ≡ Err nack) zero e ∙ ap err is in
     ap (λ (s : ℕ). third (is_left_out p.profile pid) (is_some (row_of pid)) (s == 0) own) zero
     ∙ ap (λ (b : Bool). third b (is_some (row_of pid)) true own) stays
@@ -86,6 +85,6 @@ ok_viewed (Err n) p root' added' d bytes o e f g = tt
 ok_viewed (Ok u) p root' added' d bytes o e f g = own_viewed p root' added' d bytes o e (f (root_spot p) refl) g
 
 -- what a value is that is read and stored
-pub values_are : (spot : Spot) (d : ParameterDef) (bytes : List ℕ) (value : Value) (old new : List Entry) → value_of (form_of d.shape) bytes ≡ Some value → spot.added ≡ old → new ≡ update (added_stored d.pid spot value) old → new ≡ own_values spot d bytes
+pub values_are : (spot : Spot) (d : ParameterDef) (bytes : List ℕ) (value : Value) (old new : List Entry) → value_of (placed_form d.shape) bytes ≡ Some value → spot.added ≡ old → new ≡ update (placed_stored d spot value) old → new ≡ own_values spot d bytes
 values_are spot d bytes value old new is same e =
-    e ∙ ap (λ (es : List Entry). update (added_stored d.pid spot value) es) (sym same) ∙ sym (ap (λ (o : Option Value). option_map_or (λ v. update (added_stored d.pid spot v) spot.added) o spot.added) is)
+    e ∙ ap (λ (es : List Entry). update (placed_stored d spot value) es) (sym same) ∙ sym (ap (λ (o : Option Value). option_map_or (λ v. update (placed_stored d spot v) spot.added) o spot.added) is)

@@ -1,5 +1,5 @@
 -- What a command hands in, at the devices that it addresses.
-use Rattle.std.proofs.Common.{◌≡◌, ℕ, ◌-◌, ◌==◌, ◌&&◌, ◌||◌, not, Bool, true, false, cond, List, [], ◌∷◌, length, map, Option, Some, None, Result, Ok, Err, refl, ap, subst, ◌∙◌}
+use Rattle.std.proofs.Common.{◌≡◌, ℕ, ◌-◌, ◌==◌, ◌&&◌, ◌||◌, not, Bool, true, false, cond, List, [], ◌∷◌, length, map, Option, Some, None, Result, Ok, Err, refl, sym, ap, subst, ◌∙◌}
 use Rattle.std.specs.Prelude.{slice_get, option_to_list}
 use Rattle.std.specs.List.{list_all}
 use Rattle.rdm_params.specs.declared.kind.Verb.{Verb}
@@ -31,6 +31,9 @@ command_takes_nothing : (pid : ℕ) (verb : Verb) (spot : Spot) → takes_nothin
 unfolding row_of
 command_takes_nothing pid verb spot = holds (takes_nothing spot) table pid verb refl (rows_take_nothing spot)
 
+abbrev ok : Value → Result Value Nack
+ok v = Ok v
+
 abbrev ranged : (Value → Bool) → Value → Result Value Nack
 ranged test v = check (test v) DataOutOfRange >>= (λ u. Ok v)
 
@@ -48,6 +51,31 @@ bare_at (Some c) spot bytes bare e = bare_form c.form c.range spot bytes bare e
 
 pub bare_command : (pid : ℕ) (verb : Verb) (spot : Spot) (bytes : List ℕ) → is_bare (command_of pid verb) ≡ true → read_data_at (command_of pid verb) spot bytes ≡ read_as nothing bytes
 bare_command pid verb spot bytes bare = bare_at (command_of pid verb) spot bytes bare (command_takes_nothing pid verb spot)
+
+read_nothing : (form : Form) (bytes : List ℕ) → is_nothing form ≡ true → read_as form bytes ≡ read_as nothing bytes
+read_nothing nothing bytes bare = refl
+read_nothing _ bytes bare = absurd cc
+
+read_bare_at : (command : Option Command) (bytes : List ℕ) → is_bare command ≡ true → read command bytes ≡ read_as nothing bytes
+read_bare_at None bytes bare = absurd cc
+read_bare_at (Some c) bytes bare = read_nothing c.form bytes bare
+
+pub read_bare : (pid : ℕ) (verb : Verb) (bytes : List ℕ) → is_bare (command_of pid verb) ≡ true → read (command_of pid verb) bytes ≡ read_as nothing bytes
+read_bare pid verb bytes bare = read_bare_at (command_of pid verb) bytes bare
+
+is_no_data : (fits : Bool) (v : Value) → cond fits (Ok Nothing) (Err FormatError) ≡ ok v → v ≡ Nothing
+is_no_data true v e = cc
+is_no_data false v e = absurd cc
+
+then_in_range : (bare here : Bool) → bare ≡ true → (not bare || here) ≡ true → here ≡ true
+then_in_range true here b e = e
+then_in_range false here b e = absurd cc
+
+-- what a command without data hands in is in its range
+pub bare_in_range : (pid : ℕ) (verb : Verb) (spot : Spot) (v : Value) → is_bare (command_of pid verb) ≡ true → ((bytes : List ℕ) × read (command_of pid verb) bytes ≡ Ok v) → in_range_of (command_of pid verb) spot v ≡ true
+bare_in_range pid verb spot v bare said =
+    let none : v ≡ Nothing = is_no_data (has_length nothing (length said.0)) v (sym (read_bare pid verb said.0 bare) ∙ said.1) in
+    ap (in_range_of (command_of pid verb) spot) none ∙ then_in_range (is_bare (command_of pid verb)) (in_range_of (command_of pid verb) spot Nothing) bare (command_takes_nothing pid verb spot)
 
 -- ---- the devices that are addressed
 
@@ -98,24 +126,9 @@ refused_in (Ok v) test (s ∷ rest) spot jobs nack first e =
     let same : spot ≡ s = cc in
     refused_at (test s v) (list_all (λ t. test t v) rest) jobs v nack (subst (λ (t : Spot). ranged (test t) v ≡ Err nack) same e)
 
-pub refused_first : (p : Parameters) (sub : ℕ) (command : Option Command) (verb : Verb) (spot : Spot) (bytes : List ℕ) (nack : Nack) → slice_get (addressed p sub verb) 0 ≡ Some spot → read_data_at command spot bytes ≡ Err nack → read_data p sub command verb bytes ≡ Err nack
+refused_first : (p : Parameters) (sub : ℕ) (command : Option Command) (verb : Verb) (spot : Spot) (bytes : List ℕ) (nack : Nack) → slice_get (addressed p sub verb) 0 ≡ Some spot → read_data_at command spot bytes ≡ Err nack → read_data p sub command verb bytes ≡ Err nack
 refused_first p sub command verb spot bytes nack first e =
     refused_in (read command bytes) (λ s v. in_range_of command s v) (addressed p sub verb) spot (is_all_call sub verb && is_slow command) nack first e
-
-abbrev ok : Value → Result Value Nack
-ok v = Ok v
-
-handed_here : (here : Bool) (w v : Value) → (check here DataOutOfRange >>= (λ u. Ok w)) ≡ Ok v → ok w ≡ ok v
-handed_here true w v e = e
-handed_here false w v e = absurd cc
-
-handed_at : (r : Result Value Nack) (test : Value → Bool) (v : Value) → (r >>= ranged test) ≡ Ok v → r ≡ Ok v
-handed_at (Err n) test v e = e
-handed_at (Ok w) test v e = handed_here (test w) w v e
-
-handed_first : (p : Parameters) (sub : ℕ) (command : Option Command) (verb : Verb) (spot : Spot) (bytes : List ℕ) (v : Value) → read_data_at command spot bytes ≡ Ok v → read_data p sub command verb bytes ≡ taken p sub command verb v
-handed_first p sub command verb spot bytes v e =
-    ap (λ (r : Result Value Nack). r >>= taken p sub command verb) (handed_at (read command bytes) (in_range_of command spot) v e)
 
 refused : (r : Result (Unit {0}) Nack) (v : Value) (nack : Nack) → r ≡ Err nack → (r >>= (λ u. Ok v)) ≡ Err nack
 refused (Ok u) v nack e = absurd cc
@@ -125,8 +138,20 @@ fits : (r : Result (Unit {0}) Nack) (v : Value) (u : Unit {0}) → r ≡ Ok u �
 fits (Ok w) v u e = refl
 fits (Err n) v u e = absurd cc
 
-pub refused_later : (p : Parameters) (sub : ℕ) (command : Option Command) (verb : Verb) (spot : Spot) (bytes : List ℕ) (v : Value) (nack : Nack) → read_data_at command spot bytes ≡ Ok v → suits p sub command verb v ≡ Err nack → read_data p sub command verb bytes ≡ Err nack
-refused_later p sub command verb spot bytes v nack e unfit = handed_first p sub command verb spot bytes v e ∙ refused (suits p sub command verb v) v nack unfit
+-- ---- by the steps of reading
 
-pub taken_by_all : (p : Parameters) (sub : ℕ) (command : Option Command) (verb : Verb) (spot : Spot) (bytes : List ℕ) (v : Value) (u : Unit {0}) → read_data_at command spot bytes ≡ Ok v → suits p sub command verb v ≡ Ok u → read_data p sub command verb bytes ≡ Ok v
-taken_by_all p sub command verb spot bytes v u e fit = handed_first p sub command verb spot bytes v e ∙ fits (suits p sub command verb v) v u fit
+at_first : (command : Option Command) (spot : Spot) (bytes : List ℕ) (v : Value) (here : Bool) → read command bytes ≡ Ok v → in_range_of command spot v ≡ here → read_data_at command spot bytes ≡ (check here DataOutOfRange >>= (λ u. ok v))
+at_first command spot bytes v here said is =
+    ap (λ (r : Result Value Nack). r >>= ranged (in_range_of command spot)) said ∙ ap (λ (b : Bool). check b DataOutOfRange >>= (λ u. ok v)) is
+
+pub unread : (p : Parameters) (sub : ℕ) (command : Option Command) (verb : Verb) (bytes : List ℕ) (nack : Nack) → read command bytes ≡ Err nack → read_data p sub command verb bytes ≡ Err nack
+unread p sub command verb bytes nack e = ap (λ (r : Result Value Nack). r >>= taken p sub command verb) e
+
+pub out_of_range : (p : Parameters) (sub : ℕ) (command : Option Command) (verb : Verb) (spot : Spot) (bytes : List ℕ) (v : Value) → slice_get (addressed p sub verb) 0 ≡ Some spot → read command bytes ≡ Ok v → in_range_of command spot v ≡ false → read_data p sub command verb bytes ≡ Err DataOutOfRange
+out_of_range p sub command verb spot bytes v first said outside = refused_first p sub command verb spot bytes DataOutOfRange first (at_first command spot bytes v false said outside)
+
+pub one_taken : (p : Parameters) (sub : ℕ) (command : Option Command) (verb : Verb) (spot : Spot) (bytes : List ℕ) (v : Value) → slice_get (addressed p sub verb) 0 ≡ Some spot → is_all_call sub verb ≡ false → read command bytes ≡ Ok v → in_range_of command spot v ≡ true → read_data p sub command verb bytes ≡ Ok v
+one_taken p sub command verb spot bytes v first one said inside = one_device p sub command verb spot bytes first one ∙ at_first command spot bytes v true said inside
+
+pub all_taken : (p : Parameters) (sub : ℕ) (command : Option Command) (verb : Verb) (bytes : List ℕ) (v : Value) (u : Unit {0}) → read command bytes ≡ Ok v → suits p sub command verb v ≡ Ok u → read_data p sub command verb bytes ≡ Ok v
+all_taken p sub command verb bytes v u said fit = ap (λ (r : Result Value Nack). r >>= taken p sub command verb) said ∙ fits (suits p sub command verb v) v u fit

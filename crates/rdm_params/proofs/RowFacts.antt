@@ -14,8 +14,8 @@ use Rattle.rdm_device.specs.declared.profile.own.ParameterDef.{ParameterDef}
 use Rattle.rdm_device.specs.declared.profile.own.Shape.{Shape}
 use Rattle.rdm_device.specs.declared.profile.own.Shape.TheVariants as shapes
 use Rattle.rdm_device.specs.declared.profile.Profile.{Profile}
-use Rattle.rdm_device.specs.Columns.Added.{within}
-use Rattle.rdm_device.specs.Device.OwnParameters.{form_of, has_get, has_set}
+use Rattle.rdm_device.specs.Columns.Added.{set_form, set_range, own_stored}
+use Rattle.rdm_device.specs.Device.OwnParameters.{has_get, has_set}
 use Rattle.rdm_device.specs.Device.Parameters.{Parameters}
 use Rattle.rdm_device.specs.Device.Spot.{Spot}
 use Rattle.rdm_params.specs.Table.Rows.{Command, Row, table, row_of, row_in, is_left_out, added_rows, added_row, gets_added, takes_added, command_in}
@@ -83,12 +83,16 @@ shape_facts pid (shapes.Slots n) d = tt
 shape_facts pid shapes.Choice d = tt
 shape_facts pid shapes.Names d = tt
 shape_facts pid shapes.Rates d = tt
+shape_facts pid shapes.Scenes d = tt
+shape_facts pid shapes.Lock d = tt
+shape_facts pid shapes.Pin d = tt
+shape_facts pid shapes.Block d = tt
 
 get_facts : (pid : ℕ) (d : ParameterDef) (has : Bool) → Facts pid Get (cond has (gets_added d.shape d d.pid) None)
 get_facts pid d true = shape_facts pid d.shape d
 get_facts pid d false = tt
 
-set_facts : (pid : ℕ) (d : ParameterDef) (has : Bool) → Facts pid Set (cond has (takes_added (form_of d.shape) (within d) d.pid) None)
+set_facts : (pid : ℕ) (d : ParameterDef) (has : Bool) → Facts pid Set (cond has (takes_added (set_form d) (set_range d) (own_stored d) d.pid) None)
 set_facts pid d true = tt
 set_facts pid d false = tt
 

@@ -1,11 +1,11 @@
 -- What is accepted as a slow command is accepted whatever the values are.
-use Rattle.std.proofs.Common.{◌≡◌, ℕ, zero, suc, ◌-◌, ◌==◌, ◌&&◌, not, Bool, true, false, cond, List, [], ◌∷◌, length, map, replicate, Option, Some, None, Result, Ok, Err, refl, sym, ap, ◌∙◌}
+use Rattle.std.proofs.Common.{◌≡◌, ℕ, zero, suc, ◌-◌, ◌==◌, ◌&&◌, ◌||◌, not, Bool, true, false, cond, List, [], ◌∷◌, length, map, replicate, Option, Some, None, Result, Ok, Err, refl, sym, ap, ◌∙◌}
 use Rattle.std.specs.Prelude.{slice_get, slice_set, slice_index_or, option_to_list, is_some}
 use Rattle.std.specs.List.{list_all}
 use Rattle.std.specs.Option.{option_map_or}
 use Rattle.std.proofs.lemmas.List.{length-map, length-set}
 use Rattle.rdm_params.specs.declared.kind.Verb.{Verb}
-use Rattle.rdm_params.specs.declared.kind.Verb.TheVariants.{Set}
+use Rattle.rdm_params.specs.declared.kind.Verb.TheVariants.{Get, Set}
 use Rattle.rdm_params.specs.declared.nack.Nack.{Nack}
 use Rattle.rdm_params.specs.declared.nack.Nack.TheVariants.{DataOutOfRange, SubDeviceOutOfRange}
 use Rattle.rdm_device.specs.declared.profile.Profile.{Profile}
@@ -14,7 +14,8 @@ use Rattle.rdm_params.specs.declared.jobs.way.Way.{Way}
 use Rattle.rdm_params.specs.declared.jobs.way.Way.TheVariants.{AtOnce, ByJob, FromQueue, FromStatus, Clears}
 use Rattle.rdm_device.specs.declared.value.Value.{Value}
 use Rattle.rdm_device.specs.declared.value.Value.TheVariants.{Byte}
-use Rattle.rdm_params.specs.Commands.Commands.{command_of, command_at, accepted, read_data, after_set, after_accepted, carried_out, written, added_written, addressed, root_spot, sub_spot, is_all_call, is_some_device, known, suits, check, ◌>>=◌}
+use Rattle.rdm_params.specs.Commands.Commands.{command_of, command_at, accepted, read_data, after_by_row, after_accepted, carried_out, written, added_written, addressed, root_spot, sub_spot, is_all_call, is_some_device, known, is_read_only, is_lockable, open_to, unprotected, suits, check, ◌>>=◌}
+use Rattle.rdm_device.specs.Device.Locks.{is_locked, is_no_pin}
 use Rattle.rdm_params.specs.Commands.Panel.{changed_pid, changed_value, can_change, after_change}
 use Rattle.rdm_params.specs.Commands.Placing.{place_refusal, after_value, after_place, has_set, own_at, own_placed}
 use Rattle.rdm_device.specs.declared.profile.own.ParameterDef.{ParameterDef}
@@ -26,6 +27,7 @@ use Rattle.rdm_params.specs.Jobs.Laws.{SameDevices, StaysAccepted, SetKeepsDevic
 use Rattle.rdm_device.specs.Device.Spot.{Spot}
 use Rattle.rdm_params.specs.Table.Rows.{Command, Row, row_of, row_in, row_or, row_at, is_left_out, added_rows, command_in}
 use Rattle.rdm_params.specs.Table.Uses.{access, read, is_by_job, is_slow, in_range_of, keeps}
+use Rattle.rdm_params.proofs.BlockRows.{after_either, as_many}
 use Rattle.rdm_params.proofs.RowFacts.{FactsOfWay, Facts, ByProfile, facts_of}
 
 -- ---- ranges that look at the profile alone
@@ -112,8 +114,30 @@ slow_range verb true first later slow decides = λ s t v e. refl
 slow_range verb false None later slow decides = absurd cc
 slow_range verb false (Some r) later slow decides = decides
 
+-- neither of them is locked
+job_unlockable : (command : Option Command) → is_slow command ≡ true → is_lockable command ≡ false
+job_unlockable None slow = absurd cc
+job_unlockable (Some c) slow = ap not slow
+
+slow_unlockable : (verb : Verb) (left : Bool) (first later : Option Row) → is_slow (command_in first verb) ≡ true → is_lockable (command_in (cond left None (row_or first later)) verb) ≡ false
+slow_unlockable verb true first later slow = refl
+slow_unlockable verb false None later slow = absurd cc
+slow_unlockable verb false (Some r) later slow = job_unlockable (command_in (Some r) verb) slow
+
+never_locked : (read locked lockable no_pin : Bool) → lockable ≡ false → open_to (read || (locked && lockable)) no_pin ≡ open_to read no_pin
+never_locked true locked lockable no_pin e = refl
+never_locked false true true no_pin e = absurd cc
+never_locked false true false no_pin e = refl
+never_locked false false lockable no_pin e = refl
+
+slow_free : (profile : Profile) (xs ys : List Entry) (pid : ℕ) (command : Option Command) (verb : Verb) (bytes : List ℕ) → is_lockable command ≡ false → unprotected profile xs pid command verb bytes ≡ unprotected profile ys pid command verb bytes
+slow_free profile xs ys pid command Get bytes e = refl
+slow_free profile xs ys pid command Set bytes e =
+    never_locked (is_read_only profile.particulars.own pid bytes) (is_locked profile.particulars.locks xs pid) (is_lockable command) (is_no_pin pid bytes) e ∙ sym (never_locked (is_read_only profile.particulars.own pid bytes) (is_locked profile.particulars.locks ys pid) (is_lockable command) (is_no_pin pid bytes) e)
+
 abbrev accepted_by : Parameters → Profile → ℕ → ℕ → Verb → List ℕ → Result Value Nack
-accepted_by p profile sub pid verb bytes = known p sub (row_at profile pid) verb >>= (λ u. read_data p sub (command_in (row_at profile pid) verb) verb bytes)
+accepted_by p profile sub pid verb bytes =
+    known p sub (row_at profile pid) verb >>= (λ u. unprotected profile p.added pid (command_in (row_at profile pid) verb) verb bytes >>= (λ w. read_data p sub (command_in (row_at profile pid) verb) verb bytes))
 
 pub stays_accepted : StaysAccepted
 unfolding accepted
@@ -121,8 +145,10 @@ stays_accepted p q sub pid verb bytes same slow =
     let row : Option Row = row_at p.profile pid in
     let command : Option Command = command_in row verb in
     let decides : Decides command = slow_range verb (is_left_out p.profile pid) (row_of pid) (row_in (added_rows p.profile) pid) slow (λ s t v e. profile_decides pid verb (command_of pid verb) (facts_of pid verb) slow s t v e) in
-    let rest : Parameters → Unit {0} → Result Value Nack = λ d u. read command bytes >>= (λ value. suits d sub command verb value >>= (λ w. Ok value)) in
-    ap (λ (profile : Profile). accepted_by q profile sub pid verb bytes) same.profile ∙ ap (λ (r : Result (Unit {0}) Nack). r >>= rest q) (known_alike p q sub row verb same) ∙ then_same (known p sub row verb) (rest q) (rest p) (λ u. then_same (read command bytes) _ _ (λ value. ap (λ (r : Result (Unit {0}) Nack). r >>= (λ w. Ok value)) (suits_alike p q sub command verb value same decides)))
+    let free : Parameters → Result (Unit {0}) Nack = λ d. unprotected p.profile d.added pid command verb bytes in
+    let later : Parameters → Unit {0} → Result Value Nack = λ d u. read command bytes >>= (λ value. suits d sub command verb value >>= (λ w. Ok value)) in
+    let rest : Parameters → Unit {0} → Result Value Nack = λ d u. free d >>= later d in
+    ap (λ (profile : Profile). accepted_by q profile sub pid verb bytes) same.profile ∙ ap (λ (r : Result (Unit {0}) Nack). r >>= rest q) (known_alike p q sub row verb same) ∙ then_same (known p sub row verb) (rest q) (rest p) (λ u. ap (λ (r : Result (Unit {0}) Nack). r >>= later q) (slow_free p.profile q.added p.added pid command verb bytes (slow_unlockable verb (is_left_out p.profile pid) (row_of pid) (row_in (added_rows p.profile) pid) slow)) ∙ then_same (free p) (later q) (later p) (λ w. then_same (read command bytes) _ _ (λ value. ap (λ (r : Result (Unit {0}) Nack). r >>= (λ w. Ok value)) (suits_alike p q sub command verb value same decides))))
 
 -- ---- the devices after a SET and after the end of a job
 
@@ -142,9 +168,13 @@ after_keeps : (p : Parameters) (sub : ℕ) (command : Option Command) (value : R
 after_keeps p sub command (Err nack) = record { profile = refl; subs = refl }
 after_keeps p sub command (Ok v) = unless_slow p (carried_out p sub command v) (is_slow command) (carried_keeps p sub command v)
 
+row_keeps : (p : Parameters) (sub pid : ℕ) (bytes : List ℕ) → SameDevices p (after_by_row p sub pid bytes)
+unfolding after_by_row
+row_keeps p sub pid bytes = after_keeps p sub (command_at p pid Set) (accepted p sub pid Set bytes)
+
 pub set_keeps_devices : SetKeepsDevices
-unfolding after_set
-set_keeps_devices p sub pid bytes = after_keeps p sub (command_at p pid Set) (accepted p sub pid Set bytes)
+set_keeps_devices p sub pid bytes =
+    after_either (SameDevices p) p sub pid bytes (record { profile = refl; subs = refl }) (λ is base. record { profile = refl; subs = as_many p base }) (λ no. row_keeps p sub pid bytes)
 
 pub commit_keeps_devices : CommitKeepsDevices
 unfolding after_commit

@@ -23,7 +23,7 @@ all_stay (pid ∷ pids) = rw (and_false (is_optional pid), all_stay pids) refl
 abbrev rows_of : List ParameterDef → List Row
 rows_of own = cond (list_any has_makers_pid own) (description_row ∷ []) [] ++ map added_row own
 
-none_added : (p : Profile) → p.own ≡ [] → added_pids p ≡ []
+none_added : (p : Profile) → p.particulars.own ≡ [] → added_pids p ≡ []
 unfolding added_rows
 none_added p e = ap (λ (own : List ParameterDef). map (λ (r : Row). r.pid) (rows_of own)) e
 
@@ -31,7 +31,7 @@ either_none : (is_root : Bool) (pids : List ℕ) → pids ≡ [] → cond is_roo
 either_none true pids e = e
 either_none false pids e = refl
 
-pub plain : (p : Profile) (is_root : Bool) → p.own ≡ [] → p.without.items ≡ [] → supported_pids p is_root ≡ table_pids is_root
+pub plain : (p : Profile) (is_root : Bool) → p.particulars.own ≡ [] → p.particulars.without.items ≡ [] → supported_pids p is_root ≡ table_pids is_root
 unfolding supported_pids
 plain p is_root no_own all =
     ap (λ (pids : List ℕ). with_pids pids (filter (λ pid. not (is_left_out p pid)) (table_pids is_root))) (either_none is_root (added_pids p) (none_added p no_own)) ∙ ap (λ (left : List ℕ). filter (λ pid. not (lacks left pid)) (table_pids is_root)) all ∙ all_stay (table_pids is_root)
@@ -40,11 +40,11 @@ pub row_alone : (row : Option Row) → row_or row None ≡ row
 row_alone None = refl
 row_alone (Some r) = refl
 
-pub nothing_added : (p : Profile) (pid : ℕ) → p.own ≡ [] → row_in (added_rows p) pid ≡ None
+pub nothing_added : (p : Profile) (pid : ℕ) → p.particulars.own ≡ [] → row_in (added_rows p) pid ≡ None
 unfolding added_rows
 nothing_added p pid e = ap (λ (own : List ParameterDef). row_in (rows_of own) pid) e
 
-pub table_alone : (p : Profile) (pid : ℕ) → p.own ≡ [] → p.without.items ≡ [] → row_at p pid ≡ row_of pid
+pub table_alone : (p : Profile) (pid : ℕ) → p.particulars.own ≡ [] → p.particulars.without.items ≡ [] → row_at p pid ≡ row_of pid
 table_alone p pid no_own all =
     let row : Option Row = row_or (row_of pid) (row_in (added_rows p) pid) in
     ap (λ (left : List ℕ). cond (lacks left pid) None row) all ∙ ap (λ (left : Bool). cond left None row) (and_false (is_optional pid))
@@ -103,6 +103,6 @@ pub with_first : (makers : Bool) (own : List ParameterDef) (old : List ℕ) → 
 with_first true own old = ap (λ (ps : List ℕ). with_pids ps (with_pid 0x0051 old)) (pids_of own)
 with_first false own old = ap (λ (ps : List ℕ). with_pids ps old) (pids_of own)
 
-pub all_added : (p : Profile) (old mid new : List ℕ) → mid ≡ cond (list_any has_makers_pid p.own) (with_pid 0x0051 old) old → new ≡ with_pids (map (λ d. d.pid) p.own) mid → new ≡ with_pids (added_pids p) old
+pub all_added : (p : Profile) (old mid new : List ℕ) → mid ≡ cond (list_any has_makers_pid p.particulars.own) (with_pid 0x0051 old) old → new ≡ with_pids (map (λ d. d.pid) p.particulars.own) mid → new ≡ with_pids (added_pids p) old
 unfolding added_rows
-all_added p old mid new e f = f ∙ ap (with_pids (map (λ (d : ParameterDef). d.pid) p.own)) e ∙ sym (with_first (list_any has_makers_pid p.own) p.own old)
+all_added p old mid new e f = f ∙ ap (with_pids (map (λ (d : ParameterDef). d.pid) p.particulars.own)) e ∙ sym (with_first (list_any has_makers_pid p.particulars.own) p.particulars.own old)

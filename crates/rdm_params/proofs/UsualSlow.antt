@@ -24,7 +24,7 @@ use Rattle.rdm_device.specs.Device.Workers.{usual_workers}
 use Rattle.rdm_device.specs.declared.profile.workers.Workers.{Workers}
 use Rattle.rdm_device.specs.Device.Values.{byte_or_0}
 use Rattle.rdm_device.specs.Device.Parameters.{Parameters}
-use Rattle.rdm_params.specs.Commands.Commands.{command_of, root_spot, got, accepted, known, read_data, check, ◌>>=◌, verdict, answered, work}
+use Rattle.rdm_params.specs.Commands.Commands.{command_of, root_spot, got, got_by_row, accepted, known, read_data, check, ◌>>=◌, verdict, answered, work}
 use Rattle.rdm_params.specs.Jobs.Asks.{ask_of}
 use Rattle.rdm_params.specs.Jobs.Laws.{table_estimate, table_worker, UsualTakesTheTablesTime, UsualHasTheTablesWorkers, UsualIsAnsweredByTheTable, SensorIsAnsweredAtOnce}
 use Rattle.rdm_params.specs.Jobs.Work.{estimate_in, worker_in}
@@ -115,7 +115,7 @@ abbrev timed : Parameters → ℕ → Bool → Verdict
 timed p n quick = answered (cond quick AtOnce (ByJob Sensor)) (sensor_measured (root_spot p) (Byte n)) (work 0 0x0201 Get (Byte n)) (ask_of n)
 
 got_is : (p : Parameters) (n : ℕ) → got p 0 0x0201 (n ∷ []) ≡ asked p n (row_at p.profile 0x0201)
-unfolding got accepted
+unfolding got got_by_row accepted
 got_is p n = refl
 
 pub sensor_at_once : SensorIsAnsweredAtOnce

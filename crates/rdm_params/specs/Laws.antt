@@ -1,10 +1,11 @@
 -- Laws of the table, for every value, command and device.
-use Rattle.std.specs.Prelude.{◌≡◌, ◌≢◌, ℕ, ℤ, suc, ◌^◌, ◌<◌, ◌≤◌, ◌==◌, false, List, [], ◌∷◌, ◌++◌, length, Option, Some, None, Ok, IsTrue, Bool, true, slice_index_or, if◌then◌else◌}
+use Rattle.std.specs.Prelude.{◌≡◌, ◌≢◌, ℕ, ℤ, suc, ◌^◌, ◌<◌, ◌≤◌, ◌==◌, false, List, [], ◌∷◌, ◌++◌, length, Option, Some, None, Ok, IsTrue, All, Bool, true, slice_index_or, if◌then◌else◌}
 use Rattle.std.specs.List.{list_any}
 use Rattle.std.specs.List.Sorted.{IsStrictlyIncreasing}
 use Rattle.rdm_params.specs.declared.kind.Verb.{Verb}
 use Rattle.rdm_params.specs.declared.kind.Verb.TheVariants.{Set}
-use Rattle.rdm_params.specs.declared.verdict.Verdict.TheVariants.{Reply}
+use Rattle.rdm_params.specs.declared.verdict.Verdict.TheVariants.{Reply, Refuse}
+use Rattle.rdm_params.specs.declared.nack.Nack.{Nack}
 use Rattle.rdm_device.specs.declared.value.Value.{Value}
 use Rattle.rdm_device.specs.declared.value.Value.TheVariants.{Byte, Word, Long, Preset, Label}
 use Rattle.rdm_params.specs.declared.changed.Changed.TheVariants as told
@@ -14,19 +15,23 @@ use Rattle.rdm_params.specs.declared.jobs.outcome.Outcome.TheVariants.{Done, Rea
 use Rattle.rdm_params.specs.declared.jobs.status.Severity.{Severity}
 use Rattle.rdm_params.specs.declared.jobs.work.Work.{Work}
 use Rattle.rdm_params.specs.Commands.Changed.{change_of}
-use Rattle.rdm_params.specs.Commands.Commands.{command_of, answer_to_set, after_set}
+use Rattle.rdm_params.specs.Commands.Commands.{command_of, command_at, is_block, answer_to_set, after_set}
 use Rattle.rdm_params.specs.Commands.Panel.{changed_pid, after_change}
 use Rattle.rdm_params.specs.Commands.Placing.{place_refusal, after_place}
 use Rattle.rdm_params.specs.Jobs.Commit.{after_commit}
 use Rattle.rdm_params.specs.Jobs.Outcome.{fits}
 use Rattle.rdm_device.specs.Columns.Forms.{has_form}
-use Rattle.rdm_device.specs.Device.Map.{lookup}
+use Rattle.rdm_device.specs.Device.Locks.{is_locked}
+use Rattle.rdm_device.specs.Device.Map.{has_key, lookup}
+use Rattle.rdm_device.specs.declared.profile.own.ParameterDef.{ParameterDef}
+use Rattle.rdm_device.specs.Device.OwnParameters.{is_order}
 use Rattle.rdm_device.specs.declared.profile.Profile.{Profile}
-use Rattle.rdm_device.specs.Device.Parameters.{Parameters}
+use Rattle.rdm_device.specs.Device.Parameters.{Parameters, parameters_of}
 use Rattle.rdm_device.specs.Device.Profiles.{IsGoodProfile}
+use Rattle.rdm_device.specs.Device.Standards.{follows}
 use Rattle.rdm_device.specs.Columns.Replies.{factory_pids, reset_pids}
-use Rattle.rdm_params.specs.Table.Rows.{Command, row_of, row_at, supported_pids}
-use Rattle.rdm_params.specs.Table.Uses.{read, keeps}
+use Rattle.rdm_params.specs.Table.Rows.{Command, row_of, row_at, added_row, supported_pids}
+use Rattle.rdm_params.specs.Table.Uses.{read, is_slow, keeps}
 use Rattle.rdm_device.specs.Device.Values.{bytes_of}
 
 -- the numbers of a value that a command can hand in fit their slots
@@ -51,16 +56,20 @@ ReadsBack =
 
 -- Devices of a profile that adds no parameters and leaves none out have the table.
 abbrev pub TheTableAlone : Type 0
-TheTableAlone = (p : Profile) (pid : ℕ) → p.own ≡ [] → p.without.items ≡ [] → row_at p pid ≡ row_of pid
+TheTableAlone = (p : Profile) (pid : ℕ) → p.particulars.own ≡ [] → p.particulars.without.items ≡ [] → row_at p pid ≡ row_of pid
 
 -- SUPPORTED_PARAMETERS lists PIDs in ascending order, and so none twice, at the root and at a sub-device. Section 10.4.1.
 abbrev pub SupportedAscend : Type 0
 SupportedAscend = (p : Profile) (is_root : Bool) → IsGoodProfile p → IsStrictlyIncreasing (supported_pids p is_root)
 
--- The PIDs of the keys that a SET of a parameter may write: its own, but for FACTORY_DEFAULTS, which sets ten
+-- The PIDs of the keys that a SET of a parameter may write by its row: its own, but for FACTORY_DEFAULTS, which sets ten
 -- parameters back and those of the maker's own that say so, and RECORD_SENSORS, which writes the sensors' values.
+abbrev pub keys_of_row : Profile → ℕ → List ℕ
+keys_of_row profile pid = if pid == 0x0090 then factory_pids ++ reset_pids profile.particulars.own else (if pid == 0x0202 then 0x0201 ∷ [] else pid ∷ [])
+
+-- The PIDs of the keys that a SET of a parameter may write: those of its row, but for DMX_BLOCK_ADDRESS, which writes start addresses.
 abbrev pub keys_written : Profile → ℕ → List ℕ
-keys_written profile pid = if pid == 0x0090 then factory_pids ++ reset_pids profile.own else (if pid == 0x0202 then 0x0201 ∷ [] else pid ∷ [])
+keys_written profile pid = if is_block pid then 0x00F0 ∷ [] else keys_of_row profile pid
 
 -- the values at this key are the same at the root, also of the parameters that the maker adds, and at every sub-device, of
 -- which the first is number 1
@@ -84,9 +93,55 @@ pub record IsSameBut (sub : ℕ) (old new : Parameters) : Type 0 where
   pub added : sub ≢ 0 → new.added ≡ old.added
   pub subs : (k : ℕ) → sub ≢ suc k → sub ≢ 0xFFFF → slice_index_or new.subs k [] ≡ slice_index_or old.subs k []
 
--- A SET changes nothing but the values of the devices that it addresses.
+-- The devices whose values a SET may change, as a command addresses them: those that it addresses, but for DMX_BLOCK_ADDRESS, which
+-- is for the root, every sub-device and not the root.
+abbrev pub reached : ℕ → ℕ → ℕ
+reached sub pid = if is_block pid then 0xFFFF else sub
+
+-- A SET changes nothing but the values of these devices.
 abbrev pub LeavesTheRest : Type 0
-LeavesTheRest = (p : Parameters) (sub pid : ℕ) (bytes : List ℕ) → IsSameBut sub p (after_set p sub pid bytes)
+LeavesTheRest = (p : Parameters) (sub pid : ℕ) (bytes : List ℕ) → IsSameBut (reached sub pid) p (after_set p sub pid bytes)
+
+-- whether the orders of this PID are counted
+abbrev pub is_counted : Parameters → ℕ → Bool
+is_counted p pid = list_any (has_key pid 1) p.added
+
+-- An order of a good profile that the root accepts leaves other values than before, also if its data are those of the last: so each is told as a change.
+abbrev pub OrdersAreTold : Type 0
+OrdersAreTold =
+    (p : Parameters) (d : ParameterDef) (bytes reply : List ℕ)
+    → row_at p.profile d.pid ≡ Some (added_row d) → follows d ≡ true → is_order d.rights ≡ true → is_counted p d.pid ≡ true
+    → answer_to_set p 0 d.pid bytes ≡ Reply reply → after_set p 0 d.pid bytes ≢ p
+
+-- Each order of a profile is counted when the devices are made.
+abbrev pub OrdersAreCounted : Type 0
+OrdersAreCounted = (p : Profile) → All (λ d. is_order d.rights ≡ true → is_counted (parameters_of p) d.pid ≡ true) p.particulars.own
+
+-- No SET ends that, of any parameter and device.
+abbrev pub CountsStay : Type 0
+CountsStay = (p : Parameters) (sub pid order : ℕ) (bytes : List ℕ) → is_counted (after_set p sub pid bytes) order ≡ is_counted p order
+
+-- Nothing else that becomes of the values ends it: neither data that are placed, nor the end of a job, nor a change at the menu.
+abbrev pub CountsStayPlaced : Type 0
+CountsStayPlaced = (p : Parameters) (sub pid order : ℕ) (bytes : List ℕ) → is_counted (after_place p sub pid bytes) order ≡ is_counted p order
+
+abbrev pub CountsStayCommitted : Type 0
+CountsStayCommitted = (p : Parameters) (w : Work) (outcome : Outcome) (order : ℕ) → is_counted (after_commit p w outcome) order ≡ is_counted p order
+
+abbrev pub CountsStayChanged : Type 0
+CountsStayChanged = (p : Parameters) (change : Change) (order : ℕ) → is_counted (after_change p change) order ≡ is_counted p order
+
+-- A SET of what the lock state locks is refused, and changes nothing, unless a job carries it out. E1.37-1, LOCK_STATE.
+abbrev pub LockRefuses : Type 0
+LockRefuses =
+    (p : Parameters) (sub pid : ℕ) (bytes : List ℕ)
+    → is_locked p.profile.particulars.locks p.added pid ≡ true → is_slow (command_at p pid Set) ≡ false
+    → (nack : Nack) × (answer_to_set p sub pid bytes ≡ Refuse nack)
+
+abbrev pub LockKeeps : Type 0
+LockKeeps =
+    (p : Parameters) (sub pid : ℕ) (bytes : List ℕ)
+    → is_locked p.profile.particulars.locks p.added pid ≡ true → is_slow (command_at p pid Set) ≡ false → after_set p sub pid bytes ≡ p
 
 -- A SET that tells of one value changes no value of another parameter, at any device.
 abbrev pub ChangesWhatItTells : Type 0
@@ -110,7 +165,7 @@ CommitChangesItsKey =
 -- The PIDs of the keys that the end of a job may write, whichever outcome is handed in: those that the SET may write, that
 -- of the sensors' values, or none.
 abbrev pub keys_committed : Profile → Work → Outcome → List ℕ
-keys_committed profile w Done = keys_written profile w.pid
+keys_committed profile w Done = keys_of_row profile w.pid
 keys_committed profile w (Reading v) = 0x0201 ∷ []
 keys_committed profile w (Failed severity id v1 v2) = []
 

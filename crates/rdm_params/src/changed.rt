@@ -4,6 +4,7 @@ ghost use Rattle.std.specs.Prelude.{◌≡◌, Some, None, if◌then◌else◌};
 ghost use Rattle.rdm_params.specs.Commands.Changed.{change_of};
 
 use crate::Kind;
+use crate::commands::DMX_BLOCK_ADDRESS;
 use rdm_frame::standard::SUB_DEVICE_ALL_CALL;
 
 /// What a SET changed, so that nobody needs to look at every value after each request.
@@ -17,7 +18,7 @@ pub enum Changed {
         pid: u16,
     },
     /// What several parameters or devices show: an all-call is for every sub-device (section 9), and FACTORY_DEFAULTS
-    /// sets several parameters back (section 10.5.6).
+    /// sets several parameters back (section 10.5.6), and DMX_BLOCK_ADDRESS sets start addresses of sub-devices (E1.37-1).
     Several,
 }
 
@@ -46,6 +47,9 @@ impl Changed {
                 sub,
                 pid: Kind::SensorValue.pid(),
             }
+        } else if pid == DMX_BLOCK_ADDRESS {
+            // Asked last: asked before the others, it costs every SET more than this test.
+            Changed::Several
         } else {
             Changed::Value { sub, pid }
         }

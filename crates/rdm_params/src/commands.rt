@@ -2,12 +2,12 @@
 
 mod sub_devices;
 
-ghost use Rattle.std.specs.Prelude.{[], Some, None, IfSome, false, length, ◌≡◌, ◌≢◌, ◌↔◌, IfOk, IfErr, slice_get};
-ghost use Rattle.std.specs.List.{list_all};
+ghost use Rattle.std.specs.Prelude.{◌&&◌, true, [], Some, None, IfSome, false, length, ◌≡◌, ◌≢◌, ◌↔◌, IfOk, IfErr};
 ghost use Rattle.std.specs.Option.{option_copied, option_map_or};
 ghost use Rattle.rdm_params.specs.declared.kind.Verb.TheVariants.{Set};
 ghost use Rattle.rdm_params.specs.declared.verdict.Verdict.TheVariants.{Refuse};
-ghost use Rattle.rdm_params.specs.Commands.Commands.{got, answer_to_set, after_set, in_range, answered, work};
+ghost use Rattle.rdm_params.specs.Commands.Commands.{got, got_by_row, answer_to_set, answer_by_row, after_set, after_by_row};
+ghost use Rattle.rdm_params.specs.Commands.Commands.{in_range, answered, work};
 ghost use Rattle.rdm_params.specs.Commands.Commands.{addressed, command_of, carried_out, reply_at};
 ghost use Rattle.rdm_params.specs.Commands.Changed.{change_of};
 ghost use Rattle.rdm_params.specs.Table.Kinds.{pid_of};
@@ -16,11 +16,13 @@ ghost use Rattle.rdm_device.specs.Device.Spot.{Spot};
 ghost use Rattle.rdm_device.specs.Device.Values.{byte_or_0};
 ghost use Rattle.rdm_device.specs.declared.value.Value.{Value};
 ghost use Rattle.rdm_params.specs.Views.Verdicts.{verdict_with, NamesItsJob};
-ghost use Rattle.rdm_params.specs.Table.Uses.{way_of, way_at, in_range_of, reply};
+ghost use Rattle.rdm_device.specs.Device.Locks.{is_locked};
+ghost use Rattle.rdm_params.specs.Table.Uses.{way_of, way_at, reply};
 ghost use Rattle.rdm_params.specs.Jobs.Asks.{ask_of};
 
 mod added;
 mod addressing;
+mod blocks;
 mod commit;
 mod panel;
 mod placing;
@@ -31,14 +33,15 @@ mod slow;
 mod starting;
 mod thresholds;
 
-use crate::commands::addressing::is_all_call;
-use crate::commands::sub_devices::{all_in_range, store_at, store_each};
+pub(crate) use crate::commands::blocks::DMX_BLOCK_ADDRESS;
+use crate::commands::read_data::{is_taken_at, read_form};
+use crate::commands::sub_devices::{store_at, store_each};
 use crate::jobs::Way;
 use crate::table::find::{Found, find};
 use crate::table::respond::reply_into;
 use crate::table::store::{store_added, store_common, store_own};
-use crate::table::within::is_in_range;
 use crate::{Answer, Ask, Changed, Kind, Nack, Profile, Value, Verb, Verdict, Work};
+use rdm_device::columns::added as own_parameters;
 use rdm_device::{Argument, CommonValues, Place, RootValues};
 use rdm_frame::Body;
 use rdm_frame::standard::SUB_DEVICE_ALL_CALL;
@@ -180,10 +183,18 @@ impl Devices {
         self.profile.lacks(pid)
     }
 
+    /// Whether the lock state keeps a parameter from being set.
+    #[inline(always)]
+    fn is_locked(&self, pid: u16) -> bool
+        ensures { result ≡ is_locked self.now.profile.particulars.locks self.now.added pid }
+    {
+        own_parameters::is_locked(&self.profile, self.own.added.as_slice(), pid)
+    }
+
     /// What a GET answers, or the first reason to reject it.
     // This and its steps are inlined, since a call would hand the argument on through memory.
     #[inline(always)]
-    #[tactic(auto, unfolding(crate::specs::Commands::Commands::got, crate::specs::Commands::Commands::accepted), using(crate::proofs::AddedCommands::tabled, crate::proofs::AddedCommands::lacking_get))]
+    #[tactic(auto, unfolding(crate::specs::Commands::Commands::got_by_row, crate::specs::Commands::Commands::accepted), using(crate::proofs::ReadData::unread, crate::proofs::ReadData::out_of_range, crate::proofs::ReadData::one_taken, crate::proofs::BlockCommands::tabled_got, crate::proofs::AddedCommands::tabled, crate::proofs::AddedCommands::no_device_get, crate::proofs::AddedCommands::lacking_get, crate::proofs::AddedCommands::table_get))]
     fn try_get(&self, sub: u16, pid: u16, data: &[u8], body: &mut Body) -> Result<Answer, Nack>
         requires { body.old ≡ [] }
         ensures ok { IfOk result (λ answer. verdict_with answer body.new ≡ got self.now sub pid data.now) }
@@ -201,13 +212,13 @@ impl Devices {
             Ok(found) => found,
             Err(Nack::UnknownPid) => {
                 // Before the call, which costs more than the tests.
-                if self.profile.own.as_slice().is_empty() {
+                if self.profile.particulars.own().is_empty() {
                     return Err(Nack::UnknownPid);
                 }
                 if sub != 0 {
                     return Err(Nack::UnknownPid);
                 }
-                return match self.get_at_root(pid, data, body) {
+                return match self.get_added(pid, data, body) {
                     Ok(()) => Ok(Answer::Done),
                     Err(nack) => Err(nack),
                 };
@@ -220,7 +231,10 @@ impl Devices {
         let place = self
             .first_place(sub, Verb::Get)
             .ok_or(Nack::SubDeviceOutOfRange)?;
-        let value = self.read_data(sub, Verb::Get, found, &place, data)?;
+        let value = read_form(Verb::Get, found, data)?;
+        if !is_taken_at(Verb::Get, found, &place, &value) {
+            return Err(Nack::DataOutOfRange);
+        }
         let profile = &self.profile;
         let place = Some(&place);
         Ok(answer(profile, sub, Verb::Get, found, place, &value, body))
@@ -228,7 +242,7 @@ impl Devices {
 
     /// What a SET answers, or the first reason to reject it. `changed` tells whether it changed a value.
     #[inline(always)]
-    #[tactic(auto, unfolding(crate::specs::Commands::Commands::answer_to_set, crate::specs::Commands::Commands::after_set, crate::specs::Commands::Commands::accepted), using(crate::proofs::AddedCommands::tabled, crate::proofs::AddedCommands::lacking_set, crate::proofs::AddedCommands::lacking_leaves))]
+    #[tactic(auto, unfolding(crate::specs::Commands::Commands::answer_by_row, crate::specs::Commands::Commands::after_by_row, crate::specs::Commands::Commands::accepted), using(crate::proofs::BlockCommands::tabled_answer, crate::proofs::BlockCommands::tabled_after, crate::proofs::AddedCommands::tabled, crate::proofs::AddedCommands::tabled_slow, crate::proofs::AddedCommands::tabled_free, crate::proofs::AddedCommands::locked_set, crate::proofs::AddedCommands::locked_leaves, crate::proofs::AddedCommands::no_device_set, crate::proofs::AddedCommands::no_device_leaves, crate::proofs::AddedCommands::lacking_set, crate::proofs::AddedCommands::lacking_leaves, crate::proofs::AddedCommands::table_set, crate::proofs::AddedCommands::table_leaves))]
     fn try_set(
         &mut self,
         sub: u16,
@@ -255,13 +269,13 @@ impl Devices {
         let found = match find(pid, sub == 0, Verb::Set) {
             Ok(found) => found,
             Err(Nack::UnknownPid) => {
-                if self.profile.own.as_slice().is_empty() {
+                if self.profile.particulars.own().is_empty() {
                     return Err(Nack::UnknownPid);
                 }
                 if sub != 0 {
                     return Err(Nack::UnknownPid);
                 }
-                return match self.set_at_root(pid, data) {
+                return match self.set_added(pid, data) {
                     Ok(differs) => {
                         *changed = differs;
                         Ok(Answer::Done)
@@ -271,10 +285,13 @@ impl Devices {
             }
             Err(nack) => return Err(nack),
         };
-        // Apart from the others: what it hands in isn't kept for a write.
+        // Apart from the others: what it hands in isn't kept for a write, and no lock keeps it from being done.
         if found.way.is_by_job() {
             let value = self.read_data(sub, Verb::Set, found, &place, data)?;
             return Ok(self.answer_to_set(sub, found, &value, body));
+        }
+        if self.is_locked(pid) {
+            return Err(Nack::WriteProtect);
         }
         let value = self.read_data(sub, Verb::Set, found, &place, data)?;
         *changed = self.carry_out(sub, found.kind, &value);
@@ -301,26 +318,6 @@ impl Devices {
         }
         let place = self.first_place(sub, Verb::Set);
         answer(profile, sub, Verb::Set, found, place.as_ref(), value, body)
-    }
-
-    /// Whether a value is in range at each device that a command is for, of which this is the first place.
-    #[inline(always)]
-    fn is_in_range_at(
-        &self,
-        sub: u16,
-        kind: Kind,
-        verb: Verb,
-        place: &Place<'_>,
-        value: &Argument<'_>,
-    ) -> bool
-        requires { slice_get (addressed self.now sub verb) 0 ≡ Some place.now }
-        ensures { result ≡ list_all (λ spot. in_range_of (command_of (pid_of kind) verb) spot value.now) (addressed self.now sub verb) }
-    {
-        if is_all_call(sub, verb) {
-            all_in_range(&self.profile, kind, verb, &self.subs, value)
-        } else {
-            is_in_range(kind, verb, place, value)
-        }
     }
 
     /// Carries out a SET at the devices that it is for, and says whether that changed a value.
@@ -373,7 +370,7 @@ fn answer(
             Answer::Done
         }
         Way::ByJob(slow) => {
-            let (worker, estimate) = slow.terms(&profile.workers, &profile.estimates);
+            let (worker, estimate) = slow.terms(&profile.workers, &profile.particulars.estimates());
             Answer::Starts {
                 work: Work {
                     sub,

@@ -2,6 +2,7 @@
 
 ghost use Rattle.std.specs.Prelude.{◌≡◌, ◌↔◌, ℕ, List, IsTrue};
 ghost use Rattle.rdm_params.specs.Laws.{ReadsBack, ChangesItsKeys, LeavesTheRest, PanelChangesItsKey, PanelLeavesTheRest, PlacesAsSet};
+ghost use Rattle.rdm_params.specs.Laws.{OrdersAreTold, OrdersAreCounted, CountsStay, CountsStayPlaced, CountsStayCommitted, CountsStayChanged, LockRefuses, LockKeeps};
 ghost use Rattle.rdm_params.specs.Laws.{ChangesWhatItTells, LeavesWhatItDoesNotTell};
 ghost use Rattle.rdm_params.specs.Laws.{CommitChangesItsKey, CommitChangesItsKeys, ReadingChangesItsSensor};
 ghost use Rattle.rdm_params.specs.Laws.{CommitLeavesTheRest, FailedChangesNothing, TheTableAlone, SupportedAscend};
@@ -30,6 +31,23 @@ pub fn supported_parameters_ascend()
 pub fn set_changes_its_own_keys()
     ensures keys { ChangesItsKeys }
     ensures rest { LeavesTheRest }
+{}
+
+/// An order, which is a parameter that the profile adds with a SET alone, is told as a change each time that it is accepted: it is
+/// counted, from the start and whatever becomes of the values.
+pub fn orders_are_told()
+    ensures told { OrdersAreTold }
+    ensures counted { OrdersAreCounted }
+    ensures stays { CountsStay }
+    ensures placed { CountsStayPlaced }
+    ensures committed { CountsStayCommitted }
+    ensures changed { CountsStayChanged }
+{}
+
+/// What the lock state locks is not set, at any device, unless a job carries it out.
+pub fn locked_parameters_stay()
+    ensures refused { LockRefuses }
+    ensures kept { LockKeeps }
 {}
 
 /// A SET that tells of one value changes no other: none of another parameter, and none of another device.

@@ -29,20 +29,21 @@ pub use kind::{Kind, Verb, kind_of};
 pub use laws::{
     answers_are_equal_by_value, asks_are_equal_by_value, changes_are_equal_by_value,
     commit_changes_its_own_keys, entries_are_equal_by_value, kinds_are_equal_by_value,
-    messages_are_equal_by_value, nacks_are_equal_by_value, new_errors_are_equal_by_value,
-    outcomes_are_equal_by_value, panel_changes_its_own_key, place_errors_are_equal_by_value,
-    placing_is_setting, plain_profile_has_the_table, plates_are_equal_by_value,
-    set_changes_its_own_keys, set_changes_what_it_tells, severities_are_equal_by_value,
-    supported_parameters_ascend, told_changes_are_equal_by_value, verbs_are_equal_by_value,
-    verdicts_are_equal_by_value, works_are_equal_by_value, written_value_is_read_back,
+    locked_parameters_stay, messages_are_equal_by_value, nacks_are_equal_by_value,
+    new_errors_are_equal_by_value, orders_are_told, outcomes_are_equal_by_value,
+    panel_changes_its_own_key, place_errors_are_equal_by_value, placing_is_setting,
+    plain_profile_has_the_table, plates_are_equal_by_value, set_changes_its_own_keys,
+    set_changes_what_it_tells, severities_are_equal_by_value, supported_parameters_ascend,
+    told_changes_are_equal_by_value, verbs_are_equal_by_value, verdicts_are_equal_by_value,
+    works_are_equal_by_value, written_value_is_read_back,
 };
 pub use nack::{Nack, reason_name, reason_name_for_c};
 pub use panel::{Change, Plate};
 pub use placing::PlaceError;
 pub use rdm_device::{
-    ChoiceName, ChoiceNames, Estimates, Field, OwnParameters, ParameterDef, Personality, Profile,
-    Rights, SelfTest, SensorDef, Shape, Slot, StatusText, Unit, Value, Width, Worker, Workers,
-    write_value,
+    ChoiceName, ChoiceNames, Estimates, Field, Lock, Locks, OwnParameters, ParameterDef,
+    Particular, Particulars, Personality, Profile, Rights, SelfTest, SensorDef, Shape, Slot,
+    StatusText, Unit, Value, Width, Worker, Workers, write_value,
 };
 pub use rdm_saved::{RestoreError, SaveError};
 pub use table::names::{other_name, parameter_name, parameter_name_for_c, pid_named};

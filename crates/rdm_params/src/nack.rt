@@ -15,6 +15,8 @@ pub enum Nack {
     UnsupportedCommandClass,
     /// The parameter data isn't in the range of the command.
     DataOutOfRange,
+    /// The value can only be read now.
+    WriteProtect,
     /// There is no room for the command now.
     BufferFull,
     /// There is no such sub-device, or the command can't be given to all sub-devices at once.
@@ -31,6 +33,7 @@ impl Nack {
             Nack::FormatError => 1,
             Nack::UnsupportedCommandClass => 5,
             Nack::DataOutOfRange => 6,
+            Nack::WriteProtect => 4,
             Nack::BufferFull => 7,
             Nack::SubDeviceOutOfRange => 9,
         }

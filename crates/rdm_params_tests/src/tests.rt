@@ -2,7 +2,10 @@
 //! out by hand.
 
 use Expected::{Clear, Queue, Refuse, Reply, Start, Status};
-use Nack::{DataOutOfRange, FormatError, SubDeviceOutOfRange, UnknownPid, UnsupportedCommandClass};
+use Nack::{
+    DataOutOfRange, FormatError, SubDeviceOutOfRange, UnknownPid, UnsupportedCommandClass,
+    WriteProtect,
+};
 use Verb::{Get, Set};
 use rdm_frame::{Body, Text};
 use rdm_params::*;
@@ -10,19 +13,37 @@ use std::alloc::Global;
 use std::process::Abort;
 
 mod added;
+mod blocks;
 mod changes;
 mod choices;
 mod devices;
+mod locks;
+mod orders;
 mod panel;
 mod placing;
 mod profiles;
 mod rows;
 mod scalars;
+mod scenes;
 mod slow;
 mod standards;
 mod thresholds;
 mod values;
 mod words;
+
+/// A demonstration device with so many sub-devices, which this sets apart.
+fn set_apart(rt: &impl Abort, alloc: Global, subs: u16, particular: Particular) -> Profile {
+    let mut profile = Profile::demo(subs);
+    profile.particulars = Particulars::of(alloc, particular).expect(rt, "memory");
+    profile
+}
+
+/// A demonstration device with so many sub-devices and these parameters of its maker's own.
+fn with_own(rt: &impl Abort, alloc: Global, subs: u16, own: OwnParameters) -> Profile {
+    let mut particular = Particular::usual();
+    particular.own = own;
+    set_apart(rt, alloc, subs, particular)
+}
 
 /// What comes of a command.
 #[derive(Clone, Copy)]

@@ -157,7 +157,7 @@ impl Responder {
     }
 
     /// A responder as of `new_numbered`, of a profile that has its place already: for a caller with little stack, since a profile
-    /// has 4,800 bytes.
+    /// has 4,688 bytes.
     pub fn new_boxed(
         alloc: Global,
         uid: Uid,

@@ -26,4 +26,4 @@ words_size (n ∷ ns) = omega (arith, length-append (word_slots n) (flat_map wor
 -- how many bytes it has
 pub text_size : (p : Profile) → length (profile_text p) ≡ profile_size p
 text_size p =
-    omega (arith, length-append (devices_text p) (flat_map own_text p.own ++ flat_map word_slots p.without.items), length-append (flat_map own_text p.own) (flat_map word_slots p.without.items), own_size p.own, words_size p.without.items)
+    omega (arith, length-append (devices_text p) (flat_map own_text p.particulars.own ++ flat_map word_slots p.particulars.without.items), length-append (flat_map own_text p.particulars.own) (flat_map word_slots p.particulars.without.items), own_size p.particulars.own, words_size p.particulars.without.items)

@@ -222,7 +222,7 @@ restored_is p d d' o o' ds ds' image bytes e root added subs =
     (subs ∙ ap (restored_devices (map common_entries ds)) (ap (drop k) e ∙ drop_drop m k image ∙ ap (λ (x : ℕ). drop x image) behind))
 
 -- an image of another length
-pub other_length : (p : Profile) (d : CommonValues) (o : RootValues) (ds : List CommonValues) (image : List ℕ) → (length image == 82 + 4 * length p.own + 2 * length p.without.items + 2 * length o.sensors.items + 33 * length o.added.items + 46 * length ds) ≡ false → Some Length ≡ restore_refusal (kept p d o ds) image
+pub other_length : (p : Profile) (d : CommonValues) (o : RootValues) (ds : List CommonValues) (image : List ℕ) → (length image == 82 + 4 * length p.particulars.own + 2 * length p.particulars.without.items + 2 * length o.sensors.items + 33 * length o.added.items + 46 * length ds) ≡ false → Some Length ≡ restore_refusal (kept p d o ds) image
 unfolding restore_refusal
 other_length p d o ds image e =
     let test : (length image == saved_len (kept p d o ds)) ≡ false = ap (λ (n : ℕ). length image == n) (len_is p d o ds) ∙ e in

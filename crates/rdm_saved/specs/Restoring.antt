@@ -56,7 +56,7 @@ added_size es = 33 * length es
 
 -- how many bytes say the profile
 abbrev pub profile_size : Profile → ℕ
-profile_size p = 17 + 4 * length p.own + 2 * length p.without.items
+profile_size p = 17 + 4 * length p.particulars.own + 2 * length p.particulars.without.items
 
 -- how many bytes the image of these values has
 abbrev pub saved_len : Parameters → ℕ

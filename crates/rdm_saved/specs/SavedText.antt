@@ -52,7 +52,7 @@ own_text d = word_slots d.pid ++ data_type_of d.shape ∷ size_of d.shape ∷ []
 -- What an image says of the profile, so that one of another profile is told: its devices, the parameters that the maker adds,
 -- and the PIDs that are left out.
 abbrev pub profile_text : Profile → List ℕ
-profile_text p = devices_text p ++ flat_map own_text p.own ++ flat_map word_slots p.without.items
+profile_text p = devices_text p ++ flat_map own_text p.particulars.own ++ flat_map word_slots p.particulars.without.items
 
 -- the sum of bytes, in four
 abbrev pub sum_text : List ℕ → List ℕ

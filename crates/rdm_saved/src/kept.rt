@@ -139,7 +139,7 @@ fn is_sound(image: &[u8]) -> bool
 
 /// How many bytes an image has, or `usize::MAX` if they are more.
 fn image_len(profile: &Profile, own: &RootValues, subs: &[CommonValues]) -> usize
-    ensures { result ≡ min (82 + 4 * length profile.now.own + 2 * length profile.now.without.items
+    ensures { result ≡ min (82 + 4 * length profile.now.particulars.own + 2 * length profile.now.particulars.without.items
         + 2 * length own.now.sensors.items + 33 * length own.now.added.items + 46 * length subs.now) usize.MAX }
 {
     let fixed = profile_len(profile) + COMMON_BYTES + OWN_BYTES + 2 * own.sensors.len() + SUM_BYTES;
@@ -157,7 +157,7 @@ fn write_image(
     subs: &[CommonValues],
     out: &mut [u8],
 )
-    requires { length out.old ≡ 82 + 4 * length profile.now.own + 2 * length profile.now.without.items
+    requires { length out.old ≡ 82 + 4 * length profile.now.particulars.own + 2 * length profile.now.particulars.without.items
         + 2 * length own.now.sensors.items + 33 * length own.now.added.items + 46 * length subs.now }
     ensures text { out.new ≡ saved_text (kept profile.now root.now own.now subs.now) }
     ensures whole { IsWhole (common_entries root.now ++ own_entries own.now) × AreTexts (added_entries own.now.added.items)
@@ -177,7 +177,7 @@ fn write_values(
     subs: &[CommonValues],
     out: &mut [u8],
 )
-    requires { length out.old ≡ 78 + 4 * length profile.now.own + 2 * length profile.now.without.items
+    requires { length out.old ≡ 78 + 4 * length profile.now.particulars.own + 2 * length profile.now.particulars.without.items
         + 2 * length own.now.sensors.items + 33 * length own.now.added.items + 46 * length subs.now }
     ensures text { out.new ≡ values_text (kept profile.now root.now own.now subs.now) }
     ensures whole { IsWhole (common_entries root.now ++ own_entries own.now) × AreTexts (added_entries own.now.added.items)

@@ -17,7 +17,7 @@ pub(crate) fn profile_len(profile: &Profile) -> usize
     ensures size { result ≡ profile_size profile.now }
     ensures few { result ≤ 231 }
 {
-    DEVICES_BYTES + 4 * profile.own.as_slice().len() + 2 * profile.without.len()
+    DEVICES_BYTES + 4 * profile.particulars.own().len() + 2 * profile.particulars.without().len()
 }
 
 /// What an image says of the profile.
@@ -26,8 +26,8 @@ pub(crate) fn profile_text(profile: &Profile) -> Body
 {
     let mut text = Body::new();
     text.append(&devices_text(profile));
-    append_own(profile.own.as_slice(), &mut text);
-    append_without(profile.without.as_slice(), &mut text);
+    append_own(profile.particulars.own(), &mut text);
+    append_without(profile.particulars.without(), &mut text);
     text
 }
 

@@ -1,6 +1,8 @@
 //! What no clause says: that the definitions say what is meant. The images are worked out by hand.
 
-use rdm_device::{CommonValues, OwnParameters, ParameterDef, Profile, RootValues, Shape};
+use rdm_device::{
+    CommonValues, OwnParameters, ParameterDef, Particular, Particulars, Profile, RootValues, Shape,
+};
 use rdm_frame::Text;
 use rdm_saved::{RestoreError, SaveError, restore, save_into};
 use std::alloc::Global;
@@ -239,8 +241,10 @@ fn with_own(rt: &impl Abort, alloc: Global, pid: u16) -> Fixture {
     def.start = Text::of(&[0x15, 0xE0]);
     let mut own = OwnParameters::none();
     own.push(alloc, def).expect(rt, "memory");
-    profile.own = own;
-    assert!(rt; profile.without.try_push(0x0402).is_ok());
+    let mut particular = Particular::usual();
+    particular.own = own;
+    assert!(rt; particular.without.try_push(0x0402).is_ok());
+    profile.particulars = Particulars::of(alloc, particular).expect(rt, "memory");
     Fixture::at_start(rt, alloc, profile)
 }
 

@@ -59,10 +59,10 @@ retraced s t w finds events P h =
 -- what hangs on the dialect alone
 retold : (P : Dialect → Type 0) (s t : Scene) → IsWider s t → P (spoken_at s) → P (spoken_at t)
 retold P s t w h =
-    let own = s.profile.own in
+    let own = s.profile.particulars.own in
     let at_device = subst (λ (d : Uid). P (record { device = d; spelling = s.spelling; own = own })) w.device h in
     let at_spelling = subst (λ (k : Spelling). P (record { device = t.device; spelling = k; own = own })) w.spelling at_device in
-    subst (λ (p : Profile). P (record { device = t.device; spelling = t.spelling; own = p.own })) w.profile at_spelling
+    subst (λ (p : Profile). P (record { device = t.device; spelling = t.spelling; own = p.particulars.own })) w.profile at_spelling
 
 answers_wider : (f g : Job → Outcome → Type 0) → ((j : Job) (o : Outcome) → f j o → g j o) → (js : List Job) (rs : List Report) → Answers f js rs → Answers g js rs
 answers_wider f g wider js [] h = tt

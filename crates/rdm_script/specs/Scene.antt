@@ -32,4 +32,4 @@ scene_of gives_0 gives_1 offers stage = record {
 
 -- the dialect of the scripts of a scene
 abbrev pub spoken_at : Scene → Dialect
-spoken_at scene = record { device = scene.device; spelling = scene.spelling; own = scene.profile.own }
+spoken_at scene = record { device = scene.device; spelling = scene.spelling; own = scene.profile.particulars.own }

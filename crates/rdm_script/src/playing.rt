@@ -101,7 +101,7 @@ where
     let dialect = Dialect {
         device: stage.device,
         spelling: stage.spelling,
-        own: stage.profile.own.as_slice(),
+        own: stage.profile.particulars.own(),
     };
     let script = parse_as(alloc, &dialect, text)?;
     let finds = finds_of(stage.spelling, text);

@@ -1,5 +1,6 @@
 //! The words of parameter data: what their slots are, and how each is said.
 
+pub(crate) mod added;
 pub(crate) mod form;
 pub(crate) mod known;
 pub(crate) mod layout;
@@ -9,4 +10,5 @@ pub(crate) mod own;
 pub(crate) mod records;
 pub(crate) mod sensors;
 pub(crate) mod statuses;
+pub(crate) mod times;
 pub(crate) mod values;

@@ -4,15 +4,17 @@ ghost use Rattle.std.specs.Prelude.{◌≡◌, ℕ, List, ◌++◌, OnOk, string
 ghost use Rattle.rdm_words.specs.FixtureWords.{SaysFixture, uid_line, model_words, subs_line};
 ghost use Rattle.rdm_words.specs.Plain.{IsPlain};
 
+mod added;
 mod slow;
 
-use crate::data::own::{put_added, put_choice_name};
+use crate::Known;
 use crate::data::sensors::put_range;
 use crate::tables::parameters::parameter;
 use crate::tables::products::PRODUCT_CATEGORIES;
 use crate::tables::sensors::{SENSOR_TYPES, SENSOR_UNITS, UNIT_PREFIXES};
 use crate::tables::slots::{SLOT_LABELS, SLOT_TYPES};
 use crate::text::put_shown;
+use added::{put_added, put_choice_name, put_lock};
 use rdm_device::{Profile, SensorDef, Slot, Unit};
 use rdm_frame::digits::put_digits;
 use rdm_frame::{Text, Uid};
@@ -223,22 +225,25 @@ fn put_rest(text: &mut String, profile: &Profile) -> Result<(), AllocError> {
     writeln!(text, "  boot software version {boot:08X}, \"{version}\"")
 }
 
-/// The slots that aren't described, the parameters that the fixture adds with what the things are called of which one is chosen, unusual
-/// times and workers of slow commands, and the parameters of the standard that it lacks.
+/// The slots that aren't described, the parameters that the fixture adds with what the things are called of which one is chosen and what
+/// locks keep from being set, unusual times and workers of slow commands, and the parameters of the standard that it lacks.
 fn put_own_parts(text: &mut String, profile: &Profile) -> Result<(), AllocError> {
-    let more = profile.more_slots;
+    let more = profile.particulars.more_slots();
     if more > 0 {
         writeln!(text, "  {more} slots more than those above")?;
     }
-    for def in profile.own.as_slice() {
+    for def in profile.particulars.own() {
         put_added(text, def)?;
     }
-    for name in profile.choices.as_slice() {
+    for name in profile.particulars.choices() {
         put_choice_name(text, name)?;
     }
-    put_estimates(text, &profile.estimates)?;
+    for lock in profile.particulars.locks() {
+        put_lock(text, *lock, &Known::whose(profile))?;
+    }
+    put_estimates(text, &profile.particulars.estimates())?;
     put_workers(text, &profile.workers)?;
-    for pid in profile.without.iter() {
+    for pid in profile.particulars.without() {
         let name = parameter(*pid).unwrap_or("parameter");
         writeln!(text, "  no {name} ({pid:04X})")?;
     }

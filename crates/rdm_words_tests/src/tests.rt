@@ -7,6 +7,7 @@ mod requests;
 mod responses;
 mod short;
 mod slow;
+mod standards;
 mod texts;
 
 use rdm_device::Profile;

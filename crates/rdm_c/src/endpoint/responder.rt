@@ -3,6 +3,7 @@
 ghost use Rattle.std.specs.Prelude.{◌≡◌, ◌≢◌, ◌↔◌, IfSome, IsSomeAnd, None, false, length, is_some};
 ghost use Rattle.std.specs.Option.{option_map};
 ghost use Rattle.rdm_frame.specs.Reading.{frame_in};
+ghost use Rattle.rdm_device.specs.Device.Map.{value_at};
 ghost use Rattle.rdm_params.specs.Commands.Changed.{change_of};
 ghost use Rattle.rdm_params.specs.Commands.Commands.{got};
 ghost use Rattle.rdm_outbox.specs.Jobs.{has_place, outstanding_count, waiting_of};
@@ -14,7 +15,7 @@ ghost use Rattle.rdm_responder.specs.StandsFor.{StandsFor};
 ghost use Rattle.rdm_c.specs.Changes.{change_in, IsPlainly};
 ghost use Rattle.rdm_c.specs.Jobs.{numbers_of, started_in};
 ghost use Rattle.rdm_c.specs.Statuses.{code_of};
-ghost use Rattle.rdm_c.specs.Endpoints.{changed, GetTold, IsFor, found, flag, is_noted, is_responder, told};
+ghost use Rattle.rdm_c.specs.Endpoints.{changed, GetTold, IsFor, KeptTold, found, flag, is_noted, is_responder, told};
 
 use crate::endpoint::{Endpoint, RunningResponder};
 use crate::front::write_front;
@@ -189,6 +190,29 @@ pub(crate) fn get(
         Verdict::Start(_) | Verdict::Queue(_) | Verdict::Status(_) | Verdict::Clear => {
             Status::NoValue
         }
+    }
+}
+
+/// Writes what is kept of a parameter that the profile adds to the front, if there is one.
+pub(crate) fn own_value(
+    endpoint: &Endpoint,
+    pid: u16,
+    value: &mut [u8; MOST_DATA],
+    count: &mut usize,
+) -> Status
+    ensures told { (h : History) → IsFor endpoint.now h →
+        KeptTold (code_of result) count.new value.new (value_at (account_of h).parameters.added pid) }
+    ensures absent { (result ≡ Status.Absent) ↔ (is_responder endpoint.now ≡ false) }
+{
+    let Endpoint::Responder(running) = endpoint else {
+        return Status::Absent;
+    };
+    match running.responder.devices().own_value(pid) {
+        Some(bytes) => {
+            *count = write_front(bytes, value);
+            Status::Done
+        }
+        None => Status::NotStored,
     }
 }
 

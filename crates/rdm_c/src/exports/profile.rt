@@ -4,7 +4,7 @@ ghost use Rattle.std.specs.Prelude.{◌≡◌, ◌↔◌, ◌≤◌, [], IfSome,
 ghost use Rattle.rdm_device.specs.Device.Faults.{IsFirstBroken};
 ghost use Rattle.rdm_device.specs.Device.Profiles.{CanBeMade};
 ghost use Rattle.rdm_c.specs.Faults.{fault_in};
-ghost use Rattle.rdm_c.specs.Profiles.{profile_in};
+ghost use Rattle.rdm_c.specs.Profiles.{particular_in, profile_in};
 
 use crate::profile::ProfileNumbers;
 use crate::profile::making::fault_of;
@@ -22,10 +22,10 @@ pub extern "C" fn felosumay_profile_fault_nonnull(
 ) -> u8
     ensures good { (result ≡ 0) ↔ CanBeMade (profile_in profile.now parameters.now without.now choices.now) }
     ensures broken { IfSome (fault_in result) (λ fault. IsFirstBroken fault (profile_in profile.now parameters.now without.now choices.now)) }
-    ensures numbers { result ≤ 20 }
-    ensures no_parameters { length parameters.now ≡ 0 → (profile_in profile.now parameters.now without.now choices.now).own ≡ [] }
-    ensures none_left_out { length without.now ≡ 0 → (profile_in profile.now parameters.now without.now choices.now).without.items ≡ [] }
-    ensures no_names { length choices.now ≡ 0 → (profile_in profile.now parameters.now without.now choices.now).choices ≡ [] }
+    ensures numbers { result ≤ 21 }
+    ensures no_parameters { length parameters.now ≡ 0 → (particular_in profile.now parameters.now without.now choices.now).own ≡ [] }
+    ensures none_left_out { length without.now ≡ 0 → (particular_in profile.now parameters.now without.now choices.now).without.items ≡ [] }
+    ensures no_names { length choices.now ≡ 0 → (particular_in profile.now parameters.now without.now choices.now).choices ≡ [] }
 {
     match fault_of(profile, parameters, without, choices) {
         None => 0,
@@ -49,5 +49,6 @@ pub extern "C" fn felosumay_profile_fault_nonnull(
         Some(ProfileFault::ParameterFields) => 18,
         Some(ProfileFault::ParameterStandard) => 19,
         Some(ProfileFault::ParameterNames) => 20,
+        Some(ProfileFault::ParameterLocks) => 21,
     }
 }

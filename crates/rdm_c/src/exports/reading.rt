@@ -1,15 +1,16 @@
 //! What C reads of a responder.
 
 ghost use Rattle.std.specs.Prelude.{◌≡◌, ◌↔◌, false, length};
+ghost use Rattle.rdm_device.specs.Device.Map.{value_at};
 ghost use Rattle.rdm_params.specs.Commands.Commands.{got};
 ghost use Rattle.rdm_outbox.specs.Jobs.{has_place, outstanding_count, waiting_of};
 ghost use Rattle.rdm_responder.specs.History.{History};
 ghost use Rattle.rdm_responder.specs.Rules.{account_of};
 ghost use Rattle.rdm_responder.specs.Runs.{outbox_of};
 ghost use Rattle.rdm_c.specs.Statuses.{code_of};
-ghost use Rattle.rdm_c.specs.Endpoints.{HeldFor, GetTold, found, flag, holds_responder};
+ghost use Rattle.rdm_c.specs.Endpoints.{HeldFor, GetTold, KeptTold, found, flag, holds_responder};
 
-use crate::endpoint::responder::{get, outstanding, room, waiting};
+use crate::endpoint::responder::{get, outstanding, own_value, room, waiting};
 use crate::handle::Handle;
 use crate::keeping::{put, take};
 use crate::status::Status;
@@ -39,6 +40,30 @@ pub extern "C" fn felosumay_responder_get_nonnull(
         return Status::Absent.code();
     };
     let status = get(&endpoint, sub, pid, argument, value, count, reason);
+    put(responder, endpoint);
+    status.code()
+}
+
+/// Reads what is kept of a parameter that the profile adds, of the root, whichever commands it has: the data of an order, which no GET
+/// reads. They stand at the front of `value`, and `count` says how many bytes they have. If the profile adds no such parameter, nothing
+/// is stored of it.
+#[unsafe(no_mangle)]
+pub extern "C" fn felosumay_responder_own_value(
+    alloc: Global,
+    responder: &mut Handle,
+    pid: u16,
+    value: &mut [u8; MOST_DATA],
+    count: &mut usize,
+) -> u8
+    ensures told { (h : History) → HeldFor responder.old.held h →
+        KeptTold result count.new value.new (value_at (account_of h).parameters.added pid) }
+    ensures absent { (result ≡ code_of Status.Absent) ↔ (holds_responder responder.old.held ≡ false) }
+    ensures same { responder.new.held ≡ responder.old.held }
+{
+    let Some(endpoint) = take(alloc, responder) else {
+        return Status::Absent.code();
+    };
+    let status = own_value(&endpoint, pid, value, count);
     put(responder, endpoint);
     status.code()
 }

@@ -1,17 +1,17 @@
 //! The lists of a profile, each written in its place. Each has at most as many elements as its array.
 
 ghost use Rattle.std.specs.Prelude.{◌≡◌, ◌≤◌, IfOk, length, map};
-ghost use Rattle.rdm_c.specs.Parameters.{choice_in, parameter_in};
+ghost use Rattle.rdm_c.specs.Parameters.{choice_in, lock_in, parameter_in};
 ghost use Rattle.rdm_c.specs.Profiles.{personality_in, slot_in, sensor_in, test_in, status_text_in};
 
-use crate::profile::parameters::{ChoiceNumbers, ParameterNumbers};
+use crate::profile::parameters::{ChoiceNumbers, LockNumbers, ParameterNumbers};
 use crate::profile::{
     PersonalityNumbers, SelfTestNumbers, SensorNumbers, SlotNumbers, StatusTextNumbers,
 };
 use arrayvec::ArrayVec;
 use rdm_params::{
-    ChoiceName, ChoiceNames, OwnParameters, ParameterDef, Personality, SelfTest, SensorDef, Slot,
-    StatusText,
+    ChoiceName, ChoiceNames, Lock, Locks, OwnParameters, ParameterDef, Personality, SelfTest,
+    SensorDef, Slot, StatusText,
 };
 use std::alloc::{AllocError, Global};
 
@@ -90,8 +90,8 @@ pub(super) fn pids(pids: &[u16], list: &mut ArrayVec<u16, 36>)
 
 /// The parameters of the maker's own, without memory.
 #[inline(never)]
-pub(super) fn parameters(entries: &[ParameterNumbers], list: &mut ArrayVec<ParameterDef, 16>)
-    requires { length entries.now ≤ 16 }
+pub(super) fn parameters(entries: &[ParameterNumbers], list: &mut ArrayVec<ParameterDef, 32>)
+    requires { length entries.now ≤ 32 }
     ensures { list.new.items ≡ map parameter_in entries.now }
 {
     list.clear();
@@ -112,15 +112,26 @@ pub(super) fn choices(entries: &[ChoiceNumbers], list: &mut ArrayVec<ChoiceName,
     }
 }
 
-/// The same of the parameters, as a profile keeps them.
+/// The locks, without memory.
+pub(super) fn locks(entries: &[LockNumbers], list: &mut ArrayVec<Lock, 64>)
+    requires { length entries.now ≤ 64 }
+    ensures { list.new.items ≡ map lock_in entries.now }
+{
+    list.clear();
+    for entry in entries {
+        list.push(entry.lock());
+    }
+}
+
+/// The same of the parameters, as a profile keeps them: in one block.
 pub(super) fn own_parameters(
     alloc: Global,
     entries: &[ParameterNumbers],
 ) -> Result<OwnParameters, AllocError>
-    requires { length entries.now ≤ 16 }
+    requires { length entries.now ≤ 32 }
     ensures { IfOk result (λ own. own ≡ map parameter_in entries.now) }
 {
-    let mut own = OwnParameters::none();
+    let mut own = OwnParameters::with_room(alloc, entries.len())?;
     for entry in entries {
         own.push(alloc, entry.parameter())?;
     }
@@ -140,4 +151,16 @@ pub(super) fn choice_names(
         names.push(alloc, entry.choice())?;
     }
     Ok(names)
+}
+
+/// The locks, as a profile keeps them.
+pub(super) fn profile_locks(alloc: Global, entries: &[LockNumbers]) -> Result<Locks, AllocError>
+    requires { length entries.now ≤ 64 }
+    ensures { IfOk result (λ locks. locks ≡ map lock_in entries.now) }
+{
+    let mut locks = Locks::none();
+    for entry in entries {
+        locks.push(alloc, entry.lock())?;
+    }
+    Ok(locks)
 }

@@ -1,24 +1,25 @@
-//! Profiles made of numbers. A profile is large, so each function here that has one on the stack returns before the next is called,
-//! and what it calls takes little.
+//! Profiles made of numbers. A profile is large, and so is a list of parameters, so each function here that has one of them on the stack
+//! returns before that with the other is called, and what it calls takes little.
 
-ghost use Rattle.std.specs.Prelude.{◌≡◌, ◌↔◌, ◌<◌, ◌≤◌, List, None, IfSome, IsTrue, length, map};
+ghost use Rattle.std.specs.Prelude.{◌≡◌, ◌↔◌, ◌<◌, ◌≤◌, List, None, IfOk, IfSome, IsTrue, length, map};
 ghost use Rattle.rdm_device.specs.Device.Demo.{demo};
 ghost use Rattle.rdm_device.specs.declared.profile.faults.ProfileFault.TheVariants.{ParameterNames};
-ghost use Rattle.rdm_device.specs.Device.Faults.{IsFirstBroken, KeepsBefore, with_parameters};
-ghost use Rattle.rdm_device.specs.Device.Profiles.{Agree, CanBeMade};
-ghost use Rattle.rdm_c.specs.Parameters.{choice_in, parameter_in};
-ghost use Rattle.rdm_c.specs.Profiles.{profile_in};
+ghost use Rattle.rdm_device.specs.Device.Faults.{IsFirstBroken, KeepsBefore, KeepsLeftOut};
+ghost use Rattle.rdm_device.specs.Device.Particulars.{usual_particular};
+ghost use Rattle.rdm_device.specs.Device.Profiles.{Agree, AreGoodParameters, CanBeMade, HaveStates};
+ghost use Rattle.rdm_c.specs.Parameters.{choice_in, lock_in, parameter_in, HasOwn};
+ghost use Rattle.rdm_c.specs.Profiles.{particular_in, profile_in};
 
-use crate::profile::parameters::{ChoiceNumbers, ParameterNumbers};
+use crate::profile::parameters::{ChoiceNumbers, LockNumbers, ParameterNumbers};
 use crate::profile::{ProfileNumbers, lists};
 use arrayvec::ArrayVec;
-use rdm_device::{ProfileFault, agree, profile_fault, profile_fault_with};
+use rdm_device::{ProfileFault, agree, have_states, own_fault, profile_fault, profile_fault_with};
 use rdm_frame::Text;
-use rdm_params::{ChoiceName, ParameterDef, Profile, Unit};
-use std::alloc::Global;
+use rdm_params::{ParameterDef, Particular, Particulars, Profile, Unit};
+use std::alloc::{AllocError, Global};
 
 /// How many parameters of the maker's own there can be.
-const MOST_OWN: usize = 16;
+const MOST_OWN: usize = 32;
 
 /// How many names of choices there can be.
 const MOST_CHOICES: usize = 64;
@@ -32,25 +33,44 @@ pub(crate) fn boxed(
     without: &[u16],
     choices: &[ChoiceNumbers],
 ) -> Option<Box<Profile>>
-    requires own { length parameters.now ≤ 16 }
+    requires own { length parameters.now ≤ 32 }
     requires without { length without.now ≤ 36 }
     requires choices { length choices.now ≤ 64 }
     ensures { IfSome result (λ boxed. boxed.value ≡ profile_in numbers.now parameters.now without.now choices.now) }
 {
-    let Ok(own) = lists::own_parameters(alloc, parameters) else {
-        return None;
-    };
-    let Ok(choices) = lists::choice_names(alloc, choices) else {
+    let Ok(particulars) = particulars(alloc, numbers, parameters, without, choices) else {
         return None;
     };
     let Ok(mut boxed) = Box::new(alloc, blank()) else {
         return None;
     };
     numbers.write(&mut boxed);
-    lists::pids(without, &mut boxed.without);
-    boxed.own = own;
-    boxed.choices = choices;
+    boxed.particulars = particulars;
     Some(boxed)
+}
+
+/// What sets the profile of these numbers apart.
+#[inline(never)]
+fn particulars(
+    alloc: Global,
+    numbers: &ProfileNumbers,
+    parameters: &[ParameterNumbers],
+    without: &[u16],
+    choices: &[ChoiceNumbers],
+) -> Result<Particulars, AllocError>
+    requires own { length parameters.now ≤ 32 }
+    requires without { length without.now ≤ 36 }
+    requires choices { length choices.now ≤ 64 }
+    ensures { IfOk result (λ made. made ≡ particular_in numbers.now parameters.now without.now choices.now) }
+{
+    let mut particular = Particular::usual();
+    particular.own = lists::own_parameters(alloc, parameters)?;
+    particular.choices = lists::choice_names(alloc, choices)?;
+    particular.locks = lists::profile_locks(alloc, numbers.lock_entries())?;
+    lists::pids(without, &mut particular.without);
+    particular.more_slots = numbers.more_slots;
+    particular.estimates = numbers.estimates.estimates();
+    Particulars::of(alloc, particular)
 }
 
 /// The demonstration fixture's profile on the heap, if there is memory for it.
@@ -75,101 +95,116 @@ pub(crate) fn fault_of(
 ) -> Option<ProfileFault>
     ensures good { (result ≡ None) ↔ CanBeMade (profile_in numbers.now parameters.now without.now choices.now) }
     ensures first { IfSome result (λ fault. IsFirstBroken fault (profile_in numbers.now parameters.now without.now choices.now)) }
-    ensures own { result ≡ None → length parameters.now ≤ 16 }
+    ensures own { result ≡ None → length parameters.now ≤ 32 }
     ensures without { result ≡ None → length without.now ≤ 36 }
     ensures choices { result ≡ None → length choices.now ≤ 64 }
 {
-    if parameters.len() > MOST_OWN {
-        return Some(fault_with_many(numbers, without));
-    }
-    match fault_but_names(numbers, parameters, without) {
+    match fault_but_own(numbers, without) {
         Some(fault) => Some(fault),
-        None => fault_of_names(parameters, choices),
+        None => fault_of_own(parameters, choices, numbers.lock_entries()),
     }
 }
 
-/// The rule of names, if it is broken.
-fn fault_of_names(
-    parameters: &[ParameterNumbers],
-    choices: &[ChoiceNumbers],
-) -> Option<ProfileFault>
-    requires { length parameters.now ≤ 16 }
-    ensures good { (result ≡ None) ↔ Agree (map parameter_in parameters.now) (map choice_in choices.now) }
-    ensures rule { IfSome result (λ fault. fault ≡ ParameterNames) }
-    ensures few { result ≡ None → length choices.now ≤ 64 }
-{
-    if choices.len() <= MOST_CHOICES && have_names(parameters, choices) {
-        None
-    } else {
-        Some(ProfileFault::ParameterNames)
-    }
-}
-
-/// The first rule but that of names which the profile breaks.
+/// The first rule that the profile breaks, of those that don't speak of parameters of the maker's own.
 #[inline(never)]
-fn fault_but_names(
-    numbers: &ProfileNumbers,
-    parameters: &[ParameterNumbers],
-    without: &[u16],
-) -> Option<ProfileFault>
-    requires { length parameters.now ≤ 16 }
-    ensures first { (choices : List ChoiceNumbers) →
-        IfSome result (λ fault. IsFirstBroken fault (profile_in numbers.now parameters.now without.now choices)) }
-    ensures none { (choices : List ChoiceNumbers) → result ≡ None →
-        KeepsBefore ParameterNames (profile_in numbers.now parameters.now without.now choices) }
+fn fault_but_own(numbers: &ProfileNumbers, without: &[u16]) -> Option<ProfileFault>
+    ensures first { (parameters : List ParameterNumbers) (choices : List ChoiceNumbers) →
+        IfSome result (λ fault. IsFirstBroken fault (profile_in numbers.now parameters without.now choices)) }
+    ensures none { (parameters : List ParameterNumbers) (choices : List ChoiceNumbers) → result ≡ None →
+        KeepsLeftOut (profile_in numbers.now parameters without.now choices) }
 {
     let mut others = blank();
     numbers.write(&mut others);
-    let mut own = ArrayVec::new();
-    lists::parameters(parameters, &mut own);
-    let fault = profile_fault_with(&others, without, own.as_slice(), &[])?;
-    if is_of_names(fault) {
-        return None;
-    }
-    Some(fault)
+    profile_fault_with(&others, numbers.more_slots, without, &[], &[])
 }
 
-/// Whether a fault is that of names.
-fn is_of_names(fault: ProfileFault) -> bool
-    ensures { IsTrue result ↔ (fault ≡ ParameterNames) }
+/// The first rule of parameters of the maker's own that these break, with their names and locks.
+fn fault_of_own(
+    parameters: &[ParameterNumbers],
+    choices: &[ChoiceNumbers],
+    locks: &[LockNumbers],
+) -> Option<ProfileFault>
+    requires { length locks.now ≤ 64 }
+    ensures good { (result ≡ None) ↔ (AreGoodParameters (map parameter_in parameters.now) (map choice_in choices.now)
+        × HaveStates (map parameter_in parameters.now) (map lock_in locks.now)) }
+    ensures first { (p : Profile) → HasOwn p (map parameter_in parameters.now) (map choice_in choices.now) (map lock_in locks.now)
+        → KeepsLeftOut p → IfSome result (λ fault. IsFirstBroken fault p) }
 {
-    matches!(fault, ProfileFault::ParameterNames)
+    if parameters.len() > MOST_OWN {
+        return Some(ProfileFault::ParameterCount);
+    }
+    fault_of_few(parameters, choices, locks)
+}
+
+/// The same of no more than there can be.
+#[inline(never)]
+fn fault_of_few(
+    parameters: &[ParameterNumbers],
+    choices: &[ChoiceNumbers],
+    locks: &[LockNumbers],
+) -> Option<ProfileFault>
+    requires own { length parameters.now ≤ 32 }
+    requires locks { length locks.now ≤ 64 }
+    ensures good { (result ≡ None) ↔ (AreGoodParameters (map parameter_in parameters.now) (map choice_in choices.now)
+        × HaveStates (map parameter_in parameters.now) (map lock_in locks.now)) }
+    ensures first { (p : Profile) → HasOwn p (map parameter_in parameters.now) (map choice_in choices.now) (map lock_in locks.now)
+        → KeepsLeftOut p → IfSome result (λ fault. IsFirstBroken fault p) }
+{
+    let mut own = ArrayVec::new();
+    lists::parameters(parameters, &mut own);
+    match own_fault(own.as_slice()) {
+        Some(fault) => Some(fault),
+        None => fault_beside(own.as_slice(), choices, locks),
+    }
+}
+
+/// The first rule that is broken by the names and the locks that go with these parameters.
+fn fault_beside(
+    own: &[ParameterDef],
+    choices: &[ChoiceNumbers],
+    locks: &[LockNumbers],
+) -> Option<ProfileFault>
+    requires { length locks.now ≤ 64 }
+    ensures good { (result ≡ None) ↔ (Agree own.now (map choice_in choices.now) × HaveStates own.now (map lock_in locks.now)) }
+    ensures first { (p : Profile) → HasOwn p own.now (map choice_in choices.now) (map lock_in locks.now) → KeepsBefore ParameterNames p
+        → IfSome result (λ fault. IsFirstBroken fault p) }
+{
+    if !have_names(own, choices) {
+        return Some(ProfileFault::ParameterNames);
+    }
+    if !have_locks(own, locks) {
+        return Some(ProfileFault::ParameterLocks);
+    }
+    None
 }
 
 /// Whether each thing that can be chosen has its name, and each name its thing.
-#[inline(never)]
-fn have_names(parameters: &[ParameterNumbers], choices: &[ChoiceNumbers]) -> bool
-    requires own { length parameters.now ≤ 16 }
-    requires choices { length choices.now ≤ 64 }
-    ensures { IsTrue result ↔ Agree (map parameter_in parameters.now) (map choice_in choices.now) }
+fn have_names(own: &[ParameterDef], choices: &[ChoiceNumbers]) -> bool
+    ensures { IsTrue result ↔ Agree own.now (map choice_in choices.now) }
 {
-    let mut own = ArrayVec::new();
-    lists::parameters(parameters, &mut own);
+    choices.len() <= MOST_CHOICES && have_few_names(own, choices)
+}
+
+/// The same of no more names than there can be.
+#[inline(never)]
+fn have_few_names(own: &[ParameterDef], choices: &[ChoiceNumbers]) -> bool
+    requires { length choices.now ≤ 64 }
+    ensures { IsTrue result ↔ Agree own.now (map choice_in choices.now) }
+{
     let mut names = ArrayVec::new();
     lists::choices(choices, &mut names);
-    agree(own.as_slice(), names.as_slice())
+    agree(own, names.as_slice())
 }
 
-/// The first rule that the profile breaks, if there are more parameters of the maker's own than there can be.
+/// Whether each lock is of a state that there is.
 #[inline(never)]
-fn fault_with_many(numbers: &ProfileNumbers, without: &[u16]) -> ProfileFault
-    ensures { (parameters : List ParameterNumbers) (choices : List ChoiceNumbers) → 16 < length parameters →
-        IsFirstBroken result (profile_in numbers.now parameters without.now choices) }
+fn have_locks(own: &[ParameterDef], locks: &[LockNumbers]) -> bool
+    requires { length locks.now ≤ 64 }
+    ensures { IsTrue result ↔ HaveStates own.now (map lock_in locks.now) }
 {
-    let mut others = blank();
-    numbers.write(&mut others);
-    fault_of_many(&others, without)
-}
-
-/// The first rule that a profile breaks which has more parameters of the maker's own than there can be.
-#[tactic(auto, using(crate::proofs::Many::still_first, crate::proofs::Many::count_first))]
-fn fault_of_many(others: &Profile, without: &[u16]) -> ProfileFault
-    ensures { (own : List ParameterDef) (choices : List ChoiceName) → 16 < length own → IsFirstBroken result (with_parameters others.now without.now own choices) }
-{
-    match profile_fault_with(others, without, &[], &[]) {
-        Some(fault) => fault,
-        None => ProfileFault::ParameterCount,
-    }
+    let mut list = ArrayVec::new();
+    lists::locks(locks, &mut list);
+    have_states(own, list.as_slice())
 }
 
 /// The first rule that the demonstration fixture's profile breaks, as `fault_of`.
@@ -182,7 +217,9 @@ pub(crate) fn fault_of_demo(subs: u16) -> Option<ProfileFault>
 
 /// A profile in which nothing is said yet.
 #[inline(always)]
-fn blank() -> Profile {
+fn blank() -> Profile
+    ensures { result.particulars ≡ usual_particular }
+{
     Profile::of(blank_unit(), blank_unit(), 0)
 }
 

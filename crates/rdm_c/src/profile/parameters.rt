@@ -2,11 +2,11 @@
 
 ghost use Rattle.std.specs.Prelude.{◌≡◌, ◌≤◌, length, map};
 ghost use Rattle.std.specs.List.{list_all};
-ghost use Rattle.rdm_c.specs.Parameters.{parameter_in, rights_in, shape_in, shape_of, width_in, has_width, has_widths, field_in, choice_in};
+ghost use Rattle.rdm_c.specs.Parameters.{parameter_in, rights_in, shape_in, shape_of, width_in, has_width, has_widths, has_commands, field_in, choice_in, lock_in};
 
 use crate::profile::TextNumbers;
 use arrayvec::ArrayVec;
-use rdm_params::{ChoiceName, Field, ParameterDef, Rights, Shape, Width};
+use rdm_params::{ChoiceName, Field, Lock, ParameterDef, Rights, Shape, Width};
 
 /// More slots than the data of a parameter can have.
 const TOO_MANY_SLOTS: u8 = 255;
@@ -21,9 +21,9 @@ pub struct ParameterNumbers {
     pub high: i64,
     /// Its PID.
     pub pid: u16,
-    /// The type of its data (table A-15).
+    /// The type of its data (table A-15, and some more).
     pub kind: u8,
-    /// Which commands it has (table A-16).
+    /// Which commands it has (table A-16, and one more).
     pub commands: u8,
     /// How many slots its data have, where the type doesn't say it: 0 to 32.
     pub size: u8,
@@ -69,6 +69,28 @@ pub struct ChoiceNumbers {
     pub number: u8,
     /// What it is called.
     pub name: TextNumbers,
+}
+
+/// A parameter that a lock state keeps from being set. The header calls it `felosumay_lock`.
+#[repr(C)]
+#[derive(Clone, Copy)]
+pub struct LockNumbers {
+    /// The PID of the parameter.
+    pub pid: u16,
+    /// The lock state, from 1.
+    pub state: u8,
+}
+
+impl LockNumbers {
+    /// The lock.
+    pub(crate) fn lock(&self) -> Lock
+        ensures { result ≡ lock_in self.now }
+    {
+        Lock {
+            state: self.state,
+            pid: self.pid,
+        }
+    }
 }
 
 impl FieldNumbers {
@@ -184,29 +206,37 @@ fn fields_of(numbers: &[FieldNumbers]) -> ArrayVec<Field, 8>
     fields
 }
 
-/// The commands of this number of table A-16.
+/// The commands of this number: those of table A-16, and those of COMMS_STATUS.
 fn rights_in(commands: u8) -> Rights
     ensures { result ≡ rights_in commands }
 {
     match commands {
         0x01 => Rights::Get,
         0x02 => Rights::Set,
+        0xF0 => Rights::Clear,
         _ => Rights::Both,
     }
 }
 
-/// The data of this type, if the number of the commands is one of table A-16.
+/// Whether commands have this number.
+fn has_commands(commands: u8) -> bool
+    ensures { result ≡ has_commands commands }
+{
+    (1 <= commands && commands <= 3) || commands == 0xF0
+}
+
+/// The data of this type, if commands have the number that is passed.
 fn shape_in(commands: u8, kind: u8, size: u8) -> Shape
     ensures { result ≡ shape_in commands kind size }
 {
-    if 1 <= commands && commands <= 3 {
+    if has_commands(commands) {
         shape_of(kind, size)
     } else {
         Shape::Slots(TOO_MANY_SLOTS)
     }
 }
 
-/// The data of this type of table A-15, with so many slots where it doesn't say how many. The last three are none of the table's.
+/// The data of this type of table A-15, with so many slots where it doesn't say how many. Those from F0 on are none of the table's.
 fn shape_of(kind: u8, size: u8) -> Shape
     ensures { result ≡ shape_of kind size }
 {
@@ -223,6 +253,10 @@ fn shape_of(kind: u8, size: u8) -> Shape
         0xF0 => Shape::Choice,
         0xF1 => Shape::Names,
         0xF2 => Shape::Rates,
+        0xF3 => Shape::Scenes,
+        0xF4 => Shape::Lock,
+        0xF5 => Shape::Pin,
+        0xF6 => Shape::Block,
         _ => Shape::Slots(TOO_MANY_SLOTS),
     }
 }

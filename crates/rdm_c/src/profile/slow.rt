@@ -37,7 +37,7 @@ pub struct WorkersNumbers {
 
 impl EstimatesNumbers {
     /// The estimates.
-    pub(super) fn estimates(&self) -> Estimates
+    pub(crate) fn estimates(&self) -> Estimates
         ensures { result ≡ estimates_in self.now }
     {
         let usual = Estimates::usual();

@@ -47,7 +47,7 @@ is_at_start spot d = not d.resets || bytes_eq (lookup spot.added d.pid 0) d.star
 abbrev pub at_factory_defaults : Spot → List ℕ
 at_factory_defaults spot =
     if list_all (λ pid. bytes_eq (lookup spot.entries pid 0) (lookup (root_at_start spot.profile) pid 0)) factory_pids
-    && list_all (is_at_start spot) spot.profile.own
+    && list_all (is_at_start spot) spot.profile.particulars.own
     then 1 ∷ [] else 0 ∷ []
 
 -- the codes of the languages. Section 10.5.7.

@@ -7,7 +7,7 @@ use Rattle.rdm_device.specs.declared.profile.SensorDef.{SensorDef}
 use Rattle.rdm_device.specs.declared.profile.Slot.{Slot}
 use Rattle.rdm_device.specs.declared.profile.StatusText.{StatusText}
 use Rattle.rdm_device.specs.declared.profile.Unit.{Unit as DeviceUnit}
-use Rattle.rdm_device.specs.Device.Estimates.{usual}
+use Rattle.rdm_device.specs.Device.Particulars.{usual_particular}
 use Rattle.rdm_device.specs.Device.Workers.{usual_workers}
 
 abbrev personality : ℕ → List ℕ → Personality
@@ -87,6 +87,8 @@ demo subs = record {
   root = demo_root;
   sub = demo_sub;
   subs = subs;
+  presets = 4;
+  workers = usual_workers;
   boot = 0x00000001;
   boot_text = codes "Boot 1.0";
   languages = record { items = 0x656E ∷ 0x6465 ∷ [] };
@@ -94,11 +96,5 @@ demo subs = record {
   sensors = record { items = demo_sensors };
   tests = record { items = demo_tests };
   status_texts = record { items = demo_statuses };
-  presets = 4;
-  own = [];
-  choices = [];
-  without = record { items = [] };
-  more_slots = 0;
-  estimates = usual;
-  workers = usual_workers;
+  particulars = usual_particular;
 }

@@ -5,9 +5,9 @@ use Rattle.rdm_device.specs.declared.profile.choices.ChoiceName.{ChoiceName}
 use Rattle.rdm_device.specs.declared.profile.own.ParameterDef.{ParameterDef}
 use Rattle.rdm_device.specs.declared.profile.Unit.{Unit as DeviceUnit}
 use Rattle.rdm_device.specs.declared.profile.faults.ProfileFault.{ProfileFault}
-use Rattle.rdm_device.specs.declared.profile.faults.ProfileFault.TheVariants.{SubDevices, Presets, Personalities, Start, RootFootprint, SubFootprint, Languages, TestNumber, TwinTests, TwinStatusTexts, LeftOut, LeftOutNeeded, ParameterCount, ParameterPid, ParameterLimits, ParameterStart, ParameterOrder, ParameterFields, ParameterStandard, ParameterNames}
+use Rattle.rdm_device.specs.declared.profile.faults.ProfileFault.TheVariants.{SubDevices, Presets, Personalities, Start, RootFootprint, SubFootprint, Languages, TestNumber, TwinTests, TwinStatusTexts, LeftOut, LeftOutNeeded, ParameterCount, ParameterPid, ParameterLimits, ParameterStart, ParameterOrder, ParameterFields, ParameterStandard, ParameterNames, ParameterLocks}
 use Rattle.rdm_device.specs.Device.LeftOut.{leave_no_need}
-use Rattle.rdm_device.specs.Device.Profiles.{root_slots, AreOptional, HaveFreePids, HaveLimits, HaveStarts, Ascend, HaveFields, FollowStandards, Agree}
+use Rattle.rdm_device.specs.Device.Profiles.{root_slots, AreOptional, HaveFreePids, HaveLimits, HaveStarts, Ascend, HaveFields, FollowStandards, Agree, HaveStates}
 
 -- The start address is one of DMX512. Section 10.6.3.
 abbrev pub IsStart : DeviceUnit → Type 0
@@ -25,16 +25,17 @@ Keeps Languages p = 0 < length p.languages.items
 Keeps TestNumber p = All (λ t. (0 < t.number) × (t.number < 255)) p.tests.items
 Keeps TwinTests p = AllPairs (λ s t. s.number ≢ t.number) p.tests.items
 Keeps TwinStatusTexts p = AllPairs (λ s t. s.id ≢ t.id) p.status_texts.items
-Keeps LeftOut p = AreOptional p.without.items
-Keeps LeftOutNeeded p = IsTrue (leave_no_need p.without.items)
-Keeps ParameterCount p = length p.own ≤ 16
-Keeps ParameterPid p = HaveFreePids p.own
-Keeps ParameterLimits p = HaveLimits p.own
-Keeps ParameterStart p = HaveStarts p.own
-Keeps ParameterOrder p = Ascend p.own
-Keeps ParameterFields p = HaveFields p.own
-Keeps ParameterStandard p = FollowStandards p.own
-Keeps ParameterNames p = Agree p.own p.choices
+Keeps LeftOut p = AreOptional p.particulars.without.items
+Keeps LeftOutNeeded p = IsTrue (leave_no_need p.particulars.without.items)
+Keeps ParameterCount p = length p.particulars.own ≤ 32
+Keeps ParameterPid p = HaveFreePids p.particulars.own
+Keeps ParameterLimits p = HaveLimits p.particulars.own
+Keeps ParameterStart p = HaveStarts p.particulars.own
+Keeps ParameterOrder p = Ascend p.particulars.own
+Keeps ParameterFields p = HaveFields p.particulars.own
+Keeps ParameterStandard p = FollowStandards p.particulars.own
+Keeps ParameterNames p = Agree p.particulars.own p.particulars.choices
+Keeps ParameterLocks p = HaveStates p.particulars.own p.particulars.locks
 
 -- the rules that don't speak of parameters, kept
 abbrev pub KeepsOthers : Profile → Type 0
@@ -82,11 +83,22 @@ KeepsBefore ParameterOrder p =
 KeepsBefore ParameterFields p = KeepsListed p
 KeepsBefore ParameterStandard p = KeepsListed p × Keeps ParameterFields p
 KeepsBefore ParameterNames p = KeepsListed p × Keeps ParameterFields p × Keeps ParameterStandard p
+KeepsBefore ParameterLocks p = KeepsListed p × Keeps ParameterFields p × Keeps ParameterStandard p × Keeps ParameterNames p
 
 -- It is the first rule that the profile breaks.
 abbrev pub IsFirstBroken : ProfileFault → Profile → Type 0
 IsFirstBroken fault p = KeepsBefore fault p × ¬ Keeps fault p
 
--- a profile with these parameters left out, these of the maker's own, and these names of choices
-abbrev pub with_parameters : Profile → List ℕ → List ParameterDef → List ChoiceName → Profile
-with_parameters p without own choices = record p { without = record { items = without }; own = own; choices = choices }
+-- the rules that speak of the parameters of the maker's own alone, kept by these
+abbrev pub KeepsOwn : List ParameterDef → Type 0
+KeepsOwn ds =
+    (length ds ≤ 32) × HaveFreePids ds × HaveLimits ds × HaveStarts ds × Ascend ds × HaveFields ds × FollowStandards ds
+
+-- a profile with so many slots beside those that it describes
+abbrev pub with_slots : Profile → ℕ → Profile
+with_slots p more_slots = record p { particulars = record p.particulars { more_slots = more_slots } }
+
+-- the same with these parameters left out, these of the maker's own, and these names of choices
+abbrev pub with_parameters : Profile → ℕ → List ℕ → List ParameterDef → List ChoiceName → Profile
+with_parameters p more_slots without own choices =
+    record p { particulars = record p.particulars { own = own; choices = choices; without = record { items = without }; more_slots = more_slots } }

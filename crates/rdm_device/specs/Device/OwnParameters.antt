@@ -31,12 +31,18 @@ form_of (shapes.Slots n) = sized n
 form_of shapes.Choice = byte
 form_of shapes.Names = nothing
 form_of shapes.Rates = nothing
+form_of shapes.Scenes = nothing
+form_of shapes.Lock = byte
+form_of shapes.Pin = word
+form_of shapes.Block = nothing
 
 -- the number that a value says in a shape, in two's complement where that is signed
 abbrev pub number_in : Shape → Value → Option ℤ
 number_in shapes.Byte v = option_map pos (byte_in v)
 number_in shapes.Choice v = option_map pos (byte_in v)
+number_in shapes.Lock v = option_map pos (byte_in v)
 number_in shapes.Word v = option_map pos (word_in v)
+number_in shapes.Pin v = option_map pos (word_in v)
 number_in shapes.Long v = option_map pos (long_in v)
 number_in shapes.SignedByte v = option_map (cast_signed w8) (byte_in v)
 number_in shapes.SignedWord v = option_map (cast_signed w16) (word_in v)
@@ -59,6 +65,9 @@ lies least greatest n = int_le least n && int_le n greatest
 abbrev pub has_number : Shape → ℤ → Bool
 has_number shapes.Byte n = lies (pos 0) (pos 255) n
 has_number shapes.Choice n = lies (pos 0) (pos 255) n
+has_number shapes.Scenes n = lies (pos 0) (pos 255) n
+has_number shapes.Lock n = lies (pos 0) (pos 255) n
+has_number shapes.Pin n = lies (pos 0) (pos 9999) n
 has_number shapes.Word n = lies (pos 0) (pos 65535) n
 has_number shapes.Long n = lies (pos 0) (pos 4294967295) n
 has_number shapes.SignedByte n = lies (neg_ℤ (pos 128)) (pos 127) n
@@ -72,6 +81,7 @@ abbrev pub has_limits : Shape → ℤ → ℤ → Bool
 has_limits shapes.Text low high = true
 has_limits shapes.Names low high = true
 has_limits shapes.Rates low high = true
+has_limits shapes.Block low high = true
 has_limits (shapes.Bits n) low high = nat_le n 32
 has_limits (shapes.Slots n) low high = nat_le n 32
 has_limits shape low high = has_number shape low && has_number shape high && int_le low high
@@ -89,6 +99,11 @@ has_get _ = true
 abbrev pub has_set : Rights → Bool
 has_set rights.Get = false
 has_set _ = true
+
+-- whether it is an order: there is nothing to read, so a SET of it asks for something to be done
+abbrev pub is_order : Rights → Bool
+is_order rights.Set = true
+is_order _ = false
 
 -- ---- which PIDs it can have
 

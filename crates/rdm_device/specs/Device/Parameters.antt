@@ -1,10 +1,12 @@
 -- The values that a root device and its sub-devices keep, and those that they start with. E1.20 section 9.
-use Rattle.std.specs.Prelude.{ℕ, suc, List, [], ◌∷◌, ◌++◌, map, replicate, slice_index}
+use Rattle.std.specs.Prelude.{ℕ, suc, List, [], ◌∷◌, ◌++◌, flat_map, replicate, slice_index, if◌then◌else◌}
 use Rattle.rdm_device.specs.declared.profile.own.ParameterDef.{ParameterDef}
 use Rattle.rdm_device.specs.declared.profile.Profile.{Profile}
 use Rattle.rdm_device.specs.declared.profile.SensorDef.{SensorDef}
 use Rattle.rdm_device.specs.declared.profile.Unit.{Unit as DeviceUnit}
 use Rattle.rdm_device.specs.Device.Map.{Entry, entry}
+use Rattle.rdm_device.specs.Columns.Scenes.{scenes_by}
+use Rattle.rdm_device.specs.Device.OwnParameters.{is_order}
 use Rattle.rdm_device.specs.Device.Values.{word_slots, long_slots}
 
 -- the profile, the values of the root, those of the parameters that the maker adds to it, and those of each sub-device, of which
@@ -55,10 +57,18 @@ own_at_start p =
 abbrev pub root_at_start : Profile → List Entry
 root_at_start p = common_at_start p.root ++ own_at_start p
 
+-- how many orders there were at start: none
+abbrev pub no_orders : ParameterDef → List Entry
+no_orders d = if is_order d.rights then entry d.pid 1 (0 ∷ []) ∷ [] else []
+
+-- what a parameter that the maker adds starts with: its data, the count of it, if it is an order, and its scenes, if it has some
+abbrev pub kept_at_start : ParameterDef → List Entry
+kept_at_start d = entry d.pid 0 d.start ∷ no_orders d ++ scenes_by d.shape d
+
 -- what the parameters that the maker adds start with
 abbrev pub added_at_start : List ParameterDef → List Entry
-added_at_start ds = map (λ d. entry d.pid 0 d.start) ds
+added_at_start ds = flat_map kept_at_start ds
 
 -- what the devices of a profile start with
 unfoldable pub parameters_of : Profile → Parameters
-parameters_of p = record { profile = p; root = root_at_start p; added = added_at_start p.own; subs = replicate p.subs (common_at_start p.sub) }
+parameters_of p = record { profile = p; root = root_at_start p; added = added_at_start p.particulars.own; subs = replicate p.subs (common_at_start p.sub) }

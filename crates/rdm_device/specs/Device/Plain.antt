@@ -2,7 +2,7 @@
 use Rattle.std.specs.Prelude.{ℕ, List, []}
 use Rattle.rdm_device.specs.declared.profile.Profile.{Profile}
 use Rattle.rdm_device.specs.declared.profile.Unit.{Unit as DeviceUnit}
-use Rattle.rdm_device.specs.Device.Estimates.{usual}
+use Rattle.rdm_device.specs.Device.Particulars.{usual_particular}
 use Rattle.rdm_device.specs.Device.Workers.{usual_workers}
 
 -- a device with these texts, no personality and no software version, labelled as its model, with start address 1
@@ -25,6 +25,8 @@ plain_profile root sub subs = record {
   root = root;
   sub = sub;
   subs = subs;
+  presets = 0;
+  workers = usual_workers;
   boot = 0;
   boot_text = [];
   languages = record { items = [] };
@@ -32,11 +34,5 @@ plain_profile root sub subs = record {
   sensors = record { items = [] };
   tests = record { items = [] };
   status_texts = record { items = [] };
-  presets = 0;
-  own = [];
-  choices = [];
-  without = record { items = [] };
-  more_slots = 0;
-  estimates = usual;
-  workers = usual_workers;
+  particulars = usual_particular;
 }

@@ -2,9 +2,11 @@
 use Rattle.std.specs.Prelude.{◌≢◌, ℕ, ◌+◌, ◌<◌, ◌≤◌, min, List, length, All, AllPairs, IsTrue}
 use Rattle.rdm_device.specs.declared.profile.Profile.{Profile}
 use Rattle.rdm_device.specs.declared.profile.choices.ChoiceName.{ChoiceName}
+use Rattle.rdm_device.specs.declared.profile.locks.Lock.{Lock}
 use Rattle.rdm_device.specs.declared.profile.own.ParameterDef.{ParameterDef}
 use Rattle.rdm_device.specs.declared.profile.Unit.{Unit as DeviceUnit}
 use Rattle.rdm_device.specs.Device.Choices.{agrees, is_needed, comes_before}
+use Rattle.rdm_device.specs.Device.Locks.{has_state}
 use Rattle.rdm_device.specs.Device.LeftOut.{is_optional, leave_no_need}
 use Rattle.rdm_device.specs.Device.OwnParameters.{is_addable, has_limits, can_start, has_good_fields}
 use Rattle.rdm_device.specs.Device.Standards.{follows}
@@ -18,7 +20,7 @@ pub record IsGoodUnit (u : DeviceUnit) (slots : ℕ) : Type 0 where
 
 -- how many DMX512 slots the root can use: those that are described and so many more, of the 512 that there are
 abbrev pub root_slots : Profile → ℕ
-root_slots p = min 512 (length p.slots.items + p.more_slots)
+root_slots p = min 512 (length p.slots.items + p.particulars.more_slots)
 
 -- The parameters that are left out are few, and none is one that each device must have.
 abbrev pub AreOptional : List ℕ → Type 0
@@ -52,14 +54,18 @@ pub record Agree (ds : List ParameterDef) (cs : List ChoiceName) : Type 0 where
   pub names : All (λ c. IsTrue (is_needed ds c)) cs
   pub ascending : AllPairs (λ c e. IsTrue (comes_before c e)) cs
 
+-- Each lock is of a state that LOCK_STATE has.
+abbrev pub HaveStates : List ParameterDef → List Lock → Type 0
+HaveStates ds ls = All (λ l. IsTrue (has_state ds l)) ls
+
 -- They are in the order of their PIDs.
 abbrev pub Ascend : List ParameterDef → Type 0
 Ascend ds = AllPairs (λ s t. s.pid < t.pid) ds
 
--- The parameters of the maker's own are at most 16, each of them is good, and they are in their order; and these names are those of their
+-- The parameters of the maker's own are at most 32, each of them is good, and they are in their order; and these names are those of their
 -- choices.
 pub record AreGoodParameters (ds : List ParameterDef) (cs : List ChoiceName) : Type 0 where
-  pub count : length ds ≤ 16
+  pub count : length ds ≤ 32
   pub pids : HaveFreePids ds
   pub limits : HaveLimits ds
   pub starts : HaveStarts ds
@@ -74,8 +80,8 @@ pub record MayBeLeftOut (pids : List ℕ) : Type 0 where
   pub needs : IsTrue (leave_no_need pids)
 
 -- Both units are good; there is a language; no self test is numbered 0 or 255 and no two alike; no two status IDs
--- are alike; the number of presets isn't the one that stands for all of them; those parameters that are left out may be; and
--- the parameters of the maker's own are good.
+-- are alike; the number of presets isn't the one that stands for all of them; those parameters that are left out may be; the
+-- parameters of the maker's own are good; and each lock is of a state that there is.
 pub record IsGoodProfile (p : Profile) : Type 0 where
   pub root : IsGoodUnit p.root (root_slots p)
   pub sub : IsGoodUnit p.sub 512
@@ -84,8 +90,9 @@ pub record IsGoodProfile (p : Profile) : Type 0 where
   pub tests_differ : AllPairs (λ s t. s.number ≢ t.number) p.tests.items
   pub statuses_differ : AllPairs (λ s t. s.id ≢ t.id) p.status_texts.items
   pub presets : p.presets < 65535
-  pub own : AreGoodParameters p.own p.choices
-  pub without : MayBeLeftOut p.without.items
+  pub own : AreGoodParameters p.particulars.own p.particulars.choices
+  pub without : MayBeLeftOut p.particulars.without.items
+  pub locks : HaveStates p.particulars.own p.particulars.locks
 
 -- It is good, and has no more sub-devices than there can be.
 abbrev pub CanBeMade : Profile → Type 0

@@ -1,5 +1,5 @@
 -- What the ranges and replies of one device depend on.
-use Rattle.std.specs.Prelude.{ℕ, ◌-◌, Bool, List, slice_get, slice_index}
+use Rattle.std.specs.Prelude.{ℕ, ◌-◌, Bool, false, List, [], slice_get, slice_index}
 use Rattle.std.specs.Option.{option_map_or}
 use Rattle.rdm_device.specs.declared.profile.Profile.{Profile}
 use Rattle.rdm_device.specs.declared.profile.Unit.{Unit as DeviceUnit}
@@ -13,6 +13,10 @@ pub record Spot : Type 0 where
   pub is_root : Bool
   pub entries : List Entry
   pub added : List Entry
+
+-- a sub-device of the profile that keeps these values
+abbrev pub sub_device : Profile → List Entry → Spot
+sub_device profile entries = record { profile = profile; unit = profile.sub; is_root = false; entries = entries; added = [] }
 
 -- the number of the current personality, from 1
 abbrev pub personality : Spot → ℕ

@@ -1,5 +1,5 @@
 -- Values of parameters, and the bytes that stand for them. E1.20 section 6.2.10.
-use Rattle.std.specs.Prelude.{ℕ, ℤ, List, [], ◌∷◌, ◌++◌, Option, Some, None, unwrap_or}
+use Rattle.std.specs.Prelude.{ℕ, ℤ, ◌+◌, ◌*◌, List, [], ◌∷◌, ◌++◌, Option, Some, None, slice_index, unwrap_or}
 use Rattle.std.specs.Int.{w16, w32, to_be_bytes, cast_unsigned}
 use Rattle.rdm_device.specs.declared.value.Value.{Value}
 use Rattle.rdm_device.specs.declared.value.Value.TheVariants.{Nothing, Byte, Word, Long, Pair, Label, Preset, Named, SlotName, Mode, Reading, Sensor, Info, Block}
@@ -7,6 +7,10 @@ use Rattle.rdm_device.specs.declared.value.Value.TheVariants.{Nothing, Byte, Wor
 -- a number of 16 bits, most significant byte first
 abbrev pub word_slots : ℕ → List ℕ
 word_slots n = to_be_bytes w16 n
+
+-- the number that the first two slots say, most significant byte first; a slot that isn't there is 0
+abbrev pub front_word : List ℕ → ℕ
+front_word slots = 256 * slice_index slots 0 + slice_index slots 1
 
 -- a number of 32 bits, most significant byte first
 abbrev pub long_slots : ℕ → List ℕ

@@ -51,17 +51,17 @@ abbrev pub own_if : Option RootValues → List Entry
 own_if None = []
 own_if (Some d) = own_entries d
 
--- the key of a parameter that the maker added
+-- the key of a value of a parameter that the maker added
 abbrev pub kept_entry : Kept → Entry
-kept_entry k = entry k.pid 0 k.bytes
+kept_entry k = entry k.pid k.index k.bytes
 
 -- the keys of the parameters that the maker added
 abbrev pub added_entries : List Kept → List Entry
 added_entries ks = map kept_entry ks
 
--- the entry with these bytes, if it is that of this PID
-abbrev pub stored_in : ℕ → List ℕ → Entry → Entry
-stored_in pid bytes e = entry e.pid e.index (if has_key pid 0 e then bytes else e.bytes)
+-- the entry with these bytes, if it has this key
+abbrev pub stored_in : ℕ → ℕ → List ℕ → Entry → Entry
+stored_in pid index bytes e = entry e.pid e.index (if has_key pid index e then bytes else e.bytes)
 
 -- the entry with the bytes that it becomes
 abbrev pub made_of : (Entry → List ℕ) → Entry → Entry

@@ -96,7 +96,7 @@ pub fn at_factory_defaults(place: &Place<'_>, body: &mut Body)
     match place.own {
         Some(own)
             if is_set_back(place.profile, place.common, own)
-                && are_at_start(place.profile.own.as_slice(), own.added.as_slice()) => {
+                && are_at_start(place.profile.particulars.own(), own.added.as_slice()) => {
             body.append(&[1])
         }
         _ => body.append(&[0]),

@@ -65,3 +65,28 @@ pub fn text(field: &mut Text, written: &[u8]) -> bool
     field.append(written);
     true
 }
+
+/// The same for a text in a list, of which most are passed over.
+#[inline(always)]
+pub(crate) fn kept(field: &mut Text, written: &[u8]) -> bool
+    requires { length written.now ≤ 32 }
+    ensures now { field.new ≡ written.now }
+    ensures same { (result ≡ false) ↔ (written.now ≡ field.old) }
+{
+    if field.as_slice() == written {
+        return false;
+    }
+    write_over(field, written);
+    true
+}
+
+/// Writes a text over another one.
+// A call: inlined into a loop it would take the registers of those that are passed over.
+#[inline(never)]
+fn write_over(field: &mut Text, written: &[u8])
+    requires { length written.now ≤ 32 }
+    ensures { field.new ≡ written.now }
+{
+    field.clear();
+    field.append(written);
+}

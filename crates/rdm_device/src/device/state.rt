@@ -1,23 +1,25 @@
 //! The values that devices keep.
 
-ghost use Rattle.std.specs.Prelude.{◌≡◌, IfOk};
-ghost use Rattle.rdm_device.specs.Device.Parameters.{added_at_start};
+ghost use Rattle.std.specs.Prelude.{◌≡◌, ◌++◌, IfOk, OnOk};
+ghost use Rattle.rdm_device.specs.Device.Parameters.{added_at_start, kept_at_start};
 ghost use Rattle.rdm_device.specs.Views.State.{added_entries};
 
+use crate::columns::added::{is_order, scene_count, start_scenes};
 use crate::{ParameterDef, Profile, SensorDef, Unit};
 use arrayvec::ArrayVec;
 use rdm_frame::Text;
 use std::alloc::{AllocError, Global};
 
 /// What every device keeps (E1.20 section 10).
+// Numbers of one byte stand side by side, so that none leaves a gap: there are up to 513 of these.
 #[derive(Debug, Drop)]
 pub struct CommonValues {
-    /// The least rank of the status entries that are noted, or 0.
-    pub report_threshold: u8,
     /// The label (section 10.5.5).
     pub label: Text,
     /// The number of the current personality, from 1 (section 10.6.1).
     pub personality: u8,
+    /// The least rank of the status entries that are noted, or 0.
+    pub report_threshold: u8,
     /// The DMX512 start address (section 10.6.3).
     pub start: u16,
     /// The hours that the lamp was on (section 10.8.2).
@@ -44,9 +46,9 @@ impl CommonValues {
         ensures { common_entries result ≡ common_at_start unit.now }
     {
         CommonValues {
-            report_threshold: 2,
             label: unit.label.copy(),
             personality: 1,
+            report_threshold: 2,
             start: unit.start,
             lamp_hours: 0,
             lamp_strikes: 0,
@@ -76,7 +78,9 @@ pub struct Measured {
 pub struct Kept {
     /// Its PID.
     pub pid: u16,
-    /// Its data.
+    /// Which of its values it is: 0 for its data, and 1 for how many orders there were, of a parameter that is one.
+    pub index: u16,
+    /// The value.
     pub bytes: Text,
 }
 
@@ -117,9 +121,9 @@ impl RootValues {
     #[tactic(auto, unfolding(crate::specs::Views::State::own_entries, crate::specs::Device::Parameters::own_at_start))]
     pub fn at_start(alloc: Global, profile: &Profile) -> Result<RootValues, AllocError>
         ensures own { IfOk result (λ own. own_entries own ≡ own_at_start profile.now) }
-        ensures added { IfOk result (λ own. added_entries own.added.items ≡ added_at_start profile.now.own) }
+        ensures added { IfOk result (λ own. added_entries own.added.items ≡ added_at_start profile.now.particulars.own) }
     {
-        let added = start_added(alloc, profile.own.as_slice())?;
+        let added = start_added(alloc, profile.particulars.own())?;
         Ok(RootValues {
             language: profile.languages.first().copied().unwrap_or(0),
             device_hours: 0,
@@ -159,13 +163,45 @@ impl RootValues {
 fn start_added(alloc: Global, defs: &[ParameterDef]) -> Result<Vec<Kept>, AllocError>
     ensures { IfOk result (λ added. added_entries added.items ≡ added_at_start defs.now) }
 {
-    let mut added = Vec::with_capacity(alloc, defs.len())?;
+    let mut added = Vec::with_capacity(alloc, values_of(defs))?;
     for i in 0..defs.len() {
-        let def = &defs[i];
-        added.push(Kept {
-            pid: def.pid,
-            bytes: def.start.copy(),
-        })?;
+        start_one(&defs[i], &mut added)?;
     }
     Ok(added)
+}
+
+/// How many values are kept of them, so that memory is taken once, and for no more.
+// A hint: were it wrong, the list would grow.
+fn values_of(defs: &[ParameterDef]) -> usize {
+    let mut values: usize = 0;
+    for i in 0..defs.len() {
+        values = values.saturating_add(values_of_one(&defs[i]));
+    }
+    values
+}
+
+/// How many are kept of one: its data, the count of an order, and its scenes.
+fn values_of_one(def: &ParameterDef) -> usize {
+    let count = if is_order(def.rights) { 1 } else { 0 };
+    1 + count + scene_count(def) as usize
+}
+
+/// Adds what one of them starts with.
+#[tactic(auto, using(crate::proofs::Added::start_data, crate::proofs::Added::start_order))]
+fn start_one(def: &ParameterDef, added: &mut Vec<Kept>) -> Result<(), AllocError>
+    ensures { OnOk result (added_entries added.new.items ≡ added_entries added.old.items ++ kept_at_start def.now) }
+{
+    added.push(Kept {
+        pid: def.pid,
+        index: 0,
+        bytes: def.start.copy(),
+    })?;
+    if is_order(def.rights) {
+        added.push(Kept {
+            pid: def.pid,
+            index: 1,
+            bytes: Text::of(&[0]),
+        })?;
+    }
+    start_scenes(def, added)
 }

@@ -1,10 +1,11 @@
 //! Which profiles a device can be made with.
 
 ghost use Rattle.std.specs.Prelude.{◌≡◌, ◌≢◌, ◌↔◌, ◌<◌, ◌≤◌, IsTrue, All, AllPairs};
-ghost use Rattle.rdm_device.specs.Device.Profiles.{IsGoodUnit, IsGoodProfile, MayBeLeftOut, AreGoodParameters, root_slots};
+ghost use Rattle.rdm_device.specs.Device.Faults.{with_slots};
+ghost use Rattle.rdm_device.specs.Device.Profiles.{IsGoodUnit, IsGoodProfile, MayBeLeftOut, AreGoodParameters, HaveStates, root_slots};
 
 use crate::profile::faults::parameter_fault;
-use crate::{ChoiceName, ParameterDef, Personality, Profile, SelfTest, StatusText, Unit};
+use crate::{ChoiceName, Lock, ParameterDef, Personality, Profile, SelfTest, StatusText, Unit};
 use rdm_frame::standard::MOST_DMX_SLOTS;
 
 /// Whether a device can be made with the profile.
@@ -19,27 +20,35 @@ pub fn is_good(profile: &Profile) -> bool
         && statuses_differ(profile.status_texts.as_slice())
         && profile.presets < 65535
         && are_good(
-            profile.without.as_slice(),
-            profile.own.as_slice(),
-            profile.choices.as_slice(),
+            profile.particulars.without(),
+            profile.particulars.own(),
+            profile.particulars.choices(),
+            profile.particulars.locks(),
         )
 }
 
-/// Whether a device can lack the parameters with these PIDs, and have these of the maker's own.
-fn are_good(without: &[u16], own: &[ParameterDef], choices: &[ChoiceName]) -> bool
-    ensures { IsTrue result ↔ (MayBeLeftOut without.now × AreGoodParameters own.now choices.now) }
+/// Whether a device can lack the parameters with these PIDs, and have these of the maker's own, with these locks.
+fn are_good(without: &[u16], own: &[ParameterDef], choices: &[ChoiceName], locks: &[Lock]) -> bool
+    ensures { IsTrue result ↔ (MayBeLeftOut without.now × AreGoodParameters own.now choices.now × HaveStates own.now locks.now) }
 {
-    match parameter_fault(without, own, choices) {
+    match parameter_fault(without, own, choices, locks) {
         None => true,
         Some(_) => false,
     }
 }
 
 /// How many DMX512 slots the root can use.
-pub(crate) fn root_slots(profile: &Profile) -> usize
+fn root_slots(profile: &Profile) -> usize
     ensures { result ≡ root_slots profile.now }
 {
-    (profile.slots.len() + profile.more_slots as usize).min(MOST_DMX_SLOTS as usize)
+    slots_with(profile, profile.particulars.more_slots())
+}
+
+/// How many it could use with so many slots beside those that the profile describes.
+pub(crate) fn slots_with(profile: &Profile, more_slots: u16) -> usize
+    ensures { result ≡ root_slots (with_slots profile.now more_slots) }
+{
+    (profile.slots.len() + more_slots as usize).min(MOST_DMX_SLOTS as usize)
 }
 
 /// Whether the unit keeps its rules at a device with this many slots.

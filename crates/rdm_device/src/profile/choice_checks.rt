@@ -2,11 +2,10 @@
 
 ghost use Rattle.std.specs.Prelude.{◌≡◌, ◌↔◌, ◌≤◌, ◌+◌, length, slice_index, IsTrue, All, AllPairs};
 ghost use Rattle.std.specs.List.{list_all, list_any};
-ghost use Rattle.rdm_device.specs.Device.Choices.{greatest, has_name, have_names, tells_of, has_curves, is_paired, agrees, is_of_choice, is_needed, comes_before};
+ghost use Rattle.rdm_device.specs.Device.Choices.{greatest, has_name, have_names, has_names_behind, tells_of, has_curves, is_paired, agrees, is_of_choice, is_needed, comes_before};
 ghost use Rattle.rdm_device.specs.Device.Profiles.{Agree};
 
 use crate::columns::added::{greatest, has_name};
-use crate::profile::standards::is_choice;
 use crate::{ChoiceName, ParameterDef, Shape};
 
 /// CURVE (E1.37-1).
@@ -58,6 +57,7 @@ fn is_paired(
 {
     match shape {
         Shape::Choice => is_told(defs, def) && have_all_names(choices, def),
+        Shape::Lock => is_told(defs, def) && have_all_names(choices, def),
         Shape::Names => tells_of_one(defs, def),
         Shape::Rates => tells_of_one(defs, def),
         Shape::Byte
@@ -68,7 +68,10 @@ fn is_paired(
         | Shape::SignedLong
         | Shape::Text
         | Shape::Bits(_)
-        | Shape::Slots(_) => true,
+        | Shape::Slots(_)
+        | Shape::Scenes
+        | Shape::Pin
+        | Shape::Block => true,
     }
 }
 
@@ -86,11 +89,18 @@ fn tells_of_one(defs: &[ParameterDef], names: &ParameterDef) -> bool
     defs.iter().any(|choice| tells_of(choice, names))
 }
 
+/// Whether another parameter tells what the things are called of which one is chosen.
+fn has_names_behind(shape: Shape) -> bool
+    ensures { result ≡ has_names_behind shape }
+{
+    matches!(shape, Shape::Choice | Shape::Lock)
+}
+
 /// Whether the second parameter tells what the things of the first are called.
 fn tells_of(choice: &ParameterDef, names: &ParameterDef) -> bool
     ensures { result ≡ tells_of choice.now names.now }
 {
-    is_choice(choice.shape) && names.pid as u32 == choice.pid as u32 + 1
+    has_names_behind(choice.shape) && names.pid as u32 == choice.pid as u32 + 1
 }
 
 /// Whether each thing of a choice has a name.
@@ -153,7 +163,7 @@ fn is_needed(defs: &[ParameterDef], name: &ChoiceName) -> bool
 fn is_of_choice(name: &ChoiceName, choice: &ParameterDef) -> bool
     ensures { result ≡ is_of_choice name.now choice.now }
 {
-    is_choice(choice.shape)
+    has_names_behind(choice.shape)
         && name.pid as u32 == choice.pid as u32 + 1
         && 1 <= name.number
         && name.number <= greatest(choice)

@@ -5,8 +5,7 @@ ghost use Rattle.rdm_device.specs.Device.Profiles.{CanBeMade};
 ghost use Rattle.rdm_device.specs.Device.Demo.{demo, demo_root, demo_sub, demo_sensor, demo_slots, demo_sensors, demo_tests, demo_statuses};
 
 use crate::{
-    ChoiceNames, Estimates, OwnParameters, Personality, Profile, SelfTest, SensorDef, Slot,
-    StatusText, Unit, Workers,
+    Particulars, Personality, Profile, SelfTest, SensorDef, Slot, StatusText, Unit, Workers,
 };
 use arrayvec::ArrayVec;
 use rdm_frame::Text;
@@ -32,6 +31,8 @@ fn moving_head(subs: u16) -> Profile
         root: root(),
         sub: sub(),
         subs,
+        presets: 4,
+        workers: Workers::usual(),
         boot: 1,
         boot_text: Text::of(b"Boot 1.0"),
         languages,
@@ -39,13 +40,7 @@ fn moving_head(subs: u16) -> Profile
         sensors: sensors(),
         tests: tests(),
         status_texts: status_texts(),
-        presets: 4,
-        own: OwnParameters::none(),
-        choices: ChoiceNames::none(),
-        without: ArrayVec::new(),
-        more_slots: 0,
-        estimates: Estimates::usual(),
-        workers: Workers::usual(),
+        particulars: Particulars::usual(),
     }
 }
 

@@ -1,18 +1,19 @@
 //! Which rule a profile breaks.
 
 ghost use Rattle.std.specs.Prelude.{◌≡◌, ◌↔◌, ℕ, List, None, IfSome, IsTrue};
-ghost use Rattle.rdm_device.specs.Device.Faults.{IsFirstBroken, IsStart, KeepsOthers, KeepsListed, with_parameters};
-ghost use Rattle.rdm_device.specs.Device.Profiles.{CanBeMade, MayBeLeftOut, AreGoodParameters, HaveFields, FollowStandards, Agree};
+ghost use Rattle.rdm_device.specs.Device.Faults.{IsFirstBroken, IsStart, KeepsOthers, KeepsLeftOut, KeepsListed, KeepsOwn, with_parameters, with_slots};
+ghost use Rattle.rdm_device.specs.Device.Profiles.{CanBeMade, MayBeLeftOut, AreGoodParameters, HaveFields, FollowStandards, Agree, HaveStates};
 
-use crate::profile::checks::{are_numbered, fit, root_slots, statuses_differ, tests_differ};
+use crate::profile::checks::{are_numbered, fit, slots_with, statuses_differ, tests_differ};
 use crate::profile::choice_checks::agree;
 use crate::profile::field_checks::have_fields;
 use crate::profile::left_out::{are_optional, leave_no_need};
+use crate::profile::locks::have_states;
 use crate::profile::own_checks::{
     are_ascending, are_few, have_free_pids, have_limits, have_starts,
 };
 use crate::profile::standards::follow_standards;
-use crate::{ChoiceName, ParameterDef, Profile, Unit};
+use crate::{ChoiceName, Lock, ParameterDef, Profile, Unit};
 use rdm_frame::standard::{MOST_DMX_SLOTS, MOST_SUB_DEVICES};
 
 /// A rule of profiles that is broken, in the order in which they are tested.
@@ -42,7 +43,7 @@ pub enum ProfileFault {
     LeftOut,
     /// A parameter is left out without one that needs it, such as DMX_PERSONALITY without DMX_PERSONALITY_DESCRIPTION.
     LeftOutNeeded,
-    /// There are more than 16 parameters of the maker's own.
+    /// There are more than 32 parameters of the maker's own.
     ParameterCount,
     /// A parameter of the maker's own has a PID that isn't 0x8000 to 0xFFDF, nor one of the standards' that is lent to makers; or two have
     /// the same.
@@ -63,6 +64,8 @@ pub enum ProfileFault {
     /// choice, or a name of nothing that can be chosen; two names are of one thing, or not in the order of their PIDs and numbers, or
     /// there are more than 64; or DIMMER_INFO has another number of curves than CURVE.
     ParameterNames,
+    /// A lock is of state 0, which is unlocked, or of one above the greatest of LOCK_STATE; or there is no LOCK_STATE.
+    ParameterLocks,
 }
 
 /// The first rule that the profile breaks, or `None` if it breaks none: a device can be made with it then.
@@ -72,35 +75,38 @@ pub fn profile_fault(profile: &Profile) -> Option<ProfileFault>
 {
     profile_fault_with(
         profile,
-        profile.without.as_slice(),
-        profile.own.as_slice(),
-        profile.choices.as_slice(),
+        profile.particulars.more_slots(),
+        profile.particulars.without(),
+        profile.particulars.own(),
+        profile.particulars.choices(),
     )
 }
 
-/// The first rule that the profile would break if it left out the parameters with these PIDs and had these of the maker's own with these
-/// names of choices, and no others, or `None` if it would break none. So they can be judged before there is memory for them.
+/// The first rule that the profile would break if it had so many slots beside those that it describes, left out the parameters with these
+/// PIDs, and had these of the maker's own with these names of choices, and no others, or `None` if it would break none; its locks are as
+/// they are. So they can be judged before there is memory for them.
 #[tactic(auto, using(crate::proofs::Faults::made, crate::proofs::Faults::keeps_others, crate::proofs::Faults::keeps_parameters))]
 pub fn profile_fault_with(
     profile: &Profile,
+    more_slots: u16,
     without: &[u16],
     own: &[ParameterDef],
     choices: &[ChoiceName],
 ) -> Option<ProfileFault>
-    ensures good { (result ≡ None) ↔ CanBeMade (with_parameters profile.now without.now own.now choices.now) }
-    ensures first { IfSome result (λ fault. IsFirstBroken fault (with_parameters profile.now without.now own.now choices.now)) }
+    ensures good { (result ≡ None) ↔ CanBeMade (with_parameters profile.now more_slots without.now own.now choices.now) }
+    ensures first { IfSome result (λ fault. IsFirstBroken fault (with_parameters profile.now more_slots without.now own.now choices.now)) }
 {
-    match other_fault(profile) {
+    match other_fault(profile, more_slots) {
         Some(fault) => Some(fault),
-        None => parameter_fault(without, own, choices),
+        None => parameter_fault(without, own, choices, profile.particulars.locks()),
     }
 }
 
 /// The first rule that is broken, of those that don't speak of parameters.
-fn other_fault(profile: &Profile) -> Option<ProfileFault>
-    ensures good { (result ≡ None) ↔ KeepsOthers profile.now }
+fn other_fault(profile: &Profile, more_slots: u16) -> Option<ProfileFault>
+    ensures good { (result ≡ None) ↔ KeepsOthers (with_slots profile.now more_slots) }
     ensures first { (without : List ℕ) (own : List ParameterDef) (choices : List ChoiceName)
-        → IfSome result (λ fault. IsFirstBroken fault (with_parameters profile.now without own choices)) }
+        → IfSome result (λ fault. IsFirstBroken fault (with_parameters profile.now more_slots without own choices)) }
 {
     if profile.subs > MOST_SUB_DEVICES {
         return Some(ProfileFault::SubDevices);
@@ -114,7 +120,10 @@ fn other_fault(profile: &Profile) -> Option<ProfileFault>
     if !has_start(&profile.root) || !has_start(&profile.sub) {
         return Some(ProfileFault::Start);
     }
-    if !fit(profile.root.personalities.as_slice(), root_slots(profile)) {
+    if !fit(
+        profile.root.personalities.as_slice(),
+        slots_with(profile, more_slots),
+    ) {
         return Some(ProfileFault::RootFootprint);
     }
     if !fit(
@@ -143,9 +152,11 @@ pub(crate) fn parameter_fault(
     without: &[u16],
     own: &[ParameterDef],
     choices: &[ChoiceName],
+    locks: &[Lock],
 ) -> Option<ProfileFault>
-    ensures good { (result ≡ None) ↔ (MayBeLeftOut without.now × AreGoodParameters own.now choices.now) }
-    ensures first { (p : Profile) → KeepsOthers p → IfSome result (λ fault. IsFirstBroken fault (with_parameters p without.now own.now choices.now)) }
+    ensures good { (result ≡ None) ↔ (MayBeLeftOut without.now × AreGoodParameters own.now choices.now × HaveStates own.now locks.now) }
+    ensures first { (p : Profile) (more_slots : ℕ) → p.particulars.locks ≡ locks.now → KeepsOthers (with_slots p more_slots) →
+        IfSome result (λ fault. IsFirstBroken fault (with_parameters p more_slots without.now own.now choices.now)) }
 {
     if !are_optional(without) {
         return Some(ProfileFault::LeftOut);
@@ -153,6 +164,24 @@ pub(crate) fn parameter_fault(
     if !leave_no_need(without) {
         return Some(ProfileFault::LeftOutNeeded);
     }
+    if let Some(fault) = own_fault(own) {
+        return Some(fault);
+    }
+    if !agree(own, choices) {
+        return Some(ProfileFault::ParameterNames);
+    }
+    if !have_states(own, locks) {
+        return Some(ProfileFault::ParameterLocks);
+    }
+    None
+}
+
+/// The first rule that these parameters of the maker's own break, but for that of names, which `agree` tests. So they can be judged apart
+/// from the rest of a profile.
+pub fn own_fault(own: &[ParameterDef]) -> Option<ProfileFault>
+    ensures good { (result ≡ None) ↔ KeepsOwn own.now }
+    ensures first { (p : Profile) → p.particulars.own ≡ own.now → KeepsLeftOut p → IfSome result (λ fault. IsFirstBroken fault p) }
+{
     if !are_few(own) {
         return Some(ProfileFault::ParameterCount);
     }
@@ -168,22 +197,19 @@ pub(crate) fn parameter_fault(
     if !are_ascending(own) {
         return Some(ProfileFault::ParameterOrder);
     }
-    slots_fault(own, choices)
+    slots_fault(own)
 }
 
 /// The first rule that is broken by what the slots of these parameters of the maker's own say.
-fn slots_fault(own: &[ParameterDef], choices: &[ChoiceName]) -> Option<ProfileFault>
-    ensures good { (result ≡ None) ↔ (HaveFields own.now × FollowStandards own.now × Agree own.now choices.now) }
-    ensures first { (p : Profile) → p.own ≡ own.now → p.choices ≡ choices.now → KeepsListed p → IfSome result (λ fault. IsFirstBroken fault p) }
+fn slots_fault(own: &[ParameterDef]) -> Option<ProfileFault>
+    ensures good { (result ≡ None) ↔ (HaveFields own.now × FollowStandards own.now) }
+    ensures first { (p : Profile) → p.particulars.own ≡ own.now → KeepsListed p → IfSome result (λ fault. IsFirstBroken fault p) }
 {
     if !have_fields(own) {
         return Some(ProfileFault::ParameterFields);
     }
     if !follow_standards(own) {
         return Some(ProfileFault::ParameterStandard);
-    }
-    if !agree(own, choices) {
-        return Some(ProfileFault::ParameterNames);
     }
     None
 }

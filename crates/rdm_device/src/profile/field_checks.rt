@@ -55,7 +55,11 @@ fn are_taken(shape: Shape, fields: &[Field]) -> bool
         | Shape::Bits(_)
         | Shape::Choice
         | Shape::Names
-        | Shape::Rates => fields.is_empty(),
+        | Shape::Rates
+        | Shape::Scenes
+        | Shape::Lock
+        | Shape::Pin
+        | Shape::Block => fields.is_empty(),
     }
 }
 

@@ -70,18 +70,18 @@ impl Profile {
     #[inline(always)]
     #[tactic(auto, using(crate::proofs::Added::none_lacked))]
     pub fn lacks(&self, pid: u16) -> bool
-        ensures { result ≡ lacks self.now.without.items pid }
+        ensures { result ≡ lacks self.now.particulars.without.items pid }
     {
-        let pids = self.without.as_slice();
+        let pids = self.particulars.without();
         !pids.is_empty() && are_lacking(pids, pid)
     }
 
     /// Whether the devices have the standard's parameters alone, and lack none of them.
     pub fn is_plain(&self) -> bool
-        ensures plain { IsTrue result → (self.now.own ≡ []) × (self.now.without.items ≡ []) }
-        ensures other { (self.now.own ≡ []) × (self.now.without.items ≡ []) → IsTrue result }
+        ensures plain { IsTrue result → (self.now.particulars.own ≡ []) × (self.now.particulars.without.items ≡ []) }
+        ensures other { (self.now.particulars.own ≡ []) × (self.now.particulars.without.items ≡ []) → IsTrue result }
     {
-        self.without.is_empty() && self.own.as_slice().is_empty()
+        self.particulars.without().is_empty() && self.particulars.own().is_empty()
     }
 }
 

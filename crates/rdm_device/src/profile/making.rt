@@ -3,7 +3,7 @@
 ghost use Rattle.std.specs.Prelude.{◌≡◌, ◌≤◌, length};
 ghost use Rattle.rdm_device.specs.Device.Plain.{plain_unit, plain_profile};
 
-use crate::{ChoiceNames, Estimates, OwnParameters, Personality, Profile, Slot, Unit, Workers};
+use crate::{Particulars, Personality, Profile, Slot, Unit, Workers};
 use arrayvec::ArrayVec;
 use rdm_frame::Text;
 
@@ -68,6 +68,8 @@ impl Profile {
             root,
             sub,
             subs,
+            presets: 0,
+            workers: Workers::usual(),
             boot: 0,
             boot_text: Text::new(),
             languages: ArrayVec::new(),
@@ -75,13 +77,7 @@ impl Profile {
             sensors: ArrayVec::new(),
             tests: ArrayVec::new(),
             status_texts: ArrayVec::new(),
-            presets: 0,
-            own: OwnParameters::none(),
-            choices: ChoiceNames::none(),
-            without: ArrayVec::new(),
-            more_slots: 0,
-            estimates: Estimates::usual(),
-            workers: Workers::usual(),
+            particulars: Particulars::usual(),
         }
     }
 }

@@ -13,10 +13,12 @@ use std::marker::Model;
 pub enum Rights {
     /// GET alone.
     Get,
-    /// SET alone.
+    /// SET alone: it is an order. Each that is accepted is told as a change, also one as the last.
     Set,
     /// GET and SET.
     Both,
+    /// GET, and a SET without data that sets it back to what it starts with, as COMMS_STATUS has (E1.20).
+    Clear,
 }
 
 /// Which data a parameter has (section 10.4.2 and table A-15).
@@ -47,6 +49,17 @@ pub enum Shape {
     Names,
     /// The same, with a frequency of each (E1.37-1 MODULATION_FREQUENCY_DESCRIPTION).
     Rates,
+    /// The times of each of several scenes, from 1 to the greatest number, and whether it is programmed, of which the first can only be
+    /// read: as many as the least number (E1.37-1 PRESET_STATUS).
+    Scenes,
+    /// The number of a lock state: 0, which is unlocked, to the greatest, which a GET also replies; a SET hands in the PIN before it
+    /// (E1.37-1 LOCK_STATE).
+    Lock,
+    /// The PIN of four digits with which that is set; a SET hands in the new one, and then that which is kept (E1.37-1 LOCK_PIN).
+    Pin,
+    /// No data of its own: it tells where the slots of all sub-devices lie, and a SET hands in where they are to begin (E1.37-1
+    /// DMX_BLOCK_ADDRESS).
+    Block,
 }
 
 /// A parameter that the maker of the fixture adds, at the root device.
@@ -76,21 +89,25 @@ pub struct ParameterDef {
     pub resets: bool,
 }
 
-/// The parameters that the maker of a fixture adds: at most 16. A contract sees the list of them.
-// Behind a pointer, so that a profile has no room for what few fixtures have.
+/// The parameters that the maker of a fixture adds: at most 32. A contract sees the list of them.
+// Behind a pointer, so that a profile has no room for what few fixtures have; and as many places as there are parameters, since one is
+// large.
 #[derive(Debug, Drop)]
 pub struct OwnParameters {
-    list: Option<Box<ArrayVec<ParameterDef, 16>>>,
+    list: Option<Box<Vec<ParameterDef>>>,
 }
 
 impl Model for OwnParameters {
     ghost use Rattle.std.specs.Prelude.{List};
     ghost use Rattle.rdm_device.specs.declared.profile.own.ParameterDef.{ParameterDef};
-    ghost use Rattle.rdm_device.specs.Views.Own.{listed};
+    ghost use Rattle.std.specs.Prelude.{◌≤◌, length};
+    ghost use Rattle.rdm_device.specs.Views.Own.{grown};
 
     ghost Value = { List ParameterDef };
 
-    ghost view = { λ o. listed 16 o.list };
+    ghost view = { λ o. grown o.list };
+
+    ghost invariant = { λ o. length (grown o.list) ≤ 32 };
 }
 
 impl OwnParameters {
@@ -101,21 +118,32 @@ impl OwnParameters {
         OwnParameters { list: None }
     }
 
+    /// No parameters, with room for so many: pushing them takes no more memory.
+    pub fn with_room(alloc: Global, count: usize) -> Result<Self, AllocError>
+        ensures { IfOk result (λ own. own ≡ []) }
+    {
+        if count == 0 {
+            return Ok(OwnParameters::none());
+        }
+        let list = Some(Box::new(alloc, Vec::with_capacity(alloc, count)?)?);
+        Ok(OwnParameters { list })
+    }
+
     /// These parameters. They take memory unless there are none.
-    pub fn of(alloc: Global, list: ArrayVec<ParameterDef, 16>) -> Result<Self, AllocError>
+    pub fn of(alloc: Global, list: ArrayVec<ParameterDef, 32>) -> Result<Self, AllocError>
         ensures { IfOk result (λ own. own ≡ list.items) }
     {
         if list.is_empty() {
             return Ok(OwnParameters::none());
         }
-        let list = Some(Box::new(alloc, list)?);
+        let list = Some(Box::new(alloc, grown(alloc, list)?)?);
         Ok(OwnParameters { list })
     }
 
     /// The parameters.
     pub fn as_slice(&self) -> &[ParameterDef]
         ensures value { result.now ≡ self.now }
-        ensures few { length result.now ≤ 16 }
+        ensures few { length result.now ≤ 32 }
     {
         match &self.list {
             Some(list) => list.as_slice(),
@@ -125,20 +153,32 @@ impl OwnParameters {
 
     /// Adds a parameter, after those that there are. There must be room.
     pub fn push(&mut self, alloc: Global, def: ParameterDef) -> Result<(), AllocError>
-        requires { length self.old < 16 }
+        requires { length self.old < 32 }
         ensures pushed { OnOk result (self.new ≡ self.old ++ def ∷ []) }
         ensures same { OnErr result (self.new ≡ self.old) }
     {
         match &mut self.list {
-            Some(list) => list.push(def),
+            Some(list) => list.push(def)?,
             None => {
-                let mut list = ArrayVec::new();
-                list.push(def);
+                let mut list = Vec::new(alloc);
+                list.push(def)?;
                 self.list = Some(Box::new(alloc, list)?);
             }
         }
         Ok(())
     }
+}
+
+/// These parameters, in as much memory as they need.
+fn grown(alloc: Global, list: ArrayVec<ParameterDef, 32>) -> Result<Vec<ParameterDef>, AllocError>
+    ensures items { IfOk result (λ all. all.items ≡ list.items) }
+    ensures few { IfOk result (λ all. length all.items ≤ 32) }
+{
+    let mut all = Vec::with_capacity(alloc, list.len())?;
+    for def in list {
+        all.push(def)?;
+    }
+    Ok(all)
 }
 
 impl PartialEq for OwnParameters {

@@ -9,11 +9,11 @@ use crate::{ParameterDef, Shape};
 use rdm_frame::standard::MOST_TEXT;
 
 /// How many parameters a profile can add.
-const MOST_OWN: usize = 16;
+const MOST_OWN: usize = 32;
 
 /// Whether they are no more than a profile can add.
 pub(crate) fn are_few(defs: &[ParameterDef]) -> bool
-    ensures { IsTrue result ↔ (length defs.now ≤ 16) }
+    ensures { IsTrue result ↔ (length defs.now ≤ 32) }
 {
     defs.len() <= MOST_OWN
 }
@@ -80,9 +80,11 @@ pub(crate) fn is_lent(pid: u16) -> bool
     ensures { result ≡ is_lent pid }
 {
     match pid {
-        0x0070 | 0x0141 | 0x0142 | 0x0340 | 0x0341 | 0x0342 | 0x0440 | 0x0603 => true,
+        0x0015 | 0x0070 | 0x0140 | 0x0141 | 0x0142 | 0x0340 | 0x0341 | 0x0342 | 0x0440 | 0x0603 =>
+            true,
         0x0343 | 0x0344 | 0x0345 | 0x0346 | 0x0347 | 0x0348 => true,
-        0x1040 | 0x1041 | 0x1043 | 0x1044 => true,
+        0x0640 | 0x0641 | 0x0642 => true,
+        0x1001 | 0x1030 | 0x1040 | 0x1041 | 0x1042 | 0x1043 | 0x1044 => true,
         _ => false,
     }
 }
@@ -92,13 +94,15 @@ fn has_number(shape: Shape, number: i64) -> bool
     ensures { result ≡ has_number shape number }
 {
     match shape {
-        Shape::Byte | Shape::Choice => 0 <= number && number <= 255,
+        Shape::Byte | Shape::Choice | Shape::Scenes | Shape::Lock => 0 <= number && number <= 255,
+        Shape::Pin => 0 <= number && number <= 9999,
         Shape::Word => 0 <= number && number <= 65535,
         Shape::Long => 0 <= number && number <= 4_294_967_295,
         Shape::SignedByte => -128 <= number && number <= 127,
         Shape::SignedWord => -32768 <= number && number <= 32767,
         Shape::SignedLong => -2_147_483_648 <= number && number <= 2_147_483_647,
-        Shape::Text | Shape::Bits(_) | Shape::Slots(_) | Shape::Names | Shape::Rates => true,
+        Shape::Text | Shape::Bits(_) | Shape::Slots(_) => true,
+        Shape::Names | Shape::Rates | Shape::Block => true,
     }
 }
 
@@ -108,11 +112,14 @@ fn has_limits(shape: Shape, low: i64, high: i64) -> bool
     ensures { result ≡ has_limits shape low high }
 {
     match shape {
-        Shape::Text | Shape::Names | Shape::Rates => true,
+        Shape::Text | Shape::Names | Shape::Rates | Shape::Block => true,
         Shape::Bits(size) => size as usize <= MOST_TEXT,
         Shape::Slots(size) => size as usize <= MOST_TEXT,
         Shape::Byte
         | Shape::Choice
+        | Shape::Scenes
+        | Shape::Lock
+        | Shape::Pin
         | Shape::Word
         | Shape::Long
         | Shape::SignedByte

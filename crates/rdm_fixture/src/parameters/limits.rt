@@ -36,7 +36,7 @@ pub(super) fn greatest(table: &Table, shape: Shape, low: i64) -> Result<i64, Ref
     integer_or(table, "maximum_valid_value", greatest, low, greatest)
 }
 
-/// The least number that data can say, and 0 where they are no number.
+/// The least number that data can say, and 0 where they say none.
 pub(crate) fn least_of(shape: Shape) -> i64
     ensures { result ≡ says.least_of shape }
 {
@@ -45,21 +45,25 @@ pub(crate) fn least_of(shape: Shape) -> i64
         Shape::SignedWord => -32768,
         Shape::SignedLong => -2_147_483_648,
         Shape::Byte | Shape::Word | Shape::Long | Shape::Choice => 0,
-        Shape::Text | Shape::Bits(_) | Shape::Slots(_) | Shape::Names | Shape::Rates => 0,
+        Shape::Scenes | Shape::Lock | Shape::Pin => 0,
+        Shape::Text | Shape::Bits(_) | Shape::Slots(_) => 0,
+        Shape::Names | Shape::Rates | Shape::Block => 0,
     }
 }
 
-/// The greatest number that data can say, and 0 where they are no number.
+/// The greatest number that data can say, or of the scenes that they tell of, and 0 where they say none.
 pub(crate) fn greatest_of(shape: Shape) -> i64
     ensures { result ≡ says.greatest_of shape }
 {
     match shape {
-        Shape::Byte | Shape::Choice => 255,
+        Shape::Byte | Shape::Choice | Shape::Scenes | Shape::Lock => 255,
         Shape::SignedByte => 127,
+        Shape::Pin => 9999,
         Shape::Word => 65535,
         Shape::SignedWord => 32767,
         Shape::Long => 4_294_967_295,
         Shape::SignedLong => 2_147_483_647,
-        Shape::Text | Shape::Bits(_) | Shape::Slots(_) | Shape::Names | Shape::Rates => 0,
+        Shape::Text | Shape::Bits(_) | Shape::Slots(_) => 0,
+        Shape::Names | Shape::Rates | Shape::Block => 0,
     }
 }

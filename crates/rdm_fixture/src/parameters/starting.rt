@@ -37,14 +37,18 @@ fn wanted_start(shape: Shape, low: i64, high: i64) -> Wanted
 {
     match shape {
         Shape::Text => Wanted::Text,
-        Shape::Bits(_) | Shape::Slots(_) | Shape::Names | Shape::Rates => Wanted::Slots,
+        Shape::Bits(_) | Shape::Slots(_) => Wanted::Slots,
+        Shape::Names | Shape::Rates => Wanted::Slots,
+        Shape::Scenes | Shape::Block => Wanted::Slots,
         Shape::Byte
         | Shape::SignedByte
         | Shape::Word
         | Shape::SignedWord
         | Shape::Long
         | Shape::SignedLong
-        | Shape::Choice => Wanted::Number {
+        | Shape::Choice
+        | Shape::Lock
+        | Shape::Pin => Wanted::Number {
             least: low,
             most: high,
         },
@@ -60,9 +64,13 @@ fn start_in(value: &Value, shape: Shape, low: i64, high: i64) -> Option<Text>
         Shape::Slots(_) => spelled(value),
         Shape::Names => spelled(value),
         Shape::Rates => spelled(value),
+        Shape::Scenes => spelled(value),
+        Shape::Block => spelled(value),
         Shape::Choice => Some(one_slot(integer_from(value, low, high)?)),
+        Shape::Lock => Some(one_slot(integer_from(value, low, high)?)),
         Shape::Byte => Some(one_slot(integer_from(value, low, high)?)),
         Shape::SignedByte => Some(one_slot(integer_from(value, low, high)?)),
+        Shape::Pin => Some(two_slots(integer_from(value, low, high)?)),
         Shape::Word => Some(two_slots(integer_from(value, low, high)?)),
         Shape::SignedWord => Some(two_slots(integer_from(value, low, high)?)),
         Shape::Long => Some(four_slots(integer_from(value, low, high)?)),

@@ -1,10 +1,12 @@
-//! Which parameters the profile adds, what the things are called of which one is chosen, and which of the standard's the fixture lacks.
+//! Which parameters the profile adds, what the things are called of which one is chosen, what is locked, and which of the standard's the
+//! fixture lacks.
 
 ghost use Rattle.std.specs.Prelude.{◌≡◌, ◌<◌, ◌≤◌, ◌↔◌, Some, None, IfErr, IfSome, AllPairs, length, [], ◌∷◌, codes};
-ghost use Rattle.rdm_device.specs.Device.Profiles.{MayBeLeftOut, Agree};
+ghost use Rattle.rdm_device.specs.Device.Profiles.{MayBeLeftOut, Agree, HaveStates};
 ghost use Rattle.rdm_fixture.specs.Faults.{fault, told};
 ghost use Rattle.rdm_fixture.specs.FirstWrong as parts;
 ghost use Rattle.rdm_fixture.specs.Format as says;
+ghost use Rattle.rdm_fixture.specs.Format.{AreLocks};
 ghost use Rattle.rdm_fixture.specs.Keys.{Reads, OfTable, EachIs, Lists};
 ghost use Rattle.rdm_fixture.specs.Parameters.{IsParameter};
 ghost use Rattle.rdm_fixture.specs.Wrong.{FirstWrong, entries};
@@ -14,24 +16,26 @@ ghost use Rattle.toml.specs.View.{view, array_view, table_view};
 
 use crate::keys::find;
 use crate::lists::list;
+use crate::profile::locks::locks;
 use crate::refusal::{Agreement, Refusal, Wanted};
 use arrayvec::ArrayVec;
-use rdm_device::{ChoiceName, ParameterDef, agree, are_optional, leave_no_need};
+use rdm_device::{ChoiceName, Lock, ParameterDef, agree, are_optional, have_states, leave_no_need};
 use rdm_params::Kind;
 use toml::value::Array;
 use toml::{Table, Value};
 
-/// What takes memory in a profile: the parameters that it adds, and the names of the things of which one is chosen.
+/// What takes memory in a profile: the parameters that it adds, the names of the things of which one is chosen, and what is locked.
 #[derive(Drop)]
 pub(crate) struct Added {
-    pub(crate) own: ArrayVec<ParameterDef, 16>,
+    pub(crate) own: ArrayVec<ParameterDef, 32>,
     pub(crate) choices: ArrayVec<ChoiceName, 64>,
+    pub(crate) locks: ArrayVec<Lock, 64>,
 }
 
-/// The parameters that a profile adds and the names of choices, which agree.
+/// The parameters that a profile adds and the names of choices, which agree, and the locks, of states that LOCK_STATE has.
 pub(super) fn additions(table: &Table) -> Result<Added, Refusal>
     ensures read { Reads (λ t a. parts.AreAdded t a.own.items a.choices.items × AllPairs (λ a b. a.pid < b.pid) a.own.items
-        × Agree a.own.items a.choices.items) (table_view table.now) result }
+        × Agree a.own.items a.choices.items × AreLocks t a.locks.items × HaveStates a.own.items a.locks.items) (table_view table.now) result }
     ensures wrong { IfErr result (λ e. FirstWrong parts.added_parts (table_view table.now) (told e)) }
 {
     let own = own_parameters(table)?;
@@ -39,14 +43,22 @@ pub(super) fn additions(table: &Table) -> Result<Added, Refusal>
     if !agree(own.as_slice(), choices.as_slice()) {
         return Err(Refusal::at("choice", Wanted::Agreement(Agreement::Names)));
     }
-    Ok(Added { own, choices })
+    let locks = locks(table)?;
+    if !have_states(own.as_slice(), locks.as_slice()) {
+        return Err(Refusal::at("lock", Wanted::Agreement(Agreement::States)));
+    }
+    Ok(Added {
+        own,
+        choices,
+        locks,
+    })
 }
 
 /// The parameters that a profile adds, in the order of their PIDs.
-fn own_parameters(table: &Table) -> Result<ArrayVec<ParameterDef, 16>, Refusal>
-    ensures read { Reads (λ t xs. Lists t (codes "parameter") (OfTable IsParameter) 0 16 xs.items
+fn own_parameters(table: &Table) -> Result<ArrayVec<ParameterDef, 32>, Refusal>
+    ensures read { Reads (λ t xs. Lists t (codes "parameter") (OfTable IsParameter) 0 32 xs.items
         × AllPairs (λ a b. a.pid < b.pid) xs.items) (table_view table.now) result }
-    ensures wrong { IfErr result (λ e. FirstWrong (entries (codes "parameter") IsParameter (FirstWrong parts.parameter_parts) 0 16
+    ensures wrong { IfErr result (λ e. FirstWrong (entries (codes "parameter") IsParameter (FirstWrong parts.parameter_parts) 0 32
         ∷ parts.ascending ∷ []) (table_view table.now) (told e)) }
 {
     let defs = list(table, "parameter", 0, 0)?;

@@ -23,8 +23,8 @@ pub(super) fn can_be_described(fixture: &Fixture) -> bool
     !fixture.uid.is_broadcast()
         && fixture.profile.subs <= MOST_SUB_DEVICES
         && is_good(&fixture.profile)
-        && fixture.profile.more_slots <= MOST_DMX_SLOTS
-        && are_sayable(fixture.profile.own.as_slice())
+        && fixture.profile.particulars.more_slots() <= MOST_DMX_SLOTS
+        && are_sayable(fixture.profile.particulars.own())
         && has_printable_texts(&fixture.profile)
         && are_coded(fixture.profile.languages.as_slice())
         && are_ruled(fixture.outcomes.as_slice())
@@ -63,6 +63,7 @@ fn can_stand(shape: Shape, start: &[u8]) -> bool
         Shape::Byte | Shape::SignedByte | Shape::Word | Shape::SignedWord => true,
         Shape::Long | Shape::SignedLong | Shape::Bits(_) | Shape::Slots(_) => true,
         Shape::Choice | Shape::Names | Shape::Rates => true,
+        Shape::Scenes | Shape::Lock | Shape::Pin | Shape::Block => true,
     }
 }
 
@@ -79,7 +80,7 @@ fn has_printable_texts(profile: &Profile) -> bool
         && are_sensors_printable(profile.sensors.as_slice())
         && are_tests_printable(profile.tests.as_slice())
         && are_statuses_printable(profile.status_texts.as_slice())
-        && are_choices_printable(profile.choices.as_slice())
+        && are_choices_printable(profile.particulars.choices())
 }
 
 /// The same of the root's or a sub-device's.

@@ -1,13 +1,16 @@
-//! The entries of the lists: personalities, slots, sensors, self tests, status IDs, and the names of choices.
+//! The entries of the lists: personalities, slots, sensors, self tests, status IDs, the names of choices, and the locks.
 
-ghost use Rattle.std.specs.Prelude.{◌≡◌, ◌≤◌, ◌<◌, IsTrue};
+ghost use Rattle.std.specs.Prelude.{◌≡◌, ◌≤◌, ◌<◌, IsTrue, IfOk, Some, [], ◌∷◌};
+ghost use Rattle.toml.specs.View.{view};
 ghost use Rattle.rdm_fixture.specs.Describable.{are_printable};
-ghost use Rattle.rdm_fixture.specs.Format.{IsPersonality, IsSlot, IsSensor, IsSelfTest, IsStatus, IsChoice};
+ghost use Rattle.rdm_fixture.specs.Format.{IsPersonality, IsSlot, IsSensor, IsSelfTest, IsStatus, IsChoice, IsLocking, locked_pid};
+ghost use Rattle.rdm_fixture.specs.Keys.{ListAt};
+ghost use Rattle.rdm_fixture.specs.Writing.{IsPlain, locking_of};
 
-use super::fields::{ToEntry, put_byte, put_flag, put_long, put_signed, put_text, put_word};
-use rdm_device::{ChoiceName, Personality, SelfTest, SensorDef, Slot, StatusText};
+use super::fields::{ToEntry, put, put_byte, put_flag, put_long, put_signed, put_text, put_word};
+use rdm_device::{ChoiceName, Lock, Personality, SelfTest, SensorDef, Slot, StatusText};
 use std::alloc::{AllocError, Global};
-use toml::Table;
+use toml::{Table, Value};
 
 impl ToEntry for Personality {
     ghost says = { IsPersonality };
@@ -109,4 +112,31 @@ impl ToEntry for ChoiceName {
         put_text(alloc, &mut table, "description", &self.name)?;
         Ok(table)
     }
+}
+
+/// A table for each lock, though a table could have several of one state.
+impl ToEntry for Lock {
+    ghost says = { λ _ t l. IsLocking t (locking_of l) };
+
+    ghost can = { λ _ l. 1 ≤ l.state };
+
+    ghost deep = { 2 };
+
+    fn to_entry(&self, alloc: Global) -> Result<Table, AllocError> {
+        let mut table = Table::new(alloc);
+        put_byte(alloc, &mut table, "state", self.state)?;
+        let parameters = only_pid(alloc, self.pid)?;
+        put(alloc, &mut table, "parameters", Some(parameters))?;
+        Ok(table)
+    }
+}
+
+/// A list of this PID alone.
+fn only_pid(alloc: Global, pid: u16) -> Result<Value, AllocError>
+    ensures says { IfOk result (λ v. ListAt (λ d p. locked_pid d ≡ Some p) (Some (view v)) (pid ∷ [])) }
+    ensures plain { IfOk result (λ v. IsPlain 1 (view v)) }
+{
+    let mut pids = Vec::new(alloc);
+    pids.push(Value::from(u32::from(pid)))?;
+    Ok(Value::Array(pids))
 }

@@ -76,7 +76,7 @@ fn slots_of(width: Width) -> u8
     }
 }
 
-/// The name of the commands (E1.20 table A-16).
+/// The name of the commands (E1.20 table A-16; `get_clear` is a GET with a SET that sets back).
 fn rights_name(rights: Rights) -> &'static str
     ensures { result.now ≡ rights_name rights }
 {
@@ -84,6 +84,7 @@ fn rights_name(rights: Rights) -> &'static str
         Rights::Get => "get",
         Rights::Set => "set",
         Rights::Both => "get_set",
+        Rights::Clear => "get_clear",
     }
 }
 
@@ -104,6 +105,10 @@ fn shape_name(shape: Shape) -> &'static str
         Shape::Choice => "choice",
         Shape::Names => "names",
         Shape::Rates => "rates",
+        Shape::Scenes => "scenes",
+        Shape::Lock => "lock",
+        Shape::Pin => "pin",
+        Shape::Block => "block",
     }
 }
 
@@ -136,6 +141,8 @@ fn text_of(alloc: Global, shape: Shape, slots: &[u8]) -> Result<String, AllocErr
         Shape::SignedWord | Shape::Long | Shape::SignedLong => digits_of(alloc, slots),
         Shape::Bits(_) | Shape::Slots(_) => digits_of(alloc, slots),
         Shape::Choice | Shape::Names | Shape::Rates => digits_of(alloc, slots),
+        Shape::Scenes | Shape::Block => digits_of(alloc, slots),
+        Shape::Lock | Shape::Pin => digits_of(alloc, slots),
     }
 }
 

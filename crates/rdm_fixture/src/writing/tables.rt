@@ -48,7 +48,12 @@ pub(super) fn table_of(alloc: Global, fixture: &Fixture) -> Result<Table, AllocE
         Some(languages_of(alloc, &profile.languages)?),
     )?;
     put_word(alloc, &mut table, "presets", profile.presets)?;
-    put_word(alloc, &mut table, "more_slots", profile.more_slots)?;
+    put_word(
+        alloc,
+        &mut table,
+        "more_slots",
+        profile.particulars.more_slots(),
+    )?;
     put(
         alloc,
         &mut table,
@@ -77,19 +82,25 @@ pub(super) fn table_of(alloc: Global, fixture: &Fixture) -> Result<Table, AllocE
         alloc,
         &mut table,
         "without",
-        names_of(alloc, profile.without.as_slice())?,
+        names_of(alloc, profile.particulars.without())?,
     )?;
     put(
         alloc,
         &mut table,
         "parameter",
-        list_of(alloc, profile.own.as_slice())?,
+        list_of(alloc, profile.particulars.own())?,
     )?;
     put(
         alloc,
         &mut table,
         "choice",
-        list_of(alloc, profile.choices.as_slice())?,
+        list_of(alloc, profile.particulars.choices())?,
+    )?;
+    put(
+        alloc,
+        &mut table,
+        "lock",
+        list_of(alloc, profile.particulars.locks())?,
     )?;
     put(
         alloc,
@@ -107,7 +118,7 @@ pub(super) fn table_of(alloc: Global, fixture: &Fixture) -> Result<Table, AllocE
         alloc,
         &mut table,
         "estimates",
-        estimates_of(alloc, &profile.estimates)?,
+        estimates_of(alloc, profile.particulars.estimates())?,
     )?;
     put(
         alloc,
@@ -191,12 +202,12 @@ fn sub_devices_of(alloc: Global, profile: &Profile) -> Result<Option<Value>, All
 }
 
 /// The table of the times of slow commands. Without it they are the usual ones.
-fn estimates_of(alloc: Global, estimates: &Estimates) -> Result<Option<Value>, AllocError>
-    ensures says { IfOk result (λ v. EstimatesAt (option_map view v) estimates.now) }
+fn estimates_of(alloc: Global, estimates: Estimates) -> Result<Option<Value>, AllocError>
+    ensures says { IfOk result (λ v. EstimatesAt (option_map view v) estimates) }
     ensures plain { IfOk result (λ v. IfSome v (λ x. IsPlain 1 (view x))) }
 {
     estimates_are_equal_by_value();
-    if *estimates == Estimates::usual() {
+    if estimates == Estimates::usual() {
         return Ok(None);
     }
     let mut table = Table::new(alloc);

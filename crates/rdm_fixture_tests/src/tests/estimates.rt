@@ -50,7 +50,7 @@ fn estimates_of(
         power,
         self_test,
         sensor,
-    } = fixture.profile.estimates;
+    } = fixture.profile.particulars.estimates();
     Ok((lamp, power, self_test, sensor))
 }
 

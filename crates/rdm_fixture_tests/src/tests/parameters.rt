@@ -1,7 +1,7 @@
 //! The parameters that a fixture has beside those of the standard, and those of the standard that it lacks.
 
 use super::{LEAST, told, try_rows};
-use rdm_device::{OwnParameters, ParameterDef, Rights, Shape};
+use rdm_device::{ParameterDef, Particular, Particulars, Rights, Shape};
 use rdm_fixture::{Fixture, WriteError};
 use rdm_frame::Text;
 use std::process::Abort;
@@ -130,7 +130,7 @@ fn what_parameters_start_with(rt: HostRuntime) -> Result<(), Fail> {
     ];
     for (keys, shape, start, low, high) in rows {
         let fixture = read(&rt, keys)?;
-        let own = fixture.profile.own.as_slice();
+        let own = fixture.profile.particulars.own();
         let def = own.first().ok_or("a parameter")?;
         assert_eq!(rt; def.shape, shape);
         assert_eq!(rt; def.start.as_slice(), start);
@@ -145,21 +145,22 @@ fn what_parameters_start_with(rt: HostRuntime) -> Result<(), Fail> {
     Ok(())
 }
 
-/// FACTORY_DEFAULTS sets back what has a SET, unless the file says otherwise.
+/// FACTORY_DEFAULTS sets back a setting, unless the file says otherwise.
 #[test]
 fn what_is_set_back(rt: HostRuntime) -> Result<(), Fail> {
     for (class, said, resets) in [
         ("get", "", false),
-        ("set", "", true),
+        ("set", "", false),
         ("get_set", "", true),
         ("get", "factory_defaults = true", true),
+        ("set", "factory_defaults = true", true),
         ("get_set", "factory_defaults = false", false),
     ] {
         let text = format!(in rt.alloc();
             "{LEAST}[[parameter]]\npid = 0x8001\ncommand_class = \"{class}\"\ndata_type = \"ascii\"\ndefault_value = \"\"\n{said}"
         )?;
         let fixture = Fixture::from_toml(rt.alloc(), text.as_str())?;
-        for def in fixture.profile.own.as_slice() {
+        for def in fixture.profile.particulars.own() {
             assert_eq!(rt; def.resets, resets);
         }
     }
@@ -199,7 +200,7 @@ fn refused_parameters(rt: HostRuntime) -> Result<(), Fail> {
             (
                 "",
                 "[[parameter]]\npid = 0x8000\ncommand_class = \"GET\"",
-                "line 8: in parameter 1, `command_class` must be get, set or get_set",
+                "line 8: in parameter 1, `command_class` must be get, set, get_set or get_clear",
             ),
             (
                 "",
@@ -209,7 +210,7 @@ fn refused_parameters(rt: HostRuntime) -> Result<(), Fail> {
             (
                 "",
                 parameter!("data_type = \"word\""),
-                "line 9: in parameter 1, `data_type` must be unsigned_byte, signed_byte, unsigned_word, signed_word, unsigned_dword, signed_dword, ascii, bit_field, not_defined, choice, names or rates",
+                "line 9: in parameter 1, `data_type` must be unsigned_byte, signed_byte, unsigned_word, signed_word, unsigned_dword, signed_dword, ascii, bit_field, not_defined, choice, names, rates, scenes, lock, pin or block",
             ),
             (
                 "",
@@ -295,7 +296,7 @@ fn refused_parameters(rt: HostRuntime) -> Result<(), Fail> {
             (
                 "parameter = 1",
                 "",
-                "line 1: `parameter` isn't a list of 0 to 16 entries",
+                "line 1: `parameter` isn't a list of 0 to 32 entries",
             ),
         ],
     )
@@ -368,10 +369,10 @@ fn refused_with(
     rt: &(impl Abort + AllocGlobal),
     def: ParameterDef,
 ) -> Result<Option<WriteError>, Fail> {
-    let mut own = OwnParameters::none();
-    own.push(rt.alloc(), def)?;
+    let mut particular = Particular::usual();
+    particular.own.push(rt.alloc(), def)?;
     let mut fixture = Fixture::from_toml(rt.alloc(), LEAST)?;
-    fixture.profile.own = own;
+    fixture.profile.particulars = Particulars::of(rt.alloc(), particular)?;
     Ok(fixture.to_toml(rt.alloc()).err())
 }
 
@@ -390,7 +391,9 @@ fn unwritten_parameters(rt: HostRuntime) -> Result<(), Fail> {
     def.start = Text::of(b"two\nlines");
     assert!(rt; refused_with(&rt, def)? == Some(WriteError::Indescribable));
     let mut fixture = Fixture::from_toml(rt.alloc(), LEAST)?;
-    fixture.profile.more_slots = 513;
+    let mut particular = Particular::usual();
+    particular.more_slots = 513;
+    fixture.profile.particulars = Particulars::of(rt.alloc(), particular)?;
     assert!(rt; fixture.to_toml(rt.alloc()).err() == Some(WriteError::Indescribable));
     assert_eq!(rt; told(rt.alloc(), LEAST)?.as_str(), "");
     Ok(())

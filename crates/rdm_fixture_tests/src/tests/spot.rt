@@ -99,7 +99,7 @@ fn a_spot_has_one_worker_and_a_sensor_that_is_answered_at_once(
 ) -> Result<(), Fail> {
     let spot = Fixture::from_toml(rt.alloc(), SPOT)?;
     assert_eq!(rt; spot.profile.workers, ALONE);
-    assert_eq!(rt; spot.profile.estimates, TIMES);
+    assert_eq!(rt; spot.profile.particulars.estimates(), TIMES);
     let mut at_once = [true, true];
     for (slot, sensor) in at_once.iter_mut().zip(spot.profile.sensors.iter()) {
         *slot = sensor.at_once;

@@ -33,8 +33,8 @@ fn numbers_in_slots(rt: HostRuntime) -> Result<(), Fail> {
         &rt,
         "[[parameter]]\npid = 0x8001\ncommand_class = \"get_set\"\ndata_type = \"not_defined\"\nfields = [{ slots = 2, minimum_valid_value = 5, maximum_valid_value = 300, also_valid_value = 0xFFFF }, { slots = 4, minimum_valid_value = 7 }, { slots = 1 }]\ndefault_value = \"012C0000000700\"\n",
     )?;
-    assert!(rt; fixture.profile.own.as_slice().len() == 1);
-    let def = &fixture.profile.own.as_slice()[0];
+    assert!(rt; fixture.profile.particulars.own().len() == 1);
+    let def = &fixture.profile.particulars.own()[0];
     let wanted = [
         Field {
             width: Width::Two,
@@ -67,9 +67,9 @@ fn choices_and_names(rt: HostRuntime) -> Result<(), Fail> {
         "{CURVES}[[choice]]\npid = 0x0344\nnumber = 1\ndescription = \"Linear\"\n[[choice]]\npid = 0x0344\nnumber = 2\nhertz = 7\n"
     )?;
     let fixture = read(&rt, keys.as_str())?;
-    assert!(rt; fixture.profile.own.as_slice().len() == 2);
-    let curve = &fixture.profile.own.as_slice()[0];
-    let names = &fixture.profile.own.as_slice()[1];
+    assert!(rt; fixture.profile.particulars.own().len() == 2);
+    let curve = &fixture.profile.particulars.own()[0];
+    let names = &fixture.profile.particulars.own()[1];
     assert!(rt; curve.shape == Shape::Choice && curve.start.as_slice() == [1].as_slice());
     assert!(rt; names.shape == Shape::Names && names.start.as_slice().is_empty());
     let wanted = [
@@ -86,7 +86,7 @@ fn choices_and_names(rt: HostRuntime) -> Result<(), Fail> {
             name: Text::new(),
         },
     ];
-    assert!(rt; fixture.profile.choices.as_slice() == wanted.as_slice());
+    assert!(rt; fixture.profile.particulars.choices() == wanted.as_slice());
     check_written(&rt, &fixture)
 }
 

@@ -2,7 +2,7 @@
 use Rattle.std.specs.Prelude.{ℕ, List, [], ◌∷◌, Option, codes}
 use Rattle.rdm_params.specs.declared.nack.Nack.{Nack}
 use Rattle.rdm_params.specs.Table.Names.{name_in}
-use Rattle.rdm_params.specs.declared.nack.Nack.TheVariants.{UnknownPid, FormatError, UnsupportedCommandClass, DataOutOfRange, BufferFull, SubDeviceOutOfRange}
+use Rattle.rdm_params.specs.declared.nack.Nack.TheVariants.{UnknownPid, FormatError, UnsupportedCommandClass, DataOutOfRange, WriteProtect, BufferFull, SubDeviceOutOfRange}
 
 -- the code of each reason, from table A-17
 abbrev pub nack_code : Nack → ℕ
@@ -10,6 +10,7 @@ nack_code UnknownPid = 0
 nack_code FormatError = 1
 nack_code UnsupportedCommandClass = 5
 nack_code DataOutOfRange = 6
+nack_code WriteProtect = 4
 nack_code BufferFull = 7
 nack_code SubDeviceOutOfRange = 9
 

@@ -10,11 +10,10 @@ use Rattle.rdm_device.specs.declared.value.Value.{Value}
 use Rattle.rdm_device.specs.declared.value.Value.TheVariants.{Byte}
 use Rattle.rdm_params.specs.Commands.Commands.{addressed, carried_out, command_of, root_spot}
 use Rattle.rdm_device.specs.declared.profile.own.ParameterDef.{ParameterDef}
-use Rattle.rdm_device.specs.Columns.Added.{added_stored, is_pid_of}
+use Rattle.rdm_device.specs.Columns.Added.{keeps_data, placed_form, placed_within, placed_stored, is_pid_of}
 use Rattle.rdm_device.specs.Columns.Forms.{value_of}
 use Rattle.rdm_device.specs.Device.Map.{Entry, update}
 use Rattle.rdm_device.specs.Device.Measuring.{placed_by}
-use Rattle.rdm_device.specs.Device.OwnParameters.{form_of, is_within}
 use Rattle.rdm_device.specs.Device.Parameters.{Parameters}
 use Rattle.rdm_device.specs.Device.Spot.{Spot}
 use Rattle.rdm_params.specs.Table.Rows.{row_of, is_left_out}
@@ -39,15 +38,22 @@ abbrev pub own_at : Parameters → ℕ → ℕ → Option ParameterDef
 own_at p sub pid =
     if is_left_out p.profile pid then None
     else if is_some (row_of pid) then None
-    else if sub == 0 then find (is_pid_of pid) p.profile.own else None
+    else if sub == 0 then find (is_pid_of pid) p.profile.particulars.own else None
 
--- The refusal of data as its value, whichever commands it has: as those of a SET of it.
+-- the refusal of data of a parameter that keeps some
+abbrev pub data_refusal : ParameterDef → List ℕ → Option PlaceError
+data_refusal d bytes =
+    option_map_or (λ value. if placed_within d.shape d value then None else Some OutOfRange)
+    (value_of (placed_form d.shape) bytes) (Some Length)
+
+-- The refusal of data as its value, or as one of its scenes, whichever commands it has.
 abbrev pub own_refusal : ParameterDef → List ℕ → Option PlaceError
-own_refusal d bytes = option_map_or (λ value. if is_within d value then None else Some OutOfRange) (value_of (form_of d.shape) bytes) (Some Length)
+own_refusal d bytes = if keeps_data d.shape then data_refusal d bytes else Some NoValue
 
--- what a SET of it with these data makes of the values of the parameters that the maker adds
+-- what these data make of the values of the parameters that the maker adds
 abbrev pub own_values : Spot → ParameterDef → List ℕ → List Entry
-own_values spot d bytes = option_map_or (λ value. update (added_stored d.pid spot value) spot.added) (value_of (form_of d.shape) bytes) spot.added
+own_values spot d bytes =
+    option_map_or (λ value. update (placed_stored d spot value) spot.added) (value_of (placed_form d.shape) bytes) spot.added
 
 abbrev pub own_placed : Parameters → ParameterDef → List ℕ → Parameters
 own_placed p d bytes = record p { added = own_values (root_spot p) d bytes }

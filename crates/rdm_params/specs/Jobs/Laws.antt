@@ -70,7 +70,7 @@ table_estimate pid = if pid == 0x0403 then 50 else if pid == 0x1010 then 20 else
 -- Devices with the usual estimates take the times of the table.
 abbrev pub UsualTakesTheTablesTime : Type 0
 UsualTakesTheTablesTime =
-    (p : Profile) (w : Work) → p.estimates ≡ usual → is_slow (command_of w.pid w.verb) ≡ true → estimate_of p w ≡ table_estimate w.pid
+    (p : Profile) (w : Work) → p.particulars.estimates ≡ usual → is_slow (command_of w.pid w.verb) ≡ true → estimate_of p w ≡ table_estimate w.pid
 
 -- the usual worker of each: 0 of LAMP_STATE and POWER_STATE, and 1 of PERFORM_SELFTEST and SENSOR_VALUE
 abbrev pub table_worker : ℕ → ℕ

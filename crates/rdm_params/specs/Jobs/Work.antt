@@ -29,7 +29,7 @@ worker_at ws w = worker_in ws (way_of (command_of w.pid w.verb))
 
 -- how long the job takes by the estimates of a profile, in tenths of a second, and 0 if the work isn't a slow command
 abbrev pub estimate_of : Profile → Work → ℕ
-estimate_of p w = estimate_in p.estimates (way_of (command_of w.pid w.verb))
+estimate_of p w = estimate_in p.particulars.estimates (way_of (command_of w.pid w.verb))
 
 -- The work is a slow command that these devices accept.
 pub record IsAccepted (p : Parameters) (w : Work) : Type 0 where

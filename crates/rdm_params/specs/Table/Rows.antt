@@ -12,12 +12,13 @@ use Rattle.rdm_device.specs.declared.profile.own.Shape.{Shape}
 use Rattle.rdm_device.specs.declared.profile.own.Shape.TheVariants as shapes
 use Rattle.rdm_device.specs.declared.profile.Profile.{Profile}
 use Rattle.rdm_device.specs.declared.value.Value.{Value}
-use Rattle.rdm_device.specs.Columns.Added.{within, added_value, choice_shown, a_name, name_shown, added_stored, added_set_back, has_makers_pid, a_makers_pid, described}
+use Rattle.rdm_device.specs.Columns.Scenes.{a_scene, scene_shown}
+use Rattle.rdm_device.specs.Columns.Added.{added_value, choice_shown, a_name, name_shown, set_form, set_range, own_stored, added_set_back, has_makers_pid, a_makers_pid, described}
 use Rattle.rdm_device.specs.Columns.Changes.{Change, unchanged, stored_at, set_back, sensors_reset, sensors_recorded}
 use Rattle.rdm_device.specs.Columns.Forms.{Form, nothing, byte, word, long, preset, label}
 use Rattle.rdm_device.specs.Device.LeftOut.{lacks}
 use Rattle.rdm_device.specs.Device.Map.{lookup}
-use Rattle.rdm_device.specs.Device.OwnParameters.{form_of, has_get, has_set}
+use Rattle.rdm_device.specs.Device.OwnParameters.{has_get, has_set}
 use Rattle.rdm_device.specs.Columns.Ranges.{Range, any, below, a_message_type, a_threshold, a_status, a_language, a_personality, a_start, a_slot, a_sensor, sensors, a_power_state, a_test, a_self_test, a_preset}
 use Rattle.rdm_device.specs.Columns.Replies.{status_text, device_info, at_factory_defaults, languages, personality_of_all, personality_described, start_address, used_slots, slot_infos, slot_described, slot_defaults, sensor_described, sensor_measured, self_test_runs, self_test_described}
 use Rattle.rdm_device.specs.Device.Spot.{Spot}
@@ -198,17 +199,19 @@ abbrev pub shows_added : Cell
 shows_added pid = reads (added_value pid) pid
 
 -- the GET of a parameter that the maker adds, by the shape of its data: the number of a choice has the greatest behind it, names are
--- asked for by their numbers, and of all others the GET shows what is kept
+-- asked for by their numbers and so are scenes, and of all others the GET shows what is kept; a block keeps nothing
 abbrev pub gets_added : Shape → ParameterDef → Cell
 gets_added shapes.Choice d = reads (choice_shown d)
+gets_added shapes.Lock d = reads (choice_shown d)
 gets_added shapes.Names d = asks byte (a_name d) (name_shown d)
 gets_added shapes.Rates d = asks byte (a_name d) (name_shown d)
+gets_added shapes.Scenes d = asks word (a_scene d) (scene_shown d)
 gets_added _ d = shows_added
 
--- a SET that keeps its data as the value of a parameter that the maker adds
-abbrev pub takes_added : Form → (Form → Range) → Cell
-takes_added form range pid =
-    Some (record { form = form; range = range form; way = AtOnce; change = unchanged; added_change = added_stored pid; reply = λ spot v. []; keeps = true })
+-- a SET of a parameter that the maker adds, with what it makes of the entries of it
+abbrev pub takes_added : Form → (Form → Range) → Change → Cell
+takes_added form range added_change pid =
+    Some (record { form = form; range = range form; way = AtOnce; change = unchanged; added_change = added_change; reply = λ spot v. []; keeps = true })
 
 -- the row of a parameter that the maker adds
 abbrev pub added_row : ParameterDef → Row
@@ -216,7 +219,7 @@ added_row d = record {
   pid = d.pid;
   root_only = root;
   get = if has_get d.rights then gets_added d.shape d d.pid else None;
-  set = if has_set d.rights then takes_added (form_of d.shape) (within d) d.pid else None;
+  set = if has_set d.rights then takes_added (set_form d) (set_range d) (own_stored d) d.pid else None;
 }
 
 -- PARAMETER_DESCRIPTION: section 10.4.2
@@ -226,14 +229,14 @@ description_row = row 0x0051 root (asks word a_makers_pid described) none
 -- The rows that a profile adds to the table: one for each parameter that the maker adds, and PARAMETER_DESCRIPTION where
 -- one of these has a PID that the standard leaves to makers.
 unfoldable pub added_rows : Profile → List Row
-added_rows p = (if list_any has_makers_pid p.own then description_row ∷ [] else []) ++ map added_row p.own
+added_rows p = (if list_any has_makers_pid p.particulars.own then description_row ∷ [] else []) ++ map added_row p.particulars.own
 
 abbrev pub added_pids : Profile → List ℕ
 added_pids p = map (λ r. r.pid) (added_rows p)
 
 -- whether the devices of a profile lack a parameter of the table
 abbrev pub is_left_out : Profile → ℕ → Bool
-is_left_out p pid = lacks p.without.items pid
+is_left_out p pid = lacks p.particulars.without.items pid
 
 -- a PID among others that are in their order, before the first that isn't below it
 abbrev pub with_pid : ℕ → List ℕ → List ℕ

@@ -1,55 +1,154 @@
 //! The commands of the parameters that a profile adds to the table, which the root alone has.
 
-ghost use Rattle.std.specs.Prelude.{◌≡◌, ◌≢◌, ◌↔◌, ◌==◌, ◌&&◌, [], Some, Ok, Err, IfOk, IfErr, true, false, is_ok, find};
+ghost use Rattle.std.specs.Prelude.{◌≡◌, ◌≢◌, ◌↔◌, ◌≤◌, ◌==◌, ◌&&◌, ◌||◌, List, [], Some, Ok, Err, IfOk, IfErr, IfSome, true, false, is_ok, find, length};
 ghost use Rattle.std.specs.List.{list_any};
 ghost use Rattle.std.specs.Option.{option_copied};
 ghost use Rattle.rdm_params.specs.declared.kind.Verb.TheVariants.{Get, Set};
+ghost use Rattle.rdm_params.specs.declared.nack.Nack.TheVariants.{UnknownPid};
+ghost use Rattle.rdm_params.specs.declared.verdict.Verdict.TheVariants.{Reply, Refuse};
 ghost use Rattle.rdm_device.specs.declared.profile.own.Shape.TheVariants as shapes;
 ghost use Rattle.rdm_device.specs.Columns.Added.{has_makers_pid, is_pid_of};
+ghost use Rattle.rdm_device.specs.Device.Map.{value_at};
+ghost use Rattle.rdm_device.specs.Device.Locks.{is_locked};
 ghost use Rattle.rdm_device.specs.Device.Spot.{Spot};
 ghost use Rattle.rdm_device.specs.Views.State.{own_entries, added_entries};
-ghost use Rattle.rdm_params.specs.Commands.Added.{row_here, handed_here, reply_of, reply_here, after_here};
-ghost use Rattle.rdm_params.specs.Commands.Commands.{root_spot};
-ghost use Rattle.rdm_params.specs.Table.Rows.{description_row, added_row, gets_added, shows_added};
+ghost use Rattle.rdm_params.specs.Commands.Added.{row_here, handed_with, handed_here, reply_of, reply_here, after_with, after_here};
+ghost use Rattle.rdm_params.specs.Commands.Commands.{root_spot, is_read_only, open_to, got, answer_to_set, after_set};
+ghost use Rattle.rdm_device.specs.declared.profile.own.ParameterDef.{ParameterDef};
+ghost use Rattle.rdm_params.specs.Table.Rows.{row_of, is_left_out, description_row, added_row, gets_added, shows_added};
+ghost use Rattle.rdm_params.specs.Table.Uses.{access};
 
 use super::Devices;
+use super::blocks::DMX_BLOCK_ADDRESS;
 use crate::{Nack, Profile};
 use rdm_device::columns::{added, forms};
-use rdm_device::{ParameterDef, Place, RootValues, Shape};
+use rdm_device::{Argument, Kept, ParameterDef, Place, Rights, RootValues, Shape};
 use rdm_frame::Body;
 use rdm_frame::standard::PARAMETER_DESCRIPTION;
 
+/// PRESET_STATUS (E1.37-1).
+const PRESET_STATUS: u16 = 0x1042;
+
 impl Devices {
-    /// What a GET of the root answers, by what the profile adds.
+    /// What is kept at the root of a parameter that the profile adds, also of one that has no GET: an order. `None` if the profile adds
+    /// none with this PID.
+    pub fn own_value(&self, pid: u16) -> Option<&[u8]>
+        ensures value { option_copied result ≡ value_at self.now.added pid }
+        ensures few { IfSome result (λ bytes. length bytes.now ≤ 32) }
+    {
+        added::value_of(self.own.added.as_slice(), pid)
+    }
+
+    /// What a GET of the root answers of a parameter that the table doesn't have.
     // A call, so that the commands of the table don't make room for it.
     #[cold]
     #[inline(never)]
+    pub(super) fn get_added(&self, pid: u16, data: &[u8], body: &mut Body) -> Result<(), Nack>
+        requires empty { body.old ≡ [] }
+        requires stays { is_left_out self.now.profile pid ≡ false }
+        requires unknown { access (row_of pid) true Get ≡ Err UnknownPid }
+        ensures ok { IfOk result (λ u. got self.now 0 pid data.now ≡ Reply body.new) }
+        ensures err { IfErr result (λ nack. got self.now 0 pid data.now ≡ Refuse nack) }
+        ensures empty { result ≢ Ok tt → body.new ≡ [] }
+    {
+        if pid == DMX_BLOCK_ADDRESS {
+            return self.get_block(data, body);
+        }
+        self.get_at_root(pid, data, body)
+    }
+
+    /// What a SET of the root changes by a parameter that the table doesn't have, and whether that is another value.
+    // A call, as that for a GET.
+    #[cold]
+    #[inline(never)]
+    #[tactic(auto, using(crate::proofs::BlockCommands::added_set, crate::proofs::BlockCommands::added_after))]
+    pub(super) fn set_added(&mut self, pid: u16, data: &[u8]) -> Result<bool, Nack>
+        requires stays { is_left_out self.old.profile pid ≡ false }
+        requires unknown { access (row_of pid) true Set ≡ Err UnknownPid }
+        ensures ok { IfOk result (λ differs. answer_to_set self.old 0 pid data.now ≡ Reply []) }
+        ensures err { IfErr result (λ nack. answer_to_set self.old 0 pid data.now ≡ Refuse nack) }
+        ensures after { self.new ≡ after_set self.old 0 pid data.now }
+        ensures same { IfOk result (λ differs. (differs ≡ false) ↔ (self.new ≡ self.old)) }
+        ensures kept { IfErr result (λ nack. self.new ≡ self.old) }
+    {
+        if pid == DMX_BLOCK_ADDRESS {
+            return self.set_block(data);
+        }
+        self.set_at_root(pid, data)
+    }
+
+    /// What a GET of the root answers, by what the profile adds.
+    #[inline(always)]
     #[tactic(auto, using(crate::proofs::AddedRows::description_here, crate::proofs::AddedRows::parameter_here, crate::proofs::AddedRows::nothing_here))]
     pub(super) fn get_at_root(&self, pid: u16, data: &[u8], body: &mut Body) -> Result<(), Nack>
         requires { body.old ≡ [] }
-        ensures ok { IfOk result (λ u. reply_here (root_spot self.now) (row_here self.now.profile pid) Get data.now ≡ Ok body.new) }
-        ensures err { IfErr result (λ nack. reply_here (root_spot self.now) (row_here self.now.profile pid) Get data.now ≡ Err nack) }
+        ensures ok { IfOk result (λ u. reply_here (root_spot self.now) pid (row_here self.now.profile pid) Get data.now ≡ Ok body.new) }
+        ensures err { IfErr result (λ nack. reply_here (root_spot self.now) pid (row_here self.now.profile pid) Get data.now ≡ Err nack) }
         ensures empty { result ≢ Ok tt → body.new ≡ [] }
     {
-        let place = self.root_place();
         if is_description(&self.profile, pid) {
-            return get_description(&place, data, body);
+            return get_description(&self.root_place(), data, body);
         }
         match parameter_of(&self.profile, pid) {
-            Some(def) => get_parameter(&place, def, data, body),
+            Some(def) => self.get_parameter(def, data, body),
             None => Err(Nack::UnknownPid),
         }
     }
 
+    /// What a parameter that the maker adds replies to a GET.
+    #[inline(always)]
+    fn get_parameter(&self, def: &ParameterDef, data: &[u8], body: &mut Body) -> Result<(), Nack>
+        requires { body.old ≡ [] }
+        ensures ok { IfOk result (λ u. reply_here (root_spot self.now) def.now.pid (Some (added_row def.now)) Get data.now ≡ Ok body.new) }
+        ensures err { IfErr result (λ nack. reply_here (root_spot self.now) def.now.pid (Some (added_row def.now)) Get data.now ≡ Err nack) }
+        ensures empty { result ≢ Ok tt → body.new ≡ [] }
+    {
+        if !added::has_get(def.rights) {
+            return Err(Nack::UnsupportedCommandClass);
+        }
+        self.get_by_shape(def.shape, def, data, body)
+    }
+
+    /// What such a parameter replies whose data have this shape.
+    // A place for each that needs one: most replies are what is kept.
+    #[inline(always)]
+    fn get_by_shape(
+        &self,
+        shape: Shape,
+        def: &ParameterDef,
+        data: &[u8],
+        body: &mut Body,
+    ) -> Result<(), Nack>
+        requires { body.old ≡ [] }
+        ensures ok { IfOk result (λ u. reply_of (root_spot self.now) (gets_added shape def.now def.now.pid) data.now ≡ Ok body.new) }
+        ensures err { IfErr result (λ nack. reply_of (root_spot self.now) (gets_added shape def.now def.now.pid) data.now ≡ Err nack) }
+        ensures empty { result ≢ Ok tt → body.new ≡ [] }
+    {
+        match shape {
+            Shape::Choice | Shape::Lock => get_choice(&self.root_place(), def, data, body),
+            Shape::Names | Shape::Rates => get_name(&self.root_place(), def, data, body),
+            Shape::Scenes => get_scene(&self.root_place(), def, data, body),
+            Shape::Byte
+            | Shape::Word
+            | Shape::Long
+            | Shape::SignedByte
+            | Shape::SignedWord
+            | Shape::SignedLong
+            | Shape::Text
+            | Shape::Bits(_)
+            | Shape::Slots(_)
+            | Shape::Pin
+            | Shape::Block => get_kept(&self.root_place(), def, data, body),
+        }
+    }
+
     /// What a SET of the root changes, by what the profile adds, and whether that is another value.
-    // A call, as that for a GET.
-    #[cold]
-    #[inline(never)]
+    #[inline(always)]
     #[tactic(auto, using(crate::proofs::AddedRows::description_here, crate::proofs::AddedRows::parameter_here, crate::proofs::AddedRows::nothing_here))]
-    pub(super) fn set_at_root(&mut self, pid: u16, data: &[u8]) -> Result<bool, Nack>
-        ensures ok { IfOk result (λ differs. is_ok (handed_here (root_spot self.old) (row_here self.old.profile pid) Set data.now) ≡ true) }
-        ensures err { IfErr result (λ nack. handed_here (root_spot self.old) (row_here self.old.profile pid) Set data.now ≡ Err nack) }
-        ensures after { self.new ≡ record self.old { added = after_here (root_spot self.old) (row_here self.old.profile pid) data.now } }
+    fn set_at_root(&mut self, pid: u16, data: &[u8]) -> Result<bool, Nack>
+        ensures ok { IfOk result (λ differs. is_ok (handed_here (root_spot self.old) pid (row_here self.old.profile pid) Set data.now) ≡ true) }
+        ensures err { IfErr result (λ nack. handed_here (root_spot self.old) pid (row_here self.old.profile pid) Set data.now ≡ Err nack) }
+        ensures after { self.new ≡ record self.old { added = after_here (root_spot self.old) pid (row_here self.old.profile pid) data.now } }
         ensures same { IfOk result (λ differs. (differs ≡ false) ↔ (self.new ≡ self.old)) }
     {
         let profile = &self.profile;
@@ -57,7 +156,12 @@ impl Devices {
             return Err(Nack::UnsupportedCommandClass);
         }
         match parameter_of(profile, pid) {
-            Some(def) => set_parameter(def, data, &mut self.own),
+            Some(def) => {
+                let values = self.own.added.as_slice();
+                let protected = is_protected(profile, values, pid, def, data);
+                let no_pin = added::is_no_pin(pid, data);
+                set_parameter(def, protected, no_pin, data, &mut self.own)
+            }
             None => Err(Nack::UnknownPid),
         }
     }
@@ -65,23 +169,46 @@ impl Devices {
 
 /// Whether the PID is that of PARAMETER_DESCRIPTION, and the profile adds it.
 fn is_description(profile: &Profile, pid: u16) -> bool
-    ensures { result ≡ ((0x0051 == pid) && list_any has_makers_pid profile.now.own) }
+    ensures { result ≡ ((0x0051 == pid) && list_any has_makers_pid profile.now.particulars.own) }
 {
-    PARAMETER_DESCRIPTION == pid && added::has_makers(profile.own.as_slice())
+    PARAMETER_DESCRIPTION == pid && added::has_makers(profile.particulars.own())
 }
 
 /// The parameter that the profile adds with this PID.
 pub(super) fn parameter_of(profile: &Profile, pid: u16) -> Option<&ParameterDef>
-    ensures { option_copied result ≡ find (is_pid_of pid) profile.now.own }
+    ensures { option_copied result ≡ find (is_pid_of pid) profile.now.particulars.own }
 {
-    added::parameter_of(profile.own.as_slice(), pid)
+    added::parameter_of(profile.particulars.own(), pid)
+}
+
+/// Whether what a SET of this parameter, which the profile adds with this PID, would write can only be read, or is locked.
+pub(super) fn is_protected(
+    profile: &Profile,
+    values: &[Kept],
+    pid: u16,
+    def: &ParameterDef,
+    data: &[u8],
+) -> bool
+    requires { find (is_pid_of pid) profile.now.particulars.own ≡ Some def.now }
+    ensures { result ≡ (is_read_only profile.now.particulars.own pid data.now || is_locked profile.now.particulars.locks (added_entries values.now) pid) }
+{
+    is_read_only(pid, def, data) || added::is_locked(profile, values, pid)
+}
+
+/// Whether what a SET of this parameter, which has this PID, would write can only be read, as a scene of PRESET_STATUS.
+fn is_read_only(pid: u16, def: &ParameterDef, data: &[u8]) -> bool
+    ensures { (ds : List ParameterDef) → find (is_pid_of pid) ds ≡ Some def.now → result ≡ is_read_only ds pid data.now }
+{
+    pid == PRESET_STATUS && added::is_protected_scene(def, data)
 }
 
 /// What describes a parameter that the maker adds.
+#[cold]
+#[inline(never)]
 fn get_description(place: &Place<'_>, data: &[u8], body: &mut Body) -> Result<(), Nack>
     requires { body.old ≡ [] }
-    ensures ok { IfOk result (λ u. reply_here place.now (Some description_row) Get data.now ≡ Ok body.new) }
-    ensures err { IfErr result (λ nack. reply_here place.now (Some description_row) Get data.now ≡ Err nack) }
+    ensures ok { IfOk result (λ u. reply_here place.now 0x0051 (Some description_row) Get data.now ≡ Ok body.new) }
+    ensures err { IfErr result (λ nack. reply_here place.now 0x0051 (Some description_row) Get data.now ≡ Err nack) }
     ensures empty { result ≢ Ok tt → body.new ≡ [] }
 {
     let Some(value) = forms::word(data) else {
@@ -94,53 +221,8 @@ fn get_description(place: &Place<'_>, data: &[u8], body: &mut Body) -> Result<()
     Ok(())
 }
 
-/// What a parameter that the maker adds replies to a GET.
-fn get_parameter(
-    place: &Place<'_>,
-    def: &ParameterDef,
-    data: &[u8],
-    body: &mut Body,
-) -> Result<(), Nack>
-    requires { body.old ≡ [] }
-    ensures ok { IfOk result (λ u. reply_here place.now (Some (added_row def.now)) Get data.now ≡ Ok body.new) }
-    ensures err { IfErr result (λ nack. reply_here place.now (Some (added_row def.now)) Get data.now ≡ Err nack) }
-    ensures empty { result ≢ Ok tt → body.new ≡ [] }
-{
-    if !added::has_get(def.rights) {
-        return Err(Nack::UnsupportedCommandClass);
-    }
-    get_by_shape(place, def.shape, def, data, body)
-}
-
-/// What such a parameter replies whose data have this shape.
-fn get_by_shape(
-    place: &Place<'_>,
-    shape: Shape,
-    def: &ParameterDef,
-    data: &[u8],
-    body: &mut Body,
-) -> Result<(), Nack>
-    requires { body.old ≡ [] }
-    ensures ok { IfOk result (λ u. reply_of place.now (gets_added shape def.now def.now.pid) data.now ≡ Ok body.new) }
-    ensures err { IfErr result (λ nack. reply_of place.now (gets_added shape def.now def.now.pid) data.now ≡ Err nack) }
-    ensures empty { result ≢ Ok tt → body.new ≡ [] }
-{
-    match shape {
-        Shape::Choice => get_choice(place, def, data, body),
-        Shape::Names | Shape::Rates => get_name(place, def, data, body),
-        Shape::Byte
-        | Shape::Word
-        | Shape::Long
-        | Shape::SignedByte
-        | Shape::SignedWord
-        | Shape::SignedLong
-        | Shape::Text
-        | Shape::Bits(_)
-        | Shape::Slots(_) => get_kept(place, def, data, body),
-    }
-}
-
 /// What is kept of it.
+#[inline(always)]
 fn get_kept(place: &Place<'_>, def: &ParameterDef, data: &[u8], body: &mut Body) -> Result<(), Nack>
     requires { body.old ≡ [] }
     ensures ok { IfOk result (λ u. reply_of place.now (shows_added def.now.pid) data.now ≡ Ok body.new) }
@@ -155,6 +237,8 @@ fn get_kept(place: &Place<'_>, def: &ParameterDef, data: &[u8], body: &mut Body)
 }
 
 /// The number that is chosen, and the greatest that can be.
+#[cold]
+#[inline(never)]
 fn get_choice(
     place: &Place<'_>,
     def: &ParameterDef,
@@ -174,6 +258,8 @@ fn get_choice(
 }
 
 /// What one of the things is called of which one is chosen.
+#[cold]
+#[inline(never)]
 fn get_name(place: &Place<'_>, def: &ParameterDef, data: &[u8], body: &mut Body) -> Result<(), Nack>
     requires { body.old ≡ [] }
     ensures ok { IfOk result (λ u. reply_of place.now (gets_added shapes.Names def.now def.now.pid) data.now ≡ Ok body.new) }
@@ -190,23 +276,121 @@ fn get_name(place: &Place<'_>, def: &ParameterDef, data: &[u8], body: &mut Body)
     Ok(())
 }
 
+/// What is kept of a scene.
+#[cold]
+#[inline(never)]
+fn get_scene(
+    place: &Place<'_>,
+    def: &ParameterDef,
+    data: &[u8],
+    body: &mut Body,
+) -> Result<(), Nack>
+    requires { body.old ≡ [] }
+    ensures ok { IfOk result (λ u. reply_of place.now (gets_added shapes.Scenes def.now def.now.pid) data.now ≡ Ok body.new) }
+    ensures err { IfErr result (λ nack. reply_of place.now (gets_added shapes.Scenes def.now def.now.pid) data.now ≡ Err nack) }
+    ensures empty { result ≢ Ok tt → body.new ≡ [] }
+{
+    let Some(number) = forms::word(data) else {
+        return Err(Nack::FormatError);
+    };
+    if !added::a_scene(def, &number) {
+        return Err(Nack::DataOutOfRange);
+    }
+    added::scene_shown(place, def, &number, body);
+    Ok(())
+}
+
 /// Keeps what the data of a SET stand for, if the parameter takes that, and says whether it is another value.
-fn set_parameter(def: &ParameterDef, data: &[u8], own: &mut RootValues) -> Result<bool, Nack>
-    ensures ok { IfOk result (λ differs. (spot : Spot) → is_ok (handed_here spot (Some (added_row def.now)) Set data.now) ≡ true) }
-    ensures err { IfErr result (λ nack. (spot : Spot) → handed_here spot (Some (added_row def.now)) Set data.now ≡ Err nack) }
+// The usual numbers stand apart: the compiler knows there what they are, and asks for the commands and the shape no more.
+#[inline(always)]
+fn set_parameter(
+    def: &ParameterDef,
+    protected: bool,
+    no_pin: bool,
+    data: &[u8],
+    own: &mut RootValues,
+) -> Result<bool, Nack>
+    ensures ok { IfOk result (λ differs. (spot : Spot) → spot.added ≡ added_entries own.old.added.items → is_ok (handed_with (open_to protected no_pin) spot (Some (added_row def.now)) Set data.now) ≡ true) }
+    ensures err { IfErr result (λ nack. (spot : Spot) → spot.added ≡ added_entries own.old.added.items → handed_with (open_to protected no_pin) spot (Some (added_row def.now)) Set data.now ≡ Err nack) }
     ensures own { own_entries own.new ≡ own_entries own.old }
     ensures added { (spot : Spot) → spot.added ≡ added_entries own.old.added.items
-        → added_entries own.new.added.items ≡ after_here spot (Some (added_row def.now)) data.now }
+        → added_entries own.new.added.items ≡ after_with (open_to protected no_pin) spot (Some (added_row def.now)) data.now }
     ensures same { IfOk result (λ differs. (differs ≡ false) ↔ (added_entries own.new.added.items ≡ added_entries own.old.added.items)) }
+{
+    match (def.rights, def.shape) {
+        (Rights::Both, Shape::Byte) => set_kept(def, protected, no_pin, data, own),
+        (Rights::Both, Shape::Word) => set_kept(def, protected, no_pin, data, own),
+        _ => set_other(def, protected, no_pin, data, own),
+    }
+}
+
+/// Keeps what the data of a SET stand for, if the parameter takes that, and says whether it is another value.
+#[inline(always)]
+fn set_kept(
+    def: &ParameterDef,
+    protected: bool,
+    no_pin: bool,
+    data: &[u8],
+    own: &mut RootValues,
+) -> Result<bool, Nack>
+    ensures ok { IfOk result (λ differs. (spot : Spot) → spot.added ≡ added_entries own.old.added.items → is_ok (handed_with (open_to protected no_pin) spot (Some (added_row def.now)) Set data.now) ≡ true) }
+    ensures err { IfErr result (λ nack. (spot : Spot) → spot.added ≡ added_entries own.old.added.items → handed_with (open_to protected no_pin) spot (Some (added_row def.now)) Set data.now ≡ Err nack) }
+    ensures own { own_entries own.new ≡ own_entries own.old }
+    ensures added { (spot : Spot) → spot.added ≡ added_entries own.old.added.items
+        → added_entries own.new.added.items ≡ after_with (open_to protected no_pin) spot (Some (added_row def.now)) data.now }
+    ensures same { IfOk result (λ differs. (differs ≡ false) ↔ (added_entries own.new.added.items ≡ added_entries own.old.added.items)) }
+{
+    match take_set(def, protected, no_pin, data, own) {
+        Ok(value) => Ok(added::store_set(def, &value, own)),
+        Err(nack) => Err(nack),
+    }
+}
+
+/// Keeps what the data of a SET stand for, if the parameter takes that, and says whether it is another value.
+// A call, so that the usual numbers don't make room for it.
+#[inline(never)]
+fn set_other(
+    def: &ParameterDef,
+    protected: bool,
+    no_pin: bool,
+    data: &[u8],
+    own: &mut RootValues,
+) -> Result<bool, Nack>
+    ensures ok { IfOk result (λ differs. (spot : Spot) → spot.added ≡ added_entries own.old.added.items → is_ok (handed_with (open_to protected no_pin) spot (Some (added_row def.now)) Set data.now) ≡ true) }
+    ensures err { IfErr result (λ nack. (spot : Spot) → spot.added ≡ added_entries own.old.added.items → handed_with (open_to protected no_pin) spot (Some (added_row def.now)) Set data.now ≡ Err nack) }
+    ensures own { own_entries own.new ≡ own_entries own.old }
+    ensures added { (spot : Spot) → spot.added ≡ added_entries own.old.added.items
+        → added_entries own.new.added.items ≡ after_with (open_to protected no_pin) spot (Some (added_row def.now)) data.now }
+    ensures same { IfOk result (λ differs. (differs ≡ false) ↔ (added_entries own.new.added.items ≡ added_entries own.old.added.items)) }
+{
+    set_kept(def, protected, no_pin, data, own)
+}
+
+/// What the data of a SET stand for, if the parameter takes that, or the first reason to refuse it.
+#[inline(always)]
+pub(super) fn take_set<'a>(
+    def: &ParameterDef,
+    protected: bool,
+    no_pin: bool,
+    data: &'a [u8],
+    own: &RootValues,
+) -> Result<Argument<'a>, Nack>
+    ensures { (spot : Spot) → spot.added ≡ added_entries own.now.added.items → result ≡ handed_with (open_to protected no_pin) spot (Some (added_row def.now)) Set data.now }
 {
     if !added::has_set(def.rights) {
         return Err(Nack::UnsupportedCommandClass);
     }
-    let Some(value) = added::read_shape(def.shape, data) else {
+    if protected {
+        return Err(Nack::WriteProtect);
+    }
+    if no_pin {
+        return Err(Nack::FormatError);
+    }
+    let Some(value) = added::read_set(def, data) else {
         return Err(Nack::FormatError);
     };
-    if !added::is_within(def, &value) {
+    if !added::takes(def, &value, own) {
         return Err(Nack::DataOutOfRange);
     }
-    Ok(added::store_added(def.pid, &value, own))
+    Ok(value)
 }

@@ -1,13 +1,18 @@
 //! The devices that a command is for.
 
-ghost use Rattle.std.specs.Prelude.{◌≡◌, slice_get};
+ghost use Rattle.std.specs.Prelude.{◌≡◌, Some, slice_get};
+ghost use Rattle.std.specs.List.{list_all};
 ghost use Rattle.std.specs.Option.{option_map};
 ghost use Rattle.rdm_params.specs.declared.kind.Verb.TheVariants.{Get};
-ghost use Rattle.rdm_params.specs.Commands.Commands.{addressed, is_some_device, is_all_call, root_spot, sub_spot};
+ghost use Rattle.rdm_params.specs.Commands.Commands.{addressed, command_of, is_some_device, is_all_call, root_spot, sub_spot};
+ghost use Rattle.rdm_params.specs.Table.Kinds.{pid_of};
+ghost use Rattle.rdm_params.specs.Table.Uses.{in_range_of};
 
 use super::Devices;
-use crate::Verb;
-use rdm_device::Place;
+use crate::commands::sub_devices::all_in_range;
+use crate::table::within::is_in_range;
+use crate::{Kind, Verb};
+use rdm_device::{Argument, Place};
 use rdm_frame::standard::SUB_DEVICE_ALL_CALL;
 
 impl Devices {
@@ -52,6 +57,26 @@ impl Devices {
         ensures { result ≡ root_spot self.now }
     {
         Place::of_root(&self.profile, &self.root, &self.own)
+    }
+
+    /// Whether a value is in range at each device that a command is for, of which this is the first place.
+    #[inline(always)]
+    pub(super) fn is_in_range_at(
+        &self,
+        sub: u16,
+        kind: Kind,
+        verb: Verb,
+        place: &Place<'_>,
+        value: &Argument<'_>,
+    ) -> bool
+        requires { slice_get (addressed self.now sub verb) 0 ≡ Some place.now }
+        ensures { result ≡ list_all (λ spot. in_range_of (command_of (pid_of kind) verb) spot value.now) (addressed self.now sub verb) }
+    {
+        if is_all_call(sub, verb) {
+            all_in_range(&self.profile, kind, verb, &self.subs, value)
+        } else {
+            is_in_range(kind, verb, place, value)
+        }
     }
 }
 

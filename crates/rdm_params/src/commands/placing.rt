@@ -36,7 +36,7 @@ impl Devices {
     /// Makes a stored value at the root, or at one sub-device, what a SET of it would make it: at once, with no message,
     /// and for a slow SET too. What a sensor shows is placed by the 9 slots with which SENSOR_VALUE replies: the number,
     /// then the present, the lowest, the highest and the recorded value (E1.20 section 10.7.2). A parameter of the maker's own is
-    /// placed at the root, whichever commands it has.
+    /// placed at the root, whichever commands it has; a scene by the 9 slots of a SET of PRESET_STATUS, also one that can only be read.
     ///
     /// It is `NoDevice` if there is no such sub-device, else `NoValue` if the device stores no value of this parameter,
     /// else `Length` if the data have another length than the value, and else `OutOfRange` if the SET would be out of
@@ -66,7 +66,7 @@ impl Devices {
         }
     }
 
-    /// Makes the value of a parameter that the maker adds what a SET of it would make it, whichever commands it has.
+    /// Makes the value of a parameter that the maker adds, or one of its scenes, what the data say, whichever commands it has.
     #[inline(never)]
     #[tactic(auto, using(crate::proofs::PlacesOwn::nothing_refused, crate::proofs::PlacesOwn::own_left, crate::proofs::PlacesOwn::own_tabled, crate::proofs::PlacesOwn::own_sub))]
     fn place_own(&mut self, sub: u16, pid: u16, data: &[u8], nack: Nack) -> Result<(), PlaceError>
@@ -89,8 +89,8 @@ impl Devices {
 
     /// The same at the root, of a PID that the table doesn't have.
     fn place_at_root(&mut self, pid: u16, data: &[u8]) -> Result<(), PlaceError>
-        ensures refused { result_err result ≡ option_map_or (λ d. own_refusal d data.now) (find (is_pid_of pid) self.old.profile.own) (Some NoValue) }
-        ensures after { OnOk result (self.new ≡ option_map_or (λ d. own_placed self.old d data.now) (find (is_pid_of pid) self.old.profile.own) self.old) }
+        ensures refused { result_err result ≡ option_map_or (λ d. own_refusal d data.now) (find (is_pid_of pid) self.old.profile.particulars.own) (Some NoValue) }
+        ensures after { OnOk result (self.new ≡ option_map_or (λ d. own_placed self.old d data.now) (find (is_pid_of pid) self.old.profile.particulars.own) self.old) }
         ensures same { OnErr result (self.new ≡ self.old) }
     {
         let profile = &self.profile;
@@ -171,7 +171,7 @@ impl Devices {
     }
 }
 
-/// Keeps what data stand for as the value of a parameter that the maker adds.
+/// Keeps what data stand for as the value of a parameter that the maker adds, or as one of its scenes.
 fn place_parameter(def: &ParameterDef, data: &[u8], own: &mut RootValues) -> Result<(), PlaceError>
     ensures refused { result_err result ≡ own_refusal def.now data.now }
     ensures own { own_entries own.new ≡ own_entries own.old }
@@ -179,12 +179,15 @@ fn place_parameter(def: &ParameterDef, data: &[u8], own: &mut RootValues) -> Res
         → added_entries own.new.added.items ≡ own_values spot def.now data.now) }
     ensures same { OnErr result (own.new ≡ own.old) }
 {
-    let Some(value) = added::read_shape(def.shape, data) else {
+    if !added::keeps_data(def.shape) {
+        return Err(PlaceError::NoValue);
+    }
+    let Some(value) = added::read_placed(def.shape, data) else {
         return Err(PlaceError::Length);
     };
-    if !added::is_within(def, &value) {
+    if !added::is_placed_within(def, &value) {
         return Err(PlaceError::OutOfRange);
     }
-    added::store_added(def.pid, &value, own);
+    added::store_placed(def, &value, own);
     Ok(())
 }

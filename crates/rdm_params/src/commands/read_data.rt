@@ -1,10 +1,10 @@
 //! What the data of a command stand for.
 
-ghost use Rattle.std.specs.Prelude.{Some, ◌≡◌, ◌≤◌, length, slice_get, true, IfSome};
+ghost use Rattle.std.specs.Prelude.{ℕ, List, Some, Ok, ◌≡◌, ◌≤◌, length, slice_get, true, IfSome};
 ghost use Rattle.std.specs.List.{list_all};
-ghost use Rattle.rdm_params.specs.Commands.Commands.{read_data, suits, read_data_at, addressed, command_of, is_all_call};
+ghost use Rattle.rdm_params.specs.Commands.Commands.{read_data, suits, addressed, command_of, is_all_call};
 ghost use Rattle.rdm_params.specs.Table.Kinds.{pid_of};
-ghost use Rattle.rdm_params.specs.Table.Uses.{way_of, is_bare, in_range_of};
+ghost use Rattle.rdm_params.specs.Table.Uses.{way_of, is_bare, in_range_of, read};
 
 use super::Devices;
 use super::addressing::is_all_call;
@@ -19,7 +19,7 @@ use rdm_device::{Argument, Place};
 impl Devices {
     /// The value that the data of a command stand for, if the devices that it is for can take that, or the first reason why not.
     #[inline(always)]
-    #[tactic(auto, using(crate::proofs::ReadData::one_device, crate::proofs::ReadData::refused_first, crate::proofs::ReadData::refused_later, crate::proofs::ReadData::taken_by_all))]
+    #[tactic(auto, using(crate::proofs::ReadData::unread, crate::proofs::ReadData::out_of_range, crate::proofs::ReadData::one_taken, crate::proofs::ReadData::all_taken))]
     pub(super) fn read_data<'a>(
         &self,
         sub: u16,
@@ -33,7 +33,10 @@ impl Devices {
         requires bare { found.is_bare ≡ is_bare (command_of (pid_of found.kind) verb) }
         ensures { result ≡ read_data self.now sub (command_of (pid_of found.kind) verb) verb data.now }
     {
-        let value = read_data_at(verb, found, place, data)?;
+        let value = read_form(verb, found, data)?;
+        if !is_taken_at(verb, found, place, &value) {
+            return Err(Nack::DataOutOfRange);
+        }
         if is_all_call(sub, verb) {
             self.suits_each(sub, verb, found, &value)?;
         }
@@ -83,24 +86,30 @@ impl Devices {
     }
 }
 
-/// The value that the data of a command stand for, if that is in range at the device.
+/// The value that the data of a command stand for, if they have its form.
+// Apart from the test of the range: a value that is handed on behind that test is copied.
 #[inline(always)]
-#[tactic(auto, using(crate::proofs::ReadData::bare_command))]
-fn read_data_at<'a>(
-    verb: Verb,
-    found: Found,
-    place: &Place<'_>,
-    data: &'a [u8],
-) -> Result<Argument<'a>, Nack>
+#[tactic(auto, using(crate::proofs::ReadData::read_bare))]
+pub(super) fn read_form<'a>(verb: Verb, found: Found, data: &'a [u8]) -> Result<Argument<'a>, Nack>
     requires { found.is_bare ≡ is_bare (command_of (pid_of found.kind) verb) }
-    ensures { result ≡ read_data_at (command_of (pid_of found.kind) verb) place.now data.now }
+    ensures { result ≡ read (command_of (pid_of found.kind) verb) data.now }
 {
     if found.is_bare {
         return forms::nothing(data).ok_or(Nack::FormatError);
     }
-    let value = read_argument(found.kind, verb, data)?;
-    if !is_in_range(found.kind, verb, place, &value) {
-        return Err(Nack::DataOutOfRange);
+    read_argument(found.kind, verb, data)
+}
+
+/// Whether a value that data stand for is in range at the device. Where there are no data, there is nothing to ask.
+#[inline(always)]
+#[tactic(auto, using(crate::proofs::ReadData::bare_in_range))]
+pub(super) fn is_taken_at(verb: Verb, found: Found, place: &Place<'_>, value: &Argument<'_>) -> bool
+    requires bare { found.is_bare ≡ is_bare (command_of (pid_of found.kind) verb) }
+    requires read { (bytes : List ℕ) × read (command_of (pid_of found.kind) verb) bytes ≡ Ok value.now }
+    ensures { result ≡ in_range_of (command_of (pid_of found.kind) verb) place.now value.now }
+{
+    if found.is_bare {
+        return true;
     }
-    Ok(value)
+    is_in_range(found.kind, verb, place, value)
 }

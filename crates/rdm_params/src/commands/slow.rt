@@ -13,7 +13,7 @@ impl Devices {
     pub fn estimate_of(&self, work: &Work) -> u16
         ensures { result ≡ estimate_of self.now.profile work.now }
     {
-        estimate_by(&self.profile.estimates, work)
+        estimate_by(&self.profile.particulars.estimates(), work)
     }
 
     /// The worker that has the job of this work: 0 or 1, as the profile says. It is 1 too if the work isn't a slow command.

@@ -31,7 +31,7 @@ impl Devices {
         Devices::at_start(alloc, profile)
     }
 
-    /// The devices of a profile that has its place already, as `new`: for a caller with little stack, since a profile has 4,800
+    /// The devices of a profile that has its place already, as `new`: for a caller with little stack, since a profile has 4,688
     /// bytes.
     pub fn new_boxed(alloc: Global, profile: Box<Profile>) -> Result<Devices, NewError>
         ensures ok { IfOk result (λ devices. devices ≡ parameters_of profile.value) }

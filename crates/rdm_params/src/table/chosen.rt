@@ -59,7 +59,7 @@ fn put_sub(profile: &Profile, list: &mut Body)
 
 /// Those of these PIDs that the profile doesn't leave out.
 #[tactic(auto, using(crate::proofs::Supported::stays, crate::proofs::Supported::goes, std::proofs::lemmas::Grind::common_steps))]
-fn staying(profile: &Profile, pids: &[u16]) -> ArrayVec<u16, 64>
+fn staying(profile: &Profile, pids: &[u16]) -> ArrayVec<u16, 72>
     requires { length pids.now ≤ 36 }
     ensures pids { result.items ≡ filter (λ pid. not (is_left_out profile.now pid)) pids.now }
     ensures few { length result.items ≤ 36 }
@@ -75,18 +75,18 @@ fn staying(profile: &Profile, pids: &[u16]) -> ArrayVec<u16, 64>
 
 /// Puts the PIDs that the profile adds among these, each in its place.
 #[tactic(auto, using(crate::proofs::Supported::all_added))]
-fn add_own(profile: &Profile, pids: &mut ArrayVec<u16, 64>)
+fn add_own(profile: &Profile, pids: &mut ArrayVec<u16, 72>)
     requires { length pids.old.items ≤ 36 }
     ensures pids { pids.new.items ≡ with_pids (added_pids profile.now) pids.old.items }
-    ensures few { length pids.new.items ≤ 60 }
+    ensures few { length pids.new.items ≤ 69 }
 {
-    let own = profile.own.as_slice();
+    let own = profile.particulars.own();
     add_description(own, pids);
     add_each(own, pids);
 }
 
 /// Puts the PID of PARAMETER_DESCRIPTION in its place, if one of these parameters has a PID that is left to makers.
-fn add_description(defs: &[ParameterDef], pids: &mut ArrayVec<u16, 64>)
+fn add_description(defs: &[ParameterDef], pids: &mut ArrayVec<u16, 72>)
     requires { length pids.old.items ≤ 36 }
     ensures pids { pids.new.items ≡ if list_any has_makers_pid defs.now then with_pid 0x0051 pids.old.items else pids.old.items }
     ensures few { length pids.new.items ≤ 37 }
@@ -98,11 +98,11 @@ fn add_description(defs: &[ParameterDef], pids: &mut ArrayVec<u16, 64>)
 
 /// Puts the PIDs of these parameters among others, each in its place.
 #[tactic(auto, using(crate::proofs::Supported::one_more, std::proofs::lemmas::Grind::common_steps))]
-fn add_each(defs: &[ParameterDef], pids: &mut ArrayVec<u16, 64>)
-    requires defs { length defs.now ≤ 16 }
+fn add_each(defs: &[ParameterDef], pids: &mut ArrayVec<u16, 72>)
+    requires defs { length defs.now ≤ 32 }
     requires few { length pids.old.items ≤ 37 }
     ensures pids { pids.new.items ≡ with_pids (map (λ d. d.pid) defs.now) pids.old.items }
-    ensures few { length pids.new.items ≤ 60 }
+    ensures few { length pids.new.items ≤ 69 }
 {
     for i in 0..defs.len() {
         add(pids, defs[i].pid);
@@ -111,8 +111,8 @@ fn add_each(defs: &[ParameterDef], pids: &mut ArrayVec<u16, 64>)
 
 /// Puts a PID among others that are in their order, before the first that isn't below it.
 #[tactic(auto, using(crate::proofs::Supported::inserted))]
-fn add(pids: &mut ArrayVec<u16, 64>, pid: u16)
-    requires { length pids.old.items < 64 }
+fn add(pids: &mut ArrayVec<u16, 72>, pid: u16)
+    requires { length pids.old.items < 72 }
     ensures pids { pids.new.items ≡ with_pid pid pids.old.items }
     ensures one { length pids.new.items ≡ length pids.old.items + 1 }
 {
@@ -137,7 +137,7 @@ fn place_of(pids: &[u16], pid: u16) -> usize
 /// Writes these PIDs, most significant byte first, into an empty list.
 #[tactic(auto, using(rdm_device::proofs::ListSteps::codes_step, std::proofs::lemmas::Grind::common_steps))]
 fn put_all(pids: &[u16], list: &mut Body)
-    requires few { length pids.now ≤ 60 }
+    requires few { length pids.now ≤ 69 }
     requires empty { list.old ≡ [] }
     ensures { list.new ≡ flat_map word_slots pids.now }
 {

@@ -42,7 +42,6 @@ fn colour() -> ParameterDef {
 
 /// A demonstration device with five parameters of its own, one of which is in E1.37-1, and without four of the table's.
 fn wash(rt: &impl Abort, alloc: Global) -> Profile {
-    let mut profile = Profile::demo(1);
     let mut own = OwnParameters::none();
     let identify = parameter(0x1040, Rights::Both, Shape::Byte, (0, 1), &[0]);
     own.push(alloc, identify).expect(rt, "memory");
@@ -53,11 +52,12 @@ fn wash(rt: &impl Abort, alloc: Global) -> Profile {
     own.push(alloc, trim).expect(rt, "memory");
     let show = parameter(0x8020, Rights::Set, Shape::Text, (0, 0), b"Show");
     own.push(alloc, show).expect(rt, "memory");
-    profile.own = own;
+    let mut particular = Particular::usual();
+    particular.own = own;
     for pid in [0x0402, 0x0600, 0x0601, 0x0602] {
-        assert!(rt; profile.without.try_push(pid).is_ok());
+        assert!(rt; particular.without.try_push(pid).is_ok());
     }
-    profile
+    set_apart(rt, alloc, 1, particular)
 }
 
 /// What PARAMETER_DESCRIPTION tells of the colour temperature.

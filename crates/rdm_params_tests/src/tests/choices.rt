@@ -26,11 +26,17 @@ fn told(pid: u16, shape: Shape) -> ParameterDef {
 }
 
 /// Adds these names, of which the first is that of the thing with number 1.
-fn name(rt: &impl Abort, alloc: Global, profile: &mut Profile, pid: u16, names: &[(u32, &[u8])]) {
+fn name(
+    rt: &impl Abort,
+    alloc: Global,
+    choices: &mut ChoiceNames,
+    pid: u16,
+    names: &[(u32, &[u8])],
+) {
     let mut number = 0u8;
     for (hertz, text) in names {
         assert!(rt; text.len() <= 32 && number < 255);
-        assert!(rt; profile.choices.as_slice().len() < 64);
+        assert!(rt; choices.as_slice().len() < 64);
         number += 1;
         let name = ChoiceName {
             pid,
@@ -38,7 +44,7 @@ fn name(rt: &impl Abort, alloc: Global, profile: &mut Profile, pid: u16, names: 
             hertz: *hertz,
             name: Text::of(text),
         };
-        profile.choices.push(alloc, name).expect(rt, "memory");
+        choices.push(alloc, name).expect(rt, "memory");
     }
 }
 
@@ -48,18 +54,17 @@ const RATES: [(u32, &'static [u8]); 2] = [(120, b"120 Hz"), (10_000, b"10 kHz")]
 
 /// A demonstration device with a choice of three curves and of two frequencies.
 fn dimmer(rt: &impl Abort, alloc: Global) -> Profile {
-    let mut profile = Profile::demo(1);
-    let mut own = OwnParameters::none();
+    let mut particular = Particular::usual();
+    let own = &mut particular.own;
     own.push(alloc, choice(0x0343, 3)).expect(rt, "memory");
     own.push(alloc, told(0x0344, Shape::Names))
         .expect(rt, "memory");
     own.push(alloc, choice(0x0347, 2)).expect(rt, "memory");
     own.push(alloc, told(0x0348, Shape::Rates))
         .expect(rt, "memory");
-    profile.own = own;
-    name(rt, alloc, &mut profile, 0x0344, &CURVES);
-    name(rt, alloc, &mut profile, 0x0348, &RATES);
-    profile
+    name(rt, alloc, &mut particular.choices, 0x0344, &CURVES);
+    name(rt, alloc, &mut particular.choices, 0x0348, &RATES);
+    set_apart(rt, alloc, 1, particular)
 }
 
 const STEPS: [Step<'static>; 24] = [
@@ -98,6 +103,18 @@ fn choices_are_named(rt: HostRuntime) {
     plays(&rt, &mut made(&rt, rt.alloc(), profile), &STEPS);
 }
 
+/// Names are the profile's, and what is chosen is placed as a value.
+#[test]
+fn names_of_choices_can_not_be_placed(rt: HostRuntime) {
+    let profile = dimmer(&rt, rt.alloc());
+    let mut devices = made(&rt, rt.alloc(), profile);
+    for pid in [0x0344u16, 0x0348] {
+        assert_eq!(&rt; devices.place(0, pid, &[]), Err(PlaceError::NoValue));
+    }
+    assert_eq!(&rt; devices.place(0, 0x0343, &[2]), Ok(()));
+    plays(&rt, &mut devices, &[(Get, 0, 0x0343, &[], Reply(&[2, 3]))]);
+}
+
 /// The names of curves, of which the first is that of the thing with number 1, told by the parameter with this PID.
 type Names<'a> = (u16, &'a [(u32, &'a [u8])]);
 
@@ -109,14 +126,14 @@ fn refuses(
     second: Option<ParameterDef>,
     names: Names<'_>,
 ) {
-    let mut own = OwnParameters::none();
+    let mut particular = Particular::usual();
+    let own = &mut particular.own;
     own.push(alloc, first).expect(rt, "memory");
     if let Some(second) = second {
         own.push(alloc, second).expect(rt, "memory");
     }
-    let mut profile = Profile::demo(0);
-    profile.own = own;
-    name(rt, alloc, &mut profile, names.0, names.1);
+    name(rt, alloc, &mut particular.choices, names.0, names.1);
+    let profile = set_apart(rt, alloc, 0, particular);
     assert!(rt; matches!(Devices::new(alloc, profile), Err(NewError::BadProfile)));
 }
 

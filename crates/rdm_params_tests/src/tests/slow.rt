@@ -174,8 +174,9 @@ const TIMES: [(Verb, u16, u8, u16); 4] = [
 
 #[test]
 fn a_job_takes_as_long_as_the_profile_says(rt: HostRuntime) {
-    let mut profile = Profile::demo(0);
-    profile.estimates = OTHER;
+    let mut particular = Particular::usual();
+    particular.estimates = OTHER;
+    let profile = set_apart(&rt, rt.alloc(), 0, particular);
     let mut devices = made(&rt, rt.alloc(), profile);
     for (verb, pid, arg, expected) in &TIMES {
         let (_, estimate) = started(&rt, &mut devices, *verb, *pid, *arg);

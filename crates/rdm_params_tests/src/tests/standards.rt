@@ -70,7 +70,6 @@ const DIMMER: [u8; 11] = [0x00, 0x00, 0x7F, 0xFF, 0x7F, 0xFF, 0xFF, 0xFF, 3, 14,
 
 /// A demonstration device with these.
 fn dimmer(rt: &impl Abort, alloc: Global) -> Profile {
-    let mut profile = Profile::demo(1);
     let mut own = OwnParameters::none();
     let details = slots(0x0070, Rights::Get, &[0x04, 0x03, 0x04, 0x00]);
     own.push(alloc, details).expect(rt, "memory");
@@ -80,8 +79,7 @@ fn dimmer(rt: &impl Abort, alloc: Global) -> Profile {
     own.push(alloc, minimum_level(rt)).expect(rt, "memory");
     own.push(alloc, clock(rt)).expect(rt, "memory");
     own.push(alloc, identify_mode(rt)).expect(rt, "memory");
-    profile.own = own;
-    profile
+    with_own(rt, alloc, 1, own)
 }
 
 const STEPS: [Step<'static>; 30] = [
@@ -216,9 +214,7 @@ fn slots_say_numbers_in_their_ranges(rt: HostRuntime) {
 fn with(rt: &impl Abort, alloc: Global, def: ParameterDef) -> Profile {
     let mut own = OwnParameters::none();
     own.push(alloc, def).expect(rt, "memory");
-    let mut profile = Profile::demo(0);
-    profile.own = own;
-    profile
+    with_own(rt, alloc, 0, own)
 }
 
 fn refuses(rt: &impl Abort, alloc: Global, def: ParameterDef) {

@@ -3,7 +3,7 @@
 use super::{CONTROLLER, DEVICE, GET, SET, request};
 use rdm_frame::{Body, Frame, Wire, encode};
 use rdm_outbox::Job;
-use rdm_params::{Estimates, Outcome, Profile, Worker, Workers};
+use rdm_params::{Estimates, Outcome, Particular, Particulars, Profile, Worker, Workers};
 use rdm_responder::{NewError, Report, Responder};
 use std::alloc::Global;
 use std::process::Abort;
@@ -44,7 +44,9 @@ const ALONE: Workers = Workers {
 /// A responder of the demo fixture with these times and workers, whose sensor 1 is answered at once.
 fn responder(alloc: Global, estimates: Estimates, workers: Workers) -> Result<Responder, NewError> {
     let mut profile = Profile::demo(0);
-    profile.estimates = estimates;
+    let mut particular = Particular::usual();
+    particular.estimates = estimates;
+    profile.particulars = Particulars::of(alloc, particular).map_err(|_| NewError::OutOfMemory)?;
     profile.workers = workers;
     if let Some(sensor) = profile.sensors.as_mut_slice().get_mut(1) {
         sensor.at_once = true;

@@ -2,7 +2,7 @@
 
 use super::Ends;
 use super::staged::{DEVICE, ends_so, stage};
-use rdm_params::{Estimates, Worker, Workers};
+use rdm_params::{Estimates, Particular, Particulars, Worker, Workers};
 
 /// The lamp takes no time, and a self test 0.9 seconds.
 const TIMES: Estimates = Estimates {
@@ -48,7 +48,9 @@ end
 #[test]
 fn jobs_are_named_by_the_workers_of_the_profile(rt: HostRuntime) {
     let mut stage = stage(DEVICE);
-    stage.profile.estimates = TIMES;
+    let mut particular = Particular::usual();
+    particular.estimates = TIMES;
+    stage.profile.particulars = Particulars::of(rt.alloc(), particular).expect(&rt, "memory");
     stage.profile.workers = SHUFFLED;
     if let Some(sensor) = stage.profile.sensors.as_mut_slice().get_mut(1) {
         sensor.at_once = true;

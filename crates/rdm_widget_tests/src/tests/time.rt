@@ -1,7 +1,7 @@
 //! Slow commands and the clock.
 
 use super::{Told, fixture, fixture_of, put};
-use rdm_params::{Estimates, Profile, Worker, Workers};
+use rdm_params::{Estimates, Particular, Particulars, Profile, Worker, Workers};
 use rdm_widget::{Clock, LiveFixture, RealClock, serve};
 use std::process::Abort;
 use std::test::Fail;
@@ -150,7 +150,9 @@ const ONE_BY_ONE: [Turn; 7] = [
 #[test]
 fn jobs_take_the_time_and_the_worker_of_the_profile(rt: HostRuntime) -> Result<(), Fail> {
     let mut profile = Profile::demo(0);
-    profile.estimates = QUICK;
+    let mut particular = Particular::usual();
+    particular.estimates = QUICK;
+    profile.particulars = Particulars::of(rt.alloc(), particular)?;
     profile.workers = ALONE;
     if let Some(sensor) = profile.sensors.as_mut_slice().get_mut(1) {
         sensor.at_once = true;

@@ -47,6 +47,23 @@ pub(crate) enum Record {
     AtLeast(usize, &'static [Field]),
 }
 
+impl Record {
+    /// Whether data have its slots.
+    pub(crate) fn fits(self, data: &[u8]) -> bool {
+        match self {
+            Record::Exactly(slots, _) => data.len() == slots,
+            Record::AtLeast(slots, _) => data.len() >= slots,
+        }
+    }
+
+    /// Its fields.
+    pub(crate) fn fields(self) -> &'static [Field] {
+        match self {
+            Record::Exactly(_, fields) | Record::AtLeast(_, fields) => fields,
+        }
+    }
+}
+
 /// A field: the words before it, its first slot, how many slots it has, and what they are.
 #[derive(Clone, Copy)]
 pub(crate) struct Field(
@@ -107,4 +124,16 @@ pub(crate) enum Meaning {
     Flags,
     /// The binding UID, if there is one (section 7.6).
     Binding,
+    /// A time in tenths of a second.
+    Tenths,
+    /// The same, or without end (E1.37-1).
+    Endless,
+    /// The least and the greatest such time (E1.37-1 PRESET_INFO).
+    Times,
+    /// A PIN of four decimal digits (E1.37-1 LOCK_PIN).
+    Pin,
+    /// What a lock state that was said is called (E1.37-1 LOCK_STATE).
+    LockName,
+    /// A date and a time of day (section 10.10).
+    Clock,
 }

@@ -29,12 +29,19 @@ impl<'a> Known<'a> {
 
     /// The fixture with this UID and this profile.
     pub fn of(uid: Uid, profile: &'a Profile) -> Known<'a> {
+        let mut known = Known::whose(profile);
+        known.uid = Some(uid);
+        known
+    }
+
+    /// The fixture with this profile, whatever its UID.
+    pub(crate) fn whose(profile: &'a Profile) -> Known<'a> {
         Known {
-            uid: Some(uid),
+            uid: None,
             sensors: profile.sensors.as_slice(),
             status_texts: profile.status_texts.as_slice(),
-            parameters: profile.own.as_slice(),
-            choices: profile.choices.as_slice(),
+            parameters: profile.particulars.own(),
+            choices: profile.particulars.choices(),
         }
     }
 
@@ -59,9 +66,13 @@ impl<'a> Known<'a> {
 
     /// What a thing is called of which this parameter lets choose.
     pub(crate) fn choice(&self, choice: &ParameterDef, number: u8) -> Option<&'a [u8]> {
-        let told_by = choice.pid.checked_add(1)?;
+        self.name_told_by(choice.pid.checked_add(1)?, number)
+    }
+
+    /// What a thing is called, by the parameter that tells it.
+    pub(crate) fn name_told_by(&self, pid: u16, number: u8) -> Option<&'a [u8]> {
         for name in self.choices {
-            if name.pid == told_by && name.number == number {
+            if name.pid == pid && name.number == number {
                 return Some(name.name.as_slice());
             }
         }

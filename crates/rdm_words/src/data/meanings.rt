@@ -5,18 +5,23 @@ use crate::data::form::Meaning;
 use crate::data::own::put_parameter;
 use crate::data::sensors::{put_measured, put_measures, put_range};
 use crate::data::statuses::{Status, put_failure, put_status_text};
+use crate::data::times::put_time_or_pin;
 use crate::data::values::{number_of, put_coded, put_data, put_named};
 use crate::frame::place::put_place;
 use crate::tables::Table;
 use crate::tables::parameters::parameter;
 use crate::tables::settings::PRESETS;
 use crate::tables::slots::{SLOT_LABELS, SLOT_TYPES};
+use crate::text::put_quoted;
 use rdm_frame::uid_at;
 use std::alloc::AllocError;
 use std::fmt::Write;
 
 /// The type of a slot that is controlled by itself, and not together with another one (table C-1).
 const PRIMARY: u8 = 0x00;
+
+/// Tells what lock states are called (E1.37-1).
+const LOCK_STATE_DESCRIPTION: u16 = 0x0642;
 
 /// Which values a sensor keeps.
 const SUPPORT: Table = Table(&[
@@ -73,6 +78,7 @@ pub(crate) fn put_meaning(
         (Meaning::Measured, [number, a, b]) => {
             put_measured(text, *number, i16::from_be_bytes([*a, *b]), known)
         }
+        (Meaning::LockName, [state]) => put_lock_name(text, *state, known),
         _ => put_rare(text, meaning, slots),
     }
 }
@@ -119,7 +125,7 @@ fn put_rare(text: &mut String, meaning: Meaning, slots: &[u8]) -> Result<(), All
             text.push_str(", ")?;
             put_data(text, slots)
         }
-        _ => put_data(text, slots),
+        _ => put_time_or_pin(text, meaning, slots),
     }
 }
 
@@ -142,4 +148,16 @@ fn put_flags(text: &mut String, flags: u8) -> Result<(), AllocError> {
         }
     }
     Ok(())
+}
+
+/// What a lock state is called: 0 is unlocked, and the fixture may be known to name another one.
+fn put_lock_name(text: &mut String, state: u8, known: &Known<'_>) -> Result<(), AllocError> {
+    if state == 0 {
+        return text.push_str(", unlocked");
+    }
+    let Some(name) = known.name_told_by(LOCK_STATE_DESCRIPTION, state) else {
+        return Ok(());
+    };
+    text.push_str(", ")?;
+    put_quoted(text, name)
 }

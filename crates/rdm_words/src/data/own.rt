@@ -1,15 +1,18 @@
 //! The words of parameters that a fixture adds (E1.20 section 10.4.2, E1.37-1).
 
 use crate::Known;
+use crate::data::added::fields_of;
+use crate::data::form::Record;
 use crate::data::sensors::put_unit;
-use crate::data::values::{number_of as number_in_slots, put_coded};
+use crate::data::values::{number_of as number_in_slots, put_coded, put_record};
 use crate::frame::class::Class;
 use crate::tables::Table;
 use crate::tables::parameters::parameter;
-use crate::text::{put_hex, put_quoted};
+use crate::tables::products::PRODUCT_DETAILS;
+use crate::text::put_quoted;
 use rdm_device::columns::added::{number_in, read_shape};
-use rdm_device::{ChoiceName, Field, ParameterDef, Rights, Shape};
-use rdm_frame::standard::PARAMETER_DESCRIPTION;
+use rdm_device::{Field, ParameterDef, Shape};
+use rdm_frame::standard::{PARAMETER_DESCRIPTION, PRODUCT_DETAIL_ID_LIST};
 use std::alloc::AllocError;
 use std::fmt::Write;
 
@@ -48,8 +51,8 @@ pub(crate) fn put_parameter(
     }
 }
 
-/// What data say that no table of the standard has, on a line of its own before the data themselves: the value of a parameter
-/// that the fixture is known to add, or the description of one. There is no line if that isn't known.
+/// What data say of a parameter that isn't in the table, on a line of its own before the data themselves: the fields of one of the
+/// standards, the value of one that the fixture is known to add, or the description of one. There is no line if that isn't known.
 pub(crate) fn put_own_line(
     text: &mut String,
     code: u8,
@@ -82,11 +85,60 @@ pub(crate) fn put_own(
         (Some(Class::GetResponse), _) if pid == PARAMETER_DESCRIPTION => {
             put_description(text, data)
         }
-        (Some(Class::Get), [number]) => match known.parameter(pid) {
+        (Some(Class::GetResponse), _) if pid == PRODUCT_DETAIL_ID_LIST => {
+            put_details(text, data)
+        }
+        (Some(class), _) => match fields_of(class, pid) {
+            Some(record) => put_if_fits(text, record, data, known),
+            None => put_known(text, noun, class, pid, data, known),
+        },
+        _ => Ok(()),
+    }
+}
+
+/// These fields, if the data have as many slots.
+fn put_if_fits(
+    text: &mut String,
+    record: Record,
+    data: &[u8],
+    known: &Known<'_>,
+) -> Result<(), AllocError> {
+    if record.fits(data) {
+        put_record(text, "", record, data, known)
+    } else {
+        Ok(())
+    }
+}
+
+/// The details of a product, if there are two slots for each.
+fn put_details(text: &mut String, data: &[u8]) -> Result<(), AllocError> {
+    if data.len() % 2 == 1 {
+        return Ok(());
+    }
+    for (place, detail) in data.chunks(2).enumerate() {
+        if place > 0 {
+            text.push_str(", ")?;
+        }
+        put_coded(text, PRODUCT_DETAILS, detail)?;
+    }
+    Ok(())
+}
+
+/// What the data say of a parameter that the fixture is known to add.
+fn put_known(
+    text: &mut String,
+    noun: &str,
+    class: Class,
+    pid: u16,
+    data: &[u8],
+    known: &Known<'_>,
+) -> Result<(), AllocError> {
+    match (class, data) {
+        (Class::Get, [number]) => match known.parameter(pid) {
             Some(def) if tells_names(def.shape) => write!(text, "number {number}"),
             _ => Ok(()),
         },
-        (Some(Class::GetResponse | Class::Set), _) => match known.parameter(pid) {
+        (Class::GetResponse | Class::Set, _) => match known.parameter(pid) {
             Some(def) => put_value_of(text, noun, def, data, known),
             None => Ok(()),
         },
@@ -233,111 +285,5 @@ fn number_of(kind: u8, slots: &[u8]) -> Option<i64> {
         0x06 => Some(i64::from(u16::from_be_bytes([*c, *d]).cast_signed())),
         0x08 => Some(i64::from(number.cast_signed())),
         _ => None,
-    }
-}
-
-// ---- what a fixture has
-
-/// A parameter that a fixture adds, in a line.
-pub(crate) fn put_added(text: &mut String, def: &ParameterDef) -> Result<(), AllocError> {
-    let pid = def.pid;
-    write!(text, "  parameter {pid:04X}: ")?;
-    put_quoted(text, def.name.as_slice())?;
-    text.push_str(", ")?;
-    put_shape(text, def.shape)?;
-    put_fields(text, def.fields.as_slice())?;
-    text.push_str(match def.rights {
-        Rights::Get => ", GET",
-        Rights::Set => ", SET",
-        Rights::Both => ", GET and SET",
-    })?;
-    put_start(text, def)?;
-    if def.resets {
-        text.push_str(", set back by FACTORY_DEFAULTS")?;
-    }
-    text.push('\n')
-}
-
-/// What a thing is called of which one is chosen, in a line.
-pub(crate) fn put_choice_name(text: &mut String, name: &ChoiceName) -> Result<(), AllocError> {
-    let ChoiceName {
-        pid,
-        number,
-        hertz,
-        ..
-    } = name;
-    write!(text, "  number {number} in {pid:04X}: ")?;
-    put_quoted(text, name.name.as_slice())?;
-    if *hertz > 0 {
-        write!(text, ", {hertz} Hz")?;
-    }
-    text.push('\n')
-}
-
-/// The numbers that its slots say.
-fn put_fields(text: &mut String, fields: &[Field]) -> Result<(), AllocError> {
-    let mut is_first = true;
-    for field in fields {
-        let Field {
-            low,
-            high,
-            also,
-            ..
-        } = field;
-        text.push_str(if is_first { " (" } else { "; " })?;
-        write!(text, "{low} to {high}")?;
-        if *also < *low || *high < *also {
-            write!(text, " or {also}")?;
-        }
-        is_first = false;
-    }
-    if is_first {
-        return Ok(());
-    }
-    text.push(')')
-}
-
-/// Which data it has.
-fn put_shape(text: &mut String, shape: Shape) -> Result<(), AllocError> {
-    match shape {
-        Shape::Byte => text.push_str("unsigned byte"),
-        Shape::SignedByte => text.push_str("signed byte"),
-        Shape::Word => text.push_str("unsigned word"),
-        Shape::SignedWord => text.push_str("signed word"),
-        Shape::Long => text.push_str("unsigned dword"),
-        Shape::SignedLong => text.push_str("signed dword"),
-        Shape::Text => text.push_str("ASCII"),
-        Shape::Bits(slots) => write!(text, "bit field of {slots} slots"),
-        Shape::Slots(1) => text.push_str("1 slot"),
-        Shape::Slots(slots) => write!(text, "{slots} slots"),
-        Shape::Choice => text.push_str("number of a choice"),
-        Shape::Names => text.push_str("names of a choice"),
-        Shape::Rates => text.push_str("names and frequencies of a choice"),
-    }
-}
-
-/// Its range, and what it starts with.
-fn put_start(text: &mut String, def: &ParameterDef) -> Result<(), AllocError> {
-    let start = def.start.as_slice();
-    let number = match read_shape(def.shape, start) {
-        Some(value) => number_in(def.shape, &value),
-        None => None,
-    };
-    match (number, def.shape) {
-        (Some(number), _) => {
-            let (low, high) = (def.low, def.high);
-            write!(text, ", {low} to {high}")?;
-            put_unit(text, "", def.prefix, def.unit)?;
-            write!(text, ", default {number}")
-        }
-        (None, Shape::Text) => {
-            text.push_str(", default ")?;
-            put_quoted(text, start)
-        }
-        (None, Shape::Names | Shape::Rates) => Ok(()),
-        (None, _) => {
-            text.push_str(", default ")?;
-            put_hex(text, start)
-        }
     }
 }

@@ -72,15 +72,11 @@ pub(crate) fn put_record(
     data: &[u8],
     known: &Known<'_>,
 ) -> Result<(), AllocError> {
-    let (fits, fields) = match record {
-        Record::Exactly(slots, fields) => (data.len() == slots, fields),
-        Record::AtLeast(slots, fields) => (data.len() >= slots, fields),
-    };
-    if !fits {
+    if !record.fits(data) {
         return put_data(text, data);
     }
     put_noun(text, noun)?;
-    for field in fields {
+    for field in record.fields() {
         put_field(text, *field, data, known)?;
     }
     Ok(())

@@ -2,6 +2,7 @@
 
 use crate::Known;
 use crate::data::own::put_parameter;
+use crate::data::times::put_tenths;
 use crate::data::values::put_named;
 use crate::frame::class::put_class;
 use crate::frame::place::put_place;
@@ -84,9 +85,8 @@ pub(crate) fn put_response_type(
     }
     match (code, data) {
         (ACK_TIMER, [a, b]) => {
-            let tenths = u16::from_be_bytes([*a, *b]);
-            let (seconds, rest) = (tenths / 10, tenths % 10);
-            write!(text, " {seconds}.{rest} s")
+            text.push(' ')?;
+            put_tenths(text, u16::from_be_bytes([*a, *b]))
         }
         (NACK_REASON, [a, b]) => {
             text.push(' ')?;

@@ -42,3 +42,6 @@ pub const TRUTHS: Table = Table(&[(0x00, "no"), (0x01, "yes")]);
 
 /// Whether something is on.
 pub const SWITCHES: Table = Table(&[(0x00, "off"), (0x01, "on")]);
+
+/// How RESET_DEVICE resets a device (section 10.11).
+pub const RESETS: Table = Table(&[(0x01, "warm"), (0xFF, "cold")]);

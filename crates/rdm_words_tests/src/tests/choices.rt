@@ -2,7 +2,8 @@
 
 use super::says;
 use rdm_device::{
-    ChoiceName, ChoiceNames, Field, OwnParameters, ParameterDef, Profile, Rights, Shape, Width,
+    ChoiceName, ChoiceNames, Field, OwnParameters, ParameterDef, Particular, Particulars, Profile,
+    Rights, Shape, Width,
 };
 use rdm_frame::{Text, Uid};
 use rdm_words::{Known, put_fixture, words};
@@ -68,9 +69,11 @@ fn rack(alloc: Global) -> Result<Profile, AllocError> {
     choices.push(alloc, named(0x0344, 1, 0, Text::of(b"Linear")))?;
     choices.push(alloc, named(0x0344, 2, 0, Text::of(b"S curve")))?;
     choices.push(alloc, named(0x0348, 1, 1000, Text::of(b"1 kHz")))?;
+    let mut particular = Particular::usual();
+    particular.own = own;
+    particular.choices = choices;
     let mut profile = Profile::demo(0);
-    profile.own = own;
-    profile.choices = choices;
+    profile.particulars = Particulars::of(alloc, particular)?;
     Ok(profile)
 }
 
@@ -120,7 +123,7 @@ CC011A7FF0000000027FF00000000100000000002103480201000437
 
 CC011F7FF0000000017FF0000000020001000000300141070001012CFFFF8006F3
 7FF0:00000002 asks 7FF0:00000001: SET DMX_FAIL_MODE (0141), root, transaction 0
-  value 1, 300, 65535, 128
+  scene 1, delay 30.0 s, hold time without end, level 128
   data 0001012CFFFF80
 
 CC011E7FF0000000017FF0000000020001000000300141060001012CFFFF0671
@@ -129,6 +132,7 @@ CC011E7FF0000000017FF0000000020001000000300141060001012CFFFF0671
 
 CC01237FF0000000027FF00000000100000000002103400B00017FFF8000FFFE030C01084C
 7FF0:00000001 answers 7FF0:00000002: ACK, GET response DIMMER_INFO (0340), root, transaction 0
+  minimum level 1 to 32767, maximum level 32768 to 65534, curves 3, bits 12, split levels yes (01)
   data 00017FFF8000FFFE030C01"#;
 
 #[test]

@@ -3,7 +3,7 @@
 ghost use Rattle.std.specs.Prelude.{◌≤◌, length};
 
 use super::{bytes_of, says};
-use rdm_device::{OwnParameters, ParameterDef, Profile, Rights, Shape};
+use rdm_device::{OwnParameters, ParameterDef, Particular, Particulars, Profile, Rights, Shape};
 use rdm_frame::{Text, Uid};
 use rdm_words::{Known, put_fixture, put_reply_words, put_request_words, words};
 use std::alloc::{AllocError, Global};
@@ -51,10 +51,12 @@ fn wash(alloc: Global) -> Result<Profile, AllocError> {
     flags.rights = Rights::Get;
     flags.start = Text::of(&[0x01, 0x80]);
     own.push(alloc, flags)?;
+    let mut particular = Particular::usual();
+    particular.own = own;
+    let _ = particular.without.try_push(0x0403);
+    particular.more_slots = 7;
     let mut profile = Profile::demo(0);
-    profile.own = own;
-    let _ = profile.without.try_push(0x0403);
-    profile.more_slots = 7;
+    profile.particulars = Particulars::of(alloc, particular)?;
     Ok(profile)
 }
 
@@ -204,7 +206,7 @@ fn own_parameters_in_short(rt: HostRuntime) -> Result<(), Fail> {
 const ADDED: &str = r#"  7 slots more than those above
   parameter 8001: "Colour temperature", unsigned word, GET and SET, 2000 to 8000, default 5600, set back by FACTORY_DEFAULTS
   parameter 8010: "Trim", signed byte, GET and SET, -20 to 20 m°, default -1
-  parameter 8020: "Show", ASCII, SET, default "Tour"
+  parameter 8020: "Show", ASCII, SET
   parameter 8030: "Flags", bit field of 2 slots, GET, default 0180
   no LAMP_STATE (0403)
 no sub-devices

@@ -1,6 +1,6 @@
 //! What is said of the slow commands of a fixture.
 
-use rdm_device::{Estimates, Profile, Worker, Workers};
+use rdm_device::{Estimates, Particular, Particulars, Profile, Worker, Workers};
 use rdm_frame::Uid;
 use rdm_words::put_fixture;
 use std::test::Fail;
@@ -16,13 +16,15 @@ no sub-devices
 
 #[test]
 fn what_is_not_as_usual_is_said(rt: HostRuntime) -> Result<(), Fail> {
-    let mut profile = Profile::demo(0);
-    profile.estimates = Estimates {
+    let mut particular = Particular::usual();
+    particular.estimates = Estimates {
         lamp: 65535,
         self_test: 0,
         sensor: 7,
         ..Estimates::usual()
     };
+    let mut profile = Profile::demo(0);
+    profile.particulars = Particulars::of(rt.alloc(), particular)?;
     profile.workers = Workers {
         power: Worker::Second,
         self_test: Worker::First,

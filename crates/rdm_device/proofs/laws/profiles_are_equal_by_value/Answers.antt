@@ -2,4 +2,4 @@ use Rattle.rdm_device.proofs.Equality.{profile_decides}
 use Rattle.rdm_device.proofs.laws.profiles_are_equal_by_value.Goals as goal
 
 pub returns : goal.returns
-returns c = profile_decides c.units_are_equal_by_value.ensures c.slots_are_equal_by_value.ensures c.sensor_defs_are_equal_by_value.ensures c.self_tests_are_equal_by_value.ensures c.status_texts_are_equal_by_value.ensures c.parameter_defs_are_equal_by_value.ensures c.choice_names_are_equal_by_value.ensures c.estimates_are_equal_by_value.ensures c.choices_of_workers_are_equal_by_value.ensures
+returns c = profile_decides c.units_are_equal_by_value.ensures c.slots_are_equal_by_value.ensures c.sensor_defs_are_equal_by_value.ensures c.self_tests_are_equal_by_value.ensures c.status_texts_are_equal_by_value.ensures c.choices_of_workers_are_equal_by_value.ensures c.particulars_are_equal_by_value.ensures

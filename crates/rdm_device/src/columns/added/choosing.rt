@@ -34,7 +34,7 @@ pub fn a_name(place: &Place<'_>, def: &ParameterDef, value: &Argument<'_>) -> bo
     ensures { result ≡ a_name def.now byte place.now value.now }
 {
     match value.byte() {
-        Some(number) => has_name(place.profile.choices.as_slice(), def.pid as u32, number),
+        Some(number) => has_name(place.profile.particulars.choices(), def.pid as u32, number),
         None => false,
     }
 }
@@ -59,7 +59,7 @@ pub fn name_shown(place: &Place<'_>, def: &ParameterDef, value: &Argument<'_>, b
 {
     let number = value.byte().unwrap_or(0);
     body.append(&[number]);
-    if let Some(name) = named(place.profile.choices.as_slice(), def.pid, number) {
+    if let Some(name) = named(place.profile.particulars.choices(), def.pid, number) {
         write_name(def.shape, name, body);
     }
 }

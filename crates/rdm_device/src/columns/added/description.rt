@@ -17,7 +17,7 @@ pub fn described(place: &Place<'_>, value: &Argument<'_>, body: &mut Body)
     ensures { body.new ≡ described place.now value.now }
 {
     let pid = value.word().unwrap_or(0);
-    if let Some(def) = parameter_of(place.profile.own.as_slice(), pid) {
+    if let Some(def) = parameter_of(place.profile.particulars.own(), pid) {
         describe(def, body);
     }
 }
@@ -45,13 +45,14 @@ pub fn size_of(shape: Shape) -> u8
     ensures { result ≡ size_of shape }
 {
     match shape {
-        Shape::Byte | Shape::SignedByte | Shape::Choice => 1,
-        Shape::Word | Shape::SignedWord => 2,
+        Shape::Byte | Shape::SignedByte | Shape::Choice | Shape::Lock => 1,
+        Shape::Word | Shape::SignedWord | Shape::Pin => 2,
         Shape::Long | Shape::SignedLong => 4,
         Shape::Text => MOST_TEXT as u8,
         Shape::Bits(size) => size,
         Shape::Slots(size) => size,
-        Shape::Names | Shape::Rates => 0,
+        Shape::Names | Shape::Rates | Shape::Block => 0,
+        Shape::Scenes => 9,
     }
 }
 
@@ -60,12 +61,12 @@ pub fn data_type_of(shape: Shape) -> u8
     ensures { result ≡ data_type_of shape }
 {
     match shape {
-        Shape::Slots(_) | Shape::Names | Shape::Rates => 0x00,
+        Shape::Slots(_) | Shape::Names | Shape::Rates | Shape::Scenes | Shape::Block => 0x00,
         Shape::Bits(_) => 0x01,
         Shape::Text => 0x02,
-        Shape::Byte | Shape::Choice => 0x03,
+        Shape::Byte | Shape::Choice | Shape::Lock => 0x03,
         Shape::SignedByte => 0x04,
-        Shape::Word => 0x05,
+        Shape::Word | Shape::Pin => 0x05,
         Shape::SignedWord => 0x06,
         Shape::Long => 0x07,
         Shape::SignedLong => 0x08,
@@ -79,7 +80,7 @@ fn class_of(rights: Rights) -> u8
     match rights {
         Rights::Get => 0x01,
         Rights::Set => 0x02,
-        Rights::Both => 0x03,
+        Rights::Both | Rights::Clear => 0x03,
     }
 }
 
@@ -90,10 +91,16 @@ fn span_of(shape: Shape) -> u64
     ensures few { result ≤ 0x100000000 }
 {
     match shape {
-        Shape::Byte | Shape::SignedByte | Shape::Choice => 0x100,
-        Shape::Word | Shape::SignedWord => 0x1_0000,
+        Shape::Byte | Shape::SignedByte | Shape::Choice | Shape::Lock => 0x100,
+        Shape::Word | Shape::SignedWord | Shape::Pin => 0x1_0000,
         Shape::Long | Shape::SignedLong => 0x1_0000_0000,
-        Shape::Text | Shape::Bits(_) | Shape::Slots(_) | Shape::Names | Shape::Rates => 1,
+        Shape::Text
+        | Shape::Bits(_)
+        | Shape::Slots(_)
+        | Shape::Names
+        | Shape::Rates
+        | Shape::Scenes
+        | Shape::Block => 1,
     }
 }
 

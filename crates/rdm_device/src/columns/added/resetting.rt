@@ -23,7 +23,7 @@ pub fn set_added_back(profile: &Profile, own: &mut RootValues) -> bool
         → added_entries own.new.added.items ≡ update (added_set_back spot v) (added_entries own.old.added.items) }
     ensures same { (result ≡ false) ↔ (added_entries own.new.added.items ≡ added_entries own.old.added.items) }
 {
-    set_in_back(profile.own.as_slice(), &mut own.added)
+    set_in_back(profile.particulars.own(), &mut own.added)
 }
 
 fn set_in_back(defs: &[ParameterDef], values: &mut Vec<Kept>) -> bool
@@ -60,6 +60,9 @@ fn set_one_back(defs: &[ParameterDef], kept: &mut Kept) -> bool
     ensures after { kept_entry kept.new ≡ made_of (set_back_in defs.now) (kept_entry kept.old) }
     ensures same { (result ≡ false) ↔ (kept_entry kept.new ≡ kept_entry kept.old) }
 {
+    if kept.index != 0 {
+        return false;
+    }
     match reset_of(defs, kept.pid) {
         Some(def) => writes::text(&mut kept.bytes, def.start.as_slice()),
         None => false,
@@ -91,7 +94,7 @@ fn is_at_start(def: &ParameterDef, values: &[Kept]) -> bool
 fn has_value(values: &[Kept], pid: u16, bytes: &[u8]) -> bool
     ensures { result ≡ bytes_eq (lookup (added_entries values.now) pid 0) bytes.now }
 {
-    match kept_of(values, pid) {
+    match kept_of(values, pid, 0) {
         Some(kept) => kept.bytes.as_slice() == bytes,
         None => bytes.is_empty(),
     }

@@ -1,6 +1,6 @@
 use Rattle.std.proofs.Common.{refl, inl, inr, sym}
 use Rattle.toml.specs.View.{table_view}
-use Rattle.rdm_fixture.specs.Drafts.{with_parameters, fixture_with}
+use Rattle.rdm_fixture.specs.Drafts.{profile_with, fixture_with}
 use Rattle.rdm_fixture.specs.FirstWrong.{fixture_parts}
 use Rattle.rdm_fixture.specs.Format.{IsFixture}
 use Rattle.rdm_fixture.specs.Wrong.{FirstWrong}
@@ -11,7 +11,7 @@ use Rattle.rdm_fixture.proofs.Readings.{Reads-err}
 use Rattle.rdm_fixture.proofs.document.fixture_of.Goals as goal
 
 pub returns-clause-made : goal.returns-clause-made
-returns-clause-made c = made _ (with_parameters c.in_ok-profile.profile c.in_ok-profile.added.own.items c.in_ok-profile.added.choices.items) c.in_ok-profile.ensures.read
+returns-clause-made c = made _ (profile_with c.in_ok-profile.profile c.in_ok-profile.apart) c.in_ok-profile.ensures.read
 
 pub returns-clause-describable : goal.returns-clause-describable
 returns-clause-describable c =
@@ -25,8 +25,8 @@ returns-in_err-profile-clause-wrong c =
 pub returns-in_err-outcomes-clause-wrong : goal.returns-in_err-outcomes-clause-wrong
 returns-in_err-outcomes-clause-wrong c =
     exit (FirstWrong fixture_parts (table_view c.args.table.now)) _ _ c.from_residual-in_err-outcomes.ensures.1
-    (inr (c.in_ok-only.ensures.variant.0 refl, inr (some _ c.in_ok-uid.ensures.value, inr ((with_parameters c.in_ok-profile.profile c.in_ok-profile.added.own.items c.in_ok-profile.added.choices.items, c.in_ok-profile.ensures.read), inl c.in_err-outcomes.ensures.wrong))))
+    (inr (c.in_ok-only.ensures.variant.0 refl, inr (some _ c.in_ok-uid.ensures.value, inr ((profile_with c.in_ok-profile.profile c.in_ok-profile.apart, c.in_ok-profile.ensures.read), inl c.in_err-outcomes.ensures.wrong))))
 
 pub returns-in_err-profile-clause-read : goal.returns-in_err-profile-clause-read
 returns-in_err-profile-clause-read c =
-    Reads-err (λ t r. IsFixture t (fixture_with r.0 r.1.own.items r.1.choices.items)) _ _ c.from_residual-in_err-profile.ensures.0 (λ r h. c.in_err-profile.ensures.read (r.0.profile, r.1) h.profile)
+    Reads-err (λ t r. IsFixture t (fixture_with r.0 r.1)) _ _ c.from_residual-in_err-profile.ensures.0 (λ r h. c.in_err-profile.ensures.read (r.0.profile, r.1) h.profile)

@@ -5,9 +5,9 @@ use Rattle.toml.specs.Data.{get_member}
 use Rattle.toml.specs.View.{table_view}
 use Rattle.rdm_fixture.specs.FirstWrong.{said_parts}
 use Rattle.rdm_device.specs.declared.profile.own.Shape.{Shape}
-use Rattle.rdm_device.specs.Device.OwnParameters.{has_set}
+use Rattle.rdm_device.specs.declared.profile.own.Rights.{Rights}
 use Rattle.rdm_fixture.specs.Keys.{may, must}
-use Rattle.rdm_fixture.specs.Parameters.{SaysParameter, least_of, greatest_of, limit, integer_from, low_in, high_in, start, flag}
+use Rattle.rdm_fixture.specs.Parameters.{SaysParameter, least_of, greatest_of, limit, integer_from, low_in, high_in, start, flag, is_setting}
 use Rattle.rdm_fixture.specs.Values.{number}
 use Rattle.rdm_fixture.specs.Wrong.{FirstWrong}
 use Rattle.rdm_fixture.proofs.OneFixture.{one}
@@ -139,9 +139,12 @@ pub returns-in_err-resets-clause-read : goal.returns-in_err-resets-clause-read
 returns-in_err-resets-clause-read c =
     Reads-err SaysParameter _ _ c.from_residual-in_err-resets.ensures.0 (λ d h.
     let rights : d.rights ≡ c.in_ok-rights.rights = one h.rights (sym c.in_ok-rights.ensures.value) in
+    let shape : d.shape ≡ c.in_ok-shape.shape = one h.shape (sym c.in_ok-shape.ensures.value) in
     let found = get_member (codes "factory_defaults") (table_view c.args.table.now) in
-    none_said d.resets c.in_err-resets.ensures.value
-    (subst (λ (b : Bool). may b flag found ≡ Some d.resets) (ap has_set rights ∙ sym c.has_set.ensures) h.resets))
+    let said : may (is_setting c.in_ok-rights.rights c.in_ok-shape.shape) flag found ≡ Some d.resets =
+    subst (λ (s : Shape). may (is_setting c.in_ok-rights.rights s) flag found ≡ Some d.resets) shape
+    (subst (λ (r : Rights). may (is_setting r d.shape) flag found ≡ Some d.resets) rights h.resets) in
+    none_said d.resets c.in_err-resets.ensures.value (subst (λ (b : Bool). may b flag found ≡ Some d.resets) (sym c.is_setting.ensures) said))
 
 pub returns-clause-read : goal.returns-clause-read
 returns-clause-read c =
@@ -153,4 +156,4 @@ returns-clause-read c =
     parameter_at (table_view c.args.table.now) c.in_ok-pid.pid c.in_ok-rights.rights c.in_ok-shape.shape c.in_ok-low.low c.in_ok-high.high _ _ c.in_ok-fields.fields c.in_ok-start.start _ _ _ _ low high
     (c.in_ok-only.ensures.variant.0 refl) (sym c.in_ok-pid.ensures.value) (sym c.in_ok-rights.ensures.value) (sym c.in_ok-shape.ensures.value)
     (sym c.in_ok-low.ensures.value) (sym high_value) c.in_ok-fields.ensures.read (sym start_value) (search rules) (search rules)
-    (subst (λ (b : Bool). may b flag found ≡ Some c.in_ok-resets.resets) c.has_set.ensures (sym c.in_ok-resets.ensures.value)) (search rules)
+    (subst (λ (b : Bool). may b flag found ≡ Some c.in_ok-resets.resets) c.is_setting.ensures (sym c.in_ok-resets.ensures.value)) (search rules)

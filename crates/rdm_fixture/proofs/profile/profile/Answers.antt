@@ -1,13 +1,14 @@
 use Rattle.std.proofs.Common.{◌≡◌, ◌∙◌, ◌<◌, AllPairs, ℕ, List, [], ◌∷◌, ◌++◌, Some, inl, inr, subst, codes, rules}
 use Rattle.rdm_device.specs.declared.profile.choices.ChoiceName.{ChoiceName}
+use Rattle.rdm_device.specs.declared.profile.locks.Lock.{Lock}
 use Rattle.rdm_device.specs.declared.profile.own.ParameterDef.{ParameterDef}
-use Rattle.rdm_device.specs.Device.Profiles.{Agree}
+use Rattle.rdm_device.specs.Device.Profiles.{Agree, HaveStates}
 use Rattle.toml.specs.Data.{Members, get_member}
 use Rattle.toml.specs.View.{table_view}
-use Rattle.rdm_fixture.specs.Drafts.{with_parameters}
+use Rattle.rdm_fixture.specs.Drafts.{profile_with}
 use Rattle.rdm_fixture.specs.Faults.{told}
 use Rattle.rdm_fixture.specs.FirstWrong.{profile_parts, unit_parts, self_test_parts, status_parts, differing, names, optional, unneeded, added_parts, AreAdded, times, choice}
-use Rattle.rdm_fixture.specs.Format.{IsProfile, IsSelfTest, IsStatus, root_slots}
+use Rattle.rdm_fixture.specs.Format.{IsProfile, IsSelfTest, IsStatus, AreLocks, root_slots}
 use Rattle.rdm_fixture.specs.Keys.{may}
 use Rattle.rdm_fixture.specs.Values.{number, text}
 use Rattle.rdm_fixture.specs.Wrong.{Part, FirstWrong, AllRight, entries}
@@ -35,40 +36,41 @@ abbrev after_tests : List Part
 after_tests = statuses_parts ++ after_statuses
 
 -- all of these parts are right
-all_added : (t : Members) (ds : List ParameterDef) (cs : List ChoiceName) → AreAdded t ds cs × AllPairs (λ a b. a.pid < b.pid) ds × Agree ds cs
-    → AllRight added_parts t
-all_added t ds cs h = ((ds, h.0.0), ((ds, (h.0.0, h.1)), ((cs, h.0.1), (((ds, cs), (h.0, h.2)), tt))))
+all_added : (t : Members) (ds : List ParameterDef) (cs : List ChoiceName) (ls : List Lock)
+    → AreAdded t ds cs × AllPairs (λ a b. a.pid < b.pid) ds × Agree ds cs × AreLocks t ls × HaveStates ds ls → AllRight added_parts t
+all_added t ds cs ls h =
+    ((ds, h.0.0), ((ds, (h.0.0, h.1)), ((cs, h.0.1), (((ds, cs), (h.0, h.2)), ((h.3.states, h.3.tables), ((ls, h.3), (((ds, ls), ((h.0.0, h.3), h.4)), tt)))))))
 
 pub returns-in_err-root-clause-read : goal.returns-in_err-root-clause-read
 returns-in_err-root-clause-read c =
     let more : Some c.in_ok-more_slots.more_slots ≡ may 0 (number 0 512) (get_member (codes "more_slots") (table_view c.args.table.now)) = c.in_ok-more_slots.ensures.value in
     let count : c.root_slots-count.result ≡ root_slots (table_view c.args.table.now) =
     c.root_slots-count.ensures ∙ slots_counted _ _ _ _ more (c.len.ensures.value ∙ c.in_ok-slots.ensures.count) in
-    Reads-err (λ t r. IsProfile t (with_parameters r.0 r.1.own.items r.1.choices.items)) _ _ c.from_residual-in_err-root.ensures.0 (λ r h. c.in_err-root.ensures.read r.0.root (rw count h.root))
+    Reads-err (λ t r. IsProfile t (profile_with r.0 r.1)) _ _ c.from_residual-in_err-root.ensures.0 (λ r h. c.in_err-root.ensures.read r.0.root (rw count h.root))
 
 pub returns-in_err-subs-clause-read : goal.returns-in_err-subs-clause-read
 returns-in_err-subs-clause-read c =
     let more : Some c.in_ok-more_slots.more_slots ≡ may 0 (number 0 512) (get_member (codes "more_slots") (table_view c.args.table.now)) = c.in_ok-more_slots.ensures.value in
     let count : c.root_slots-count.result ≡ root_slots (table_view c.args.table.now) =
     c.root_slots-count.ensures ∙ slots_counted _ _ _ _ more (c.len.ensures.value ∙ c.in_ok-slots.ensures.count) in
-    Reads-err (λ t r. IsProfile t (with_parameters r.0 r.1.own.items r.1.choices.items)) _ _ c.from_residual-in_err-subs.ensures.0 (λ r h. c.in_err-subs.ensures.read (r.0.subs, r.0.sub) (rw count h.sub))
+    Reads-err (λ t r. IsProfile t (profile_with r.0 r.1)) _ _ c.from_residual-in_err-subs.ensures.0 (λ r h. c.in_err-subs.ensures.read (r.0.subs, r.0.sub) (rw count h.sub))
 
 pub returns-in_err-without-clause-read : goal.returns-in_err-without-clause-read
 returns-in_err-without-clause-read c =
-    Reads-err (λ t r. IsProfile t (with_parameters r.0 r.1.own.items r.1.choices.items)) _ _ c.from_residual-in_err-without.ensures.0 (λ r h. c.in_err-without.ensures.read r.0.without (h.without, h.may_lack))
+    Reads-err (λ t r. IsProfile t (profile_with r.0 r.1)) _ _ c.from_residual-in_err-without.ensures.0 (λ r h. c.in_err-without.ensures.read r.1.without (h.without, h.may_lack))
 
 pub returns-in_err-added-clause-read : goal.returns-in_err-added-clause-read
 returns-in_err-added-clause-read c =
-    Reads-err (λ t r. IsProfile t (with_parameters r.0 r.1.own.items r.1.choices.items)) _ _ c.from_residual-in_err-added.ensures.0
-    (λ r h. c.in_err-added.ensures.read r.1 ((h.own, h.choices), h.own_ascend, h.agree))
+    Reads-err (λ t r. IsProfile t (profile_with r.0 r.1)) _ _ c.from_residual-in_err-added.ensures.0
+    (λ r h. c.in_err-added.ensures.read r.1.added ((h.own, h.choices), h.own_ascend, h.agree, h.locks, h.states))
 
 pub returns-in_err-estimates-clause-read : goal.returns-in_err-estimates-clause-read
 returns-in_err-estimates-clause-read c =
-    Reads-err (λ t r. IsProfile t (with_parameters r.0 r.1.own.items r.1.choices.items)) _ _ c.from_residual-in_err-estimates.ensures.0 (λ r h. c.in_err-estimates.ensures.read r.0.estimates h.estimates)
+    Reads-err (λ t r. IsProfile t (profile_with r.0 r.1)) _ _ c.from_residual-in_err-estimates.ensures.0 (λ r h. c.in_err-estimates.ensures.read r.1.estimates h.estimates)
 
 pub returns-in_err-workers-clause-read : goal.returns-in_err-workers-clause-read
 returns-in_err-workers-clause-read c =
-    Reads-err (λ t r. IsProfile t (with_parameters r.0 r.1.own.items r.1.choices.items)) _ _ c.from_residual-in_err-workers.ensures.0 (λ r h. c.in_err-workers.ensures.read r.0.workers h.workers)
+    Reads-err (λ t r. IsProfile t (profile_with r.0 r.1)) _ _ c.from_residual-in_err-workers.ensures.0 (λ r h. c.in_err-workers.ensures.read r.0.workers h.workers)
 
 pub returns-clause-read : goal.returns-clause-read
 returns-clause-read c =
@@ -95,6 +97,8 @@ returns-clause-read c =
       own_ascend = c.in_ok-added.ensures.read.1;
       choices = c.in_ok-added.ensures.read.0.1;
       agree = c.in_ok-added.ensures.read.2;
+      locks = c.in_ok-added.ensures.read.3;
+      states = c.in_ok-added.ensures.read.4;
       estimates = c.in_ok-estimates.ensures.read;
       workers = c.in_ok-workers.ensures.read;
     }
@@ -193,7 +197,7 @@ returns-in_err-estimates-clause-wrong c =
     let count : c.root_slots-count.result ≡ root_slots (table_view c.args.table.now) =
     c.root_slots-count.ensures ∙ slots_counted _ _ _ _ more (c.len.ensures.value ∙ c.in_ok-slots.ensures.count) in
     exit (FirstWrong profile_parts (table_view c.args.table.now)) _ _ c.from_residual-in_err-estimates.ensures.1
-    (inr (free_right 0 (number 0 0xFFFFFFFF) (get_member (codes "boot_software_version_id") (table_view c.args.table.now)) _ c.in_ok-boot.ensures.value, inr (free_right [] text (get_member (codes "boot_software_version_label") (table_view c.args.table.now)) _ c.in_ok-boot_text.ensures.value, inr ((c.in_ok-languages.languages.items, c.in_ok-languages.ensures.read), inr (free_right 0 (number 0 65534) (get_member (codes "presets") (table_view c.args.table.now)) _ c.in_ok-presets.ensures.value, inr (free_right 0 (number 0 512) (get_member (codes "more_slots") (table_view c.args.table.now)) _ c.in_ok-more_slots.ensures.value, inr ((c.in_ok-slots.slots.items, c.in_ok-slots.ensures.read), inr ((c.in_ok-root.root, rw (← count) c.in_ok-root.ensures.read), inr (((c.in_ok-subs.subs, c.in_ok-subs.sub), rw (← count) c.in_ok-subs.ensures.read), inr ((_, c.in_ok-sensors.ensures.read), inr ((_, c.in_ok-tests.ensures.read.0), inr ((_, c.in_ok-tests.ensures.read), inr ((_, c.in_ok-status_texts.ensures.read.0), inr ((_, c.in_ok-status_texts.ensures.read), inr ((_, c.in_ok-without.ensures.read.0), inr ((_, (c.in_ok-without.ensures.read.0, c.in_ok-without.ensures.read.1.optional)), inr ((_, (c.in_ok-without.ensures.read.0, c.in_ok-without.ensures.read.1.needs)), behind added_parts (times ∷ choice ∷ []) (table_view c.args.table.now) _ (all_added (table_view c.args.table.now) c.in_ok-added.added.own.items c.in_ok-added.added.choices.items c.in_ok-added.ensures.read) (inl c.in_err-estimates.ensures.wrong))))))))))))))))))
+    (inr (free_right 0 (number 0 0xFFFFFFFF) (get_member (codes "boot_software_version_id") (table_view c.args.table.now)) _ c.in_ok-boot.ensures.value, inr (free_right [] text (get_member (codes "boot_software_version_label") (table_view c.args.table.now)) _ c.in_ok-boot_text.ensures.value, inr ((c.in_ok-languages.languages.items, c.in_ok-languages.ensures.read), inr (free_right 0 (number 0 65534) (get_member (codes "presets") (table_view c.args.table.now)) _ c.in_ok-presets.ensures.value, inr (free_right 0 (number 0 512) (get_member (codes "more_slots") (table_view c.args.table.now)) _ c.in_ok-more_slots.ensures.value, inr ((c.in_ok-slots.slots.items, c.in_ok-slots.ensures.read), inr ((c.in_ok-root.root, rw (← count) c.in_ok-root.ensures.read), inr (((c.in_ok-subs.subs, c.in_ok-subs.sub), rw (← count) c.in_ok-subs.ensures.read), inr ((_, c.in_ok-sensors.ensures.read), inr ((_, c.in_ok-tests.ensures.read.0), inr ((_, c.in_ok-tests.ensures.read), inr ((_, c.in_ok-status_texts.ensures.read.0), inr ((_, c.in_ok-status_texts.ensures.read), inr ((_, c.in_ok-without.ensures.read.0), inr ((_, (c.in_ok-without.ensures.read.0, c.in_ok-without.ensures.read.1.optional)), inr ((_, (c.in_ok-without.ensures.read.0, c.in_ok-without.ensures.read.1.needs)), behind added_parts (times ∷ choice ∷ []) (table_view c.args.table.now) _ (all_added (table_view c.args.table.now) c.in_ok-added.added.own.items c.in_ok-added.added.choices.items c.in_ok-added.added.locks.items c.in_ok-added.ensures.read) (inl c.in_err-estimates.ensures.wrong))))))))))))))))))
 
 pub returns-in_err-workers-clause-wrong : goal.returns-in_err-workers-clause-wrong
 returns-in_err-workers-clause-wrong c =
@@ -201,4 +205,4 @@ returns-in_err-workers-clause-wrong c =
     let count : c.root_slots-count.result ≡ root_slots (table_view c.args.table.now) =
     c.root_slots-count.ensures ∙ slots_counted _ _ _ _ more (c.len.ensures.value ∙ c.in_ok-slots.ensures.count) in
     exit (FirstWrong profile_parts (table_view c.args.table.now)) _ _ c.from_residual-in_err-workers.ensures.1
-    (inr (free_right 0 (number 0 0xFFFFFFFF) (get_member (codes "boot_software_version_id") (table_view c.args.table.now)) _ c.in_ok-boot.ensures.value, inr (free_right [] text (get_member (codes "boot_software_version_label") (table_view c.args.table.now)) _ c.in_ok-boot_text.ensures.value, inr ((c.in_ok-languages.languages.items, c.in_ok-languages.ensures.read), inr (free_right 0 (number 0 65534) (get_member (codes "presets") (table_view c.args.table.now)) _ c.in_ok-presets.ensures.value, inr (free_right 0 (number 0 512) (get_member (codes "more_slots") (table_view c.args.table.now)) _ c.in_ok-more_slots.ensures.value, inr ((c.in_ok-slots.slots.items, c.in_ok-slots.ensures.read), inr ((c.in_ok-root.root, rw (← count) c.in_ok-root.ensures.read), inr (((c.in_ok-subs.subs, c.in_ok-subs.sub), rw (← count) c.in_ok-subs.ensures.read), inr ((_, c.in_ok-sensors.ensures.read), inr ((_, c.in_ok-tests.ensures.read.0), inr ((_, c.in_ok-tests.ensures.read), inr ((_, c.in_ok-status_texts.ensures.read.0), inr ((_, c.in_ok-status_texts.ensures.read), inr ((_, c.in_ok-without.ensures.read.0), inr ((_, (c.in_ok-without.ensures.read.0, c.in_ok-without.ensures.read.1.optional)), inr ((_, (c.in_ok-without.ensures.read.0, c.in_ok-without.ensures.read.1.needs)), behind added_parts (times ∷ choice ∷ []) (table_view c.args.table.now) _ (all_added (table_view c.args.table.now) c.in_ok-added.added.own.items c.in_ok-added.added.choices.items c.in_ok-added.ensures.read) (inr ((c.in_ok-estimates.estimates, c.in_ok-estimates.ensures.read), inl c.in_err-workers.ensures.wrong)))))))))))))))))))
+    (inr (free_right 0 (number 0 0xFFFFFFFF) (get_member (codes "boot_software_version_id") (table_view c.args.table.now)) _ c.in_ok-boot.ensures.value, inr (free_right [] text (get_member (codes "boot_software_version_label") (table_view c.args.table.now)) _ c.in_ok-boot_text.ensures.value, inr ((c.in_ok-languages.languages.items, c.in_ok-languages.ensures.read), inr (free_right 0 (number 0 65534) (get_member (codes "presets") (table_view c.args.table.now)) _ c.in_ok-presets.ensures.value, inr (free_right 0 (number 0 512) (get_member (codes "more_slots") (table_view c.args.table.now)) _ c.in_ok-more_slots.ensures.value, inr ((c.in_ok-slots.slots.items, c.in_ok-slots.ensures.read), inr ((c.in_ok-root.root, rw (← count) c.in_ok-root.ensures.read), inr (((c.in_ok-subs.subs, c.in_ok-subs.sub), rw (← count) c.in_ok-subs.ensures.read), inr ((_, c.in_ok-sensors.ensures.read), inr ((_, c.in_ok-tests.ensures.read.0), inr ((_, c.in_ok-tests.ensures.read), inr ((_, c.in_ok-status_texts.ensures.read.0), inr ((_, c.in_ok-status_texts.ensures.read), inr ((_, c.in_ok-without.ensures.read.0), inr ((_, (c.in_ok-without.ensures.read.0, c.in_ok-without.ensures.read.1.optional)), inr ((_, (c.in_ok-without.ensures.read.0, c.in_ok-without.ensures.read.1.needs)), behind added_parts (times ∷ choice ∷ []) (table_view c.args.table.now) _ (all_added (table_view c.args.table.now) c.in_ok-added.added.own.items c.in_ok-added.added.choices.items c.in_ok-added.added.locks.items c.in_ok-added.ensures.read) (inr ((c.in_ok-estimates.estimates, c.in_ok-estimates.ensures.read), inl c.in_err-workers.ensures.wrong)))))))))))))))))))

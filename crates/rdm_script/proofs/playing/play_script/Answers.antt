@@ -29,7 +29,7 @@ returns-in-Ok-clause-ok g c =
     let script = c.in_ok-script.script in
     let ws = c.args.stage.profile.workers in
     let events : List Event = c.in-Ok.trace.events in
-    let spelled = subst (λ (ds : List ParameterDef). IsScript (with_own c.args.stage.device c.args.stage.spelling ds) c.args.text.now script.setup script.steps.items) c.as_slice.ensures.value c.in_ok-script.ensures.ok in
+    let spelled = subst (λ (ds : List ParameterDef). IsScript (with_own c.args.stage.device c.args.stage.spelling ds) c.args.text.now script.setup script.steps.items) c.own.ensures.value c.in_ok-script.ensures.ok in
     let run = subst (λ (ss : List CrewStep). IsScriptRun scene script.setup ss events) c.deref.ensures.value c.in-Ok.ensures.trace in
     record {
       setup = script.setup;
@@ -54,7 +54,7 @@ pub returns-clause-err : goal.returns-clause-err
 returns-clause-err g c =
     let scene = scene_of g.P.Part.gives g.Q.Part.gives g.N.Panel.offers c.args.stage in
     let script = c.in_ok-script.script in
-    let own = c.as_slice.ensures.value in
+    let own = c.own.ensures.value in
     let spelled = subst (λ (ds : List ParameterDef). IsScript (with_own c.args.stage.device c.args.stage.spelling ds) c.args.text.now script.setup script.steps.items) own c.in_ok-script.ensures.ok in
     let lines = c.in_ok-script.ensures.lines ∙ ap (λ (ds : List ParameterDef). step_lines (with_own c.args.stage.device c.args.stage.spelling ds) c.args.text.now) own in
     let setup = c.in_ok-script.ensures.setup_line ∙ ap (λ (ds : List ParameterDef). setup_line (with_own c.args.stage.device c.args.stage.spelling ds) c.args.text.now) own in
@@ -66,7 +66,7 @@ pub returns-clause-line : goal.returns-clause-line
 returns-clause-line g c =
     let scene = scene_of g.P.Part.gives g.Q.Part.gives g.N.Panel.offers c.args.stage in
     let script = c.in_ok-script.script in
-    let own = c.as_slice.ensures.value in
+    let own = c.own.ensures.value in
     let spelled = subst (λ (ds : List ParameterDef). IsScript (with_own c.args.stage.device c.args.stage.spelling ds) c.args.text.now script.setup script.steps.items) own c.in_ok-script.ensures.ok in
     let lines = c.in_ok-script.ensures.lines ∙ ap (λ (ds : List ParameterDef). step_lines (with_own c.args.stage.device c.args.stage.spelling ds) c.args.text.now) own in
     let setup = c.in_ok-script.ensures.setup_line ∙ ap (λ (ds : List ParameterDef). setup_line (with_own c.args.stage.device c.args.stage.spelling ds) c.args.text.now) own in

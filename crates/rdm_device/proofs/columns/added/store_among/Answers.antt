@@ -8,7 +8,7 @@ use Rattle.rdm_device.proofs.columns.added.store_among.Goals.{then-changed, else
 
 pub loop-i-preserved : goal.loop-i-preserved
 loop-i-preserved c =
-    let becomes : Entry → Entry = stored_in c.args.pid c.args.bytes.now in
+    let becomes : Entry → Entry = stored_in c.args.pid c.args.index c.args.bytes.now in
     let before = added_entries c.args.values.now in
     let now = added_entries c.loop-i.values in
     let next = added_entries c.store_at-here.new.values in

@@ -6,10 +6,10 @@ use Rattle.rdm_device.proofs.columns.added.store_at.Goals as goal
 
 pub returns-clause-after : goal.returns-clause-after
 returns-clause-after c =
-    let old : Kept = get_or c.args.values.now c.args.index c.index-values-index.result in
-    one_written kept_entry no_entry (stored_in c.args.pid c.args.bytes.now) c.args.values.now c.args.index old c.store_one.new.kept c.requires.place (ap (λ (d : Kept). get_or c.args.values.now c.args.index d) c.index-values-index.is) c.store_one.ensures.after
+    let old : Kept = get_or c.args.values.now c.args.place c.index-values-place.result in
+    one_written kept_entry no_entry (stored_in c.args.pid c.args.index c.args.bytes.now) c.args.values.now c.args.place old c.store_one.new.kept c.requires.place (ap (λ (d : Kept). get_or c.args.values.now c.args.place d) c.index-values-place.is) c.store_one.ensures.after
 
 pub returns-clause-same : goal.returns-clause-same
 returns-clause-same c =
-    let old : Kept = get_or c.args.values.now c.args.index c.index-values-index.result in
-    one_same no_entry kept_entry c.store_one.result c.args.values.now c.args.index old c.store_one.new.kept c.requires.place (ap (λ (d : Kept). get_or c.args.values.now c.args.index d) c.index-values-index.is) c.store_one.ensures.same
+    let old : Kept = get_or c.args.values.now c.args.place c.index-values-place.result in
+    one_same no_entry kept_entry c.store_one.result c.args.values.now c.args.place old c.store_one.new.kept c.requires.place (ap (λ (d : Kept). get_or c.args.values.now c.args.place d) c.index-values-place.is) c.store_one.ensures.same

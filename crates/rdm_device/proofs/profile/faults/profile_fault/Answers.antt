@@ -6,4 +6,4 @@ use Rattle.rdm_device.proofs.profile.faults.profile_fault.Goals as goal
 
 pub returns-clause-first : goal.returns-clause-first
 returns-clause-first c =
-    subst (λ (p : Profile). IfSome c.profile_fault_with.result (λ fault. IsFirstBroken fault p)) (same_profile c.args.profile.now _ _ _ c.as_slice.ensures.value c.as_slice-2.ensures.value c.as_slice-3.ensures.value) c.profile_fault_with.ensures.first
+    subst (λ (p : Profile). IfSome c.profile_fault_with.result (λ fault. IsFirstBroken fault p)) (same_profile c.args.profile.now _ _ _ _ c.more_slots.ensures c.without.ensures.value c.own.ensures.value c.choices.ensures.value) c.profile_fault_with.ensures.first

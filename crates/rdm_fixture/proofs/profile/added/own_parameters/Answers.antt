@@ -11,7 +11,7 @@ use Rattle.rdm_fixture.proofs.profile.added.own_parameters.Goals as goal
 pub returns-in-Some-clause-read : goal.returns-in-Some-clause-read
 returns-in-Some-clause-read c = λ xs h.
     let same : xs.items ≡ c.as_slice.result.now =
-    one_list _ _ IsParameter 0 16 _ _ one_parameter h.0 c.in_ok-defs.ensures.read ∙ sym c.as_slice.ensures.value in
+    one_list _ _ IsParameter 0 32 _ _ one_parameter h.0 c.in_ok-defs.ensures.read ∙ sym c.as_slice.ensures.value in
     absurd (not_none _ (sym c.in-Some.is ∙ c.first_below.ensures.none.1 (rw same at h.1)))
 
 pub returns-in-Some-clause-wrong : goal.returns-in-Some-clause-wrong

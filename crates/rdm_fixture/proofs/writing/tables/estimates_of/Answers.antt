@@ -14,7 +14,7 @@ returns-clause-says c =
       c.in_ok-put_word.ensures.put refl,
       ap members_view c.new-table.ensures.empty,
     )
-    (estimates_say c.args.estimates.now c.put_word.ensures.says c.put_word-2.ensures.says c.put_word-3.ensures.says c.put_word-4.ensures.says)
+    (estimates_say c.args.estimates c.put_word.ensures.says c.put_word-2.ensures.says c.put_word-3.ensures.says c.put_word-4.ensures.says)
 
 pub returns-clause-plain : goal.returns-clause-plain
 returns-clause-plain c =
@@ -26,4 +26,4 @@ returns-clause-plain c =
       c.in_ok-put_word.ensures.put refl,
       ap members_view c.new-table.ensures.empty,
     )
-    (estimates_plain c.args.estimates.now)
+    (estimates_plain c.args.estimates)

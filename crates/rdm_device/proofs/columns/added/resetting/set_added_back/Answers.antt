@@ -6,4 +6,4 @@ use Rattle.rdm_device.proofs.columns.added.resetting.set_added_back.Goals as goa
 
 pub returns-clause-after : goal.returns-clause-after
 returns-clause-after c spot v same =
-    all_set_back spot v (added_entries c.args.own.now.added.items) (added_entries c.set_in_back.new.values.items) c.as_slice.result.now (c.as_slice.ensures.value ∙ ap (λ (p : Profile). p.own) (sym same)) c.set_in_back.ensures.after
+    all_set_back spot v (added_entries c.args.own.now.added.items) (added_entries c.set_in_back.new.values.items) c.own.result.now (c.own.ensures.value ∙ ap (λ (p : Profile). p.particulars.own) (sym same)) c.set_in_back.ensures.after

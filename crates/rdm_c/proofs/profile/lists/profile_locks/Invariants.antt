@@ -1,0 +1,7 @@
+use Rattle.std.proofs.Common.{◌≡◌, length, map, take}
+use Rattle.rdm_c.specs.Parameters.{lock_in}
+use Rattle.rdm_c.proofs.profile.lists.profile_locks.Given as goal
+
+-- those before this one stand in the list
+abbrev pub invariant-loop-entry : goal.invariant-loop-entry
+invariant-loop-entry l = (l.locks ≡ map lock_in (take l.entry-index l.entries)) × (length l.locks ≡ l.entry-index)

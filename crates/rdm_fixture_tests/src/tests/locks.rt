@@ -1,0 +1,344 @@
+//! Orders, counts that a SET sets back, scenes, lock states and PINs, and which parameters a lock state keeps from being set.
+
+use super::{LEAST, told, try_rows};
+use rdm_device::{Lock, ParameterDef, Particular, Particulars, Rights, Shape};
+use rdm_fixture::{Fixture, WriteError};
+use std::process::Abort;
+use std::test::Fail;
+
+/// A fixture with this behind the keys that each needs. It is written, and read as the same.
+fn read(rt: &(impl Abort + AllocGlobal), keys: &str) -> Result<Fixture, Fail> {
+    let text = format!(in rt.alloc(); "{LEAST}{keys}")?;
+    let fixture = Fixture::from_toml(rt.alloc(), text.as_str())?;
+    let written = fixture.to_toml(rt.alloc())?;
+    let again = Fixture::from_toml(rt.alloc(), written.as_str())?;
+    assert!(rt; again == fixture, "{written}");
+    Ok(fixture)
+}
+
+/// What a parameter has: its commands, its data, what it starts with, the least and the greatest value.
+fn check(
+    rt: &(impl Abort + AllocGlobal),
+    def: &ParameterDef,
+    rights: Rights,
+    shape: Shape,
+    start: &[u8],
+    limits: (i64, i64),
+) {
+    assert!(rt; def.rights == rights);
+    assert!(rt; def.shape == shape);
+    assert!(rt; def.start.as_slice() == start);
+    assert!(rt; (def.low, def.high) == limits);
+}
+
+/// An order is SET alone, and COMMS_STATUS has a SET that sets its counts back.
+#[test]
+fn orders_and_counts(rt: HostRuntime) -> Result<(), Fail> {
+    let fixture = read(
+        &rt,
+        "[[parameter]]\npid = 0x0015\ncommand_class = \"get_clear\"\ndata_type = \"not_defined\"\nfields = [{ slots = 2 }, { slots = 2 }, { slots = 2 }]\ndefault_value = \"000000000000\"\n[[parameter]]\npid = 0x1001\ncommand_class = \"set\"\ndata_type = \"unsigned_byte\"\ndefault_value = 1\n[[parameter]]\npid = 0x1030\ncommand_class = \"set\"\ndata_type = \"not_defined\"\ndefault_value = \"0001000000000000\"\n",
+    )?;
+    let own = fixture.profile.particulars.own();
+    assert!(rt; own.len() == 3);
+    check(
+        &rt,
+        &own[0],
+        Rights::Clear,
+        Shape::Slots(6),
+        &[0; 6],
+        (0, 0),
+    );
+    check(&rt, &own[1], Rights::Set, Shape::Byte, &[1], (0, 255));
+    check(
+        &rt,
+        &own[2],
+        Rights::Set,
+        Shape::Slots(8),
+        &[0, 1, 0, 0, 0, 0, 0, 0],
+        (0, 0),
+    );
+    Ok(())
+}
+
+/// PRESET_STATUS of six scenes, of which one can only be read; LOCK_PIN, and LOCK_STATE with two states beside 0 and their names.
+const LOCKABLE: &str =
+    "[[parameter]]\npid = 0x0640\ncommand_class = \"get_set\"\ndata_type = \"pin\"\ndefault_value = 1234\n[[parameter]]\npid = 0x0641\ncommand_class = \"get_set\"\ndata_type = \"lock\"\nmaximum_valid_value = 2\ndefault_value = 0\n[[parameter]]\npid = 0x0642\ncommand_class = \"get\"\ndata_type = \"names\"\ndefault_value = \"\"\n[[parameter]]\npid = 0x1042\ncommand_class = \"get_set\"\ndata_type = \"scenes\"\nminimum_valid_value = 1\nmaximum_valid_value = 6\ndefault_value = \"\"\n[[choice]]\npid = 0x0642\nnumber = 1\n[[choice]]\npid = 0x0642\nnumber = 2\n";
+
+#[test]
+fn scenes_locks_and_pins(rt: HostRuntime) -> Result<(), Fail> {
+    let fixture = read(&rt, LOCKABLE)?;
+    let own = fixture.profile.particulars.own();
+    assert!(rt; own.len() == 4);
+    check(
+        &rt,
+        &own[0],
+        Rights::Both,
+        Shape::Pin,
+        &[0x04, 0xD2],
+        (0, 9999),
+    );
+    check(&rt, &own[1], Rights::Both, Shape::Lock, &[0], (0, 2));
+    check(&rt, &own[2], Rights::Get, Shape::Names, &[], (0, 0));
+    check(&rt, &own[3], Rights::Both, Shape::Scenes, &[], (1, 6));
+    assert!(rt; fixture.profile.particulars.locks().is_empty());
+    Ok(())
+}
+
+/// What each state locks, in the order of the file: by name, in the table and beside it, or by PID.
+#[test]
+fn what_is_locked(rt: HostRuntime) -> Result<(), Fail> {
+    let keys = format!(in rt.alloc();
+        "{LOCKABLE}[[lock]]\nstate = 2\nparameters = [\"DMX_START_ADDRESS\", 0x8001, \"PRESET_STATUS\"]\n[[lock]]\nstate = 1\nparameters = [0x00F0]\n[[lock]]\nstate = 2\nparameters = [0, 65535]\n"
+    )?;
+    let fixture = read(&rt, keys.as_str())?;
+    let wanted = [
+        Lock {
+            state: 2,
+            pid: 0x00F0,
+        },
+        Lock {
+            state: 2,
+            pid: 0x8001,
+        },
+        Lock {
+            state: 2,
+            pid: 0x1042,
+        },
+        Lock {
+            state: 1,
+            pid: 0x00F0,
+        },
+        Lock { state: 2, pid: 0 },
+        Lock {
+            state: 2,
+            pid: 0xFFFF,
+        },
+    ];
+    assert!(rt; fixture.profile.particulars.locks() == wanted.as_slice());
+    Ok(())
+}
+
+#[test]
+fn refused_locks(rt: HostRuntime) -> Result<(), Fail> {
+    let named =
+        "isn't a list of names of parameters and of PIDs, such as \"DMX_START_ADDRESS\" and 0x8001";
+    let rows: [(&str, &str, &str); 12] = [
+        ("[[lock]]\n", "line 6: in lock 1, ", "missing key `state`"),
+        (
+            "[[lock]]\nstate = 0\n",
+            "line 7: in lock 1, ",
+            "`state` isn't an integer from 1 to 255",
+        ),
+        (
+            "[[lock]]\nstate = 256\n",
+            "line 7: in lock 1, ",
+            "`state` isn't an integer from 1 to 255",
+        ),
+        (
+            "[[lock]]\nstate = 1\n",
+            "line 6: in lock 1, ",
+            "missing key `parameters`",
+        ),
+        (
+            "[[lock]]\nstate = 1\nparameters = []\n",
+            "line 8: in lock 1, ",
+            "`parameters` isn't a list of 1 to 64 entries",
+        ),
+        (
+            "[[lock]]\nstate = 1\nparameters = \"CURVE\"\n",
+            "line 8: in lock 1, ",
+            "`parameters` isn't a list of 1 to 64 entries",
+        ),
+        (
+            "[[lock]]\nstate = 1\nparameters = [\"CURVE\", \"curve\"]\n",
+            "line 8: in lock 1, `parameters` ",
+            named,
+        ),
+        (
+            "[[lock]]\nstate = 1\nparameters = [65536]\n",
+            "line 8: in lock 1, `parameters` ",
+            named,
+        ),
+        (
+            "[[lock]]\nstate = 1\nparameters = [-1]\n",
+            "line 8: in lock 1, `parameters` ",
+            named,
+        ),
+        (
+            "[[lock]]\nstate = 1\nparameters = [true]\n",
+            "line 8: in lock 1, `parameters` ",
+            named,
+        ),
+        (
+            "[[lock]]\nstate = 1\nparameters = [1]\npid = 1\n",
+            "line 9: in lock 1, ",
+            "unknown key `pid`",
+        ),
+        (
+            "[[lock]]\nstate = 1\nparameters = [1]\n[[lock]]\nstates = 1\n",
+            "line 10: in lock 2, ",
+            "unknown key `states`",
+        ),
+    ];
+    for (after, place, words) in rows {
+        let expected = format!(in rt.alloc(); "{place}{words}")?;
+        try_rows(&rt, &[("", after, expected.as_str())])?;
+    }
+    try_rows(
+        &rt,
+        &[(
+            "lock = 1",
+            "",
+            "line 1: `lock` isn't a list of 0 to 64 entries",
+        )],
+    )
+}
+
+/// A state that LOCK_STATE hasn't locks nothing, and without it none does.
+#[test]
+fn states_that_are_not_there(rt: HostRuntime) -> Result<(), Fail> {
+    let two = format!(in rt.alloc();
+        "{LOCKABLE}[[lock]]\nstate = 2\nparameters = [1]\n[[lock]]\nstate = 3\nparameters = [1]\n"
+    )?;
+    try_rows(
+        &rt,
+        &[
+            (
+                "",
+                two.as_str(),
+                "line 35: `lock` tells of a state that LOCK_STATE hasn't",
+            ),
+            (
+                "",
+                "[[lock]]\nstate = 1\nparameters = [1]\n",
+                "line 6: `lock` tells of a state that LOCK_STATE hasn't",
+            ),
+        ],
+    )
+}
+
+/// DMX_BLOCK_ADDRESS has no data of its own.
+#[test]
+fn blocks(rt: HostRuntime) -> Result<(), Fail> {
+    let fixture = read(
+        &rt,
+        "[[parameter]]\npid = 0x0140\ncommand_class = \"get_set\"\ndata_type = \"block\"\ndefault_value = \"\"\n",
+    )?;
+    let own = fixture.profile.particulars.own();
+    assert!(rt; own.len() == 1);
+    check(&rt, &own[0], Rights::Both, Shape::Block, &[], (0, 0));
+    Ok(())
+}
+
+/// What FACTORY_DEFAULTS sets back where the file doesn't say it: no counts and orders, no scenes, and neither lock state nor PIN.
+#[test]
+fn what_is_no_setting(rt: HostRuntime) -> Result<(), Fail> {
+    let fixture = read(&rt, LOCKABLE)?;
+    for def in fixture.profile.particulars.own() {
+        assert!(rt; !def.resets);
+    }
+    Ok(())
+}
+
+/// As many parameters as this, in one state.
+fn locking(rt: &(impl Abort + AllocGlobal), count: usize) -> Result<String, Fail> {
+    let mut text = String::from_str(rt.alloc(), "[[lock]]\nstate = 1\nparameters = [1")?;
+    for _ in 1..count {
+        text.push_str(", 1")?;
+    }
+    text.push_str("]\n")?;
+    Ok(text)
+}
+
+/// At most 64 are locked in all, whichever the states.
+#[test]
+fn how_many_are_locked(rt: HostRuntime) -> Result<(), Fail> {
+    let most = locking(&rt, 64)?;
+    let text = format!(in rt.alloc(); "{LOCKABLE}{most}")?;
+    let fixture = read(&rt, text.as_str())?;
+    assert!(rt; fixture.profile.particulars.locks().len() == 64);
+    let half = locking(&rt, 32)?;
+    let both = format!(in rt.alloc(); "{LOCKABLE}{half}{half}")?;
+    let fixture = read(&rt, both.as_str())?;
+    assert!(rt; fixture.profile.particulars.locks().len() == 64);
+    let one = locking(&rt, 1)?;
+    let many = format!(in rt.alloc(); "{LEAST}{both}{one}")?;
+    assert_eq!(rt;
+        told(rt.alloc(), many.as_str())?.as_str(),
+        "line 34: `lock` names parameters more than 64 times in all"
+    );
+    let more = locking(&rt, 65)?;
+    try_rows(
+        &rt,
+        &[(
+            "",
+            more.as_str(),
+            "line 8: in lock 1, `parameters` isn't a list of 1 to 64 entries",
+        )],
+    )
+}
+
+/// PINs, lock states and commands that a standard hasn't.
+#[test]
+fn refused_parameters(rt: HostRuntime) -> Result<(), Fail> {
+    let other =
+        "line 7: in parameter 1, `pid` is that of a parameter of E1.20 or E1.37-1 with other commands or other data";
+    try_rows(
+        &rt,
+        &[
+            (
+                "",
+                "[[parameter]]\npid = 0x0640\ncommand_class = \"get_set\"\ndata_type = \"pin\"\ndefault_value = 10000",
+                "line 10: in parameter 1, `default_value` isn't an integer from 0 to 9999",
+            ),
+            (
+                "",
+                "[[parameter]]\npid = 0x0640\ncommand_class = \"get_set\"\ndata_type = \"pin\"\nmaximum_valid_value = 99\ndefault_value = 0",
+                other,
+            ),
+            (
+                "",
+                "[[parameter]]\npid = 0x0641\ncommand_class = \"get_set\"\ndata_type = \"lock\"\nmaximum_valid_value = 1\ndefault_value = 2",
+                "line 11: in parameter 1, `default_value` isn't an integer from 0 to 1",
+            ),
+            (
+                "",
+                "[[parameter]]\npid = 0x1042\ncommand_class = \"get_set\"\ndata_type = \"scenes\"\nmaximum_valid_value = 256\ndefault_value = \"\"",
+                "line 10: in parameter 1, `maximum_valid_value` isn't an integer from 0 to 255",
+            ),
+            (
+                "",
+                "[[parameter]]\npid = 0x1042\ncommand_class = \"get_set\"\ndata_type = \"scenes\"\ndefault_value = \"00\"",
+                "line 10: in parameter 1, `default_value` isn't what the other keys say of the data",
+            ),
+            (
+                "",
+                "[[parameter]]\npid = 0x1001\ncommand_class = \"get_set\"\ndata_type = \"unsigned_byte\"\ndefault_value = 1",
+                other,
+            ),
+            (
+                "",
+                "[[parameter]]\npid = 0x8001\ncommand_class = \"get_clear\"\ndata_type = \"unsigned_byte\"\ndefault_value = 1",
+                other,
+            ),
+            (
+                "",
+                "[[parameter]]\npid = 0x8001\ncommand_class = \"get_set\"\ndata_type = \"pin\"\ndefault_value = 1",
+                other,
+            ),
+        ],
+    )
+}
+
+/// What a state locks that LOCK_STATE hasn't isn't written.
+#[test]
+fn unwritten_locks(rt: HostRuntime) -> Result<(), Fail> {
+    let mut particular = Particular::usual();
+    particular
+        .locks
+        .push(rt.alloc(), Lock { state: 1, pid: 1 })?;
+    let mut fixture = Fixture::from_toml(rt.alloc(), LEAST)?;
+    fixture.profile.particulars = Particulars::of(rt.alloc(), particular)?;
+    assert!(rt; fixture.to_toml(rt.alloc()).err() == Some(WriteError::Indescribable));
+    Ok(())
+}

@@ -1,0 +1,9 @@
+use Rattle.std.proofs.Common.{◌≡◌, Ok, sym, ◌∙◌}
+use Rattle.rdm_device.specs.Views.State.{added_entries}
+use Rattle.rdm_params.specs.Commands.Commands.{open_to}
+use Rattle.rdm_params.proofs.AddedCommands.{set_keeps}
+use Rattle.rdm_params.proofs.commands.added.set_kept.Goals as goal
+
+pub returns-in-Ok-clause-added : goal.returns-in-Ok-clause-added
+returns-in-Ok-clause-added c spot same =
+    set_keeps c.args.def.now (open_to c.args.protected c.args.no_pin) spot c.args.data.now c.in-Ok.value (added_entries c.args.own.now.added.items) (added_entries c.store_set.new.own.added.items) (sym c.in-Ok.is ∙ c.take_set.ensures spot same) same (c.store_set.ensures.after spot same)
