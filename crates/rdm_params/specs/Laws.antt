@@ -106,7 +106,8 @@ LeavesTheRest = (p : Parameters) (sub pid : ℕ) (bytes : List ℕ) → IsSameBu
 abbrev pub is_counted : Parameters → ℕ → Bool
 is_counted p pid = list_any (has_key pid 1) p.added
 
--- An order of a good profile that the root accepts leaves other values than before, also if its data are those of the last: so each is told as a change.
+-- An order of a good profile that the root accepts leaves other values than before, also if its data are those of the last: so each is
+-- told as a change.
 abbrev pub OrdersAreTold : Type 0
 OrdersAreTold =
     (p : Parameters) (d : ParameterDef) (bytes reply : List ℕ)

@@ -22,7 +22,7 @@ use super::Devices;
 use super::blocks::DMX_BLOCK_ADDRESS;
 use crate::{Nack, Profile};
 use rdm_device::columns::{added, forms};
-use rdm_device::{Argument, Kept, ParameterDef, Place, Rights, RootValues, Shape};
+use rdm_device::{Argument, Kept, ParameterDef, Place, RootValues, Shape};
 use rdm_frame::Body;
 use rdm_frame::standard::PARAMETER_DESCRIPTION;
 
@@ -301,32 +301,8 @@ fn get_scene(
 }
 
 /// Keeps what the data of a SET stand for, if the parameter takes that, and says whether it is another value.
-// The usual numbers stand apart: the compiler knows there what they are, and asks for the commands and the shape no more.
 #[inline(always)]
 fn set_parameter(
-    def: &ParameterDef,
-    protected: bool,
-    no_pin: bool,
-    data: &[u8],
-    own: &mut RootValues,
-) -> Result<bool, Nack>
-    ensures ok { IfOk result (λ differs. (spot : Spot) → spot.added ≡ added_entries own.old.added.items → is_ok (handed_with (open_to protected no_pin) spot (Some (added_row def.now)) Set data.now) ≡ true) }
-    ensures err { IfErr result (λ nack. (spot : Spot) → spot.added ≡ added_entries own.old.added.items → handed_with (open_to protected no_pin) spot (Some (added_row def.now)) Set data.now ≡ Err nack) }
-    ensures own { own_entries own.new ≡ own_entries own.old }
-    ensures added { (spot : Spot) → spot.added ≡ added_entries own.old.added.items
-        → added_entries own.new.added.items ≡ after_with (open_to protected no_pin) spot (Some (added_row def.now)) data.now }
-    ensures same { IfOk result (λ differs. (differs ≡ false) ↔ (added_entries own.new.added.items ≡ added_entries own.old.added.items)) }
-{
-    match (def.rights, def.shape) {
-        (Rights::Both, Shape::Byte) => set_kept(def, protected, no_pin, data, own),
-        (Rights::Both, Shape::Word) => set_kept(def, protected, no_pin, data, own),
-        _ => set_other(def, protected, no_pin, data, own),
-    }
-}
-
-/// Keeps what the data of a SET stand for, if the parameter takes that, and says whether it is another value.
-#[inline(always)]
-fn set_kept(
     def: &ParameterDef,
     protected: bool,
     no_pin: bool,
@@ -344,26 +320,6 @@ fn set_kept(
         Ok(value) => Ok(added::store_set(def, &value, own)),
         Err(nack) => Err(nack),
     }
-}
-
-/// Keeps what the data of a SET stand for, if the parameter takes that, and says whether it is another value.
-// A call, so that the usual numbers don't make room for it.
-#[inline(never)]
-fn set_other(
-    def: &ParameterDef,
-    protected: bool,
-    no_pin: bool,
-    data: &[u8],
-    own: &mut RootValues,
-) -> Result<bool, Nack>
-    ensures ok { IfOk result (λ differs. (spot : Spot) → spot.added ≡ added_entries own.old.added.items → is_ok (handed_with (open_to protected no_pin) spot (Some (added_row def.now)) Set data.now) ≡ true) }
-    ensures err { IfErr result (λ nack. (spot : Spot) → spot.added ≡ added_entries own.old.added.items → handed_with (open_to protected no_pin) spot (Some (added_row def.now)) Set data.now ≡ Err nack) }
-    ensures own { own_entries own.new ≡ own_entries own.old }
-    ensures added { (spot : Spot) → spot.added ≡ added_entries own.old.added.items
-        → added_entries own.new.added.items ≡ after_with (open_to protected no_pin) spot (Some (added_row def.now)) data.now }
-    ensures same { IfOk result (λ differs. (differs ≡ false) ↔ (added_entries own.new.added.items ≡ added_entries own.old.added.items)) }
-{
-    set_kept(def, protected, no_pin, data, own)
 }
 
 /// What the data of a SET stand for, if the parameter takes that, or the first reason to refuse it.

@@ -8,6 +8,7 @@ ghost use Rattle.rdm_device.specs.Device.Map.{update};
 ghost use Rattle.rdm_device.specs.Device.Spot.{Spot};
 ghost use Rattle.rdm_device.specs.Views.State.{added_entries, own_entries, stored_in};
 
+use crate::columns::added::setting::slots_in;
 use crate::columns::added::{
     is_set_of, is_within, read_shape, scene_of, scene_placed, sized, store_in, store_value,
 };
@@ -49,17 +50,6 @@ fn is_shape_within(shape: Shape, def: &ParameterDef, value: &Argument<'_>) -> bo
     match shape {
         Shape::Scenes => is_set_of(def, slots_in(value)),
         _ => is_within(def, value),
-    }
-}
-
-/// The slots of a value that is slots, else none.
-fn slots_in<'a>(value: &'a Argument<'_>) -> &'a [u8]
-    ensures value { result.now ≡ slots_in value.now }
-    ensures few { length result.now ≤ 32 }
-{
-    match value.label() {
-        Some(slots) => slots,
-        None => &[],
     }
 }
 

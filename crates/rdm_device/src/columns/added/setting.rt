@@ -94,7 +94,7 @@ fn takes_pin(def: &ParameterDef, values: &[Kept], slots: &[u8]) -> bool
 }
 
 /// The slots of a value that is slots, else none.
-fn slots_in<'a>(value: &'a Argument<'_>) -> &'a [u8]
+pub(crate) fn slots_in<'a>(value: &'a Argument<'_>) -> &'a [u8]
     ensures value { result.now ≡ slots_in value.now }
     ensures few { length result.now ≤ 32 }
 {

@@ -2,7 +2,7 @@ use Rattle.std.proofs.Common.{◌≡◌, Ok, sym, ◌∙◌}
 use Rattle.rdm_device.specs.Views.State.{added_entries}
 use Rattle.rdm_params.specs.Commands.Commands.{open_to}
 use Rattle.rdm_params.proofs.AddedCommands.{set_keeps}
-use Rattle.rdm_params.proofs.commands.added.set_kept.Goals as goal
+use Rattle.rdm_params.proofs.commands.added.set_parameter.Goals as goal
 
 pub returns-in-Ok-clause-added : goal.returns-in-Ok-clause-added
 returns-in-Ok-clause-added c spot same =
