@@ -1,8 +1,8 @@
 -- The values of the parameters that the maker adds.
-use Rattle.std.proofs.Common.{◌≡◌, ◌↔◌, ℕ, zero, suc, ◌+◌, ◌<◌, ◌==◌, ◌&&◌, ◌||◌, Bool, true, false, cond, List, [], ◌∷◌, ◌++◌, length, map, get_or, set, take, drop, Option, Some, None, refl, sym, ap, subst, ◌∙◌, append_assoc, add-one, arith}
+use Rattle.std.proofs.Common.{◌≡◌, ◌↔◌, ℕ, zero, suc, ◌+◌, ◌<◌, ◌==◌, ◌&&◌, ◌||◌, Bool, true, false, cond, List, [], ◌∷◌, ◌++◌, length, map, get_or, set, take, drop, Option, Some, refl, sym, ap, ◌∙◌, append_assoc, add-one, arith}
 use Rattle.std.specs.Prelude.{find}
 use Rattle.std.specs.Option.{option_map, option_map_or}
-use Rattle.std.proofs.lemmas.List.{at_drop_more, map-append, map-set, get_or-map, get_or-set_same, length-map, length-set}
+use Rattle.std.proofs.lemmas.List.{at_drop_more, map-append, map-set, get_or-map, get_or-set_same, length-map}
 use Rattle.std.proofs.lemmas.Bool.{eqb-true}
 use Rattle.rdm_device.specs.declared.device.state.Kept.{Kept}
 use Rattle.rdm_device.specs.declared.profile.own.ParameterDef.{ParameterDef}

@@ -1,5 +1,5 @@
 -- A block that starts at an address is told there.
-use Rattle.std.proofs.Common.{◌≡◌, ℕ, zero, suc, ◌+◌, ◌-◌, ◌^◌, ◌<◌, ◌≤◌, ◌==◌, ◌&&◌, ◌||◌, not, Bool, true, false, cond, List, [], ◌∷◌, ◌++◌, Option, Some, None, refl, sym, ap, subst, ◌∙◌, arith}
+use Rattle.std.proofs.Common.{◌≡◌, ℕ, ◌+◌, ◌-◌, ◌^◌, ◌<◌, ◌≤◌, ◌==◌, ◌&&◌, ◌||◌, not, Bool, true, false, cond, List, [], ◌∷◌, ◌++◌, Option, Some, refl, sym, ap, subst, ◌∙◌, arith}
 use Rattle.std.specs.Prelude.{find, min, nat_le, is_some, slice_get, slice_index}
 use Rattle.std.specs.Int.{w16, from_be_bytes}
 use Rattle.std.specs.List.{list_all}
@@ -12,8 +12,8 @@ use Rattle.rdm_device.specs.declared.profile.Profile.{Profile}
 use Rattle.rdm_device.specs.declared.value.Value.TheVariants.{Word}
 use Rattle.rdm_device.specs.Columns.Changes.{stored_at}
 use Rattle.rdm_device.specs.Columns.Forms.{word}
-use Rattle.rdm_device.specs.Device.Blocks.{sub_devices, has_slots, total, start_in, follow, base_if, base_address, block_slots, fits, started, started_from, keeps_start, BlockIsTold}
-use Rattle.rdm_device.specs.Device.Map.{Entry, entry, has_key, lookup, update}
+use Rattle.rdm_device.specs.Device.Blocks.{sub_devices, has_slots, total, start_in, follow, base_if, base_address, started, started_from, keeps_start, BlockIsTold}
+use Rattle.rdm_device.specs.Device.Map.{Entry, has_key, lookup, update}
 use Rattle.rdm_device.specs.Device.Spot.{Spot, sub_device, footprint}
 use Rattle.rdm_device.specs.Device.Values.{word_slots}
 

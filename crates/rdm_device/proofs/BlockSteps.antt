@@ -1,5 +1,5 @@
 -- The slots that all sub-devices use, as one block.
-use Rattle.std.proofs.Common.{◌≡◌, ◌≢◌, ◌↔◌, ℕ, zero, suc, ◌+◌, ◌<◌, ◌≤◌, ◌==◌, ◌||◌, Bool, true, false, cond, List, [], ◌∷◌, ◌++◌, length, map, get_or, set, take, drop, refl, sym, ap, ◌∙◌, add-one, arith}
+use Rattle.std.proofs.Common.{◌≡◌, ◌≢◌, ◌↔◌, ℕ, zero, suc, ◌+◌, ◌<◌, ◌≤◌, ◌==◌, ◌||◌, Bool, false, cond, List, [], ◌∷◌, ◌++◌, length, map, get_or, set, take, drop, refl, sym, ap, ◌∙◌, add-one, arith}
 use Rattle.std.specs.Prelude.{min}
 use Rattle.std.proofs.Math.Nat.{min-eq_left}
 use Rattle.std.proofs.lemmas.Bool.{ne_eqb}
@@ -10,7 +10,7 @@ use Rattle.rdm_device.specs.declared.profile.Profile.{Profile}
 use Rattle.rdm_device.specs.declared.value.Value.TheVariants.{Word}
 use Rattle.rdm_device.specs.Columns.Changes.{stored_at}
 use Rattle.rdm_device.specs.Columns.Forms.{word}
-use Rattle.rdm_device.specs.Device.Blocks.{sub_devices, total, fits, started, started_from}
+use Rattle.rdm_device.specs.Device.Blocks.{sub_devices, total, started, started_from}
 use Rattle.rdm_device.specs.Device.Map.{Entry, update}
 use Rattle.rdm_device.specs.Device.Spot.{Spot, sub_device, footprint}
 use Rattle.rdm_device.specs.Views.State.{common_entries}

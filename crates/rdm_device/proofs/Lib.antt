@@ -7,6 +7,7 @@ pub mod Faults
 pub mod FieldSteps
 pub mod ListSteps
 pub mod Maps
+pub mod Numbers
 pub mod SceneSteps
 pub mod SensorReads
 pub mod Sensors

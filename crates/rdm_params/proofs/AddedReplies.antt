@@ -1,5 +1,5 @@
 -- What a GET replies that asks with a number.
-use Rattle.std.proofs.Common.{◌≡◌, ℕ, Bool, true, false, cond, List, length, Option, Some, None, Result, Ok, Err, refl, sym, ap, ◌∙◌}
+use Rattle.std.proofs.Common.{◌≡◌, ℕ, Bool, true, false, cond, List, length, Some, None, Result, Ok, Err, sym, ap, ◌∙◌}
 use Rattle.rdm_params.specs.declared.nack.Nack.{Nack}
 use Rattle.rdm_params.specs.declared.nack.Nack.TheVariants.{FormatError, DataOutOfRange}
 use Rattle.rdm_device.specs.declared.profile.own.ParameterDef.{ParameterDef}

@@ -1,5 +1,5 @@
 -- Orders are counted, and so told.
-use Rattle.std.proofs.Common.{◌≡◌, ◌≢◌, ℕ, zero, suc, ◌+◌, ◌%◌, ◌-◌, ◌<◌, ◌==◌, ◌&&◌, ◌||◌, not, Bool, true, false, cond, List, [], ◌∷◌, ◌++◌, flat_map, map, Option, Some, None, Result, Ok, Err, All, refl, sym, ap, subst, ◌∙◌, arith, inl, inr}
+use Rattle.std.proofs.Common.{◌≡◌, ◌≢◌, ℕ, ◌+◌, ◌%◌, ◌-◌, ◌<◌, ◌==◌, ◌&&◌, ◌||◌, not, Bool, true, false, cond, List, [], ◌∷◌, ◌++◌, map, Option, Some, None, Result, Ok, Err, refl, sym, ap, subst, ◌∙◌, arith, inl, inr}
 use Rattle.std.specs.Prelude.{slice_index_or, slice_set}
 use Rattle.std.specs.List.{list_any, AllByRecursion}
 use Rattle.std.proofs.Math.Nat.{mod-lt, mod-eq_of_lt}
@@ -17,7 +17,7 @@ use Rattle.rdm_device.specs.Columns.Added.{counted, order_stored, set_form, set_
 use Rattle.rdm_device.specs.Columns.Scenes.{scenes_by}
 use Rattle.rdm_device.specs.Device.Map.{Entry, entry, has_key, lookup, update}
 use Rattle.rdm_device.specs.Device.OwnParameters.{has_set, is_order}
-use Rattle.rdm_device.specs.Device.Parameters.{Parameters, kept_at_start, no_orders, added_at_start, parameters_of}
+use Rattle.rdm_device.specs.Device.Parameters.{Parameters, kept_at_start, added_at_start, parameters_of}
 use Rattle.rdm_device.specs.Device.Spot.{Spot}
 use Rattle.rdm_device.specs.Device.Values.{bytes_of}
 use Rattle.rdm_params.specs.Commands.Commands.{command_at, accepted, after_by_row, after_accepted, answer_by_row, is_block, carried_out, is_all_call, root_spot, sub_spot, verdict, written, added_written}

@@ -370,7 +370,9 @@ fn answer(
             Answer::Done
         }
         Way::ByJob(slow) => {
-            let (worker, estimate) = slow.terms(&profile.workers, &profile.particulars.estimates());
+            let (worker, estimate) = slow
+                .started_by(verb)
+                .terms(&profile.workers, &profile.particulars.estimates());
             Answer::Starts {
                 work: Work {
                     sub,

@@ -1,5 +1,5 @@
 -- Choices, and what their things are called: E1.37-1, CURVE, OUTPUT_RESPONSE_TIME, MODULATION_FREQUENCY and their descriptions.
-use Rattle.std.specs.Prelude.{ℕ, zero, suc, pos, ◌+◌, ◌%◌, Bool, true, false, ◌==◌, ◌&&◌, ◌||◌, not, nat_le, nat_lt, List, slice_index}
+use Rattle.std.specs.Prelude.{ℕ, zero, suc, ◌+◌, ◌%◌, Bool, true, false, ◌==◌, ◌&&◌, ◌||◌, not, nat_le, nat_lt, List, slice_index}
 use Rattle.std.specs.List.{list_all, list_any}
 use Rattle.std.specs.Int.{w64, cast_unsigned}
 use Rattle.rdm_device.specs.declared.profile.choices.ChoiceName.{ChoiceName}

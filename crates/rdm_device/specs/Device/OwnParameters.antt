@@ -1,7 +1,7 @@
 -- The parameters that the maker of a fixture adds: which data and commands they have, and which PIDs they can have.
 -- E1.20 sections 6.2.10.2 and 10.4.2, tables A-3, A-15 and A-16.
-use Rattle.std.specs.Prelude.{ℕ, ℤ, pos, neg_ℤ, Bool, true, false, ◌==◌, ◌&&◌, ◌||◌, nat_le, nat_lt, int_le, [], ◌∷◌, Option, None}
-use Rattle.std.specs.List.{list_any, list_all}
+use Rattle.std.specs.Prelude.{ℕ, ℤ, pos, neg_ℤ, Bool, true, false, ◌&&◌, ◌||◌, nat_le, nat_lt, int_le, Option, None}
+use Rattle.std.specs.List.{list_all}
 use Rattle.std.specs.Option.{option_map, option_map_or}
 use Rattle.std.specs.Int.{w8, w16, w32, cast_signed}
 use Rattle.rdm_device.specs.declared.profile.own.ParameterDef.{ParameterDef}

@@ -4,6 +4,7 @@ mod choosing;
 mod description;
 mod fields;
 mod locking;
+mod numbers;
 mod placing;
 mod resetting;
 mod scenes;
@@ -26,6 +27,7 @@ pub(crate) use crate::columns::added::choosing::{greatest, has_name};
 pub use crate::columns::added::description::{data_type_of, described, size_of};
 pub use crate::columns::added::locking::{is_locked, is_no_pin};
 pub(crate) use crate::columns::added::locking::{knows_old_pin, knows_pin, new_pin, state_of};
+pub use crate::columns::added::numbers::{number_said, sets_number, store_number};
 pub use crate::columns::added::placing::{is_placed_within, keeps_data, read_placed, store_placed};
 pub use crate::columns::added::resetting::{are_at_start, set_added_back};
 pub use crate::columns::added::scenes::{a_scene, is_protected_scene, scene_shown};
@@ -130,7 +132,7 @@ fn has_form(shape: Shape, value: &Argument<'_>) -> bool
 }
 
 /// Whether a number lies from the least to the greatest of a parameter.
-fn lies(def: &ParameterDef, number: i64) -> bool
+pub fn lies(def: &ParameterDef, number: i64) -> bool
     ensures { result ≡ (int_le def.now.low number && int_le number def.now.high) }
 {
     def.low <= number && number <= def.high

@@ -8,6 +8,9 @@ ghost use Rattle.rdm_params.specs.declared.nack.Nack.TheVariants.{UnknownPid};
 ghost use Rattle.rdm_params.specs.declared.verdict.Verdict.TheVariants.{Reply, Refuse};
 ghost use Rattle.rdm_device.specs.declared.profile.own.Shape.TheVariants as shapes;
 ghost use Rattle.rdm_device.specs.Columns.Added.{has_makers_pid, is_pid_of};
+ghost use Rattle.rdm_device.specs.Columns.Forms.{has_length, value_in};
+ghost use Rattle.rdm_device.specs.Columns.Numbers.{sets_number};
+ghost use Rattle.rdm_device.specs.Device.OwnParameters.{form_of};
 ghost use Rattle.rdm_device.specs.Device.Map.{value_at};
 ghost use Rattle.rdm_device.specs.Device.Locks.{is_locked};
 ghost use Rattle.rdm_device.specs.Device.Spot.{Spot};
@@ -316,10 +319,40 @@ fn set_parameter(
         → added_entries own.new.added.items ≡ after_with (open_to protected no_pin) spot (Some (added_row def.now)) data.now }
     ensures same { IfOk result (λ differs. (differs ≡ false) ↔ (added_entries own.new.added.items ≡ added_entries own.old.added.items)) }
 {
+    if added::sets_number(def) {
+        return match take_number(def, protected, no_pin, data) {
+            Ok(()) => Ok(added::store_number(def, data, own)),
+            Err(nack) => Err(nack),
+        };
+    }
     match take_set(def, protected, no_pin, data, own) {
         Ok(value) => Ok(added::store_set(def, &value, own)),
         Err(nack) => Err(nack),
     }
+}
+
+/// Whether the data of a SET are a number that the parameter takes, or the first reason to refuse it.
+// Apart from `take_set`, since most SETs hand in a number, and the place of any other value costs each of its steps.
+#[inline(always)]
+fn take_number(def: &ParameterDef, protected: bool, no_pin: bool, data: &[u8]) -> Result<(), Nack>
+    requires { sets_number def.now.rights def.now.shape ≡ true }
+    ensures ok { IfOk result (λ u. (spot : Spot) → handed_with (open_to protected no_pin) spot (Some (added_row def.now)) Set data.now ≡ Ok (value_in (form_of def.now.shape) data.now)) }
+    ensures err { IfErr result (λ nack. (spot : Spot) → handed_with (open_to protected no_pin) spot (Some (added_row def.now)) Set data.now ≡ Err nack) }
+    ensures long { IfOk result (λ u. has_length (form_of def.now.shape) (length data.now) ≡ true) }
+{
+    if protected {
+        return Err(Nack::WriteProtect);
+    }
+    if no_pin {
+        return Err(Nack::FormatError);
+    }
+    let Some(number) = added::number_said(def.shape, data) else {
+        return Err(Nack::FormatError);
+    };
+    if !added::lies(def, number) {
+        return Err(Nack::DataOutOfRange);
+    }
+    Ok(())
 }
 
 /// What the data of a SET stand for, if the parameter takes that, or the first reason to refuse it.

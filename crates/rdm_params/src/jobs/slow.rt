@@ -1,8 +1,11 @@
 //! The kinds of slow commands.
 
 ghost use Rattle.std.specs.Prelude.{◌≡◌, ◌<◌};
+ghost use Rattle.rdm_params.specs.declared.jobs.slow.Slow.TheVariants.{Sensor};
+ghost use Rattle.rdm_params.specs.declared.kind.Verb.TheVariants.{Get};
 ghost use Rattle.rdm_params.specs.Table.Uses.{worker_for, estimate_for};
 
+use crate::Verb;
 use rdm_device::{Estimates, Workers};
 
 /// What the job of a slow command does.
@@ -19,6 +22,19 @@ pub(crate) enum Slow {
 }
 
 impl Slow {
+    /// The same kind, of the job that such a command starts: a GET starts none but one that measures.
+    // Said here, worker and time of a slow GET need no look at the kind.
+    #[inline(always)]
+    pub(crate) fn started_by(self, verb: Verb) -> Slow
+        requires { verb ≡ Get → self ≡ Sensor }
+        ensures { result ≡ self }
+    {
+        match verb {
+            Verb::Get => Slow::Sensor,
+            Verb::Set => self,
+        }
+    }
+
     /// The worker whose jobs these are by this choice: 0 or 1.
     pub(crate) fn worker(self, workers: &Workers) -> u8
         ensures worker { result ≡ worker_for workers.now self }

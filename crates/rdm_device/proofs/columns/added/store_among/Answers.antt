@@ -1,4 +1,4 @@
-use Rattle.std.proofs.Common.{◌≡◌, ◌<◌, ◌∙◌, ◌||◌, length, map, ap, List}
+use Rattle.std.proofs.Common.{◌≡◌, ◌<◌, ◌∙◌, ◌||◌, length, ap}
 use Rattle.std.proofs.lemmas.List.{length-map, length-set}
 use Rattle.rdm_device.specs.Device.Map.{Entry}
 use Rattle.rdm_device.specs.Views.State.{added_entries, stored_in, no_entry}

@@ -1,4 +1,4 @@
-use Rattle.std.proofs.Common.{◌≡◌, ◌∙◌, ◌||◌, ℕ, length, map, get_or, ap, List, [], arith}
+use Rattle.std.proofs.Common.{◌≡◌, ◌∙◌, ◌||◌, length, map, get_or, ap, List, [], arith}
 use Rattle.std.proofs.lemmas.List.{length-set}
 use Rattle.rdm_device.specs.Device.Blocks.{sub_devices, started_from}
 use Rattle.rdm_device.specs.Device.Map.{Entry}
