@@ -61,10 +61,11 @@ static void show_heard(const felosumay_heard *heard) {
     printf("\n");
 }
 
-/* A message that comes in parts: its last part so far, and the data of all. */
+/* A message that comes in parts: its last part so far, the data of all, and whether a part may be missing. */
 typedef struct {
     felosumay_collected last;
     size_t count;
+    int unsure;
     uint8_t data[MOST_JOINED];
 } joined;
 
@@ -83,16 +84,18 @@ static void show_message(const joined *message) {
         printf(" %02X", message->data[i]);
     if (message->last.type == FELOSUMAY_NACK)
         printf(", %s", felosumay_reason_name(message->last.reason));
-    printf("\n");
+    printf("%s\n", message->unsure ? ", unsure" : "");
 }
 
 /* Takes what was collected, and shows each message when its last part is there. What comes again is left out. */
 static void take(felosumay_device_collector *console, joined *message) {
     felosumay_collected part;
     while (felosumay_device_collector_next(console, &part) == FELOSUMAY_DONE) {
+        const int goes_on = message->last.type == FELOSUMAY_ACK_OVERFLOW && is_same_parameter(&part, &message->last);
+        message->unsure = goes_on && (message->unsure || part.after_loss);
         if (part.may_repeat && is_same(&part, &message->last))
             continue;
-        if (message->last.type != FELOSUMAY_ACK_OVERFLOW || !is_same_parameter(&part, &message->last))
+        if (!goes_on)
             message->count = 0;
         if (message->count + part.count <= MOST_JOINED) {
             memcpy(message->data + message->count, part.bytes, part.count);

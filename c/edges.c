@@ -1,5 +1,5 @@
-/* The edges of the calls: names of what is defined and what isn't, responses of each type, NULL where no byte is read, and
- * parameters of the maker's own that are none. */
+/* The edges of the calls: names of what is defined and what isn't, responses of each type, NULL where no byte is read, parameters of the
+ * maker's own that are none, jobs that are altered, and what firmware places that no SET may ask for. */
 #include "felosumay.h"
 #include "felosumay_names.h"
 #include <stdio.h>
@@ -248,6 +248,125 @@ static felosumay_result slow(void) {
     return result;
 }
 
+/* A demonstration fixture, and a console. */
+typedef struct {
+    felosumay_responder fixture;
+    felosumay_collector console;
+} pair;
+
+static felosumay_result make(pair *made) {
+    felosumay_result result = felosumay_responder_demo(&made->fixture, 0x7FF0, 1, 2, 8);
+    return result == FELOSUMAY_DONE ? felosumay_collector_new(&made->console, 0x7FF0, 2, 0x7FF0, 1, FELOSUMAY_STATUS_ADVISORY) : result;
+}
+
+static void give_up(pair *made) {
+    felosumay_collector_free(&made->console);
+    felosumay_responder_free(&made->fixture);
+}
+
+/* One request of the console's: what the fixture makes of it, and what it replies. */
+static felosumay_stepped send(pair *made, const uint8_t *request, size_t count, felosumay_reply *reply) {
+    uint8_t bytes[FELOSUMAY_FRAME_BYTES], heard;
+    felosumay_stepped stepped;
+    felosumay_responder_step(&made->fixture, request, count, bytes, &stepped);
+    felosumay_collector_hear(&made->console, bytes, stepped.count, &heard);
+    felosumay_reply_read(bytes, stepped.count, reply);
+    return stepped;
+}
+
+static felosumay_stepped command(pair *made, uint16_t pid, uint8_t command_class, uint8_t byte, felosumay_reply *reply) {
+    const felosumay_command asked = {1, 0x7FF0, 0, pid, command_class};
+    uint8_t request[FELOSUMAY_FRAME_BYTES];
+    size_t count = 0;
+    felosumay_collector_ask(&made->console, &asked, &byte, 1, request, &count);
+    return send(made, request, count, reply);
+}
+
+/* The job of SET LAMP_STATE, with each of its fields altered in turn, and then as it is. */
+static felosumay_result altered_jobs(void) {
+    const felosumay_outcome done = {FELOSUMAY_JOB_DONE, 0, 0, 0, 0, 0};
+    pair made = {{0}, {0}};
+    felosumay_reply reply;
+    felosumay_result result = make(&made);
+    if (result == FELOSUMAY_DONE) {
+        const felosumay_job job = command(&made, FELOSUMAY_PID_LAMP_STATE, FELOSUMAY_SET, FELOSUMAY_LAMP_ON, &reply).job;
+        felosumay_job altered[7] = {job, job, job, job, job, job, job};
+        uint8_t kept;
+        size_t outstanding = 0;
+        altered[0].number++;
+        altered[1].estimate++;
+        altered[2].sub = 1;
+        altered[3].pid = FELOSUMAY_PID_POWER_STATE;
+        altered[4].command_class = FELOSUMAY_GET;
+        altered[5].argument = FELOSUMAY_LAMP_STANDBY;
+        altered[6].worker = 1;
+        printf("altered jobs:");
+        for (int i = 0; i < 7; i++)
+            printf(" %s,", felosumay_status_name(felosumay_responder_arrive(&made.fixture, &altered[i], &done, &kept)));
+        felosumay_responder_outstanding(&made.fixture, &outstanding);
+        printf(" outstanding %zu, as it is %s", outstanding,
+               felosumay_status_name(felosumay_responder_arrive(&made.fixture, &job, &done, &kept)));
+        printf(", again %s\n", felosumay_status_name(felosumay_responder_arrive(&made.fixture, &job, &done, &kept)));
+    }
+    give_up(&made);
+    return result;
+}
+
+/* What is placed of these bytes, at the root and at a sub-device, and is read then. */
+static void place_each(pair *made, uint16_t pid, const uint8_t *bytes, size_t count) {
+    printf("place %s:", felosumay_parameter_name(pid));
+    for (uint16_t sub = 0; sub < 2; sub++)
+        for (size_t i = 0; i < count; i++) {
+            uint8_t value[FELOSUMAY_VALUE_BYTES];
+            size_t read = 0;
+            uint16_t reason = 0;
+            felosumay_result status = felosumay_responder_place(&made->fixture, sub, pid, bytes + i, 1);
+            felosumay_responder_get(&made->fixture, sub, pid, NULL, 0, value, &read, &reason);
+            printf(" %02X %s%s,", bytes[i], felosumay_status_name(status), (value[0] == bytes[i]) == (status == FELOSUMAY_DONE) ? "" : "?");
+        }
+    printf(" and that is all\n");
+}
+
+/* What firmware knows of a lamp, and no SET may ask for. */
+static felosumay_result lamps(void) {
+    static const uint8_t states[] = {0x03, 0x04, 0x05, 0x7E, 0x7F, 0x80, 0xDF, 0xE0}, modes[] = {0x03, 0x04, 0x7F, 0x80, 0xDF, 0xE0};
+    pair made = {{0}, {0}};
+    felosumay_reply reply;
+    felosumay_result result = make(&made);
+    if (result == FELOSUMAY_DONE) {
+        place_each(&made, FELOSUMAY_PID_LAMP_STATE, states, sizeof states);
+        place_each(&made, FELOSUMAY_PID_LAMP_ON_MODE, modes, sizeof modes);
+        command(&made, FELOSUMAY_PID_LAMP_STATE, FELOSUMAY_SET, FELOSUMAY_LAMP_ERROR, &reply);
+        printf("SET LAMP_STATE 7F: %s\n", felosumay_reason_name(reply.reason));
+    }
+    give_up(&made);
+    return result;
+}
+
+/* A sensor that starts with what it measures, 24, and measures 26 then. */
+static felosumay_result sensors(void) {
+    static const uint8_t start[9] = {0, 0, 24, 0, 24, 0, 24, 0, 0};
+    const felosumay_outcome reading = {FELOSUMAY_JOB_READING, 0, 26, 0, 0, 0};
+    pair made = {{0}, {0}};
+    felosumay_reply reply;
+    felosumay_result result = make(&made);
+    if (result == FELOSUMAY_DONE) {
+        uint8_t request[FELOSUMAY_FRAME_BYTES], kept;
+        size_t count = 0;
+        felosumay_responder_place(&made.fixture, 0, FELOSUMAY_PID_SENSOR_VALUE, start, sizeof start);
+        const felosumay_stepped stepped = command(&made, FELOSUMAY_PID_SENSOR_VALUE, FELOSUMAY_GET, 0, &reply);
+        felosumay_responder_arrive(&made.fixture, &stepped.job, &reading, &kept);
+        result = felosumay_collector_poll(&made.console, request, &count);
+        send(&made, request, count, &reply);
+        printf("a sensor that starts with 24:");
+        for (size_t i = 0; i < reply.count; i++)
+            printf(" %02X", reply.bytes[i]);
+        printf("\n");
+    }
+    give_up(&made);
+    return result;
+}
+
 int main(void) {
     felosumay_result result = nothing();
     names();
@@ -256,6 +375,12 @@ int main(void) {
     left_out();
     if (result == FELOSUMAY_DONE)
         result = slow();
+    if (result == FELOSUMAY_DONE)
+        result = altered_jobs();
+    if (result == FELOSUMAY_DONE)
+        result = lamps();
+    if (result == FELOSUMAY_DONE)
+        result = sensors();
     if (result != FELOSUMAY_DONE)
         printf("status %u\n", result);
     return result;

@@ -17,7 +17,12 @@
 #include <stddef.h>
 #include <stdint.h>
 
-/* The version of this header. felosumay_version() tells that of the library. */
+/* The structs, and the sizes below, are those of the library, which is built for x86-64. */
+#if UINTPTR_MAX != 0xFFFFFFFFFFFFFFFF
+#error "felosumay.h is for targets whose pointers have 64 bits: on this one its structs and sizes would be wrong"
+#endif
+
+/* The version of this header. felosumay_version() is that of the library. */
 #define FELOSUMAY_VERSION "0.1.0"
 #define FELOSUMAY_VERSION_MAJOR 0
 #define FELOSUMAY_VERSION_MINOR 1
@@ -41,7 +46,7 @@ enum {
     FELOSUMAY_BAD_SIZE = 3,      /* the size of the queue, or the number of status entries, isn't 1 to 1,024 */
     FELOSUMAY_BAD_UID = 4,       /* the UID addresses more than one device */
     FELOSUMAY_ABSENT = 5,        /* the handle holds nothing that the call is for */
-    FELOSUMAY_ASTRAY = 6,        /* the report isn't of the oldest job of its worker, or its outcome doesn't fit */
+    FELOSUMAY_ASTRAY = 6,        /* the job isn't the oldest one of its worker, or its outcome doesn't fit */
     FELOSUMAY_UNKNOWN = 7,       /* a number that was passed in isn't a defined one */
     FELOSUMAY_REFUSED = 8,       /* the command is rejected, and a reason is given */
     FELOSUMAY_NO_VALUE = 9,      /* the command doesn't answer with a value */
@@ -50,7 +55,7 @@ enum {
     FELOSUMAY_TOO_LONG = 12,     /* there are more data than a frame can carry, or a label is longer than 32 bytes */
     FELOSUMAY_NO_MORE = 13,      /* there are no more */
     FELOSUMAY_NO_ROOM = 14,      /* there is no room for one more message */
-    FELOSUMAY_OUT_OF_RANGE = 15, /* a SET of the value would be out of range, or there is no such sensor */
+    FELOSUMAY_OUT_OF_RANGE = 15, /* the value is out of range, or there is no such sensor */
     FELOSUMAY_LIMIT = 16,        /* the search took as many transactions as it may */
     FELOSUMAY_NO_DEVICE = 17,    /* there is no such sub-device */
     FELOSUMAY_NOT_STORED = 18,   /* the device stores no value of the parameter */
@@ -122,7 +127,7 @@ typedef struct {
 
 /* Data types (table A-15), and the commands of a parameter (table A-16). */
 enum {
-    FELOSUMAY_DS_NOT_DEFINED = 0x00, /* slots of a form that is told elsewhere */
+    FELOSUMAY_DS_NOT_DEFINED = 0x00, /* slots of a form that is described elsewhere */
     FELOSUMAY_DS_BIT_FIELD = 0x01,
     FELOSUMAY_DS_ASCII = 0x02, /* a text of at most 32 bytes */
     FELOSUMAY_DS_UNSIGNED_BYTE = 0x03,
@@ -133,16 +138,16 @@ enum {
     FELOSUMAY_DS_SIGNED_DWORD = 0x08,
     /* None of table A-15: of parameters of E1.37-1, which PARAMETER_DESCRIPTION doesn't describe. */
     FELOSUMAY_DS_CHOICE = 0xF0, /* the number of one of several things, from low, which is 1, to high; its GET has high behind */
-    FELOSUMAY_DS_NAMES = 0xF1,  /* no data: it tells what these are called, whose PID is the one before */
+    FELOSUMAY_DS_NAMES = 0xF1,  /* no data: the names of the options of the choice whose PID is the one before */
     FELOSUMAY_DS_RATES = 0xF2,  /* the same, with a frequency of each */
-    FELOSUMAY_DS_SCENES = 0xF3, /* the times of scenes 1 to high, of which those up to low can only be read (PRESET_STATUS); starts empty */
+    FELOSUMAY_DS_SCENES = 0xF3, /* the times of scenes 1 to high; those up to low can only be read (PRESET_STATUS); starts empty */
     FELOSUMAY_DS_LOCK = 0xF4,   /* the number of a lock state, 0 to high, which a SET with the PIN sets (LOCK_STATE); low is 0 */
     FELOSUMAY_DS_PIN = 0xF5,    /* that PIN: two bytes, from low, which is 0, to high, which is 9999 (LOCK_PIN) */
     FELOSUMAY_DS_BLOCK = 0xF6   /* no data of its own: the start addresses of all sub-devices (DMX_BLOCK_ADDRESS); starts empty */
 };
 enum {
     FELOSUMAY_CC_GET = 0x01,
-    FELOSUMAY_CC_SET = 0x02, /* an order: each that is accepted is told as a change, and `own_value` reads its data */
+    FELOSUMAY_CC_SET = 0x02, /* an order: `step` reports each as a change, and `own_value` reads its data */
     FELOSUMAY_CC_GET_SET = 0x03,
     FELOSUMAY_CC_GET_CLEAR = 0xF0 /* none of table A-16: a SET has no data, and sets it back to its start (COMMS_STATUS) */
 };
@@ -155,10 +160,10 @@ typedef struct {
     uint8_t slots; /* 1, 2 or 4 */
 } felosumay_field;
 
-/* What one of several things is called of which one is chosen. */
+/* The name of an option of a choice. */
 typedef struct {
     uint32_t hertz; /* the frequency, if it is one */
-    uint16_t pid;   /* that of the parameter that tells it, of kind DS_NAMES or DS_RATES */
+    uint16_t pid;   /* that of the parameter with the names, of kind DS_NAMES or DS_RATES */
     uint8_t number; /* from 1 */
     felosumay_text name;
 } felosumay_choice;
@@ -169,7 +174,7 @@ typedef struct {
     uint8_t state; /* the state of LOCK_STATE, from 1 */
 } felosumay_lock;
 
-/* A parameter of the maker's own, which the root has (section 10.4.2). PARAMETER_DESCRIPTION tells all but `resets` of those of
+/* A parameter of the maker's own, which the root has (section 10.4.2). PARAMETER_DESCRIPTION says all except `resets` of those of
  * 0x8000 to 0xFFDF. Its values are in `unit`, times what `prefix` stands for. */
 typedef struct {
     int64_t low; /* the least and the greatest number that it takes: numbers of its type, or of other data without meaning */
@@ -183,7 +188,7 @@ typedef struct {
     uint8_t resets;   /* 1 if FACTORY_DEFAULTS sets it back, as a setting; 0 if it doesn't, as of a counter */
     felosumay_text start; /* what it starts with: the data of a SET, in its range, the most significant byte first */
     felosumay_text name;
-    uint8_t field_count;       /* how many numbers the slots of data of no defined type say: 0 to 8, and 0 if that is told elsewhere */
+    uint8_t field_count;       /* how many numbers the slots of data of no defined type hold: 0 to 8; 0 if described elsewhere */
     felosumay_field fields[8]; /* they take all of its slots */
 } felosumay_parameter;
 
@@ -203,7 +208,7 @@ typedef struct {
     felosumay_personality personalities[8]; /* the first is number 1, and the one that it starts with */
 } felosumay_unit;
 
-/* How long slow commands take, in tenths of a second, as a controller is told (section 6.3.3). 0 stands for the usual time. */
+/* How long slow commands take, in tenths of a second: the estimate of ACK_TIMER (section 6.3.3). 0 stands for the usual time. */
 typedef struct {
     uint16_t lamp;      /* a SET of LAMP_STATE: usually 50 */
     uint16_t power;     /* a SET of POWER_STATE: usually 20 */
@@ -246,7 +251,7 @@ typedef struct {
     /* What lies outside: `new` reads it once, and it may be NULL if there is none. */
     const felosumay_parameter *parameters; /* the maker's own, by ascending PID */
     size_t parameter_count;                /* 0 to 32 */
-    const uint16_t *without;               /* the PIDs of those of docs/PARAMETERS.md that the fixture hasn't, in any order */
+    const uint16_t *without;               /* the PIDs of those of docs/PARAMETERS.md that the fixture lacks, in any order */
     size_t without_count;                  /* 0 to 36 */
     felosumay_estimates estimates;         /* how long slow commands take */
     felosumay_workers workers;             /* and which worker carries them out */
@@ -279,7 +284,9 @@ enum {
     FELOSUMAY_FAULT_PARAMETER_FIELDS = 18,  /* the fields of each take all of its slots, and can say their limits, in order */
     FELOSUMAY_FAULT_PARAMETER_STANDARD = 19, /* one of a standard has the commands and the data of it, or fewer commands */
     FELOSUMAY_FAULT_PARAMETER_NAMES = 20,   /* each choice has its names, each name its choice; CURVE has as many as DIMMER_INFO */
-    FELOSUMAY_FAULT_PARAMETER_LOCKS = 21    /* each lock is of a state from 1 to the greatest of LOCK_STATE */
+    FELOSUMAY_FAULT_PARAMETER_LOCKS = 21,   /* each lock is of a state from 1 to the greatest of LOCK_STATE */
+    FELOSUMAY_FAULT_PARAMETER_LOCK_STATE = 22, /* LOCK_STATE can be read, and has LOCK_PIN beside it */
+    FELOSUMAY_FAULT_PARAMETER_LOCKED = 23   /* each lock is of a parameter that the root sets at once, and not of LOCK_STATE */
 };
 
 /* Which rule the profile breaks: the first of them, or NO_FAULT, and then `new` doesn't call it a BAD_PROFILE. */
@@ -290,7 +297,7 @@ static inline uint8_t felosumay_profile_fault(const felosumay_profile *profile);
 /* A slow command that was accepted. Keep it until it has ended, and hand it back with the outcome. */
 typedef struct {
     uint32_t number;   /* counts the jobs of its worker, from the first number of the responder; 0 comes after the greatest */
-    uint16_t estimate; /* tenths of a second, as the controller was told */
+    uint16_t estimate; /* tenths of a second, as ACK_TIMER says to the controller */
     uint16_t sub;      /* the sub-device, 1 to 512, or 0 for the root */
     uint16_t pid;      /* FELOSUMAY_PID_.. of the slow command */
     uint8_t command_class; /* FELOSUMAY_GET or FELOSUMAY_SET */
@@ -309,7 +316,7 @@ typedef struct {
 } felosumay_stepped;
 
 /* What a request changed of the values that `get` reads. A job that has ended, a change at the menu and what is placed aren't
- * told of here: the firmware made those calls itself. */
+ * reported here: the firmware made those calls itself. */
 enum {
     FELOSUMAY_NOTHING_CHANGED = 0, /* every value is what it was, even if there was a SET */
     FELOSUMAY_ONE_CHANGED = 1,     /* one parameter of one device; after RECORD_SENSORS it is SENSOR_VALUE, of one sensor or all */
@@ -376,12 +383,12 @@ static inline felosumay_result felosumay_responder_step(felosumay_responder *res
                                                         uint8_t reply[FELOSUMAY_FRAME_BYTES], felosumay_stepped *stepped);
 
 /* Takes the report of a job. `kept` is 1 if it left a status entry that is kept, else 0. UNKNOWN, ABSENT, ASTRAY, in this
- * order; nothing changes then. A job is known by its numbers alone: that of another responder, or of the one that the handle
- * held before, isn't told from one of this responder that has the same numbers (`first_job`). */
+ * order; nothing changes then. Each field of the job is compared with the responder's own record. A job is known by these alone: that of
+ * another responder, or of the one that the handle held before, is taken for one of this responder that has the same (`first_job`). */
 felosumay_result felosumay_responder_arrive(felosumay_responder *responder, const felosumay_job *job,
                                             const felosumay_outcome *outcome, uint8_t *kept);
 
-/* A person changes something at the fixture's own menu, and the message that tells the controller waits; each DONE adds one,
+/* A person changes something at the fixture's own menu, and a message for the controller waits; each DONE adds one,
  * even if the value is as it was. Only polls take messages away: if no controller polls, the queue fills up, and each
  * change is NO_ROOM from then on. `place` needs no room. TOO_LONG for a label, then ABSENT, NO_ROOM, OUT_OF_RANGE, in this
  * order; nothing changes then. */
@@ -396,6 +403,8 @@ felosumay_result felosumay_responder_room(const felosumay_responder *responder, 
 /* The firmware sets a value of its own: of the root (`sub` 0) or of a sub-device, 1 to 512. It counts hours or strikes, or has
  * no room for the message of a change. The value becomes what a SET of it makes it,
  * at once, with no message, and needs no room, even if a SET on the line is slow; the factory's defaults stay the profile's.
+ * Firmware also places what a GET may tell and no SET may ask for: as LAMP_STATE 0x04 (lamp not present), 0x7F (lamp error) and the
+ * maker's 0x80 to 0xDF (table A-8), as LAMP_ON_MODE the maker's 0x80 to 0xDF (table A-9).
  * `data` are those of the SET, in its range and units, the most significant byte first (DEVICE_HOURS: 4 bytes, in hours, E1.20
  * section 10.8.1); what a sensor shows is placed as SENSOR_VALUE, 0x0201, at the root, by the 9 bytes with which that replies:
  * the sensor's number, then its present, lowest, highest and recorded value (section 10.7.2); a scene, also one that can only
@@ -407,11 +416,18 @@ static inline felosumay_result felosumay_responder_place(felosumay_responder *re
 
 /* Values outlive power-off: `save` writes an image of all of them at the front of `image`, and `restore` takes it when the
  * fixture is on again, before anything is heard. What lamp, identification, power state, self test and preset are at isn't in it,
- * nor what the sensors measured, but for what they recorded. Of one profile all images have the same number of bytes, which
- * `saved_size` tells; the program keeps them where it likes, and an image that is cut or altered is refused. DEVICE_POWER_CYCLES
+ * nor what the sensors measured, except what they recorded. Of one profile all images have the same number of bytes:
+ * `saved_size` says it, and FELOSUMAY_SAVED_BYTES is the same as a constant, of the profile's counts: how many sub-devices, sensors and
+ * parameters of its own it has, how many of these are orders (FELOSUMAY_CC_SET), how many scenes PRESET_STATUS has, and how many
+ * parameters it leaves out. No profile has more than FELOSUMAY_MOST_SAVED_BYTES.
+ * The program keeps images where it likes, and one that is cut or altered is refused. DEVICE_POWER_CYCLES
  * counts one more than was saved (E1.20 section 10.8.6). No message waits, and jobs, messages and status entries stay.
  * `saved_size`: ABSENT. `save`: ABSENT, SHORT_IMAGE; nothing is written then. `restore`: ABSENT, IMAGE_LENGTH, ALTERED_IMAGE,
  * FOREIGN_IMAGE, in this order; nothing changes then. */
+#define FELOSUMAY_SAVED_BYTES(sub_devices, sensors, parameters, orders, scenes, without)                                   \
+    (82 + 46 * (size_t)(sub_devices) + 2 * (size_t)(sensors) + 37 * (size_t)(parameters) + 33 * (size_t)(orders) + \
+     33 * (size_t)(scenes) + 2 * (size_t)(without))
+#define FELOSUMAY_MOST_SAVED_BYTES FELOSUMAY_SAVED_BYTES(512, 8, 32, 32, 255, 36)
 felosumay_result felosumay_responder_saved_size(const felosumay_responder *responder, size_t *count);
 felosumay_result felosumay_responder_save(const felosumay_responder *responder, uint8_t *image, size_t size, size_t *count);
 static inline felosumay_result felosumay_responder_restore(felosumay_responder *responder, const uint8_t *image, size_t length);
@@ -432,7 +448,7 @@ static inline felosumay_result felosumay_responder_get(const felosumay_responder
                                                        size_t *count, uint16_t *reason);
 
 /* Reads what is kept of a parameter of `parameters`, whichever commands it has: the data of an order, which no GET reads. The firmware
- * does so when `step` tells that it changed, sends the reply, and carries the order out. ABSENT; NOT_STORED if the profile adds no
+ * does so when `step` says that it changed, sends the reply, and carries the order out. ABSENT; NOT_STORED if the profile adds no
  * parameter of this PID. Nothing changes. */
 felosumay_result felosumay_responder_own_value(const felosumay_responder *responder, uint16_t pid,
                                                uint8_t value[FELOSUMAY_VALUE_BYTES], size_t *count);
@@ -446,10 +462,10 @@ void felosumay_responder_free(felosumay_responder *responder);
 
 /* ---- frames */
 
-/* What bytes of a frame keep, in the order in which it is tested (E1.20 section 6.2). */
+/* The tests of a frame, in their order (E1.20 section 6.2). */
 enum {
-    FELOSUMAY_IS_FRAME = 0,        /* they keep all of it */
-    FELOSUMAY_FRAME_SHORT = 1,     /* there are 26 at least */
+    FELOSUMAY_IS_FRAME = 0,        /* the bytes pass all of them */
+    FELOSUMAY_FRAME_SHORT = 1,     /* there are at least 26 bytes */
     FELOSUMAY_FRAME_START = 2,     /* the first is CC */
     FELOSUMAY_FRAME_SUB_START = 3, /* the second is 01 */
     FELOSUMAY_FRAME_LENGTH = 4,    /* the third, the message length, is two less than their number */
@@ -457,8 +473,8 @@ enum {
     FELOSUMAY_FRAME_CHECKSUM = 6   /* the last two are the sum of the others */
 };
 
-/* What bytes break of this first, or IS_FRAME. A responder and a collector take nothing else for a frame, and say no more of it: for
- * the counts of COMMS_STATUS. The answer to discovery is no frame. */
+/* The first test that bytes fail, or IS_FRAME: for the counts of COMMS_STATUS. A responder and a collector ignore what isn't a frame. The
+ * answer to discovery isn't one. */
 static inline uint8_t felosumay_frame_fault(const uint8_t *bytes, size_t length);
 
 /* ---- the collector */
@@ -473,7 +489,7 @@ typedef struct {
 
 typedef struct {
     size_t count; /* how many bytes of data it has: 0 to 231 */
-    uint16_t pid;          /* what it tells of, FELOSUMAY_PID_.. or one of the maker's own */
+    uint16_t pid;          /* its parameter, FELOSUMAY_PID_.. or one of the maker's own */
     uint16_t sub;          /* the sub-device, 1 to 512, or 0 for the root */
     uint8_t command_class; /* that of the response: 0x21 of a GET, 0x31 of a SET */
     uint8_t may_repeat;    /* 1 if it was asked for again, so that it may be the message before it once more; else 0 */
@@ -548,13 +564,14 @@ void felosumay_collector_free(felosumay_collector *collector);
 /* A message, or a part of one (E1.20 section 10.3.1). */
 typedef struct {
     size_t count; /* how many bytes of data it has: 0 to 231 */
-    uint16_t pid;    /* what it tells of, FELOSUMAY_PID_.. or one of the maker's own */
+    uint16_t pid;    /* its parameter, FELOSUMAY_PID_.. or one of the maker's own */
     uint16_t sub;    /* the sub-device, 1 to 512, or 0 for the root */
     uint16_t reason; /* of a NACK_REASON why an earlier command was rejected, FELOSUMAY_NR_..; else 0 */
     uint16_t tenths; /* of an ACK_TIMER in how many tenths of a second a result is there; else 0 */
     uint8_t type;    /* FELOSUMAY_ACK and so on; FELOSUMAY_ACK_OVERFLOW says that it is a part, and that more of it follows */
     uint8_t command_class; /* that of the response: 0x21 of a GET, 0x31 of a SET */
     uint8_t may_repeat;    /* 1 if it was asked for again, so that it may be what came before it once more; else 0 */
+    uint8_t after_loss;    /* 1 if a poll has no answer since what was recorded before it, so that something may be missing; else 0 */
     uint8_t bytes[FELOSUMAY_VALUE_BYTES];
 } felosumay_collected;
 
@@ -589,8 +606,9 @@ static inline felosumay_result felosumay_device_collector_hear(felosumay_device_
 
 /* Takes the first message, or part of one, that was recorded and not taken yet, and lets go of it. The data of a message in parts
  * are those of its parts, one behind the other: each of type ACK_OVERFLOW but the last, and all of one command class, PID and
- * sub-device. One whose `may_repeat` is 1 and that is equal to the one before it is that one again, and left out. ABSENT, NO_MORE,
- * in this order; nothing changes then. */
+ * sub-device. One whose `may_repeat` is 1 and that is equal to the one before it is that one again, and left out. Two parts of a device
+ * that say the same look like one that came again: where `after_loss` of a part behind the first is 1, the message is unsure,
+ * since a part may be missing. ABSENT, NO_MORE, in this order; nothing changes then. */
 felosumay_result felosumay_device_collector_next(felosumay_device_collector *collector, felosumay_collected *collected);
 
 /* Gives up what the handle holds, if anything. The handle is {0} again. NULL is no handle, and nothing happens then. */
@@ -601,26 +619,27 @@ void felosumay_device_collector_free(felosumay_device_collector *collector);
 /* A fixture that was found, and what its answer to DISC_MUTE says. */
 typedef struct {
     uint32_t device;         /* its UID: the device ID, below 0xFFFFFFFF, and the manufacturer ID */
-    uint32_t binding_device; /* 0 if it told no binding UID, and so is binding_maker */
+    uint32_t binding_device; /* 0 if it has no binding UID, and so is binding_maker */
     uint16_t maker;
     uint16_t binding_maker;
     uint16_t control;    /* bit 0 a managed proxy, bit 1 sub-devices, bit 2 a boot loader, bit 3 a proxied device */
-    uint8_t has_binding; /* 1 if it told the UID by which the ports of one device say that they are one, else 0 */
+    uint8_t has_binding; /* 1 if it has the UID by which the ports of one device say that they are one, else 0 */
 } felosumay_found;
 
 /* Makes a search for all fixtures of the line, and replaces what the handle held. The first UID is the controller's own. It
  * takes `limit` transactions at most: 74 for each fixture that the line may have, and 2 more, are enough on every line, however
- * collisions sound. BAD_UID, OUT_OF_MEMORY, in this order; the handle stays as it was then. */
+ * collisions sound, with 2 more for each answer that is altered on its way. BAD_UID, OUT_OF_MEMORY, in this order; the handle stays as it
+ * was then. */
 felosumay_result felosumay_search_new(felosumay_search *search, uint16_t maker, uint32_t device, uint32_t limit);
 
-/* Tells what to send: the request stands at the front of `request`. Nothing changes: until `hear` each call tells the same.
+/* Writes the next request to the front of `request`. Nothing changes: until `hear` each call writes the same.
  * ABSENT; NO_MORE if the search has ended, and each fixture was found; LIMIT if it hasn't and no transaction is left, since
  * the line sounds though nobody answers, or has more fixtures than the limit is for. */
 felosumay_result felosumay_search_next(const felosumay_search *search, uint8_t request[FELOSUMAY_FRAME_BYTES], size_t *count);
 
-/* Hears what came after the request that `next` told: all bytes of it, even if they aren't an answer, as after a collision; of
- * length 0 if nothing came. ABSENT; OUT_OF_MEMORY: the search stands where it stood then, and the same bytes can be heard
- * again. */
+/* Hears what came after the request of `next`: all bytes of it, even if they aren't an answer, as after a collision; of
+ * length 0 if nothing came. A mute after which bytes come that aren't a valid answer is sent again, 8 times at most, so that an altered
+ * answer hides nobody. ABSENT; OUT_OF_MEMORY: the search stands where it stood then, and the same bytes can be heard again. */
 static inline felosumay_result felosumay_search_hear(felosumay_search *search, const uint8_t *bytes, size_t length);
 
 /* Begins again with what was found, for fixtures that were plugged in since, or that lost power. It un-mutes none, so that those
@@ -632,6 +651,11 @@ felosumay_result felosumay_search_count(const felosumay_search *search, size_t *
 
 /* The fixture with this index, from 0, in the order in which they were found. ABSENT; NO_MORE if no more were found. */
 felosumay_result felosumay_search_found(const felosumay_search *search, size_t index, felosumay_found *found);
+
+/* The device with this index, from 0, among those that sounded after each of 9 mutes, though no answer was valid: its UID, and 0 in the
+ * other fields. One that isn't among those that were found is muted, it may be: on a better line a search made anew finds it. ABSENT;
+ * NO_MORE if there are no more. */
+felosumay_result felosumay_search_unsure(const felosumay_search *search, size_t index, felosumay_found *unsure);
 
 /* Gives up what the handle holds, if anything. The handle is {0} again. NULL is no handle, and nothing happens then. */
 void felosumay_search_free(felosumay_search *search);

@@ -219,6 +219,9 @@ public:
     [[nodiscard]] result found(std::size_t index, felosumay_found &fixture) const noexcept {
         return felosumay_search_found(get(), index, &fixture);
     }
+    [[nodiscard]] result unsure(std::size_t index, felosumay_found &fixture) const noexcept {
+        return felosumay_search_unsure(get(), index, &fixture);
+    }
 };
 
 } // namespace felosumay

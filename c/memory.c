@@ -124,26 +124,32 @@ static void own_parameters(void) {
 
 /* One with names of choices and with locks takes more, too. */
 static void names_and_locks(void) {
-    static felosumay_parameter own[2];
+    static felosumay_parameter own[3];
     static felosumay_choice name;
-    const size_t more = FELOSUMAY_PARTICULARS_BYTES + FELOSUMAY_OWN_PARAMETERS_BYTES(2) + FELOSUMAY_CHOICES_BYTES(1);
-    own[0].pid = FELOSUMAY_PID_LOCK_STATE;
-    own[0].kind = FELOSUMAY_DS_LOCK;
+    const size_t more = FELOSUMAY_PARTICULARS_BYTES + FELOSUMAY_OWN_PARAMETERS_BYTES(3) + FELOSUMAY_CHOICES_BYTES(1);
+    own[0].pid = FELOSUMAY_PID_LOCK_PIN;
+    own[0].kind = FELOSUMAY_DS_PIN;
     own[0].commands = FELOSUMAY_CC_GET_SET;
-    own[0].high = 1;
-    own[0].start.count = 1;
-    own[1].pid = FELOSUMAY_PID_LOCK_STATE_DESCRIPTION;
-    own[1].kind = FELOSUMAY_DS_NAMES;
-    own[1].commands = FELOSUMAY_CC_GET;
+    own[0].high = 9999;
+    own[0].start.count = 2;
+    own[1].pid = FELOSUMAY_PID_LOCK_STATE;
+    own[1].kind = FELOSUMAY_DS_LOCK;
+    own[1].commands = FELOSUMAY_CC_GET_SET;
+    own[1].high = 1;
+    own[1].start.count = 1;
+    own[2].pid = FELOSUMAY_PID_LOCK_STATE_DESCRIPTION;
+    own[2].kind = FELOSUMAY_DS_NAMES;
+    own[2].commands = FELOSUMAY_CC_GET;
     name.pid = FELOSUMAY_PID_LOCK_STATE_DESCRIPTION;
     name.number = 1;
     profile.parameters = own;
-    profile.parameter_count = 2;
+    profile.parameter_count = 3;
     profile.choices = &name;
     profile.choice_count = 1;
     expect_more("names of choices", more);
     for (uint8_t count = 1; count <= 64; count++) {
         profile.locks[count - 1].state = 1;
+        profile.locks[count - 1].pid = FELOSUMAY_PID_DEVICE_LABEL;
         profile.lock_count = count;
         expect_more("locks", more + FELOSUMAY_LOCKS_BYTES(count));
     }

@@ -285,28 +285,40 @@ static void scenes_and_pins(void) {
     expect(15, "a PIN of five digits", FELOSUMAY_BAD_PROFILE);
 }
 
-/* Lock states with their names, and what they lock. */
-static void locks(void) {
+/* A PIN, two lock states, and what is told of these. */
+static void lockable(void) {
     static felosumay_choice choices[2];
-    own(2, FELOSUMAY_DS_NAMES, 0);
-    parameters[0].pid = FELOSUMAY_PID_LOCK_STATE;
-    parameters[0].kind = FELOSUMAY_DS_LOCK;
-    parameters[0].high = 2;
-    parameters[0].start.count = 1;
-    parameters[1].pid = FELOSUMAY_PID_LOCK_STATE_DESCRIPTION;
-    parameters[1].commands = FELOSUMAY_CC_GET;
+    own(3, FELOSUMAY_DS_NAMES, 0);
+    parameters[0].pid = FELOSUMAY_PID_LOCK_PIN;
+    parameters[0].kind = FELOSUMAY_DS_PIN;
+    parameters[0].high = 9999;
+    parameters[0].start.count = 2;
+    parameters[1].pid = FELOSUMAY_PID_LOCK_STATE;
+    parameters[1].kind = FELOSUMAY_DS_LOCK;
+    parameters[1].high = 2;
+    parameters[1].start.count = 1;
+    parameters[2].pid = FELOSUMAY_PID_LOCK_STATE_DESCRIPTION;
+    parameters[2].commands = FELOSUMAY_CC_GET;
     for (uint8_t i = 0; i < 2; i++) {
         choices[i].pid = FELOSUMAY_PID_LOCK_STATE_DESCRIPTION;
         choices[i].number = (uint8_t)(i + 1);
     }
     profile.choices = choices;
+    profile.choice_count = 2;
+}
+
+/* Lock states with their names, and what they lock. */
+static void locks(void) {
+    lockable();
+    expect(20, "lock states with their names", FELOSUMAY_DONE);
     profile.choice_count = 1;
     expect(20, "a lock state without its name", FELOSUMAY_BAD_PROFILE);
     profile.choice_count = 2;
-    expect(20, "lock states with their names", FELOSUMAY_DONE);
     profile.lock_count = 255; /* they stand for 64 */
-    for (uint8_t i = 0; i < 64; i++)
+    for (uint8_t i = 0; i < 64; i++) {
         profile.locks[i].state = (uint8_t)(1 + i % 2);
+        profile.locks[i].pid = FELOSUMAY_PID_DEVICE_LABEL;
+    }
     expect(21, "locks of states 1 and 2", FELOSUMAY_DONE);
     profile.locks[63].state = 3;
     expect(21, "a lock of state 3", FELOSUMAY_BAD_PROFILE);
@@ -317,6 +329,41 @@ static void locks(void) {
     least()->lock_count = 1;
     profile.locks[0].state = 1;
     expect(21, "a lock without LOCK_STATE", FELOSUMAY_BAD_PROFILE);
+}
+
+/* Locks that could lock for good, or lock nothing. */
+static void locked(void) {
+    static const uint16_t held[] = {FELOSUMAY_PID_DMX_START_ADDRESS, FELOSUMAY_PID_LOCK_PIN, 0x8000},
+                          loose[] = {FELOSUMAY_PID_LOCK_STATE, FELOSUMAY_PID_LAMP_STATE, FELOSUMAY_PID_POWER_STATE,
+                                     FELOSUMAY_PID_PERFORM_SELFTEST, FELOSUMAY_PID_DEVICE_INFO, FELOSUMAY_PID_LAMP_HOURS,
+                                     FELOSUMAY_PID_LOCK_STATE_DESCRIPTION, FELOSUMAY_PID_CURVE, 0x8001},
+                          left_out[] = {FELOSUMAY_PID_LAMP_HOURS};
+    lockable();
+    parameters[1].commands = FELOSUMAY_CC_SET;
+    expect(22, "a lock state that can't be read", FELOSUMAY_BAD_PROFILE);
+    parameters[1].commands = FELOSUMAY_CC_GET;
+    expect(22, "a lock state that can only be read", FELOSUMAY_DONE);
+    parameters[0].commands = FELOSUMAY_CC_SET;
+    expect(22, "a PIN that can't be read", FELOSUMAY_DONE);
+    profile.parameters = parameters + 1;
+    profile.parameter_count = 2;
+    expect(22, "a lock state without a PIN", FELOSUMAY_BAD_PROFILE);
+    lockable();
+    parameters[3].pid = 0x8000;
+    parameters[3].kind = FELOSUMAY_DS_UNSIGNED_BYTE;
+    parameters[3].start.count = 1;
+    profile.parameter_count = 4;
+    profile.without = left_out;
+    profile.without_count = profile.lock_count = 1;
+    profile.locks[0].state = 1;
+    for (size_t i = 0; i < sizeof held / sizeof *held; i++) {
+        profile.locks[0].pid = held[i];
+        expect(23, "a lock that holds", FELOSUMAY_DONE);
+    }
+    for (size_t i = 0; i < sizeof loose / sizeof *loose; i++) {
+        profile.locks[0].pid = loose[i];
+        expect(23, "a lock that can't hold", FELOSUMAY_BAD_PROFILE);
+    }
 }
 
 /* A choice, and what its things are called. */
@@ -362,5 +409,6 @@ int main(void) {
     scenes_and_pins();
     names();
     locks();
+    locked();
     return failed;
 }

@@ -36,3 +36,6 @@ SIZE_IS(felosumay_collected, 256);
 SIZE_IS(felosumay_found, 16);
 SIZE_IS(felosumay_reply, 256);
 SIZE_IS(felosumay_name, 16);
+
+/* The greatest image of saved values: c/saved.c saves it. */
+SIZE_IS(uint8_t[FELOSUMAY_MOST_SAVED_BYTES], 34377);

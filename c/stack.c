@@ -1,6 +1,6 @@
-/* How much stack it takes to make a responder, to hear a frame, to read a value and to free it: each call is made in a thread that paints
- * its stack before, and what is no paint afterwards was touched. Its status is 1 if making one takes more than 12 KiB, or another call
- * more than 2. */
+/* How much stack it takes to judge a profile, to make a responder of it, to hear a frame, to read a value and to free it: each call is made
+ * in a thread that paints its stack before, and what is no paint afterwards was touched. Its status is 1 if one of the first two takes more
+ * than 12 KiB, or another call more than 2. */
 #define _XOPEN_SOURCE 700
 #include "felosumay_memory.h"
 #include "felosumay_names.h"
@@ -17,6 +17,10 @@ static felosumay_parameter parameters[32];
 static felosumay_choice choices[64];
 static felosumay_responder fixture;
 static felosumay_result result;
+
+static void judge(void) {
+    result = felosumay_profile_fault(&profile) == FELOSUMAY_NO_FAULT ? FELOSUMAY_DONE : FELOSUMAY_BAD_PROFILE;
+}
 
 static void make(void) {
     result = felosumay_responder_new_in(memory, sizeof memory, &fixture, 0x7FF0, 1, &profile, 8, 64, 0);
@@ -99,11 +103,17 @@ static void add_parameters(void) {
         }
     }
     add_choice(parameters, FELOSUMAY_PID_CURVE, FELOSUMAY_DS_CHOICE, 1, 63);
-    add_choice(parameters + 2, FELOSUMAY_PID_LOCK_STATE, FELOSUMAY_DS_LOCK, 0, 1);
+    parameters[2].pid = FELOSUMAY_PID_LOCK_PIN;
+    parameters[2].kind = FELOSUMAY_DS_PIN;
+    parameters[2].size = parameters[2].field_count = 0;
+    parameters[2].high = 9999;
+    parameters[2].start.count = 2;
+    add_choice(parameters + 3, FELOSUMAY_PID_LOCK_STATE, FELOSUMAY_DS_LOCK, 0, 1);
     for (uint8_t i = 0; i < 64; i++) {
         choices[i].pid = i < 63 ? FELOSUMAY_PID_CURVE_DESCRIPTION : FELOSUMAY_PID_LOCK_STATE_DESCRIPTION;
         choices[i].number = (uint8_t)(i < 63 ? i + 1 : 1);
         profile.locks[i].state = 1;
+        profile.locks[i].pid = FELOSUMAY_PID_DEVICE_LABEL;
     }
     profile.parameters = parameters;
     profile.parameter_count = 32;
@@ -118,7 +128,8 @@ int main(void) {
     profile.root.personality_count = profile.sub.personality_count = 1;
     profile.root.start = profile.sub.start = 1;
     profile.language_count = 1;
-    failed = is_over("new_in", make, MOST_TO_MAKE);
+    failed = is_over("profile_fault", judge, MOST_TO_MAKE);
+    failed |= is_over("new_in", make, MOST_TO_MAKE);
     failed |= is_over("step", hear, MOST);
     failed |= is_over("get", ask, MOST);
     failed |= is_over("free", give_up, MOST);

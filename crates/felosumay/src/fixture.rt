@@ -10,7 +10,7 @@ use crate::source::{Source, print};
 use crate::usage;
 use clap::ArgMatches;
 use rdm_device::Profile;
-use rdm_fixture::Fixture;
+use rdm_fixture::{Fixture, Starting};
 use rdm_outcomes::demo_rules;
 use rdm_script::DEMO_DEVICE;
 use rdm_words::put_fixture;
@@ -44,10 +44,12 @@ pub fn asked_for<'a, H: Host>(rt: H, asked: &ArgMatches<'a>) -> Result<Fixture, 
 
 /// The fixture on which scripts are played.
 pub fn demonstration() -> Fixture {
+    let profile = Profile::demo(0);
     Fixture {
         uid: DEMO_DEVICE,
-        profile: Profile::demo(0),
         outcomes: demo_rules(),
+        start: Starting::nothing(&profile.sensors),
+        profile,
     }
 }
 

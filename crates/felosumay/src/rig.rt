@@ -6,9 +6,12 @@ use crate::host::Host;
 use crate::source::Source;
 use crate::usage;
 use clap::ArgMatches;
-use rdm_fixture::Fixture;
+use rdm_device::Profile;
+use rdm_fixture::{Fixture, Starting, shown_at_start};
 use rdm_frame::Uid;
+use rdm_frame::standard::ROOT_DEVICE;
 use rdm_line::{Collision, JoinError, Line};
+use rdm_params::Kind;
 use rdm_widget::LiveFixture;
 
 /// How many results of slow commands there is room for in a fixture.
@@ -104,7 +107,7 @@ fn counted_up(uid: Uid, number: u16) -> Option<Uid> {
     Some(Uid { device, ..uid })
 }
 
-/// A fixture that was switched on, with as many sub-devices as are asked for.
+/// A fixture that was switched on, with as many sub-devices as are asked for, and shows what its file says that it starts with.
 pub fn live<'a, H: Host>(
     rt: H,
     asked: &ArgMatches<'a>,
@@ -114,6 +117,7 @@ pub fn live<'a, H: Host>(
         uid,
         mut profile,
         outcomes,
+        start,
     } = fixture;
     if let Some(subs) = asked.get_one::<u16>(usage::SUBS) {
         if asked.contains_id(usage::FIXTURE) && subs > profile.subs {
@@ -121,7 +125,46 @@ pub fn live<'a, H: Host>(
         }
         profile.subs = subs;
     }
-    Ok(LiveFixture::new(rt.alloc(), uid, profile, QUEUE_SIZE, &outcomes)?)
+    let shown = shown_by(&profile, &start);
+    let mut live = LiveFixture::new(rt.alloc(), uid, profile, QUEUE_SIZE, &outcomes)?;
+    place_counters(&mut live, &start);
+    for sensor in shown.iter().flatten() {
+        place(&mut live, Kind::SensorValue, sensor);
+    }
+    Ok(live)
+}
+
+/// What the sensors show of which something is said.
+fn shown_by(profile: &Profile, start: &Starting) -> [Option<[u8; 9]>; 8] {
+    let mut shown = [None; 8];
+    for number in 0..8u8 {
+        let n = usize::from(number);
+        let present = start.presents.get(n).copied().flatten();
+        if let (Some(present), Some(sensor)) = (present, profile.sensors.get(n)) {
+            shown[n] = Some(shown_at_start(number, present, sensor));
+        }
+    }
+    shown
+}
+
+/// Places what the counters show, unless it is what they show anyway.
+fn place_counters(live: &mut LiveFixture, start: &Starting) {
+    let counters = [
+        (Kind::DeviceHours, start.device_hours),
+        (Kind::LampHours, start.lamp_hours),
+        (Kind::LampStrikes, start.lamp_strikes),
+        (Kind::DevicePowerCycles, start.device_power_cycles),
+    ];
+    for (kind, count) in counters {
+        if count != 0 {
+            place(live, kind, &count.to_be_bytes());
+        }
+    }
+}
+
+/// Places a value of the root. A file says nothing of what its fixture lacks, so it isn't refused.
+fn place(live: &mut LiveFixture, kind: Kind, bytes: &[u8]) {
+    let _ = live.place(ROOT_DEVICE, kind.pid(), bytes);
 }
 
 /// How many of each fixture are asked for.

@@ -4,10 +4,12 @@ use Rattle.std.proofs.lemmas.List.Elements.{All-from_recursion}
 use Rattle.rdm_device.specs.declared.profile.own.ParameterDef.{ParameterDef}
 use Rattle.rdm_device.specs.Device.Choices.{agrees}
 use Rattle.rdm_device.specs.Device.Demo.{demo}
+use Rattle.rdm_device.specs.declared.profile.locks.Lock.{Lock}
+use Rattle.rdm_device.specs.Device.Locks.{can_hold, can_open, has_state}
 use Rattle.rdm_device.specs.Device.OwnParameters.{is_addable, has_limits, can_start, has_good_fields}
 use Rattle.rdm_device.specs.Device.Standards.{follows}
 use Rattle.rdm_device.specs.Device.Profiles.{AreGoodParameters, CanBeMade}
-use Rattle.rdm_device.proofs.DemoLemmas.{demo_can_be_made, none_good, none_locked, two_differ}
+use Rattle.rdm_device.proofs.DemoLemmas.{demo_can_be_made, none_good, two_differ}
 use Rattle.rdm_bench.specs.Device.{own_numbers, bench_profile}
 
 numbers_good : AreGoodParameters own_numbers []
@@ -42,7 +44,11 @@ bench_can_be_made true subs few =
         presets = good.presets;
         own = numbers_good;
         without = good.without;
-        locks = none_locked own_numbers;
+        locks = record {
+          states = All-from_recursion (λ (l : Lock). IsTrue (has_state own_numbers l)) [] tt;
+          opened = All-from_recursion (λ (d : ParameterDef). IsTrue (can_open own_numbers d)) own_numbers (refl, (refl, tt));
+          held = All-from_recursion (λ (l : Lock). IsTrue (can_hold [] own_numbers l)) [] tt;
+        };
       },
     )
 bench_can_be_made false subs few = demo_can_be_made subs few

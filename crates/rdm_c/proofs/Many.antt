@@ -1,17 +1,23 @@
 -- The rules of a profile, judged in parts: without parameters of the maker's own, these alone, and what the things of choices are called.
-use Rattle.std.proofs.Common.{◌≡◌, sym, ℕ, ◌≤◌, ◌<◌, List, [], Option, Some, None, IfSome, length, subst, arith}
+use Rattle.std.proofs.Common.{◌≡◌, sym, ℕ, ◌≤◌, ◌<◌, List, [], Option, Some, None, IfSome, IsTrue, length, subst, arith}
 use Rattle.rdm_device.specs.declared.profile.Profile.{Profile}
 use Rattle.rdm_device.specs.declared.profile.choices.ChoiceName.{ChoiceName}
 use Rattle.rdm_device.specs.declared.profile.locks.Lock.{Lock}
 use Rattle.rdm_device.specs.declared.profile.own.ParameterDef.{ParameterDef}
 use Rattle.rdm_device.specs.declared.profile.particulars.Particular.{Particular}
 use Rattle.rdm_device.specs.declared.profile.faults.ProfileFault.{ProfileFault}
-use Rattle.rdm_device.specs.declared.profile.faults.ProfileFault.TheVariants.{SubDevices, Presets, Personalities, Start, RootFootprint, SubFootprint, Languages, TestNumber, TwinTests, TwinStatusTexts, LeftOut, LeftOutNeeded, ParameterCount, ParameterPid, ParameterLimits, ParameterStart, ParameterOrder, ParameterFields, ParameterStandard, ParameterNames, ParameterLocks}
+use Rattle.rdm_device.specs.declared.profile.faults.ProfileFault.TheVariants.{SubDevices, Presets, Personalities, Start, RootFootprint, SubFootprint, Languages, TestNumber, TwinTests, TwinStatusTexts, LeftOut, LeftOutNeeded, ParameterCount, ParameterPid, ParameterLimits, ParameterStart, ParameterOrder, ParameterFields, ParameterStandard, ParameterNames, ParameterLocks, ParameterLockState, ParameterLocked}
 use Rattle.rdm_device.specs.Device.Faults.{Keeps, KeepsBefore, KeepsLeftOut, KeepsOwn, IsFirstBroken, with_parameters}
-use Rattle.rdm_device.specs.Device.Profiles.{Agree, AreGoodParameters, CanBeMade, HaveStates}
+use Rattle.rdm_device.specs.Device.Profiles.{Agree, AreGoodLocks, AreGoodParameters, CanBeMade, CanHold, CanOpen, HaveStates}
+use Rattle.std.proofs.lemmas.List.Elements.{All-from_recursion}
+use Rattle.rdm_device.specs.Device.Locks.{can_hold}
 use Rattle.rdm_device.proofs.DemoLemmas.{none_good, none_locked}
 use Rattle.rdm_device.proofs.Faults.{keeps_others, made}
 use Rattle.rdm_c.specs.Parameters.{HasOwn}
+
+-- no lock is one that can't hold
+none_held : (without : List ℕ) → CanHold without [] []
+none_held without = All-from_recursion (λ (l : Lock). IsTrue (can_hold without [] l)) [] tt
 
 -- the first rule that a profile breaks without parameters of the maker's own and locks is the first that it breaks with what sets it apart
 pub still_first : (f : ProfileFault) (p : Profile) (x : Particular) → p.particulars.locks ≡ [] → IsFirstBroken f (with_parameters p x.more_slots x.without.items [] []) → IsFirstBroken f (record p { particulars = x })
@@ -35,7 +41,9 @@ still_first ParameterOrder p x none h = absurd (h.1 none_good.ascending)
 still_first ParameterFields p x none h = absurd (h.1 none_good.fields)
 still_first ParameterStandard p x none h = absurd (h.1 none_good.standards)
 still_first ParameterNames p x none h = absurd (h.1 none_good.agree)
-still_first ParameterLocks p x none h = absurd (h.1 (subst (λ (ls : List Lock). HaveStates [] ls) (sym none) (none_locked [])))
+still_first ParameterLocks p x none h = absurd (h.1 (subst (λ (ls : List Lock). HaveStates [] ls) (sym none) none_locked.states))
+still_first ParameterLockState p x none h = absurd (h.1 none_locked.opened)
+still_first ParameterLocked p x none h = absurd (h.1 (subst (λ (ls : List Lock). CanHold x.without.items [] ls) (sym none) (none_held x.without.items)))
 
 pub still_first_if : (result : Option ProfileFault) (p : Profile) (x : Particular) → p.particulars.locks ≡ [] → IfSome result (λ f. IsFirstBroken f (with_parameters p x.more_slots x.without.items [] [])) → IfSome result (λ f. IsFirstBroken f (record p { particulars = x }))
 still_first_if None p x none h = tt
@@ -48,7 +56,7 @@ keeps_left_out p x can =
     (keeps_others p x.more_slots x.without.items [] [] can, left_out.optional, left_out.needs)
 
 -- a device can be made with a profile that keeps these, and whose parameters of the maker's own are good, with their names and locks
-pub made_with : (p : Profile) → KeepsLeftOut p → AreGoodParameters p.particulars.own p.particulars.choices × HaveStates p.particulars.own p.particulars.locks → CanBeMade p
+pub made_with : (p : Profile) → KeepsLeftOut p → AreGoodParameters p.particulars.own p.particulars.choices × AreGoodLocks p.particulars.without.items p.particulars.own p.particulars.locks → CanBeMade p
 made_with p h good =
     made p p.particulars.more_slots p.particulars.without.items p.particulars.own p.particulars.choices h.0 (record { optional = h.1; needs = h.2 }, good.0, good.1)
 
@@ -72,14 +80,35 @@ too_many p ds same h many =
     (h, λ few. absurd (omega (arith, subst (λ (es : List ParameterDef). length es ≤ 32) same few, many)))
 
 -- the rule of names, and that of locks, are the first that is broken
-pub names_first : (p : Profile) (ds : List ParameterDef) (cs : List ChoiceName) (ls : List Lock) → HasOwn p ds cs ls → KeepsBefore ParameterNames p → (¬ Agree ds cs) → IsFirstBroken ParameterNames p
-names_first p ds cs ls has before broken =
+pub names_first : (p : Profile) (ds : List ParameterDef) (cs : List ChoiceName) (ls : List Lock) (without : List ℕ) → HasOwn p ds cs ls without → KeepsBefore ParameterNames p → (¬ Agree ds cs) → IsFirstBroken ParameterNames p
+names_first p ds cs ls without has before broken =
     (before, subst (λ (es : List ParameterDef). ¬ Agree es p.particulars.choices) (sym has.0) (subst (λ (ns : List ChoiceName). ¬ Agree ds ns) (sym has.1) broken))
 
-pub locks_first : (p : Profile) (ds : List ParameterDef) (cs : List ChoiceName) (ls : List Lock) → HasOwn p ds cs ls → KeepsBefore ParameterNames p → Agree ds cs → (¬ HaveStates ds ls) → IsFirstBroken ParameterLocks p
-locks_first p ds cs ls has before agree broken =
+-- names that agree keep the rules before those of locks
+pub before_locks : (p : Profile) (ds : List ParameterDef) (cs : List ChoiceName) (ls : List Lock) (without : List ℕ) → HasOwn p ds cs ls without → KeepsBefore ParameterNames p → Agree ds cs → KeepsBefore ParameterLocks p
+before_locks p ds cs ls without has before agree =
     let agrees : Agree p.particulars.own p.particulars.choices = subst (λ (es : List ParameterDef). Agree es p.particulars.choices) (sym has.0) (subst (λ (ns : List ChoiceName). Agree ds ns) (sym has.1) agree) in
-    ((before.0, before.1, before.2, agrees), subst (λ (es : List ParameterDef). ¬ HaveStates es p.particulars.locks) (sym has.0) (subst (λ (ks : List Lock). ¬ HaveStates ds ks) (sym has.2) broken))
+    (before.0, before.1, before.2, agrees)
+
+-- what lists make true is so of a profile that has them
+abbrev of_lists : (P : List ParameterDef → List Lock → List ℕ → Type 0) → Profile → Type 0
+of_lists P p = P p.particulars.own p.particulars.locks p.particulars.without.items
+
+from_lists : (P : List ParameterDef → List Lock → List ℕ → Type 0) (p : Profile) (ds : List ParameterDef) (cs : List ChoiceName) (ls : List Lock) (without : List ℕ) → HasOwn p ds cs ls without → P ds ls without → of_lists P p
+from_lists P p ds cs ls without has holds =
+    subst (λ (es : List ParameterDef). P es p.particulars.locks p.particulars.without.items) (sym has.0) (subst (λ (ks : List Lock). P ds ks p.particulars.without.items) (sym has.2) (subst (λ (pids : List ℕ). P ds ls pids) (sym has.3) holds))
+
+pub locks_first : (p : Profile) (ds : List ParameterDef) (cs : List ChoiceName) (ls : List Lock) (without : List ℕ) → HasOwn p ds cs ls without → KeepsBefore ParameterLocks p → (¬ HaveStates ds ls) → IsFirstBroken ParameterLocks p
+locks_first p ds cs ls without has before broken =
+    (before, from_lists (λ es ks pids. ¬ HaveStates es ks) p ds cs ls without has broken)
+
+pub lock_state_first : (p : Profile) (ds : List ParameterDef) (cs : List ChoiceName) (ls : List Lock) (without : List ℕ) → HasOwn p ds cs ls without → KeepsBefore ParameterLocks p → HaveStates ds ls → (¬ CanOpen ds) → IsFirstBroken ParameterLockState p
+lock_state_first p ds cs ls without has before states broken =
+    ((before, from_lists (λ es ks pids. HaveStates es ks) p ds cs ls without has states), from_lists (λ es ks pids. ¬ CanOpen es) p ds cs ls without has broken)
+
+pub locked_first : (p : Profile) (ds : List ParameterDef) (cs : List ChoiceName) (ls : List Lock) (without : List ℕ) → HasOwn p ds cs ls without → KeepsBefore ParameterLocks p → HaveStates ds ls → CanOpen ds → (¬ CanHold without ds ls) → IsFirstBroken ParameterLocked p
+locked_first p ds cs ls without has before states opened broken =
+    ((before, from_lists (λ es ks pids. HaveStates es ks) p ds cs ls without has states, from_lists (λ es ks pids. CanOpen es) p ds cs ls without has opened), from_lists (λ es ks pids. ¬ CanHold pids es ks) p ds cs ls without has broken)
 
 -- no device can be made with a profile that breaks a rule
 pub keeps_each : (f : ProfileFault) (p : Profile) → CanBeMade p → Keeps f p
@@ -103,4 +132,6 @@ keeps_each ParameterOrder p can = can.1.own.ascending
 keeps_each ParameterFields p can = can.1.own.fields
 keeps_each ParameterStandard p can = can.1.own.standards
 keeps_each ParameterNames p can = can.1.own.agree
-keeps_each ParameterLocks p can = can.1.locks
+keeps_each ParameterLocks p can = can.1.locks.states
+keeps_each ParameterLockState p can = can.1.locks.opened
+keeps_each ParameterLocked p can = can.1.locks.held

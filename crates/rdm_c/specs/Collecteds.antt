@@ -22,7 +22,7 @@ heard_numbers heard.Unsupported = heard_with 4 0 0
 heard_numbers (heard.Refused reason) = heard_with 5 reason 0
 heard_numbers (heard.NotYet tenths) = heard_with 6 0 tenths
 
--- The numbers say what was collected: the message, its response type, and whether it was asked for again.
+-- The numbers say what was collected: the message, its response type, whether it was asked for again, and whether it follows a loss.
 pub record Tells (n : CollectedNumbers) (c : Collected) : Type 0 where
   pub type : n.kind ≡ type_of c.response
   pub reason : n.reason ≡ reason_of c.response
@@ -33,3 +33,4 @@ pub record Tells (n : CollectedNumbers) (c : Collected) : Type 0 where
   pub count : n.count ≡ length c.message.body
   pub body : take n.count n.bytes ≡ c.message.body
   pub repeat : n.may_repeat ≡ flag c.again
+  pub loss : n.after_loss ≡ flag c.after_loss

@@ -7,7 +7,9 @@ use Rattle.rdm_params.specs.declared.verdict.Verdict.{Verdict}
 use Rattle.rdm_params.specs.declared.verdict.Verdict.TheVariants.{Reply, Refuse}
 use Rattle.rdm_params.specs.Commands.Nacks.{nack_code}
 use Rattle.rdm_params.specs.Commands.Panel.{change_message}
-use Rattle.rdm_responder.specs.History.{History, Setup, Event, then_event}
+use Rattle.rdm_responder.specs.History.{History, Setup, Event, Arrived, then_event}
+use Rattle.rdm_responder.specs.Lawful.{IsLawful}
+use Rattle.rdm_responder.specs.declared.report.Report.{Report}
 use Rattle.rdm_responder.specs.Laws.{values_of}
 use Rattle.rdm_outbox.specs.Jobs.{has_place}
 use Rattle.rdm_responder.specs.Runs.{outbox_of}
@@ -15,6 +17,8 @@ use Rattle.rdm_responder.specs.Rules.{account_of, answered}
 use Rattle.rdm_responder.specs.StandsFor.{StandsFor}
 use Rattle.rdm_saved.specs.SavedText.{saved_text}
 use Rattle.rdm_c.specs.declared.endpoint.Endpoint.{Endpoint}
+use Rattle.rdm_c.specs.declared.job.JobNumbers.{JobNumbers}
+use Rattle.rdm_c.specs.Jobs.{IsAsTold}
 use Rattle.rdm_c.specs.declared.endpoint.Endpoint.TheVariants.{Responder, Collector, DeviceCollector, Searcher}
 use Rattle.rdm_c.specs.declared.status.Status.{Status}
 use Rattle.rdm_c.specs.declared.status.Status.TheVariants as status
@@ -112,6 +116,10 @@ setup_of maker device profile queue_size entries first_job = record {
 -- what C is told of whether something is so: 1 or 0
 abbrev pub flag : Bool → ℕ
 flag holds = if holds then 1 else 0
+
+-- The report of a job may come after this history, and each of the numbers that C has of the job is as `step` told it.
+abbrev pub MayReport : History → JobNumbers → Report → Type 0
+MayReport h n report = IsLawful (then_event h (Arrived report)) × IsAsTold (account_of h).parameters.profile n report.job
 
 -- whether what happens leaves a status entry that is kept
 abbrev pub is_noted : History → Event → Bool

@@ -1,5 +1,5 @@
 -- Jobs as the numbers that C has of them.
-use Rattle.std.specs.Prelude.{ℕ, ◌==◌, if◌then◌else◌, Option, Some, None}
+use Rattle.std.specs.Prelude.{◌≡◌, ℕ, ◌==◌, if◌then◌else◌, Option, Some, None}
 use Rattle.std.specs.Option.{option_map}
 use Rattle.rdm_device.specs.declared.profile.Profile.{Profile}
 use Rattle.rdm_params.specs.declared.kind.Verb.{Verb}
@@ -29,8 +29,12 @@ numbers_of p job = record {
   worker = worker_at p.workers job.work;
 }
 
+-- the estimate and the worker of numbers are those that devices of this profile have for the command of a job
+abbrev pub IsAsTold : Profile → JobNumbers → Job → Type 0
+IsAsTold p n job = (n.estimate ≡ estimate_of p job.work) × (n.worker ≡ worker_at p.workers job.work)
+
 -- The job that numbers stand for, if the command class is one of the two. The estimate and the worker follow from the
--- rest.
+-- rest, and are compared by `IsAsTold`.
 abbrev pub job_with : JobNumbers → Verb → Job
 job_with n verb = record { number = n.number; work = record { sub = n.sub; pid = n.pid; verb = verb; arg = n.argument } }
 

@@ -96,6 +96,7 @@ choice_in c = record { pid = c.pid; number = c.number; hertz = c.hertz; name = t
 abbrev pub lock_in : LockNumbers → Lock
 lock_in l = record { state = l.state; pid = l.pid }
 
--- The profile has these parameters of the maker's own, these names of choices and these locks.
-abbrev pub HasOwn : Profile → List ParameterDef → List ChoiceName → List Lock → Type 0
-HasOwn p ds cs ls = (p.particulars.own ≡ ds) × (p.particulars.choices ≡ cs) × (p.particulars.locks ≡ ls)
+-- The profile has these parameters of the maker's own, these names of choices and these locks, and leaves these parameters out.
+abbrev pub HasOwn : Profile → List ParameterDef → List ChoiceName → List Lock → List ℕ → Type 0
+HasOwn p ds cs ls without =
+    (p.particulars.own ≡ ds) × (p.particulars.choices ≡ cs) × (p.particulars.locks ≡ ls) × (p.particulars.without.items ≡ without)

@@ -29,6 +29,10 @@ bound_with f (Some uid) = found_with f 1 uid
 abbrev pub found_numbers : Found → FoundNumbers
 found_numbers f = bound_with f f.binding
 
+-- A device of which the UID alone is known: no answer of it was valid.
+abbrev pub heard_of : Uid → Found
+heard_of uid = record { uid = uid; control = 0; binding = None }
+
 -- what it is called that a search has no request
 abbrev pub of_error : SearchError → Status
 of_error error.Limit = status.Limit

@@ -41,6 +41,8 @@ pub struct CollectedNumbers {
     /// 1 if it was asked for again (STATUS_GET_LAST_MESSAGE, table A-4), so that it may be what was recorded before it once
     /// more; else 0.
     pub may_repeat: u8,
+    /// 1 if a poll has no answer, of those since something was recorded before it, so that something may be missing here; else 0.
+    pub after_loss: u8,
     /// The parameter data at the front.
     pub bytes: [u8; MOST_DATA],
 }
@@ -83,6 +85,7 @@ impl CollectedNumbers {
         self.sub = collected.message.sub;
         self.command_class = collected.message.class;
         self.may_repeat = if collected.again { 1 } else { 0 };
+        self.after_loss = if collected.after_loss { 1 } else { 0 };
         let (kind, reason, tenths) = numbers_of(collected.response);
         self.kind = kind;
         self.reason = reason;

@@ -1,16 +1,16 @@
 //! A job as numbers.
 
-ghost use Rattle.std.specs.Prelude.{◌≡◌, None, Some, IfSome, is_some};
+ghost use Rattle.std.specs.Prelude.{◌≡◌, ◌↔◌, IsTrue, None, Some, IfSome, is_some};
 ghost use Rattle.std.specs.Option.{option_map};
 ghost use Rattle.rdm_device.specs.declared.profile.Profile.{Profile};
 ghost use Rattle.rdm_responder.specs.Started.{job_in as the_job_in, IsAsInProfile};
 ghost use Rattle.rdm_c.specs.Changes.{with_change};
-ghost use Rattle.rdm_c.specs.Jobs.{job_in, numbers_of, class_of, verb_in, started_in};
+ghost use Rattle.rdm_c.specs.Jobs.{IsAsTold, job_in, numbers_of, class_of, verb_in, started_in};
 ghost use Rattle.rdm_c.specs.Endpoints.{flag};
 
 use rdm_frame::standard::{GET_COMMAND, SET_COMMAND};
 use rdm_outbox::Job;
-use rdm_params::{Verb, Work};
+use rdm_params::{Devices, Verb, Work};
 use rdm_responder::{Changed, Started};
 
 /// A slow command that was accepted. The header calls it `felosumay_job`.
@@ -72,7 +72,7 @@ impl JobNumbers {
     }
 
     /// The job that the numbers stand for, or `None` if the command class is neither GET's nor SET's. The estimate and
-    /// the worker follow from the rest, and aren't read.
+    /// the worker follow from the rest: `is_as_told` compares them.
     pub(crate) fn job(&self) -> Option<Job>
         ensures { result ≡ job_in self.now }
     {
@@ -86,6 +86,14 @@ impl JobNumbers {
                 arg: self.argument,
             },
         })
+    }
+
+    /// Whether the estimate and the worker are those that the devices have for the job's command (E1.20 section 6.3.3).
+    pub(crate) fn is_as_told(&self, devices: &Devices, job: &Job) -> bool
+        ensures { IsTrue result ↔ IsAsTold devices.now.profile self.now job.now }
+    {
+        self.estimate == devices.estimate_of(&job.work)
+            && self.worker == devices.worker_of(&job.work)
     }
 }
 

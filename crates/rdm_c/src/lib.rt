@@ -69,7 +69,7 @@ pub use exports::saving::{
 pub use exports::search::{
     felosumay_search_count, felosumay_search_found, felosumay_search_free,
     felosumay_search_hear_nonnull, felosumay_search_new, felosumay_search_next,
-    felosumay_search_resume,
+    felosumay_search_resume, felosumay_search_unsure,
 };
 pub use found::FoundNumbers;
 pub use handle::Handle;

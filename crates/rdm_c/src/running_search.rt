@@ -22,13 +22,15 @@ impl Model for RunningSearch {
       left = r.search.left;
       stage = r.search.stage;
       found = r.search.found.items;
+      again = r.search.again;
+      unsure = r.search.unsure.items;
     } };
 }
 
 impl RunningSearch {
-    ghost use Rattle.std.specs.Prelude.{◌≡◌, ◌+◌, ◌-◌, ◌%◌, OnOk, OnErr};
+    ghost use Rattle.std.specs.Prelude.{◌≡◌, ◌+◌, ◌-◌, ◌%◌, true, false, OnOk, OnErr};
     ghost use Rattle.rdm_search.specs.Answers.{found_uids};
-    ghost use Rattle.rdm_search.specs.Searches.{found_after, next_of};
+    ghost use Rattle.rdm_search.specs.Searches.{found_after, is_repeated, next_of, unsure_after};
     ghost use Rattle.rdm_search.specs.Stages.{Hears, request_of};
     ghost use Rattle.rdm_c.specs.SearchStates.{IsNewSearch, resumed};
 
@@ -55,6 +57,10 @@ impl RunningSearch {
         ensures found { OnOk result (self.new.found ≡ found_after self.old.stage self.old.found bytes.now) }
         ensures left { OnOk result (self.new.left ≡ self.old.left - 1) }
         ensures tn { OnOk result (self.new.tn ≡ (self.old.tn + 1) % 256) }
+        ensures repeats { OnOk result (is_repeated self.old.stage self.old.found self.old.again bytes.now ≡ true →
+            (self.new.stage ≡ self.old.stage) × (self.new.again ≡ self.old.again + 1) × (self.new.unsure ≡ self.old.unsure)) }
+        ensures settles { OnOk result (is_repeated self.old.stage self.old.found self.old.again bytes.now ≡ false →
+            (self.new.again ≡ 0) × (self.new.unsure ≡ unsure_after self.old.stage self.old.found self.old.unsure bytes.now)) }
         ensures source { self.new.source ≡ self.old.source }
         ensures same { OnErr result (self.new ≡ self.old) }
     {
@@ -73,5 +79,12 @@ impl RunningSearch {
         ensures { result.now ≡ self.now.found }
     {
         self.search.found()
+    }
+
+    /// Whose answers to mutes weren't valid.
+    pub(crate) fn unsure(&self) -> &[Uid]
+        ensures { result.now ≡ self.now.unsure }
+    {
+        self.search.unsure()
     }
 }

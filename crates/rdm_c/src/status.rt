@@ -36,7 +36,7 @@ pub enum Status {
     NoMore,
     /// There is no room for one more message.
     NoRoom,
-    /// A SET of the value would be out of range, or there is no such sensor.
+    /// The value is out of range, or there is no such sensor.
     OutOfRange,
     /// The search took as many transactions as it may.
     Limit,

@@ -13,4 +13,4 @@ pub use laws::{
     any_device_answers_go_on, any_device_is_recorded, any_device_law_rules_out,
     collecteds_are_equal_by_value, device_heards_are_equal_by_value,
 };
-pub use parts::{first_message, join_data};
+pub use parts::{first_message, is_sure, join_data};

@@ -11,7 +11,7 @@ use Rattle.rdm_device.specs.Device.Map.{Entry, entry, has_key, lookup, value_at,
 use Rattle.rdm_device.specs.Columns.Scenes.{scenes_by}
 use Rattle.rdm_device.specs.Device.OwnParameters.{is_order}
 use Rattle.rdm_device.specs.Device.Parameters.{no_orders, kept_at_start, added_at_start}
-use Rattle.rdm_device.specs.Columns.Added.{order_stored, start_stored, kept_stored, placed_stored, index_kept, bytes_kept, bytes_placed, counted, set_back_in, added_set_back}
+use Rattle.rdm_device.specs.Columns.Added.{order_stored, start_stored, kept_stored, placed_stored, index_kept, bytes_kept, bytes_ordered, bytes_placed, counted, set_back_in, added_set_back}
 use Rattle.rdm_device.specs.Device.Spot.{Spot}
 use Rattle.rdm_device.specs.Device.Values.{bytes_of}
 use Rattle.rdm_device.specs.declared.value.Value.{Value}
@@ -134,16 +134,17 @@ zero_or_one n = never_both (n == 0) (n == 1) (λ (is : (n == 0) ≡ true) (one :
 both_keys : (pid : ℕ) (a b : List ℕ) (e : Entry) → stored_in pid 1 b (stored_in pid 0 a e) ≡ entry e.pid e.index (cond (has_key pid 0 e) a (cond (has_key pid 1 e) b e.bytes))
 both_keys pid a b e = ap (entry e.pid e.index) (one_key (e.pid == pid) (e.index == 0) a b e.bytes (e.index == 1) (zero_or_one e.index))
 
-order_is_map : (pid : ℕ) (spot : Spot) (v : Value) (count : List ℕ) (es : List Entry) → count ≡ counted (lookup spot.added pid 1) → update (order_stored pid spot v) es ≡ map (stored_in pid 1 count) (map (stored_in pid 0 (bytes_of v)) es)
-order_is_map pid spot v count [] same = refl
-order_is_map pid spot v count (e ∷ es) same =
-    let one : entry e.pid e.index (order_stored pid spot v e) ≡ stored_in pid 1 count (stored_in pid 0 (bytes_of v) e) = ap (λ (c : List ℕ). entry e.pid e.index (cond (has_key pid 0 e) (bytes_of v) (cond (has_key pid 1 e) c e.bytes))) (sym same) ∙ sym (both_keys pid (bytes_of v) count e) in
-    ap (λ (x : Entry). x ∷ update (order_stored pid spot v) es) one ∙ ap (λ (rest : List Entry). stored_in pid 1 count (stored_in pid 0 (bytes_of v) e) ∷ rest) (order_is_map pid spot v count es same)
+order_is_map : (d : ParameterDef) (spot : Spot) (v : Value) (count : List ℕ) (es : List Entry) → count ≡ counted (lookup spot.added d.pid 1) → update (order_stored d spot v) es ≡ map (stored_in d.pid 1 count) (map (stored_in d.pid 0 (bytes_ordered d.shape v)) es)
+order_is_map d spot v count [] same = refl
+order_is_map d spot v count (e ∷ es) same =
+    let kept : List ℕ = bytes_ordered d.shape v in
+    let one : entry e.pid e.index (order_stored d spot v e) ≡ stored_in d.pid 1 count (stored_in d.pid 0 kept e) = ap (λ (c : List ℕ). entry e.pid e.index (cond (has_key d.pid 0 e) kept (cond (has_key d.pid 1 e) c e.bytes))) (sym same) ∙ sym (both_keys d.pid kept count e) in
+    ap (λ (x : Entry). x ∷ update (order_stored d spot v) es) one ∙ ap (λ (rest : List Entry). stored_in d.pid 1 count (stored_in d.pid 0 kept e) ∷ rest) (order_is_map d spot v count es same)
 
 -- each entry that an order stores
-pub ordered_all : (pid : ℕ) (spot : Spot) (v : Value) (es new : List Entry) (bytes : List ℕ) → bytes ≡ bytes_of v → spot.added ≡ es → new ≡ map (stored_in pid 1 (counted (lookup es pid 1))) (map (stored_in pid 0 bytes) es) → new ≡ update (order_stored pid spot v) es
-ordered_all pid spot v es new bytes same is e =
-    e ∙ ap (λ (xs : List ℕ). map (stored_in pid 1 (counted (lookup es pid 1))) (map (stored_in pid 0 xs) es)) same ∙ sym (order_is_map pid spot v (counted (lookup es pid 1)) es (ap (λ (xs : List Entry). counted (lookup xs pid 1)) (sym is)))
+pub ordered_all : (d : ParameterDef) (spot : Spot) (v : Value) (es new : List Entry) → spot.added ≡ es → new ≡ map (stored_in d.pid 1 (counted (lookup es d.pid 1))) (map (stored_in d.pid 0 (bytes_ordered d.shape v)) es) → new ≡ update (order_stored d spot v) es
+ordered_all d spot v es new is e =
+    e ∙ sym (order_is_map d spot v (counted (lookup es d.pid 1)) es (ap (λ (xs : List Entry). counted (lookup xs d.pid 1)) (sym is)))
 
 own_bytes : (pid first more : Bool) (a b kept : List ℕ) → (first && more) ≡ false → cond (pid && more) b (cond (pid && first) a kept) ≡ kept → cond (pid && first) a kept ≡ kept
 own_bytes true true true a b kept apart e = absurd cc

@@ -11,11 +11,11 @@ use Rattle.rdm_device.specs.declared.profile.choices.ChoiceName.{ChoiceName}
 use Rattle.rdm_device.specs.declared.profile.locks.Lock.{Lock}
 use Rattle.rdm_device.specs.declared.profile.own.ParameterDef.{ParameterDef}
 use Rattle.rdm_device.specs.Device.LeftOut.{is_optional}
-use Rattle.rdm_device.specs.Device.Locks.{has_state}
+use Rattle.rdm_device.specs.Device.Locks.{has_state, can_open, can_hold}
 use Rattle.rdm_device.specs.Device.OwnParameters.{is_addable, has_limits, can_start, has_good_fields}
 use Rattle.rdm_device.specs.Device.Choices.{agrees, is_needed, comes_before}
 use Rattle.rdm_device.specs.Device.Standards.{follows}
-use Rattle.rdm_device.specs.Device.Profiles.{CanBeMade, AreGoodParameters, HaveStates, MayBeLeftOut, root_slots}
+use Rattle.rdm_device.specs.Device.Profiles.{CanBeMade, AreGoodParameters, AreGoodLocks, MayBeLeftOut, root_slots}
 
 none_differ : {X : Type 0} (R : X → X → Type 0) → AllPairs R []
 none_differ R i j d lt within = absurd (omega arith)
@@ -45,9 +45,13 @@ none_good = record {
 pub none_left_out : MayBeLeftOut []
 none_left_out = record { optional = (lit≤ tt, All-from_recursion (λ (pid : ℕ). IsTrue (is_optional pid)) [] tt); needs = refl }
 
--- no lock is of a state that there isn't
-pub none_locked : (ds : List ParameterDef) → HaveStates ds []
-none_locked ds = All-from_recursion (λ (l : Lock). IsTrue (has_state ds l)) [] tt
+-- without parameters of the maker's own, no locks are good
+pub none_locked : AreGoodLocks [] [] []
+none_locked = record {
+  states = All-from_recursion (λ (l : Lock). IsTrue (has_state [] l)) [] tt;
+  opened = All-from_recursion (λ (d : ParameterDef). IsTrue (can_open [] d)) [] tt;
+  held = All-from_recursion (λ (l : Lock). IsTrue (can_hold [] [] l)) [] tt;
+}
 
 pub demo_can_be_made : (subs : ℕ) → subs ≤ 512 → CanBeMade (demo subs)
 unfolding demo demo_root demo_sub demo_slots demo_tests demo_statuses
@@ -63,6 +67,6 @@ demo_can_be_made subs few = (
     presets = lit< tt;
     own = none_good;
     without = none_left_out;
-    locks = none_locked [];
+    locks = none_locked;
   },
 )

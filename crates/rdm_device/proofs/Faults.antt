@@ -4,10 +4,10 @@ use Rattle.rdm_device.specs.declared.profile.Profile.{Profile}
 use Rattle.rdm_device.specs.declared.profile.choices.ChoiceName.{ChoiceName}
 use Rattle.rdm_device.specs.declared.profile.own.ParameterDef.{ParameterDef}
 use Rattle.rdm_device.specs.Device.Faults.{KeepsOthers, with_parameters, with_slots}
-use Rattle.rdm_device.specs.Device.Profiles.{CanBeMade, MayBeLeftOut, AreGoodParameters, HaveStates}
+use Rattle.rdm_device.specs.Device.Profiles.{CanBeMade, MayBeLeftOut, AreGoodParameters, AreGoodLocks}
 
 -- a profile that keeps the rules which don't speak of parameters, with good ones
-pub made : (p : Profile) (more_slots : ℕ) (without : List ℕ) (own : List ParameterDef) (choices : List ChoiceName) → KeepsOthers (with_slots p more_slots) → MayBeLeftOut without × AreGoodParameters own choices × HaveStates own p.particulars.locks → CanBeMade (with_parameters p more_slots without own choices)
+pub made : (p : Profile) (more_slots : ℕ) (without : List ℕ) (own : List ParameterDef) (choices : List ChoiceName) → KeepsOthers (with_slots p more_slots) → MayBeLeftOut without × AreGoodParameters own choices × AreGoodLocks without own p.particulars.locks → CanBeMade (with_parameters p more_slots without own choices)
 made p more_slots without own choices h good = (
   h.0,
   record {
@@ -30,7 +30,7 @@ keeps_others p more_slots without own choices can =
     let good = can.1 in
     (can.0, good.presets, (good.root.personality, good.sub.personality), ((good.root.start_least, good.root.start_greatest), (good.sub.start_least, good.sub.start_greatest)), good.root.footprints, good.sub.footprints, good.language, good.test_numbers, good.tests_differ, good.statuses_differ)
 
-pub keeps_parameters : (p : Profile) (more_slots : ℕ) (without : List ℕ) (own : List ParameterDef) (choices : List ChoiceName) → CanBeMade (with_parameters p more_slots without own choices) → MayBeLeftOut without × AreGoodParameters own choices × HaveStates own p.particulars.locks
+pub keeps_parameters : (p : Profile) (more_slots : ℕ) (without : List ℕ) (own : List ParameterDef) (choices : List ChoiceName) → CanBeMade (with_parameters p more_slots without own choices) → MayBeLeftOut without × AreGoodParameters own choices × AreGoodLocks without own p.particulars.locks
 keeps_parameters p more_slots without own choices can = (can.1.without, can.1.own, can.1.locks)
 
 -- a profile with its own slots and parameters, and without those that it leaves out

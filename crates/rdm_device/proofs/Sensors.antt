@@ -1,5 +1,5 @@
 -- The entries of the sensors.
-use Rattle.std.proofs.Common.{◌≡◌, ℕ, zero, suc, ◌+◌, List, [], ◌∷◌, ◌++◌, length, get_or, take, replicate, pos, ◌<◌, Option, Some, None, refl, sym, ap, ◌∙◌, arith}
+use Rattle.std.proofs.Common.{◌≡◌, ℕ, zero, suc, ◌+◌, List, [], ◌∷◌, ◌++◌, length, get_or, take, replicate, pos, ◌<◌, Bool, true, false, Option, Some, None, refl, sym, ap, ◌∙◌, arith}
 use Rattle.std.specs.Prelude.{slice_get}
 use Rattle.std.specs.Option.{option_map_or}
 use Rattle.std.proofs.lemmas.List.{take_more, length-take}
@@ -9,6 +9,7 @@ use Rattle.rdm_device.proofs.Maps.{update_append}
 use Rattle.rdm_device.specs.declared.profile.SensorDef.{SensorDef}
 use Rattle.rdm_device.specs.Device.Parameters.{sensors_at_start}
 use Rattle.rdm_device.specs.Device.Map.{Entry, entry, lookup, update}
+use Rattle.rdm_device.specs.Device.Measuring.{records, keeps_extremes, or_zero, shown_slots}
 use Rattle.rdm_device.specs.Views.State.{sensor_entries, measured_slots}
 
 -- a change that leaves the bytes of every sensor leaves their entries
@@ -65,3 +66,12 @@ pub changed_more : (f : Entry → List ℕ) (after ms : List Measured) (i : ℕ)
 changed_more f after ms i x y so_far len lt here same =
     let more : take (i + 1) ms ≡ take i ms ++ x ∷ [] = take_more ms i x lt ∙ ap (λ (m : Measured). take i ms ++ m ∷ []) (sym here) in
     rw more (push_changed f after (take i ms) x y i so_far len (omega (arith, length-take i ms)) same)
+
+-- where there are no slots, none are shown
+none_or_zero : (supported : Bool) → or_zero supported [] ≡ []
+none_or_zero true = refl
+none_or_zero false = refl
+
+pub none_shown : (sensor : Option SensorDef) → shown_slots sensor [] ≡ []
+none_shown None = refl
+none_shown (Some d) = rw (none_or_zero (keeps_extremes d), none_or_zero (records d)) refl

@@ -4,6 +4,7 @@ pub(crate) mod blocks;
 pub(crate) mod footprint;
 pub(crate) mod measuring;
 pub(crate) mod state;
+pub(crate) mod supporting;
 
 ghost use Rattle.std.specs.Prelude.{◌≡◌, ◌++◌, [], true, false};
 ghost use Rattle.rdm_device.specs.Views.State.{common_entries, own_entries, added_entries};

@@ -33,7 +33,7 @@ pub use profile::faults::{ProfileFault, own_fault, profile_fault, profile_fault_
 pub use profile::field_checks::has_good_fields;
 pub use profile::fields::{Field, Width};
 pub use profile::left_out::{are_optional, leave_no_need};
-pub use profile::locks::{Lock, Locks, have_states};
+pub use profile::locks::{Lock, Locks, can_hold, can_open, have_states};
 pub use profile::own::{OwnParameters, ParameterDef, Rights, Shape};
 pub use profile::own_checks::{can_start, is_addable};
 pub use profile::particulars::{Particular, Particulars};

@@ -8,8 +8,8 @@ use std::fs::OpenFile;
 use std::io;
 use std::io::{Read, Seek, SeekFrom, Write};
 
-/// How many bytes each of the two areas has. An image of the values of a root with 512 sub-devices fits.
-pub const AREA_BYTES: usize = 24576;
+/// How many bytes each of the two areas has. The greatest image of a responder's values, of 34,377 bytes, fits with its head.
+pub const AREA_BYTES: usize = 36864;
 
 /// A file with two areas, and what they hold.
 #[derive(Drop)]
@@ -37,8 +37,8 @@ impl<F: Read + Write + Seek + OpenFile + Drop> FileMemory<F> {
     pub fn create(mut file: F) -> io::Result<FileMemory<F>>
         ensures erased { IfOk result (λ memory. IsErased memory.first × IsErased memory.second) }
     {
-        let first = [0xFF; AREA_BYTES];
-        let second = [0xFF; AREA_BYTES];
+        let first = erased();
+        let second = erased();
         file.write_all(&first)?;
         file.write_all(&second)?;
         Ok(FileMemory {
@@ -54,7 +54,7 @@ impl<F: Read + Write + Seek + OpenFile + Drop> Memory for FileMemory<F> {
 
     ghost area = { λ memory side. side_of memory.first memory.second side };
 
-    ghost size = { λ _. 24576 };
+    ghost size = { λ _. 36864 };
 
     ghost told = { λ _ _. Unit {0} };
 
@@ -90,6 +90,15 @@ impl<F: Read + Write + Seek + OpenFile + Drop> Memory for FileMemory<F> {
         }
         put(&mut self.file, side, bytes)
     }
+}
+
+/// An area that is erased.
+fn erased() -> [u8; AREA_BYTES]
+    ensures { IsErased result }
+{
+    let mut area = [0; AREA_BYTES];
+    raise(&mut area);
+    area
 }
 
 /// What isn't touched stays as it is: a fact for the proof of what is.

@@ -16,12 +16,15 @@ use Rattle.rdm_outcomes.specs.declared.rule.Rule.{Rule}
 use Rattle.toml.specs.Data.{Data, string, integer, float, boolean, datetime, array, table, Members, get_member}
 use Rattle.rdm_fixture.specs.declared.fixture.Fixture.{Fixture}
 use Rattle.rdm_fixture.specs.Values.{number, signed, uid, own_uid, language, language_in, is_letter}
-use Rattle.rdm_fixture.specs.Keys.{may, must, OfTable, Lists}
+use Rattle.rdm_fixture.specs.Keys.{may, must, OfTable}
 use Rattle.rdm_fixture.specs.Outcomes.{IsOutcome, severity, only_number, done, failed, failed_in, outcome_at}
 use Rattle.rdm_fixture.specs.Parameters.{IsParameter}
-use Rattle.rdm_fixture.specs.Format.{IsPersonality, IsSlot, IsSensor, IsSelfTest, IsStatus, IsChoice, IsUnit, SubDevices, LanguagesAt, IsProfile}
+use Rattle.rdm_fixture.specs.Format.{IsPersonality, IsSlot, IsSensor, IsSelfTest, IsStatus, IsChoice, IsUnit, SubDevices, LanguagesAt, IsProfile, SaysFixture}
+use Rattle.rdm_fixture.specs.Starting.{SaysPresent}
+use Rattle.rdm_fixture.specs.Working.{CanWork}
 use Rattle.rdm_fixture.specs.Describes.{Describes}
 use Rattle.rdm_fixture.specs.Describable.{are_printable, HasPrintableUnit, HasPrintableTexts, is_coded, is_counted, is_base_form, is_told, is_ruled, is_sayable, CanBeDescribed}
+use Rattle.rdm_fixture.proofs.ListEntries.{slot_count-of}
 use Rattle.rdm_fixture.proofs.Made.{made, number_range, may_most, all_said, all_at, of_table}
 use Rattle.rdm_fixture.proofs.Printables.{when, printable_at}
 use Rattle.rdm_fixture.proofs.SaidParameters.{sayable}
@@ -194,17 +197,19 @@ ruled t r h =
 
 -- ---- the whole
 
-pub describable : (t : Members) (f : Fixture) → must uid (get_member (codes "uid") t) ≡ Some f.uid → IsProfile t f.profile
-    → Lists t (codes "outcome") (OfTable IsOutcome) 0 32 f.outcomes.items → CanBeDescribed f
-describable t f h profile outcomes = record {
-  own = own (get_member (codes "uid") t) f.uid h;
-  made = made t f.profile profile;
+pub describable : (t : Members) (f : Fixture) → SaysFixture t f → CanWork f → CanBeDescribed f
+describable t f said works = let profile = said.profile in record {
+  own = own (get_member (codes "uid") t) f.uid said.own;
+  made = made t f.profile profile works.opened works.held;
   slots = may_most 0 512 (get_member (codes "more_slots") t) _ (omega arith) profile.more_slots;
   parameters = all_at _ (λ d. IsTrue (is_sayable d)) (of_table IsParameter (λ d. IsTrue (is_sayable d)) sayable) (get_member (codes "parameter") t) _ profile.own.items;
   texts = printable_texts t f.profile profile;
   languages = all_coded (get_member (codes "languages") t) _ profile.languages;
-  outcomes = all_at _ (λ r. IsTrue (is_ruled r)) (of_table IsOutcome (λ r. IsTrue (is_ruled r)) ruled) (get_member (codes "outcome") t) _ outcomes.items;
+  outcomes = all_at _ (λ r. IsTrue (is_ruled r)) (of_table IsOutcome (λ r. IsTrue (is_ruled r)) ruled) (get_member (codes "outcome") t) _ said.outcomes.items;
+  presents = slot_count-of (OfTable SaysPresent) (get_member (codes "sensor") t) f.start.presents.items said.start.presents.items
+      ∙ sym (slot_count-of (OfTable IsSensor) (get_member (codes "sensor") t) f.profile.sensors.items profile.sensors.items);
+  works = works;
 }
 
 pub described : (text : List ℕ) (f : Fixture) → Describes text f → CanBeDescribed f
-described text f h = describable h.document f h.fixture.own h.fixture.profile h.fixture.outcomes
+described text f h = describable h.document f h.fixture.said h.fixture.works

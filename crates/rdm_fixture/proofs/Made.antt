@@ -11,7 +11,7 @@ use Rattle.rdm_device.specs.declared.profile.own.ParameterDef.{ParameterDef}
 use Rattle.rdm_device.specs.declared.profile.Unit.{Unit as DeviceUnit}
 use Rattle.rdm_device.specs.Device.OwnParameters.{is_addable, has_limits, can_start, has_good_fields}
 use Rattle.rdm_device.specs.Device.Standards.{follows}
-use Rattle.rdm_device.specs.Device.Profiles.{IsGoodUnit, CanBeMade}
+use Rattle.rdm_device.specs.Device.Profiles.{IsGoodUnit, CanOpen, CanHold, CanBeMade}
 use Rattle.toml.specs.Data.{Data, string, integer, float, boolean, datetime, array, table, Items, no_items, item, Members, get_member}
 use Rattle.rdm_fixture.specs.Values.{number}
 use Rattle.rdm_fixture.specs.Keys.{may, must, OfTable, EachIs, ListAt}
@@ -141,8 +141,8 @@ all_parameters : (Q : ParameterDef → Type 0) → ((t : Members) (d : Parameter
     → ListAt (OfTable IsParameter) (get_member (codes "parameter") t) ds → All Q ds
 all_parameters Q gives t ds h = all_at _ Q (of_table IsParameter Q gives) (get_member (codes "parameter") t) ds h
 
-pub made : (t : Members) (p : Profile) → IsProfile t p → CanBeMade p
-made t p h =
+pub made : (t : Members) (p : Profile) → IsProfile t p → CanOpen p.particulars.own → CanHold p.particulars.without.items p.particulars.own p.particulars.locks → CanBeMade p
+made t p h opened held =
     let count : length p.slots.items ≡ slot_count (get_member (codes "slot") t) = slot_count-of _ (get_member (codes "slot") t) _ h.slots.items in
     let slots : root_slots t ≡ min 512 (length p.slots.items + p.particulars.more_slots) =
     all_slots (may 0 (number 0 512) (get_member (codes "more_slots") t)) (slot_count (get_member (codes "slot") t)) (length p.slots.items) p.particulars.more_slots h.more_slots (sym count) in
@@ -171,6 +171,6 @@ made t p h =
           agree = h.agree;
         };
         without = h.may_lack;
-        locks = h.states;
+        locks = record { states = h.states; opened = opened; held = held };
       },
     )

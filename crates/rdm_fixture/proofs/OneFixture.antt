@@ -27,13 +27,15 @@ use Rattle.rdm_outcomes.specs.declared.rule.Task.{Task}
 use Rattle.toml.specs.Data.{Data, string, integer, float, boolean, datetime, array, table, no_items, item, Members, get_member}
 use Rattle.rdm_fixture.specs.declared.fixture.Fixture.{Fixture}
 use Rattle.rdm_fixture.specs.declared.profile.locks.Locking.{Locking}
+use Rattle.rdm_fixture.specs.declared.starting.Starting.{Starting}
 use Rattle.rdm_fixture.specs.Describes.{Describes}
 use Rattle.rdm_fixture.specs.FirstWrong.{AreNamed, AreLocked}
 use Rattle.rdm_fixture.specs.Keys.{may, must, OfTable, EachIs, ListAt, Lists}
 use Rattle.rdm_fixture.specs.Parameters.{IsField, SaysParameter, IsParameter, greatest_said, low_in, high_in, start, flag, is_setting}
+use Rattle.rdm_fixture.specs.Starting.{SaysPresent, IsStarting}
 use Rattle.rdm_fixture.specs.Values.{number, language}
 use Rattle.rdm_fixture.specs.Outcomes.{IsOutcome}
-use Rattle.rdm_fixture.specs.Format.{IsPersonality, IsSlot, IsSensor, IsSelfTest, IsStatus, IsChoice, IsUnit, SubDevices, IsEstimates, EstimatesAt, IsWorkers, WorkersAt, LanguagesAt, IsProfile, IsFixture, parameter_named, IsLocking, AreLocks, all_locks, locked_pid}
+use Rattle.rdm_fixture.specs.Format.{IsPersonality, IsSlot, IsSensor, IsSelfTest, IsStatus, IsChoice, IsUnit, SubDevices, IsEstimates, EstimatesAt, IsWorkers, WorkersAt, LanguagesAt, IsProfile, SaysFixture, IsFixture, parameter_named, IsLocking, AreLocks, all_locks, locked_pid}
 
 -- what is said is one thing
 abbrev pub SaysOne : {S A : Type 0} → (S → A → Type 0) → Type 0
@@ -362,18 +364,39 @@ one_rule t x y p q = same_rule (one p.task q.task) (one p.value q.value) (one p.
 
 -- ---- the whole
 
-abbrev pub fixture_of : Uid → Profile → ArrayVec Rule 32 (Unit {0}) → Fixture
-fixture_of a0 a1 a2 = record { uid = a0; profile = a1; outcomes = a2 }
+abbrev pub starting_of : ℕ → ℕ → ℕ → ℕ → ArrayVec (Option ℤ) 8 (Unit {0}) → Starting
+starting_of a0 a1 a2 a3 a4 = record { device_hours = a0; lamp_hours = a1; lamp_strikes = a2; device_power_cycles = a3; presents = a4 }
 
-pub same_fixture : {a0 b0 : Uid} {a1 b1 : Profile} {a2 b2 : ArrayVec Rule 32 (Unit {0})}
-    → a0 ≡ b0 → a1 ≡ b1 → a2 ≡ b2
-    → fixture_of a0 a1 a2 ≡ fixture_of b0 b1 b2
-same_fixture e0 e1 e2 = rw (e0, e1, e2) refl
+pub same_starting : {a0 b0 a1 b1 a2 b2 a3 b3 : ℕ} {a4 b4 : ArrayVec (Option ℤ) 8 (Unit {0})}
+    → a0 ≡ b0 → a1 ≡ b1 → a2 ≡ b2 → a3 ≡ b3 → a4 ≡ b4
+    → starting_of a0 a1 a2 a3 a4 ≡ starting_of b0 b1 b2 b3 b4
+same_starting e0 e1 e2 e3 e4 = rw (e0, e1, e2, e3, e4) refl
 
-pub one_fixture : SaysOne IsFixture
-one_fixture t x y p q =
+one_present : SaysOne SaysPresent
+one_present t x y p q = one p q
+
+pub one_starting : SaysOne IsStarting
+one_starting t x y p q =
+    same_starting (one p.counted.device_hours q.counted.device_hours) (one p.counted.lamp_hours q.counted.lamp_hours)
+    (one p.counted.lamp_strikes q.counted.lamp_strikes) (one p.counted.device_power_cycles q.counted.device_power_cycles)
+    (ap (listed 8) (one_list t _ SaysPresent 0 8 _ _ one_present p.presents q.presents))
+
+abbrev pub fixture_of : Uid → Profile → ArrayVec Rule 32 (Unit {0}) → Starting → Fixture
+fixture_of a0 a1 a2 a3 = record { uid = a0; profile = a1; outcomes = a2; start = a3 }
+
+pub same_fixture : {a0 b0 : Uid} {a1 b1 : Profile} {a2 b2 : ArrayVec Rule 32 (Unit {0})} {a3 b3 : Starting}
+    → a0 ≡ b0 → a1 ≡ b1 → a2 ≡ b2 → a3 ≡ b3
+    → fixture_of a0 a1 a2 a3 ≡ fixture_of b0 b1 b2 b3
+same_fixture e0 e1 e2 e3 = rw (e0, e1, e2, e3) refl
+
+pub one_said_fixture : SaysOne SaysFixture
+one_said_fixture t x y p q =
     same_fixture (one p.own q.own) (one_profile t x.profile y.profile p.profile q.profile)
     (ap (listed 32) (one_list t _ IsOutcome 0 32 _ _ one_rule p.outcomes q.outcomes))
+    (one_starting t x.start y.start p.start q.start)
+
+one_fixture : SaysOne IsFixture
+one_fixture t x y p q = one_said_fixture t x y p.said q.said
 
 pub one_text : SaysOne Describes
 one_text text x y p q =

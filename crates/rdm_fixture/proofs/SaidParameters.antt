@@ -12,7 +12,7 @@ use Rattle.rdm_device.specs.Device.OwnParameters.{is_addable, has_number, has_li
 use Rattle.toml.specs.Data.{Data, Members, get_member}
 use Rattle.rdm_fixture.specs.Describable.{are_printable, can_stand, limits_stand, is_sayable}
 use Rattle.rdm_fixture.specs.Keys.{may, must, Must, May, has_only, OfTable, Lists}
-use Rattle.rdm_fixture.specs.Parameters.{IsField, SaysParameter, IsParameter, parameter_keys, own_pid, command_class, least_of, greatest_of, limit, integer_from, low_in, high_in, shape_in, slots_of, spelled, start, start as starting, flag, is_setting}
+use Rattle.rdm_fixture.specs.Parameters.{IsField, SaysParameter, IsParameter, parameter_keys, own_pid, command_class, least_of, greatest_of, limit, integer_from, low_in, high_in, shape_in, slots_of, spelled, start, start as starting, flag, is_setting, can_reset}
 use Rattle.rdm_fixture.specs.Values.{number, text}
 use Rattle.rdm_fixture.proofs.NumberSlots.{le_through, le_same, least_greatest, in_shape, within_from}
 use Rattle.rdm_fixture.proofs.Starts.{IsSized, sized, spelled_slots, stands}
@@ -121,11 +121,11 @@ sayable t d is =
     let h = is.said in
     let low = low_fits d.shape (get_member (codes "minimum_valid_value") t) d.low h.low in
     let high = high_fits d.shape d.low (get_member (codes "maximum_valid_value") t) d.high low.1 h.high in
-    and_from (limits_stand d) (can_stand d.shape d.start && are_printable d.name)
+    and_from (limits_stand d) (can_stand d.shape d.start && (are_printable d.name && can_reset d))
     (and_from (int_le (least_of d.shape) d.low) (int_le d.low d.high && int_le d.high (greatest_of d.shape)) low.0
     (and_from (int_le d.low d.high) (int_le d.high (greatest_of d.shape)) high.0 high.1))
-    (and_from (can_stand d.shape d.start) (are_printable d.name) (start_stands d.shape d.low d.high (get_member (codes "default_value") t) d.start h.start)
-    (printable_at t (codes "description") d.name h.name))
+    (and_from (can_stand d.shape d.start) (are_printable d.name && can_reset d) (start_stands d.shape d.low d.high (get_member (codes "default_value") t) d.start h.start)
+    (and_from (are_printable d.name) (can_reset d) (printable_at t (codes "description") d.name h.name) is.reset))
 
 -- the parts of a parameter, one by one
 parameter_is : (t : Members) (pid : ℕ) (rights : Rights) (shape : Shape) (low high : ℤ) (fields : ArrayVec Field 8 (Unit {0})) (start : List ℕ) (unit prefix : ℕ) (resets : Bool) (name : List ℕ)

@@ -1,5 +1,5 @@
 -- What is written of the entries of lists.
-use Rattle.std.proofs.Common.{◌≡◌, false, ℕ, ◌≤◌, ◌<◌, ℤ, pos, neg_ℤ, List, [], ◌∷◌, Option, Some, refl, sym, subst, arith, codes}
+use Rattle.std.proofs.Common.{◌≡◌, false, ℕ, ◌≤◌, ◌<◌, ℤ, pos, neg_ℤ, List, [], ◌∷◌, Option, Some, None, refl, sym, ap, ◌∙◌, subst, arith, codes}
 use Rattle.rdm_device.specs.declared.profile.choices.ChoiceName.{ChoiceName}
 use Rattle.rdm_device.specs.declared.profile.estimates.Estimates.{Estimates}
 use Rattle.rdm_device.specs.declared.profile.locks.Lock.{Lock}
@@ -16,10 +16,11 @@ use Rattle.toml.specs.Data.{Data, integer, boolean, table, get_member}
 use Rattle.rdm_fixture.specs.Format.{IsPersonality, IsSlot, IsSensor, IsSelfTest, IsStatus, IsChoice, IsLocking, locked_pid, IsEstimates, IsWorkers, estimates_keys, workers_keys, personality_keys, slot_keys, sensor_keys, self_test_keys, status_keys, choice_keys, locking_keys}
 use Rattle.rdm_fixture.specs.Keys.{may, ListAt}
 use Rattle.rdm_fixture.specs.Parameters.{flag}
+use Rattle.rdm_fixture.specs.Starting.{measured, SaysPresent}
 use Rattle.rdm_fixture.specs.Values.{number, worker, signed, text}
 use Rattle.rdm_fixture.specs.Writing.{text_field, locking_of, IsPlain}
 use Rattle.rdm_fixture.proofs.Fields.{Field, members_from, get_from, only_from, plain_from}
-use Rattle.rdm_fixture.proofs.Said.{number_says, must_say, may_say, may_text, number_plain, flag_plain, text_plain}
+use Rattle.rdm_fixture.proofs.Said.{number_says, must_say, may_say, may_text, or_none, number_plain, flag_plain, text_plain, option_plain}
 
 -- ---- slots
 
@@ -57,18 +58,22 @@ slot_plain s = plain_from 0 (slot_fields s) (text_plain 0 (codes "description") 
 
 -- ---- sensors
 
-abbrev pub sensor_fields : SensorDef → List Field
-sensor_fields s =
-    (codes "answered_at_once", Some (boolean s.at_once)) ∷ (codes "description", text_field s.name)
+abbrev pub sensor_fields : SensorDef → Option Data → List Field
+sensor_fields s given =
+    (codes "present", given) ∷ (codes "answered_at_once", Some (boolean s.at_once)) ∷ (codes "description", text_field s.name)
     ∷ (codes "recorded_value_support", Some (integer (pos s.support)))
     ∷ (codes "normal_maximum_value", Some (integer s.normal_high)) ∷ (codes "normal_minimum_value", Some (integer s.normal_low))
     ∷ (codes "range_maximum_value", Some (integer s.high)) ∷ (codes "range_minimum_value", Some (integer s.low))
     ∷ (codes "prefix", Some (integer (pos s.prefix))) ∷ (codes "unit", Some (integer (pos s.unit)))
     ∷ (codes "type", Some (integer (pos s.kind))) ∷ []
 
-pub sensor_says : (s : SensorDef) → says_byte s.kind → says_byte s.unit → says_byte s.prefix → says_signed s.low → says_signed s.high
-    → says_signed s.normal_low → says_signed s.normal_high → says_byte s.support → says_text s.name → IsSensor (members_from (sensor_fields s)) s
-sensor_says s kind unit prefix low high normal_low normal_high support name = let fs = sensor_fields s in record {
+pub present_says : (s : SensorDef) (given : Option Data) (present : Option ℤ) → may None measured given ≡ Some present
+    → SaysPresent (members_from (sensor_fields s given)) present
+present_says s given present is = ap (may None measured) (get_from (codes "present") (sensor_fields s given) ∙ or_none given) ∙ is
+
+pub sensor_says : (s : SensorDef) (given : Option Data) → says_byte s.kind → says_byte s.unit → says_byte s.prefix → says_signed s.low → says_signed s.high
+    → says_signed s.normal_low → says_signed s.normal_high → says_byte s.support → says_text s.name → IsSensor (members_from (sensor_fields s given)) s
+sensor_says s given kind unit prefix low high normal_low normal_high support name = let fs = sensor_fields s given in record {
   keys = only_from sensor_keys fs refl;
   kind = must_say (codes "type") fs (number 0 0xFF) _ _ refl kind;
   unit = may_say (codes "unit") fs 0 (number 0 0xFF) _ _ refl unit;
@@ -82,10 +87,10 @@ sensor_says s kind unit prefix low high normal_low normal_high support name = le
   at_once = may_say (codes "answered_at_once") fs false flag _ _ refl refl;
 }
 
-pub sensor_plain : (s : SensorDef) → IsPlain 1 (table (members_from (sensor_fields s)))
-sensor_plain s =
-    plain_from 0 (sensor_fields s)
-    (flag_plain 0 _, text_plain 0 (codes "description") s.name _ (number_plain 0 _, (number_plain 0 _, (number_plain 0 _, (number_plain 0 _, (number_plain 0 _, (number_plain 0 _, (number_plain 0 _, (number_plain 0 _, tt)))))))))
+pub sensor_plain : (s : SensorDef) (given : Option Data) → ((d : Data) → given ≡ Some d → IsPlain 0 d) → IsPlain 1 (table (members_from (sensor_fields s given)))
+sensor_plain s given is =
+    plain_from 0 (sensor_fields s given)
+    (option_plain 0 (codes "present") given _ is (flag_plain 0 _, text_plain 0 (codes "description") s.name _ (number_plain 0 _, (number_plain 0 _, (number_plain 0 _, (number_plain 0 _, (number_plain 0 _, (number_plain 0 _, (number_plain 0 _, (number_plain 0 _, tt))))))))))
 
 -- ---- names of choices
 

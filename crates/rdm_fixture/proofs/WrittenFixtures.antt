@@ -11,10 +11,11 @@ use Rattle.toml.specs.View.{view, items_view}
 use Rattle.toml.specs.declared.value.Value.{Value}
 use Rattle.rdm_fixture.specs.declared.fixture.Fixture.{Fixture}
 use Rattle.rdm_fixture.specs.Describable.{CanBeDescribed}
-use Rattle.rdm_fixture.specs.Format.{IsFixture, IsUnit, IsSlot, IsSensor, IsSelfTest, IsStatus, IsChoice, IsLocking, SubDevices, EstimatesAt, WorkersAt, LanguagesAt, slot_count, root_slots, parameter_named, unit_keys, fixture_keys}
+use Rattle.rdm_fixture.specs.Format.{IsFixture, IsUnit, IsSlot, IsSensor, IsSelfTest, IsStatus, IsChoice, IsLocking, SubDevices, EstimatesAt, WorkersAt, LanguagesAt, slot_count, root_slots, parameter_named, unit_keys, root_keys, fixture_keys}
 use Rattle.rdm_fixture.specs.Keys.{may, must, has_only, EachIs, ListAt, OfTable}
 use Rattle.rdm_fixture.specs.Outcomes.{IsOutcome}
 use Rattle.rdm_fixture.specs.Parameters.{IsParameter}
+use Rattle.rdm_fixture.specs.Starting.{IsCounted, SaysPresent}
 use Rattle.rdm_fixture.specs.Values.{number, text, uid, own_uid, language}
 use Rattle.rdm_fixture.specs.Writing.{with_field, text_field, locking_of, IsPlain}
 use Rattle.rdm_fixture.proofs.Fields.{Field, members_on, find_on, or_else, get_on, only_on, absent, plain_on}
@@ -23,7 +24,7 @@ use Rattle.rdm_fixture.proofs.Locks.{locks_written, locks_again, map_count}
 use Rattle.rdm_fixture.proofs.Made.{all_slots}
 use Rattle.rdm_fixture.proofs.Said.{number_says, number_plain, text_plain, option_plain}
 use Rattle.rdm_fixture.proofs.WrittenEntries.{says_long, says_text}
-use Rattle.rdm_fixture.proofs.WrittenUnits.{unit_kept, wider}
+use Rattle.rdm_fixture.proofs.WrittenUnits.{kept, unit_kept, wider}
 
 -- ---- the UID
 
@@ -102,11 +103,12 @@ module _ (f : Fixture) (base : Members) (uid_data languages : Data) (slots senso
       → get_member key (members_on base fixture_fields) ≡ o
   found key o is none = get_on base key fixture_fields ∙ is ∙ or_absent o (get_member key base) none
 
-  pub fixture_says : CanBeDescribed f → IsTrue (has_only unit_keys base) → ((slots : ℕ) → slots ≡ min 512 (length f.profile.slots.items + f.profile.particulars.more_slots) → IsUnit slots base f.profile.root)
+  pub fixture_says : CanBeDescribed f → IsTrue (has_only root_keys base) → IsCounted base f.start → ((slots : ℕ) → slots ≡ min 512 (length f.profile.slots.items + f.profile.particulars.more_slots) → IsUnit slots base f.profile.root)
       → uid uid_data ≡ Some f.uid → says_long f.profile.boot → says_text f.profile.boot_text
       → LanguagesAt (Some languages) f.profile.languages.items
       → ListAt (OfTable IsSlot) slots f.profile.slots.items → length f.profile.slots.items ≤ 46
       → ListAt (OfTable IsSensor) sensors f.profile.sensors.items → length f.profile.sensors.items ≤ 8
+      → ListAt (OfTable SaysPresent) sensors f.start.presents.items
       → ListAt (OfTable IsSelfTest) tests f.profile.tests.items → length f.profile.tests.items ≤ 8
       → ListAt (OfTable IsStatus) statuses f.profile.status_texts.items → length f.profile.status_texts.items ≤ 8
       → ListAt (λ d pid. parameter_named d ≡ Some pid) lacks f.profile.particulars.without.items → length f.profile.particulars.without.items ≤ 36
@@ -117,10 +119,10 @@ module _ (f : Fixture) (base : Members) (uid_data languages : Data) (slots senso
       → ((n : ℕ) (t : Members) → IsUnit n t f.profile.root → SubDevices n t subs f.profile.subs f.profile.sub)
       → EstimatesAt times f.profile.particulars.estimates → WorkersAt chosen f.profile.workers
       → IsFixture (members_on base fixture_fields) f
-  fixture_says can only root own boot boot_text langs slot slot_fit sensor sensor_fit test test_fit status status_fit lacked lacked_fit added added_fit named named_fit lock lock_fit outcome outcome_fit sub time worker =
+  fixture_says can only counted root own boot boot_text langs slot slot_fit sensor sensor_fit present test test_fit status status_fit lacked lacked_fit added added_fit named named_fit lock lock_fit outcome outcome_fit sub time worker =
       let fs = fixture_fields in
       let t = members_on base fs in
-      let at_slot : get_member (codes "slot") t ≡ slots = found (codes "slot") slots refl (absent unit_keys (codes "slot") base only refl) in
+      let at_slot : get_member (codes "slot") t ≡ slots = found (codes "slot") slots refl (absent root_keys (codes "slot") base only refl) in
       let count : slot_count (get_member (codes "slot") t) ≡ length f.profile.slots.items =
       ap slot_count at_slot ∙ sym (slot_count-of (OfTable IsSlot) slots f.profile.slots.items slot) in
       let more : may 0 (number 0 512) (get_member (codes "more_slots") t) ≡ Some f.profile.particulars.more_slots =
@@ -128,51 +130,67 @@ module _ (f : Fixture) (base : Members) (uid_data languages : Data) (slots senso
       let all : root_slots t ≡ min 512 (length f.profile.slots.items + f.profile.particulars.more_slots) = all_slots _ _ _ _ more count in
       let unit : IsUnit (root_slots t) t f.profile.root =
       unit_kept base fs _ f.profile.root refl refl refl refl refl refl refl refl refl (root _ all) in
-      let at_sub : get_member (codes "sub_devices") t ≡ subs = found (codes "sub_devices") subs refl (absent unit_keys (codes "sub_devices") base only refl) in
+      let at_sub : get_member (codes "sub_devices") t ≡ subs = found (codes "sub_devices") subs refl (absent root_keys (codes "sub_devices") base only refl) in
       let good = can.made.1 in
       let few = good.presets in
       record {
         keys = only_on fixture_keys base fs
             (wider (codes "uid" ∷ codes "boot_software_version_id" ∷ codes "boot_software_version_label" ∷ codes "languages" ∷ codes "presets"
             ∷ codes "more_slots" ∷ codes "slot" ∷ codes "sensor" ∷ codes "self_test" ∷ codes "status" ∷ codes "without" ∷ codes "parameter" ∷ codes "choice" ∷ codes "lock" ∷ codes "outcome"
-            ∷ codes "sub_devices" ∷ codes "estimates" ∷ codes "workers" ∷ []) unit_keys base only) refl;
-        own = ap (must uid) (get_on base (codes "uid") fs) ∙ own;
-        profile = record {
-          root = unit;
-          sub = rw at_sub (sub _ t unit);
-          boot = ap (may 0 (number 0 0xFFFFFFFF)) (get_on base (codes "boot_software_version_id") fs) ∙ boot;
-          boot_text = ap (may [] text) (found (codes "boot_software_version_label") (text_field f.profile.boot_text) refl
-              (absent unit_keys (codes "boot_software_version_label") base only refl)) ∙ boot_text;
-          languages = rw (get_on base (codes "languages") fs) langs;
-          slots = record { items = rw at_slot slot; enough = omega arith; fit = slot_fit };
-          sensors = record { items = rw (found (codes "sensor") sensors refl (absent unit_keys (codes "sensor") base only refl)) sensor; enough = omega arith; fit = sensor_fit };
-          tests = record { items = rw (found (codes "self_test") tests refl (absent unit_keys (codes "self_test") base only refl)) test; enough = omega arith; fit = test_fit };
-          tests_differ = good.tests_differ;
-          statuses = record { items = rw (found (codes "status") statuses refl (absent unit_keys (codes "status") base only refl)) status; enough = omega arith; fit = status_fit };
-          statuses_differ = good.statuses_differ;
-          presets = ap (may 0 (number 0 65534)) (get_on base (codes "presets") fs) ∙ number_says 0 65534 f.profile.presets (omega arith) (omega (arith, few));
-          more_slots = more;
-          without = record { items = rw (found (codes "without") lacks refl (absent unit_keys (codes "without") base only refl)) lacked; enough = omega arith; fit = lacked_fit };
-          may_lack = good.without;
-          own = record { items = rw (found (codes "parameter") owns refl (absent unit_keys (codes "parameter") base only refl)) added; enough = omega arith; fit = added_fit };
-          own_ascend = good.own.ascending;
-          choices = record { items = rw (found (codes "choice") names refl (absent unit_keys (codes "choice") base only refl)) named; enough = omega arith; fit = named_fit };
-          agree = good.own.agree;
-          locks = record {
-            states = map locking_of f.profile.particulars.locks;
-            tables = record {
-              items = rw (found (codes "lock") locks refl (absent unit_keys (codes "lock") base only refl)) (locks_written locks f.profile.particulars.locks lock);
-              enough = omega arith;
-              fit = rw (map_count f.profile.particulars.locks) lock_fit;
+            ∷ codes "sub_devices" ∷ codes "estimates" ∷ codes "workers" ∷ []) root_keys base only) refl;
+        said = record {
+          own = ap (must uid) (get_on base (codes "uid") fs) ∙ own;
+          profile = record {
+            root = unit;
+            sub = rw at_sub (sub _ t unit);
+            boot = ap (may 0 (number 0 0xFFFFFFFF)) (get_on base (codes "boot_software_version_id") fs) ∙ boot;
+            boot_text = ap (may [] text) (found (codes "boot_software_version_label") (text_field f.profile.boot_text) refl
+                (absent root_keys (codes "boot_software_version_label") base only refl)) ∙ boot_text;
+            languages = rw (get_on base (codes "languages") fs) langs;
+            slots = record { items = rw at_slot slot; enough = omega arith; fit = slot_fit };
+            sensors = record { items = rw (found (codes "sensor") sensors refl (absent root_keys (codes "sensor") base only refl)) sensor; enough = omega arith; fit = sensor_fit };
+            tests = record { items = rw (found (codes "self_test") tests refl (absent root_keys (codes "self_test") base only refl)) test; enough = omega arith; fit = test_fit };
+            tests_differ = good.tests_differ;
+            statuses = record { items = rw (found (codes "status") statuses refl (absent root_keys (codes "status") base only refl)) status; enough = omega arith; fit = status_fit };
+            statuses_differ = good.statuses_differ;
+            presets = ap (may 0 (number 0 65534)) (get_on base (codes "presets") fs) ∙ number_says 0 65534 f.profile.presets (omega arith) (omega (arith, few));
+            more_slots = more;
+            without = record { items = rw (found (codes "without") lacks refl (absent root_keys (codes "without") base only refl)) lacked; enough = omega arith; fit = lacked_fit };
+            may_lack = good.without;
+            own = record { items = rw (found (codes "parameter") owns refl (absent root_keys (codes "parameter") base only refl)) added; enough = omega arith; fit = added_fit };
+            own_ascend = good.own.ascending;
+            choices = record { items = rw (found (codes "choice") names refl (absent root_keys (codes "choice") base only refl)) named; enough = omega arith; fit = named_fit };
+            agree = good.own.agree;
+            locks = record {
+              states = map locking_of f.profile.particulars.locks;
+              tables = record {
+                items = rw (found (codes "lock") locks refl (absent root_keys (codes "lock") base only refl)) (locks_written locks f.profile.particulars.locks lock);
+                enough = omega arith;
+                fit = rw (map_count f.profile.particulars.locks) lock_fit;
+              };
+              locked = locks_again f.profile.particulars.locks;
+              few = lock_fit;
             };
-            locked = locks_again f.profile.particulars.locks;
-            few = lock_fit;
+            states = good.locks.states;
+            estimates = rw (found (codes "estimates") times refl (absent root_keys (codes "estimates") base only refl)) time;
+            workers = rw (found (codes "workers") chosen refl (absent root_keys (codes "workers") base only refl)) worker;
           };
-          states = good.locks;
-          estimates = rw (found (codes "estimates") times refl (absent unit_keys (codes "estimates") base only refl)) time;
-          workers = rw (found (codes "workers") chosen refl (absent unit_keys (codes "workers") base only refl)) worker;
+          outcomes = record { items = rw (found (codes "outcome") outcomes refl (absent root_keys (codes "outcome") base only refl)) outcome; enough = omega arith; fit = outcome_fit };
+          start = record {
+            counted = record {
+              device_hours = kept base fs (codes "device_hours") (may 0 (number 0 0xFFFFFFFF)) f.start.device_hours refl counted.device_hours;
+              lamp_hours = kept base fs (codes "lamp_hours") (may 0 (number 0 0xFFFFFFFF)) f.start.lamp_hours refl counted.lamp_hours;
+              lamp_strikes = kept base fs (codes "lamp_strikes") (may 0 (number 0 0xFFFFFFFF)) f.start.lamp_strikes refl counted.lamp_strikes;
+              device_power_cycles = kept base fs (codes "device_power_cycles") (may 0 (number 0 0xFFFFFFFF)) f.start.device_power_cycles refl counted.device_power_cycles;
+            };
+            presents = record {
+              items = rw (found (codes "sensor") sensors refl (absent root_keys (codes "sensor") base only refl)) present;
+              enough = omega arith;
+              fit = let same = can.presents in omega (arith, same, sensor_fit);
+            };
+          };
         };
-        outcomes = record { items = rw (found (codes "outcome") outcomes refl (absent unit_keys (codes "outcome") base only refl)) outcome; enough = omega arith; fit = outcome_fit };
+        works = can.works;
       }
 
   pub fixture_plain : IsPlain 5 (table base) → IsPlain 4 uid_data → IsPlain 4 languages

@@ -20,7 +20,7 @@ use Rattle.toml.specs.declared.value.Value.{Value}
 use Rattle.rdm_fixture.specs.Describable.{are_printable, can_stand, limits_stand, is_sayable}
 use Rattle.rdm_fixture.specs.Format.{parameter_named}
 use Rattle.rdm_fixture.specs.Keys.{must, EachIs, ListAt, OfTable}
-use Rattle.rdm_fixture.specs.Parameters.{IsField, field_keys, width, greatest_said, SaysParameter, IsParameter, parameter_keys, own_pid, command_class, data_type, slots_of, shape_in, least_of, greatest_of, limit, integer_from, start, flag, is_setting}
+use Rattle.rdm_fixture.specs.Parameters.{IsField, field_keys, width, greatest_said, SaysParameter, IsParameter, parameter_keys, own_pid, command_class, data_type, slots_of, shape_in, least_of, greatest_of, limit, integer_from, start, flag, is_setting, can_reset}
 use Rattle.rdm_fixture.specs.Values.{number}
 use Rattle.rdm_fixture.specs.Writing.{text_field, rights_name, shape_name, IsPlain}
 use Rattle.rdm_fixture.proofs.Fields.{Field, members_from, get_from, only_from, plain_from}
@@ -74,7 +74,7 @@ said_again : (d : ParameterDef) (numbers : Option Data) (given : Data) → IsTru
     → start d.shape d.low d.high given ≡ Some d.start → SaysParameter (members_from (parameter_fields d numbers given)) d
 said_again d numbers given free good said pid unit prefix name listed few starts =
     let fs = parameter_fields d numbers given in
-    let (limits, rest) = and_parts (limits_stand d) (can_stand d.shape d.start && are_printable d.name) said in
+    let (limits, rest) = and_parts (limits_stand d) (can_stand d.shape d.start && (are_printable d.name && can_reset d)) said in
     let (least, more) = and_parts (int_le (least_of d.shape) d.low) (int_le d.low d.high && int_le d.high (greatest_of d.shape)) limits in
     let (order, greatest) = and_parts (int_le d.low d.high) (int_le d.high (greatest_of d.shape)) more in
     let at_start : get_member (codes "default_value") (members_from fs) ≡ Some given = get_from (codes "default_value") fs in
@@ -101,6 +101,23 @@ said_again d numbers given free good said pid unit prefix name listed few starts
       name = may_text (codes "description") fs d.name refl name;
     }
 
+-- the parts of what a file asks of it
+pub start_stands : (d : ParameterDef) → IsTrue (is_sayable d) → IsTrue (can_stand d.shape d.start)
+start_stands d said =
+    let (limits, rest) = and_parts (limits_stand d) (can_stand d.shape d.start && (are_printable d.name && can_reset d)) said in
+    (and_parts (can_stand d.shape d.start) (are_printable d.name && can_reset d) rest).0
+
+last_stand : (d : ParameterDef) → IsTrue (is_sayable d) → IsTrue (are_printable d.name && can_reset d)
+last_stand d said =
+    let (limits, rest) = and_parts (limits_stand d) (can_stand d.shape d.start && (are_printable d.name && can_reset d)) said in
+    (and_parts (can_stand d.shape d.start) (are_printable d.name && can_reset d) rest).1
+
+pub name_stands : (d : ParameterDef) → IsTrue (is_sayable d) → IsTrue (are_printable d.name)
+name_stands d said = (and_parts (are_printable d.name) (can_reset d) (last_stand d said)).0
+
+reset_stands : (d : ParameterDef) → IsTrue (is_sayable d) → IsTrue (can_reset d)
+reset_stands d said = (and_parts (are_printable d.name) (can_reset d) (last_stand d said)).1
+
 pub parameter_says : (d : ParameterDef) (numbers : Option Data) (given : Data) → IsTrue (is_addable d.pid) → IsTrue (can_start d) → IsTrue (has_good_fields d)
     → IsTrue (follows d) → IsTrue (is_sayable d) → says_word d.pid → says_byte d.unit → says_byte d.prefix → says_text d.name
     → ListAt (OfTable IsField) numbers d.fields.items → length d.fields.items ≤ 8
@@ -110,18 +127,8 @@ parameter_says d numbers given free good fields standard said pid unit prefix na
   fields = fields;
   start = good;
   standard = standard;
+  reset = reset_stands d said;
 }
-
--- the parts of what a file asks of it
-pub name_stands : (d : ParameterDef) → IsTrue (is_sayable d) → IsTrue (are_printable d.name)
-name_stands d said =
-    let (limits, rest) = and_parts (limits_stand d) (can_stand d.shape d.start && are_printable d.name) said in
-    (and_parts (can_stand d.shape d.start) (are_printable d.name) rest).1
-
-pub start_stands : (d : ParameterDef) → IsTrue (is_sayable d) → IsTrue (can_stand d.shape d.start)
-start_stands d said =
-    let (limits, rest) = and_parts (limits_stand d) (can_stand d.shape d.start && are_printable d.name) said in
-    (and_parts (can_stand d.shape d.start) (are_printable d.name) rest).0
 
 string_plain : (s : List ℕ) → IsPlain 0 (string s)
 string_plain s = record { shallow = omega arith; dates = refl }

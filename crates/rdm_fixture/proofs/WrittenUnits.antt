@@ -6,8 +6,10 @@ use Rattle.rdm_device.specs.declared.profile.Unit.{Unit as DeviceUnit}
 use Rattle.rdm_device.specs.Device.Profiles.{IsGoodUnit}
 use Rattle.toml.specs.Data.{Data, integer, table, Members, no_members, member, get_member}
 use Rattle.rdm_fixture.specs.Describable.{are_printable, HasPrintableUnit}
-use Rattle.rdm_fixture.specs.Format.{IsUnit, IsSub, IsPersonality, unit_keys}
+use Rattle.rdm_fixture.specs.Format.{IsUnit, IsSub, IsPersonality, unit_keys, root_keys}
 use Rattle.rdm_fixture.specs.Keys.{may, must, has_only, ListAt, OfTable}
+use Rattle.rdm_fixture.specs.declared.starting.Starting.{Starting}
+use Rattle.rdm_fixture.specs.Starting.{IsCounted, counter_keys}
 use Rattle.rdm_fixture.specs.Values.{number, text}
 use Rattle.rdm_fixture.specs.Writing.{text_field, IsPlain}
 use Rattle.rdm_fixture.proofs.Fields.{Field, members_on, members_from, find_on, get_on, get_from, only_on, only_from, plain_on, plain_from, and_two, first_true, second_true}
@@ -73,7 +75,7 @@ unit_plain u list is =
 -- ---- what is put beside a unit
 
 module _ (base : Members) (fs : List Field) where
-  kept : {A : Type 0} (key : List ℕ) (reads : Option Data → Option A) (x : A) → find_on base key fs ≡ get_member key base
+  pub kept : {A : Type 0} (key : List ℕ) (reads : Option Data → Option A) (x : A) → find_on base key fs ≡ get_member key base
       → reads (get_member key base) ≡ Some x → reads (get_member key (members_on base fs)) ≡ Some x
   kept key reads x same is = ap reads (get_on base key fs ∙ same) ∙ is
 
@@ -133,3 +135,28 @@ sub_says base count u few only is = let fs = sub_fields count in record {
 
 pub sub_plain : (base : Members) (count : ℕ) → IsPlain 3 (table base) → IsPlain 3 (table (members_on base (sub_fields count)))
 sub_plain base count is = plain_on 2 base (sub_fields count) is (number_plain 2 _, tt)
+
+-- ---- what the counters show
+
+abbrev pub counter_fields : Starting → List Field
+counter_fields s =
+    (codes "device_power_cycles", Some (integer (pos s.device_power_cycles))) ∷ (codes "lamp_strikes", Some (integer (pos s.lamp_strikes)))
+    ∷ (codes "lamp_hours", Some (integer (pos s.lamp_hours))) ∷ (codes "device_hours", Some (integer (pos s.device_hours))) ∷ []
+
+pub root_says : (base : Members) (s : Starting) (slots : ℕ) (u : DeviceUnit) → IsUnit slots base u → IsUnit slots (members_on base (counter_fields s)) u
+root_says base s slots u is = unit_kept base (counter_fields s) slots u refl refl refl refl refl refl refl refl refl is
+
+pub root_counted : (base : Members) (s : Starting) → says_long s.device_hours → says_long s.lamp_hours → says_long s.lamp_strikes → says_long s.device_power_cycles
+    → IsCounted (members_on base (counter_fields s)) s
+root_counted base s device lamp strikes cycles = let fs = counter_fields s in record {
+  device_hours = ap (may 0 (number 0 0xFFFFFFFF)) (get_on base (codes "device_hours") fs) ∙ device;
+  lamp_hours = ap (may 0 (number 0 0xFFFFFFFF)) (get_on base (codes "lamp_hours") fs) ∙ lamp;
+  lamp_strikes = ap (may 0 (number 0 0xFFFFFFFF)) (get_on base (codes "lamp_strikes") fs) ∙ strikes;
+  device_power_cycles = ap (may 0 (number 0 0xFFFFFFFF)) (get_on base (codes "device_power_cycles") fs) ∙ cycles;
+}
+
+pub root_only : (base : Members) (s : Starting) → IsTrue (has_only unit_keys base) → IsTrue (has_only root_keys (members_on base (counter_fields s)))
+root_only base s only = only_on root_keys base (counter_fields s) (wider counter_keys unit_keys base only) refl
+
+pub root_plain : (base : Members) (s : Starting) → IsPlain 3 (table base) → IsPlain 3 (table (members_on base (counter_fields s)))
+root_plain base s is = plain_on 2 base (counter_fields s) is (number_plain 2 _, (number_plain 2 _, (number_plain 2 _, (number_plain 2 _, tt))))

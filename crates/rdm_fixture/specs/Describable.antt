@@ -1,5 +1,5 @@
 -- Which fixtures a file can describe, condition by condition.
-use Rattle.std.specs.Prelude.{◌≡◌, ℕ, ◌/◌, ◌%◌, ◌≤◌, Bool, true, false, ◌&&◌, IsTrue, List, Option, Some, None, All, nat_le, int_le}
+use Rattle.std.specs.Prelude.{◌≡◌, ℕ, ◌/◌, ◌%◌, ◌≤◌, Bool, true, false, ◌&&◌, IsTrue, List, length, Option, Some, None, All, nat_le, int_le}
 use Rattle.std.specs.List.{list_all}
 use Rattle.rdm_frame.specs.Addressing.{is_broadcast}
 use Rattle.rdm_device.specs.declared.profile.Profile.{Profile}
@@ -15,8 +15,9 @@ use Rattle.rdm_params.specs.declared.jobs.status.Severity.TheVariants.{Advisory,
 use Rattle.rdm_outcomes.specs.declared.rule.Rule.{Rule}
 use Rattle.rdm_outcomes.specs.Outcomes.{suits}
 use Rattle.rdm_fixture.specs.declared.fixture.Fixture.{Fixture}
-use Rattle.rdm_fixture.specs.Parameters.{least_of, greatest_of}
+use Rattle.rdm_fixture.specs.Parameters.{least_of, greatest_of, can_reset}
 use Rattle.rdm_fixture.specs.Values.{is_printable, is_letter}
+use Rattle.rdm_fixture.specs.Working.{CanWork}
 
 -- ---- texts
 
@@ -56,7 +57,7 @@ limits_stand d = int_le (least_of d.shape) d.low && (int_le d.low d.high && int_
 
 -- a parameter can stand in a file
 abbrev pub is_sayable : ParameterDef → Bool
-is_sayable d = limits_stand d && (can_stand d.shape d.start && are_printable d.name)
+is_sayable d = limits_stand d && (can_stand d.shape d.start && (are_printable d.name && can_reset d))
 
 -- ---- languages and outcomes
 
@@ -94,3 +95,5 @@ pub record CanBeDescribed (f : Fixture) : Type 0 where
   pub texts : HasPrintableTexts f.profile
   pub languages : All (λ l. IsTrue (is_coded l)) f.profile.languages.items
   pub outcomes : All (λ r. IsTrue (is_ruled r)) f.outcomes.items
+  pub presents : length f.start.presents.items ≡ length f.profile.sensors.items
+  pub works : CanWork f

@@ -18,17 +18,20 @@ use Rattle.rdm_params.specs.declared.jobs.outcome.Outcome.{Outcome}
 use Rattle.rdm_params.specs.declared.jobs.outcome.Outcome.TheVariants.{Done, Reading, Failed}
 use Rattle.rdm_outcomes.specs.declared.rule.Task.{Task}
 use Rattle.rdm_outcomes.specs.Outcomes as rules
+use Rattle.rdm_fixture.specs.declared.fixture.Fixture.{Fixture}
 use Rattle.rdm_fixture.specs.declared.profile.locks.Locking.{Locking}
 use Rattle.rdm_fixture.specs.declared.refusal.Agreement.TheVariants as agreements
 use Rattle.rdm_fixture.specs.declared.refusal.Wanted.{Wanted}
 use Rattle.rdm_fixture.specs.declared.refusal.Wanted.TheVariants as wanted
 use Rattle.rdm_fixture.specs.declared.refusal.Section.TheVariants as sections
 use Rattle.rdm_fixture.specs.Faults.{Fault, fault, in_entry, in_section}
-use Rattle.rdm_fixture.specs.Format.{IsPersonality, IsSlot, IsSensor, IsSelfTest, IsStatus, IsChoice, IsLocking, AreLocks, all_locks, IsUnit, SubDevices, EstimatesAt, WorkersAt, LanguagesAt, IsProfile, personality_keys, slot_keys, sensor_keys, self_test_keys, status_keys, choice_keys, locking_keys, locked_pid, estimates_keys, workers_keys, unit_keys, fixture_keys, root_slots, parameter_named}
+use Rattle.rdm_fixture.specs.Format.{IsPersonality, IsSlot, IsSensor, IsSelfTest, IsStatus, IsChoice, IsLocking, AreLocks, all_locks, IsUnit, SubDevices, EstimatesAt, WorkersAt, LanguagesAt, IsProfile, SaysFixture, personality_keys, slot_keys, sensor_keys, self_test_keys, status_keys, choice_keys, locking_keys, locked_pid, estimates_keys, workers_keys, unit_keys, fixture_keys, root_slots, parameter_named}
 use Rattle.rdm_fixture.specs.Keys.{must, has_only, OfTable, EachIs, Lists, items_count}
 use Rattle.rdm_fixture.specs.Outcomes.{IsOutcome, task, severity, outcome_in, and_job_keys, rule_keys}
-use Rattle.rdm_fixture.specs.Parameters.{IsField, SaysParameter, IsParameter, parameter_keys, own_pid, command_class, data_type, slots_of, shape_in, least_of, greatest_of, limit, integer_from, low_in, high_in, start, flag}
+use Rattle.rdm_fixture.specs.Parameters.{IsField, SaysParameter, IsParameter, parameter_keys, own_pid, command_class, data_type, slots_of, shape_in, least_of, greatest_of, limit, integer_from, low_in, high_in, start, flag, can_reset}
+use Rattle.rdm_fixture.specs.Starting.{measured, SaysPresent, IsStarting}
 use Rattle.rdm_fixture.specs.Values.{within, number, worker, language, uid}
+use Rattle.rdm_fixture.specs.Working.{CanWork, IsIdle}
 use Rattle.rdm_fixture.specs.Wrong.{Part, FirstWrong, says_one, given, FirstOther, only, needed_as, needed, free, needed_number, free_number, free_signed, free_text, entries}
 
 -- ---- the entries of lists
@@ -134,7 +137,8 @@ abbrev pub parameter_parts : List Part
 parameter_parts =
     says_one SaysParameter (FirstWrong said_parts) ∷ tested (codes "fields") has_good_fields (wanted.Agreement agreements.AllSlots)
     ∷ tested (codes "default_value") can_start (wanted.Agreement agreements.Start)
-    ∷ tested (codes "pid") follows (wanted.Agreement agreements.Standard) ∷ []
+    ∷ tested (codes "pid") follows (wanted.Agreement agreements.Standard)
+    ∷ tested (codes "factory_defaults") can_reset (wanted.Agreement agreements.Reset) ∷ []
 
 -- ---- how jobs end
 
@@ -359,7 +363,21 @@ profile_parts =
     ∷ entries (codes "status") IsStatus (FirstWrong status_parts) 0 8 ∷ differing (codes "status") (codes "id") IsStatus (λ a. a.id)
     ∷ names ∷ optional ∷ unneeded ∷ (added_parts ++ (times ∷ choice ∷ []))
 
+-- what it is switched on with
+abbrev pub present_parts : List Part
+present_parts = free (codes "present") measured (wanted.Number (neg_ℤ (pos 32768)) (pos 32767)) ∷ []
+
+abbrev pub starting_parts : List Part
+starting_parts =
+    free_number (codes "device_hours") 0 0xFFFFFFFF ∷ free_number (codes "lamp_hours") 0 0xFFFFFFFF
+    ∷ free_number (codes "lamp_strikes") 0 0xFFFFFFFF ∷ free_number (codes "device_power_cycles") 0 0xFFFFFFFF
+    ∷ entries (codes "sensor") SaysPresent (FirstWrong present_parts) 0 8 ∷ []
+
+-- nothing is said in vain
+abbrev pub working : Part
+working = says_one (λ t f. SaysFixture t f × CanWork f) (λ t e. (f : Fixture) × SaysFixture t f × IsIdle f e)
+
 abbrev pub fixture_parts : List Part
 fixture_parts =
     only fixture_keys ∷ needed (codes "uid") uid wanted.Uid ∷ says_one IsProfile (FirstWrong profile_parts)
-    ∷ entries (codes "outcome") IsOutcome (FirstWrong rule_parts) 0 32 ∷ []
+    ∷ entries (codes "outcome") IsOutcome (FirstWrong rule_parts) 0 32 ∷ says_one IsStarting (FirstWrong starting_parts) ∷ working ∷ []

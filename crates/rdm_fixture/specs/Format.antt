@@ -23,6 +23,8 @@ use Rattle.rdm_fixture.specs.declared.fixture.Fixture.{Fixture}
 use Rattle.rdm_fixture.specs.declared.profile.locks.Locking.{Locking}
 use Rattle.rdm_fixture.specs.Outcomes.{IsOutcome}
 use Rattle.rdm_fixture.specs.Parameters.{IsParameter, flag}
+use Rattle.rdm_fixture.specs.Starting.{IsStarting, counter_keys}
+use Rattle.rdm_fixture.specs.Working.{CanWork}
 use Rattle.rdm_fixture.specs.Values.{number, worker, signed, text, language, uid}
 use Rattle.rdm_fixture.specs.Keys.{may, Must, May, has_only, OfTable, EachIs, Lists, items_count}
 
@@ -52,9 +54,9 @@ abbrev pub sensor_keys : List (List ℕ)
 sensor_keys =
     codes "type" ∷ codes "unit" ∷ codes "prefix" ∷ codes "range_minimum_value" ∷ codes "range_maximum_value"
     ∷ codes "normal_minimum_value" ∷ codes "normal_maximum_value" ∷ codes "recorded_value_support"
-    ∷ codes "description" ∷ codes "answered_at_once" ∷ []
+    ∷ codes "description" ∷ codes "answered_at_once" ∷ codes "present" ∷ []
 
--- Sections 10.7.1 and 10.7.2.
+-- What it measures is no part of what it is. Sections 10.7.1 and 10.7.2.
 pub record IsSensor (t : Members) (s : SensorDef) : Type 0 where
   pub keys : IsTrue (has_only sensor_keys t)
   pub kind : Must t (codes "type") (number 0 0xFF) s.kind
@@ -223,12 +225,16 @@ LanguagesAt None xs = xs ≡ 0x656E ∷ []
 LanguagesAt (Some (array ds)) xs = (1 ≤ length xs) × (length xs ≤ 8) × EachIs (λ d x. language d ≡ Some x) ds xs
 LanguagesAt (Some _) xs = ⊥
 
+-- the keys of the root
+abbrev pub root_keys : List (List ℕ)
+root_keys = counter_keys ++ unit_keys
+
 abbrev pub fixture_keys : List (List ℕ)
 fixture_keys =
     codes "uid" ∷ codes "boot_software_version_id" ∷ codes "boot_software_version_label" ∷ codes "languages"
     ∷ codes "presets" ∷ codes "more_slots" ∷ codes "slot" ∷ codes "sensor" ∷ codes "self_test" ∷ codes "status"
     ∷ codes "without" ∷ codes "parameter" ∷ codes "choice" ∷ codes "lock" ∷ codes "outcome" ∷ codes "sub_devices"
-    ∷ codes "estimates" ∷ codes "workers" ∷ unit_keys
+    ∷ codes "estimates" ∷ codes "workers" ∷ root_keys
 
 -- What the devices are made with. The parameters that it adds are in the order of their PIDs, and each thing of which one is chosen has a
 -- name. LOCK_STATE has each state that locks something. Those that the fixture lacks are ones that it may lack, and none that another one
@@ -258,8 +264,15 @@ pub record IsProfile (t : Members) (p : Profile) : Type 0 where
   pub estimates : EstimatesAt (get_member (codes "estimates") t) p.particulars.estimates
   pub workers : WorkersAt (get_member (codes "workers") t) p.workers
 
-pub record IsFixture (t : Members) (f : Fixture) : Type 0 where
-  pub keys : IsTrue (has_only fixture_keys t)
+-- What its keys say.
+pub record SaysFixture (t : Members) (f : Fixture) : Type 0 where
   pub own : Must t (codes "uid") uid f.uid
   pub profile : IsProfile t f.profile
   pub outcomes : Lists t (codes "outcome") (OfTable IsOutcome) 0 32 f.outcomes.items
+  pub start : IsStarting t f.start
+
+-- It has no other key, and says nothing in vain.
+pub record IsFixture (t : Members) (f : Fixture) : Type 0 where
+  pub keys : IsTrue (has_only fixture_keys t)
+  pub said : SaysFixture t f
+  pub works : CanWork f

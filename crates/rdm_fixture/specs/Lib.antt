@@ -2,6 +2,8 @@ pub mod Values
 pub mod Keys
 pub mod Outcomes
 pub mod Parameters
+pub mod Starting
+pub mod Working
 pub mod Format
 pub mod Drafts
 pub mod Describes

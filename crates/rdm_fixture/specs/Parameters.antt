@@ -1,6 +1,6 @@
 -- Which table is a parameter that a profile adds: one of the maker's own, or one of the standards'. A key is named as the field of
 -- PARAMETER_DESCRIPTION that it sets, in small letters; commands and types have the names of tables A-16 and A-15. E1.20 section 10.4.2.
-use Rattle.std.specs.Prelude.{◌≡◌, ℕ, ◌-◌, ◌/◌, ◌%◌, min, ℤ, pos, neg_ℤ, Bool, true, false, ◌&&◌, if◌then◌else◌, ◌==◌, nat_le, int_le, IsTrue, List, [], ◌∷◌, length, Option, Some, None, option_and_then, option_map, codes}
+use Rattle.std.specs.Prelude.{◌≡◌, ℕ, ◌-◌, ◌/◌, ◌%◌, min, ℤ, pos, neg_ℤ, Bool, true, false, ◌&&◌, ◌||◌, not, if◌then◌else◌, ◌==◌, nat_le, int_le, IsTrue, List, [], ◌∷◌, length, Option, Some, None, option_and_then, option_map, codes}
 use Rattle.std.specs.Int.{w64, cast_unsigned}
 use Rattle.std.specs.Str.{bytes_eq}
 use Rattle.toml.specs.Data.{Data, string, integer, boolean, Members, get_member}
@@ -187,6 +187,21 @@ is_setting rights.Both shapes.Block = false
 is_setting rights.Both _ = true
 is_setting _ shape = false
 
+-- whether there is a value that FACTORY_DEFAULTS can set back, and that is told or used afterwards: scenes, names and blocks have none
+-- of their own, and an order is never told; a PIN is, by what it opens
+abbrev pub is_told_back : Rights → Shape → Bool
+is_told_back _ shapes.Scenes = false
+is_told_back _ shapes.Names = false
+is_told_back _ shapes.Rates = false
+is_told_back _ shapes.Block = false
+is_told_back _ shapes.Pin = true
+is_told_back rights.Set _ = false
+is_told_back _ _ = true
+
+-- it is set back only if that changes something
+abbrev pub can_reset : ParameterDef → Bool
+can_reset d = not d.resets || is_told_back d.rights d.shape
+
 -- What the keys of a parameter say.
 pub record SaysParameter (t : Members) (d : ParameterDef) : Type 0 where
   pub keys : IsTrue (has_only parameter_keys t)
@@ -203,9 +218,10 @@ pub record SaysParameter (t : Members) (d : ParameterDef) : Type 0 where
   pub name : May t (codes "description") [] text d.name
 
 -- Its fields take all of its slots, if it has any; it starts with data of its form that say numbers in range; and if its PID is one of
--- E1.20 or E1.37-1, it has the commands and the data of that standard.
+-- E1.20 or E1.37-1, it has the commands and the data of that standard. FACTORY_DEFAULTS sets it back only if that changes something.
 pub record IsParameter (t : Members) (d : ParameterDef) : Type 0 where
   pub said : SaysParameter t d
   pub fields : IsTrue (has_good_fields d)
   pub start : IsTrue (can_start d)
   pub standard : IsTrue (follows d)
+  pub reset : IsTrue (can_reset d)

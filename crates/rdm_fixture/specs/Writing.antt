@@ -1,5 +1,5 @@
 -- What is put into a table that is written, and what TOML can write of it.
-use Rattle.std.specs.Prelude.{◌≡◌, ℕ, ◌≤◌, pos, true, List, [], ◌∷◌, Option, Some, None, codes}
+use Rattle.std.specs.Prelude.{◌≡◌, ℕ, ◌≤◌, pos, true, IsTrue, List, [], ◌∷◌, Option, Some, None, codes}
 use Rattle.std.specs.Ordering.{nat_cmp, match_ordering}
 use Rattle.std.specs.Cmp.Lexicographic.{slice_cmp}
 use Rattle.std.specs.Str.Lossy.{utf8_lossy}
@@ -12,7 +12,13 @@ use Rattle.rdm_device.specs.declared.profile.own.Shape.TheVariants as shapes
 use Rattle.rdm_params.specs.Jobs.Severities.{severity_name}
 use Rattle.rdm_params.specs.declared.jobs.outcome.Outcome.{Outcome}
 use Rattle.rdm_params.specs.declared.jobs.outcome.Outcome.TheVariants.{Done, Reading, Failed}
+use Rattle.rdm_device.specs.Device.Profiles.{IsGoodUnit}
+use Rattle.rdm_fixture.specs.declared.fixture.Fixture.{Fixture}
 use Rattle.rdm_fixture.specs.declared.profile.locks.Locking.{Locking}
+use Rattle.rdm_fixture.specs.Describable.{HasPrintableUnit}
+use Rattle.rdm_fixture.specs.Format.{IsUnit, root_keys}
+use Rattle.rdm_fixture.specs.Keys.{has_only}
+use Rattle.rdm_fixture.specs.Starting.{IsCounted}
 use Rattle.rdm_fixture.specs.Values.{number, signed}
 use Rattle.toml.specs.Data.{Data, string, integer, boolean, depth, has_valid_dates, Members, no_members, member}
 
@@ -99,3 +105,11 @@ HasWords Done = Unit {0}
 HasWords (Reading value) = signed (integer value) ≡ Some value
 HasWords (Failed severity id v1 v2) =
     (number 0 0xFFFF (integer (pos id)) ≡ Some id) × (number 0 0xFFFF (integer (pos v1)) ≡ Some v1) × (number 0 0xFFFF (integer (pos v2)) ≡ Some v2)
+
+-- ---- the root
+
+-- The table has what the root says of itself, and what its counters show, and nothing else.
+pub record IsRoot (t : Members) (f : Fixture) : Type 0 where
+  pub keys : IsTrue (has_only root_keys t)
+  pub unit : (slots : ℕ) → IsGoodUnit f.profile.root slots → HasPrintableUnit f.profile.root → IsUnit slots t f.profile.root
+  pub counted : IsCounted t f.start

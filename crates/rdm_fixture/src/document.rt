@@ -19,7 +19,9 @@ use crate::keys::{only, own_uid};
 use crate::line::with_line;
 use crate::lists::list;
 use crate::profile::{Added, Apart, profile};
+use crate::starting::values_at_start;
 use crate::unit::and_unit_keys;
+use crate::working::said_in_vain;
 use crate::{Fixture, Refusal};
 use rdm_device::{ChoiceNames, Locks, OwnParameters, Particular, Particulars, Profile};
 use std::alloc::{AllocError, Global};
@@ -87,6 +89,7 @@ fn set_apart(alloc: Global, fixture: Fixture, apart: Apart) -> Result<Fixture, A
         uid,
         profile,
         outcomes,
+        start,
     } = fixture;
     let particulars = particulars_of(alloc, apart)?;
     let profile = Profile {
@@ -97,6 +100,7 @@ fn set_apart(alloc: Global, fixture: Fixture, apart: Apart) -> Result<Fixture, A
         uid,
         profile,
         outcomes,
+        start,
     })
 }
 
@@ -152,16 +156,25 @@ fn fixture_of(table: &Table) -> Result<(Fixture, Apart), Refusal>
             "outcome",
             "sub_devices",
             "estimates",
-            "workers"
+            "workers",
+            "device_hours",
+            "lamp_hours",
+            "lamp_strikes",
+            "device_power_cycles"
         ),
     )?;
     let uid = own_uid(table, "uid")?;
     let (profile, apart) = profile(table)?;
     let outcomes = list(table, "outcome", 0, 0)?;
+    let start = values_at_start(table)?;
     let fixture = Fixture {
         uid,
         profile,
         outcomes,
+        start,
     };
-    Ok((fixture, apart))
+    match said_in_vain(&fixture, &apart) {
+        None => Ok((fixture, apart)),
+        Some(refusal) => Err(refusal),
+    }
 }

@@ -59,6 +59,7 @@ impl FromEntry for SensorDef {
                 "recorded_value_support",
                 "description",
                 "answered_at_once",
+                "present",
             ],
         )?;
         Ok(SensorDef {

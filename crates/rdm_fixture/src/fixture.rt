@@ -1,5 +1,6 @@
 //! What a file describes.
 
+use crate::starting::Starting;
 use arrayvec::ArrayVec;
 use rdm_device::Profile;
 use rdm_frame::Uid;
@@ -14,4 +15,6 @@ pub struct Fixture {
     pub profile: Profile,
     /// How the jobs of its slow commands end: the first rule that speaks of a job says it.
     pub outcomes: ArrayVec<Rule, MOST_RULES>,
+    /// What its counters and its sensors show when it is switched on.
+    pub start: Starting,
 }

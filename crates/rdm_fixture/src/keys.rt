@@ -119,7 +119,8 @@ pub(crate) fn signed_or(table: &Table, key: &str, default: i16) -> Result<i16, R
     }
 }
 
-fn signed_in(value: &Value, key: &str) -> Result<i16, Refusal>
+/// The signed number of 16 bits that a key holds.
+pub(crate) fn signed_in(value: &Value, key: &str) -> Result<i16, Refusal>
     ensures value { result_ok result ≡ says.signed (view value.now) }
     ensures wrong { IfErr result (λ e. told e ≡ fault key.now (wanted.Number (neg_ℤ (pos 32768)) (pos 32767))) }
 {

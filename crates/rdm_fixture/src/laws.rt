@@ -4,7 +4,7 @@ ghost use Rattle.std.specs.Prelude.{◌≡◌, ◌↔◌, ℕ, List, IsTrue};
 ghost use Rattle.rdm_fixture.specs.Describes.{Describes};
 ghost use Rattle.rdm_fixture.specs.Refusals.{IsSameEntry, IsSameRefusal};
 
-use crate::{Agreement, Entry, Fixture, Refusal, Section, Wanted, WriteError};
+use crate::{Agreement, Entry, Fixture, Refusal, Section, Starting, Wanted, WriteError};
 use rdm_device::profiles_are_equal_by_value;
 use rdm_frame::uids_are_equal_by_value;
 use rdm_outcomes::rules_are_equal_by_value;
@@ -14,13 +14,19 @@ pub fn text_describes_one_fixture()
     ensures { (text : List ℕ) (f g : Fixture) → Describes text f → Describes text g → f ≡ g }
 {}
 
-/// Two fixtures are equal by `==` exactly when their UIDs, their profiles and their outcomes are.
+/// Two values of `Starting` are equal by `==` exactly when they are the same.
+pub fn starts_are_equal_by_value()
+    ensures { (a b : Starting) → IsTrue (⟦<Starting as PartialEq>⟧.eq a b) ↔ (a ≡ b) }
+{}
+
+/// Two fixtures are equal by `==` exactly when their UIDs, their profiles, their outcomes and what they start with are.
 pub fn fixtures_are_equal_by_value()
     ensures { (f g : Fixture) → IsTrue (⟦<Fixture as PartialEq>⟧.eq f g) ↔ (f ≡ g) }
 {
     uids_are_equal_by_value();
     profiles_are_equal_by_value();
     rules_are_equal_by_value();
+    starts_are_equal_by_value();
 }
 
 /// Two values of `Wanted` are equal by `==` exactly when they are the same, bounds included.

@@ -44,6 +44,9 @@ impl FromEntry for ParameterDef {
         if !follows(&def) {
             return Err(Refusal::at("pid", Wanted::Agreement(Agreement::Standard)));
         }
+        if !can_reset(&def) {
+            return Err(Refusal::at("factory_defaults", Wanted::Agreement(Agreement::Reset)));
+        }
         Ok(def)
     }
 }
@@ -160,6 +163,24 @@ fn is_set_back(shape: Shape) -> bool
         shape,
         Shape::Scenes | Shape::Lock | Shape::Pin | Shape::Block
     )
+}
+
+/// Whether FACTORY_DEFAULTS sets it back only if that changes something.
+pub(crate) fn can_reset(def: &ParameterDef) -> bool
+    ensures { result ≡ says.can_reset def.now }
+{
+    !def.resets || is_told_back(def.rights, def.shape)
+}
+
+/// Whether there is a value to set back, and that is told or used afterwards.
+fn is_told_back(rights: Rights, shape: Shape) -> bool
+    ensures { result ≡ says.is_told_back rights shape }
+{
+    match shape {
+        Shape::Scenes | Shape::Names | Shape::Rates | Shape::Block => false,
+        Shape::Pin => true,
+        _ => !matches!(rights, Rights::Set),
+    }
 }
 
 // ---- its data

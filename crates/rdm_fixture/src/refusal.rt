@@ -85,6 +85,22 @@ pub enum Agreement {
     Locks,
     /// With LOCK_STATE: tables of states that it has (E1.37-1).
     States,
+    /// With LOCK_STATE: it can be read, and LOCK_PIN stands beside it (E1.37-1).
+    Opened,
+    /// With the root: it can be set what is locked, and what is locked can be opened again (E1.37-1).
+    Held,
+    /// With the data: `true` only where FACTORY_DEFAULTS has a value to set back (E1.20 section 10.5.6).
+    Reset,
+    /// With the fixture: a parameter that it has, and whose commands start jobs.
+    Lacked,
+    /// With the parameter: a value with which a command starts a job.
+    Unasked,
+    /// With the status IDs: one of the standard's, or one that the file describes (section 10.3.3).
+    Unexplained,
+    /// With the sensors: SENSOR_DEFINITION stays if there are some (section 10.7.1).
+    Sensors,
+    /// With the starting values: the parameters that show them stay.
+    Started,
 }
 
 /// An entry of a list.
@@ -318,6 +334,51 @@ fn write_agreement<W: fmt::Write>(
         ),
         Agreement::Locks => write!(f, "`{key}` names parameters more than 64 times in all"),
         Agreement::States => write!(f, "`{key}` tells of a state that LOCK_STATE hasn't"),
+        Agreement::Opened => write!(
+            f,
+            "`{key}` has LOCK_STATE, but it can't be read, or there is no LOCK_PIN beside it"
+        ),
+        Agreement::Held => write!(
+            f,
+            "`{key}` names LOCK_STATE, or a parameter that the root can't be set at once: one that it lacks, that has no SET, or that is slow"
+        ),
+        _ => write_vain(f, key, agreement),
+    }
+}
+
+/// What a key says in vain.
+fn write_vain<W: fmt::Write>(
+    f: &mut fmt::Formatter<W>,
+    key: &str,
+    agreement: Agreement,
+) -> fmt::Result {
+    match agreement {
+        Agreement::Reset => write!(
+            f,
+            "`{key}` can't be true: FACTORY_DEFAULTS has no value of this parameter to set back"
+        ),
+        Agreement::Lacked => write!(
+            f,
+            "`{key}` is one that starts no job here: the fixture lacks it, or answers each of its sensors at once"
+        ),
+        Agreement::Unasked => write!(
+            f,
+            "`{key}` is one with which no job starts: there is no such state, self test or sensor, or the sensor is answered at once"
+        ),
+        Agreement::Unexplained => {
+            write!(
+                f,
+                "`{key}` is one of the maker's own, and no [[status]] describes it"
+            )
+        }
+        Agreement::Sensors => write!(
+            f,
+            "`{key}` leaves out SENSOR_DEFINITION, but the file describes sensors"
+        ),
+        _ => write!(
+            f,
+            "`{key}` leaves out a parameter that the file gives a value to start with"
+        ),
     }
 }
 

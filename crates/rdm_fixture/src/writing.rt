@@ -13,6 +13,7 @@ mod entries;
 mod fields;
 mod parameters;
 mod rules;
+mod sensors;
 mod tables;
 mod units;
 

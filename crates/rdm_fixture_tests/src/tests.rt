@@ -8,6 +8,7 @@ mod parameters;
 mod refusals;
 mod spot;
 mod standards;
+mod starting;
 mod values;
 mod workers;
 mod writing;

@@ -1,45 +1,56 @@
 -- The line behind a controller's port, as a search sees it. E1.20 sections 7.5 and 7.6.
-use Rattle.std.specs.Prelude.{◌≡◌, ◌⊎◌, ℕ, zero, suc, ◌≤◌, List, [], Option, None, unwrap_or}
+use Rattle.std.specs.Prelude.{◌≡◌, ◌⊎◌, ℕ, zero, suc, ◌≤◌, false, List, [], Option, unwrap_or}
 use Rattle.rdm_frame.specs.declared.uid.Uid.{Uid}
+use Rattle.rdm_frame.specs.declared.frame.Frame.{Frame}
 use Rattle.rdm_frame.specs.FrameText.{frame_text}
 use Rattle.rdm_search.specs.declared.request.Request.{Request}
 use Rattle.rdm_search.specs.Line.{Fixture}
-use Rattle.rdm_search.specs.Losses.{IsKept, IsLost, IsPartly}
+use Rattle.rdm_search.specs.Losses.{is_answered, IsKept, IsLost}
 use Rattle.rdm_search.specs.Requests.{request_frame, IsRequest}
 
 -- ---- what is asked
 
--- These bytes are sent N times, and nothing is heard.
-abbrev pub AreSilent : {P : Type 0} → (P → List ℕ → Option (List ℕ) → P → Type 0) → ℕ → P → List ℕ → P → Type 0
-AreSilent hears zero before bytes after = after ≡ before
-AreSilent {P} hears (suc n) before bytes after = (mid : P) × AreSilent hears n before bytes mid × hears mid bytes None after
+-- Bytes are sent once, and this is heard: no bytes if nothing is.
+abbrev pub IsHeardOnce : {P : Type 0} → (P → List ℕ → Option (List ℕ) → P → Type 0) → P → P → List ℕ → List ℕ → Type 0
+IsHeardOnce hears before after bytes heard = (came : Option (List ℕ)) × hears before bytes came after × (heard ≡ unwrap_or came [])
 
--- Bytes are sent once, and up to N times again until something is heard: this is heard at last, no bytes if nothing is.
-pub record IsAskedAgain {P : Type 0} (hears : P → List ℕ → Option (List ℕ) → P → Type 0) (retries : ℕ) (before after : P) (bytes heard : List ℕ) : Type 0 where
+-- A frame is sent N times, and what is heard never answers it.
+abbrev pub IsUnanswered : {P : Type 0} → (P → List ℕ → Option (List ℕ) → P → Type 0) → Frame → ℕ → P → P → Type 0
+IsUnanswered hears frame zero before after = after ≡ before
+IsUnanswered {P} hears frame (suc n) before after =
+    (mid : P) × (heard : List ℕ) × IsUnanswered hears frame n before mid × IsHeardOnce hears mid after (frame_text frame) heard
+    × (is_answered frame heard ≡ false)
+
+-- A frame is sent once, and up to N times again until it is answered: this is heard at last.
+pub record IsAskedAgain {P : Type 0} (hears : P → List ℕ → Option (List ℕ) → P → Type 0) (retries : ℕ) (before after : P) (frame : Frame) (heard : List ℕ) : Type 0 where
   pub times : ℕ
   pub mid : P
-  pub came : Option (List ℕ)
-  pub silent : AreSilent hears times before bytes mid
-  pub last : hears mid bytes came after
+  pub in_vain : IsUnanswered hears frame times before mid
+  pub last : IsHeardOnce hears mid after (frame_text frame) heard
   pub within : times ≤ retries
-  pub in_vain : came ≡ None → times ≡ retries
-  pub heard_is : heard ≡ unwrap_or came []
+  pub all_in_vain : is_answered frame heard ≡ false → times ≡ retries
 
 -- ---- what is on the line
 
 -- The line behind a port has these fixtures: what is heard after the requests of a search is what they may sound like, and they
--- change as it says. A request may be lost on its way to some or all of them, or what they answer: then nothing is heard, and each
--- has carried the request out or not. No more askings in a row are lost than so many: with 0 nothing ever is.
+-- change as it says. A request may be lost on its way to some or all of them, or what they answer, or the answer to a mute altered:
+-- then no valid answer is heard, and each has carried the request out or not. No more askings in a row are lost than so many: with 0
+-- nothing ever is. Answers to branches may be altered as often as it likes: so many were.
 pub record IsLineOf {P : Type 0} (hears : P → List ℕ → Option (List ℕ) → P → Type 0) (fixtures : P → List Fixture) (most : ℕ) : Type 0 where
   -- how many askings in a row were lost, up to the last
   pub lost : P → ℕ
+  -- how many answers to branches were altered
+  pub altered : P → ℕ
   pub kept_or_lost : (before after : P) (request : Request) (source : Uid) (tn : ℕ) (came : Option (List ℕ)) → IsRequest request
       → hears before (frame_text (request_frame source tn request)) came after
-      → (IsKept request (fixtures before) (unwrap_or came []) (fixtures after) × (lost after ≡ 0))
-      ⊎ ((came ≡ None) × IsPartly request (fixtures before) (fixtures after) × (lost after ≡ suc (lost before)) × (lost after ≤ most))
+      → (IsKept request (fixtures before) (unwrap_or came []) (fixtures after) (altered before) (altered after) × (lost after ≡ 0))
+      ⊎ (IsLost request (fixtures before) (unwrap_or came []) (fixtures after) × (lost after ≡ suc (lost before)) × (lost after ≤ most)
+      × (altered after ≡ altered before))
 
--- It has, and any number of requests and answers may be lost.
+-- It has, and any number of requests and answers may be lost, and of answers altered.
 pub record IsLossyLineOf {P : Type 0} (hears : P → List ℕ → Option (List ℕ) → P → Type 0) (fixtures : P → List Fixture) : Type 0 where
+  pub altered : P → ℕ
   pub kept_or_lost : (before after : P) (request : Request) (source : Uid) (tn : ℕ) (came : Option (List ℕ)) → IsRequest request
       → hears before (frame_text (request_frame source tn request)) came after
-      → IsKept request (fixtures before) (unwrap_or came []) (fixtures after) ⊎ IsLost request (fixtures before) (unwrap_or came []) (fixtures after)
+      → IsKept request (fixtures before) (unwrap_or came []) (fixtures after) (altered before) (altered after)
+      ⊎ IsLost request (fixtures before) (unwrap_or came []) (fixtures after)

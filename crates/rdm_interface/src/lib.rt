@@ -22,4 +22,4 @@ pub use laws::{
 };
 pub use parameters::Parameters;
 pub use rdm_messages::{Clock, RealClock};
-pub use searching::{SearchFault, discover_through, run_through};
+pub use searching::{SearchFault, discover_through, run_through, step_through};

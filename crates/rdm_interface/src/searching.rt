@@ -1,15 +1,14 @@
 //! A search of a line through a controller's port.
 
-ghost use Rattle.std.specs.Prelude.{◌≡◌, ◌+◌, ◌*◌, ◌<◌, ◌≤◌, ◌++◌, List, length, Ok, Err, true, false, All, IfOk, OnOk};
-ghost use Rattle.rdm_frame.specs.FrameText.{frame_text};
+ghost use Rattle.std.specs.Prelude.{◌≡◌, ◌+◌, ◌-◌, ◌*◌, ◌<◌, ◌≤◌, ◌++◌, List, length, Ok, Err, true, false, All, IfOk, OnOk};
 ghost use Rattle.rdm_search.specs.Answers.{found_uids};
 ghost use Rattle.rdm_search.specs.Line.{Fixture, IsDevice, IsFound};
 ghost use Rattle.rdm_search.specs.Stages.{IsReal, Stands, price};
-ghost use Rattle.rdm_interface.specs.Lines.{IsAskedAgain, IsLineOf, IsLossyLineOf};
+ghost use Rattle.rdm_interface.specs.Lines.{IsAskedAgain, IsHeardOnce, IsLineOf, IsLossyLineOf};
 
 use rdm_collector::{Port, PortError};
 use rdm_frame::{Frame, Uid, Wire, encode};
-use rdm_search::{Found, Search, SearchError};
+use rdm_search::{Found, Search, SearchError, is_answered};
 use std::alloc::Global;
 use thiserror::Error;
 
@@ -25,10 +24,10 @@ pub enum SearchFault {
 }
 
 /// Finds all fixtures of the line behind a port, and mutes them, in at most this many transactions: 74 for each fixture and 2 more
-/// are enough (E1.20 sections 7.5 and 7.6). Each request is asked up to `retries` times again while nothing is heard. Memory is taken
-/// from `alloc` for what is found.
+/// are enough, and 2 for each answer to a branch that is altered on its way (E1.20 sections 7.5 and 7.6). Each request is asked up to
+/// `retries` times again while no valid answer is heard. Memory is taken from `alloc` for what is found.
 ///
-/// A fixture may be missed where more than `retries` askings in a row are lost, or their answers.
+/// A fixture may be missed where more than `retries` askings in a row are lost, or their answers are lost or altered.
 pub fn discover_through<P: Port>(
     alloc: Global,
     port: &mut P,
@@ -39,11 +38,11 @@ pub fn discover_through<P: Port>(
     // On the line of any fixtures, where no more askings in a row are lost than are repeated, what is found is these, each once.
     ensures found { IfOk result (λ found. (fixtures : P → List Fixture) → IsLineOf P.hears fixtures retries
         → All (λ f. IsDevice f.uid) (fixtures port.old) → IsFound (found_uids found.items) (fixtures port.new)) }
-    // There the limit is reached only if it is less than all fixtures take.
+    // There the limit is reached only if it is less than all fixtures take, and the answers to branches that were altered.
     ensures limit { result ≡ Err (SearchFault.Search SearchError.Limit) → (fixtures : P → List Fixture)
-        → IsLineOf P.hears fixtures retries → All (λ f. IsDevice f.uid) (fixtures port.old)
-        → limit < 74 * length (fixtures port.old) + 2 }
-    // Whatever is lost, what is found is on the line, each once.
+        (line : IsLineOf P.hears fixtures retries) → All (λ f. IsDevice f.uid) (fixtures port.old)
+        → limit < 74 * length (fixtures port.old) + 2 + 2 * (line.altered port.new - line.altered port.old) }
+    // Whatever is lost or altered, what is found is on the line, each once.
     ensures real { IfOk result (λ found. (fixtures : P → List Fixture) → IsLossyLineOf P.hears fixtures
         → All (λ f. IsDevice f.uid) (fixtures port.old) → IsReal (found_uids found.items) (fixtures port.new)) }
 {
@@ -64,30 +63,36 @@ pub fn run_through<P: Port>(
         → Stands search.old.stage (found_uids search.old.found.items) (fixtures port.old)
         → IsFound (found_uids search.new.found.items) (fixtures port.new)) }
     ensures limit { result ≡ Err (SearchFault.Search SearchError.Limit) → (fixtures : P → List Fixture)
-        → IsLineOf P.hears fixtures retries → Stands search.old.stage (found_uids search.old.found.items) (fixtures port.old)
-        → 2 * search.old.left < price search.old.stage (fixtures port.old) }
+        (line : IsLineOf P.hears fixtures retries) → Stands search.old.stage (found_uids search.old.found.items) (fixtures port.old)
+        → 2 * search.old.left + 3 * line.altered port.old < price search.old.stage (fixtures port.old) + 3 * line.altered port.new }
     ensures real { OnOk result ((fixtures : P → List Fixture) → IsLossyLineOf P.hears fixtures
         → IsReal (found_uids search.old.found.items) (fixtures port.old)
         → IsReal (found_uids search.new.found.items) (fixtures port.new)) }
     // Also where it fails, what was found stays, and what was found since stands behind it.
     ensures kept { (more : List Found) × (search.new.found.items ≡ search.old.found.items ++ more) }
 {
-    while turn(search, port, retries)? {}
+    while step_through(search, port, retries)? {}
     Ok(())
 }
 
-/// Makes one transaction, if the search hasn't ended. Tells whether it did.
-fn turn<P: Port>(search: &mut Search, port: &mut P, retries: u8) -> Result<bool, SearchFault>
+/// Makes one transaction of a search through a port, if it hasn't ended. Says whether it made one: a loop that calls this until it
+/// didn't is `run_through`, and can show what was found so far.
+pub fn step_through<P: Port>(
+    search: &mut Search,
+    port: &mut P,
+    retries: u8,
+) -> Result<bool, SearchFault>
     ensures ended { result ≡ Ok false → (fixtures : P → List Fixture) → IsLineOf P.hears fixtures retries
         → Stands search.old.stage (found_uids search.old.found.items) (fixtures port.old)
         → IsFound (found_uids search.new.found.items) (fixtures port.new) }
-    ensures stands { result ≡ Ok true → (fixtures : P → List Fixture) → IsLineOf P.hears fixtures retries
+    ensures stands { result ≡ Ok true → (fixtures : P → List Fixture) (line : IsLineOf P.hears fixtures retries)
         → Stands search.old.stage (found_uids search.old.found.items) (fixtures port.old)
         → Stands search.new.stage (found_uids search.new.found.items) (fixtures port.new)
-        × (price search.new.stage (fixtures port.new) + 2 ≤ price search.old.stage (fixtures port.old)) }
+        × (price search.new.stage (fixtures port.new) + 2 + 3 * line.altered port.old
+        ≤ price search.old.stage (fixtures port.old) + 3 * line.altered port.new) }
     ensures limit { result ≡ Err (SearchFault.Search SearchError.Limit) → (fixtures : P → List Fixture)
-        → IsLineOf P.hears fixtures retries → Stands search.old.stage (found_uids search.old.found.items) (fixtures port.old)
-        → 2 * search.old.left < price search.old.stage (fixtures port.old) }
+        (line : IsLineOf P.hears fixtures retries) → Stands search.old.stage (found_uids search.old.found.items) (fixtures port.old)
+        → 2 * search.old.left + 3 * line.altered port.old < price search.old.stage (fixtures port.old) + 3 * line.altered port.new }
     ensures real { OnOk result ((fixtures : P → List Fixture) → IsLossyLineOf P.hears fixtures
         → IsReal (found_uids search.old.found.items) (fixtures port.old)
         → IsReal (found_uids search.new.found.items) (fixtures port.new)) }
@@ -107,19 +112,29 @@ fn turn<P: Port>(search: &mut Search, port: &mut P, retries: u8) -> Result<bool,
     }
 }
 
-/// What is heard of a frame, which is sent up to `retries` times again while nothing is: no bytes if nothing is at last.
+/// What is heard of a frame, which is sent up to `retries` times again while no valid answer is: no bytes if nothing is at last.
 fn heard_of<P: Port>(port: &mut P, frame: &Frame, retries: u8) -> Result<Wire, PortError>
-    ensures heard { IfOk result (IsAskedAgain P.hears retries port.old port.new (frame_text frame.now)) }
+    ensures heard { IfOk result (IsAskedAgain P.hears retries port.old port.new frame.now) }
 {
     let request = encode(frame);
     for _turn in 0..retries {
-        match port.exchange(&request) {
-            Ok(Some(wire)) => return Ok(wire),
-            Ok(None) => {}
+        match heard_once(port, &request) {
+            Ok(wire) => {
+                if is_answered(frame, wire.as_slice()) {
+                    return Ok(wire);
+                }
+            }
             Err(error) => return Err(error),
         }
     }
-    match port.exchange(&request) {
+    heard_once(port, &request)
+}
+
+/// What is heard of a request that is sent once: no bytes if nothing is.
+fn heard_once<P: Port>(port: &mut P, request: &Wire) -> Result<Wire, PortError>
+    ensures heard { IfOk result (IsHeardOnce P.hears port.old port.new request.now) }
+{
+    match port.exchange(request) {
         Ok(Some(wire)) => Ok(wire),
         Ok(None) => Ok(Wire::new()),
         Err(error) => Err(error),

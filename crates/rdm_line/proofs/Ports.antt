@@ -1,6 +1,6 @@
 -- A line as the port of a search.
 use Rattle.std.proofs.Common.{◌≡◌, ◌≢◌, ℕ, zero, suc, ◌%◌, ◌^◌, ◌<◌, Bool, List, [], ◌∷◌, length, get_or, map, refl, sym, ap, subst, ◌∙◌, inl, inr, arith}
-use Rattle.std.specs.Prelude.{◌==◌, zip, All, AllPairs}
+use Rattle.std.specs.Prelude.{◌==◌, zip, IsSome, All, AllPairs}
 use Rattle.std.specs.List.{AllZip}
 use Rattle.std.proofs.Props.{props}
 use Rattle.std.proofs.lemmas.Bool.{false_from_ne_true}
@@ -13,6 +13,7 @@ use Rattle.rdm_frame.specs.FrameText.{frame_text, IsFrame}
 use Rattle.rdm_frame.specs.UidNumber.{uid_number}
 use Rattle.rdm_search.specs.declared.request.Request.{Request}
 use Rattle.rdm_search.specs.declared.request.Request.TheVariants.{UnMute, UniqueBranch, Mute}
+use Rattle.rdm_search.specs.Answers.{mute_answer}
 use Rattle.rdm_search.specs.Line.{Fixture, IsCalled, IsDevice, IsHeard, after_request, callers, uids}
 use Rattle.rdm_search.specs.Requests.{request_frame, IsRequest}
 use Rattle.rdm_responder.specs.History.{History}
@@ -127,9 +128,11 @@ asked_is_heard stands muted old new wire told (UniqueBranch low high) source tn 
     (called old.rule (callers low high (fixtures_of muted old)))
 asked_is_heard stands muted old new wire told (Mute uid) source tn is fits asked =
     elim (there_or_not (uids (fixtures_of muted old)) uid) [
-      | inl there ↦ (λ some. there, λ _. ∥∥₁_elim asked.alive (hlevel props) (λ p. (heard_of stands muted old new wire told (Mute uid) source tn is fits asked p.0 p.1).1 there))
-      | inr gone ↦ (
-        λ some. absurd (∥∥₁_elim asked.alive (hlevel props) (λ p. gone ((heard_of stands muted old new wire told (Mute uid) source tn is fits asked p.0 p.1).0 some))),
-        λ there. absurd (gone there),
-      )
+      | inl there ↦
+          let some : IsSome (mute_answer uid wire) = ∥∥₁_elim asked.alive (hlevel props) (λ p. (heard_of stands muted old new wire told (Mute uid) source tn is fits asked p.0 p.1).0.1 there) in
+          ((λ _. there, λ _. some), λ _. some)
+      | inr gone ↦
+          let none : IsSome (mute_answer uid wire) → ⊥ = λ some. ∥∥₁_elim asked.alive (hlevel props) (λ p. gone ((heard_of stands muted old new wire told (Mute uid) source tn is fits asked p.0 p.1).0.0 some)) in
+          let silent : wire ≢ [] → ⊥ = λ sounds. ∥∥₁_elim asked.alive (hlevel props) (λ p. none ((heard_of stands muted old new wire told (Mute uid) source tn is fits asked p.0 p.1).1 sounds)) in
+          ((λ some. absurd (none some), λ there. absurd (gone there)), λ sounds. absurd (silent sounds))
     ]

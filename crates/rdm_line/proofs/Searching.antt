@@ -16,7 +16,7 @@ use Rattle.rdm_frame.specs.FrameText.{frame_text, head_slots, IsFrame, IsUid, ui
 use Rattle.rdm_frame.specs.Reading.{frame_in, frame_of, uid_at}
 use Rattle.rdm_frame.proofs.Texts.{frame_again}
 use Rattle.rdm_search.specs.declared.request.Request.TheVariants.{UnMute, UniqueBranch, Mute}
-use Rattle.rdm_search.specs.Line.{Fixture, IsDevice, IsCalled, calls, callers, uids, after_mute, after_un_mute}
+use Rattle.rdm_search.specs.Line.{Fixture, IsDevice, IsCalled, IsHeard, calls, callers, uids, after_mute, after_un_mute}
 use Rattle.rdm_search.specs.Requests.{request_frame}
 use Rattle.rdm_responder.specs.History.{History, Heard, then_event}
 use Rattle.rdm_responder.specs.Requests.{Request, Ignored, Branch, Muting, Set, discovery_of, get_of, request_of, request_in}
@@ -329,14 +329,20 @@ is_device us u all there = subst IsDevice there.2 (all there.0 u there.1)
 text_dst : (f : Frame) → IsFrame f → f.dst ≡ uid_at (frame_text f) 3
 text_dst f fits = (frame_read (frame_text f) f (read_again f fits)).dst
 
-mute_absent : (hs : List History) (rule : Collision) (source : Uid) (tn : ℕ) (uid : Uid) → IsFrame (request_frame source tn (Mute uid)) → (Contains (uids_of hs) uid → ⊥) → IsSome (mute_answer uid (on_wire rule [] (answers (frame_text (request_frame source tn (Mute uid))) hs)).1) → ⊥
-mute_absent hs rule source tn uid fits gone some =
+mute_silent : (hs : List History) (source : Uid) (tn : ℕ) (uid : Uid) → IsFrame (request_frame source tn (Mute uid)) → (Contains (uids_of hs) uid → ⊥) → answers (frame_text (request_frame source tn (Mute uid))) hs ≡ []
+mute_silent hs source tn uid fits gone =
     let f = request_frame source tn (Mute uid) in
-    let none : answers (frame_text f) hs ≡ [] = elim (cases_Bool (is_broadcast uid)) [
+    elim (cases_Bool (is_broadcast uid)) [
       | inl all ↦ broadcasts hs (frame_text f) f (read_again f fits) all (not_branch source tn uid fits)
       | inr single ↦ deaf_silent (frame_text f) hs (absent_deaf (frame_text f) hs (uids_of hs) uid refl (text_dst f fits) single gone)
-    ] in
-    false≢true (sym (ap (λ (xs : List (List ℕ)). is_some (mute_answer uid (on_wire rule [] xs).1)) none ∙ ap (λ o. is_some o) (no_mute_answer uid)) ∙ some)
+    ]
+
+mute_absent : (hs : List History) (rule : Collision) (source : Uid) (tn : ℕ) (uid : Uid) → IsFrame (request_frame source tn (Mute uid)) → (Contains (uids_of hs) uid → ⊥) → (on_wire rule [] (answers (frame_text (request_frame source tn (Mute uid))) hs)).1 ≡ []
+mute_absent hs rule source tn uid fits gone = ap (λ (xs : List (List ℕ)). (on_wire rule [] xs).1) (mute_silent hs source tn uid fits gone)
+
+nobody_answers : (hs : List History) (rule : Collision) (source : Uid) (tn : ℕ) (uid : Uid) → IsFrame (request_frame source tn (Mute uid)) → (Contains (uids_of hs) uid → ⊥) → IsSome (mute_answer uid (on_wire rule [] (answers (frame_text (request_frame source tn (Mute uid))) hs)).1) → ⊥
+nobody_answers hs rule source tn uid fits gone some =
+    false≢true (sym (ap (λ (xs : List ℕ). is_some (mute_answer uid xs)) (mute_absent hs rule source tn uid fits gone) ∙ ap (λ o. is_some o) (no_mute_answer uid)) ∙ some)
 
 pub there_or_not : (us : List Uid) (u : Uid) → Contains us u ⊎ (Contains us u → ⊥)
 there_or_not [] u = inr (λ h. omega (arith, h.1))
@@ -346,13 +352,22 @@ there_or_not (v ∷ us) u =
       | inr other ↦ elim (there_or_not us u) [ inl h ↦ inl (suc h.0, omega (arith, h.1), h.2) | inr gone ↦ inr (not_either v us u other gone) ]
     ]
 
-pub mutes_are_heard : (hs : List History) (rule : Collision) (source : Uid) (tn : ℕ) (uid : Uid) → All (λ u. IsDevice u) (uids_of hs) → AllPairs (λ u v. u ≢ v) (uids_of hs) → IsFrame (request_frame source tn (Mute uid)) → IsSome (mute_answer uid (on_wire rule [] (answers (frame_text (request_frame source tn (Mute uid))) hs)).1) ↔ Contains (uids (map fixture_of hs)) uid
+owned_mute : (hs : List History) (rule : Collision) (source : Uid) (tn : ℕ) (uid : Uid) → All (λ u. IsDevice u) (uids_of hs) → AllPairs (λ u v. u ≢ v) (uids_of hs) → IsFrame (request_frame source tn (Mute uid)) → Contains (uids_of hs) uid → IsSome (mute_answer uid (on_wire rule [] (answers (frame_text (request_frame source tn (Mute uid))) hs)).1)
+owned_mute hs rule source tn uid devices apart fits here =
+    let o = owner hs uid here.0 here.1 here.2 in
+    mute_there hs rule source tn uid apart fits (is_device (uids_of hs) uid devices here) o.0 o.1 o.2
+
+pub mutes_are_heard : (hs : List History) (rule : Collision) (source : Uid) (tn : ℕ) (uid : Uid) → All (λ u. IsDevice u) (uids_of hs) → AllPairs (λ u v. u ≢ v) (uids_of hs) → IsFrame (request_frame source tn (Mute uid)) → IsHeard (Mute uid) (map fixture_of hs) (on_wire rule [] (answers (frame_text (request_frame source tn (Mute uid))) hs)).1
 mutes_are_heard hs rule source tn uid devices apart fits = (
-  λ some. subst (λ (us : List Uid). Contains us uid) (sym (uids_same hs)) (elim (there_or_not (uids_of hs) uid) [ inl there ↦ there | inr gone ↦ absurd (mute_absent hs rule source tn uid fits gone some) ]),
-  λ there.
-      let here = subst (λ (us : List Uid). Contains us uid) (uids_same hs) there in
-      let o = owner hs uid here.0 here.1 here.2 in
-      mute_there hs rule source tn uid apart fits (is_device (uids_of hs) uid devices here) o.0 o.1 o.2,
+  (
+    λ some. subst (λ (us : List Uid). Contains us uid) (sym (uids_same hs)) (elim (there_or_not (uids_of hs) uid) [ inl there ↦ there | inr gone ↦ absurd (nobody_answers hs rule source tn uid fits gone some) ]),
+    λ there. owned_mute hs rule source tn uid devices apart fits (subst (λ (us : List Uid). Contains us uid) (uids_same hs) there),
+  ),
+  λ sounds.
+      elim (there_or_not (uids_of hs) uid) [
+        | inl there ↦ owned_mute hs rule source tn uid devices apart fits there
+        | inr gone ↦ absurd (sounds (mute_absent hs rule source tn uid fits gone))
+      ],
 )
 
 pub requests_are_heard : RequestsAreHeard

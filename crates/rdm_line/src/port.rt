@@ -57,6 +57,9 @@ impl<D: Device> Port for LinePort<D> {
 
     ghost sent = { λ p. p.sent };
 
+    // Nothing is altered on it.
+    ghost altered = { λ _. 0 };
+
     fn exchange(&mut self, frame: &Frame) -> Wire {
         self.sent = self.sent.saturating_add(1);
         ask(&mut self.line, frame)

@@ -6,11 +6,13 @@ pub mod BlockCommands
 pub mod BlockRows
 pub mod Bools
 pub mod Changes
+pub mod DimmerNames
 pub mod Endings
 pub mod Fetches
 pub mod JobWays
 pub mod KindNames
 pub mod Locked
+pub mod LockedTable
 pub mod OrderCounts
 pub mod Orders
 pub mod OtherDevices
@@ -18,6 +20,8 @@ pub mod OtherForms
 pub mod OtherRanges
 pub mod OwnKeys
 pub mod Places
+pub mod PinSlots
+pub mod PinSteps
 pub mod PlacesAsSet
 pub mod PlacesOwn
 pub mod PlainGets

@@ -13,13 +13,12 @@ use Rattle.rdm_device.specs.declared.profile.own.ParameterDef.{ParameterDef}
 use Rattle.rdm_device.specs.declared.profile.own.Rights.{Rights}
 use Rattle.rdm_device.specs.declared.profile.own.Rights.TheVariants as rights
 use Rattle.rdm_device.specs.declared.value.Value.{Value}
-use Rattle.rdm_device.specs.Columns.Added.{counted, order_stored, set_form, set_range, stored_by}
+use Rattle.rdm_device.specs.Columns.Added.{counted, bytes_ordered, order_stored, set_form, set_range, stored_by}
 use Rattle.rdm_device.specs.Columns.Scenes.{scenes_by}
 use Rattle.rdm_device.specs.Device.Map.{Entry, entry, has_key, lookup, update}
 use Rattle.rdm_device.specs.Device.OwnParameters.{has_set, is_order}
 use Rattle.rdm_device.specs.Device.Parameters.{Parameters, kept_at_start, added_at_start, parameters_of}
 use Rattle.rdm_device.specs.Device.Spot.{Spot}
-use Rattle.rdm_device.specs.Device.Values.{bytes_of}
 use Rattle.rdm_params.specs.Commands.Commands.{command_at, accepted, after_by_row, after_accepted, answer_by_row, is_block, carried_out, is_all_call, root_spot, sub_spot, verdict, written, added_written}
 use Rattle.rdm_params.specs.Laws.{is_counted, OrdersAreTold, OrdersAreCounted, CountsStay}
 use Rattle.rdm_params.specs.Table.Rows.{Command, Row, row_at, added_row, takes_added, command_in}
@@ -75,8 +74,8 @@ never_both false b apart = refl
 zero_or_one : (n : ℕ) → ((n == 0) && (n == 1)) ≡ false
 zero_or_one n = never_both (n == 0) (n == 1) (λ (is : (n == 0) ≡ true) (one : (n == 1) ≡ true). let at : n ≡ 0 = eqb-true n 0 is in let also : n ≡ 1 = eqb-true n 1 one in omega (arith, at, also))
 
-order_counts : (pid : ℕ) (spot : Spot) (v : Value) (e : Entry) → has_key pid 1 e ≡ true → order_stored pid spot v e ≡ counted (lookup spot.added pid 1)
-order_counts pid spot v e here = pick (e.pid == pid) (e.index == 0) (e.index == 1) (bytes_of v) (counted (lookup spot.added pid 1)) e.bytes (zero_or_one e.index) here
+order_counts : (d : ParameterDef) (spot : Spot) (v : Value) (e : Entry) → has_key d.pid 1 e ≡ true → order_stored d spot v e ≡ counted (lookup spot.added d.pid 1)
+order_counts d spot v e here = pick (e.pid == d.pid) (e.index == 0) (e.index == 1) (bytes_ordered d.shape v) (counted (lookup spot.added d.pid 1)) e.bytes (zero_or_one e.index) here
 
 abbrev head_bytes : List Entry → List ℕ
 head_bytes [] = []
@@ -115,7 +114,7 @@ told_with : (p q : Parameters) (d : ParameterDef) (r : Result Value Nack) (reply
 told_with p q d (Err nack) reply some answer same = absurd cc
 told_with p q d (Ok v) reply some answer same =
     let count : List ℕ = counted (lookup p.added d.pid 1) in
-    count_differs (lookup p.added d.pid 1) (at_first p.added (order_stored d.pid (root_spot p) v) d.pid count some (ap (λ (x : Parameters). x.added) same) (order_counts d.pid (root_spot p) v))
+    count_differs (lookup p.added d.pid 1) (at_first p.added (order_stored d (root_spot p) v) d.pid count some (ap (λ (x : Parameters). x.added) same) (order_counts d (root_spot p) v))
 
 told_by_row : (p : Parameters) (d : ParameterDef) (bytes reply : List ℕ) → row_at p.profile d.pid ≡ Some (added_row d) → is_order d.rights ≡ true → is_counted p d.pid ≡ true → answer_by_row p 0 d.pid bytes ≡ Reply reply → after_by_row p 0 d.pid bytes ≢ p
 unfolding after_by_row answer_by_row

@@ -23,7 +23,7 @@ use Rattle.rdm_params.specs.Table.Uses.{is_slow, change, added_change}
 use Rattle.rdm_device.specs.Device.Values.{bytes_of, byte_or_0}
 use Rattle.rdm_device.specs.declared.profile.own.ParameterDef.{ParameterDef}
 use Rattle.rdm_device.specs.declared.profile.Profile.{Profile}
-use Rattle.rdm_device.specs.Columns.Added.{counted, index_kept, bytes_kept, set_form, set_range, stored_by, own_stored, added_set_back, start_in}
+use Rattle.rdm_device.specs.Columns.Added.{counted, index_kept, bytes_kept, bytes_ordered, set_form, set_range, stored_by, own_stored, added_set_back, start_in}
 use Rattle.rdm_device.specs.declared.profile.own.Rights.{Rights}
 use Rattle.rdm_device.specs.declared.profile.own.Rights.TheVariants as rights
 use Rattle.rdm_device.specs.Device.OwnParameters.{has_set}
@@ -203,7 +203,7 @@ OnlyAdded r = (spot : Spot) (v : Value) (key : ℕ) → (r.pid == key) ≡ false
 one_stored : (by : Rights) (d : ParameterDef) (spot : Spot) (v : Value) (key : ℕ) → (d.pid == key) ≡ false → Keeps key (stored_by by d spot v)
 one_stored rights.Get d spot v key apart e at = no_store (e.pid == d.pid) (e.index == index_kept d.shape v) (bytes_kept d.shape v) e.bytes (apart_test d.pid key e.pid apart at)
 one_stored rights.Set d spot v key apart e at =
-    no_store (e.pid == d.pid) (e.index == 0) (bytes_of v) (cond (has_key d.pid 1 e) (counted (lookup spot.added d.pid 1)) e.bytes) (apart_test d.pid key e.pid apart at)
+    no_store (e.pid == d.pid) (e.index == 0) (bytes_ordered d.shape v) (cond (has_key d.pid 1 e) (counted (lookup spot.added d.pid 1)) e.bytes) (apart_test d.pid key e.pid apart at)
     ∙ no_store (e.pid == d.pid) (e.index == 1) (counted (lookup spot.added d.pid 1)) e.bytes (apart_test d.pid key e.pid apart at)
 one_stored rights.Both d spot v key apart e at = no_store (e.pid == d.pid) (e.index == index_kept d.shape v) (bytes_kept d.shape v) e.bytes (apart_test d.pid key e.pid apart at)
 one_stored rights.Clear d spot v key apart e at = no_store (e.pid == d.pid) (e.index == 0) d.start e.bytes (apart_test d.pid key e.pid apart at)
@@ -212,7 +212,7 @@ one_added : (d : ParameterDef) (set : Bool) (spot : Spot) (v : Value) (key : ℕ
 one_added d true spot v key apart e at = one_stored d.rights d spot v key apart e at
 one_added d false spot v key apart e at = refl
 
-of_added : (p : Profile) (pid : ℕ) (row : Option Row) → row_in (added_rows p) pid ≡ row → (spot : Spot) (v : Value) (key : ℕ) → (pid == key) ≡ false → Keeps key (added_change (command_in row Set) spot v)
+pub of_added : (p : Profile) (pid : ℕ) (row : Option Row) → row_in (added_rows p) pid ≡ row → (spot : Spot) (v : Value) (key : ℕ) → (pid == key) ≡ false → Keeps key (added_change (command_in row Set) spot v)
 of_added p pid None e spot v key apart = λ entry at. refl
 of_added p pid (Some r) e spot v key apart =
     let only = found OnlyAdded (added_rows p) pid r (added_have OnlyAdded (λ spot v key apart e at. refl) (λ d. one_added d (has_set d.rights)) p) e in

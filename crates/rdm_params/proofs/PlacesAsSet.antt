@@ -1,5 +1,5 @@
 -- What a SET would make of the values, placing the same data makes of them.
-use Rattle.std.proofs.Common.{◌≡◌, ◌≢◌, ℕ, ◌-◌, ◌==◌, ◌&&◌, not, Bool, true, false, cond, List, [], ◌∷◌, map, Option, Some, None, Result, Ok, Err, refl, sym, ap, subst, ◌∙◌}
+use Rattle.std.proofs.Common.{◌≡◌, ◌≢◌, ℕ, ◌-◌, ◌==◌, ◌&&◌, ◌||◌, not, Bool, true, false, cond, List, [], ◌∷◌, map, Option, Some, None, Result, Ok, Err, refl, sym, ap, subst, ◌∙◌}
 use Rattle.std.specs.Prelude.{slice_get, option_to_list, is_some, is_ok}
 use Rattle.std.specs.List.{list_all}
 use Rattle.std.specs.Option.{option_map_or}
@@ -21,13 +21,13 @@ use Rattle.rdm_device.specs.Device.Parameters.{Parameters}
 use Rattle.rdm_device.specs.Device.Spot.{Spot}
 use Rattle.rdm_params.specs.Laws.{PlacesAsSet}
 use Rattle.rdm_params.specs.Table.Rows.{Command, Row, table, row_of, row_in, row_or, row_at, is_left_out, added_rows, command_in}
-use Rattle.rdm_params.specs.Table.Uses.{access, read, is_by_job, is_slow, way_of, in_range_of, keeps}
+use Rattle.rdm_params.specs.Table.Uses.{access, read, is_by_job, is_slow, way_of, in_range_of, told_beside, can_tell, keeps}
 use Rattle.rdm_params.proofs.BlockRows.{row_after, row_answer}
 use Rattle.rdm_params.proofs.Bools.{both_true}
 
 -- ---- what an accepted SET says
 
-abbrev ok : Value → Result Value Nack
+abbrev pub ok : Value → Result Value Nack
 ok v = Ok v
 
 ok_is : (a b : Value) → ok a ≡ ok b → a ≡ b
@@ -74,7 +74,12 @@ none_refused true false kept own x y e f g h = absurd cc
 none_refused true true false own x y e f g h = absurd cc
 none_refused true true true own x y e f g h = h
 
-value_fits : (p : Parameters) (sub pid : ℕ) (r : Result Value Nack) (w : Value) → r ≡ ok w → option_map_or (λ spot. in_range_of (command_of pid Set) spot w) (device p sub) false ≡ true → value_refusal p sub pid r ≡ None
+-- what a SET may ask for, a GET may tell
+told_too : (c : Option Command) (w : Value) (o : Option Spot) → option_map_or (λ spot. in_range_of c spot w) o false ≡ true → option_map_or (λ spot. can_tell c spot w) o false ≡ true
+told_too c w None e = e
+told_too c w (Some spot) e = ap (λ (b : Bool). b || told_beside c spot w) e
+
+value_fits : (p : Parameters) (sub pid : ℕ) (r : Result Value Nack) (w : Value) → r ≡ ok w → option_map_or (λ spot. can_tell (command_of pid Set) spot w) (device p sub) false ≡ true → value_refusal p sub pid r ≡ None
 value_fits p sub pid r w e fits =
     ap (value_refusal p sub pid) e ∙ ap (λ (within : Bool). cond within None (Some OutOfRange)) fits
 
@@ -89,11 +94,11 @@ err_is_no_value (Err other) nack w e = cc
 err_is_no_value (Ok u) nack w e = cc
 
 -- what a SET of a row says that is accepted with this value
-record Says (p : Parameters) (sub : ℕ) (row : Option Row) (read' : Result Value Nack) (w : Value) : Type 0 where
-  read_is : read' ≡ ok w
-  some : is_some_device (addressed p sub Set) ≡ true
-  allowed : is_ok (access row (sub == 0) Set) ≡ true
-  within : list_all (λ spot. in_range_of (command_in row Set) spot w) (addressed p sub Set) ≡ true
+pub record Says (p : Parameters) (sub : ℕ) (row : Option Row) (read' : Result Value Nack) (w : Value) : Type 0 where
+  pub read_is : read' ≡ ok w
+  pub some : is_some_device (addressed p sub Set) ≡ true
+  pub allowed : is_ok (access row (sub == 0) Set) ≡ true
+  pub within : list_all (λ spot. in_range_of (command_in row Set) spot w) (addressed p sub Set) ≡ true
 
 says : (p : Parameters) (sub : ℕ) (row : Option Row) (r : Result Value Nack) (w : Value) → (known p sub row Set >>= (λ u. r >>= (λ value. taken p sub (command_in row Set) Set value))) ≡ ok w → Says p sub row r w
 says p sub row (Err nack) w e = absurd (err_is_no_value (known p sub row Set) nack w e)
@@ -107,7 +112,7 @@ says p sub row (Ok v) w e =
     }
 
 -- the same where a step before it can refuse
-says_behind : (p : Parameters) (sub : ℕ) (row : Option Row) (free : Result (Unit {0}) Nack) (r : Result Value Nack) (w : Value) → (known p sub row Set >>= (λ u. free >>= (λ x. r >>= (λ value. taken p sub (command_in row Set) Set value)))) ≡ ok w → Says p sub row r w
+pub says_behind : (p : Parameters) (sub : ℕ) (row : Option Row) (free : Result (Unit {0}) Nack) (r : Result Value Nack) (w : Value) → (known p sub row Set >>= (λ u. free >>= (λ x. r >>= (λ value. taken p sub (command_in row Set) Set value)))) ≡ ok w → Says p sub row r w
 says_behind p sub row (Err nack) r w e = absurd (err_is_no_value (known p sub row Set) nack w e)
 says_behind p sub row (Ok u) r w e = says p sub row r w e
 
@@ -128,7 +133,7 @@ placed_as p sub pid bytes w apart stays kept quick is =
     let there : is_some (device p sub) ≡ true = ap is_some device_at ∙ is.some in
     let fits : option_map_or (λ spot. in_range_of c spot w) (device p sub) false ≡ true = ap (λ (o : Option Spot). option_map_or (λ spot. in_range_of c spot w) o false) device_at ∙ head_all (λ spot. in_range_of c spot w) (addressed p sub Set) is.some is.within in
     let has : has_set p sub pid ≡ true = and_from (is_ok (access (row_of pid) (sub == 0) Set)) (not (is_left_out p.profile pid)) is.allowed (not_left (is_left_out p.profile pid) stays) in
-    let none : place_refusal p sub pid bytes ≡ None = none_refused (is_some (device p sub)) (has_set p sub pid) (keeps c) _ _ _ there has kept (value_fits p sub pid (read c bytes) w is.read_is fits) in
+    let none : place_refusal p sub pid bytes ≡ None = none_refused (is_some (device p sub)) (has_set p sub pid) (keeps c) _ _ _ there has kept (value_fits p sub pid (read c bytes) w is.read_is (told_too c w (device p sub) fits)) in
     (none, after_is p _ (after_value p sub pid (read c bytes)) _ (place_refusal p sub pid bytes) (has_set p sub pid) (keeps c) none has kept ∙ ap (after_value p sub pid) is.read_is ∙ ap (λ (slow : Bool). cond slow p (carried_out p sub c w)) (sym quick))
 
 -- what is said of the SET of the devices

@@ -1,5 +1,5 @@
 -- Laws of the table, for every value, command and device.
-use Rattle.std.specs.Prelude.{◌≡◌, ◌≢◌, ℕ, ℤ, suc, ◌^◌, ◌<◌, ◌≤◌, ◌==◌, false, List, [], ◌∷◌, ◌++◌, length, Option, Some, None, Ok, IsTrue, All, Bool, true, slice_index_or, if◌then◌else◌}
+use Rattle.std.specs.Prelude.{◌≡◌, ◌≢◌, ℕ, ℤ, suc, ◌^◌, ◌<◌, ◌≤◌, ◌==◌, false, List, [], ◌∷◌, ◌++◌, length, Option, Some, None, Ok, IsTrue, All, Bool, true, map, filter, slice_index_or, if◌then◌else◌}
 use Rattle.std.specs.List.{list_any}
 use Rattle.std.specs.List.Sorted.{IsStrictlyIncreasing}
 use Rattle.rdm_params.specs.declared.kind.Verb.{Verb}
@@ -15,13 +15,13 @@ use Rattle.rdm_params.specs.declared.jobs.outcome.Outcome.TheVariants.{Done, Rea
 use Rattle.rdm_params.specs.declared.jobs.status.Severity.{Severity}
 use Rattle.rdm_params.specs.declared.jobs.work.Work.{Work}
 use Rattle.rdm_params.specs.Commands.Changed.{change_of}
-use Rattle.rdm_params.specs.Commands.Commands.{command_of, command_at, is_block, answer_to_set, after_set}
+use Rattle.rdm_params.specs.Commands.Commands.{command_of, command_at, is_block, is_lockable, answer_to_set, after_set}
 use Rattle.rdm_params.specs.Commands.Panel.{changed_pid, after_change}
 use Rattle.rdm_params.specs.Commands.Placing.{place_refusal, after_place}
 use Rattle.rdm_params.specs.Jobs.Commit.{after_commit}
 use Rattle.rdm_params.specs.Jobs.Outcome.{fits}
 use Rattle.rdm_device.specs.Columns.Forms.{has_form}
-use Rattle.rdm_device.specs.Device.Locks.{is_locked}
+use Rattle.rdm_device.specs.Device.Locks.{is_locked, quick_pids}
 use Rattle.rdm_device.specs.Device.Map.{has_key, lookup}
 use Rattle.rdm_device.specs.declared.profile.own.ParameterDef.{ParameterDef}
 use Rattle.rdm_device.specs.Device.OwnParameters.{is_order}
@@ -30,7 +30,7 @@ use Rattle.rdm_device.specs.Device.Parameters.{Parameters, parameters_of}
 use Rattle.rdm_device.specs.Device.Profiles.{IsGoodProfile}
 use Rattle.rdm_device.specs.Device.Standards.{follows}
 use Rattle.rdm_device.specs.Columns.Replies.{factory_pids, reset_pids}
-use Rattle.rdm_params.specs.Table.Rows.{Command, row_of, row_at, added_row, supported_pids}
+use Rattle.rdm_params.specs.Table.Rows.{Command, table, row_of, row_at, added_row, supported_pids}
 use Rattle.rdm_params.specs.Table.Uses.{read, is_slow, keeps}
 use Rattle.rdm_device.specs.Device.Values.{bytes_of}
 
@@ -143,6 +143,10 @@ abbrev pub LockKeeps : Type 0
 LockKeeps =
     (p : Parameters) (sub pid : ℕ) (bytes : List ℕ)
     → is_locked p.profile.particulars.locks p.added pid ≡ true → is_slow (command_at p pid Set) ≡ false → after_set p sub pid bytes ≡ p
+
+-- A profile can lock these of the table: the parameters of its rows that have a SET which no job carries out.
+abbrev pub LocksKnowTheTable : Type 0
+LocksKnowTheTable = map (λ r. r.pid) (filter (λ r. is_lockable r.set) table) ≡ quick_pids
 
 -- A SET that tells of one value changes no value of another parameter, at any device.
 abbrev pub ChangesWhatItTells : Type 0

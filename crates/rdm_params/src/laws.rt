@@ -2,7 +2,8 @@
 
 ghost use Rattle.std.specs.Prelude.{◌≡◌, ◌↔◌, ℕ, List, IsTrue};
 ghost use Rattle.rdm_params.specs.Laws.{ReadsBack, ChangesItsKeys, LeavesTheRest, PanelChangesItsKey, PanelLeavesTheRest, PlacesAsSet};
-ghost use Rattle.rdm_params.specs.Laws.{OrdersAreTold, OrdersAreCounted, CountsStay, CountsStayPlaced, CountsStayCommitted, CountsStayChanged, LockRefuses, LockKeeps};
+ghost use Rattle.rdm_params.specs.Laws.{OrdersAreTold, OrdersAreCounted, CountsStay, CountsStayPlaced, CountsStayCommitted, CountsStayChanged, LockRefuses, LockKeeps, LocksKnowTheTable};
+ghost use Rattle.rdm_params.specs.Pins.{KeptPinOpens, NewPinIsKept};
 ghost use Rattle.rdm_params.specs.Laws.{ChangesWhatItTells, LeavesWhatItDoesNotTell};
 ghost use Rattle.rdm_params.specs.Laws.{CommitChangesItsKey, CommitChangesItsKeys, ReadingChangesItsSensor};
 ghost use Rattle.rdm_params.specs.Laws.{CommitLeavesTheRest, FailedChangesNothing, TheTableAlone, SupportedAscend};
@@ -48,6 +49,18 @@ pub fn orders_are_told()
 pub fn locked_parameters_stay()
     ensures refused { LockRefuses }
     ensures kept { LockKeeps }
+{}
+
+/// The parameters of the table that a profile can lock are those that have a SET which no job carries out.
+pub fn locks_know_the_table()
+    ensures { LocksKnowTheTable }
+{}
+
+/// After any SETs, values that the firmware places, ends of jobs, changes at the menu and power cycles, the PIN that is kept opens: LOCK_STATE
+/// takes it, with each state that there is. And an accepted SET of LOCK_PIN keeps its new PIN, also if that can't be read.
+pub fn last_pin_opens()
+    ensures opens { KeptPinOpens }
+    ensures kept { NewPinIsKept }
 {}
 
 /// A SET that tells of one value changes no other: none of another parameter, and none of another device.

@@ -29,13 +29,13 @@ pub use kind::{Kind, Verb, kind_of};
 pub use laws::{
     answers_are_equal_by_value, asks_are_equal_by_value, changes_are_equal_by_value,
     commit_changes_its_own_keys, entries_are_equal_by_value, kinds_are_equal_by_value,
-    locked_parameters_stay, messages_are_equal_by_value, nacks_are_equal_by_value,
-    new_errors_are_equal_by_value, orders_are_told, outcomes_are_equal_by_value,
-    panel_changes_its_own_key, place_errors_are_equal_by_value, placing_is_setting,
-    plain_profile_has_the_table, plates_are_equal_by_value, set_changes_its_own_keys,
-    set_changes_what_it_tells, severities_are_equal_by_value, supported_parameters_ascend,
-    told_changes_are_equal_by_value, verbs_are_equal_by_value, verdicts_are_equal_by_value,
-    works_are_equal_by_value, written_value_is_read_back,
+    last_pin_opens, locked_parameters_stay, locks_know_the_table, messages_are_equal_by_value,
+    nacks_are_equal_by_value, new_errors_are_equal_by_value, orders_are_told,
+    outcomes_are_equal_by_value, panel_changes_its_own_key, place_errors_are_equal_by_value,
+    placing_is_setting, plain_profile_has_the_table, plates_are_equal_by_value,
+    set_changes_its_own_keys, set_changes_what_it_tells, severities_are_equal_by_value,
+    supported_parameters_ascend, told_changes_are_equal_by_value, verbs_are_equal_by_value,
+    verdicts_are_equal_by_value, works_are_equal_by_value, written_value_is_read_back,
 };
 pub use nack::{Nack, reason_name, reason_name_for_c};
 pub use panel::{Change, Plate};

@@ -14,7 +14,7 @@ pub enum PlaceError {
     /// The data have another length than the value.
     #[error("wrong length")]
     Length,
-    /// A SET of the value would be out of range, or there is no sensor of this number.
+    /// No GET may reply the value, or there is no sensor of this number.
     #[error("out of range")]
     OutOfRange,
 }

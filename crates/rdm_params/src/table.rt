@@ -7,7 +7,8 @@
 //!   `(measures FORM (RANGE) SLOW REPLY)`, which a job of that kind carries out; `(fetches FORM (RANGE) WAY)`, which is answered from what waits for the controller. A source
 //!   is a field of the device's values, of its unit, of the root's own values or of the profile, with the form of the
 //!   value, `computed` by a function of `replies`, or `listed` from the rows.
-//! - SET: `none`; `(takes FORM (RANGE) FIELD)`, which writes that field; `(sets FORM (RANGE) (COMMON OWN) REPLY)`,
+//! - SET: `none`; `(takes FORM (RANGE) FIELD)`, which writes that field, and in which `tells MORE` behind a range says what a GET may reply
+//!   beside it; `(sets FORM (RANGE) (COMMON OWN) REPLY)`,
 //!   which changes a device by these functions of `changes`; `(starts FORM (RANGE) SLOW FIELD)`, which
 //!   writes that field at the end of a job of that kind; `(clears FORM (RANGE))`, which clears the list of status
 //!   entries that wait.
@@ -49,12 +50,12 @@ macro_rules! rows {
             (DefaultSlotValue 0x0122 root (reads (computed slot_defaults)) none)
             (SensorDefinition 0x0200 root (asks byte (a_sensor) sensor_described) none)
             (SensorValue 0x0201 root (measures byte (a_sensor) Sensor sensor_measured) (sets byte (sensors) (none sensors_reset) sensor_measured))
-            (RecordSensors 0x0202 root none (sets byte (sensors) (none sensors_recorded) none))
+            (RecordSensors 0x0202 root none (sets byte (recording_sensors) (none sensors_recorded) none))
             (DeviceHours 0x0400 root (reads (own long device_hours)) (takes long (any) (own device_hours)))
             (LampHours 0x0401 both (reads (common long lamp_hours)) (takes long (any) (common lamp_hours)))
             (LampStrikes 0x0402 both (reads (common long lamp_strikes)) (takes long (any) (common lamp_strikes)))
-            (LampState 0x0403 both (reads (common byte lamp_state)) (starts byte (below 4) Lamp (common lamp_state)))
-            (LampOnMode 0x0404 both (reads (common byte lamp_on_mode)) (takes byte (below 4) (common lamp_on_mode)))
+            (LampState 0x0403 both (reads (common byte lamp_state)) (starts byte (below 4 tells lamp_states_told) Lamp (common lamp_state)))
+            (LampOnMode 0x0404 both (reads (common byte lamp_on_mode)) (takes byte (below 4 tells lamp_modes_told) (common lamp_on_mode)))
             (DevicePowerCycles 0x0405 root (reads (own long power_cycles)) (takes long (any) (own power_cycles)))
             (DisplayInvert 0x0500 root (reads (own byte display_invert)) (takes byte (below 3) (own display_invert)))
             (DisplayLevel 0x0501 root (reads (own byte display_level)) (takes byte (any) (own display_level)))

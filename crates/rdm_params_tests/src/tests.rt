@@ -25,6 +25,7 @@ mod profiles;
 mod rows;
 mod scalars;
 mod scenes;
+mod sensors;
 mod slow;
 mod standards;
 mod thresholds;

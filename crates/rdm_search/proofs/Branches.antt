@@ -1,5 +1,5 @@
 -- What a branch tells.
-use Rattle.std.proofs.Common.{◌≡◌, ◌≢◌, ℕ, ◌-◌, ◌≤◌, List, [], ◌∷◌, length, Some, None, refl, sym, ap, ◌∙◌, subst, inl, inr, ◌⊎◌, arith}
+use Rattle.std.proofs.Common.{◌≡◌, ◌≢◌, ℕ, ◌-◌, ◌≤◌, Bool, List, [], ◌∷◌, length, Some, None, refl, sym, ap, ◌∙◌, subst, inl, inr, ◌⊎◌, arith}
 use Rattle.std.specs.Prelude.{All}
 use Rattle.std.proofs.lemmas.List.{length-drop}
 use Rattle.std.proofs.lemmas.List.Elements.{All-head, All-tail}
@@ -9,9 +9,11 @@ use Rattle.rdm_search.specs.declared.range.Range.{Range}
 use Rattle.rdm_search.specs.declared.stage.Stage.TheVariants.{Asking, Muting}
 use Rattle.rdm_search.specs.Line.{Fixture, IsDevice, IsCalled, callers}
 use Rattle.rdm_search.specs.Ranges.{place, low, high, IsRange}
-use Rattle.rdm_search.specs.Stages.{count, stage_after, halved, IsLeft, IsDue, IsUnmuted, Reads, Leads}
+use Rattle.rdm_search.specs.Stages.{when, is_astray, count, stage_after, halved, IsLeft, IsDue, IsUnmuted, Reads, Leads, Strays}
 use Rattle.rdm_search.proofs.Counts.{none_in, count_callers, caller}
+use Rattle.rdm_search.proofs.Prices.{three_at_most}
 use Rattle.rdm_search.proofs.Standing.{past, behind, lower}
+use Rattle.rdm_search.proofs.Mutes.{IsSure, not_astray, sure_counts}
 
 -- an answer has bytes
 reply_sounds : (u : Uid) → length (branch_reply u) ≡ 24
@@ -56,8 +58,38 @@ due_by r u found line heard left some reads (v ∷ (w ∷ us)) e called =
 -- a UID was heard: it is muted
 pub heard_one : (r : Range) (u : Uid) (found : List Uid) (line : List Fixture) (heard : List ℕ) → IsLeft r.depth r.index found line → heard ≢ [] → IsDevice u → place r.depth u ≡ r.index → Reads r heard (Some u) → IsCalled (callers (low r) (high r) line) heard → Leads (Asking r) line (Muting r u) found line
 heard_one r u found line heard left some device within reads called =
-    let due : IsDue r u line = record { device = device; within = within; some = due_by r u found line heard left some reads _ refl called } in
-    ((left, due), omega arith)
+    let sure : IsSure r u line = due_by r u found line heard left some reads _ refl called in
+    let due : IsDue r u line = record { device = device; within = within; some = sure_counts r u line within sure } in
+    let none : when (is_astray r u line) 3 ≡ 0 = ap (λ (b : Bool). when b 3) (not_astray r u line sure) in
+    ((left, due), omega (arith, none))
+
+some_callers : (us : List Uid) → us ≢ [] → 1 ≤ length us
+some_callers [] some = absurd (some refl)
+some_callers (u ∷ us) some = omega arith
+
+-- a UID was heard, and what was heard may be altered
+pub altered_one : (r : Range) (u : Uid) (found : List Uid) (line : List Fixture) → IsLeft r.depth r.index found line → IsDevice u → place r.depth u ≡ r.index → callers (low r) (high r) line ≢ [] → Strays (Asking r) line (Muting r u) found line
+altered_one r u found line left device within some =
+    let there = some_callers (callers (low r) (high r) line) some in
+    let n = count_callers r line in
+    let due : IsDue r u line = record { device = device; within = within; some = omega (arith, there, n) } in
+    let three = three_at_most (is_astray r u line) in
+    ((left, due), omega (arith, three))
+
+not_deepest : (r : Range) (found : List Uid) (line : List Fixture) (heard : List ℕ) → IsLeft r.depth r.index found line → Reads r heard None → (us : List Uid) → callers (low r) (high r) line ≡ us → us ≢ [] → r.depth ≢ 48
+not_deepest r found line heard left reads [] e some = absurd (some refl)
+not_deepest r found line heard left reads (v ∷ us) e some = λ deepest.
+    (let there = caller r v us line e in
+    let same : None ≡ Some v = reads v (device_of v line left.real.devices there.0) there.1 (inr deepest) in absurd cc)
+
+-- something was heard, and no UID of the range, and it may be altered
+pub altered_many : (r : Range) → IsRange r → (found : List Uid) (line : List Fixture) (heard : List ℕ) → IsLeft r.depth r.index found line → Reads r heard None → callers (low r) (high r) line ≢ [] → Strays (Asking r) line (halved r) found line
+altered_many r fits found line heard left reads some =
+    let ne : r.depth ≡ 48 → ⊥ = not_deepest r found line heard left reads _ refl some in
+    let there = some_callers (callers (low r) (high r) line) some in
+    let n = count_callers r line in
+    let next = lower r (omega (arith, fits.0)) found line left in
+    (next.0, omega (arith, next.1, there, n))
 
 many_by : (r : Range) (found : List Uid) (line : List Fixture) (heard : List ℕ) → IsLeft r.depth r.index found line → heard ≢ [] → Reads r heard None → (us : List Uid) → callers (low r) (high r) line ≡ us → IsCalled us heard → (2 ≤ count r.depth r.index line) × (r.depth ≢ 48)
 many_by r found line heard left some reads [] e called = absurd (some called)

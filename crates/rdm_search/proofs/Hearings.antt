@@ -1,6 +1,6 @@
 -- What was heard leads on.
-use Rattle.std.proofs.Common.{◌≡◌, ◌↔◌, ℕ, zero, suc, true, false, ◌&&◌, cond, List, [], ◌∷◌, ◌++◌, map, length, Option, Some, None, refl, sym, ap, ◌∙◌, subst, inl, inr, arith}
-use Rattle.std.specs.Prelude.{All, Contains, IsSome, ◌==◌}
+use Rattle.std.proofs.Common.{◌≡◌, ◌≢◌, ◌↔◌, ℕ, zero, suc, Bool, true, false, not, ◌&&◌, cond, List, [], ◌∷◌, ◌++◌, map, length, Option, Some, None, refl, sym, ap, ◌∙◌, subst, inl, inr, arith}
+use Rattle.std.specs.Prelude.{All, Contains, IsSome, is_some, ◌==◌}
 use Rattle.std.specs.Option.{option_to_list, option_and_then}
 use Rattle.std.proofs.lemmas.Bool.{cases_Bool, or_cases, or_parts, and_parts, and_from, eq-eqb, false≢true, cond-true, cond-false}
 use Rattle.std.proofs.lemmas.List.{map-append, length-map, append-nil}
@@ -15,10 +15,11 @@ use Rattle.rdm_search.specs.declared.stage.Stage.{Stage}
 use Rattle.rdm_search.specs.declared.stage.Stage.TheVariants.{Start, Asking, Muting, Ended}
 use Rattle.rdm_search.specs.declared.request.Request.{Request}
 use Rattle.rdm_search.specs.declared.request.Request.TheVariants.{UnMute, UniqueBranch, Mute}
-use Rattle.rdm_search.specs.Line.{Fixture, IsDevice, IsHeard, IsCalled, callers, uids, after_mute, after_un_mute, after_request}
+use Rattle.rdm_search.specs.Line.{Fixture, IsDevice, IsHeard, IsAltered, IsCalled, callers, uids, after_mute, after_un_mute, after_request}
 use Rattle.rdm_search.specs.Answers.{is_mute_answer, found_in, mute_answer, found_uids, knows, newcomer}
 use Rattle.rdm_search.specs.Ranges.{low, high, IsRange}
-use Rattle.rdm_search.specs.Stages.{Hears, IsReal, IsLeft, Stands, Leads, stage_of_mute, whole}
+use Rattle.rdm_search.specs.Searches.{found_after, is_in_doubt}
+use Rattle.rdm_search.specs.Stages.{Hears, IsReal, IsLeft, Stands, Leads, Strays, stage_of_mute, whole}
 use Rattle.rdm_search.proofs.Prices.{at_most}
 use Rattle.rdm_search.proofs.Standing.{IsKnown, IsCovered}
 use Rattle.rdm_search.proofs.Mutes.{same, newly, again}
@@ -110,17 +111,24 @@ start_leads found line real =
 -- ---- each stage
 
 abbrev After : Stage → List Uid → List ℕ → Stage → List Uid → List Fixture → Request → Type 0
-After stage found heard stage' found' line request = IsHeard request line heard → Leads stage line stage' found' (after_request request line)
+After stage found heard stage' found' line request =
+    (IsHeard request line heard → Leads stage line stage' found' (after_request request line))
+    × (IsAltered request line heard → Strays stage line stage' found' (after_request request line))
 
 pub start_hears : (found : List Uid) (heard : List ℕ) → Hears Start found heard (Asking whole) found
 start_hears found heard request line e stands =
     let this : UnMute ≡ request = cc in
-    subst (After Start found heard (Asking whole) found line) this (λ h. start_leads found line stands)
+    subst (After Start found heard (Asking whole) found line) this (λ h. start_leads found line stands, λ h. absurd h)
 
-pub branch_hears : (r : Range) (found : List Uid) (heard : List ℕ) (next : Stage) → ((line : List Fixture) → Stands (Asking r) found line → IsCalled (callers (low r) (high r) line) heard → Leads (Asking r) line next found line) → Hears (Asking r) found heard next found
+abbrev pub Branched : Range → List Uid → List ℕ → Stage → List Fixture → Type 0
+Branched r found heard next line =
+    (IsCalled (callers (low r) (high r) line) heard → Leads (Asking r) line next found line)
+    × (IsAltered (UniqueBranch (low r) (high r)) line heard → Strays (Asking r) line next found line)
+
+pub branch_hears : (r : Range) (found : List Uid) (heard : List ℕ) (next : Stage) → ((line : List Fixture) → Stands (Asking r) found line → Branched r found heard next line) → Hears (Asking r) found heard next found
 branch_hears r found heard next leads request line e stands =
     let this : UniqueBranch (low r) (high r) ≡ request = cc in
-    subst (After (Asking r) found heard next found line) this (λ h. leads line stands h)
+    subst (After (Asking r) found heard next found line) this (leads line stands)
 
 abbrev Here : Range → Uid → List Found → List ℕ → Stage → List Found → Type 0
 Here r u found heard next found' = Hears (Muting r u) (found_uids found) heard next (found_uids found')
@@ -130,8 +138,45 @@ mute_hears r u found found' heard next fits e e' =
     let new = newcomer found u heard in
     let here : Here r u found heard (stage_of_mute r new) (found ++ option_to_list new) = λ request line is stands. (
     let this : Mute u ≡ request = cc in
-    subst (After (Muting r u) (found_uids found) heard (stage_of_mute r new) (found_uids (found ++ option_to_list new)) line) this (λ h. mute_leads r u found heard fits line stands h)) in
+    subst (After (Muting r u) (found_uids found) heard (stage_of_mute r new) (found_uids (found ++ option_to_list new)) line) this (λ h. mute_leads r u found heard fits line stands h.0, λ h. absurd h)) in
     subst (λ (stage : Stage). Here r u found heard stage found') (sym e) (subst (λ (after : List Found). Here r u found heard (stage_of_mute r new) after) (sym e') here)
+
+-- ---- a mute that is in doubt
+
+sounds : (heard : List ℕ) → not (length heard == 0) ≡ true → heard ≢ []
+sounds heard h e = false≢true (sym (ap (λ (xs : List ℕ). not (length xs == 0)) e) ∙ h)
+
+not_some : (b : Bool) → not b ≡ true → b ≡ true → ⊥
+not_some b h e = false≢true (sym (ap not e) ∙ h)
+
+pub doubt_hears : (stage next : Stage) (found found' : List Found) (heard : List ℕ) → true ≡ is_in_doubt stage found heard → Hears stage (found_uids found) heard next (found_uids found')
+doubt_hears Start next found found' heard h request line e stands = absurd (false≢true (sym h))
+doubt_hears (Asking r) next found found' heard h request line e stands = absurd (false≢true (sym h))
+doubt_hears Ended next found found' heard h request line e stands = absurd (false≢true (sym h))
+doubt_hears (Muting r u) next found found' heard h request line e stands =
+    let parts = and_parts (not (length heard == 0)) (not (knows found u) && not (is_some (mute_answer u heard))) (sym h) in
+    let none = and_parts (not (knows found u)) (not (is_some (mute_answer u heard))) parts.1 in
+    let this : Mute u ≡ request = cc in
+    subst (After (Muting r u) (found_uids found) heard next (found_uids found') line) this
+    (λ is. absurd (not_some (is_some (mute_answer u heard)) none.1 (is.1 (sounds heard parts.0))), λ altered. absurd altered)
+
+no_new : (o : Option Found) → not (is_some o) ≡ true → o ≡ None
+no_new None h = refl
+no_new (Some x) h = absurd (false≢true h)
+
+no_one : (b : Bool) (o : Option Found) → o ≡ None → cond b None o ≡ None
+no_one true o e = refl
+no_one false o e = e
+
+pub doubt_found : (stage : Stage) (found : List Found) (heard : List ℕ) → true ≡ is_in_doubt stage found heard → found_after stage found heard ≡ found
+doubt_found Start found heard h = refl
+doubt_found (Asking r) found heard h = refl
+doubt_found Ended found heard h = refl
+doubt_found (Muting r u) found heard h =
+    let parts = and_parts (not (length heard == 0)) (not (knows found u) && not (is_some (mute_answer u heard))) (sym h) in
+    let none = and_parts (not (knows found u)) (not (is_some (mute_answer u heard))) parts.1 in
+    let new : newcomer found u heard ≡ None = no_one (knows found u) (mute_answer u heard) (no_new (mute_answer u heard) none.1) in
+    ap (λ (o : Option Found). found ++ option_to_list o) new ∙ append-nil found
 
 pub ended_hears : (found : List Uid) (heard : List ℕ) (next : Stage) (found' : List Uid) → Hears Ended found heard next found'
 ended_hears found heard next found' request line e stands = absurd cc

@@ -1,13 +1,16 @@
 -- Requests that are asked again.
-use Rattle.std.proofs.Common.{◌≡◌, ℕ, suc, ◌+◌, ◌≤◌, Bool, true, false, ◌||◌, List, [], ◌∷◌, map, refl, sym, ap, ◌∙◌, subst, inl, inr, ◌⊎◌, arith}
-use Rattle.std.specs.Prelude.{Contains, IsSome, ◌↔◌}
+use Rattle.std.proofs.Common.{◌≡◌, ◌≢◌, ℕ, suc, ◌+◌, ◌≤◌, Bool, true, false, not, eqb, ◌||◌, List, [], ◌∷◌, map, length, Option, Some, None, refl, sym, ap, ◌∙◌, subst, inl, inr, ◌⊎◌, arith}
+use Rattle.std.specs.Prelude.{Contains, IsSome, is_some, ◌↔◌}
+use Rattle.std.proofs.lemmas.Bool.{false≢true, ne_eqb}
 use Rattle.rdm_frame.specs.declared.uid.Uid.{Uid}
 use Rattle.rdm_frame.specs.Addressing.{is_addressed}
 use Rattle.rdm_search.specs.declared.request.Request.{Request}
 use Rattle.rdm_search.specs.declared.request.Request.TheVariants.{UnMute, UniqueBranch, Mute}
 use Rattle.rdm_search.specs.Answers.{mute_answer}
-use Rattle.rdm_search.specs.Line.{Fixture, IsHeard, uids, after_request}
-use Rattle.rdm_search.specs.Losses.{carried_out, IsPartly, IsKept, IsLost}
+use Rattle.rdm_search.specs.Line.{Fixture, IsHeard, IsAltered, IsAnswer, uids, after_request}
+use Rattle.rdm_search.specs.Requests.{request_frame}
+use Rattle.rdm_search.specs.declared.found.Found.{Found}
+use Rattle.rdm_search.specs.Losses.{carried_out, is_answered, IsVoid, IsPartly, IsKept, IsLost}
 use Rattle.rdm_search.proofs.Runs.{request_keeps}
 
 -- ---- twice is once
@@ -91,7 +94,7 @@ partly_more request (f ∷ a) (g ∷ b) (h ∷ c) p q = (one_more request f g h 
 -- ---- what is heard afterwards could have been heard before
 
 answers_of : (u : Uid) (line after : List Fixture) (heard : List ℕ) → uids after ≡ uids line → IsHeard (Mute u) after heard → IsHeard (Mute u) line heard
-answers_of u line after heard e h = subst (λ (us : List Uid). IsSome (mute_answer u heard) ↔ Contains us u) e h
+answers_of u line after heard e h = (subst (λ (us : List Uid). IsSome (mute_answer u heard) ↔ Contains us u) e h.0, h.1)
 
 before : (request : Request) (line after : List Fixture) (heard : List ℕ) → IsPartly request line after → IsHeard request after heard → IsHeard request line heard
 before UnMute line after heard p h = h
@@ -113,30 +116,106 @@ twice_all : (request : Request) (line : List Fixture) → after_request request 
 twice_all request line =
     by_all request (after_request request line) ∙ ap (map (carried_out request)) (by_all request line) ∙ twice_map request line ∙ sym (by_all request line)
 
+-- an answer that was altered afterwards could have been altered before
+altered_before : (request : Request) (line after : List Fixture) (heard : List ℕ) → IsPartly request line after → IsAltered request after heard → IsAltered request line heard
+altered_before UnMute line after heard p h = h
+altered_before (UniqueBranch a b) line after heard p h =
+    let same : after ≡ line = all_same after ∙ then_all (UniqueBranch a b) line after p ∙ sym (all_same line) in
+    subst (λ (l : List Fixture). IsAltered (UniqueBranch a b) l heard) same h
+altered_before (Mute u) line after heard p h = h
+
+altered_before_all : (request : Request) (line : List Fixture) (heard : List ℕ) → IsAltered request (after_request request line) heard → IsAltered request line heard
+altered_before_all UnMute line heard h = h
+altered_before_all (UniqueBranch a b) line heard h = h
+altered_before_all (Mute u) line heard h = h
+
+-- ---- no valid answer
+
+abbrev pub IsUnanswered : Request → List ℕ → Type 0
+IsUnanswered UnMute heard = heard ≡ []
+IsUnanswered (UniqueBranch a b) heard = heard ≡ []
+IsUnanswered (Mute u) heard = mute_answer u heard ≡ None
+
+is_silent : (heard : List ℕ) → not (eqb (length heard) 0) ≡ false → heard ≡ []
+is_silent [] e = refl
+is_silent (b ∷ heard) e = absurd (false≢true (sym e ∙ ap not (ne_eqb (length (b ∷ heard)) 0 (λ none. omega arith))))
+
+no_one : (o : Option Found) → is_some o ≡ false → o ≡ None
+no_one None e = refl
+no_one (Some x) e = absurd cc
+
+pub unanswered : (request : Request) (source : Uid) (tn : ℕ) (heard : List ℕ) → is_answered (request_frame source tn request) heard ≡ false → IsUnanswered request heard
+unanswered UnMute source tn heard e = is_silent heard e
+unanswered (UniqueBranch a b) source tn heard e = is_silent heard e
+unanswered (Mute u) source tn heard e = no_one (mute_answer u heard) e
+
+pub void_is : (request : Request) (source : Uid) (tn : ℕ) (line : List Fixture) (heard : List ℕ) → IsVoid request line heard → is_answered (request_frame source tn request) heard ≡ false
+void_is UnMute source tn line heard v = ap (λ (xs : List ℕ). not (eqb (length xs) 0)) v
+void_is (UniqueBranch a b) source tn line heard v = ap (λ (xs : List ℕ). not (eqb (length xs) 0)) v
+void_is (Mute u) source tn line heard v = ap (λ (o : Option Found). is_some o) v.0
+
+-- what was no valid answer wasn't an altered one to a branch
+sure : (request : Request) (line : List Fixture) (heard : List ℕ) (n m : ℕ) → IsUnanswered request heard → IsAnswer request line heard n m → IsHeard request line heard × (m ≡ n)
+sure request line heard n m silent (inl h) = h
+sure UnMute line heard n m silent (inr h) = absurd h.0
+sure (UniqueBranch a b) line heard n m silent (inr h) = absurd (h.0.1 silent)
+sure (Mute u) line heard n m silent (inr h) = absurd h.0
+
+no_answer : (u : Uid) (heard : List ℕ) → mute_answer u heard ≡ None → IsSome (mute_answer u heard) → ⊥
+no_answer u heard e some = false≢true (sym (ap (λ (o : Option Found). is_some o) e) ∙ some)
+
+-- what is heard of a lost one could have been heard of one that nobody answers
+lost_heard : (request : Request) (line l : List Fixture) (heard heard' : List ℕ) → IsUnanswered request heard → IsHeard request line heard → uids l ≡ uids line → IsVoid request l heard' → IsHeard request line heard'
+lost_heard UnMute line l heard heard' silent h e v = v
+lost_heard (UniqueBranch a b) line l heard heard' silent h e v = subst (IsHeard (UniqueBranch a b) line) (silent ∙ sym v) h
+lost_heard (Mute u) line l heard heard' silent h e v =
+    let gone : Contains (uids line) u → ⊥ = λ there. no_answer u heard silent (h.0.1 there) in
+    ((λ some. absurd (no_answer u heard' v.0 some), λ there. absurd (gone there)), λ sounds. absurd (gone (subst (λ (us : List Uid). Contains us u) e (v.1 sounds))))
+
+void_before : (request : Request) (line l : List Fixture) (heard : List ℕ) → uids l ≡ uids line → IsVoid request l heard → IsVoid request line heard
+void_before UnMute line l heard e v = v
+void_before (UniqueBranch a b) line l heard e v = v
+void_before (Mute u) line l heard e v = (v.0, λ sounds. subst (λ (us : List Uid). Contains us u) e (v.1 sounds))
+
 -- ---- once more
 
-abbrev pub Asked : Request → List Fixture → List ℕ → List Fixture → ℕ → ℕ → Type 0
-Asked request line heard after least lost = IsKept request line heard after ⊎ (IsLost request line heard after × (least ≤ lost))
+abbrev pub Asked : Request → List Fixture → List ℕ → List Fixture → ℕ → ℕ → ℕ → ℕ → Type 0
+Asked request line heard after least lost n n' = IsKept request line heard after n n' ⊎ (IsLost request line heard after × (least ≤ lost) × (n' ≡ n))
 
-pub kept_kept : (request : Request) (line l : List Fixture) (heard heard' : List ℕ) (l' : List Fixture) → IsKept request line heard l → IsKept request l heard' l' → IsKept request line heard' l'
-kept_kept request line l heard heard' l' k k' =
-    (before_all request line heard' (subst (λ (x : List Fixture). IsHeard request x heard') k.1 k'.0), k'.1 ∙ ap (after_request request) k.1 ∙ twice_all request line)
+counted_from : (request : Request) (line : List Fixture) (heard : List ℕ) (n m m' : ℕ) → m ≡ n → IsAnswer request line heard m m' → IsAnswer request line heard n m'
+counted_from request line heard n m m' e h = subst (λ (k : ℕ). IsAnswer request line heard k m') e h
 
-pub kept_lost : (request : Request) (line l : List Fixture) (heard heard' : List ℕ) (l' : List Fixture) → heard ≡ [] → IsKept request line heard l → IsLost request l heard' l' → IsKept request line heard' l'
-kept_lost request line l heard heard' l' e k k' =
-    let e' : heard ≡ heard' = e ∙ sym k'.0 in
+answer_before : (request : Request) (line after : List Fixture) (heard : List ℕ) (n n' : ℕ) → IsPartly request line after → IsAnswer request after heard n n' → IsAnswer request line heard n n'
+answer_before request line after heard n n' p (inl h) = inl (before request line after heard p h.0, h.1)
+answer_before request line after heard n n' p (inr h) = inr (altered_before request line after heard p h.0, h.1)
+
+answer_before_all : (request : Request) (line : List Fixture) (heard : List ℕ) (n n' : ℕ) → IsAnswer request (after_request request line) heard n n' → IsAnswer request line heard n n'
+answer_before_all request line heard n n' (inl h) = inl (before_all request line heard h.0, h.1)
+answer_before_all request line heard n n' (inr h) = inr (altered_before_all request line heard h.0, h.1)
+
+pub kept_kept : (request : Request) (line l : List Fixture) (heard heard' : List ℕ) (l' : List Fixture) (n m m' : ℕ) → IsUnanswered request heard → IsKept request line heard l n m → IsKept request l heard' l' m m' → IsKept request line heard' l' n m'
+kept_kept request line l heard heard' l' n m m' silent k k' =
+    let first = sure request line heard n m silent k.0 in
+    let second = answer_before_all request line heard' m m' (subst (λ (x : List Fixture). IsAnswer request x heard' m m') k.1 k'.0) in
+    (counted_from request line heard' n m m' first.1 second, k'.1 ∙ ap (after_request request) k.1 ∙ twice_all request line)
+
+pub kept_lost : (request : Request) (line l : List Fixture) (heard heard' : List ℕ) (l' : List Fixture) (n m m' : ℕ) → IsUnanswered request heard → IsKept request line heard l n m → IsLost request l heard' l' → m' ≡ m → IsKept request line heard' l' n m'
+kept_lost request line l heard heard' l' n m m' silent k k' e =
+    let first = sure request line heard n m silent k.0 in
+    let same : uids l ≡ uids line = ap uids k.1 ∙ request_keeps request line in
     let all : l ≡ map (carried_out request) line = k.1 ∙ by_all request line in
-    (subst (IsHeard request line) e' k.0, after_all request line l' (subst (λ (x : List Fixture). IsPartly request x l') all k'.1) ∙ sym (by_all request line))
+    (inl (lost_heard request line l heard heard' silent first.0 same k'.0, e ∙ first.1), after_all request line l' (subst (λ (x : List Fixture). IsPartly request x l') all k'.1) ∙ sym (by_all request line))
 
-pub lost_kept : (request : Request) (line l : List Fixture) (heard heard' : List ℕ) (l' : List Fixture) → IsLost request line heard l → IsKept request l heard' l' → IsKept request line heard' l'
-lost_kept request line l heard heard' l' k k' =
-    (before request line l heard' k.1 k'.0, k'.1 ∙ by_all request l ∙ then_all request line l k.1 ∙ sym (by_all request line))
+pub lost_kept : (request : Request) (line l : List Fixture) (heard heard' : List ℕ) (l' : List Fixture) (n m m' : ℕ) → IsLost request line heard l → m ≡ n → IsKept request l heard' l' m m' → IsKept request line heard' l' n m'
+lost_kept request line l heard heard' l' n m m' k e k' =
+    (counted_from request line heard' n m m' e (answer_before request line l heard' m m' k.1 k'.0), k'.1 ∙ by_all request l ∙ then_all request line l k.1 ∙ sym (by_all request line))
 
 pub lost_lost : (request : Request) (line l : List Fixture) (heard heard' : List ℕ) (l' : List Fixture) → IsLost request line heard l → IsLost request l heard' l' → IsLost request line heard' l'
-lost_lost request line l heard heard' l' k k' = (k'.0, partly_more request line l l' k.1 k'.1)
+lost_lost request line l heard heard' l' k k' = (void_before request line l heard' (partly_uids request line l k.1) k'.0, partly_more request line l l' k.1 k'.1)
 
-pub once_more : (request : Request) (line l : List Fixture) (heard heard' : List ℕ) (l' : List Fixture) (least least' lost lost' : ℕ) → least' ≤ least + 1 → heard ≡ [] → Asked request line heard l least lost → (IsKept request l heard' l' × (lost' ≡ 0)) ⊎ (IsLost request l heard' l' × (lost' ≡ suc lost)) → Asked request line heard' l' least' lost'
-once_more request line l heard heard' l' least least' lost lost' le e (inl k) (inl k') = inl (kept_kept request line l heard heard' l' k k'.0)
-once_more request line l heard heard' l' least least' lost lost' le e (inl k) (inr k') = inl (kept_lost request line l heard heard' l' e k k'.0)
-once_more request line l heard heard' l' least least' lost lost' le e (inr k) (inl k') = inl (lost_kept request line l heard heard' l' k.0 k'.0)
-once_more request line l heard heard' l' least least' lost lost' le e (inr k) (inr k') = inr (lost_lost request line l heard heard' l' k.0 k'.0, omega (arith, k.1, k'.1, le))
+pub once_more : (request : Request) (line l : List Fixture) (heard heard' : List ℕ) (l' : List Fixture) (least least' lost lost' n m m' : ℕ) → least' ≤ least + 1 → IsUnanswered request heard → Asked request line heard l least lost n m
+    → (IsKept request l heard' l' m m' × (lost' ≡ 0)) ⊎ (IsLost request l heard' l' × (lost' ≡ suc lost) × (m' ≡ m)) → Asked request line heard' l' least' lost' n m'
+once_more request line l heard heard' l' least least' lost lost' n m m' le e (inl k) (inl k') = inl (kept_kept request line l heard heard' l' n m m' e k k'.0)
+once_more request line l heard heard' l' least least' lost lost' n m m' le e (inl k) (inr k') = inl (kept_lost request line l heard heard' l' n m m' e k k'.0 k'.2)
+once_more request line l heard heard' l' least least' lost lost' n m m' le e (inr k) (inl k') = inl (lost_kept request line l heard heard' l' n m m' k.0 k.2 k'.0)
+once_more request line l heard heard' l' least least' lost lost' n m m' le e (inr k) (inr k') = inr (lost_lost request line l heard heard' l' k.0 k'.0, omega (arith, k.1, k'.1, le), k'.2 ∙ k.2)

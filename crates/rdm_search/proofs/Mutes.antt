@@ -1,7 +1,7 @@
 -- What a mute tells.
-use Rattle.std.proofs.Common.{◌≡◌, ◌≢◌, ℕ, zero, suc, ◌+◌, ◌-◌, ◌*◌, ◌≤◌, true, List, [], ◌∷◌, ◌++◌, map, length, get_or, refl, sym, ap, ◌∙◌, subst, inl, inr, ◌⊎◌, arith}
+use Rattle.std.proofs.Common.{◌≡◌, ◌≢◌, ℕ, zero, suc, ◌+◌, ◌-◌, ◌*◌, ◌<◌, ◌≤◌, Bool, true, false, not, ltb, ◌&&◌, ◌||◌, List, [], ◌∷◌, ◌++◌, map, length, get_or, refl, sym, ap, ◌∙◌, subst, inl, inr, ◌⊎◌, arith}
 use Rattle.std.specs.Prelude.{All, Contains}
-use Rattle.std.proofs.lemmas.Bool.{cases_Bool, cases_eq, cases_lt, or_cases, or_parts, and_parts, eqb-true, false≢true}
+use Rattle.std.proofs.lemmas.Bool.{cases_Bool, cases_eq, cases_lt, or_cases, or_parts, and_parts, and_from, eq-eqb, eqb-true, lt-ltb, le-ltb, false≢true}
 use Rattle.std.proofs.lemmas.List.{get_or-map, length-map}
 use Rattle.std.proofs.lemmas.List.Elements.{All-head, All-tail, All-map, All-push, Contains-get_or, Contains-append_left, Contains-push}
 use Rattle.std.proofs.lemmas.List.Quantifiers.{all_pairs_push}
@@ -13,10 +13,10 @@ use Rattle.rdm_search.specs.declared.stage.Stage.{Stage}
 use Rattle.rdm_search.specs.declared.stage.Stage.TheVariants.{Asking, Muting}
 use Rattle.rdm_search.specs.Line.{Fixture, IsDevice, uids, after_mute}
 use Rattle.rdm_search.specs.Ranges.{place, IsRange}
-use Rattle.rdm_search.specs.Stages.{count, stage_after, halved, IsReal, IsLeft, IsDue, IsUnmuted, Stands, Leads}
+use Rattle.rdm_search.specs.Stages.{when, count, busy, is_unmuted, is_astray, stage_after, halved, IsReal, IsLeft, IsDue, IsUnmuted, Stands, Leads}
 use Rattle.rdm_search.proofs.Places.{one_number, last_place}
 use Rattle.rdm_search.proofs.Counts.{fewer, no_more, counted, addressed_itself}
-use Rattle.rdm_search.proofs.Prices.{later_less, busy_one_less, mute_pays}
+use Rattle.rdm_search.proofs.Prices.{later_less, busy_one_less, mute_pays, stray_pays}
 use Rattle.rdm_search.proofs.Standing.{IsKnown, IsCovered, IsPast, behind, lower, single}
 
 abbrev uid : ℕ → ℕ → Uid
@@ -71,6 +71,58 @@ known_after u device found line known there =
 covered_after : (u : Uid) (d i : ℕ) (line : List Fixture) → All (IsCovered d i) line → All (IsCovered d i) (map (after_mute u) line)
 covered_after u d i line covered = All-map (IsCovered d i) (after_mute u) line (λ k f h m. covered k f h (or_parts _ _ m).0)
 
+-- ---- the UID that was heard is one of those that answered, or more than one did
+
+not_so : (b : Bool) → not b ≡ true → b ≡ false
+not_so true e = absurd (false≢true e)
+not_so false e = refl
+
+so : (b : Bool) → not b ≡ false → b ≡ true
+so true e = refl
+so false e = absurd (false≢true (sym e))
+
+or_right : (a b : Bool) → b ≡ true → (a || b) ≡ true
+or_right true b e = refl
+or_right false b e = e
+
+no_and : (a b : Bool) → b ≡ false → (a && b) ≡ false
+no_and true b e = e
+no_and false b e = refl
+
+same_itself : (u v : Uid) → u ≡ v → same_uid u v ≡ true
+same_itself u v e = and_from _ _ (eq-eqb u.maker v.maker (ap (λ (w : Uid). w.maker) e)) (eq-eqb u.device v.device (ap (λ (w : Uid). w.device) e))
+
+is_there : (u : Uid) (line : List Fixture) → IsUnmuted u line → is_unmuted u line ≡ true
+is_there u [] h = absurd h
+is_there u (f ∷ line) (inl h) = ap (λ (b : Bool). b || is_unmuted u line) (and_from (same_uid f.uid u) (not f.muted) (same_itself f.uid u h.0) (ap not h.1))
+is_there u (f ∷ line) (inr h) = or_right (same_uid f.uid u && not f.muted) (is_unmuted u line) (is_there u line h)
+
+there_is : (u : Uid) (line : List Fixture) → is_unmuted u line ≡ true → IsUnmuted u line
+there_is u [] h = absurd (false≢true h)
+there_is u (f ∷ line) h =
+    elim (or_cases (same_uid f.uid u && not f.muted) (is_unmuted u line) h) [
+      | inl one ↦ (let parts = and_parts (same_uid f.uid u) (not f.muted) one in inl (same f.uid u parts.0, not_so f.muted parts.1))
+      | inr rest ↦ inr (there_is u line rest)
+    ]
+
+abbrev pub IsSure : Range → Uid → List Fixture → Type 0
+IsSure r u line = (2 ≤ count r.depth r.index line) ⊎ IsUnmuted u line
+
+pub not_astray : (r : Range) (u : Uid) (line : List Fixture) → IsSure r u line → is_astray r u line ≡ false
+not_astray r u line (inl two) = ap (λ (b : Bool). b && not (is_unmuted u line)) (le-ltb (count r.depth r.index line) 2 two)
+not_astray r u line (inr one) = no_and (ltb (count r.depth r.index line) 2) (not (is_unmuted u line)) (ap not (is_there u line one))
+
+sure_of : (r : Range) (u : Uid) (line : List Fixture) → is_astray r u line ≡ false → IsSure r u line
+sure_of r u line e =
+    elim (cases_lt (count r.depth r.index line) 2) [
+      | inl few ↦ inr (there_is u line (so (is_unmuted u line) (sym (ap (λ (b : Bool). b && not (is_unmuted u line)) (lt-ltb (count r.depth r.index line) 2 few)) ∙ e)))
+      | inr many ↦ inl (omega (arith, many))
+    ]
+
+pub sure_counts : (r : Range) (u : Uid) (line : List Fixture) → place r.depth u ≡ r.index → IsSure r u line → 1 ≤ count r.depth r.index line
+sure_counts r u line within sure =
+    elim sure [ inl two ↦ omega (arith, two) | inr one ↦ counted u r.depth r.index within line one ]
+
 -- ---- it answered, and was new
 
 known_push : (u : Uid) (found : List Uid) (line : List Fixture) → All (IsKnown found) line → All (IsKnown (found ++ u ∷ [])) line
@@ -114,13 +166,24 @@ past_after u device i line devices e covered =
       | inr ne ↦ (let p = last_place v in omega arith)
     ])
 
-due_pays : (r : Range) (u : Uid) (line : List Fixture) → IsDue r u line → (2 ≤ count r.depth r.index line) ⊎ (count r.depth r.index (map (after_mute u) line) + 1 ≤ count r.depth r.index line)
-due_pays r u line due =
-    elim due.some [ inl two ↦ inl two | inr one ↦ inr (fewer u r.depth r.index due.within line one) ]
+due_pays : (r : Range) (u : Uid) (line : List Fixture) → place r.depth u ≡ r.index → IsSure r u line → (2 ≤ count r.depth r.index line) ⊎ (count r.depth r.index (map (after_mute u) line) + 1 ≤ count r.depth r.index line)
+due_pays r u line within sure =
+    elim sure [ inl two ↦ inl two | inr one ↦ inr (fewer u r.depth r.index within line one) ]
 
-due_counts : (r : Range) (u : Uid) (line : List Fixture) → IsDue r u line → 1 ≤ count r.depth r.index line
-due_counts r u line due =
-    elim due.some [ inl two ↦ omega arith | inr one ↦ counted u r.depth r.index due.within line one ]
+-- a halving after it is paid for
+halving_pays : (r : Range) (u : Uid) (line : List Fixture) → r.depth < 48 → IsDue r u line → busy r.depth r.index (map (after_mute u) line) + 6 ≤ busy r.depth r.index line + 3 * count r.depth r.index (map (after_mute u) line) + when (is_astray r u line) 3
+halving_pays r u line shallow due =
+    let d = r.depth in let i = r.index in let after = map (after_mute u) line in
+    let less = no_more u d i line in
+    elim (cases_Bool (is_astray r u line)) [
+      | inl astray ↦
+          let three : when (is_astray r u line) 3 ≡ 3 = ap (λ (b : Bool). when b 3) astray in
+          let pays = stray_pays d i shallow line after less due.some in
+          omega (arith, pays, three)
+      | inr sure ↦
+          let pays = mute_pays d i shallow line after less (due_pays r u line due.within (sure_of r u line sure)) in
+          omega (arith, pays)
+    ]
 
 four_each : (n d : ℕ) → d ≡ 48 → 1 ≤ n → 4 ≤ n * (148 - 3 * d)
 four_each n d e some = let P : ℕ → Type 0 = λ k. 4 ≤ n * (148 - 3 * k) in let four : P 48 = omega arith in subst P (sym e) four
@@ -136,7 +199,7 @@ again r fits u found line stands there =
       | inl shallow ↦
           let now : IsLeft d i found after = record { real = real; known = known; covered = covered_after u d i line left.covered } in
           let next = lower r shallow found after now in
-          let pays = mute_pays d i shallow line after (no_more u d i line) (due_pays r u line due) in
+          let pays = halving_pays r u line shallow due in
           (next.0, omega (arith, next.1))
       | inr deep ↦
           let deepest : d ≡ 48 = omega (arith, fits.0) in
@@ -144,7 +207,7 @@ again r fits u found line stands there =
           let covered : All (IsCovered 48 i) line = subst (λ (k : ℕ). All (IsCovered k i) line) deepest left.covered in
           let ahead : All (IsPast d i) after = subst (λ (k : ℕ). All (IsPast k i) after) (sym deepest) (past_after u due.device i line left.real.devices number covered) in
           let next = behind d i fits.0 found after real known ahead in
-          let four = four_each (count d i line) d deepest (due_counts r u line due) in
+          let four = four_each (count d i line) d deepest due.some in
           let here : Leads (Muting r u) line (stage_after d i) found after = (next.0, omega (arith, next.1)) in
           subst (λ (stage : Stage). Leads (Muting r u) line stage found after) (sym (single r deepest)) here
     ]

@@ -61,6 +61,20 @@ mute_pays d i h line line' less due =
       | inr one ↦ let le = mul-le-mul_right k one in let e = add-mul n 1 k in omega (arith, le, e)
     ]
 
+-- and after a mute for a UID that an altered answer made up
+pub stray_pays : (d i : ℕ) → d < 48 → (line line' : List Fixture) → count d i line' ≤ count d i line → 1 ≤ count d i line → busy d i line' + 6 ≤ busy d i line + 3 * count d i line' + 3
+stray_pays d i h line line' less some =
+    let k = 145 - 3 * d in let m = count d i line in let n = count d i line' in
+    let c : 148 - 3 * d ≡ k + 3 = omega arith in
+    let old : busy d i line ≡ m * k + m * 3 = ap (λ (x : ℕ). m * x) c ∙ mul-add m k 3 in
+    let new : busy d i line' ≡ n * k + n * 3 = ap (λ (x : ℕ). n * x) c ∙ mul-add n k 3 in
+    let le = mul-le-mul_right k less in
+    omega (arith, le)
+
+pub three_at_most : (b : Bool) → when b 3 ≤ 3
+three_at_most true = omega arith
+three_at_most false = omega arith
+
 one_at_most : (b : Bool) → when b 1 ≤ 1
 one_at_most true = omega arith
 one_at_most false = omega arith

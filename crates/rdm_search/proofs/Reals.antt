@@ -7,22 +7,20 @@ use Rattle.std.proofs.lemmas.Bool.{cases_Bool, cond-true, cond-false}
 use Rattle.std.proofs.lemmas.List.{append-nil}
 use Rattle.std.proofs.lemmas.List.Elements.{All-nil, All-cons, All-head, All-tail}
 use Rattle.rdm_frame.specs.declared.uid.Uid.{Uid}
-use Rattle.rdm_frame.specs.FrameText.{frame_text, head_slots}
-use Rattle.rdm_frame.specs.Reading.{frame_in}
 use Rattle.rdm_search.specs.declared.found.Found.{Found}
 use Rattle.rdm_search.specs.declared.request.Request.{Request}
 use Rattle.rdm_search.specs.declared.request.Request.TheVariants.{Mute}
 use Rattle.rdm_search.specs.declared.stage.Stage.{Stage}
 use Rattle.rdm_search.specs.declared.stage.Stage.TheVariants.{Start, Asking, Muting, Ended}
 use Rattle.rdm_search.specs.Answers.{mute_answer, found_uids, knows, newcomer}
-use Rattle.rdm_search.specs.Line.{Fixture, IsDevice, uids}
+use Rattle.rdm_search.specs.Line.{Fixture, IsDevice, IsAnswer, uids}
 use Rattle.rdm_search.specs.Losses.{IsKept, IsLost}
 use Rattle.rdm_search.specs.Searches.{found_after}
 use Rattle.rdm_search.specs.Stages.{IsReal, request_of}
 use Rattle.rdm_search.proofs.Runs.{request_keeps, none_found}
 use Rattle.rdm_search.proofs.Mutes.{real_push}
 use Rattle.rdm_search.proofs.Hearings.{answer_of, push_uid, unknown}
-use Rattle.rdm_search.proofs.Losses.{partly_uids}
+use Rattle.rdm_search.proofs.Losses.{Asked, partly_uids}
 
 -- ---- the fixtures stay
 
@@ -44,26 +42,24 @@ still_real found line after e real = record {
   once = real.once;
 }
 
+-- nothing was lost, however many answers were altered, or it was
 abbrev pub Answered : Request → List Fixture → List ℕ → List Fixture → Type 0
-Answered request line heard after = IsKept request line heard after ⊎ IsLost request line heard after
+Answered request line heard after = ((n : ℕ) × (n' : ℕ) × IsKept request line heard after n n') ⊎ IsLost request line heard after
 
 pub same_fixtures : (request : Request) (line : List Fixture) (heard : List ℕ) (after : List Fixture) → Answered request line heard after → uids after ≡ uids line
-same_fixtures request line heard after (inl kept) = ap uids kept.1 ∙ request_keeps request line
+same_fixtures request line heard after (inl kept) = ap uids kept.2.1 ∙ request_keeps request line
 same_fixtures request line heard after (inr lost) = partly_uids request line after lost.1
 
 -- ---- an answer to a mute is that of a fixture
 
-silent : frame_in [] ≡ None
-unfolding frame_in frame_text head_slots
-silent = refl
-
-no_answer : (u : Uid) → mute_answer u [] ≡ None
-no_answer u = rw silent refl
+answered_so : (u : Uid) (line : List Fixture) (heard : List ℕ) (n n' : ℕ) → IsAnswer (Mute u) line heard n n' → IsSome (mute_answer u heard) → Contains (uids line) u
+answered_so u line heard n n' (inl h) some = h.0.0.0 some
+answered_so u line heard n n' (inr h) some = absurd h.0
 
 on_line : (u : Uid) (line : List Fixture) (heard : List ℕ) (after : List Fixture) → Answered (Mute u) line heard after → (x : Found) → mute_answer u heard ≡ Some x → Contains (uids line) u
-on_line u line heard after (inl kept) x e = kept.0.0 (subst IsSome (sym e) refl)
+on_line u line heard after (inl kept) x e = answered_so u line heard kept.0 kept.1 kept.2.0 (subst IsSome (sym e) refl)
 on_line u line heard after (inr lost) x e =
-    let none : None ≡ Some x = sym (no_answer u) ∙ ap (mute_answer u) (sym lost.0) ∙ e in
+    let none : None ≡ Some x = sym lost.0.0 ∙ e in
     absurd cc
 
 abbrev Pushed : List Found → List Fixture → Option Found → Type 0
@@ -103,9 +99,9 @@ keeps_real found line heard after request real answered = still_real (found_uids
 
 -- ---- counts
 
-pub without_count : (a b : Type 0) (n m : ℕ) → a ⊎ (b × (n ≤ m)) → a ⊎ b
-without_count a b n m (inl x) = inl x
-without_count a b n m (inr x) = inr x.0
+pub without_count : (request : Request) (line : List Fixture) (heard : List ℕ) (after : List Fixture) (least lost n n' : ℕ) → Asked request line heard after least lost n n' → Answered request line heard after
+without_count request line heard after least lost n n' (inl x) = inl (n, n', x)
+without_count request line heard after least lost n n' (inr x) = inr x.0
 
 pub one_paid : (c left : ℕ) → 0 < left → c * (left - 1) + c ≡ c * left
 one_paid c left some =

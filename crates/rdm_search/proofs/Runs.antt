@@ -15,13 +15,12 @@ use Rattle.rdm_search.specs.declared.request.Request.TheVariants.{UnMute, Unique
 use Rattle.rdm_search.specs.declared.stage.Stage.{Stage}
 use Rattle.rdm_search.specs.declared.stage.Stage.TheVariants.{Start, Asking, Muting, Ended}
 use Rattle.rdm_search.specs.Requests.{request_frame, IsRequest}
-use Rattle.rdm_search.specs.Line.{Fixture, IsDevice, IsFound, uids, unmuted, after_request}
+use Rattle.rdm_search.specs.Line.{Fixture, IsDevice, IsHeard, IsAltered, IsAnswer, IsFound, uids, unmuted, after_request}
 use Rattle.rdm_search.specs.Ranges.{uid_of, low, high, place}
 use Rattle.rdm_search.specs.Searches.{next_of}
-use Rattle.rdm_search.specs.Stages.{when, request_of, IsStage, count, price, IsReal, Stands, whole}
+use Rattle.rdm_search.specs.Stages.{when, request_of, IsStage, count, price, IsReal, Stands, Leads, Strays, whole}
 use Rattle.rdm_frame.specs.FrameText.{IsUid}
 use Rattle.rdm_search.proofs.Places.{width_pos, range_fits}
-use Rattle.rdm_search.proofs.Counts.{counted}
 use Rattle.rdm_search.proofs.Mutes.{same_uids}
 use Rattle.rdm_search.proofs.Hearings.{un_muted_uids}
 
@@ -31,6 +30,22 @@ pub request_keeps : (request : Request) (line : List Fixture) → uids (after_re
 request_keeps UnMute line = un_muted_uids line
 request_keeps (UniqueBranch a b) line = refl
 request_keeps (Mute u) line = same_uids u line
+
+-- ---- what was heard, altered or not
+
+-- From this stage a search has come to another one, where it stands, and this many answers to branches were altered.
+abbrev pub Comes : Stage → List Fixture → Stage → List Uid → List Fixture → ℕ → ℕ → Type 0
+Comes stage line stage' found' line' n n' = Stands stage' found' line' × (price stage' line' + 2 + 3 * n ≤ price stage line + 3 * n')
+
+pub answer_leads : (stage stage' : Stage) (found found' : List Uid) (request : Request) (line : List Fixture) (heard : List ℕ) (n n' : ℕ)
+    → (IsHeard request line heard → Leads stage line stage' found' (after_request request line)) × (IsAltered request line heard → Strays stage line stage' found' (after_request request line))
+    → IsAnswer request line heard n n' → Comes stage line stage' found' (after_request request line) n n'
+answer_leads stage stage' found found' request line heard n n' leads (inl h) = let on = leads.0 h.0 in (on.0, omega (arith, on.1, h.1))
+answer_leads stage stage' found found' request line heard n n' leads (inr h) = let on = leads.1 h.0 in (on.0, omega (arith, on.1, h.1))
+
+pub altered_more : (request : Request) (line : List Fixture) (heard : List ℕ) (n n' : ℕ) → IsAnswer request line heard n n' → n ≤ n'
+altered_more request line heard n n' (inl h) = omega (arith, h.1)
+altered_more request line heard n n' (inr h) = omega (arith, h.1)
 
 -- ---- the end
 
@@ -62,8 +77,7 @@ pub costs : (stage : Stage) (found : List Uid) (line : List Fixture) (request : 
 costs Start found line request fits e stands = omega arith
 costs (Asking r) found line request fits e stands = omega arith
 costs (Muting r u) found line request fits e stands =
-    let some : 1 ≤ count r.depth r.index line = elim stands.1.some [ inl two ↦ omega arith | inr one ↦ counted u r.depth r.index stands.1.within line one ] in
-    let least = four (count r.depth r.index line) r.depth fits.0 some in
+    let least = four (count r.depth r.index line) r.depth fits.0 stands.1.some in
     omega arith
 costs Ended found line request fits e stands = absurd cc
 

@@ -1,5 +1,5 @@
 -- A line: its fixtures, what is heard of them, and what a search has to find. E1.20 sections 7.5 and 7.6.
-use Rattle.std.specs.Prelude.{◌≡◌, ◌≢◌, ◌↔◌, ℕ, Bool, true, false, not, ◌&&◌, ◌||◌, nat_le, List, [], ◌∷◌, map, Contains, All, AllPairs, IsSome}
+use Rattle.std.specs.Prelude.{◌≡◌, ◌≢◌, ◌↔◌, ◌⊎◌, ℕ, suc, Bool, true, false, not, ◌&&◌, ◌||◌, nat_le, List, [], ◌∷◌, map, Contains, All, AllPairs, IsSome}
 use Rattle.std.specs.List.{filter}
 use Rattle.rdm_frame.specs.declared.uid.Uid.{Uid}
 use Rattle.rdm_frame.specs.FrameText.{IsUid}
@@ -38,11 +38,23 @@ IsCalled [] heard = heard ≡ []
 IsCalled (u ∷ []) heard = IsBranchReply u heard
 IsCalled (u ∷ (v ∷ us)) heard = heard ≢ []
 
--- What may be heard after each request. To a mute nobody else answers as that device does.
+-- What may be heard after each request. To a mute that device answers, if it is there, and nobody else.
 abbrev pub IsHeard : Request → List Fixture → List ℕ → Type 0
 IsHeard UnMute line heard = heard ≡ []
 IsHeard (UniqueBranch low high) line heard = IsCalled (callers low high line) heard
-IsHeard (Mute uid) line heard = IsSome (mute_answer uid heard) ↔ Contains (uids line) uid
+IsHeard (Mute uid) line heard =
+    (IsSome (mute_answer uid heard) ↔ Contains (uids line) uid) × (heard ≢ [] → IsSome (mute_answer uid heard))
+
+-- An answer to a branch was altered on its way: any bytes are heard, though not none. They may decode as the UID of anybody.
+abbrev pub IsAltered : Request → List Fixture → List ℕ → Type 0
+IsAltered UnMute line heard = ⊥
+IsAltered (UniqueBranch low high) line heard = (callers low high line ≢ []) × (heard ≢ [])
+IsAltered (Mute uid) line heard = ⊥
+
+-- What may be heard where answers to branches may be altered, and how many were, before and after.
+abbrev pub IsAnswer : Request → List Fixture → List ℕ → ℕ → ℕ → Type 0
+IsAnswer request line heard altered altered' =
+    (IsHeard request line heard × (altered' ≡ altered)) ⊎ (IsAltered request line heard × (altered' ≡ suc altered))
 
 -- what a mute for this destination leaves of a fixture
 abbrev pub after_mute : Uid → Fixture → Fixture

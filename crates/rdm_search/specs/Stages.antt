@@ -2,6 +2,8 @@
 use Rattle.std.specs.Prelude.{◌≡◌, ◌≢◌, ℕ, zero, suc, ◌+◌, ◌-◌, ◌*◌, ◌/◌, ◌%◌, ◌≤◌, Bool, true, false, not, nat_lt, ◌==◌, ◌&&◌, ◌⊎◌, List, [], ◌∷◌, length, Contains, All, AllPairs, Option, Some, None, if◌then◌else◌}
 use Rattle.std.specs.Coded.{×_prop, le_prop, Unit-prop}
 use Rattle.rdm_frame.specs.declared.uid.Uid.{Uid}
+use Rattle.std.specs.List.{list_any}
+use Rattle.rdm_frame.specs.Addressing.{same_uid}
 use Rattle.rdm_frame.specs.Discovery.{IsBranchReply}
 use Rattle.rdm_search.specs.declared.found.Found.{Found}
 use Rattle.rdm_search.specs.declared.request.Request.{Request}
@@ -9,7 +11,7 @@ use Rattle.rdm_search.specs.declared.request.Request.TheVariants.{UnMute, Unique
 use Rattle.rdm_search.specs.declared.range.Range.{Range}
 use Rattle.rdm_search.specs.declared.stage.Stage.{Stage}
 use Rattle.rdm_search.specs.declared.stage.Stage.TheVariants.{Start, Asking, Muting, Ended}
-use Rattle.rdm_search.specs.Line.{Fixture, IsDevice, IsHeard, uids, after_request}
+use Rattle.rdm_search.specs.Line.{Fixture, IsDevice, IsHeard, IsAltered, uids, after_request}
 use Rattle.rdm_search.specs.Ranges.{place, low, high, IsRange}
 
 -- ---- the stages
@@ -80,6 +82,9 @@ abbrev pub IsUnmuted : Uid → List Fixture → Type 0
 IsUnmuted u [] = ⊥
 IsUnmuted u (f ∷ line) = (f.uid ≡ u) × (f.muted ≡ false) ⊎ IsUnmuted u line
 
+abbrev pub is_unmuted : Uid → List Fixture → Bool
+is_unmuted u line = list_any (λ f. same_uid f.uid u && not f.muted) line
+
 -- What always holds: what was found is on the line, each once.
 pub record IsReal (found : List Uid) (line : List Fixture) : Type 0 where
   pub devices : All (λ f. IsDevice f.uid) line
@@ -92,11 +97,11 @@ pub record IsLeft (depth index : ℕ) (found : List Uid) (line : List Fixture) :
   pub known : All (λ f. f.muted ≡ true → Contains found f.uid) line
   pub covered : All (λ f. f.muted ≡ false → index ≤ place depth f.uid) line
 
--- a UID that was heard in a range is muted: it is one that answered, or more than one did
+-- a UID that was heard in a range is muted: at least one answered there
 pub record IsDue (r : Range) (u : Uid) (line : List Fixture) : Type 0 where
   pub device : IsDevice u
   pub within : place r.depth u ≡ r.index
-  pub some : (2 ≤ count r.depth r.index line) ⊎ IsUnmuted u line
+  pub some : 1 ≤ count r.depth r.index line
 
 abbrev pub Stands : Stage → List Uid → List Fixture → Type 0
 Stands Start found line = IsReal found line
@@ -116,18 +121,28 @@ later zero index line = 0
 later (suc depth) index line =
     when (index % 2 == 0) (2 + busy (suc depth) (index + 1) line) + later depth (index / 2) line
 
+-- One fixture answered, and another UID was heard: an altered answer.
+abbrev pub is_astray : Range → Uid → List Fixture → Bool
+is_astray r u line = nat_lt (count r.depth r.index line) 2 && not (is_unmuted u line)
+
 abbrev pub price : Stage → List Fixture → ℕ
 price Start line = 4 + 148 * length line
 price (Asking r) line = 2 + busy r.depth r.index line + later r.depth r.index line
-price (Muting r uid) line = busy r.depth r.index line + later r.depth r.index line
+price (Muting r uid) line = busy r.depth r.index line + later r.depth r.index line + when (is_astray r uid line) 3
 price Ended line = 0
 
 -- From this stage, with this line, a search has come to another one, where it stands with less left.
 abbrev pub Leads : Stage → List Fixture → Stage → List Uid → List Fixture → Type 0
 Leads stage line stage' found' line' = Stands stage' found' line' × (price stage' line' + 2 ≤ price stage line)
 
--- What was heard leads on from this stage, on every line on which the search stands there.
+-- From this stage it has come to another one, where it stands with at most one half more left.
+abbrev pub Strays : Stage → List Fixture → Stage → List Uid → List Fixture → Type 0
+Strays stage line stage' found' line' = Stands stage' found' line' × (price stage' line' ≤ price stage line + 1)
+
+-- What was heard leads on from this stage, on every line on which the search stands there. Where it was altered the search stands too,
+-- and has a transaction and a half more before it than it had else.
 abbrev pub Hears : Stage → List Uid → List ℕ → Stage → List Uid → Type 0
 Hears stage found heard stage' found' =
-    (request : Request) (line : List Fixture) → request_of stage ≡ Some request → Stands stage found line → IsHeard request line heard
-    → Leads stage line stage' found' (after_request request line)
+    (request : Request) (line : List Fixture) → request_of stage ≡ Some request → Stands stage found line
+    → (IsHeard request line heard → Leads stage line stage' found' (after_request request line))
+    × (IsAltered request line heard → Strays stage line stage' found' (after_request request line))

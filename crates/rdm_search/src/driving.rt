@@ -1,6 +1,6 @@
 //! A search is run over a port.
 
-ghost use Rattle.std.specs.Prelude.{◌≡◌, ◌≢◌, ◌+◌, ◌*◌, ◌<◌, ◌≤◌, true, false, length, All, AllPairs, Contains};
+ghost use Rattle.std.specs.Prelude.{◌≡◌, ◌≢◌, ◌+◌, ◌-◌, ◌*◌, ◌<◌, ◌≤◌, true, false, length, All, AllPairs, Contains};
 ghost use Rattle.std.specs.Prelude.{IfOk, OnOk, OnErr};
 ghost use Rattle.rdm_search.specs.Answers.{found_uids};
 ghost use Rattle.rdm_search.specs.Line.{IsDevice, IsFound, uids, unmuted};
@@ -16,7 +16,8 @@ use std::alloc::Global;
 /// Finds all fixtures of a line, and mutes them: each comes once, with what its answer to DISC_MUTE says. Memory is taken from
 /// `alloc` for what is found.
 ///
-/// It takes at most 74 transactions for each fixture and 2 more. If `limit` allows that many, `Err(Limit)` doesn't come.
+/// It takes at most 74 transactions for each fixture and 2 more, and 2 for each answer to a branch that was altered. If `limit` allows
+/// that many, `Err(Limit)` doesn't come.
 #[tactic(auto, using(crate::proofs::Runs::begins, crate::proofs::Runs::price_of_all))]
 pub fn discover<P: Port>(
     alloc: Global,
@@ -28,8 +29,10 @@ pub fn discover<P: Port>(
     // What is found is the fixtures of the line, each once, and all are muted.
     ensures found { IfOk result (λ found. IsFound (found_uids found.items) (P.fixtures port.new)) }
     ensures same { uids (P.fixtures port.new) ≡ uids (P.fixtures port.old) }
-    ensures sent { P.sent port.new ≤ P.sent port.old + 74 * length (P.fixtures port.old) + 2 }
-    ensures limit { 74 * length (P.fixtures port.old) + 2 ≤ limit → result ≢ Err SearchError.Limit }
+    ensures sent { P.sent port.new
+        ≤ P.sent port.old + 74 * length (P.fixtures port.old) + 2 + 2 * (P.altered port.new - P.altered port.old) }
+    ensures limit { 74 * length (P.fixtures port.old) + 2 + 2 * (P.altered port.new - P.altered port.old) ≤ limit
+        → result ≢ Err SearchError.Limit }
 {
     let mut search = Search::new(alloc, source, limit);
     run(&mut search, port)?;
@@ -38,7 +41,7 @@ pub fn discover<P: Port>(
 
 /// Finds the fixtures that aren't muted, when all that are muted were found: those that were plugged in since, or lost power.
 ///
-/// It takes at most 74 transactions for each of them and 1 more.
+/// It takes at most 74 transactions for each of them and 1 more, and 2 for each answer to a branch that was altered.
 #[tactic(auto, using(crate::proofs::Runs::goes_on, crate::proofs::Runs::price_of_rest))]
 pub fn discover_more<P: Port>(
     port: &mut P,
@@ -52,8 +55,10 @@ pub fn discover_more<P: Port>(
     requires once { AllPairs (λ u v. u ≢ v) (found_uids found.items) }
     ensures found { IfOk result (λ found. IsFound (found_uids found.items) (P.fixtures port.new)) }
     ensures same { uids (P.fixtures port.new) ≡ uids (P.fixtures port.old) }
-    ensures sent { P.sent port.new ≤ P.sent port.old + 74 * length (unmuted (P.fixtures port.old)) + 1 }
-    ensures limit { 74 * length (unmuted (P.fixtures port.old)) + 1 ≤ limit → result ≢ Err SearchError.Limit }
+    ensures sent { P.sent port.new
+        ≤ P.sent port.old + 74 * length (unmuted (P.fixtures port.old)) + 1 + 2 * (P.altered port.new - P.altered port.old) }
+    ensures limit { 74 * length (unmuted (P.fixtures port.old)) + 1 + 2 * (P.altered port.new - P.altered port.old) ≤ limit
+        → result ≢ Err SearchError.Limit }
 {
     let mut search = Search::resume(source, found, limit);
     run(&mut search, port)?;
@@ -65,8 +70,11 @@ pub fn run<P: Port>(search: &mut Search, port: &mut P) -> Result<(), SearchError
     requires { Stands search.old.stage (found_uids search.old.found.items) (P.fixtures port.old) }
     ensures found { OnOk result (IsFound (found_uids search.new.found.items) (P.fixtures port.new)) }
     ensures same { uids (P.fixtures port.new) ≡ uids (P.fixtures port.old) }
-    ensures sent { 2 * P.sent port.new ≤ 2 * P.sent port.old + price search.old.stage (P.fixtures port.old) }
-    ensures limit { price search.old.stage (P.fixtures port.old) ≤ 2 * search.old.left → result ≢ Err SearchError.Limit }
+    // Each altered answer to a branch takes one and a half more.
+    ensures sent { 2 * P.sent port.new + 3 * P.altered port.old
+        ≤ 2 * P.sent port.old + price search.old.stage (P.fixtures port.old) + 3 * P.altered port.new }
+    ensures limit { price search.old.stage (P.fixtures port.old) + 3 * P.altered port.new ≤ 2 * search.old.left + 3 * P.altered port.old
+        → result ≢ Err SearchError.Limit }
 {
     while turn(search, port)? {}
     Ok(())
@@ -75,16 +83,18 @@ pub fn run<P: Port>(search: &mut Search, port: &mut P) -> Result<(), SearchError
 /// Makes one transaction, if the search hasn't ended. Tells whether it did.
 fn turn<P: Port>(search: &mut Search, port: &mut P) -> Result<bool, SearchError>
     requires { Stands search.old.stage (found_uids search.old.found.items) (P.fixtures port.old) }
-    ensures ended { result ≡ Ok false →
-        IsFound (found_uids search.new.found.items) (P.fixtures port.new) × (P.sent port.new ≡ P.sent port.old) }
+    ensures ended { result ≡ Ok false → IsFound (found_uids search.new.found.items) (P.fixtures port.new)
+        × (P.sent port.new ≡ P.sent port.old) × (P.altered port.new ≡ P.altered port.old) }
     ensures stands { result ≡ Ok true → Stands search.new.stage (found_uids search.new.found.items) (P.fixtures port.new) }
-    ensures price { result ≡ Ok true →
-        price search.new.stage (P.fixtures port.new) + 2 ≤ price search.old.stage (P.fixtures port.old) }
+    ensures price { result ≡ Ok true → price search.new.stage (P.fixtures port.new) + 2 + 3 * P.altered port.old
+        ≤ price search.old.stage (P.fixtures port.old) + 3 * P.altered port.new }
     ensures left { result ≡ Ok true → search.new.left + 1 ≡ search.old.left }
     ensures same { uids (P.fixtures port.new) ≡ uids (P.fixtures port.old) }
     ensures sent { P.sent port.new ≤ P.sent port.old + 1 }
-    ensures err { OnErr result (2 * P.sent port.new ≤ 2 * P.sent port.old + price search.old.stage (P.fixtures port.old)) }
-    ensures limit { result ≡ Err SearchError.Limit → 2 * search.old.left < price search.old.stage (P.fixtures port.old) }
+    ensures err { OnErr result ((2 * P.sent port.new ≤ 2 * P.sent port.old + price search.old.stage (P.fixtures port.old))
+        × (P.altered port.old ≤ P.altered port.new)) }
+    ensures limit { result ≡ Err SearchError.Limit → (2 * search.old.left < price search.old.stage (P.fixtures port.old))
+        × (P.altered port.new ≡ P.altered port.old) }
 {
     match search.next()? {
         None => Ok(false),

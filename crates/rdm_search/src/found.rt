@@ -17,7 +17,7 @@ pub struct Found {
 
 impl Found {
     ghost use Rattle.std.specs.Prelude.{◌≡◌};
-    ghost use Rattle.std.specs.Prelude.{Some, None, if◌then◌else◌};
+    ghost use Rattle.std.specs.Prelude.{Some, None, is_some, if◌then◌else◌};
     ghost use Rattle.rdm_search.specs.Answers.{found_in, is_mute_answer, mute_answer};
 
     /// What the bytes say, if they are the answer of that device to its mute.
@@ -28,6 +28,13 @@ impl Found {
             Ok(frame) => Found::in_frame(uid, &frame),
             Err(_) => None,
         }
+    }
+
+    /// Whether the bytes are the answer of that device to its mute.
+    pub(crate) fn is_answer(uid: Uid, bytes: &[u8]) -> bool
+        ensures { result ≡ is_some (mute_answer uid bytes.now) }
+    {
+        Found::in_answer(uid, bytes).is_some()
     }
 
     fn in_frame(uid: Uid, frame: &FrameView<'_>) -> Option<Found>

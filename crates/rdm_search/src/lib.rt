@@ -25,5 +25,6 @@ pub use lossy::LossyPort;
 pub use lossy_driving::{discover_lossy, run_lossy};
 pub use port::Port;
 pub use request::Request;
+pub use retries::is_answered;
 pub use search::Search;
 pub use with_retries::WithRetries;

@@ -1,12 +1,14 @@
-//! A port on a line that loses requests and answers.
+//! A port on a line that loses requests and answers, and alters answers.
 
 use rdm_frame::{Frame, Wire};
 
-/// A port on a line where a request may be lost on its way to some of the fixtures or to all, and an answer on its way back.
+/// A port on a line where a request may be lost on its way to some of the fixtures or to all, and an answer may be lost or altered on
+/// its way back.
 ///
 /// Its clauses say what may come of one asking. Nothing is lost: then all fixtures have carried the request out, and what they
-/// answered was heard, as on the line of a `Port`. Or something is: then nothing was heard, and each fixture has carried the
-/// request out or not. So a fixture may be muted though its answer was never heard.
+/// answered was heard, as on the line of a `Port`. Or something is: then nothing was heard, or after a mute bytes that aren't the
+/// answer of that device, and each fixture has carried the request out or not. So a fixture may be muted though no valid answer of
+/// it was ever heard. An altered answer to a mute is told by its checksum: it is never taken for a valid one.
 pub trait LossyPort {
     ghost use Rattle.std.specs.Prelude.{◌≡◌, ℕ, suc, ◌+◌, ◌≤◌, ◌⊎◌, List};
     ghost use Rattle.rdm_frame.specs.declared.uid.Uid.{Uid};
@@ -21,7 +23,10 @@ pub trait LossyPort {
     // How many frames were sent.
     ghost sent: { Self → ℕ };
 
-    // How many askings in a row were lost, up to the last.
+    // How many answers to branches were altered.
+    ghost altered: { Self → ℕ };
+
+    // How many askings in a row were lost up to the last, of a mute also by an altered answer.
     ghost lost: { Self → ℕ };
 
     // Whether as many askings in a row may be lost.
@@ -30,8 +35,10 @@ pub trait LossyPort {
     /// Sends the frame, and waits for what comes.
     fn exchange(&mut self, frame: &Frame) -> Wire
         ensures asked { (request : Request) (source : Uid) (tn : ℕ) → IsRequest request
-            → frame.now ≡ request_frame source tn request → (IsKept request (fixtures self.old) result (fixtures self.new) × (lost self.new ≡ 0))
-            ⊎ (IsLost request (fixtures self.old) result (fixtures self.new) × (lost self.new ≡ suc (lost self.old))) }
+            → frame.now ≡ request_frame source tn request
+            → (IsKept request (fixtures self.old) result (fixtures self.new) (altered self.old) (altered self.new) × (lost self.new ≡ 0))
+            ⊎ (IsLost request (fixtures self.old) result (fixtures self.new) × (lost self.new ≡ suc (lost self.old))
+            × (altered self.new ≡ altered self.old)) }
         ensures within { may_lose self.new (lost self.new) }
         ensures same { (n : ℕ) → may_lose self.new n → may_lose self.old n }
         ensures sent { sent self.new ≤ sent self.old + 1 };

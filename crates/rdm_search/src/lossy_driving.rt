@@ -1,4 +1,4 @@
-//! A search is run over a port on which anything may be lost.
+//! A search is run over a port on which anything may be lost or altered.
 
 ghost use Rattle.std.specs.Prelude.{◌≡◌, ◌+◌, ◌*◌, ◌≤◌, true, All, IfOk, OnOk, OnErr};
 ghost use Rattle.rdm_search.specs.Answers.{found_uids};
@@ -13,10 +13,11 @@ use crate::search::Search;
 use rdm_frame::Uid;
 use std::alloc::Global;
 
-/// Looks for the fixtures of a line on which anything may be lost, asking up to `retries` times again while nothing is heard.
+/// Looks for the fixtures of a line on which anything may be lost or altered, asking up to `retries` times again while no valid answer
+/// is heard.
 ///
 /// What it finds is there, and comes once. A fixture is missed where all askings of a request in a row are lost to it, or their
-/// answers are. `discover` over `WithRetries` misses none, on a line of which it is known how many askings in a row are lost.
+/// answers are lost or altered. `discover` over `WithRetries` misses none, on a line of which it is known how many askings in a row are.
 #[tactic(auto, using(crate::proofs::Reals::begins_real))]
 pub fn discover_lossy<L: LossyPort>(
     alloc: Global,
@@ -26,7 +27,7 @@ pub fn discover_lossy<L: LossyPort>(
     limit: u32,
 ) -> Result<Vec<Found>, SearchError>
     requires { All (λ f. IsDevice f.uid) (L.fixtures port.old) }
-    // What is found is on the line, each once.
+    // Whatever is lost or altered, what is found is on the line, each once.
     ensures real { IfOk result (λ found. IsReal (found_uids found.items) (L.fixtures port.new)) }
     ensures same { uids (L.fixtures port.new) ≡ uids (L.fixtures port.old) }
     ensures sent { L.sent port.new ≤ L.sent port.old + (retries + 1) * limit }
@@ -36,8 +37,8 @@ pub fn discover_lossy<L: LossyPort>(
     Ok(search.into_found())
 }
 
-/// Runs a search to its end over a port on which anything may be lost, from wherever it stands, asking up to `retries` times
-/// again while nothing is heard.
+/// Runs a search to its end over a port on which anything may be lost or altered, from wherever it stands, asking up to `retries`
+/// times again while no valid answer is heard.
 pub fn run_lossy<L: LossyPort>(
     search: &mut Search,
     port: &mut L,

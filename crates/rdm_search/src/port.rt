@@ -5,13 +5,14 @@ use rdm_frame::{Frame, Wire};
 /// A port on a line. `exchange` sends the frame of a request and gives the bytes that came after it, none if nothing did.
 ///
 /// Its clauses say what a line is: what may be heard after each request of a search, and which fixtures are muted then. If
-/// more than one fixture answers, any bytes may come, as long as some do.
+/// more than one fixture answers, any bytes may come, as long as some do. So it may be if one does: its answer was altered on
+/// its way then, which the port counts.
 pub trait Port {
     ghost use Rattle.std.specs.Prelude.{◌≡◌, ℕ, ◌+◌, ◌≤◌, List};
     ghost use Rattle.rdm_frame.specs.declared.uid.Uid.{Uid};
     ghost use Rattle.rdm_search.specs.declared.request.Request.{Request};
     ghost use Rattle.rdm_search.specs.Requests.{request_frame, IsRequest};
-    ghost use Rattle.rdm_search.specs.Line.{Fixture, IsHeard, after_request};
+    ghost use Rattle.rdm_search.specs.Line.{Fixture, IsAnswer, after_request};
 
     // The fixtures of its line.
     ghost fixtures: { Self → List Fixture };
@@ -19,10 +20,14 @@ pub trait Port {
     // How many transactions there were.
     ghost sent: { Self → ℕ };
 
+    // How many answers to branches were altered.
+    ghost altered: { Self → ℕ };
+
     /// Sends the frame, and waits for what comes.
     fn exchange(&mut self, frame: &Frame) -> Wire
         ensures heard { (request : Request) (source : Uid) (tn : ℕ) → IsRequest request
-            → frame.now ≡ request_frame source tn request → IsHeard request (fixtures self.old) result }
+            → frame.now ≡ request_frame source tn request
+            → IsAnswer request (fixtures self.old) result (altered self.old) (altered self.new) }
         ensures after { (request : Request) (source : Uid) (tn : ℕ) → IsRequest request
             → frame.now ≡ request_frame source tn request → fixtures self.new ≡ after_request request (fixtures self.old) }
         ensures sent { sent self.new ≤ sent self.old + 1 };

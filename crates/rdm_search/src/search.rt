@@ -4,13 +4,16 @@ ghost use Rattle.rdm_search.specs.Stages.{IsStage, IsStage-prop};
 
 use crate::error::SearchError;
 use crate::found::Found;
-use crate::hearing::after;
+use crate::hearing::heard;
 use crate::range::Range;
 use crate::stage::Stage;
 use rdm_frame::{Frame, Uid};
 use std::alloc::Global;
 
 /// A search for the fixtures of a line. It sends nothing itself: `next` gives the frame to send, and `hear` takes what was heard.
+///
+/// A mute whose answer isn't valid is sent again, 8 times at most, since that fixture is muted though it isn't known who it is. If no
+/// answer is valid, the search goes on, and `unsure` has its UID.
 #[derive(Drop)]
 pub struct Search {
     source: Uid,
@@ -18,15 +21,19 @@ pub struct Search {
     left: u32,
     stage: Stage,
     found: Vec<Found>,
+    // How many times the mute at hand was sent again.
+    again: u8,
+    // Who sounded after each mute, without a valid answer.
+    unsure: Vec<Uid>,
     ghost valid: { IsStage stage } by { IsStage-prop stage },
 }
 
 impl Search {
-    ghost use Rattle.std.specs.Prelude.{◌≡◌, ◌+◌, ◌-◌, ◌%◌, [], Ok, None, OnOk, OnErr};
+    ghost use Rattle.std.specs.Prelude.{◌≡◌, ◌+◌, ◌-◌, ◌%◌, true, false, [], Ok, None, OnOk, OnErr};
     ghost use Rattle.rdm_search.specs.declared.stage.Stage.TheVariants.{Start, Asking};
     ghost use Rattle.rdm_search.specs.Answers.{found_uids};
     ghost use Rattle.rdm_search.specs.Stages.{Hears, request_of, whole};
-    ghost use Rattle.rdm_search.specs.Searches.{next_of, found_after};
+    ghost use Rattle.rdm_search.specs.Searches.{next_of, found_after, is_repeated, unsure_after};
 
     /// A search for all fixtures, by the controller with this UID, in this many transactions at most. It un-mutes all, and takes
     /// memory from `alloc` for what it finds.
@@ -35,8 +42,16 @@ impl Search {
         ensures found { result.found.items ≡ [] }
         ensures left { result.left ≡ limit }
         ensures source { result.source ≡ source }
+        ensures unsure { result.unsure.items ≡ [] }
+        ensures again { result.again ≡ 0 }
     {
-        Search::at(source, limit, Stage::Start, Vec::new(alloc))
+        Search::at(
+            source,
+            limit,
+            Stage::Start,
+            Vec::new(alloc),
+            Vec::new(alloc),
+        )
     }
 
     /// A search for the fixtures that were plugged in since these were found. It un-mutes none, so that only those answer.
@@ -45,16 +60,21 @@ impl Search {
         ensures found { result.found.items ≡ found.items }
         ensures left { result.left ≡ limit }
         ensures source { result.source ≡ source }
+        ensures unsure { result.unsure.items ≡ [] }
+        ensures again { result.again ≡ 0 }
     {
-        Search::at(source, limit, Stage::Asking(Range::WHOLE), found)
+        let unsure = Vec::new(*found.allocator());
+        Search::at(source, limit, Stage::Asking(Range::WHOLE), found, unsure)
     }
 
-    fn at(source: Uid, limit: u32, stage: Stage, found: Vec<Found>) -> Search
+    fn at(source: Uid, limit: u32, stage: Stage, found: Vec<Found>, unsure: Vec<Uid>) -> Search
         requires { IsStage stage }
         ensures stage { result.stage ≡ stage }
         ensures found { result.found.items ≡ found.items }
         ensures left { result.left ≡ limit }
         ensures source { result.source ≡ source }
+        ensures unsure { result.unsure.items ≡ unsure.items }
+        ensures again { result.again ≡ 0 }
     {
         Search {
             source,
@@ -62,6 +82,8 @@ impl Search {
             left: limit,
             stage,
             found,
+            again: 0,
+            unsure,
         }
     }
 
@@ -87,12 +109,29 @@ impl Search {
         ensures left { OnOk result (self.new.left ≡ self.old.left - 1) }
         // The next request has the next transaction number.
         ensures tn { OnOk result (self.new.tn ≡ (self.old.tn + 1) % 256) }
+        // A mute whose answer isn't valid is sent again, though not for ever.
+        ensures repeats { OnOk result (is_repeated self.old.stage self.old.found.items self.old.again bytes.now ≡ true →
+            (self.new.stage ≡ self.old.stage) × (self.new.again ≡ self.old.again + 1)
+            × (self.new.unsure.items ≡ self.old.unsure.items)) }
+        // Its UID is unsure then.
+        ensures settles { OnOk result (is_repeated self.old.stage self.old.found.items self.old.again bytes.now ≡ false →
+            (self.new.again ≡ 0)
+            × (self.new.unsure.items ≡ unsure_after self.old.stage self.old.found.items self.old.unsure.items bytes.now)) }
         ensures err { result ≡ Err SearchError.Limit → ⊥ }
         ensures same { OnErr result ((self.new.stage ≡ self.old.stage)
-            × (self.new.found.items ≡ self.old.found.items) × (self.new.left ≡ self.old.left) × (self.new.tn ≡ self.old.tn)) }
+            × (self.new.found.items ≡ self.old.found.items) × (self.new.left ≡ self.old.left) × (self.new.tn ≡ self.old.tn)
+            × (self.new.again ≡ self.old.again) × (self.new.unsure.items ≡ self.old.unsure.items)) }
         ensures source { self.new.source ≡ self.old.source }
     {
-        self.stage = after(&mut self.found, self.stage, bytes)?;
+        let (stage, again) = heard(
+            &mut self.found,
+            &mut self.unsure,
+            self.stage,
+            self.again,
+            bytes,
+        )?;
+        self.stage = stage;
+        self.again = again;
         self.tn = self.tn.wrapping_add(1);
         self.left = self.left.saturating_sub(1);
         Ok(())
@@ -106,9 +145,12 @@ impl Search {
         ensures left { self.new.left ≡ limit }
         ensures source { self.new.source ≡ self.old.source }
         ensures tn { self.new.tn ≡ self.old.tn }
+        ensures unsure { self.new.unsure.items ≡ self.old.unsure.items }
+        ensures again { self.new.again ≡ 0 }
     {
         self.stage = Stage::Asking(Range::WHOLE);
         self.left = limit;
+        self.again = 0;
     }
 
     /// The fixtures that were found so far, each with what its answer to DISC_MUTE says.
@@ -116,6 +158,14 @@ impl Search {
         ensures { result.now ≡ self.now.found.items }
     {
         self.found.as_slice()
+    }
+
+    /// The UIDs of whoever sounded after each mute, though no answer was valid, each once. Of these, whoever isn't among `found` is muted,
+    /// it may be, and not found: a search that un-mutes all, as `new` begins, finds it on a better line.
+    pub fn unsure(&self) -> &[Uid]
+        ensures { result.now ≡ self.now.unsure.items }
+    {
+        self.unsure.as_slice()
     }
 
     /// The fixtures that were found.
@@ -128,6 +178,8 @@ impl Search {
             left: _,
             stage: _,
             found,
+            again: _,
+            unsure: _,
         } = self;
         found
     }

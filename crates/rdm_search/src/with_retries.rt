@@ -7,10 +7,12 @@ use crate::port::Port;
 use crate::retries::ask;
 use rdm_frame::{Frame, Wire};
 
-/// A port that loses nothing, over one that does: it asks again while it hears nothing.
+/// A port that loses nothing, over one that does: it asks again while it hears nothing, and after a mute while it doesn't hear the
+/// valid answer of that device.
 ///
-/// It is for a line on which of `retries` + 1 askings in a row at least one isn't lost: there a search over it finds all fixtures. One
-/// transaction of the search is `retries` + 1 askings at most, and DISC_UN_MUTE, which nobody answers, is sent as many times.
+/// It is for a line on which of `retries` + 1 askings in a row at least one is neither lost nor altered: there a search over it finds
+/// all fixtures. One transaction of the search is `retries` + 1 askings at most, and DISC_UN_MUTE, which nobody answers, is sent as
+/// many times. An altered answer to a branch isn't asked for again, since it sounds as one of two fixtures does.
 #[derive(Drop)]
 pub struct WithRetries<L: LossyPort> {
     port: L,
@@ -46,6 +48,8 @@ impl<L: LossyPort> Port for WithRetries<L> {
 
     // A transaction is that many askings at most.
     ghost sent = { λ p. L.sent p.port / (p.retries + 1) };
+
+    ghost altered = { λ p. L.altered p.port };
 
     fn exchange(&mut self, frame: &Frame) -> Wire {
         ask(&mut self.port, self.retries, frame)

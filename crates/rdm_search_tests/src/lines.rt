@@ -22,7 +22,9 @@ impl Port for Empty {
 
     ghost sent = { λ _. 0 };
 
-    #[tactic(auto, using(crate::proofs::Empties::nothing_heard, crate::proofs::Empties::nobody_after))]
+    ghost altered = { λ _. 0 };
+
+    #[tactic(auto, using(crate::proofs::Empties::nothing_comes, crate::proofs::Empties::nobody_after))]
     fn exchange(&mut self, _frame: &Frame) -> Wire {
         self.sent = self.sent.saturating_add(1);
         Wire::new()
@@ -36,11 +38,13 @@ impl LossyPort for Empty {
 
     ghost sent = { λ p. p.sent };
 
+    ghost altered = { λ _. 0 };
+
     ghost lost = { λ _. 0 };
 
     ghost may_lose = { λ _ n. n ≡ 0 };
 
-    #[tactic(auto, using(crate::proofs::Empties::nothing_heard, crate::proofs::Empties::nobody_after))]
+    #[tactic(auto, using(crate::proofs::Empties::nothing_comes, crate::proofs::Empties::nobody_after))]
     fn exchange(&mut self, _frame: &Frame) -> Wire {
         self.sent = self.sent.saturating_add(1);
         Wire::new()

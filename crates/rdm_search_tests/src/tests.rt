@@ -56,6 +56,28 @@ const UPPER: Request = Request::UniqueBranch(
     Uid::ALL,
 );
 
+const FIRST_QUARTER: Request = Request::UniqueBranch(
+    Uid {
+        maker: 0,
+        device: 0,
+    },
+    Uid {
+        maker: 0x3FFF,
+        device: 0xFFFF_FFFF,
+    },
+);
+
+const SECOND_QUARTER: Request = Request::UniqueBranch(
+    Uid {
+        maker: 0x4000,
+        device: 0,
+    },
+    Uid {
+        maker: 0x7FFF,
+        device: 0xFFFF_FFFF,
+    },
+);
+
 const THIRD_QUARTER: Request = Request::UniqueBranch(
     Uid {
         maker: 0x8000,
@@ -115,7 +137,7 @@ fn bytes_of(sound: Sound) -> Result<Wire, Fail> {
 }
 
 /// What the fixtures sound like at once, and all that is asked and heard.
-const SEARCHES: [(&str, &[(Request, Sound)]); 4] = [
+const SEARCHES: [(&str, &[(Request, Sound)]); 5] = [
     (
         "noise, and a UID of nobody",
         &[
@@ -172,6 +194,26 @@ const SEARCHES: [(&str, &[(Request, Sound)]); 4] = [
         ],
     ),
     (
+        "one of them, and altered answers",
+        &[
+            (Request::UnMute, Sound::Nothing),
+            (ALL, Sound::Noise),
+            (LOWER, Sound::Branch(NOBODY)),
+            (FIRST_QUARTER, Sound::Branch(FIRST)),
+            (Request::Mute(FIRST), Sound::Noise),
+            (Request::Mute(FIRST), Sound::Noise),
+            (Request::Mute(FIRST), Sound::Mute(FIRST)),
+            (FIRST_QUARTER, Sound::Nothing),
+            (SECOND_QUARTER, Sound::Nothing),
+            (UPPER, Sound::Branch(SECOND)),
+            (Request::Mute(SECOND), Sound::Mute(SECOND)),
+            (UPPER, Sound::Branch(THIRD)),
+            (Request::Mute(THIRD), Sound::Branch(THIRD)),
+            (Request::Mute(THIRD), Sound::Mute(THIRD)),
+            (UPPER, Sound::Nothing),
+        ],
+    ),
+    (
         "a fixture elsewhere",
         &[
             (Request::UnMute, Sound::Nothing),
@@ -212,7 +254,7 @@ fn hear_all(
 #[test]
 fn three_fixtures_are_found(rt: HostRuntime) -> Result<(), Fail> {
     for (collision, steps) in SEARCHES {
-        let mut search = Search::new(rt.alloc(), CONSOLE, 13);
+        let mut search = Search::new(rt.alloc(), CONSOLE, 15);
         hear_all(&rt, &mut search, steps)?;
         assert_eq!(rt; search.next()?, None, "{collision}");
         let found = search.into_found();
@@ -289,7 +331,7 @@ fn only_an_answer_to_the_mute_counts(rt: HostRuntime) -> Result<(), Fail> {
         answer(FIRST, 0x11, 0x0002, 0x02, &[0x00, 0x00])?,
         bytes_of(Sound::Branch(FIRST))?,
     ] {
-        let mut search = Search::new(rt.alloc(), CONSOLE, 9);
+        let mut search = Search::new(rt.alloc(), CONSOLE, 12);
         hear_all(
             &rt,
             &mut search,
@@ -298,9 +340,18 @@ fn only_an_answer_to_the_mute_counts(rt: HostRuntime) -> Result<(), Fail> {
                 (ALL, Sound::Branch(FIRST)),
             ],
         )?;
+        for tn in 3..11 {
+            search.hear(bytes.as_slice())?;
+            assert_eq!(rt;
+                search.next()?,
+                Some(Request::Mute(FIRST).frame(CONSOLE, tn))
+            );
+            assert_eq!(rt; search.unsure(), [].as_slice());
+        }
         search.hear(bytes.as_slice())?;
         assert_eq!(rt; search.found(), [].as_slice());
-        assert_eq!(rt; search.next()?, Some(LOWER.frame(CONSOLE, 3)));
+        assert_eq!(rt; search.unsure(), [FIRST].as_slice());
+        assert_eq!(rt; search.next()?, Some(LOWER.frame(CONSOLE, 11)));
     }
     Ok(())
 }

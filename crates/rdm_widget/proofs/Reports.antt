@@ -211,6 +211,15 @@ reported-restored (Placed sub pid bytes ∷ es) image = reported-restored es ima
 reported-restored (Noted entry ∷ es) image = reported-restored es image
 reported-restored (Restored other ∷ es) image = reported-restored es image
 
+pub reported-placed : (es : List Event) (sub pid : ℕ) (bytes : List ℕ) → reported_in (es ++ Placed sub pid bytes ∷ []) ≡ reported_in es
+reported-placed [] sub pid bytes = refl
+reported-placed (Heard b ∷ es) sub pid bytes = reported-placed es sub pid bytes
+reported-placed (Arrived x ∷ es) sub pid bytes = ap (λ (l : List Job). x.job ∷ l) (reported-placed es sub pid bytes)
+reported-placed (Changed change ∷ es) sub pid bytes = reported-placed es sub pid bytes
+reported-placed (Placed other key more ∷ es) sub pid bytes = reported-placed es sub pid bytes
+reported-placed (Noted entry ∷ es) sub pid bytes = reported-placed es sub pid bytes
+reported-placed (Restored image ∷ es) sub pid bytes = reported-placed es sub pid bytes
+
 -- what must come to pass where no report is astray
 pub never_astray : (r : Result Arrival Astray) (P : Type 0) (Q : Astray → Type 0) → OnOk r P → IfErr r Q → ((a : Astray) → Q a → ⊥) → P
 never_astray (Ok arrival) P Q ok err none = ok

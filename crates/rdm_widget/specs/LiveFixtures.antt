@@ -128,6 +128,10 @@ after_heard s bytes = record s { history = then_event s.history (Heard bytes) }
 abbrev pub after_panel : Situation → Change → Situation
 after_panel s change = record s { history = then_event s.history (Changed change) }
 
+-- the firmware places a value, as it does what the fixture is switched on with
+abbrev pub after_placing : Situation → ℕ → ℕ → List ℕ → Situation
+after_placing s sub pid bytes = record s { history = then_event s.history (Placed sub pid bytes) }
+
 -- the values are restored from an image, as it is done when the fixture was switched on
 abbrev pub after_restore : Situation → List ℕ → Situation
 after_restore s image = record s { history = then_event s.history (Restored image) }

@@ -2,17 +2,18 @@
 
 ghost use Rattle.std.specs.Prelude.{◌≡◌, ◌≢◌, ◌↔◌, ℕ, Some, IsOk, IfOk, OnOk, OnErr, IfErr, IsErrOf};
 ghost use Rattle.std.specs.Result.{result_err};
+ghost use Rattle.rdm_params.specs.Commands.Placing.{place_refusal};
 ghost use Rattle.rdm_params.specs.Device.Profiles.{CanBeMade};
 ghost use Rattle.rdm_outbox.specs.Jobs.{outstanding_count};
 ghost use Rattle.rdm_outbox.specs.State.{most_entries};
-ghost use Rattle.rdm_responder.specs.History.{Changed, Restored, then_event};
+ghost use Rattle.rdm_responder.specs.History.{Changed, Placed, Restored, then_event};
 ghost use Rattle.rdm_responder.specs.Lawful.{IsLawful, MayChange};
 ghost use Rattle.rdm_responder.specs.Laws.{values_of};
 ghost use Rattle.rdm_responder.specs.Rules.{account_of, answered, reply_of};
 ghost use Rattle.rdm_responder.specs.Runs.{IsChange, outbox_of};
 ghost use Rattle.rdm_responder.specs.StandsFor.{IsQueueSize, StandsFor};
 ghost use Rattle.rdm_saved.specs.Restoring.{restore_refusal};
-ghost use Rattle.rdm_widget.specs.LiveFixtures.{Situation, IsIn, switched_on, worker_in, oldest_of, first_ended, after_report, after_next, after_several, begun, ready, after_heard, after_panel, after_restore};
+ghost use Rattle.rdm_widget.specs.LiveFixtures.{Situation, IsIn, switched_on, worker_in, oldest_of, first_ended, after_report, after_next, after_several, begun, ready, after_heard, after_panel, after_placing, after_restore};
 
 mod ending;
 mod on_rig;
@@ -21,7 +22,7 @@ use arrayvec::ArrayVec;
 use ending::{Ended, earlier, ended_by, since_after, since_when};
 use rdm_frame::{Uid, Wire};
 use rdm_outcomes::{MOST_RULES, Planned, Rule, outcomes_fit};
-use rdm_params::{Change, Message, Profile, started_work_is_its_command};
+use rdm_params::{Change, Message, PlaceError, Profile, started_work_is_its_command};
 use rdm_responder::{NewError, NoRoom, Report, Responder, RestoreError};
 use std::alloc::Global;
 
@@ -79,6 +80,19 @@ impl LiveFixture {
         ensures same { OnErr result (self.new ≡ self.old) }
     {
         self.responder.change(change)
+    }
+
+    /// Makes a stored value of the root, or of a sub-device, what a SET of it would make it, as firmware does that counts hours or
+    /// measures. It is refused as `Responder::place` refuses it, and then nothing changes.
+    pub fn place(&mut self, sub: u16, pid: u16, bytes: &[u8]) -> Result<(), PlaceError>
+        ensures lawful { (s : Situation) → IsLawful s.history → IsIn self.old s →
+            (IsOk result ↔ IsLawful (then_event s.history (Placed sub pid bytes.now))) }
+        ensures refused { (s : Situation) → IsIn self.old s →
+            result_err result ≡ place_refusal (account_of s.history).parameters sub pid bytes.now }
+        ensures fixture { OnOk result ((s : Situation) → IsIn self.old s → IsIn self.new (after_placing s sub pid bytes.now)) }
+        ensures same { OnErr result (self.new ≡ self.old) }
+    {
+        self.responder.place(sub, pid, bytes)
     }
 
     /// Restores the values from an image that `Responder::save_into` wrote, as it is done when the fixture was switched on.

@@ -15,11 +15,11 @@ ghost use Rattle.rdm_responder.specs.StandsFor.{StandsFor};
 ghost use Rattle.rdm_c.specs.Changes.{change_in, IsPlainly};
 ghost use Rattle.rdm_c.specs.Jobs.{numbers_of, started_in};
 ghost use Rattle.rdm_c.specs.Statuses.{code_of};
-ghost use Rattle.rdm_c.specs.Endpoints.{changed, GetTold, IsFor, KeptTold, found, flag, is_noted, is_responder, told};
+ghost use Rattle.rdm_c.specs.Endpoints.{changed, GetTold, IsFor, KeptTold, MayReport, found, flag, is_noted, is_responder, told};
 
 use crate::endpoint::{Endpoint, RunningResponder};
 use crate::front::write_front;
-use crate::job::SteppedNumbers;
+use crate::job::{JobNumbers, SteppedNumbers};
 use crate::status::Status;
 use rdm_frame::standard::{MOST_DATA, MOST_SLOTS};
 use rdm_params::{Change, Verdict};
@@ -91,18 +91,22 @@ fn hear(
     stepped.tell_change(outcome.changed);
 }
 
-/// Takes the report of a job, and says whether it noted a status entry.
-pub(crate) fn arrive(endpoint: &mut Endpoint, report: Report, kept: &mut u8) -> Status
+/// Takes the report of a job, of which C handed in these numbers, and says whether it noted a status entry.
+pub(crate) fn arrive(
+    endpoint: &mut Endpoint,
+    job: &JobNumbers,
+    report: Report,
+    kept: &mut u8,
+) -> Status
     ensures absent { (result ≡ Status.Absent) ↔ (is_responder endpoint.old ≡ false) }
-    ensures lawful { (h : History) → IsLawful h → IsFor endpoint.old h →
-        ((result ≡ Status.Done) ↔ IsLawful (then_event h (Arrived report))) }
+    ensures lawful { (h : History) → IsLawful h → IsFor endpoint.old h → ((result ≡ Status.Done) ↔ MayReport h job.now report) }
     ensures stands { (h : History) → IsFor endpoint.old h → result ≡ Status.Done → IsFor endpoint.new (then_event h (Arrived report)) }
     ensures kept { (h : History) → IsFor endpoint.old h → result ≡ Status.Done → kept.new ≡ flag (is_noted h (Arrived report)) }
     ensures same { result ≢ Status.Done → endpoint.new ≡ endpoint.old }
     ensures statuses { (result ≢ Status.Absent) → result ≢ Status.Done → result ≡ Status.Astray }
 {
     match endpoint {
-        Endpoint::Responder(running) => take_report(running, report, kept),
+        Endpoint::Responder(running) => take_report(running, job, report, kept),
         Endpoint::Collector(_) | Endpoint::DeviceCollector(_) | Endpoint::Searcher(_) => {
             Status::Absent
         },
@@ -110,9 +114,14 @@ pub(crate) fn arrive(endpoint: &mut Endpoint, report: Report, kept: &mut u8) -> 
 }
 
 /// Takes the report of a job, as `arrive`.
-fn take_report(running: &mut RunningResponder, report: Report, kept: &mut u8) -> Status
+fn take_report(
+    running: &mut RunningResponder,
+    job: &JobNumbers,
+    report: Report,
+    kept: &mut u8,
+) -> Status
     ensures lawful { (h : History) → IsLawful h → StandsFor running.old.responder h →
-        ((result ≡ Status.Done) ↔ IsLawful (then_event h (Arrived report))) }
+        ((result ≡ Status.Done) ↔ MayReport h job.now report) }
     ensures stands { (h : History) → StandsFor running.old.responder h → result ≡ Status.Done →
         StandsFor running.new.responder (then_event h (Arrived report)) }
     ensures kept { (h : History) → StandsFor running.old.responder h → result ≡ Status.Done →
@@ -120,6 +129,9 @@ fn take_report(running: &mut RunningResponder, report: Report, kept: &mut u8) ->
     ensures same { result ≢ Status.Done → running.new ≡ running.old }
     ensures statuses { result ≢ Status.Done → result ≡ Status.Astray }
 {
+    if !job.is_as_told(running.responder.devices(), &report.job) {
+        return Status::Astray;
+    }
     match running.responder.arrive(report) {
         Ok(arrival) => {
             *kept = if arrival.kept { 1 } else { 0 };

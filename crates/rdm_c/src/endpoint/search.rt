@@ -5,7 +5,7 @@ ghost use Rattle.rdm_search.specs.Searches.{next_of};
 ghost use Rattle.rdm_search.specs.Stages.{request_of};
 ghost use Rattle.rdm_c.specs.Endpoints.{found, search_of};
 ghost use Rattle.rdm_c.specs.SearchStates.{HasHeard, resumed};
-ghost use Rattle.rdm_c.specs.Searches.{NextTold, found_numbers};
+ghost use Rattle.rdm_c.specs.Searches.{NextTold, found_numbers, heard_of};
 ghost use Rattle.rdm_c.specs.Statuses.{code_of};
 
 use crate::endpoint::Endpoint;
@@ -14,7 +14,7 @@ use crate::front::write_front;
 use crate::status::Status;
 use rdm_frame::encode;
 use rdm_frame::standard::MOST_SLOTS;
-use rdm_search::SearchError;
+use rdm_search::{Found, SearchError};
 
 /// Writes the next request to the front, if the search hasn't ended.
 pub(crate) fn next(endpoint: &Endpoint, request: &mut [u8; MOST_SLOTS], count: &mut usize) -> Status
@@ -98,5 +98,25 @@ pub(crate) fn fixture(endpoint: &Endpoint, index: usize, fixture: &mut FoundNumb
         return Status::NoMore;
     };
     *fixture = FoundNumbers::of(found);
+    Status::Done
+}
+
+/// Tells of the device with this index among those whose answers to mutes weren't valid.
+pub(crate) fn unsure(endpoint: &Endpoint, index: usize, fixture: &mut FoundNumbers) -> Status
+    ensures told { IfSome (search_of endpoint.now) (λ s. MatchOption (slice_get s.unsure index) (result ≡ Status.NoMore)
+        (λ uid. (result ≡ Status.Done) × (fixture.new ≡ found_numbers (heard_of uid)))) }
+    ensures absent { (result ≡ Status.Absent) ↔ (search_of endpoint.now ≡ None) }
+{
+    let Endpoint::Searcher(search) = endpoint else {
+        return Status::Absent;
+    };
+    let Some(uid) = search.unsure().get(index) else {
+        return Status::NoMore;
+    };
+    *fixture = FoundNumbers::of(&Found {
+        uid: *uid,
+        control: 0,
+        binding: None,
+    });
     Status::Done
 }

@@ -22,8 +22,8 @@ use std::alloc::Global;
 /// by the 9 slots with which SENSOR_VALUE replies (E1.20 section 10.7.2).
 ///
 /// If the device doesn't exist that comes first, then that it stores no value of this parameter, then that the data have
-/// another length than the value, and last that a SET would be out of range, or that there is no such sensor. Nothing changes
-/// then.
+/// another length than the value, and last that neither a SET may ask for the value nor a GET tell it, or that there is no such
+/// sensor. Nothing changes then.
 #[unsafe(no_mangle)]
 pub extern "C" fn felosumay_responder_place_nonnull(
     alloc: Global,

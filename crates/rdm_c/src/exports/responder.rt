@@ -19,7 +19,7 @@ ghost use Rattle.rdm_c.specs.Changes.{change_in, IsPlainly};
 ghost use Rattle.rdm_c.specs.Jobs.{numbers_of, started_in};
 ghost use Rattle.rdm_c.specs.Outcomes.{report_in};
 ghost use Rattle.rdm_c.specs.Profiles.{profile_in};
-ghost use Rattle.rdm_c.specs.Endpoints.{HeldFor, found, holds_responder, flag, is_noted, setup_of, told};
+ghost use Rattle.rdm_c.specs.Endpoints.{HeldFor, MayReport, found, holds_responder, flag, is_noted, setup_of, told};
 
 use crate::endpoint::responder::{arrive, step};
 use crate::endpoint::{Endpoint, RunningResponder};
@@ -201,8 +201,8 @@ pub extern "C" fn felosumay_responder_step_nonnull(
 /// Takes the report of a job, and says whether it noted a status entry: `kept` is 1 then, else 0.
 ///
 /// The job is as `felosumay_responder_step_nonnull` told of it. The numbers are unknown if they stand for no report, whatever
-/// the handle holds. It is astray if the report isn't of the oldest outstanding job of its worker, or its outcome
-/// doesn't fit the job. Nothing changes then.
+/// the handle holds. It is astray if the report isn't of the oldest outstanding job of its worker, its estimate or its worker is
+/// another than that of the job, or its outcome doesn't fit the job. Nothing changes then.
 #[unsafe(no_mangle)]
 pub extern "C" fn felosumay_responder_arrive(
     alloc: Global,
@@ -215,9 +215,9 @@ pub extern "C" fn felosumay_responder_arrive(
     ensures absent { IfSome (report_in job.now outcome.now) (λ r.
         (result ≡ code_of Status.Absent) ↔ (holds_responder responder.old.held ≡ false)) }
     ensures lawful { IfSome (report_in job.now outcome.now) (λ r. (h : History) → IsLawful h → HeldFor responder.old.held h →
-        ((result ≡ code_of Status.Done) ↔ IsLawful (then_event h (Arrived r)))) }
+        ((result ≡ code_of Status.Done) ↔ MayReport h job.now r)) }
     ensures astray { IfSome (report_in job.now outcome.now) (λ r. (h : History) → IsLawful h → HeldFor responder.old.held h →
-        ((result ≡ code_of Status.Astray) ↔ ¬ IsLawful (then_event h (Arrived r)))) }
+        ((result ≡ code_of Status.Astray) ↔ ¬ MayReport h job.now r)) }
     ensures stands { IfSome (report_in job.now outcome.now) (λ r. (h : History) → HeldFor responder.old.held h →
         result ≡ code_of Status.Done → HeldFor responder.new.held (then_event h (Arrived r))) }
     ensures kept { IfSome (report_in job.now outcome.now) (λ r. (h : History) → HeldFor responder.old.held h →
@@ -230,7 +230,7 @@ pub extern "C" fn felosumay_responder_arrive(
     let Some(mut endpoint) = take(alloc, responder) else {
         return Status::Absent.code();
     };
-    let status = arrive(&mut endpoint, report, kept);
+    let status = arrive(&mut endpoint, job, report, kept);
     put(responder, endpoint);
     status.code()
 }

@@ -8,7 +8,7 @@ ghost use Rattle.rdm_search.specs.Stages.{request_of};
 ghost use Rattle.rdm_c.specs.Places.{handle_at, nobody};
 ghost use Rattle.rdm_c.specs.Endpoints.{found, held_search};
 ghost use Rattle.rdm_c.specs.SearchStates.{HasHeard, IsNewSearch, resumed};
-ghost use Rattle.rdm_c.specs.Searches.{NextTold, found_numbers};
+ghost use Rattle.rdm_c.specs.Searches.{NextTold, found_numbers, heard_of};
 ghost use Rattle.rdm_c.specs.Statuses.{code_of};
 
 use crate::endpoint;
@@ -147,6 +147,29 @@ pub extern "C" fn felosumay_search_found(
         return Status::Absent.code();
     };
     let status = endpoint::search::fixture(&endpoint, index, fixture);
+    put(search, endpoint);
+    status.code()
+}
+
+/// Tells of a device that sounded after each mute, though no answer was valid: that with this index, from 0. Of what it is only the UID
+/// is known, and the other fields are 0. It may have been found since, and stands among those that were found then.
+#[unsafe(no_mangle)]
+pub extern "C" fn felosumay_search_unsure(
+    alloc: Global,
+    search: &mut Handle,
+    index: usize,
+    fixture: &mut FoundNumbers,
+) -> u8
+    ensures told { IfSome (held_search search.old.held) (λ s.
+        MatchOption (slice_get s.unsure index) (result ≡ code_of Status.NoMore)
+        (λ uid. (result ≡ code_of Status.Done) × (fixture.new ≡ found_numbers (heard_of uid)))) }
+    ensures absent { (result ≡ code_of Status.Absent) ↔ (held_search search.old.held ≡ None) }
+    ensures same { search.new.held ≡ search.old.held }
+{
+    let Some(endpoint) = take(alloc, search) else {
+        return Status::Absent.code();
+    };
+    let status = endpoint::search::unsure(&endpoint, index, fixture);
     put(search, endpoint);
     status.code()
 }

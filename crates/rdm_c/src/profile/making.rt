@@ -3,17 +3,21 @@
 
 ghost use Rattle.std.specs.Prelude.{◌≡◌, ◌↔◌, ◌<◌, ◌≤◌, List, None, IfOk, IfSome, IsTrue, length, map};
 ghost use Rattle.rdm_device.specs.Device.Demo.{demo};
-ghost use Rattle.rdm_device.specs.declared.profile.faults.ProfileFault.TheVariants.{ParameterNames};
+ghost use Rattle.rdm_device.specs.declared.profile.faults.ProfileFault.TheVariants.{ParameterNames, ParameterLocks};
 ghost use Rattle.rdm_device.specs.Device.Faults.{IsFirstBroken, KeepsBefore, KeepsLeftOut};
 ghost use Rattle.rdm_device.specs.Device.Particulars.{usual_particular};
-ghost use Rattle.rdm_device.specs.Device.Profiles.{Agree, AreGoodParameters, CanBeMade, HaveStates};
+ghost use Rattle.rdm_device.specs.Device.Profiles.{Agree, AreGoodLocks, AreGoodParameters, CanBeMade};
+ghost use Rattle.rdm_device.specs.declared.profile.choices.ChoiceName.{ChoiceName};
 ghost use Rattle.rdm_c.specs.Parameters.{choice_in, lock_in, parameter_in, HasOwn};
 ghost use Rattle.rdm_c.specs.Profiles.{particular_in, profile_in};
 
 use crate::profile::parameters::{ChoiceNumbers, LockNumbers, ParameterNumbers};
 use crate::profile::{ProfileNumbers, lists};
 use arrayvec::ArrayVec;
-use rdm_device::{ProfileFault, agree, have_states, own_fault, profile_fault, profile_fault_with};
+use rdm_device::{
+    ProfileFault, agree, can_hold, can_open, have_states, own_fault, profile_fault,
+    profile_fault_with,
+};
 use rdm_frame::Text;
 use rdm_params::{ParameterDef, Particular, Particulars, Profile, Unit};
 use std::alloc::{AllocError, Global};
@@ -101,7 +105,7 @@ pub(crate) fn fault_of(
 {
     match fault_but_own(numbers, without) {
         Some(fault) => Some(fault),
-        None => fault_of_own(parameters, choices, numbers.lock_entries()),
+        None => fault_of_own(parameters, choices, numbers.lock_entries(), without),
     }
 }
 
@@ -123,17 +127,18 @@ fn fault_of_own(
     parameters: &[ParameterNumbers],
     choices: &[ChoiceNumbers],
     locks: &[LockNumbers],
+    without: &[u16],
 ) -> Option<ProfileFault>
     requires { length locks.now ≤ 64 }
     ensures good { (result ≡ None) ↔ (AreGoodParameters (map parameter_in parameters.now) (map choice_in choices.now)
-        × HaveStates (map parameter_in parameters.now) (map lock_in locks.now)) }
-    ensures first { (p : Profile) → HasOwn p (map parameter_in parameters.now) (map choice_in choices.now) (map lock_in locks.now)
+        × AreGoodLocks without.now (map parameter_in parameters.now) (map lock_in locks.now)) }
+    ensures first { (p : Profile) → HasOwn p (map parameter_in parameters.now) (map choice_in choices.now) (map lock_in locks.now) without.now
         → KeepsLeftOut p → IfSome result (λ fault. IsFirstBroken fault p) }
 {
     if parameters.len() > MOST_OWN {
         return Some(ProfileFault::ParameterCount);
     }
-    fault_of_few(parameters, choices, locks)
+    fault_of_few(parameters, choices, locks, without)
 }
 
 /// The same of no more than there can be.
@@ -142,19 +147,20 @@ fn fault_of_few(
     parameters: &[ParameterNumbers],
     choices: &[ChoiceNumbers],
     locks: &[LockNumbers],
+    without: &[u16],
 ) -> Option<ProfileFault>
     requires own { length parameters.now ≤ 32 }
     requires locks { length locks.now ≤ 64 }
     ensures good { (result ≡ None) ↔ (AreGoodParameters (map parameter_in parameters.now) (map choice_in choices.now)
-        × HaveStates (map parameter_in parameters.now) (map lock_in locks.now)) }
-    ensures first { (p : Profile) → HasOwn p (map parameter_in parameters.now) (map choice_in choices.now) (map lock_in locks.now)
+        × AreGoodLocks without.now (map parameter_in parameters.now) (map lock_in locks.now)) }
+    ensures first { (p : Profile) → HasOwn p (map parameter_in parameters.now) (map choice_in choices.now) (map lock_in locks.now) without.now
         → KeepsLeftOut p → IfSome result (λ fault. IsFirstBroken fault p) }
 {
     let mut own = ArrayVec::new();
     lists::parameters(parameters, &mut own);
     match own_fault(own.as_slice()) {
         Some(fault) => Some(fault),
-        None => fault_beside(own.as_slice(), choices, locks),
+        None => fault_beside(own.as_slice(), choices, locks, without),
     }
 }
 
@@ -163,19 +169,17 @@ fn fault_beside(
     own: &[ParameterDef],
     choices: &[ChoiceNumbers],
     locks: &[LockNumbers],
+    without: &[u16],
 ) -> Option<ProfileFault>
     requires { length locks.now ≤ 64 }
-    ensures good { (result ≡ None) ↔ (Agree own.now (map choice_in choices.now) × HaveStates own.now (map lock_in locks.now)) }
-    ensures first { (p : Profile) → HasOwn p own.now (map choice_in choices.now) (map lock_in locks.now) → KeepsBefore ParameterNames p
-        → IfSome result (λ fault. IsFirstBroken fault p) }
+    ensures good { (result ≡ None) ↔ (Agree own.now (map choice_in choices.now) × AreGoodLocks without.now own.now (map lock_in locks.now)) }
+    ensures first { (p : Profile) → HasOwn p own.now (map choice_in choices.now) (map lock_in locks.now) without.now
+        → KeepsBefore ParameterNames p → IfSome result (λ fault. IsFirstBroken fault p) }
 {
     if !have_names(own, choices) {
         return Some(ProfileFault::ParameterNames);
     }
-    if !have_locks(own, locks) {
-        return Some(ProfileFault::ParameterLocks);
-    }
-    None
+    fault_of_locks(own, locks, without)
 }
 
 /// Whether each thing that can be chosen has its name, and each name its thing.
@@ -196,15 +200,30 @@ fn have_few_names(own: &[ParameterDef], choices: &[ChoiceNumbers]) -> bool
     agree(own, names.as_slice())
 }
 
-/// Whether each lock is of a state that there is.
+/// The first rule of locks that is broken by these.
 #[inline(never)]
-fn have_locks(own: &[ParameterDef], locks: &[LockNumbers]) -> bool
+fn fault_of_locks(
+    own: &[ParameterDef],
+    locks: &[LockNumbers],
+    without: &[u16],
+) -> Option<ProfileFault>
     requires { length locks.now ≤ 64 }
-    ensures { IsTrue result ↔ HaveStates own.now (map lock_in locks.now) }
+    ensures good { (result ≡ None) ↔ AreGoodLocks without.now own.now (map lock_in locks.now) }
+    ensures first { (p : Profile) (choices : List ChoiceName) → HasOwn p own.now choices (map lock_in locks.now) without.now
+        → KeepsBefore ParameterLocks p → IfSome result (λ fault. IsFirstBroken fault p) }
 {
     let mut list = ArrayVec::new();
     lists::locks(locks, &mut list);
-    have_states(own, list.as_slice())
+    if !have_states(own, list.as_slice()) {
+        return Some(ProfileFault::ParameterLocks);
+    }
+    if !can_open(own) {
+        return Some(ProfileFault::ParameterLockState);
+    }
+    if !can_hold(without, own, list.as_slice()) {
+        return Some(ProfileFault::ParameterLocked);
+    }
+    None
 }
 
 /// The first rule that the demonstration fixture's profile breaks, as `fault_of`.

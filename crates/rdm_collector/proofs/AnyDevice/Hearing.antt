@@ -60,7 +60,7 @@ noise_alone s (b ∷ bs) all =
 
 answered_at : (s : DeviceState) (f : Frame) (r : Response) (a b c : Bool) (o : Option Response) → a ≡ true → b ≡ true → c ≡ true → o ≡ Some r
     → cond a (after_taken (after_poll s) f (option_map_or (λ x. Answer x) (cond (b && c) o None) Nothing)) (after_poll s)
-    ≡ after_answer (after_poll s) (collected s.unanswered f r) (poll_heard f.pid r)
+    ≡ after_answer (after_poll s) (collected s.unanswered (s.lost || s.unanswered) f r) (poll_heard f.pid r)
 answered_at s f r a b c o ea eb ec eo = rw (ea, eb, ec, eo) refl
 
 is_class : (f : Frame) → (f.class ≡ 0x21) ⊎ (f.class ≡ 0x31) → ((f.class == 0x21) || (f.class == 0x31)) ≡ true
@@ -68,7 +68,7 @@ is_class f (inl e) = or_left _ _ (eq-eqb f.class 0x21 e)
 is_class f (inr e) = or_right _ _ (eq-eqb f.class 0x31 e)
 
 pub heard_reply : (s : DeviceState) (f : Frame) (r : Response) → IsFrame f → IsReplyTo (poll_of s) f r
-    → after_hearing (after_poll s) (frame_text f) ≡ after_answer (after_poll s) (collected s.unanswered f r) (poll_heard f.pid r)
+    → after_hearing (after_poll s) (frame_text f) ≡ after_answer (after_poll s) (collected s.unanswered (s.lost || s.unanswered) f r) (poll_heard f.pid r)
 heard_reply s f r fits is =
     ap (λ (o : Option Frame). option_map_or (after_frame (after_poll s)) o (after_poll s)) (read_as_itself f fits)
     ∙ answered_at s f r (same_uid f.src s.target && same_uid f.dst s.uid) (f.tn == s.tn) ((f.class == 0x21) || (f.class == 0x31)) (response_in f.port f.body)
@@ -119,7 +119,7 @@ IsReplyOrNoise s f b = (b ≡ frame_text f) ⊎ IsNoise (poll_of s) b
 
 module _ (s : DeviceState) (f : Frame) (r : Response) (fits : IsFrame f) (is : IsReplyTo (poll_of s) f r) where
   abbrev answered : DeviceState
-  answered = after_answer (after_poll s) (collected s.unanswered f r) (poll_heard f.pid r)
+  answered = after_answer (after_poll s) (collected s.unanswered (s.lost || s.unanswered) f r) (poll_heard f.pid r)
 
   one_heard : (b : List ℕ) → IsReplyOrNoise s f b → LeavesOrMakes (after_poll s) answered b
   one_heard b (inl e) = inr (ap (λ (x : List ℕ). after_hearing (after_poll s) x) e ∙ heard_reply s f r fits is)
@@ -128,7 +128,7 @@ module _ (s : DeviceState) (f : Frame) (r : Response) (fits : IsFrame f) (is : I
   pub reply_or_noise : (bs : List (List ℕ)) → All (IsReplyOrNoise s f) bs
       → (fold after_hearing (after_poll s) bs ≡ after_poll s) ⊎ (fold after_hearing (after_poll s) bs ≡ answered)
   reply_or_noise bs all =
-      listened (after_poll s) answered bs (answer_closes (after_poll s) (collected s.unanswered f r) (poll_heard f.pid r))
+      listened (after_poll s) answered bs (answer_closes (after_poll s) (collected s.unanswered (s.lost || s.unanswered) f r) (poll_heard f.pid r))
       (All-weaker (IsReplyOrNoise s f) (LeavesOrMakes (after_poll s) answered) one_heard bs all)
 
 -- ---- after a command nothing is recorded

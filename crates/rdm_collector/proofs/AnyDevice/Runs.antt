@@ -1,5 +1,5 @@
 -- Against any device what is recorded is what it dispensed, and answers go on.
-use Rattle.std.proofs.Common.{◌≡◌, ◌≢◌, ℕ, ◌+◌, ◌%◌, ◌==◌, Bool, true, false, cond, List, [], ◌∷◌, ◌++◌, map, Option, Some, None, refl, sym, ap, subst, ◌∙◌, true≢false, inl, inr, append_assoc}
+use Rattle.std.proofs.Common.{◌≡◌, ◌≢◌, ℕ, ◌+◌, ◌%◌, ◌==◌, ◌||◌, Bool, true, false, cond, List, [], ◌∷◌, ◌++◌, map, Option, Some, None, refl, sym, ap, subst, ◌∙◌, true≢false, inl, inr, append_assoc}
 use Rattle.std.specs.List.{All, fold}
 use Rattle.std.proofs.lemmas.List.{append-nil, map-append}
 use Rattle.rdm_frame.specs.declared.frame.Frame.{Frame}
@@ -66,7 +66,7 @@ given_unheard : (base : List Collected) (s : DeviceState) (d : Device) (x : Item
 given_unheard base s d x ds (cs, is, k) may = (cs, is, Kept-given_unheard s.unanswered d.last d.waiting x ds (map item_of cs) k may)
 
 kept_answer : (t : DeviceState) (c : Collected) (h : DeviceHeard) → is_kept h ≡ true
-    → after_answer t c h ≡ record (after_over t) { unanswered = false; recorded = t.recorded ++ c ∷ [] }
+    → after_answer t c h ≡ record (after_over t) { unanswered = false; lost = false; recorded = t.recorded ++ c ∷ [] }
 kept_answer t c heard.Message e = refl
 kept_answer t c heard.Part e = refl
 kept_answer t c heard.Unsupported e = absurd (true≢false (sym e))
@@ -81,7 +81,7 @@ given_heard base s d c ds h (cs, is, k) kept may =
     let P : List Item → Type 0 = λ xs. Kept false (Some (item_of c)) (ds ++ item_of c ∷ []) xs in
     let now : Kept false (Some (item_of c)) (ds ++ item_of c ∷ []) (map item_of (cs ++ c ∷ [])) =
     subst P (sym (map-append item_of cs (c ∷ []))) (Kept-given s.unanswered d.last d.waiting (item_of c) ds (map item_of cs) k may) in
-    at_state base (record (after_over (after_poll s)) { unanswered = false; recorded = s.recorded ++ c ∷ [] }) (after_answer (after_poll s) c h) (Some (item_of c)) (ds ++ item_of c ∷ [])
+    at_state base (record (after_over (after_poll s)) { unanswered = false; lost = false; recorded = s.recorded ++ c ∷ [] }) (after_answer (after_poll s) c h) (Some (item_of c)) (ds ++ item_of c ∷ [])
     (kept_answer (after_poll s) c h kept)
     (cs ++ c ∷ [], ap (λ (xs : List Collected). xs ++ c ∷ []) is ∙ append_assoc base cs (c ∷ []), now)
 
@@ -119,7 +119,7 @@ gives base s d ds f r bs st next =
     at_last base t (Some x) (after_giving (asks_again (poll_of s)) d x).last (ds ++ x ∷ []) (last_given (asks_again (poll_of s)) d x)
     (elim (reply_or_noise s f r next.0.0 next.0.1 bs next.1) [
       | inl same ↦ at_state base (after_poll s) t (Some x) (ds ++ x ∷ []) same (given_unheard base s d x ds st may)
-      | inr made ↦ at_state base (after_answer (after_poll s) (collected s.unanswered f r) (poll_heard f.pid r)) t (Some x) (ds ++ x ∷ []) made (given_heard base s d (collected s.unanswered f r) ds (poll_heard f.pid r) st next.0.2 may)
+      | inr made ↦ at_state base (after_answer (after_poll s) (collected s.unanswered (s.lost || s.unanswered) f r) (poll_heard f.pid r)) t (Some x) (ds ++ x ∷ []) made (given_heard base s d (collected s.unanswered (s.lost || s.unanswered) f r) ds (poll_heard f.pid r) st next.0.2 may)
     ])
 
 declines : (base : List Collected) (s : DeviceState) (d : Device) (ds : List Item) (f : Frame) (r : Response) (bs : List (List ℕ)) → Stands base s d.last ds
@@ -130,7 +130,7 @@ declines base s d ds f r bs st next =
     let t : DeviceState = fold after_hearing (after_poll s) bs in
     elim (reply_or_noise s f r next.0.0 next.0.1 bs next.1) [
       | inl same ↦ at_state base (after_poll s) t d.last ds same (unheard base s d.last ds st)
-      | inr made ↦ at_state base (after_answer (after_poll s) (collected s.unanswered f r) (poll_heard f.pid r)) t d.last ds made (declined base s d.last ds (collected s.unanswered f r) (poll_heard f.pid r) st next.0.2 may)
+      | inr made ↦ at_state base (after_answer (after_poll s) (collected s.unanswered (s.lost || s.unanswered) f r) (poll_heard f.pid r)) t d.last ds made (declined base s d.last ds (collected s.unanswered (s.lost || s.unanswered) f r) (poll_heard f.pid r) st next.0.2 may)
     ]
 
 happens : (base : List Collected) (s : DeviceState) (d : Device) (ds : List Item) (e : Event) → Stands base s d.last ds → IsNext s d e
@@ -173,4 +173,4 @@ asks_for_next s c heard.Ignored never = refl
 
 pub go_on : AnswersGoOn
 go_on s f r fits is never =
-    ap (λ (t : DeviceState). poll_of t) (heard_reply s f r fits is) ∙ asks_for_next s (collected s.unanswered f r) (poll_heard f.pid r) never
+    ap (λ (t : DeviceState). poll_of t) (heard_reply s f r fits is) ∙ asks_for_next s (collected s.unanswered (s.lost || s.unanswered) f r) (poll_heard f.pid r) never

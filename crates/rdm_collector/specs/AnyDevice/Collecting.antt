@@ -1,6 +1,6 @@
 -- A collector for any device: what it sends, what it takes the answers for, and what it records. It sends what a collector of
 -- `Collecting` sends that stands where it does. E1.20 sections 6.2, 6.3 and 10.3.1.
-use Rattle.std.specs.Prelude.{ℕ, ◌+◌, ◌%◌, Bool, true, false, ◌&&◌, if◌then◌else◌, List, [], ◌∷◌, ◌++◌, Option, Some, None}
+use Rattle.std.specs.Prelude.{ℕ, ◌+◌, ◌%◌, Bool, true, false, ◌&&◌, ◌||◌, if◌then◌else◌, List, [], ◌∷◌, ◌++◌, Option, Some, None}
 use Rattle.std.specs.Option.{option_map_or}
 use Rattle.rdm_frame.specs.declared.uid.Uid.{Uid}
 use Rattle.rdm_frame.specs.declared.frame.Frame.{Frame}
@@ -23,7 +23,7 @@ use Rattle.rdm_collector.specs.AnyDevice.Answers.{taken_for, poll_heard}
 
 -- What a contract sees of a collector for any device: its UID and that of the device, what it wants, the number of its next
 -- transaction, and the open one; whether the last poll asked for the last message again, and whether the next one will, since
--- the last has no answer; and what was recorded.
+-- the last has no answer; whether a poll before the last has none, of those since something was recorded; and what was recorded.
 pub record DeviceState : Type 0 where
   pub uid : Uid
   pub target : Uid
@@ -32,12 +32,13 @@ pub record DeviceState : Type 0 where
   pub transaction : Option Transaction
   pub again : Bool
   pub unanswered : Bool
+  pub lost : Bool
   pub recorded : List Collected
 
 -- nothing was sent yet
 abbrev pub new_device_collector : Uid → Uid → Want → DeviceState
 new_device_collector uid target want =
-    record { uid = uid; target = target; want = want; tn = 0; transaction = None; again = false; unanswered = false; recorded = [] }
+    record { uid = uid; target = target; want = want; tn = 0; transaction = None; again = false; unanswered = false; lost = false; recorded = [] }
 
 -- The collector of `Collecting` that stands there. What is sent, and why a command isn't, is what it says.
 abbrev pub sender : DeviceState → State
@@ -49,10 +50,15 @@ abbrev pub after_ask : DeviceState → Command → DeviceState
 after_ask s c =
     record s { tn = (s.tn + 1) % 256; transaction = Some (transaction.Command s.tn (class_of c.action) c.sub c.pid) }
 
--- A poll is sent. It asks for the last message again if the poll before it has no answer.
+-- A poll is sent. It asks for the last message again if the poll before it has no answer, and that one counts as lost.
 abbrev pub after_poll : DeviceState → DeviceState
-after_poll s =
-    record s { tn = (s.tn + 1) % 256; transaction = Some (transaction.Poll s.tn); again = s.unanswered; unanswered = true }
+after_poll s = record s {
+  tn = (s.tn + 1) % 256;
+  transaction = Some (transaction.Poll s.tn);
+  again = s.unanswered;
+  unanswered = true;
+  lost = s.lost || s.unanswered;
+}
 
 -- the open transaction, if there is one, is over
 abbrev pub after_over : DeviceState → DeviceState
@@ -77,19 +83,19 @@ heard_in s bytes = option_map_or (heard_frame s) (frame_in bytes) heard.Ignored
 -- ---- what is then recorded
 
 -- what is recorded of a message
-abbrev pub collected : Bool → Frame → Response → Collected
-collected again f r = record { response = r; message = message_of f; again = again }
+abbrev pub collected : Bool → Bool → Frame → Response → Collected
+collected again lost f r = record { response = r; message = message_of f; again = again; after_loss = lost }
 
 -- The poll is answered, and the next one asks for the next message. A message is recorded. After ACK_TIMER the next poll asks
 -- for what this one asked for, since that was not said yet.
 abbrev pub after_answer : DeviceState → Collected → DeviceHeard → DeviceState
-after_answer s c heard.Message = record (after_over s) { unanswered = false; recorded = s.recorded ++ c ∷ [] }
-after_answer s c heard.Part = record (after_over s) { unanswered = false; recorded = s.recorded ++ c ∷ [] }
+after_answer s c heard.Message = record (after_over s) { unanswered = false; lost = false; recorded = s.recorded ++ c ∷ [] }
+after_answer s c heard.Part = record (after_over s) { unanswered = false; lost = false; recorded = s.recorded ++ c ∷ [] }
 after_answer s c (heard.NotYet tenths) = record (after_over s) { unanswered = s.again }
 after_answer s c _ = record (after_over s) { unanswered = false }
 
 abbrev pub after_taken : DeviceState → Frame → Taken → DeviceState
-after_taken s f (taken.Answer r) = after_answer s (collected s.again f r) (poll_heard f.pid r)
+after_taken s f (taken.Answer r) = after_answer s (collected s.again s.lost f r) (poll_heard f.pid r)
 after_taken s f taken.Reply = after_over s
 after_taken s f taken.Nothing = s
 

@@ -1,5 +1,5 @@
 -- The parts of a message that doesn't fit one response, and their data joined. E1.20 section 6.3.2.
-use Rattle.std.specs.Prelude.{ℕ, ◌+◌, ◌-◌, nat_lt, Bool, false, not, ◌&&◌, ◌||◌, ◌==◌, if◌then◌else◌, List, [], ◌∷◌, ◌++◌, length, slice_get}
+use Rattle.std.specs.Prelude.{ℕ, ◌+◌, ◌-◌, nat_lt, Bool, true, false, not, ◌&&◌, ◌||◌, ◌==◌, if◌then◌else◌, List, [], ◌∷◌, ◌++◌, length, slice_get}
 use Rattle.std.specs.Option.{option_map_or}
 use Rattle.rdm_params.specs.declared.jobs.message.Message.{Message}
 use Rattle.rdm_collector.specs.declared.reply.Response.{Response}
@@ -41,6 +41,21 @@ ends_in_part cs = option_map_or (λ (c : Collected). is_part c.response) (slice_
 -- the parts of one message, the last of which says that more follows.
 abbrev pub has_whole : List Collected → Bool
 has_whole cs = nat_lt 0 (length cs) && not ((first_run cs == length cs) && ends_in_part cs)
+
+-- It goes on with a message that the one before it is a part of, and between the two a poll has no answer. So a part may be missing
+-- there: one that says the same as the one before it can't be told from a repeat.
+abbrev pub is_unsure : Collected → Collected → Bool
+is_unsure before c = is_part before.response && c.after_loss
+
+-- whether one of those behind this is unsure
+abbrev pub is_unsure_behind : Collected → List Collected → Bool
+is_unsure_behind before [] = false
+is_unsure_behind before (c ∷ cs) = is_unsure before c || is_unsure_behind c cs
+
+-- Each poll between the first and the last part of a message was answered, so that no part is missing.
+abbrev pub is_sure : List Collected → Bool
+is_sure [] = true
+is_sure (c ∷ cs) = not (is_unsure_behind c cs)
 
 -- the data of what follows this, the repeats left out
 abbrev pub data_behind : Collected → List Collected → List ℕ

@@ -19,15 +19,23 @@ pub struct Collected {
     /// Whether the poll asked for the last message again, STATUS_GET_LAST_MESSAGE (table A-4): it may be a repeat of what was
     /// recorded before it.
     pub again: bool,
+    /// Whether a poll has no answer, of those since something was recorded before it: what that poll fetched may be missing here.
+    pub after_loss: bool,
 }
 
 /// What is recorded of an answer to a poll, of this response type.
-pub(crate) fn record_of(again: bool, frame: &FrameView<'_>, response: Response) -> Collected
-    ensures { result ≡ collected again frame.now response }
+pub(crate) fn record_of(
+    again: bool,
+    after_loss: bool,
+    frame: &FrameView<'_>,
+    response: Response,
+) -> Collected
+    ensures { result ≡ collected again after_loss frame.now response }
 {
     Collected {
         response,
         message: message_of(frame),
         again,
+        after_loss,
     }
 }

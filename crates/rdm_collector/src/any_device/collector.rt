@@ -33,6 +33,7 @@ pub struct DeviceCollector {
     transaction: Option<Transaction>,
     again: bool,
     unanswered: bool,
+    lost: bool,
     recorded: Vec<Collected>,
 }
 
@@ -51,6 +52,7 @@ impl Model for DeviceCollector {
       transaction = c.transaction;
       again = c.again;
       unanswered = c.unanswered;
+      lost = c.lost;
       recorded = c.recorded.items;
     } };
 
@@ -71,6 +73,7 @@ impl DeviceCollector {
             transaction: None,
             again: false,
             unanswered: false,
+            lost: false,
             recorded: Vec::new(alloc),
         }
     }
@@ -133,6 +136,7 @@ impl DeviceCollector {
         self.transaction = Some(Transaction::Poll { tn: self.tn });
         self.tn = self.tn.wrapping_add(1);
         self.again = self.unanswered;
+        self.lost = self.lost || self.unanswered;
         self.unanswered = true;
         Ok(sent)
     }
@@ -161,9 +165,10 @@ impl DeviceCollector {
         let heard = poll_heard(frame.pid, response);
         match heard {
             DeviceHeard::Message | DeviceHeard::Part => {
-                self.recorded
-                    .push_reserved(record_of(self.again, &frame, response));
+                let collected = record_of(self.again, self.lost, &frame, response);
+                self.recorded.push_reserved(collected);
                 self.unanswered = false;
+                self.lost = false;
             }
             DeviceHeard::NotYet { .. } => self.unanswered = self.again,
             _ => self.unanswered = false,

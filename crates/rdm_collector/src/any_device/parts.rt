@@ -2,7 +2,7 @@
 
 ghost use Rattle.std.specs.Prelude.{◌≡◌, ◌≤◌, ◌++◌, [], length, take, is_some, IfSome, OnOk, OnErr};
 ghost use Rattle.rdm_collector.specs.AnyDevice.Items.{item_of, same_item, type_code};
-ghost use Rattle.rdm_collector.specs.AnyDevice.Parts.{is_part, same_parameter, is_repeat, goes_on, run_behind, first_run, ends_in_part, has_whole, data_behind, joined_data};
+ghost use Rattle.rdm_collector.specs.AnyDevice.Parts.{is_part, same_parameter, is_repeat, goes_on, run_behind, first_run, ends_in_part, has_whole, is_unsure, is_unsure_behind, is_sure, data_behind, joined_data};
 
 use crate::any_device::collected::Collected;
 use crate::reply::Response;
@@ -88,6 +88,38 @@ fn append_data(
         before = item;
     }
     Ok(())
+}
+
+/// Whether each poll between the first and the last part of a message that `first_message` gave was answered. If one wasn't, a
+/// part may be missing: one that says the same as the part before it can't be told from a repeat, and `join_data` leaves it out.
+pub fn is_sure(items: &[Collected]) -> bool
+    ensures { result ≡ is_sure items.now }
+{
+    match items.split_first() {
+        Some((first, others)) => !is_unsure_behind(first, others),
+        None => true,
+    }
+}
+
+/// Whether one of those behind is unsure.
+fn is_unsure_behind(first: &Collected, others: &[Collected]) -> bool
+    ensures { result ≡ is_unsure_behind first.now others.now }
+{
+    let mut before = first;
+    for item in others {
+        if is_unsure(before, item) {
+            return true;
+        }
+        before = item;
+    }
+    false
+}
+
+/// Whether this goes on with a message, and a poll has no answer since the part before it.
+fn is_unsure(before: &Collected, item: &Collected) -> bool
+    ensures { result ≡ is_unsure before.now item.now }
+{
+    is_part(before.response) && item.after_loss
 }
 
 /// Whether this goes on with the message of what was recorded before it.

@@ -1,13 +1,16 @@
 //! What a collector for any device sends, hears and records, worked out by hand, byte for byte.
 
 use super::{CONTROLLER, DEVICE, Turn, bytes_of, command, name_of, sent_or_why};
-use rdm_collector::{Action, Collected, DeviceCollector, Response, Want, first_message, join_data};
+use rdm_collector::{
+    Action, Collected, DeviceCollector, Response, Want, first_message, is_sure, join_data,
+};
 use std::alloc::Global;
 use std::process::Abort;
 use std::test::Fail;
 
-/// What is recorded: the response type, the command class, the parameter ID, the data, and whether it was asked for again.
-type Told = (Response, u8, u16, &'static [u8], bool);
+/// What is recorded: the response type, the command class, the parameter ID, the data, whether it was asked for again, and whether
+/// a poll before it has no answer.
+type Told = (Response, u8, u16, &'static [u8], bool, bool);
 
 /// What comes of a turn: the bytes that are sent, why none are, or what bytes are taken for.
 fn outcome(rt: &impl Abort, alloc: Global, collector: &mut DeviceCollector, turn: &Turn) -> String {
@@ -27,22 +30,28 @@ fn outcome(rt: &impl Abort, alloc: Global, collector: &mut DeviceCollector, turn
 /// Plays turns on a new collector, each beside what must come of it.
 fn played(rt: &impl Abort, alloc: Global, turns: &[(Turn, &str)]) -> DeviceCollector {
     let mut collector = DeviceCollector::new(alloc, CONTROLLER, DEVICE, Want::Advisory);
+    go_on(rt, alloc, &mut collector, turns);
+    collector
+}
+
+/// Plays further turns.
+fn go_on(rt: &impl Abort, alloc: Global, collector: &mut DeviceCollector, turns: &[(Turn, &str)]) {
     for (turn, expected) in turns {
-        let told = outcome(rt, alloc, &mut collector, turn);
+        let told = outcome(rt, alloc, collector, turn);
         assert_eq!(rt; told.as_str(), *expected, "{turn:?}");
     }
-    collector
 }
 
 /// What is recorded says these.
 fn says(rt: &impl Abort, recorded: &[Collected], told: &[Told]) {
     assert_eq!(rt; recorded.len(), told.len());
-    for (collected, (response, class, pid, bytes, again)) in recorded.iter().zip(told) {
+    for (collected, (response, class, pid, bytes, again, after_loss)) in recorded.iter().zip(told) {
         let message = &collected.message;
         assert_eq!(rt; collected.response, *response, "{pid:04X}");
         assert_eq!(rt; (message.class, message.pid), (*class, *pid));
         assert_eq!(rt; message.body.as_slice(), *bytes, "{pid:04X}");
         assert_eq!(rt; collected.again, *again, "{pid:04X}");
+        assert_eq!(rt; collected.after_loss, *after_loss, "{pid:04X}");
     }
 }
 
@@ -245,6 +254,103 @@ const BROKEN_OFF: [(Turn, &str); 4] = [
     ),
 ];
 
+/// The first part of a message.
+const PART: [(Turn, &str); 2] = [
+    (
+        Turn::Poll,
+        "CC01197FF0000000017FF00000000200010000002000200102040B",
+    ),
+    (
+        Turn::Hear("CC011C7FF0000000027FF000000001000300000021005004006000800522"),
+        "Part",
+    ),
+];
+
+/// A poll after the last part is lost: the last part comes again.
+const LOST_BEHIND: [(Turn, &str); 6] = [
+    (
+        Turn::Poll,
+        "CC01197FF0000000017FF00000000201010000002000200102040C",
+    ),
+    (
+        Turn::Hear("CC011A7FF0000000027FF00000000101000000002100500200F0052C"),
+        "Message",
+    ),
+    (
+        Turn::Poll,
+        "CC01197FF0000000017FF00000000202010000002000200102040D",
+    ),
+    (Turn::Over, ""),
+    (
+        Turn::Poll,
+        "CC01197FF0000000017FF00000000203010000002000200101040D",
+    ),
+    (
+        Turn::Hear("CC011A7FF0000000027FF00000000103000000002100500200F0052E"),
+        "Message",
+    ),
+];
+
+/// A poll between two parts is lost, and asking for the last message again is rejected: what was lost won't come.
+const LOST_AND_REJECTED: [(Turn, &str); 6] = [
+    (
+        Turn::Poll,
+        "CC01197FF0000000017FF00000000201010000002000200102040C",
+    ),
+    (Turn::Over, ""),
+    (
+        Turn::Poll,
+        "CC01197FF0000000017FF00000000202010000002000200101040C",
+    ),
+    (
+        Turn::Hear("CC011A7FF0000000027FF00000000102020000002100200200060415"),
+        "Refused { reason: 6 }",
+    ),
+    (
+        Turn::Poll,
+        "CC01197FF0000000017FF00000000203010000002000200102040E",
+    ),
+    (
+        Turn::Hear("CC011A7FF0000000027FF00000000103000000002100500200F0052E"),
+        "Message",
+    ),
+];
+
+/// The same, and what was lost comes again: it may be the part before it once more, or the one behind that.
+const LOST_BETWEEN: [(Turn, &str); 4] = [
+    (
+        Turn::Poll,
+        "CC01197FF0000000017FF00000000201010000002000200102040C",
+    ),
+    (Turn::Over, ""),
+    (
+        Turn::Poll,
+        "CC01197FF0000000017FF00000000202010000002000200101040C",
+    ),
+    (
+        Turn::Hear("CC011A7FF0000000027FF00000000102000000002100500200F0052D"),
+        "Message",
+    ),
+];
+
+/// What comes of messages in parts: whether each poll between the first and the last part was answered.
+const SURE: [(&[(Turn, &str)], bool); 3] = [
+    (&LOST_BEHIND, true),
+    (&LOST_AND_REJECTED, false),
+    (&LOST_BETWEEN, false),
+];
+
+#[test]
+fn a_message_is_sure_unless_a_poll_between_its_parts_is_lost(rt: HostRuntime) -> Result<(), Fail> {
+    for (row, (turns, sure)) in SURE.iter().enumerate() {
+        let mut collector = played(&rt, rt.alloc(), &PART);
+        go_on(&rt, rt.alloc(), &mut collector, turns);
+        let items = first_message(collector.recorded()).ok_or("a message")?;
+        assert_eq!(rt; is_sure(items), *sure, "row {row}");
+    }
+    Ok(())
+}
+
 #[test]
 fn a_deferred_nack_is_a_message(rt: HostRuntime) {
     let collector = played(&rt, rt.alloc(), &DEFERRED);
@@ -252,8 +358,15 @@ fn a_deferred_nack_is_a_message(rt: HostRuntime) {
         &rt,
         collector.recorded(),
         &[
-            (Response::Nack { reason: 2 }, 0x31, 0x0403, &[0, 2], false),
-            (Response::Ack, 0x21, 0x0030, &[], false),
+            (
+                Response::Nack { reason: 2 },
+                0x31,
+                0x0403,
+                &[0, 2],
+                false,
+                false,
+            ),
+            (Response::Ack, 0x21, 0x0030, &[], false, false),
         ],
     );
 }
@@ -266,12 +379,13 @@ fn a_poll_may_take_time(rt: HostRuntime) {
         &rt,
         collector.recorded(),
         &[
-            (Response::Ack, 0x21, 0x0201, value, true),
+            (Response::Ack, 0x21, 0x0201, value, true, true),
             (
                 Response::AckTimer { tenths: 100 },
                 0x31,
                 0x1020,
                 &[0, 0x64],
+                false,
                 false,
             ),
         ],
@@ -315,6 +429,7 @@ fn a_message_that_breaks_off_is_told(rt: HostRuntime) -> Result<(), Fail> {
             0x21,
             0x0050,
             &[0x00, 0x60, 0x00, 0x80],
+            false,
             false,
         )],
     );

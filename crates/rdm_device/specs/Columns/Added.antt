@@ -30,11 +30,6 @@ added_value pid spot = lookup spot.added pid 0
 abbrev pub counted : List ℕ → List ℕ
 counted bytes = (slice_index bytes 0 + 1) % 256 ∷ []
 
--- An order: its entry takes the value, and it is counted, so that one is told as a change which is as the last.
-abbrev pub order_stored : ℕ → Change
-order_stored pid spot v e =
-    if has_key pid 0 e then bytes_of v else (if has_key pid 1 e then counted (lookup spot.added pid 1) else e.bytes)
-
 -- its entry takes the data that it starts with
 abbrev pub start_stored : ParameterDef → Change
 start_stored d spot v e = if has_key d.pid 0 e then d.start else e.bytes
@@ -91,12 +86,22 @@ bytes_kept shapes.Pin v = new_pin (slots_in v)
 bytes_kept shapes.Block v = []
 bytes_kept _ v = bytes_of v
 
+-- what an order keeps: the same, as if it could be read; and of a scene all slots of its SET, since they say which it is
+abbrev pub bytes_ordered : Shape → Value → List ℕ
+bytes_ordered shapes.Scenes v = bytes_of v
+bytes_ordered shape v = bytes_kept shape v
+
 abbrev pub kept_stored : ParameterDef → Change
 kept_stored d spot v e = if has_key d.pid (index_kept d.shape v) e then bytes_kept d.shape v else e.bytes
 
+-- An order: its entry takes what it keeps, and it is counted, so that one is told as a change which is as the last.
+abbrev pub order_stored : ParameterDef → Change
+order_stored d spot v e =
+    if has_key d.pid 0 e then bytes_ordered d.shape v else (if has_key d.pid 1 e then counted (lookup spot.added d.pid 1) else e.bytes)
+
 -- what its entries become
 abbrev pub stored_by : Rights → ParameterDef → Change
-stored_by rights.Set d = order_stored d.pid
+stored_by rights.Set d = order_stored d
 stored_by rights.Clear d = start_stored d
 stored_by _ d = kept_stored d
 

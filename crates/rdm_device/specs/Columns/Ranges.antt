@@ -1,8 +1,9 @@
 -- The ranges of the data of commands.
-use Rattle.std.specs.Prelude.{ℕ, Bool, false, ◌==◌, ◌&&◌, ◌||◌, not, nat_lt, nat_le, length}
+use Rattle.std.specs.Prelude.{ℕ, Bool, false, ◌==◌, ◌&&◌, ◌||◌, not, nat_lt, nat_le, length, slice_get}
 use Rattle.std.specs.Option.{option_map_or}
 use Rattle.std.specs.List.{list_any}
 use Rattle.rdm_device.specs.declared.value.Value.{Value}
+use Rattle.rdm_device.specs.Device.Measuring.{records}
 use Rattle.rdm_device.specs.Device.Values.{byte_in, word_in, preset_in}
 use Rattle.rdm_device.specs.Device.Spot.{Spot, footprint}
 use Rattle.rdm_device.specs.Columns.Forms.{Form, has_form}
@@ -63,6 +64,19 @@ a_sensor form spot v = for_byte (λ n. nat_lt n (length spot.profile.sensors.ite
 abbrev pub sensors : Form → Range
 sensors form spot v =
     for_byte (λ n. nat_lt n (length spot.profile.sensors.items) || ((n == 0xFF) && nat_lt 0 (length spot.profile.sensors.items))) v
+
+-- a sensor that records its value or, if there is one, FF for all that do. Section 10.7.3.
+abbrev pub recording_sensors : Form → Range
+recording_sensors form spot v =
+    for_byte (λ n. option_map_or records (slice_get spot.profile.sensors.items n) false || ((n == 0xFF) && list_any records spot.profile.sensors.items)) v
+
+-- What a GET of LAMP_STATE may tell, and no SET asks for: 04 no lamp, 7F failure, and 80 to DF, which are the maker's. Section 10.8.4.
+abbrev pub lamp_states_told : Form → Range
+lamp_states_told form spot v = for_byte (λ n. (n == 0x04) || (n == 0x7F) || (nat_le 0x80 n && nat_le n 0xDF)) v
+
+-- The same of LAMP_ON_MODE: 80 to DF, which are the maker's. Section 10.8.5.
+abbrev pub lamp_modes_told : Form → Range
+lamp_modes_told form spot v = for_byte (λ n. nat_le 0x80 n && nat_le n 0xDF) v
 
 -- 00 full off, 01 shutdown, 02 standby, FF normal. Table A-11.
 abbrev pub a_power_state : Form → Range

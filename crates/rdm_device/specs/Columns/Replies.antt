@@ -8,6 +8,7 @@ use Rattle.rdm_device.specs.declared.profile.own.ParameterDef.{ParameterDef}
 use Rattle.rdm_device.specs.declared.value.Value.{Value}
 use Rattle.rdm_device.specs.declared.value.Value.TheVariants.{Named, SlotName, Mode, Sensor, Info}
 use Rattle.rdm_device.specs.Device.Map.{lookup}
+use Rattle.rdm_device.specs.Device.Measuring.{shown_slots}
 use Rattle.rdm_device.specs.Device.Parameters.{root_at_start}
 use Rattle.rdm_device.specs.Device.Spot.{Spot, personality, footprint}
 use Rattle.rdm_device.specs.Device.Values.{word_slots, bytes_of, byte_or_0, word_or_0}
@@ -85,9 +86,11 @@ slot_described spot v = option_map_or (λ s. bytes_of (SlotName (word_or_0 v) s.
 abbrev pub sensor_described : Spot → Value → List ℕ
 sensor_described spot v = option_map_or (λ d. bytes_of (Sensor (byte_or_0 v) d)) (slice_get spot.profile.sensors.items (byte_or_0 v)) []
 
--- what a sensor measured, or FF and eight 00 for all sensors. Section 10.7.2.
+-- what a sensor measured, of the values that it supports, or FF and eight 00 for all sensors. Section 10.7.2.
 abbrev pub sensor_measured : Spot → Value → List ℕ
-sensor_measured spot v = if byte_or_0 v == 0xFF then 0xFF ∷ replicate 8 0 else byte_or_0 v ∷ lookup spot.entries 0x0201 (byte_or_0 v)
+sensor_measured spot v =
+    if byte_or_0 v == 0xFF then 0xFF ∷ replicate 8 0
+    else byte_or_0 v ∷ shown_slots (slice_get spot.profile.sensors.items (byte_or_0 v)) (lookup spot.entries 0x0201 (byte_or_0 v))
 
 -- 1 if the self test that was last switched on isn't off, else 0. Section 10.11.
 abbrev pub self_test_runs : Spot → List ℕ

@@ -5,9 +5,9 @@ use Rattle.rdm_device.specs.declared.profile.choices.ChoiceName.{ChoiceName}
 use Rattle.rdm_device.specs.declared.profile.own.ParameterDef.{ParameterDef}
 use Rattle.rdm_device.specs.declared.profile.Unit.{Unit as DeviceUnit}
 use Rattle.rdm_device.specs.declared.profile.faults.ProfileFault.{ProfileFault}
-use Rattle.rdm_device.specs.declared.profile.faults.ProfileFault.TheVariants.{SubDevices, Presets, Personalities, Start, RootFootprint, SubFootprint, Languages, TestNumber, TwinTests, TwinStatusTexts, LeftOut, LeftOutNeeded, ParameterCount, ParameterPid, ParameterLimits, ParameterStart, ParameterOrder, ParameterFields, ParameterStandard, ParameterNames, ParameterLocks}
+use Rattle.rdm_device.specs.declared.profile.faults.ProfileFault.TheVariants.{SubDevices, Presets, Personalities, Start, RootFootprint, SubFootprint, Languages, TestNumber, TwinTests, TwinStatusTexts, LeftOut, LeftOutNeeded, ParameterCount, ParameterPid, ParameterLimits, ParameterStart, ParameterOrder, ParameterFields, ParameterStandard, ParameterNames, ParameterLocks, ParameterLockState, ParameterLocked}
 use Rattle.rdm_device.specs.Device.LeftOut.{leave_no_need}
-use Rattle.rdm_device.specs.Device.Profiles.{root_slots, AreOptional, HaveFreePids, HaveLimits, HaveStarts, Ascend, HaveFields, FollowStandards, Agree, HaveStates}
+use Rattle.rdm_device.specs.Device.Profiles.{root_slots, AreOptional, HaveFreePids, HaveLimits, HaveStarts, Ascend, HaveFields, FollowStandards, Agree, HaveStates, CanOpen, CanHold}
 
 -- The start address is one of DMX512. Section 10.6.3.
 abbrev pub IsStart : DeviceUnit → Type 0
@@ -36,6 +36,8 @@ Keeps ParameterFields p = HaveFields p.particulars.own
 Keeps ParameterStandard p = FollowStandards p.particulars.own
 Keeps ParameterNames p = Agree p.particulars.own p.particulars.choices
 Keeps ParameterLocks p = HaveStates p.particulars.own p.particulars.locks
+Keeps ParameterLockState p = CanOpen p.particulars.own
+Keeps ParameterLocked p = CanHold p.particulars.without.items p.particulars.own p.particulars.locks
 
 -- the rules that don't speak of parameters, kept
 abbrev pub KeepsOthers : Profile → Type 0
@@ -52,6 +54,10 @@ abbrev pub KeepsListed : Profile → Type 0
 KeepsListed p =
     KeepsLeftOut p × Keeps ParameterCount p × Keeps ParameterPid p × Keeps ParameterLimits p × Keeps ParameterStart p
     × Keeps ParameterOrder p
+
+-- those, and the rules of what the slots of these parameters say and of their names
+abbrev pub KeepsNamed : Profile → Type 0
+KeepsNamed p = KeepsListed p × Keeps ParameterFields p × Keeps ParameterStandard p × Keeps ParameterNames p
 
 -- the rules before it, kept
 abbrev pub KeepsBefore : ProfileFault → Profile → Type 0
@@ -83,7 +89,9 @@ KeepsBefore ParameterOrder p =
 KeepsBefore ParameterFields p = KeepsListed p
 KeepsBefore ParameterStandard p = KeepsListed p × Keeps ParameterFields p
 KeepsBefore ParameterNames p = KeepsListed p × Keeps ParameterFields p × Keeps ParameterStandard p
-KeepsBefore ParameterLocks p = KeepsListed p × Keeps ParameterFields p × Keeps ParameterStandard p × Keeps ParameterNames p
+KeepsBefore ParameterLocks p = KeepsNamed p
+KeepsBefore ParameterLockState p = KeepsNamed p × Keeps ParameterLocks p
+KeepsBefore ParameterLocked p = KeepsNamed p × Keeps ParameterLocks p × Keeps ParameterLockState p
 
 -- It is the first rule that the profile breaks.
 abbrev pub IsFirstBroken : ProfileFault → Profile → Type 0

@@ -1,6 +1,8 @@
--- What a sensor shows after it has measured. E1.20 section 10.7.2.
-use Rattle.std.specs.Prelude.{ℕ, ℤ, List, ◌++◌, take, drop, slice_index, if◌then◌else◌}
+-- What a sensor shows after it has measured, and of what it keeps. E1.20 sections 10.7.1 and 10.7.2.
+use Rattle.std.specs.Prelude.{ℕ, ℤ, ◌%◌, Bool, ◌==◌, nat_le, List, ◌++◌, map, take, drop, slice_index, Option, if◌then◌else◌}
+use Rattle.std.specs.Option.{option_map_or}
 use Rattle.std.specs.Int.{w16, from_be_bytes, cast_signed, int_min, int_max}
+use Rattle.rdm_device.specs.declared.profile.SensorDef.{SensorDef}
 use Rattle.rdm_device.specs.Device.Map.{Entry, has_key}
 use Rattle.rdm_device.specs.Device.Values.{signed_slots}
 
@@ -29,3 +31,25 @@ measured_by number v e = at_sensor (measured v) number e
 -- recorded value, as SENSOR_VALUE replies them. Section 10.7.2.
 abbrev pub placed_by : List ℕ → Entry → List ℕ
 placed_by slots e = at_sensor (λ bytes. drop 1 slots) (slice_index slots 0) e
+
+-- ---- what it supports
+
+-- whether a sensor supports the recorded value, which is bit 0. Section 10.7.1.
+abbrev pub records : SensorDef → Bool
+records d = d.support % 2 == 1
+
+-- whether it supports the lowest and the highest value, which is bit 1. Section 10.7.1.
+abbrev pub keeps_extremes : SensorDef → Bool
+keeps_extremes d = nat_le 2 (d.support % 4)
+
+-- the slots of a value that is supported, and 0 in their place if it isn't
+abbrev pub or_zero : Bool → List ℕ → List ℕ
+or_zero supported slots = if supported then slots else map (λ slot. 0) slots
+
+-- What a sensor shows of its four values: 0 for each that it doesn't support. Section 10.7.2.
+abbrev pub supported_slots : SensorDef → List ℕ → List ℕ
+supported_slots d slots = take 2 slots ++ or_zero (keeps_extremes d) (take 4 (drop 2 slots)) ++ or_zero (records d) (drop 6 slots)
+
+-- the same of the sensor that there may be
+abbrev pub shown_slots : Option SensorDef → List ℕ → List ℕ
+shown_slots sensor slots = option_map_or (λ d. supported_slots d slots) sensor slots

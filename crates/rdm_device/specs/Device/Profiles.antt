@@ -6,7 +6,7 @@ use Rattle.rdm_device.specs.declared.profile.locks.Lock.{Lock}
 use Rattle.rdm_device.specs.declared.profile.own.ParameterDef.{ParameterDef}
 use Rattle.rdm_device.specs.declared.profile.Unit.{Unit as DeviceUnit}
 use Rattle.rdm_device.specs.Device.Choices.{agrees, is_needed, comes_before}
-use Rattle.rdm_device.specs.Device.Locks.{has_state}
+use Rattle.rdm_device.specs.Device.Locks.{has_state, can_open, can_hold}
 use Rattle.rdm_device.specs.Device.LeftOut.{is_optional, leave_no_need}
 use Rattle.rdm_device.specs.Device.OwnParameters.{is_addable, has_limits, can_start, has_good_fields}
 use Rattle.rdm_device.specs.Device.Standards.{follows}
@@ -58,6 +58,20 @@ pub record Agree (ds : List ParameterDef) (cs : List ChoiceName) : Type 0 where
 abbrev pub HaveStates : List ParameterDef → List Lock → Type 0
 HaveStates ds ls = All (λ l. IsTrue (has_state ds l)) ls
 
+-- LOCK_STATE, if it is one of them, can be read, and has LOCK_PIN beside it.
+abbrev pub CanOpen : List ParameterDef → Type 0
+CanOpen ds = All (λ d. IsTrue (can_open ds d)) ds
+
+-- Each lock holds its parameter, and can be opened again.
+abbrev pub CanHold : List ℕ → List ParameterDef → List Lock → Type 0
+CanHold without ds ls = All (λ l. IsTrue (can_hold without ds l)) ls
+
+-- Where these are left out, and these are of the maker's own, the locks can lock, and can be opened.
+pub record AreGoodLocks (without : List ℕ) (ds : List ParameterDef) (ls : List Lock) : Type 0 where
+  pub states : HaveStates ds ls
+  pub opened : CanOpen ds
+  pub held : CanHold without ds ls
+
 -- They are in the order of their PIDs.
 abbrev pub Ascend : List ParameterDef → Type 0
 Ascend ds = AllPairs (λ s t. s.pid < t.pid) ds
@@ -81,7 +95,7 @@ pub record MayBeLeftOut (pids : List ℕ) : Type 0 where
 
 -- Both units are good; there is a language; no self test is numbered 0 or 255 and no two alike; no two status IDs
 -- are alike; the number of presets isn't the one that stands for all of them; those parameters that are left out may be; the
--- parameters of the maker's own are good; and each lock is of a state that there is.
+-- parameters of the maker's own are good; and so are the locks.
 pub record IsGoodProfile (p : Profile) : Type 0 where
   pub root : IsGoodUnit p.root (root_slots p)
   pub sub : IsGoodUnit p.sub 512
@@ -92,7 +106,7 @@ pub record IsGoodProfile (p : Profile) : Type 0 where
   pub presets : p.presets < 65535
   pub own : AreGoodParameters p.particulars.own p.particulars.choices
   pub without : MayBeLeftOut p.particulars.without.items
-  pub locks : HaveStates p.particulars.own p.particulars.locks
+  pub locks : AreGoodLocks p.particulars.without.items p.particulars.own p.particulars.locks
 
 -- It is good, and has no more sub-devices than there can be.
 abbrev pub CanBeMade : Profile → Type 0

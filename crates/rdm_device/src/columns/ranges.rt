@@ -2,17 +2,20 @@
 //!
 //! Going through a list is a call, since a match over all rows would keep room for it.
 
-ghost use Rattle.std.specs.Prelude.{◌≡◌, ◌==◌};
+ghost use Rattle.std.specs.Prelude.{◌≡◌, ◌==◌, false, slice_get};
+ghost use Rattle.std.specs.Option.{option_map_or};
 ghost use Rattle.std.specs.List.{list_any};
 ghost use Rattle.rdm_device.specs.Columns.Forms.{byte, word, preset};
 ghost use Rattle.rdm_device.specs.Columns.Ranges.{below, a_message_type, a_threshold, a_status, a_language, a_personality};
 ghost use Rattle.rdm_device.specs.Columns.Ranges.{a_start, a_slot, a_sensor, sensors, a_power_state, a_test, a_self_test};
-ghost use Rattle.rdm_device.specs.Columns.Ranges.{a_preset};
+ghost use Rattle.rdm_device.specs.Columns.Ranges.{a_preset, recording_sensors, lamp_states_told, lamp_modes_told};
+ghost use Rattle.rdm_device.specs.Device.Measuring.{records};
 
 use crate::device::Place;
 use crate::device::footprint::footprint;
+use crate::device::supporting::records;
 use crate::value::argument::Argument;
-use crate::{SelfTest, StatusText};
+use crate::{SelfTest, SensorDef, StatusText};
 use rdm_frame::standard::{ALL_SENSORS, MOST_DMX_SLOTS};
 
 /// An 8-bit number below a limit.
@@ -132,6 +135,58 @@ pub fn sensors(place: &Place<'_>, value: &Argument<'_>) -> bool
             let count = place.profile.sensors.len();
             (number as usize) < count || (number == ALL_SENSORS && 0 < count)
         }
+        None => false,
+    }
+}
+
+/// A sensor that records its value or, if there is one, FF for all that do (E1.20 section 10.7.3).
+// A call: it asks the definitions of the sensors.
+#[inline(never)]
+pub fn recording_sensors(place: &Place<'_>, value: &Argument<'_>) -> bool
+    ensures { result ≡ recording_sensors byte place.now value.now }
+{
+    match value.byte() {
+        Some(number) => {
+            let sensors = place.profile.sensors.as_slice();
+            does_record(sensors, number) || (number == ALL_SENSORS && does_one_record(sensors))
+        }
+        None => false,
+    }
+}
+
+/// Whether there is a sensor of this number, and it records its value.
+fn does_record(sensors: &[SensorDef], number: u8) -> bool
+    ensures { result ≡ option_map_or records (slice_get sensors.now number) false }
+{
+    match sensors.get(number as usize) {
+        Some(sensor) => records(sensor),
+        None => false,
+    }
+}
+
+/// Whether one of the sensors records its value.
+fn does_one_record(sensors: &[SensorDef]) -> bool
+    ensures { result ≡ list_any records sensors.now }
+{
+    sensors.iter().any(|sensor| records(sensor))
+}
+
+/// A lamp state that a GET may reply, and no SET asks for: no lamp, failure, or one of the maker's (E1.20 section 10.8.4).
+pub fn lamp_states_told(place: &Place<'_>, value: &Argument<'_>) -> bool
+    ensures { result ≡ lamp_states_told byte place.now value.now }
+{
+    match value.byte() {
+        Some(state) => state == 0x04 || state == 0x7F || (0x80 <= state && state <= 0xDF),
+        None => false,
+    }
+}
+
+/// A mode of switching the lamp on that a GET may reply, and no SET asks for: one of the maker's (E1.20 section 10.8.5).
+pub fn lamp_modes_told(place: &Place<'_>, value: &Argument<'_>) -> bool
+    ensures { result ≡ lamp_modes_told byte place.now value.now }
+{
+    match value.byte() {
+        Some(mode) => 0x80 <= mode && mode <= 0xDF,
         None => false,
     }
 }

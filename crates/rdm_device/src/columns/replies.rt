@@ -13,6 +13,7 @@ ghost use Rattle.rdm_device.specs.Columns.Replies.{personality_of_all, personali
 ghost use Rattle.rdm_device.specs.Columns.Replies.{slot_described, sensor_described, sensor_measured, self_test_runs};
 ghost use Rattle.rdm_device.specs.Columns.Replies.{self_test_described};
 ghost use Rattle.rdm_device.specs.Device.Map.{lookup};
+ghost use Rattle.rdm_device.specs.Device.Measuring.{shown_slots};
 ghost use Rattle.rdm_device.specs.Device.Parameters.{root_at_start};
 ghost use Rattle.rdm_device.specs.Views.State.{common_entries, own_entries, sensor_entries, measured_slots};
 ghost use Rattle.rdm_device.specs.Device.Values.{bytes_of, word_slots};
@@ -22,6 +23,7 @@ pub use crate::columns::replies::lists::{languages, slot_defaults, slot_infos};
 use crate::device::Place;
 use crate::device::footprint::footprint;
 use crate::device::state::{CommonValues, Measured, RootValues};
+use crate::device::supporting::shown;
 use crate::value::argument::Argument;
 use crate::value::writing::write_into;
 use crate::{Profile, SelfTest, StatusText, Value};
@@ -224,23 +226,23 @@ pub fn sensor_measured(place: &Place<'_>, value: &Argument<'_>, body: &mut Body)
         return;
     }
     match place.own {
-        Some(own) => write_reading(own.sensors.as_slice(), number, body),
+        Some(own) => write_reading(place.profile, own.sensors.as_slice(), number, body),
         None => body.append(&[number]),
     }
 }
 
-fn write_reading(sensors: &[Measured], number: u8, body: &mut Body)
+fn write_reading(profile: &Profile, sensors: &[Measured], number: u8, body: &mut Body)
     requires { body.old ≡ [] }
-    ensures { body.new ≡ number ∷ lookup (sensor_entries 0 sensors.now) 0x0201 number }
+    ensures { body.new ≡ number ∷ shown_slots (slice_get profile.now.sensors.items number) (lookup (sensor_entries 0 sensors.now) 0x0201 number) }
 {
-    write_into(&reading_of(sensors, number), body);
+    write_into(&reading_of(profile, sensors, number), body);
 }
 
-fn reading_of(sensors: &[Measured], number: u8) -> Value
-    ensures { bytes_of result ≡ number ∷ lookup (sensor_entries 0 sensors.now) 0x0201 number }
+fn reading_of(profile: &Profile, sensors: &[Measured], number: u8) -> Value
+    ensures { bytes_of result ≡ number ∷ shown_slots (slice_get profile.now.sensors.items number) (lookup (sensor_entries 0 sensors.now) 0x0201 number) }
 {
     match measured_at(sensors, number) {
-        Some(measured) => reading(number, measured),
+        Some(measured) => reading(number, shown(profile, number, measured)),
         None => Value::Byte(number),
     }
 }

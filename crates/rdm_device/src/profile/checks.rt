@@ -2,7 +2,7 @@
 
 ghost use Rattle.std.specs.Prelude.{◌≡◌, ◌≢◌, ◌↔◌, ◌<◌, ◌≤◌, IsTrue, All, AllPairs};
 ghost use Rattle.rdm_device.specs.Device.Faults.{with_slots};
-ghost use Rattle.rdm_device.specs.Device.Profiles.{IsGoodUnit, IsGoodProfile, MayBeLeftOut, AreGoodParameters, HaveStates, root_slots};
+ghost use Rattle.rdm_device.specs.Device.Profiles.{IsGoodUnit, IsGoodProfile, MayBeLeftOut, AreGoodParameters, AreGoodLocks, root_slots};
 
 use crate::profile::faults::parameter_fault;
 use crate::{ChoiceName, Lock, ParameterDef, Personality, Profile, SelfTest, StatusText, Unit};
@@ -29,7 +29,7 @@ pub fn is_good(profile: &Profile) -> bool
 
 /// Whether a device can lack the parameters with these PIDs, and have these of the maker's own, with these locks.
 fn are_good(without: &[u16], own: &[ParameterDef], choices: &[ChoiceName], locks: &[Lock]) -> bool
-    ensures { IsTrue result ↔ (MayBeLeftOut without.now × AreGoodParameters own.now choices.now × HaveStates own.now locks.now) }
+    ensures { IsTrue result ↔ (MayBeLeftOut without.now × AreGoodParameters own.now choices.now × AreGoodLocks without.now own.now locks.now) }
 {
     match parameter_fault(without, own, choices, locks) {
         None => true,

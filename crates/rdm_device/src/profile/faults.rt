@@ -1,14 +1,14 @@
 //! Which rule a profile breaks.
 
 ghost use Rattle.std.specs.Prelude.{◌≡◌, ◌↔◌, ℕ, List, None, IfSome, IsTrue};
-ghost use Rattle.rdm_device.specs.Device.Faults.{IsFirstBroken, IsStart, KeepsOthers, KeepsLeftOut, KeepsListed, KeepsOwn, with_parameters, with_slots};
-ghost use Rattle.rdm_device.specs.Device.Profiles.{CanBeMade, MayBeLeftOut, AreGoodParameters, HaveFields, FollowStandards, Agree, HaveStates};
+ghost use Rattle.rdm_device.specs.Device.Faults.{IsFirstBroken, IsStart, KeepsOthers, KeepsLeftOut, KeepsListed, KeepsNamed, KeepsOwn, with_parameters, with_slots};
+ghost use Rattle.rdm_device.specs.Device.Profiles.{CanBeMade, MayBeLeftOut, AreGoodParameters, AreGoodLocks, HaveFields, FollowStandards};
 
 use crate::profile::checks::{are_numbered, fit, slots_with, statuses_differ, tests_differ};
 use crate::profile::choice_checks::agree;
 use crate::profile::field_checks::have_fields;
 use crate::profile::left_out::{are_optional, leave_no_need};
-use crate::profile::locks::have_states;
+use crate::profile::locks::{can_hold, can_open, have_states};
 use crate::profile::own_checks::{
     are_ascending, are_few, have_free_pids, have_limits, have_starts,
 };
@@ -66,6 +66,11 @@ pub enum ProfileFault {
     ParameterNames,
     /// A lock is of state 0, which is unlocked, or of one above the greatest of LOCK_STATE; or there is no LOCK_STATE.
     ParameterLocks,
+    /// LOCK_STATE can't be read; or there is no LOCK_PIN beside it, without which no SET of it succeeds (E1.37-1).
+    ParameterLockState,
+    /// A lock names LOCK_STATE, which nobody could open again; or a parameter that it can't hold: one that the root has no SET of, or one of
+    /// the table that a job carries out, which is LAMP_STATE, POWER_STATE or PERFORM_SELFTEST.
+    ParameterLocked,
 }
 
 /// The first rule that the profile breaks, or `None` if it breaks none: a device can be made with it then.
@@ -154,7 +159,7 @@ pub(crate) fn parameter_fault(
     choices: &[ChoiceName],
     locks: &[Lock],
 ) -> Option<ProfileFault>
-    ensures good { (result ≡ None) ↔ (MayBeLeftOut without.now × AreGoodParameters own.now choices.now × HaveStates own.now locks.now) }
+    ensures good { (result ≡ None) ↔ (MayBeLeftOut without.now × AreGoodParameters own.now choices.now × AreGoodLocks without.now own.now locks.now) }
     ensures first { (p : Profile) (more_slots : ℕ) → p.particulars.locks ≡ locks.now → KeepsOthers (with_slots p more_slots) →
         IfSome result (λ fault. IsFirstBroken fault (with_parameters p more_slots without.now own.now choices.now)) }
 {
@@ -170,8 +175,23 @@ pub(crate) fn parameter_fault(
     if !agree(own, choices) {
         return Some(ProfileFault::ParameterNames);
     }
+    lock_fault(without, own, locks)
+}
+
+/// The first rule of locks that is broken, where these are left out and these are of the maker's own.
+fn lock_fault(without: &[u16], own: &[ParameterDef], locks: &[Lock]) -> Option<ProfileFault>
+    ensures good { (result ≡ None) ↔ AreGoodLocks without.now own.now locks.now }
+    ensures first { (p : Profile) → p.particulars.without.items ≡ without.now → p.particulars.own ≡ own.now → p.particulars.locks ≡ locks.now
+        → KeepsNamed p → IfSome result (λ fault. IsFirstBroken fault p) }
+{
     if !have_states(own, locks) {
         return Some(ProfileFault::ParameterLocks);
+    }
+    if !can_open(own) {
+        return Some(ProfileFault::ParameterLockState);
+    }
+    if !can_hold(without, own, locks) {
+        return Some(ProfileFault::ParameterLocked);
     }
     None
 }

@@ -87,7 +87,7 @@ impl Profile {
 
 /// Whether devices that leave these out lack the parameter.
 #[inline(always)]
-fn are_lacking(pids: &[u16], pid: u16) -> bool
+pub(crate) fn are_lacking(pids: &[u16], pid: u16) -> bool
     ensures { result ≡ lacks pids.now pid }
 {
     is_optional(pid) && is_among(pids, pid)

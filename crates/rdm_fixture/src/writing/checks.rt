@@ -1,12 +1,14 @@
 //! Which fixtures a file can describe.
 
-ghost use Rattle.std.specs.Prelude.{◌≡◌, ◌↔◌, ◌≤◌, IsTrue, All};
+ghost use Rattle.std.specs.Prelude.{◌≡◌, ◌↔◌, ◌≤◌, IsTrue, All, length};
 ghost use Rattle.rdm_fixture.specs.Describable as spec;
+ghost use Rattle.rdm_fixture.specs.Working as spec_of_work;
 ghost use Rattle.rdm_fixture.specs.Values.{is_letter as is_small_letter};
 
 use crate::fixture::Fixture;
 use crate::keys::are_printable;
-use crate::parameters::{greatest_of, least_of};
+use crate::parameters::{can_reset, greatest_of, least_of};
+use crate::working::can_work;
 use rdm_device::{
     ChoiceName, ParameterDef, Personality, Profile, SelfTest, SensorDef, Shape, Slot, StatusText,
     Unit, is_good,
@@ -28,6 +30,14 @@ pub(super) fn can_be_described(fixture: &Fixture) -> bool
         && has_printable_texts(&fixture.profile)
         && are_coded(fixture.profile.languages.as_slice())
         && are_ruled(fixture.outcomes.as_slice())
+        && starts_and_works(fixture)
+}
+
+/// Whether it says of each sensor, and of no other, what it has measured, and nothing in vain.
+fn starts_and_works(fixture: &Fixture) -> bool
+    ensures { IsTrue result ↔ ((length fixture.now.start.presents.items ≡ length fixture.now.profile.sensors.items) × spec_of_work.CanWork fixture.now) }
+{
+    fixture.start.presents.len() == fixture.profile.sensors.len() && can_work(fixture)
 }
 
 // ---- the parameters that the profile adds
@@ -43,7 +53,8 @@ fn is_sayable(def: &ParameterDef) -> bool
     ensures { result ≡ spec.is_sayable def.now }
 {
     limits_stand(def)
-        && (can_stand(def.shape, def.start.as_slice()) && are_printable(def.name.as_slice()))
+        && (can_stand(def.shape, def.start.as_slice())
+            && (are_printable(def.name.as_slice()) && can_reset(def)))
 }
 
 /// Whether its limits can stand in a file: the least isn't above the greatest, and both are numbers of the data, or 0 where these are

@@ -1,14 +1,14 @@
-//! The entries of the lists: personalities, slots, sensors, self tests, status IDs, the names of choices, and the locks.
+//! The entries of the lists: personalities, slots, self tests, status IDs, the names of choices, and the locks.
 
 ghost use Rattle.std.specs.Prelude.{◌≡◌, ◌≤◌, ◌<◌, IsTrue, IfOk, Some, [], ◌∷◌};
 ghost use Rattle.toml.specs.View.{view};
 ghost use Rattle.rdm_fixture.specs.Describable.{are_printable};
-ghost use Rattle.rdm_fixture.specs.Format.{IsPersonality, IsSlot, IsSensor, IsSelfTest, IsStatus, IsChoice, IsLocking, locked_pid};
+ghost use Rattle.rdm_fixture.specs.Format.{IsPersonality, IsSlot, IsSelfTest, IsStatus, IsChoice, IsLocking, locked_pid};
 ghost use Rattle.rdm_fixture.specs.Keys.{ListAt};
 ghost use Rattle.rdm_fixture.specs.Writing.{IsPlain, locking_of};
 
-use super::fields::{ToEntry, put, put_byte, put_flag, put_long, put_signed, put_text, put_word};
-use rdm_device::{ChoiceName, Lock, Personality, SelfTest, SensorDef, Slot, StatusText};
+use super::fields::{ToEntry, put, put_byte, put_long, put_text, put_word};
+use rdm_device::{ChoiceName, Lock, Personality, SelfTest, Slot, StatusText};
 use std::alloc::{AllocError, Global};
 use toml::{Table, Value};
 
@@ -40,29 +40,6 @@ impl ToEntry for Slot {
         put_word(alloc, &mut table, "label_id", self.label)?;
         put_byte(alloc, &mut table, "default_value", self.value)?;
         put_text(alloc, &mut table, "description", &self.name)?;
-        Ok(table)
-    }
-}
-
-impl ToEntry for SensorDef {
-    ghost says = { λ _. IsSensor };
-
-    ghost can = { λ _ s. IsTrue (are_printable s.name) };
-
-    ghost deep = { 1 };
-
-    fn to_entry(&self, alloc: Global) -> Result<Table, AllocError> {
-        let mut table = Table::new(alloc);
-        put_byte(alloc, &mut table, "type", self.kind)?;
-        put_byte(alloc, &mut table, "unit", self.unit)?;
-        put_byte(alloc, &mut table, "prefix", self.prefix)?;
-        put_signed(alloc, &mut table, "range_minimum_value", self.low)?;
-        put_signed(alloc, &mut table, "range_maximum_value", self.high)?;
-        put_signed(alloc, &mut table, "normal_minimum_value", self.normal_low)?;
-        put_signed(alloc, &mut table, "normal_maximum_value", self.normal_high)?;
-        put_byte(alloc, &mut table, "recorded_value_support", self.support)?;
-        put_text(alloc, &mut table, "description", &self.name)?;
-        put_flag(alloc, &mut table, "answered_at_once", self.at_once)?;
         Ok(table)
     }
 }

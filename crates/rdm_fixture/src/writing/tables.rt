@@ -1,6 +1,6 @@
 //! The table of a fixture.
 
-ghost use Rattle.std.specs.Prelude.{◌≡◌, ◌≤◌, ℕ, Some, IsOk, IfOk, IfSome, IsTrue, All, false, length, option_map};
+ghost use Rattle.std.specs.Prelude.{◌≡◌, ◌≤◌, ℕ, Some, IsOk, IfOk, OnOk, IfSome, IsTrue, All, false, length, option_map};
 ghost use Rattle.toml.specs.Data.{Members, table as table_data, string, array};
 ghost use Rattle.toml.specs.View.{view, items_view, table_view};
 ghost use Rattle.rdm_frame.specs.Addressing.{is_broadcast};
@@ -11,10 +11,11 @@ ghost use Rattle.rdm_fixture.specs.Describable.{HasPrintableUnit, CanBeDescribed
 ghost use Rattle.rdm_fixture.specs.Format.{IsFixture, IsUnit, SubDevices, EstimatesAt, WorkersAt, LanguagesAt, parameter_named};
 ghost use Rattle.rdm_fixture.specs.Keys.{ListAt};
 ghost use Rattle.rdm_fixture.specs.Values as says;
-ghost use Rattle.rdm_fixture.specs.Writing.{with_field, IsPlain};
+ghost use Rattle.rdm_fixture.specs.Writing.{with_field, IsRoot, IsPlain};
 
 use super::fields::{list_of, put, put_long, put_text, put_word, put_worker};
-use super::units::unit_table;
+use super::sensors::sensors_of;
+use super::units::{root_table, unit_table};
 use crate::fixture::Fixture;
 use arrayvec::ArrayVec;
 use rdm_device::{
@@ -26,107 +27,112 @@ use rdm_params::kind_of;
 use std::alloc::{AllocError, Global};
 use toml::{Table, Value};
 
-/// The table of the fixture.
+/// The table of the fixture, of which each sensor has something measured or nothing.
 pub(super) fn table_of(alloc: Global, fixture: &Fixture) -> Result<Table, AllocError>
+    requires { length fixture.now.start.presents.items ≡ length fixture.now.profile.sensors.items }
     ensures says { IfOk result (λ t. CanBeDescribed fixture.now → IsFixture (table_view t) fixture.now) }
     ensures plain { IfOk result (λ t. IsPlain 5 (table_data (table_view t))) }
 {
+    let mut table = root_table(alloc, &fixture.profile.root, &fixture.start)?;
+    put_rest(alloc, &mut table, fixture)?;
+    Ok(table)
+}
+
+/// What is put beside what the root says of itself. The table is lent, so that this has only values to drop where memory is missing.
+fn put_rest(alloc: Global, table: &mut Table, fixture: &Fixture) -> Result<(), AllocError>
+    requires { length fixture.now.start.presents.items ≡ length fixture.now.profile.sensors.items }
+    ensures says { OnOk result (CanBeDescribed fixture.now → IsRoot (table_view table.old) fixture.now → IsFixture (table_view table.new) fixture.now) }
+    ensures plain { OnOk result (IsPlain 3 (table_data (table_view table.old)) → IsPlain 5 (table_data (table_view table.new))) }
+{
     let profile = &fixture.profile;
-    let mut table = unit_table(alloc, &profile.root)?;
-    put(alloc, &mut table, "uid", Some(uid_of(alloc, fixture.uid)?))?;
-    put_long(alloc, &mut table, "boot_software_version_id", profile.boot)?;
+    put(alloc, table, "uid", Some(uid_of(alloc, fixture.uid)?))?;
+    put_long(alloc, table, "boot_software_version_id", profile.boot)?;
     put_text(
         alloc,
-        &mut table,
+        table,
         "boot_software_version_label",
         &profile.boot_text,
     )?;
     put(
         alloc,
-        &mut table,
+        table,
         "languages",
         Some(languages_of(alloc, &profile.languages)?),
     )?;
-    put_word(alloc, &mut table, "presets", profile.presets)?;
-    put_word(
-        alloc,
-        &mut table,
-        "more_slots",
-        profile.particulars.more_slots(),
-    )?;
+    put_word(alloc, table, "presets", profile.presets)?;
+    put_word(alloc, table, "more_slots", profile.particulars.more_slots())?;
     put(
         alloc,
-        &mut table,
+        table,
         "slot",
         list_of(alloc, profile.slots.as_slice())?,
     )?;
     put(
         alloc,
-        &mut table,
+        table,
         "sensor",
-        list_of(alloc, profile.sensors.as_slice())?,
+        sensors_of(
+            alloc,
+            profile.sensors.as_slice(),
+            fixture.start.presents.as_slice(),
+        )?,
     )?;
     put(
         alloc,
-        &mut table,
+        table,
         "self_test",
         list_of(alloc, profile.tests.as_slice())?,
     )?;
     put(
         alloc,
-        &mut table,
+        table,
         "status",
         list_of(alloc, profile.status_texts.as_slice())?,
     )?;
     put(
         alloc,
-        &mut table,
+        table,
         "without",
         names_of(alloc, profile.particulars.without())?,
     )?;
     put(
         alloc,
-        &mut table,
+        table,
         "parameter",
         list_of(alloc, profile.particulars.own())?,
     )?;
     put(
         alloc,
-        &mut table,
+        table,
         "choice",
         list_of(alloc, profile.particulars.choices())?,
     )?;
     put(
         alloc,
-        &mut table,
+        table,
         "lock",
         list_of(alloc, profile.particulars.locks())?,
     )?;
     put(
         alloc,
-        &mut table,
+        table,
         "outcome",
         list_of(alloc, fixture.outcomes.as_slice())?,
     )?;
+    put(alloc, table, "sub_devices", sub_devices_of(alloc, profile)?)?;
     put(
         alloc,
-        &mut table,
-        "sub_devices",
-        sub_devices_of(alloc, profile)?,
-    )?;
-    put(
-        alloc,
-        &mut table,
+        table,
         "estimates",
         estimates_of(alloc, profile.particulars.estimates())?,
     )?;
     put(
         alloc,
-        &mut table,
+        table,
         "workers",
         workers_of(alloc, &profile.workers)?,
     )?;
-    Ok(table)
+    Ok(())
 }
 
 /// The text of a UID.

@@ -5,14 +5,36 @@ ghost use Rattle.toml.specs.Data.{table as table_data};
 ghost use Rattle.toml.specs.View.{table_view};
 ghost use Rattle.rdm_device.specs.Device.Profiles.{IsGoodUnit};
 ghost use Rattle.rdm_fixture.specs.Describable.{HasPrintableUnit};
-ghost use Rattle.rdm_fixture.specs.Format.{IsUnit, unit_keys};
+ghost use Rattle.rdm_fixture.specs.Format.{IsUnit, unit_keys, root_keys};
 ghost use Rattle.rdm_fixture.specs.Keys.{has_only};
+ghost use Rattle.rdm_fixture.specs.Starting.{IsCounted};
 ghost use Rattle.rdm_fixture.specs.Writing.{IsPlain};
 
 use super::fields::{list_of, put, put_long, put_text, put_word};
+use crate::starting::Starting;
 use rdm_device::Unit;
 use std::alloc::{AllocError, Global};
 use toml::Table;
+
+/// What the root says of itself, and what its counters show at the start.
+pub(super) fn root_table(alloc: Global, root: &Unit, start: &Starting) -> Result<Table, AllocError>
+    ensures says { IfOk result (λ t. (slots : ℕ) → IsGoodUnit root.now slots → HasPrintableUnit root.now → IsUnit slots (table_view t) root.now) }
+    ensures counted { IfOk result (λ t. IsCounted (table_view t) start.now) }
+    ensures keys { IfOk result (λ t. IsTrue (has_only root_keys (table_view t))) }
+    ensures plain { IfOk result (λ t. IsPlain 3 (table_data (table_view t))) }
+{
+    let mut table = unit_table(alloc, root)?;
+    put_long(alloc, &mut table, "device_hours", start.device_hours)?;
+    put_long(alloc, &mut table, "lamp_hours", start.lamp_hours)?;
+    put_long(alloc, &mut table, "lamp_strikes", start.lamp_strikes)?;
+    put_long(
+        alloc,
+        &mut table,
+        "device_power_cycles",
+        start.device_power_cycles,
+    )?;
+    Ok(table)
+}
 
 /// What the root or a sub-device says of itself.
 pub(super) fn unit_table(alloc: Global, unit: &Unit) -> Result<Table, AllocError>

@@ -88,7 +88,7 @@ fn scenes_locks_and_pins(rt: HostRuntime) -> Result<(), Fail> {
 #[test]
 fn what_is_locked(rt: HostRuntime) -> Result<(), Fail> {
     let keys = format!(in rt.alloc();
-        "{LOCKABLE}[[lock]]\nstate = 2\nparameters = [\"DMX_START_ADDRESS\", 0x8001, \"PRESET_STATUS\"]\n[[lock]]\nstate = 1\nparameters = [0x00F0]\n[[lock]]\nstate = 2\nparameters = [0, 65535]\n"
+        "{LOCKABLE}[[lock]]\nstate = 2\nparameters = [\"DMX_START_ADDRESS\", 0x0500, \"PRESET_STATUS\"]\n[[lock]]\nstate = 1\nparameters = [0x00F0]\n[[lock]]\nstate = 2\nparameters = [130, 1600]\n"
     )?;
     let fixture = read(&rt, keys.as_str())?;
     let wanted = [
@@ -98,7 +98,7 @@ fn what_is_locked(rt: HostRuntime) -> Result<(), Fail> {
         },
         Lock {
             state: 2,
-            pid: 0x8001,
+            pid: 0x0500,
         },
         Lock {
             state: 2,
@@ -108,10 +108,13 @@ fn what_is_locked(rt: HostRuntime) -> Result<(), Fail> {
             state: 1,
             pid: 0x00F0,
         },
-        Lock { state: 2, pid: 0 },
         Lock {
             state: 2,
-            pid: 0xFFFF,
+            pid: 0x0082,
+        },
+        Lock {
+            state: 2,
+            pid: 0x0640,
         },
     ];
     assert!(rt; fixture.profile.particulars.locks() == wanted.as_slice());
@@ -194,6 +197,40 @@ fn refused_locks(rt: HostRuntime) -> Result<(), Fail> {
     )
 }
 
+/// LOCK_STATE can be read, and has LOCK_PIN beside it; and a lock holds what the root can be set at once, and not LOCK_STATE.
+#[test]
+fn locks_that_cannot_work(rt: HostRuntime) -> Result<(), Fail> {
+    const OPENED: &str =
+        "line 6: `parameter` has LOCK_STATE, but it can't be read, or there is no LOCK_PIN beside it";
+    const HELD: &str =
+        "`lock` names LOCK_STATE, or a parameter that the root can't be set at once: one that it lacks, that has no SET, or that is slow";
+    const STATE: &str =
+        "[[parameter]]\npid = 0x0641\ncommand_class = \"get_set\"\ndata_type = \"lock\"\nmaximum_valid_value = 1\ndefault_value = 0\n[[parameter]]\npid = 0x0642\ncommand_class = \"get\"\ndata_type = \"names\"\ndefault_value = \"\"\n[[choice]]\npid = 0x0642\nnumber = 1\n";
+    try_rows(&rt, &[("", STATE, OPENED)])?;
+    for (before, parameters, is_held) in [
+        ("", "\"DMX_START_ADDRESS\"", true),
+        ("", "\"LOCK_PIN\"", true),
+        ("", "\"LOCK_STATE\"", false),
+        ("", "\"LAMP_STATE\"", false),
+        ("", "\"POWER_STATE\"", false),
+        ("", "\"PERFORM_SELFTEST\"", false),
+        ("", "\"DEVICE_INFO\"", false),
+        ("", "0x8001", false),
+        ("without = [\"DEVICE_LABEL\"]", "\"DEVICE_LABEL\"", false),
+    ] {
+        let keys = format!(in rt.alloc();
+            "{LOCKABLE}[[lock]]\nstate = 1\nparameters = [{parameters}]\n"
+        )?;
+        let line = if is_held {
+            String::new(rt.alloc())
+        } else {
+            format!(in rt.alloc(); "line 35: {HELD}")?
+        };
+        try_rows(&rt, &[(before, keys.as_str(), line.as_str())])?;
+    }
+    Ok(())
+}
+
 /// A state that LOCK_STATE hasn't locks nothing, and without it none does.
 #[test]
 fn states_that_are_not_there(rt: HostRuntime) -> Result<(), Fail> {
@@ -242,9 +279,9 @@ fn what_is_no_setting(rt: HostRuntime) -> Result<(), Fail> {
 
 /// As many parameters as this, in one state.
 fn locking(rt: &(impl Abort + AllocGlobal), count: usize) -> Result<String, Fail> {
-    let mut text = String::from_str(rt.alloc(), "[[lock]]\nstate = 1\nparameters = [1")?;
+    let mut text = String::from_str(rt.alloc(), "[[lock]]\nstate = 1\nparameters = [130")?;
     for _ in 1..count {
-        text.push_str(", 1")?;
+        text.push_str(", 130")?;
     }
     text.push_str("]\n")?;
     Ok(text)

@@ -4,6 +4,7 @@ use super::{LEAST, told, try_rows};
 use rdm_fixture::{Fixture, WriteError};
 use rdm_outcomes::{Rule, demo_rules};
 use rdm_params::{Outcome, Severity};
+use std::alloc::Global;
 use std::test::Fail;
 
 #[test]
@@ -129,7 +130,10 @@ fn how_many(rt: HostRuntime) -> Result<(), Fail> {
 /// parameter can't have its outcome.
 #[test]
 fn written(rt: HostRuntime) -> Result<(), Fail> {
-    let mut fixture = Fixture::from_toml(rt.alloc(), LEAST)?;
+    let described = format!(in rt.alloc();
+        "{LEAST}[[self_test]]\nnumber = 2\n[[status]]\nid = 0x8001\n[[status]]\nid = 0x8002\n"
+    )?;
+    let mut fixture = Fixture::from_toml(rt.alloc(), described.as_str())?;
     fixture.outcomes = demo_rules();
     let text = fixture.to_toml(rt.alloc())?;
     assert!(rt;
@@ -156,4 +160,115 @@ fn written(rt: HostRuntime) -> Result<(), Fail> {
         assert!(rt; fixture.to_toml(rt.alloc()).err() == Some(WriteError::Indescribable));
     }
     Ok(())
+}
+
+/// A rule that can never be used is refused, with the line of what is wrong in it.
+#[test]
+fn in_vain(rt: HostRuntime) -> Result<(), Fail> {
+    const LACKED: &str =
+        "`parameter` is one that starts no job here: the fixture lacks it, or answers each of its sensors at once";
+    const UNASKED: &str =
+        "`value` is one with which no job starts: there is no such state, self test or sensor, or the sensor is answered at once";
+    const NONE_STARTS: &str =
+        "`parameter` is one with which no job starts: there is no such state, self test or sensor, or the sensor is answered at once";
+    const UNEXPLAINED: &str =
+        "`status_id` is one of the maker's own, and no [[status]] describes it";
+    const SENSORS: &str = "[[sensor]]\ntype = 0\n[[sensor]]\ntype = 0\nanswered_at_once = true\n";
+    const FAILS: &str = "severity = \"error\"\nstatus_id";
+    for (before, tables, rule, line, expected) in [
+        ("", "", "\"LAMP_STATE\"\ndone = true", 0, ""),
+        (
+            "without = [\"LAMP_STATE\"]",
+            "",
+            "\"LAMP_STATE\"\ndone = true",
+            7,
+            LACKED,
+        ),
+        ("", "", "\"SENSOR_VALUE\"\nreading = 1", 7, NONE_STARTS),
+        (
+            "",
+            "[[sensor]]\ntype = 0\nanswered_at_once = true\n",
+            "\"SENSOR_VALUE\"\nreading = 1",
+            10,
+            NONE_STARTS,
+        ),
+        ("", SENSORS, "\"SENSOR_VALUE\"\nreading = 1", 0, ""),
+        (
+            "",
+            SENSORS,
+            "\"SENSOR_VALUE\"\nvalue = 0\nreading = 1",
+            0,
+            "",
+        ),
+        (
+            "",
+            SENSORS,
+            "\"SENSOR_VALUE\"\nvalue = 1\nreading = 1",
+            13,
+            UNASKED,
+        ),
+        (
+            "",
+            SENSORS,
+            "\"SENSOR_VALUE\"\nvalue = 2\nreading = 1",
+            13,
+            UNASKED,
+        ),
+        ("", "", "\"LAMP_STATE\"\nvalue = 3\ndone = true", 0, ""),
+        ("", "", "\"LAMP_STATE\"\nvalue = 4\ndone = true", 8, UNASKED),
+        (
+            "",
+            "",
+            "\"POWER_STATE\"\nvalue = 3\ndone = true",
+            8,
+            UNASKED,
+        ),
+        (
+            "",
+            "",
+            "\"PERFORM_SELFTEST\"\nvalue = 255\ndone = true",
+            0,
+            "",
+        ),
+        (
+            "",
+            "",
+            "\"PERFORM_SELFTEST\"\nvalue = 1\ndone = true",
+            8,
+            UNASKED,
+        ),
+        (
+            "",
+            "[[self_test]]\nnumber = 1\n",
+            "\"PERFORM_SELFTEST\"\nvalue = 1\ndone = true",
+            0,
+            "",
+        ),
+    ] {
+        let told = told_of_rule(rt.alloc(), before, tables, rule)?;
+        let expected = if line == 0 {
+            String::new(rt.alloc())
+        } else {
+            format!(in rt.alloc(); "line {line}: in outcome 1, {expected}")?
+        };
+        assert!(rt; told.as_str() == expected.as_str(), "{rule}: {told}");
+    }
+    for (tables, id, is_known) in [
+        ("", 0x7FFFu32, true),
+        ("", 0x8000, false),
+        ("[[status]]\nid = 0x8000\n", 0x8000, true),
+        ("[[status]]\nid = 0x8000\n", 0xFFDF, false),
+    ] {
+        let rule = format!(in rt.alloc(); "\"LAMP_STATE\"\n{FAILS} = {id}")?;
+        let told = told_of_rule(rt.alloc(), "", tables, rule.as_str())?;
+        assert!(rt; told.is_empty() == is_known, "{told}");
+        assert!(rt; is_known || told.as_str().ends_with(UNEXPLAINED), "{told}");
+    }
+    Ok(())
+}
+
+/// What is told of a fixture with this rule, of which the parameter stands in the first line.
+fn told_of_rule(alloc: Global, before: &str, tables: &str, rule: &str) -> Result<String, Fail> {
+    let text = format!(in alloc; "{before}\n{LEAST}{tables}[[outcome]]\nparameter = {rule}\n")?;
+    told(alloc, text.as_str())
 }

@@ -153,7 +153,6 @@ fn what_is_set_back(rt: HostRuntime) -> Result<(), Fail> {
         ("set", "", false),
         ("get_set", "", true),
         ("get", "factory_defaults = true", true),
-        ("set", "factory_defaults = true", true),
         ("get_set", "factory_defaults = false", false),
     ] {
         let text = format!(in rt.alloc();
@@ -163,6 +162,33 @@ fn what_is_set_back(rt: HostRuntime) -> Result<(), Fail> {
         for def in fixture.profile.particulars.own() {
             assert_eq!(rt; def.resets, resets);
         }
+    }
+    Ok(())
+}
+
+/// It sets back nothing of what keeps no value that is told.
+#[test]
+fn what_cannot_be_set_back(rt: HostRuntime) -> Result<(), Fail> {
+    const REFUSED: &str =
+        "in parameter 1, `factory_defaults` can't be true: FACTORY_DEFAULTS has no value of this parameter to set back";
+    for (line, keys) in [
+        (
+            10,
+            "pid = 0x8001\ncommand_class = \"set\"\ndata_type = \"ascii\"\ndefault_value = \"\"",
+        ),
+        (
+            11,
+            "pid = 0x1042\ncommand_class = \"get_set\"\ndata_type = \"scenes\"\nmaximum_valid_value = 3\ndefault_value = \"\"",
+        ),
+        (
+            10,
+            "pid = 0x0140\ncommand_class = \"get_set\"\ndata_type = \"block\"\ndefault_value = \"\"",
+        ),
+    ] {
+        let text = format!(in rt.alloc(); "{LEAST}[[parameter]]\n{keys}\nfactory_defaults = true")?;
+        let expected = format!(in rt.alloc(); "line {line}: {REFUSED}")?;
+        let told = told(rt.alloc(), text.as_str())?;
+        assert!(rt; told.as_str() == expected.as_str(), "{keys}: {told}");
     }
     Ok(())
 }

@@ -5,12 +5,16 @@ use std::process::Abort;
 use std::test::Fail;
 
 /// A key that holds an integer: what stands before it in its table, nothing for the table at the top, and its range.
-const NUMBERS: [(&str, &str, i64, i64); 35] = [
+const NUMBERS: [(&str, &str, i64, i64); 40] = [
     ("", "product_category", 0, 0xFFFF),
     ("", "software_version_id", 0, 0xFFFF_FFFF),
     ("", "boot_software_version_id", 0, 0xFFFF_FFFF),
     ("", "dmx_start_address", 1, 512),
     ("", "presets", 0, 65534),
+    ("", "device_hours", 0, 0xFFFF_FFFF),
+    ("", "lamp_hours", 0, 0xFFFF_FFFF),
+    ("", "lamp_strikes", 0, 0xFFFF_FFFF),
+    ("", "device_power_cycles", 0, 0xFFFF_FFFF),
     (
         "[[slot]]\nlabel_id = 1\n[[personality]]",
         "dmx_footprint",
@@ -38,6 +42,7 @@ const NUMBERS: [(&str, &str, i64, i64); 35] = [
         32767,
     ),
     ("[[sensor]]\ntype = 1", "recorded_value_support", 0, 0xFF),
+    ("[[sensor]]\ntype = 1", "present", -32768, 32767),
     ("[estimates]", "lamp_state", 0, 0xFFFF),
     ("[estimates]", "power_state", 0, 0xFFFF),
     ("[estimates]", "perform_selftest", 0, 0xFFFF),
@@ -61,13 +66,13 @@ const NUMBERS: [(&str, &str, i64, i64); 35] = [
         0xFFFF,
     ),
     (
-        "[[outcome]]\nparameter = \"SENSOR_VALUE\"",
+        "[[sensor]]\ntype = 1\n[[outcome]]\nparameter = \"SENSOR_VALUE\"",
         "reading",
         -32768,
         32767,
     ),
     (
-        "[[outcome]]\nparameter = \"SENSOR_VALUE\"\nseverity = \"error\"",
+        "[[sensor]]\ntype = 1\n[[status]]\nid = 0xFFFF\n[[outcome]]\nparameter = \"SENSOR_VALUE\"\nseverity = \"error\"",
         "status_id",
         0,
         0xFFFF,

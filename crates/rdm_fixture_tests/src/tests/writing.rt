@@ -8,9 +8,13 @@ use std::test::Fail;
 /// What is written of the least fixture with a label: every number and the languages, but no empty text and no empty list. The keys
 /// of a table are in the order of their bytes, before the tables in it. A TOML text in single quotation marks has no escapes.
 const WRITTEN: &str = r#"boot_software_version_id = 0
+device_hours = 0
 device_label = 'a "label" \'
 device_model_id = 1
+device_power_cycles = 0
 dmx_start_address = 1
+lamp_hours = 0
+lamp_strikes = 0
 languages = ["en"]
 more_slots = 0
 presets = 0

@@ -1,4 +1,4 @@
-//! A search through a port that doesn't hear every time.
+//! A search through a port that doesn't hear every time, or not what was answered.
 
 use rdm_collector::{Port, PortError};
 use rdm_frame::{Uid, Wire};
@@ -21,10 +21,20 @@ const DEVICES: [u32; 3] = [0x10, 0x11, 0x8000_0000];
 /// How many transactions three fixtures take at most.
 const ENOUGH: u32 = 74 * 3 + 2;
 
-/// A port on a rig, of whose askings so many in a row are lost.
+/// What goes wrong with an asking.
+#[derive(Clone, Copy, PartialEq, Eq)]
+enum Fate {
+    /// It is lost.
+    Lost,
+    /// The last byte of the answer is.
+    Altered,
+}
+
+/// A port on a rig, with so many of whose askings in a row this goes wrong.
 #[derive(Drop)]
 struct Lossy {
     line: Line<LiveFixture>,
+    fate: Fate,
     most: u8,
     lost: u8,
 }
@@ -33,14 +43,24 @@ impl Port for Lossy {
     ghost hears = { λ _ _ _ _. Unit {0} };
 
     fn exchange(&mut self, request: &Wire) -> Result<Option<Wire>, PortError> {
-        if self.lost < self.most {
-            self.lost += 1;
+        let is_bad = self.lost < self.most;
+        self.lost = if is_bad {
+            self.lost.saturating_add(1)
+        } else {
+            0
+        };
+        if is_bad && self.fate == Fate::Lost {
             return Ok(None);
         }
-        self.lost = 0;
         let mut reply = Wire::new();
-        let heard = OnLine::hear(&mut self.line, 0, request.as_slice(), &mut reply);
-        Ok(heard.then_some(reply))
+        if !OnLine::hear(&mut self.line, 0, request.as_slice(), &mut reply) {
+            return Ok(None);
+        }
+        if is_bad {
+            let bytes = reply.as_slice();
+            return Ok(Wire::from_slice(&bytes[..bytes.len().saturating_sub(1)]));
+        }
+        Ok(Some(reply))
     }
 }
 
@@ -57,7 +77,7 @@ impl Port for Gone {
 }
 
 /// A port on a rig of the three.
-fn rig(rt: &(impl AllocGlobal + Abort), most: u8) -> Lossy {
+fn rig(rt: &(impl AllocGlobal + Abort), fate: Fate, most: u8) -> Lossy {
     let mut line = Line::new(rt.alloc(), Collision::AllBits);
     for device in DEVICES {
         let uid = Uid {
@@ -71,22 +91,26 @@ fn rig(rt: &(impl AllocGlobal + Abort), most: u8) -> Lossy {
     }
     Lossy {
         line,
+        fate,
         most,
         lost: 0,
     }
 }
 
+/// Altered answers to branches cost halvings.
 #[test]
 fn all_are_found_if_all_are_asked_often_enough(rt: HostRuntime) {
-    for retries in 0..3 {
-        let mut port = rig(&rt, retries);
-        let found = discover_through(rt.alloc(), &mut port, CONTROLLER, retries, ENOUGH).expect(
-            &rt,
-            "nothing fails",
-        );
-        assert_eq!(rt; found.len(), DEVICES.len());
-        for (one, device) in found.iter().zip(DEVICES) {
-            assert_eq!(rt; one.uid.device, device);
+    for (fate, limit) in [(Fate::Lost, ENOUGH), (Fate::Altered, 4 * ENOUGH)] {
+        for retries in 0..3 {
+            let mut port = rig(&rt, fate, retries);
+            let found = discover_through(rt.alloc(), &mut port, CONTROLLER, retries, limit).expect(
+                &rt,
+                "nothing fails",
+            );
+            assert_eq!(rt; found.len(), DEVICES.len());
+            for (one, device) in found.iter().zip(DEVICES) {
+                assert_eq!(rt; one.uid.device, device);
+            }
         }
     }
 }
@@ -94,7 +118,7 @@ fn all_are_found_if_all_are_asked_often_enough(rt: HostRuntime) {
 /// DISC_UN_MUTE alone isn't enough.
 #[test]
 fn a_search_ends_at_its_limit(rt: HostRuntime) {
-    let mut port = rig(&rt, 0);
+    let mut port = rig(&rt, Fate::Lost, 0);
     let told = discover_through(rt.alloc(), &mut port, CONTROLLER, 0, 1);
     assert!(rt; matches!(told, Err(SearchFault::Search(SearchError::Limit))));
 }

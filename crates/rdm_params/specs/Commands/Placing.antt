@@ -1,5 +1,5 @@
--- Values that the firmware of a fixture places: which it may, and the values afterwards. What is placed has the form, the
--- range and the effect of a SET at that device, and no message tells of it. Sections 9 and 10.
+-- Values that the firmware of a fixture places: which it may, and the values afterwards. What is placed has the form and the effect of a
+-- SET at that device, and is what a GET may tell there; no message tells of it. Sections 9 and 10.
 use Rattle.std.specs.Prelude.{ℕ, Bool, false, ◌==◌, ◌&&◌, not, List, length, Option, Some, None, Result, Ok, Err, is_ok, is_some, slice_get, slice_index, find, if◌then◌else◌}
 use Rattle.std.specs.Option.{option_map_or}
 use Rattle.rdm_params.specs.declared.kind.Verb.TheVariants.{Get, Set}
@@ -17,7 +17,7 @@ use Rattle.rdm_device.specs.Device.Measuring.{placed_by}
 use Rattle.rdm_device.specs.Device.Parameters.{Parameters}
 use Rattle.rdm_device.specs.Device.Spot.{Spot}
 use Rattle.rdm_params.specs.Table.Rows.{row_of, is_left_out}
-use Rattle.rdm_params.specs.Table.Uses.{access, read, keeps, in_range_of}
+use Rattle.rdm_params.specs.Table.Uses.{access, read, keeps, in_range_of, can_tell}
 
 -- The device of this number: 0 is the root, and the sub-devices are numbered from 1. 65535 is none. Section 9.
 abbrev pub device : Parameters → ℕ → Option Spot
@@ -27,11 +27,11 @@ device p sub = if sub == 0xFFFF then None else slice_get (addressed p sub Get) 0
 abbrev pub has_set : Parameters → ℕ → ℕ → Bool
 has_set p sub pid = is_ok (access (row_of pid) (sub == 0) Set) && not (is_left_out p.profile pid)
 
--- the refusal of the value that the data say, by the range of the SET at the device
+-- the refusal of the value that the data say, by what a GET may tell at the device
 abbrev pub value_refusal : Parameters → ℕ → ℕ → Result Value Nack → Option PlaceError
 value_refusal p sub pid (Err nack) = Some Length
 value_refusal p sub pid (Ok value) =
-    if option_map_or (λ spot. in_range_of (command_of pid Set) spot value) (device p sub) false then None else Some OutOfRange
+    if option_map_or (λ spot. can_tell (command_of pid Set) spot value) (device p sub) false then None else Some OutOfRange
 
 -- the parameter that the maker adds with this PID: the root has it, where the table has none
 abbrev pub own_at : Parameters → ℕ → ℕ → Option ParameterDef

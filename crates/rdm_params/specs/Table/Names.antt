@@ -1,5 +1,5 @@
 -- The names of the standards' parameters, whether or not the table has them. E1.20 table A-3; E1.37-1.
-use Rattle.std.specs.Prelude.{ℕ, ◌==◌, List, [], ◌∷◌, Option, Some, None, if◌then◌else◌, codes}
+use Rattle.std.specs.Prelude.{ℕ, ◌==◌, List, [], ◌∷◌, ◌++◌, Option, Some, None, if◌then◌else◌, codes}
 use Rattle.std.specs.Option.{option_map, option_or}
 use Rattle.std.specs.Str.{bytes_eq}
 use Rattle.rdm_params.specs.Table.Kinds.{pid_of, name_of, kind_named, kind_with}
@@ -24,22 +24,28 @@ other_names =
     (0x1001, codes "RESET_DEVICE") ∷
     (0x1030, codes "CAPTURE_PRESET") ∷ []
 
--- the parameters of E1.37-1
-abbrev pub dimmer_names : List (ℕ × List ℕ)
-dimmer_names =
+-- the parameters of E1.37-1: of DMX512 and levels, of curves and lamps, and of locks and presets
+abbrev pub level_names : List (ℕ × List ℕ)
+level_names =
     (0x0140, codes "DMX_BLOCK_ADDRESS") ∷
     (0x0141, codes "DMX_FAIL_MODE") ∷
     (0x0142, codes "DMX_STARTUP_MODE") ∷
     (0x0340, codes "DIMMER_INFO") ∷
     (0x0341, codes "MINIMUM_LEVEL") ∷
-    (0x0342, codes "MAXIMUM_LEVEL") ∷
+    (0x0342, codes "MAXIMUM_LEVEL") ∷ []
+
+abbrev pub curve_names : List (ℕ × List ℕ)
+curve_names =
     (0x0343, codes "CURVE") ∷
     (0x0344, codes "CURVE_DESCRIPTION") ∷
     (0x0345, codes "OUTPUT_RESPONSE_TIME") ∷
     (0x0346, codes "OUTPUT_RESPONSE_TIME_DESCRIPTION") ∷
     (0x0347, codes "MODULATION_FREQUENCY") ∷
     (0x0348, codes "MODULATION_FREQUENCY_DESCRIPTION") ∷
-    (0x0440, codes "BURN_IN") ∷
+    (0x0440, codes "BURN_IN") ∷ []
+
+abbrev pub lock_names : List (ℕ × List ℕ)
+lock_names =
     (0x0640, codes "LOCK_PIN") ∷
     (0x0641, codes "LOCK_STATE") ∷
     (0x0642, codes "LOCK_STATE_DESCRIPTION") ∷
@@ -48,6 +54,9 @@ dimmer_names =
     (0x1042, codes "PRESET_STATUS") ∷
     (0x1043, codes "PRESET_MERGEMODE") ∷
     (0x1044, codes "POWER_ON_SELF_TEST") ∷ []
+
+abbrev pub dimmer_names : List (ℕ × List ℕ)
+dimmer_names = level_names ++ curve_names ++ lock_names
 
 -- the PID of the parameter with this name
 unfoldable pub pid_named : List ℕ → Option ℕ

@@ -19,18 +19,19 @@ use Rattle.rdm_device.specs.Columns.Forms.{Form, nothing, byte, word, long, pres
 use Rattle.rdm_device.specs.Device.LeftOut.{lacks}
 use Rattle.rdm_device.specs.Device.Map.{lookup}
 use Rattle.rdm_device.specs.Device.OwnParameters.{has_get, has_set}
-use Rattle.rdm_device.specs.Columns.Ranges.{Range, any, below, a_message_type, a_threshold, a_status, a_language, a_personality, a_start, a_slot, a_sensor, sensors, a_power_state, a_test, a_self_test, a_preset}
+use Rattle.rdm_device.specs.Columns.Ranges.{Range, any, below, a_message_type, a_threshold, a_status, a_language, a_personality, a_start, a_slot, a_sensor, sensors, recording_sensors, lamp_states_told, lamp_modes_told, a_power_state, a_test, a_self_test, a_preset}
 use Rattle.rdm_device.specs.Columns.Replies.{status_text, device_info, at_factory_defaults, languages, personality_of_all, personality_described, start_address, used_slots, slot_infos, slot_described, slot_defaults, sensor_described, sensor_measured, self_test_runs, self_test_described}
 use Rattle.rdm_device.specs.Device.Spot.{Spot}
 use Rattle.rdm_device.specs.Device.Values.{word_slots, long_slots}
 
--- A command of a row: the form of its data, the range of it, the way in which it is answered, what it makes of the
--- entries of a device and of those of the parameters that the maker adds, and the data of its reply, which is of the device afterwards. If a job carries it out, the
--- change and the reply are those at the end of the job. And whether it keeps the data that it hands in, as the value of
--- its parameter.
+-- A command of a row: the form of its data, the range of it, which values a GET may tell beside these, the way in which it is answered,
+-- what it makes of the entries of a device and of those of the parameters that the maker adds, and the data of its reply, which is of the
+-- device afterwards. If a job carries it out, the change and the reply are those at the end of the job. And whether it keeps the data that
+-- it hands in, as the value of its parameter.
 pub record Command : Type 0 where
   pub form : Form
   pub range : Range
+  pub told : Range
   pub way : Way
   pub change : Change
   pub added_change : Change
@@ -60,13 +61,17 @@ both = false
 abbrev pub root : Bool
 root = true
 
+-- no value beside those that a SET may ask for
+abbrev pub no_more : Range
+no_more spot v = false
+
 -- no such command
 abbrev pub none : Cell
 none pid = None
 
 -- a GET that is asked with data
 abbrev pub asks : Form → (Form → Range) → (Spot → Value → List ℕ) → Cell
-asks form range reply pid = Some (record { form = form; range = range form; way = AtOnce; change = unchanged; added_change = unchanged; reply = reply; keeps = false })
+asks form range reply pid = Some (record { form = form; range = range form; told = no_more; way = AtOnce; change = unchanged; added_change = unchanged; reply = reply; keeps = false })
 
 -- a GET without data
 abbrev pub reads : (Spot → List ℕ) → Cell
@@ -79,30 +84,39 @@ stored pid = reads (λ spot. lookup spot.entries pid 0) pid
 -- a SET with a change, one of the parameters that the maker adds, and a reply
 abbrev pub sets : Form → (Form → Range) → Change → Change → (Spot → Value → List ℕ) → Cell
 sets form range change added_change reply pid =
-    Some (record { form = form; range = range form; way = AtOnce; change = change; added_change = added_change; reply = reply; keeps = false })
+    Some (record { form = form; range = range form; told = no_more; way = AtOnce; change = change; added_change = added_change; reply = reply; keeps = false })
 
--- a SET that keeps its data at the key of its PID
+-- a SET that keeps its data at the key of its PID, beside whose range a GET may tell these values: no SET asks for them, but the firmware
+-- places them
+abbrev pub takes_telling : Form → (Form → Range) → (Form → Range) → Cell
+takes_telling form range told pid =
+    Some (record { form = form; range = range form; told = told form; way = AtOnce; change = stored_at pid form; added_change = unchanged; reply = λ spot v. []; keeps = true })
+
+-- the same, where a GET tells no others
 abbrev pub takes : Form → (Form → Range) → Cell
-takes form range pid =
-    Some (record { form = form; range = range form; way = AtOnce; change = stored_at pid form; added_change = unchanged; reply = λ spot v. []; keeps = true })
+takes form range = takes_telling form range (λ f. no_more)
 
--- a SET by a job of this kind, which keeps its data at the key of its PID
+-- a SET by a job of this kind, which keeps its data at the key of its PID, beside whose range a GET may tell these values
+abbrev pub starts_telling : Slow → (Form → Range) → (Form → Range) → Cell
+starts_telling slow range told pid =
+    Some (record { form = byte; range = range byte; told = told byte; way = ByJob slow; change = stored_at pid byte; added_change = unchanged; reply = λ spot v. []; keeps = true })
+
+-- the same, where a GET tells no others
 abbrev pub starts : Slow → (Form → Range) → Cell
-starts slow range pid =
-    Some (record { form = byte; range = range byte; way = ByJob slow; change = stored_at pid byte; added_change = unchanged; reply = λ spot v. []; keeps = true })
+starts slow range = starts_telling slow range (λ f. no_more)
 
 -- a GET by a job of this kind, which shows what it has measured
 abbrev pub measures : Slow → (Form → Range) → (Spot → Value → List ℕ) → Cell
 measures slow range reply pid =
-    Some (record { form = byte; range = range byte; way = ByJob slow; change = unchanged; added_change = unchanged; reply = reply; keeps = false })
+    Some (record { form = byte; range = range byte; told = no_more; way = ByJob slow; change = unchanged; added_change = unchanged; reply = reply; keeps = false })
 
 -- a GET that is answered from what waits for the controller
 abbrev pub fetches : Way → (Form → Range) → Cell
-fetches way range pid = Some (record { form = byte; range = range byte; way = way; change = unchanged; added_change = unchanged; reply = λ spot v. []; keeps = false })
+fetches way range pid = Some (record { form = byte; range = range byte; told = no_more; way = way; change = unchanged; added_change = unchanged; reply = λ spot v. []; keeps = false })
 
 -- a SET without data that clears the list of status entries
 abbrev pub clears : Cell
-clears pid = Some (record { form = nothing; range = any nothing; way = Clears; change = unchanged; added_change = unchanged; reply = λ spot v. []; keeps = false })
+clears pid = Some (record { form = nothing; range = any nothing; told = no_more; way = Clears; change = unchanged; added_change = unchanged; reply = λ spot v. []; keeps = false })
 
 -- a row that shows and takes what is kept at the key of its PID
 abbrev pub kept : ℕ → Bool → Form → (Form → Range) → Row
@@ -154,7 +168,7 @@ abbrev pub sensing : List Row
 sensing =
     row 0x0200 root (asks byte a_sensor sensor_described) none  -- SENSOR_DEFINITION
     ∷ row 0x0201 root (measures Sensor a_sensor sensor_measured) (sets byte sensors sensors_reset unchanged sensor_measured)  -- SENSOR_VALUE
-    ∷ row 0x0202 root none (sets byte sensors sensors_recorded unchanged (λ spot v. []))  -- RECORD_SENSORS
+    ∷ row 0x0202 root none (sets byte recording_sensors sensors_recorded unchanged (λ spot v. []))  -- RECORD_SENSORS
     ∷ []
 
 -- Power and lamp: section 10.8
@@ -163,8 +177,8 @@ usage =
     kept 0x0400 root long any  -- DEVICE_HOURS
     ∷ kept 0x0401 both long any  -- LAMP_HOURS
     ∷ kept 0x0402 both long any  -- LAMP_STRIKES
-    ∷ row 0x0403 both stored (starts Lamp (below 4))  -- LAMP_STATE
-    ∷ kept 0x0404 both byte (below 4)  -- LAMP_ON_MODE
+    ∷ row 0x0403 both stored (starts_telling Lamp (below 4) lamp_states_told)  -- LAMP_STATE
+    ∷ row 0x0404 both stored (takes_telling byte (below 4) lamp_modes_told)  -- LAMP_ON_MODE
     ∷ kept 0x0405 root long any  -- DEVICE_POWER_CYCLES
     ∷ []
 
@@ -211,7 +225,7 @@ gets_added _ d = shows_added
 -- a SET of a parameter that the maker adds, with what it makes of the entries of it
 abbrev pub takes_added : Form → (Form → Range) → Change → Cell
 takes_added form range added_change pid =
-    Some (record { form = form; range = range form; way = AtOnce; change = unchanged; added_change = added_change; reply = λ spot v. []; keeps = true })
+    Some (record { form = form; range = range form; told = no_more; way = AtOnce; change = unchanged; added_change = added_change; reply = λ spot v. []; keeps = true })
 
 -- the row of a parameter that the maker adds
 abbrev pub added_row : ParameterDef → Row

@@ -1,5 +1,5 @@
 -- What a row says of a command, even if there is no such row or command.
-use Rattle.std.specs.Prelude.{ℕ, Bool, true, false, List, [], length, Option, Some, None, Result, Ok, Err, if◌then◌else◌, is_some, slice_get}
+use Rattle.std.specs.Prelude.{ℕ, Bool, true, false, ◌||◌, List, [], length, Option, Some, None, Result, Ok, Err, if◌then◌else◌, is_some, slice_get}
 use Rattle.std.specs.Option.{option_map_or}
 use Rattle.rdm_params.specs.declared.kind.Verb.{Verb}
 use Rattle.rdm_params.specs.declared.kind.Verb.TheVariants.{Get, Set}
@@ -103,6 +103,15 @@ keeps (Some c) = c.keeps
 abbrev pub in_range_of : Option Command → Spot → Value → Bool
 in_range_of None spot v = false
 in_range_of (Some c) spot v = c.range spot v
+
+-- whether a GET may tell the value beside those that the command may ask for
+abbrev pub told_beside : Option Command → Spot → Value → Bool
+told_beside None spot v = false
+told_beside (Some c) spot v = c.told spot v
+
+-- whether a GET may tell the value at the device: one in range, or one beside these
+abbrev pub can_tell : Option Command → Spot → Value → Bool
+can_tell command spot v = in_range_of command spot v || told_beside command spot v
 
 -- what the command makes of the entries of the device
 abbrev pub change : Option Command → Change

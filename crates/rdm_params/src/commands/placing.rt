@@ -14,7 +14,7 @@ ghost use Rattle.rdm_device.specs.declared.value.Value.TheVariants.{Byte};
 ghost use Rattle.rdm_params.specs.Commands.Commands.{command_of, root_spot};
 ghost use Rattle.rdm_params.specs.Commands.Placing.{device, place_refusal, after_place, value_refusal, after_value, sensor_refusal};
 ghost use Rattle.rdm_params.specs.Table.Kinds.{pid_of};
-ghost use Rattle.rdm_params.specs.Table.Uses.{access, read, in_range_of};
+ghost use Rattle.rdm_params.specs.Table.Uses.{access, read, in_range_of, can_tell};
 ghost use Rattle.rdm_device.specs.Device.Map.{update};
 ghost use Rattle.rdm_device.specs.Device.Measuring.{placed_by};
 
@@ -23,7 +23,7 @@ use super::added::parameter_of;
 use crate::table::find::find;
 use crate::table::keep::keeps_data;
 use crate::table::read::read_argument;
-use crate::table::within::is_in_range;
+use crate::table::within::{is_in_range, is_told};
 use crate::{Kind, Nack, PlaceError, Verb};
 use rdm_device::columns::added;
 use rdm_device::{Argument, ParameterDef, Place, RootValues, place_measured};
@@ -34,13 +34,14 @@ const SENSOR_SLOTS: usize = 9;
 
 impl Devices {
     /// Makes a stored value at the root, or at one sub-device, what a SET of it would make it: at once, with no message,
-    /// and for a slow SET too. What a sensor shows is placed by the 9 slots with which SENSOR_VALUE replies: the number,
+    /// and for a slow SET too. It may be any that a GET may reply: of LAMP_STATE also 04 (no lamp), 7F (failure) and the maker's 80 to DF, and of
+    /// LAMP_ON_MODE the maker's 80 to DF (sections 10.8.4 and 10.8.5), which no SET may ask for. What a sensor shows is placed by the 9 slots with which SENSOR_VALUE replies: the number,
     /// then the present, the lowest, the highest and the recorded value (E1.20 section 10.7.2). A parameter of the maker's own is
     /// placed at the root, whichever commands it has; a scene by the 9 slots of a SET of PRESET_STATUS, also one that can only be read.
     ///
     /// It is `NoDevice` if there is no such sub-device, else `NoValue` if the device stores no value of this parameter,
-    /// else `Length` if the data have another length than the value, and else `OutOfRange` if the SET would be out of
-    /// range, or there is no such sensor. Then nothing changes.
+    /// else `Length` if the data have another length than the value, and else `OutOfRange` if no GET may reply the
+    /// value, or there is no such sensor. Then nothing changes.
     #[tactic(auto, unfolding(crate::specs::Commands::Placing::place_refusal, crate::specs::Commands::Placing::after_place))]
     pub fn place(&mut self, sub: u16, pid: u16, data: &[u8]) -> Result<(), PlaceError>
         ensures refused { result_err result ≡ place_refusal self.old sub pid data.now }
@@ -111,7 +112,7 @@ impl Devices {
         }
     }
 
-    /// Carries out a SET at one device, if its data have the length and the value is in range.
+    /// Carries out a SET at one device, if its data have the length and a GET may reply the value.
     fn place_value(&mut self, sub: u16, kind: Kind, data: &[u8]) -> Result<(), PlaceError>
         ensures refused { result_err result ≡ value_refusal self.old sub (pid_of kind) (read (command_of (pid_of kind) Set) data.now) }
         ensures after { OnOk result (self.new ≡ after_value self.old sub (pid_of kind) (read (command_of (pid_of kind) Set) data.now)) }
@@ -120,19 +121,19 @@ impl Devices {
         let Ok(value) = read_argument(kind, Verb::Set, data) else {
             return Err(PlaceError::Length);
         };
-        if !self.takes_at(sub, kind, &value) {
+        if !self.tells_at(sub, kind, &value) {
             return Err(PlaceError::OutOfRange);
         }
         self.carry_out(sub, kind, &value);
         Ok(())
     }
 
-    /// Whether there is a device of this number at which a SET of the value would be in range.
-    fn takes_at(&self, sub: u16, kind: Kind, value: &Argument<'_>) -> bool
-        ensures { result ≡ option_map_or (λ spot. in_range_of (command_of (pid_of kind) Set) spot value.now) (device self.now sub) false }
+    /// Whether there is a device of this number at which a GET may reply the value.
+    fn tells_at(&self, sub: u16, kind: Kind, value: &Argument<'_>) -> bool
+        ensures { result ≡ option_map_or (λ spot. can_tell (command_of (pid_of kind) Set) spot value.now) (device self.now sub) false }
     {
         match self.device(sub) {
-            Some(place) => is_in_range(kind, Verb::Set, &place, value),
+            Some(place) => can_tell(kind, &place, value),
             None => false,
         }
     }
@@ -169,6 +170,13 @@ impl Devices {
         let number = Argument::from_byte(number);
         is_in_range(Kind::SensorValue, Verb::Get, &self.root_place(), &number)
     }
+}
+
+/// Whether a GET may reply the value at the device: one in the range of a SET, or one beside these.
+fn can_tell(kind: Kind, place: &Place<'_>, value: &Argument<'_>) -> bool
+    ensures { result ≡ can_tell (command_of (pid_of kind) Set) place.now value.now }
+{
+    is_in_range(kind, Verb::Set, place, value) || is_told(kind, place, value)
 }
 
 /// Keeps what data stand for as the value of a parameter that the maker adds, or as one of its scenes.

@@ -3,7 +3,7 @@
 ghost use Rattle.std.specs.Prelude.{◌≡◌, option_map};
 ghost use Rattle.std.specs.Option.{option_or};
 ghost use Rattle.rdm_params.specs.Table.Kinds.{for_c};
-ghost use Rattle.rdm_params.specs.Table.Names.{named_in, name_in, dimmer_names, other_names, pid_named, parameter_name};
+ghost use Rattle.rdm_params.specs.Table.Names.{named_in, name_in, dimmer_names, level_names, curve_names, lock_names, other_names, pid_named, parameter_name};
 
 use crate::{Kind, kind_of};
 use rdm_frame::standard::{
@@ -32,8 +32,8 @@ macro_rules! other_rows {
     };
 }
 
-/// The parameters of ANSI E1.37-1, in the same way.
-macro_rules! dimmer_rows {
+/// The parameters of ANSI E1.37-1, in the same way: those of DMX512 and levels.
+macro_rules! level_rows {
     ($use:ident!($argument:ident)) => {
         $use! {
             ($argument)
@@ -43,6 +43,15 @@ macro_rules! dimmer_rows {
             (0x0340 "DIMMER_INFO")
             (0x0341 "MINIMUM_LEVEL")
             (0x0342 "MAXIMUM_LEVEL")
+        }
+    };
+}
+
+/// Those of curves and lamps.
+macro_rules! curve_rows {
+    ($use:ident!($argument:ident)) => {
+        $use! {
+            ($argument)
             (0x0343 "CURVE")
             (0x0344 "CURVE_DESCRIPTION")
             (0x0345 "OUTPUT_RESPONSE_TIME")
@@ -50,6 +59,15 @@ macro_rules! dimmer_rows {
             (0x0347 "MODULATION_FREQUENCY")
             (0x0348 "MODULATION_FREQUENCY_DESCRIPTION")
             (0x0440 "BURN_IN")
+        }
+    };
+}
+
+/// Those of locks and presets.
+macro_rules! lock_rows {
+    ($use:ident!($argument:ident)) => {
+        $use! {
+            ($argument)
             (0x0640 "LOCK_PIN")
             (0x0641 "LOCK_STATE")
             (0x0642 "LOCK_STATE_DESCRIPTION")
@@ -63,36 +81,33 @@ macro_rules! dimmer_rows {
 }
 
 macro_rules! pid_of_name {
-    (($name:ident) $(($pid:tt $text:literal))*) => {{
+    (($name:ident) $(($pid:tt $text:literal))*) => {
         $(
             if $name == $text.as_bytes() {
                 return Some($pid);
             }
         )*
-        None
-    }};
+    };
 }
 
 macro_rules! name_of_pid {
-    (($pid:ident) $(($number:tt $text:literal))*) => {{
+    (($pid:ident) $(($number:tt $text:literal))*) => {
         $(
             if $pid == $number {
                 return Some($text);
             }
         )*
-        None
-    }};
+    };
 }
 
 macro_rules! name_for_c_of_pid {
-    (($pid:ident) $(($number:tt $text:literal))*) => {{
+    (($pid:ident) $(($number:tt $text:literal))*) => {
         $(
             if $pid == $number {
                 return Some(concat!($text, "\0").as_bytes());
             }
         )*
-        None
-    }};
+    };
 }
 
 /// The PID of the parameter with this name in the standard, such as `DMX_START_ADDRESS` or `DISC_MUTE`, or `None` if the
@@ -121,14 +136,53 @@ fn other_named(name: &[u8]) -> Option<u16>
 fn first_named(name: &[u8]) -> Option<u16>
     ensures { result ≡ named_in other_names name.now }
 {
-    other_rows!(pid_of_name!(name))
+    other_rows!(pid_of_name!(name));
+    None
 }
 
 /// The PID of a parameter of E1.37-1.
+#[tactic(auto, using(crate::proofs::DimmerNames::named_apart))]
 fn dimmer_named(name: &[u8]) -> Option<u16>
     ensures { result ≡ named_in dimmer_names name.now }
 {
-    dimmer_rows!(pid_of_name!(name))
+    named_by_part(name)
+}
+
+/// The same, part by part: all names in one function would take longer to prove than three functions do.
+fn named_by_part(name: &[u8]) -> Option<u16>
+    ensures { result ≡ option_or (named_in level_names name.now) (option_or (named_in curve_names name.now) (named_in lock_names name.now)) }
+{
+    match level_named(name) {
+        Some(pid) => Some(pid),
+        None => match curve_named(name) {
+            Some(pid) => Some(pid),
+            None => lock_named(name),
+        },
+    }
+}
+
+/// The PID of a parameter of DMX512 and levels.
+fn level_named(name: &[u8]) -> Option<u16>
+    ensures { result ≡ named_in level_names name.now }
+{
+    level_rows!(pid_of_name!(name));
+    None
+}
+
+/// The PID of a parameter of curves and lamps.
+fn curve_named(name: &[u8]) -> Option<u16>
+    ensures { result ≡ named_in curve_names name.now }
+{
+    curve_rows!(pid_of_name!(name));
+    None
+}
+
+/// The PID of a parameter of locks and presets.
+fn lock_named(name: &[u8]) -> Option<u16>
+    ensures { result ≡ named_in lock_names name.now }
+{
+    lock_rows!(pid_of_name!(name));
+    None
 }
 
 /// The name of a parameter that isn't in the table, or `None` if it is another one: `Kind::name` has those of the table.
@@ -145,14 +199,18 @@ pub fn other_name(pid: u16) -> Option<&'static str>
 fn first_name(pid: u16) -> Option<&'static str>
     ensures { option_map (λ text. text.now) result ≡ name_in other_names pid }
 {
-    other_rows!(name_of_pid!(pid))
+    other_rows!(name_of_pid!(pid));
+    None
 }
 
 /// The name of a parameter of E1.37-1.
 fn dimmer_name(pid: u16) -> Option<&'static str>
     ensures { option_map (λ text. text.now) result ≡ name_in dimmer_names pid }
 {
-    dimmer_rows!(name_of_pid!(pid))
+    level_rows!(name_of_pid!(pid));
+    curve_rows!(name_of_pid!(pid));
+    lock_rows!(name_of_pid!(pid));
+    None
 }
 
 /// The name of a parameter in the standard, or `None` if the standard has none for its PID.
@@ -189,12 +247,16 @@ fn other_name_for_c(pid: u16) -> Option<&'static [u8]>
 fn first_name_for_c(pid: u16) -> Option<&'static [u8]>
     ensures { option_map (λ text. text.now) result ≡ option_map for_c (name_in other_names pid) }
 {
-    other_rows!(name_for_c_of_pid!(pid))
+    other_rows!(name_for_c_of_pid!(pid));
+    None
 }
 
 /// The name of a parameter of E1.37-1, with a NUL behind it.
 fn dimmer_name_for_c(pid: u16) -> Option<&'static [u8]>
     ensures { option_map (λ text. text.now) result ≡ option_map for_c (name_in dimmer_names pid) }
 {
-    dimmer_rows!(name_for_c_of_pid!(pid))
+    level_rows!(name_for_c_of_pid!(pid));
+    curve_rows!(name_for_c_of_pid!(pid));
+    lock_rows!(name_for_c_of_pid!(pid));
+    None
 }

@@ -1,9 +1,10 @@
-//! Which values are in the range of a command.
+//! Which values are in the range of a command, and which a GET may reply beside these.
 
 ghost use Rattle.std.specs.Prelude.{◌≡◌};
 ghost use Rattle.rdm_params.specs.Table.Kinds.{pid_of};
 ghost use Rattle.rdm_params.specs.Table.Rows.{row_of, command_in};
-ghost use Rattle.rdm_params.specs.Table.Uses.{in_range_of};
+ghost use Rattle.rdm_params.specs.Table.Uses.{in_range_of, told_beside};
+ghost use Rattle.rdm_params.specs.declared.kind.Verb.TheVariants.{Set};
 
 use crate::table::rows;
 use crate::{Kind, Verb};
@@ -27,7 +28,7 @@ macro_rules! range_command {
     (($command:ident nothing (any) $($rest:tt)*) $place:ident $value:ident) => { $value.is_nothing() };
     (($command:ident label (any) $($rest:tt)*) $place:ident $value:ident) => { $value.is_label() };
     (($command:ident $form:ident (any) $($rest:tt)*) $place:ident $value:ident) => { $value.$form().is_some() };
-    (($command:ident $form:ident ($range:ident $($limit:literal)?) $($rest:tt)*) $place:ident $value:ident) => {
+    (($command:ident $form:ident ($range:ident $($limit:literal)? $(tells $told:ident)?) $($rest:tt)*) $place:ident $value:ident) => {
         ranges::$range($place, $value $(, $limit)?)
     };
 }
@@ -38,4 +39,27 @@ pub(crate) fn is_in_range(kind: Kind, verb: Verb, place: &Place<'_>, value: &Arg
     ensures { result ≡ in_range_of (command_in (row_of (pid_of kind)) verb) place.now value.now }
 {
     rows!(range_rows!(kind verb place value))
+}
+
+macro_rules! told_rows {
+    (($kind:ident $place:ident $value:ident) $(($name:ident $pid:tt $at:ident $get:tt $set:tt))*) => {
+        match $kind {
+            $(Kind::$name => told_command!($set $place $value),)*
+        }
+    };
+}
+
+macro_rules! told_command {
+    (($command:ident $form:ident ($range:ident $($limit:literal)? tells $told:ident) $($rest:tt)*) $place:ident $value:ident) => {
+        ranges::$told($place, $value)
+    };
+    ($command:tt $place:ident $value:ident) => { false };
+}
+
+/// Whether a GET may reply the value at the device, though it isn't in the range of a SET.
+#[tactic(auto, unfolding(crate::specs::Table::Rows::row_of, crate::specs::Table::Rows::table))]
+pub(crate) fn is_told(kind: Kind, place: &Place<'_>, value: &Argument<'_>) -> bool
+    ensures { result ≡ told_beside (command_in (row_of (pid_of kind)) Set) place.now value.now }
+{
+    rows!(told_rows!(kind place value))
 }

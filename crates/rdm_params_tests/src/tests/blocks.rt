@@ -26,6 +26,13 @@ fn rack(rt: &impl Abort, alloc: Global, subs: u16, locked: Option<u16>) -> Devic
     let own = &mut particular.own;
     own.push(alloc, block()).expect(rt, "memory");
     if let Some(pid) = locked {
+        let mut pin = ParameterDef::default();
+        pin.pid = 0x0640;
+        pin.rights = Rights::Both;
+        pin.shape = Shape::Pin;
+        pin.high = 9999;
+        pin.start = Text::from_slice(&[0, 0]).expect(rt, "a short text");
+        own.push(alloc, pin).expect(rt, "memory");
         let mut state = ParameterDef::default();
         state.pid = 0x0641;
         state.rights = Rights::Both;

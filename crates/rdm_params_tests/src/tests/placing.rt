@@ -20,7 +20,7 @@ fn places(rt: &impl Abort, alloc: Global, subs: u16, placed: &[Placed<'_>], step
 }
 
 /// Values without a SET on the bus of a real fixture, a slow one, and those of a sub-device.
-const TAKEN: [Placed<'static>; 8] = [
+const TAKEN: [Placed<'static>; 13] = [
     (0, 0x0400, &[0, 0, 0x30, 0x39], Ok(())),
     (0, 0x0405, &[0, 0, 0, 7], Ok(())),
     (1, 0x0401, &[0, 1, 0, 0], Ok(())),
@@ -29,9 +29,15 @@ const TAKEN: [Placed<'static>; 8] = [
     (0, 0x0403, &[3], Ok(())),
     (0, 0x1020, &[0xFF], Ok(())),
     (2, 0x00F0, &[2, 0], Ok(())),
+    // No lamp, a lamp that failed, and a state and a mode of the maker's: what no SET may ask for.
+    (1, 0x0403, &[0x7F], Ok(())),
+    (2, 0x0403, &[0xDF], Ok(())),
+    (0, 0x0404, &[0x80], Ok(())),
+    (2, 0x0404, &[0xDF], Ok(())),
+    (2, 0x0403, &[0x04], Ok(())),
 ];
 
-const SHOWN: [Step<'static>; 11] = [
+const SHOWN: [Step<'static>; 19] = [
     (Get, 0, 0x0400, &[], Reply(&[0, 0, 0x30, 0x39])),
     (Get, 0, 0x0405, &[], Reply(&[0, 0, 0, 7])),
     (Get, 0, 0x0401, &[], Reply(&[0, 0, 0, 0])),
@@ -43,6 +49,14 @@ const SHOWN: [Step<'static>; 11] = [
     (Get, 0, 0x1020, &[], Reply(&[1])),
     (Get, 2, 0x00F0, &[], Reply(&[2, 0])),
     (Get, 1, 0x00F0, &[], Reply(&[0, 1])),
+    (Get, 1, 0x0403, &[], Reply(&[0x7F])),
+    (Get, 2, 0x0403, &[], Reply(&[0x04])),
+    (Get, 0, 0x0404, &[], Reply(&[0x80])),
+    (Get, 2, 0x0404, &[], Reply(&[0xDF])),
+    (Set, 0, 0x0403, &[0x04], Refuse(DataOutOfRange)),
+    (Set, 0, 0x0403, &[0x80], Refuse(DataOutOfRange)),
+    (Set, 0, 0x0404, &[0x80], Refuse(DataOutOfRange)),
+    (Get, 0, 0x0404, &[], Reply(&[0x80])),
 ];
 
 #[test]
@@ -53,7 +67,7 @@ fn what_is_placed_is_shown(rt: HostRuntime) {
 use PlaceError::{Length, NoDevice, NoValue, OutOfRange};
 
 /// Each is refused by the first reason that applies.
-const REFUSED: [Placed<'static>; 20] = [
+const REFUSED: [Placed<'static>; 26] = [
     (3, 0x0060, &[], Err(NoDevice)),
     (0xFFFF, 0x1000, &[1], Err(NoDevice)),
     (0, 0x0060, &[], Err(NoValue)),
@@ -71,7 +85,13 @@ const REFUSED: [Placed<'static>; 20] = [
     (0, 0x00F0, &[2, 1], Err(OutOfRange)),
     (0, 0x00F0, &[0, 0], Err(OutOfRange)),
     (0, 0x00E0, &[3], Err(OutOfRange)),
-    (0, 0x0403, &[4], Err(OutOfRange)),
+    (0, 0x0403, &[5], Err(OutOfRange)),
+    (0, 0x0403, &[0x7E], Err(OutOfRange)),
+    (0, 0x0403, &[0xE0], Err(OutOfRange)),
+    (0, 0x0404, &[4], Err(OutOfRange)),
+    (0, 0x0404, &[0x7F], Err(OutOfRange)),
+    (0, 0x0404, &[0xE0], Err(OutOfRange)),
+    (0, 0x1010, &[3], Err(OutOfRange)),
     (0, 0x0201, &[2, 0, 0, 0, 0, 0, 0, 0, 0], Err(OutOfRange)),
     (0, 0x0201, &[0xFF, 0, 0, 0, 0, 0, 0, 0, 0], Err(OutOfRange)),
 ];

@@ -21,8 +21,9 @@ impl Responder {
     /// sensor shows is placed by the 9 slots with which SENSOR_VALUE replies (E1.20 section 10.7.2).
     ///
     /// It is `NoDevice` if there is no such sub-device, else `NoValue` if the device stores no value of this parameter,
-    /// else `Length` if the data have another length than the value, and else `OutOfRange` if the SET would be out of
-    /// range, or there is no such sensor. Then nothing changes.
+    /// else `Length` if the data have another length than the value, and else `OutOfRange` if no GET may reply the value,
+    /// or there is no such sensor. Then nothing changes. A GET may reply each value in the range of the SET, and of LAMP_STATE
+    /// and LAMP_ON_MODE some beside it (`Devices::place`).
     pub fn place(&mut self, sub: u16, pid: u16, data: &[u8]) -> Result<(), PlaceError>
         ensures lawful { (h : History) → IsLawful h → StandsFor self.old h →
             (IsOk result ↔ IsLawful (then_event h (Placed sub pid data.now))) }

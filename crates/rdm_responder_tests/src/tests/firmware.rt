@@ -41,6 +41,20 @@ fn what_is_placed_needs_no_room(rt: HostRuntime) -> Result<(), Fail> {
     Ok(())
 }
 
+/// A lamp that failed is a state that the firmware alone knows.
+#[test]
+fn a_lamp_that_failed_is_placed(rt: HostRuntime) -> Result<(), Fail> {
+    let mut responder = responder_with(rt.alloc(), 2, 1)?;
+    assert_eq!(rt; responder.place(0, 0x0403, &[0x7F]), Ok(()));
+    answers(
+        &rt,
+        &mut responder,
+        "CC0118 7FF000000001 7FF000000002 00 01 00 0000 20 0403 00 03EE",
+        "CC0119 7FF000000002 7FF000000001 00 00 00 0000 21 0403 01 7F 046F",
+    );
+    Ok(())
+}
+
 #[test]
 fn what_does_not_fit_is_not_placed(rt: HostRuntime) -> Result<(), Fail> {
     let mut responder = responder_with(rt.alloc(), 2, 1)?;

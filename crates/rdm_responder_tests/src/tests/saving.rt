@@ -18,11 +18,12 @@ fn shows(rt: &impl Abort, responder: &Responder, pid: u16, expected: &[u8]) {
     }
 }
 
-/// A responder with this start address, this number of power cycles, and a label.
+/// A responder with this start address, this number of power cycles, a label, and a mode of the maker's, which no SET may ask for.
 fn place_all(rt: &impl Abort, responder: &mut Responder, start: u8, cycles: &[u8]) {
     assert_eq!(rt; responder.place(0, 0x00F0, &[0, start]), Ok(()));
     assert_eq!(rt; responder.place(0, 0x0405, cycles), Ok(()));
     assert_eq!(rt; responder.place(0, 0x0082, &[0x46, 0x4F, 0x48]), Ok(()));
+    assert_eq!(rt; responder.place(0, 0x0404, &[0x80]), Ok(()));
 }
 
 /// A list that is too short stays as it was, and of one that is longer the rest does.
@@ -52,6 +53,7 @@ fn what_was_saved_is_restored(rt: HostRuntime) -> Result<(), Fail> {
     shows(&rt, &restored, 0x0405, &[0, 0, 0, 42]);
     shows(&rt, &restored, 0x0082, &[0x46, 0x4F, 0x48]);
     shows(&rt, &restored, 0x00E0, &[1, 2]);
+    shows(&rt, &restored, 0x0404, &[0x80]);
     shows(&rt, &restored, 0x1000, &[1]);
     assert_eq!(rt; restored.waiting(), 1);
     Ok(())

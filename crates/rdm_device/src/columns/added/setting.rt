@@ -2,10 +2,10 @@
 
 ghost use Rattle.std.specs.Prelude.{◌≡◌, ◌↔◌, ◌≤◌, ◌||◌, ◌&&◌, ◌∷◌, [], length, map, slice_index, false};
 ghost use Rattle.rdm_device.specs.declared.value.Value.{Value};
-ghost use Rattle.rdm_device.specs.Columns.Added.{order_stored, start_stored, counted, form_taken, set_form, slots_in, taken_as, takes, index_kept, bytes_kept, kept_stored, stored_by, own_stored};
+ghost use Rattle.rdm_device.specs.Columns.Added.{order_stored, start_stored, counted, form_taken, set_form, slots_in, taken_as, takes, index_kept, bytes_kept, bytes_ordered, kept_stored, stored_by, own_stored};
 ghost use Rattle.rdm_device.specs.Columns.Forms.{value_of};
 ghost use Rattle.rdm_device.specs.Columns.Scenes.{scene_of, scene_kept};
-ghost use Rattle.rdm_device.specs.Device.Values.{front_word};
+ghost use Rattle.rdm_device.specs.Device.Values.{front_word, bytes_of};
 ghost use Rattle.rdm_device.specs.declared.value.Value.TheVariants.{Byte, Word};
 ghost use Rattle.rdm_device.specs.Device.Locks.{pin_kept, knows_pin, knows_old_pin, state_of, new_pin};
 ghost use Rattle.rdm_device.specs.Device.OwnParameters.{is_within};
@@ -125,7 +125,7 @@ fn store_by(rights: Rights, def: &ParameterDef, value: &Argument<'_>, own: &mut 
     ensures same { (result ≡ false) ↔ (added_entries own.new.added.items ≡ added_entries own.old.added.items) }
 {
     match rights {
-        Rights::Set => store_order(def.pid, value, own),
+        Rights::Set => store_order(def, value, own),
         Rights::Clear => store_start(def, own),
         Rights::Get => store_kept(def, value, own),
         Rights::Both => store_kept(def, value, own),
@@ -171,17 +171,40 @@ fn store_scene(values: &mut Vec<Kept>, pid: u16, value: &Argument<'_>) -> bool
     store_in(values, pid, scene_of(slots), scene_kept(slots).as_slice())
 }
 
-/// Keeps the data of an order and counts it, and says whether its data or its count are others.
+/// Keeps what an order keeps of its data and counts it, and says whether that or its count are others.
 #[inline(never)]
 #[tactic(auto, unfolding(crate::specs::Views::State::own_entries), using(crate::proofs::Added::ordered_all))]
-fn store_order(pid: u16, value: &Argument<'_>, own: &mut RootValues) -> bool
+fn store_order(def: &ParameterDef, value: &Argument<'_>, own: &mut RootValues) -> bool
     ensures own { own_entries own.new ≡ own_entries own.old }
     ensures after { (spot : Spot) → spot.added ≡ added_entries own.old.added.items
-        → added_entries own.new.added.items ≡ update (order_stored pid spot value.now) (added_entries own.old.added.items) }
+        → added_entries own.new.added.items ≡ update (order_stored def.now spot value.now) (added_entries own.old.added.items) }
     ensures same { (result ≡ false) ↔ (added_entries own.new.added.items ≡ added_entries own.old.added.items) }
 {
+    store_ordered(def.shape, def.pid, value, &mut own.added)
+}
+
+/// The same in the shape of its data.
+fn store_ordered(shape: Shape, pid: u16, value: &Argument<'_>, values: &mut Vec<Kept>) -> bool
+    ensures after { added_entries values.new.items ≡ map (stored_in pid 1 (counted (lookup (added_entries values.old.items) pid 1)))
+        (map (stored_in pid 0 (bytes_ordered shape value.now)) (added_entries values.old.items)) }
+    ensures same { (result ≡ false) ↔ (added_entries values.new.items ≡ added_entries values.old.items) }
+{
+    match shape {
+        Shape::Lock => store_counted(values, pid, &[state_of(slots_in(value))]),
+        Shape::Pin => store_counted(values, pid, new_pin(slots_in(value))),
+        Shape::Block => store_counted(values, pid, &[]),
+        _ => store_data(pid, value, values),
+    }
+}
+
+/// Keeps the data of an order as they are, and counts it.
+fn store_data(pid: u16, value: &Argument<'_>, values: &mut Vec<Kept>) -> bool
+    ensures after { added_entries values.new.items ≡ map (stored_in pid 1 (counted (lookup (added_entries values.old.items) pid 1)))
+        (map (stored_in pid 0 (bytes_of value.now)) (added_entries values.old.items)) }
+    ensures same { (result ≡ false) ↔ (added_entries values.new.items ≡ added_entries values.old.items) }
+{
     let bytes = bytes_of(value);
-    store_counted(&mut own.added, pid, bytes.as_slice())
+    store_counted(values, pid, bytes.as_slice())
 }
 
 fn store_counted(values: &mut Vec<Kept>, pid: u16, bytes: &[u8]) -> bool

@@ -1,10 +1,12 @@
-use Rattle.std.proofs.Common.{List, ℕ, Option, None, subst}
+use Rattle.std.proofs.Common.{◌≡◌, false, List, ℕ, sym, ◌∙◌, subst}
 use Rattle.rdm_frame.specs.FrameText.{frame_text}
-use Rattle.rdm_interface.proofs.Searches.{asked_next}
+use Rattle.rdm_search.specs.Losses.{is_answered}
+use Rattle.rdm_interface.specs.Lines.{IsHeardOnce}
+use Rattle.rdm_interface.proofs.Searches.{asked_next, asked_at_last}
 use Rattle.rdm_interface.proofs.searching.heard_of.Goals as goal
 
 pub loop-turn-preserved : goal.loop-turn-preserved
 loop-turn-preserved g c =
-    asked_next g.P.Port.hears c.args.port.now c.loop-turn.port c.exchange.new.self (frame_text c.args.frame.now) c.loop-turn._turn c.loop-turn.invariant
-    (subst (λ (bytes : List ℕ). g.P.Port.hears c.loop-turn.port bytes None c.exchange.new.self) c.encode-request.ensures
-    (subst (λ (o : Option (List ℕ)). g.P.Port.hears c.loop-turn.port c.encode-request.result o c.exchange.new.self) c.in-Ok-None.field-0-is c.in-Ok-None.ensures.heard))
+    asked_next g.P.Port.hears c.args.port.now c.loop-turn.port c.heard_once.new.port c.args.frame.now c.in-Ok.wire c.loop-turn._turn c.loop-turn.invariant
+    (subst (λ (bytes : List ℕ). IsHeardOnce g.P.Port.hears c.loop-turn.port c.heard_once.new.port bytes c.in-Ok.wire) c.encode-request.ensures c.in-Ok.ensures.heard)
+    (subst (λ (h : List ℕ). is_answered c.args.frame.now h ≡ false) c.as_slice.ensures.value (sym c.is_answered.ensures ∙ c.if-is_answered.false))

@@ -1,6 +1,5 @@
-use Rattle.rdm_frame.specs.FrameText.{frame_text}
-use Rattle.rdm_interface.specs.Lines.{AreSilent}
+use Rattle.rdm_interface.specs.Lines.{IsUnanswered}
 use Rattle.rdm_interface.proofs.searching.heard_of.Given as goal
 
 abbrev pub invariant-loop-turn : goal.invariant-loop-turn
-invariant-loop-turn g l = AreSilent g.P.Port.hears l._turn l.fn.port (frame_text l.frame) l.port
+invariant-loop-turn g l = IsUnanswered g.P.Port.hears l.frame l._turn l.fn.port l.port

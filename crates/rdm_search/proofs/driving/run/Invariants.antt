@@ -8,8 +8,10 @@ abbrev pub invariant-loop : goal.invariant-loop
 invariant-loop g l = record {
   stands : Stands l.search.stage (found_uids l.search.found.items) (g.P.Port.fixtures l.port);
   same : uids (g.P.Port.fixtures l.port) ≡ uids (g.P.Port.fixtures l.fn.port);
-  sent : 2 * g.P.Port.sent l.port + price l.search.stage (g.P.Port.fixtures l.port) ≤ 2 * g.P.Port.sent l.fn.port + price l.fn.search.stage (g.P.Port.fixtures l.fn.port);
-  limit : price l.fn.search.stage (g.P.Port.fixtures l.fn.port) ≤ 2 * l.fn.search.left → price l.search.stage (g.P.Port.fixtures l.port) ≤ 2 * l.search.left;
+  sent : 2 * g.P.Port.sent l.port + price l.search.stage (g.P.Port.fixtures l.port) + 3 * g.P.Port.altered l.fn.port
+      ≤ 2 * g.P.Port.sent l.fn.port + price l.fn.search.stage (g.P.Port.fixtures l.fn.port) + 3 * g.P.Port.altered l.port;
+  left : price l.search.stage (g.P.Port.fixtures l.port) + 3 * g.P.Port.altered l.fn.port + 2 * l.fn.search.left
+      ≤ price l.fn.search.stage (g.P.Port.fixtures l.fn.port) + 3 * g.P.Port.altered l.port + 2 * l.search.left;
 }
 
 abbrev pub decreases-loop : goal.decreases-loop

@@ -1,10 +1,10 @@
-use Rattle.std.proofs.Common.{◌+◌, ◌≤◌, List, Option, Some, None, Ok, refl, sym, ap, ◌∙◌, subst, arith}
+use Rattle.std.proofs.Common.{ℕ, ◌+◌, ◌*◌, ◌≤◌, List, Option, Some, None, Ok, refl, sym, ap, ◌∙◌, subst, arith}
 use Rattle.rdm_frame.specs.declared.frame.Frame.{Frame}
 use Rattle.rdm_search.specs.Answers.{found_uids}
-use Rattle.rdm_search.specs.Line.{Fixture, IsHeard, uids}
+use Rattle.rdm_search.specs.Line.{Fixture, IsAnswer, uids}
 use Rattle.rdm_search.specs.Searches.{next_of}
 use Rattle.rdm_search.specs.Stages.{request_of, Stands, price}
-use Rattle.rdm_search.proofs.Runs.{Same, request_fits, request_keeps, ended, costs, next_frame, next_none, next_err, on_err}
+use Rattle.rdm_search.proofs.Runs.{Same, request_fits, request_keeps, answer_leads, altered_more, ended, costs, next_frame, next_none, next_err, on_err}
 use Rattle.rdm_search.proofs.driving.turn.Goals as goal
 
 pub returns-in_err-next-clause-limit : goal.returns-in_err-next-clause-limit
@@ -12,7 +12,7 @@ returns-in_err-next-clause-limit g c e =
     let old = c.args.search.now in
     let n = next_err old.source old.tn (request_of old.stage) old.left c.in_err-next.field-0.0 c.in_err-next.ensures in
     let least = costs old.stage (found_uids old.found.items) (g.P.Port.fixtures c.args.port.now) n.0 old.valid n.1 c.requires in
-    omega (arith, n.2)
+    (omega (arith, n.2), refl)
 
 pub returns-in_err-hear-in-Some-clause-same : goal.returns-in_err-hear-in-Some-clause-same
 returns-in_err-hear-in-Some-clause-same g c =
@@ -28,21 +28,22 @@ returns-in_err-hear-in-Some-clause-err g c =
     let n = next_frame old.source old.tn (request_of old.stage) old.left c.in-Some.frame is in
     let least = costs old.stage (found_uids old.found.items) line n.0 old.valid n.1 c.requires in
     let one = c.exchange-heard.ensures.sent in
-    on_err c.from_residual-in_err-hear-in-Some.result _ (omega arith)
+    let more = altered_more n.0 line c.exchange-heard.result _ _ (c.exchange-heard.ensures.heard n.0 old.source old.tn (request_fits old.stage n.0 old.valid n.1) n.2) in
+    on_err c.from_residual-in_err-hear-in-Some.result _ (omega (arith, least, one), more)
 
 pub returns-in-None-clause-ended : goal.returns-in-None-clause-ended
 returns-in-None-clause-ended g c e =
     let old = c.args.search.now in
     let is : Same (Ok None) (next_of old.source old.tn (request_of old.stage) old.left) = subst (λ (o : Option Frame). Same (Ok o) (next_of old.source old.tn (request_of old.stage) old.left)) c.in-None.is c.in_ok-next.ensures in
-    (ended old.stage (found_uids old.found.items) (g.P.Port.fixtures c.args.port.now) (next_none old.source old.tn (request_of old.stage) old.left is) c.requires, refl)
+    (ended old.stage (found_uids old.found.items) (g.P.Port.fixtures c.args.port.now) (next_none old.source old.tn (request_of old.stage) old.left is) c.requires, refl, refl)
 
 pub returns-in_ok-hear-in-Some-clause-stands : goal.returns-in_ok-hear-in-Some-clause-stands
 returns-in_ok-hear-in-Some-clause-stands g c e =
     let old = c.args.search.now in let line = g.P.Port.fixtures c.args.port.now in
     let is : Same (Ok (Some c.in-Some.frame)) (next_of old.source old.tn (request_of old.stage) old.left) = subst (λ (o : Option Frame). Same (Ok o) (next_of old.source old.tn (request_of old.stage) old.left)) c.in-Some.is c.in_ok-next.ensures in
     let n = next_frame old.source old.tn (request_of old.stage) old.left c.in-Some.frame is in
-    let heard = subst (IsHeard n.0 line) (sym c.as_slice.ensures.value) (c.exchange-heard.ensures.heard n.0 old.source old.tn (request_fits old.stage n.0 old.valid n.1) n.2) in
-    let leads = c.in_ok-hear-in-Some.ensures.hears n.0 line n.1 c.requires heard in
+    let heard : IsAnswer n.0 line c.as_slice.result.now (g.P.Port.altered c.args.port.now) (g.P.Port.altered c.exchange-heard.new.self) = subst (λ (h : List ℕ). IsAnswer n.0 line h (g.P.Port.altered c.args.port.now) (g.P.Port.altered c.exchange-heard.new.self)) (sym c.as_slice.ensures.value) (c.exchange-heard.ensures.heard n.0 old.source old.tn (request_fits old.stage n.0 old.valid n.1) n.2) in
+    let leads = answer_leads old.stage c.hear.new.self.stage (found_uids old.found.items) (found_uids c.hear.new.self.found.items) n.0 line c.as_slice.result.now _ _ (c.in_ok-hear-in-Some.ensures.hears n.0 line n.1 c.requires) heard in
     let after = c.exchange-heard.ensures.after n.0 old.source old.tn (request_fits old.stage n.0 old.valid n.1) n.2 in
     subst (λ (l : List Fixture). Stands c.hear.new.self.stage (found_uids c.hear.new.self.found.items) l) (sym after) leads.0
 
@@ -51,10 +52,10 @@ returns-in_ok-hear-in-Some-clause-price g c e =
     let old = c.args.search.now in let line = g.P.Port.fixtures c.args.port.now in
     let is : Same (Ok (Some c.in-Some.frame)) (next_of old.source old.tn (request_of old.stage) old.left) = subst (λ (o : Option Frame). Same (Ok o) (next_of old.source old.tn (request_of old.stage) old.left)) c.in-Some.is c.in_ok-next.ensures in
     let n = next_frame old.source old.tn (request_of old.stage) old.left c.in-Some.frame is in
-    let heard = subst (IsHeard n.0 line) (sym c.as_slice.ensures.value) (c.exchange-heard.ensures.heard n.0 old.source old.tn (request_fits old.stage n.0 old.valid n.1) n.2) in
-    let leads = c.in_ok-hear-in-Some.ensures.hears n.0 line n.1 c.requires heard in
+    let heard : IsAnswer n.0 line c.as_slice.result.now (g.P.Port.altered c.args.port.now) (g.P.Port.altered c.exchange-heard.new.self) = subst (λ (h : List ℕ). IsAnswer n.0 line h (g.P.Port.altered c.args.port.now) (g.P.Port.altered c.exchange-heard.new.self)) (sym c.as_slice.ensures.value) (c.exchange-heard.ensures.heard n.0 old.source old.tn (request_fits old.stage n.0 old.valid n.1) n.2) in
+    let leads = answer_leads old.stage c.hear.new.self.stage (found_uids old.found.items) (found_uids c.hear.new.self.found.items) n.0 line c.as_slice.result.now _ _ (c.in_ok-hear-in-Some.ensures.hears n.0 line n.1 c.requires) heard in
     let after = c.exchange-heard.ensures.after n.0 old.source old.tn (request_fits old.stage n.0 old.valid n.1) n.2 in
-    subst (λ (l : List Fixture). price c.hear.new.self.stage l + 2 ≤ price old.stage line) (sym after) leads.1
+    subst (λ (l : List Fixture). price c.hear.new.self.stage l + 2 + 3 * g.P.Port.altered c.args.port.now ≤ price old.stage line + 3 * g.P.Port.altered c.exchange-heard.new.self) (sym after) leads.1
 
 pub returns-in_ok-hear-in-Some-clause-same : goal.returns-in_ok-hear-in-Some-clause-same
 returns-in_ok-hear-in-Some-clause-same g c =

@@ -15,7 +15,7 @@ returns-in-Start-clause-hears c =
 pub returns-in-Asking-clause-hears : goal.returns-in-Asking-clause-hears
 returns-in-Asking-clause-hears c =
     let us = found_uids c.args.found.now.items in
-    subst (λ (s : Stage). Hears s us c.args.bytes.now c.after_branch.result us) (sym c.in-Asking.is) (branch_hears c.in-Asking.range us c.args.bytes.now c.after_branch.result (λ line. c.after_branch.ensures.leads us line))
+    subst (λ (s : Stage). Hears s us c.args.bytes.now c.after_branch.result us) (sym c.in-Asking.is) (branch_hears c.in-Asking.range us c.args.bytes.now c.after_branch.result (λ line stands. (c.after_branch.ensures.leads us line stands, c.after_branch.ensures.strays us line stands)))
 
 pub returns-in_ok-next-in-Muting-clause-hears : goal.returns-in_ok-next-in-Muting-clause-hears
 returns-in_ok-next-in-Muting-clause-hears c =

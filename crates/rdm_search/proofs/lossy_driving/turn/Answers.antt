@@ -13,7 +13,7 @@ returns-in_err-hear-in-Some-clause-real g c =
     let old = c.args.search.now in let line = g.L.LossyPort.fixtures c.args.port.now in let after = g.L.LossyPort.fixtures c.ask-heard.new.port in
     let is : Same (Ok (Some c.in-Some.frame)) (next_of old.source old.tn (request_of old.stage) old.left) = subst (λ (o : Option Frame). Same (Ok o) (next_of old.source old.tn (request_of old.stage) old.left)) c.in-Some.is c.in_ok-next.ensures in
     let n = next_frame old.source old.tn (request_of old.stage) old.left c.in-Some.frame is in
-    let answered : Answered n.0 line c.ask-heard.result after = without_count _ _ _ _ (c.ask-heard.ensures.asked n.0 old.source old.tn (request_fits old.stage n.0 old.valid n.1) n.2) in
+    let answered : Answered n.0 line c.ask-heard.result after = without_count n.0 line c.ask-heard.result after _ _ _ _ (c.ask-heard.ensures.asked n.0 old.source old.tn (request_fits old.stage n.0 old.valid n.1) n.2) in
     let kept = keeps_real old.found.items line c.ask-heard.result after n.0 c.requires answered in
     subst (λ (xs : List Found). IsReal (found_uids xs) after) (sym {A = List Found} c.in_err-hear-in-Some.ensures.same.1) kept
 
@@ -22,7 +22,7 @@ returns-in_err-hear-in-Some-clause-same g c =
     let old = c.args.search.now in let line = g.L.LossyPort.fixtures c.args.port.now in let after = g.L.LossyPort.fixtures c.ask-heard.new.port in
     let is : Same (Ok (Some c.in-Some.frame)) (next_of old.source old.tn (request_of old.stage) old.left) = subst (λ (o : Option Frame). Same (Ok o) (next_of old.source old.tn (request_of old.stage) old.left)) c.in-Some.is c.in_ok-next.ensures in
     let n = next_frame old.source old.tn (request_of old.stage) old.left c.in-Some.frame is in
-    let answered : Answered n.0 line c.ask-heard.result after = without_count _ _ _ _ (c.ask-heard.ensures.asked n.0 old.source old.tn (request_fits old.stage n.0 old.valid n.1) n.2) in
+    let answered : Answered n.0 line c.ask-heard.result after = without_count n.0 line c.ask-heard.result after _ _ _ _ (c.ask-heard.ensures.asked n.0 old.source old.tn (request_fits old.stage n.0 old.valid n.1) n.2) in
     same_fixtures n.0 line c.ask-heard.result after answered
 
 pub returns-in_err-hear-in-Some-clause-err : goal.returns-in_err-hear-in-Some-clause-err
@@ -38,7 +38,7 @@ returns-in_ok-hear-in-Some-clause-real g c =
     let old = c.args.search.now in let line = g.L.LossyPort.fixtures c.args.port.now in let after = g.L.LossyPort.fixtures c.ask-heard.new.port in
     let is : Same (Ok (Some c.in-Some.frame)) (next_of old.source old.tn (request_of old.stage) old.left) = subst (λ (o : Option Frame). Same (Ok o) (next_of old.source old.tn (request_of old.stage) old.left)) c.in-Some.is c.in_ok-next.ensures in
     let n = next_frame old.source old.tn (request_of old.stage) old.left c.in-Some.frame is in
-    let answered : Answered n.0 line c.ask-heard.result after = without_count _ _ _ _ (c.ask-heard.ensures.asked n.0 old.source old.tn (request_fits old.stage n.0 old.valid n.1) n.2) in
+    let answered : Answered n.0 line c.ask-heard.result after = without_count n.0 line c.ask-heard.result after _ _ _ _ (c.ask-heard.ensures.asked n.0 old.source old.tn (request_fits old.stage n.0 old.valid n.1) n.2) in
     let heard = subst (λ (h : List ℕ). Answered n.0 line h after) (sym c.as_slice.ensures.value) answered in
     stays_real old.stage old.found.items c.hear.new.self.found.items line c.as_slice.result.now after n.0 n.1 c.in_ok-hear-in-Some.ensures.found c.requires heard
 
@@ -47,7 +47,7 @@ returns-in_ok-hear-in-Some-clause-same g c =
     let old = c.args.search.now in let line = g.L.LossyPort.fixtures c.args.port.now in let after = g.L.LossyPort.fixtures c.ask-heard.new.port in
     let is : Same (Ok (Some c.in-Some.frame)) (next_of old.source old.tn (request_of old.stage) old.left) = subst (λ (o : Option Frame). Same (Ok o) (next_of old.source old.tn (request_of old.stage) old.left)) c.in-Some.is c.in_ok-next.ensures in
     let n = next_frame old.source old.tn (request_of old.stage) old.left c.in-Some.frame is in
-    let answered : Answered n.0 line c.ask-heard.result after = without_count _ _ _ _ (c.ask-heard.ensures.asked n.0 old.source old.tn (request_fits old.stage n.0 old.valid n.1) n.2) in
+    let answered : Answered n.0 line c.ask-heard.result after = without_count n.0 line c.ask-heard.result after _ _ _ _ (c.ask-heard.ensures.asked n.0 old.source old.tn (request_fits old.stage n.0 old.valid n.1) n.2) in
     same_fixtures n.0 line c.ask-heard.result after answered
 
 pub returns-in_ok-hear-in-Some-clause-sent : goal.returns-in_ok-hear-in-Some-clause-sent

@@ -8,7 +8,8 @@ use Rattle.rdm_search.proofs.retries.ask.Given as goal
 abbrev pub invariant-loop-left : goal.invariant-loop-left
 invariant-loop-left g l = record {
   asked : (request : Request) (source : Uid) (tn : ℕ) → IsRequest request → l.fn.frame ≡ request_frame source tn request
-      → Asked request (g.L.LossyPort.fixtures l.fn.port) l.heard (g.L.LossyPort.fixtures l.port) (g.L.LossyPort.lost l.fn.port + (l.fn.retries - l.left) + 1) (g.L.LossyPort.lost l.port);
+      → Asked request (g.L.LossyPort.fixtures l.fn.port) l.heard (g.L.LossyPort.fixtures l.port) (g.L.LossyPort.lost l.fn.port + (l.fn.retries - l.left) + 1) (g.L.LossyPort.lost l.port)
+      (g.L.LossyPort.altered l.fn.port) (g.L.LossyPort.altered l.port);
   within : g.L.LossyPort.may_lose l.port (g.L.LossyPort.lost l.port);
   same : (n : ℕ) → g.L.LossyPort.may_lose l.port n → g.L.LossyPort.may_lose l.fn.port n;
   sent : g.L.LossyPort.sent l.port ≤ g.L.LossyPort.sent l.fn.port + (l.fn.retries - l.left) + 1;

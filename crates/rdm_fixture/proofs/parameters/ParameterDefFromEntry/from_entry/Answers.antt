@@ -4,7 +4,7 @@ use Rattle.rdm_device.specs.Device.OwnParameters.{can_start, has_good_fields}
 use Rattle.rdm_device.specs.Device.Standards.{follows}
 use Rattle.toml.specs.View.{table_view}
 use Rattle.rdm_fixture.specs.FirstWrong.{parameter_parts}
-use Rattle.rdm_fixture.specs.Parameters.{IsParameter}
+use Rattle.rdm_fixture.specs.Parameters.{IsParameter, can_reset}
 use Rattle.rdm_fixture.specs.Wrong.{FirstWrong}
 use Rattle.rdm_fixture.proofs.OneFixture.{one_said}
 use Rattle.rdm_fixture.proofs.Parts.{exit}
@@ -66,10 +66,36 @@ returns-then-not-follows-clause-wrong c =
       ),
     )
 
+pub returns-then-not-can_reset-clause-read : goal.returns-then-not-can_reset-clause-read
+returns-then-not-can_reset-clause-read c = λ d h.
+    let same : d ≡ c.in_ok-def.def = one_said _ d c.in_ok-def.def h.said c.in_ok-def.ensures.read in
+    absurd (false≢true (sym c.if-not-can_reset.true ∙ c.can_reset.ensures ∙ ap can_reset (sym same) ∙ h.reset))
+
+pub returns-then-not-can_reset-clause-wrong : goal.returns-then-not-can_reset-clause-wrong
+returns-then-not-can_reset-clause-wrong c =
+    let said = c.in_ok-def.ensures.read in
+    let fields : has_good_fields c.in_ok-def.def ≡ true = sym c.has_good_fields.ensures ∙ c.if-not-has_good_fields.false in
+    let starts : can_start c.in_ok-def.def ≡ true = sym c.can_start.ensures ∙ c.if-not-can_start.false in
+    let standard : follows c.in_ok-def.def ≡ true = sym c.follows.ensures ∙ c.if-not-follows.false in
+    inr (
+      (c.in_ok-def.def, said),
+      inr (
+        (c.in_ok-def.def, (said, fields)),
+        inr (
+          (c.in_ok-def.def, (said, starts)),
+          inr (
+            (c.in_ok-def.def, (said, standard)),
+            inl (c.in_ok-def.def, said, sym c.can_reset.ensures ∙ c.if-not-can_reset.true, c.at-then-not-can_reset.ensures),
+          ),
+        ),
+      ),
+    )
+
 pub returns-clause-read : goal.returns-clause-read
 returns-clause-read c = record {
   said = c.in_ok-def.ensures.read;
   fields = sym c.has_good_fields.ensures ∙ c.if-not-has_good_fields.false;
   start = sym c.can_start.ensures ∙ c.if-not-can_start.false;
   standard = sym c.follows.ensures ∙ c.if-not-follows.false;
+  reset = sym c.can_reset.ensures ∙ c.if-not-can_reset.false;
 }

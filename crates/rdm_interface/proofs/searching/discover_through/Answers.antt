@@ -1,0 +1,15 @@
+use Rattle.std.proofs.Common.{◌≡◌, ◌+◌, ◌-◌, ◌*◌, ◌<◌, ◌≤◌, length, Err, ap, arith}
+use Rattle.rdm_search.specs.declared.error.SearchError.TheVariants.{Limit}
+use Rattle.rdm_search.proofs.Runs.{begins, price_of_all}
+use Rattle.rdm_interface.specs.declared.searching.SearchFault.{SearchFault}
+use Rattle.rdm_interface.specs.declared.searching.SearchFault.TheVariants.{Search}
+use Rattle.rdm_interface.proofs.searching.discover_through.Goals as goal
+
+pub returns-in-Err-clause-limit : goal.returns-in-Err-clause-limit
+returns-in-Err-clause-limit g c = λ e fixtures line devices.
+    let same : c.in-Err.fault ≡ Search Limit = cc in
+    let new = c.new-search.ensures in let at = fixtures c.args.port.now in
+    let start = begins c.new-search.result.stage c.new-search.result.found.items at new.stage new.found devices in
+    let short = c.in-Err.ensures.limit (ap (λ (f : SearchFault). Err f) same) fixtures line start in
+    let cost = price_of_all c.new-search.result.stage at new.stage in
+    omega (arith, short, cost, new.left)
