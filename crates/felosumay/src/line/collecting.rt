@@ -109,7 +109,7 @@ impl<'a, H: Host, P: Port, F: Write> Console<'a, H, P, F> {
             Sorted::Part => false,
         };
         if let Some(reply) = heard {
-            self.teller.tell_reply(reply)?;
+            self.tell_reply(mailbox, reply)?;
         }
         if !is_whole {
             return Ok(Polled::Part);

@@ -7,6 +7,7 @@ use rdm_collector::{
     AskError, Collected, Command, DeviceCollector, DeviceHeard, Message, PollError, Response, Uid,
     Want, Wire, first_message, join_data,
 };
+use rdm_console::MessageView;
 use rdm_params::Kind;
 use std::alloc::Global;
 
@@ -30,6 +31,23 @@ pub struct Letter {
     pub again: bool,
     /// The data of all its parts, if it came in parts (section 6.3.2).
     pub joined: Option<Vec<u8>>,
+}
+
+impl Letter {
+    /// The message, with the data of all its parts.
+    pub fn view(&self) -> MessageView<'_> {
+        let body = match &self.joined {
+            Some(joined) => joined.as_slice(),
+            None => self.message.body.as_slice(),
+        };
+        MessageView {
+            response: self.response,
+            class: self.message.class,
+            sub: self.message.sub,
+            pid: self.message.pid,
+            body,
+        }
+    }
 }
 
 /// What the answer to a poll is for a console.
