@@ -22,6 +22,7 @@ _felosumay() {
         line:--port) mapfile -t COMPREPLY < <(compgen -f -- "$word"); return ;;
         line:--limit) :; return ;;
         line:--trace) mapfile -t COMPREPLY < <(compgen -f -- "$word"); return ;;
+        line:--fixture) mapfile -t COMPREPLY < <(compgen -f -- "$word"); return ;;
         line:--sub) :; return ;;
         line:--uid) :; return ;;
     esac
@@ -59,7 +60,7 @@ _felosumay() {
             esac ;;
         line)
             case $word in
-                -*) mapfile -t COMPREPLY < <(compgen -W '--port --limit --trace -h --help -V --version --sub --uid' -- "$word") ;;
+                -*) mapfile -t COMPREPLY < <(compgen -W '--port --limit --trace --fixture -h --help -V --version --sub --uid --words' -- "$word") ;;
                 *)
                     case " ${COMP_WORDS[*]:2:COMP_CWORD-2} " in
                         *" find "*) : ;;

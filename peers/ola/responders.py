@@ -194,7 +194,7 @@ def check_set(console, uid, parameter, data, *answers):
 def check_slow(console, uid):
     """The slow commands of the ack-timer responder. Without slots, as at first, it has no start address."""
     check_set(console, uid, "DMX_PERSONALITY", "02", "ACK")
-    check_set(console, uid, "DMX_START_ADDRESS", "0011", "ACK_TIMER 0.5 s", "ACK")
+    check_set(console, uid, "DMX_START_ADDRESS", "17", "ACK_TIMER 0.5 s", "ACK")
     check_set(console, uid, "IDENTIFY_DEVICE", "01", "ACK_TIMER 0.5 s", "ACK")
 
 

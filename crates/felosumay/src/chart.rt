@@ -1,23 +1,29 @@
 //! `felosumay chart`: a trace as a picture.
 
 use crate::fault::Fault;
+use crate::fixture::FixtureFile;
 use crate::host::Host;
 use crate::source::{Source, refuse_clashes, save, without_mark};
+use crate::usage;
 use crate::words::MOST_BYTES;
-use crate::{fixture, usage};
 use clap::ArgMatches;
-use rdm_chart::{ChartError, chart, chart_of};
+use rdm_chart::{ChartError, MOST_TRANSACTIONS, chart, chart_of};
 use rdm_fixture::Fixture;
 use rdm_trace::Line;
 use rdm_words::Known;
 use std::alloc::AllocError;
 
-/// Reads the trace that is named, and writes its chart.
+/// Reads the trace that is named, and writes its chart. Without a fixture's file, nothing is known of any fixture.
 pub fn run<'a, H: Host>(rt: H, asked: &ArgMatches<'a>) -> Result<(), Fault<'a>> {
     refuse_clashes(asked)?;
-    let fixture = fixture::asked_for(rt, asked)?;
     let source = Source::named(asked.get_str(usage::INPUT));
-    let picture = picture(rt, source, &fixture)?;
+    let picture = match FixtureFile::asked_for(rt, asked)? {
+        Some(file) => {
+            let fixture = file.fixture(rt)?;
+            picture(rt, source, &Known::of(fixture.uid, &fixture.profile))?
+        }
+        None => picture(rt, source, &Known::nothing())?,
+    };
     let path = asked.get_str(usage::OUTPUT).unwrap_or("-");
     save(rt, path, picture.as_slice())
 }
@@ -26,15 +32,17 @@ pub fn run<'a, H: Host>(rt: H, asked: &ArgMatches<'a>) -> Result<(), Fault<'a>> 
 fn picture<'a, H: Host>(
     rt: H,
     source: Source<'a>,
-    fixture: &Fixture,
+    known: &Known<'_>,
 ) -> Result<Vec<u8>, Fault<'a>> {
     let trace = source.read(rt, MOST_BYTES)?;
-    let text = without_mark(trace.as_slice());
-    let known = Known::of(fixture.uid, &fixture.profile);
-    match chart(rt.alloc(), text, &known) {
+    match chart(rt.alloc(), without_mark(trace.as_slice()), known) {
         Ok(picture) => Ok(picture),
         Err(ChartError::OutOfMemory) => Err(Fault::Memory),
         Err(ChartError::Line(line)) => Err(Fault::NoTrace(source.name(), line)),
+        Err(ChartError::TooMany) => Err(Fault::TooManyTransactions(
+            source.name(),
+            MOST_TRANSACTIONS,
+        )),
     }
 }
 

@@ -1,6 +1,7 @@
 //! Why the program couldn't do its work.
 
 use crate::line::fault::LineFault;
+use crate::name::Name;
 use crate::source::OUTPUT;
 use crate::usage::MOST_FIXTURES;
 use rdm_crew::RunError;
@@ -26,14 +27,14 @@ pub enum Fault<'a> {
     WrittenTwice,
     /// A file is read and written.
     Overwritten(&'a str),
-    /// More sub-devices are asked for than the file says.
-    TooManySubs(u16),
-    /// There are to be so many fixtures on the line.
-    TooManyFixtures(usize),
-    /// From this UID on there aren't so many device IDs.
-    TooFewDeviceIds(Uid, u16),
-    /// Two fixtures on the line would have this UID.
-    TwoOfOneUid(Uid),
+    /// More sub-devices are asked for than this file says.
+    TooManySubs(&'a str, u16),
+    /// There are to be fixtures of so many kinds on the line, and so many of each.
+    TooManyFixtures(usize, u16),
+    /// From the UID of this file on there aren't so many device IDs.
+    TooFewDeviceIds(&'a str, Uid, u16),
+    /// Two fixtures on the line would have this UID, one of them of this file, or of the demonstration.
+    TwoOfOneUid(&'a str, Uid),
     /// A file is to keep the values of so many fixtures.
     SavedOfMany(usize),
     /// The fixture has no such parameter.
@@ -46,12 +47,16 @@ pub enum Fault<'a> {
     Io(&'a str, io::Error),
     /// A file, or standard input, has more bytes than this.
     TooLong(&'a str, u64),
+    /// A fixture's file has more keys than this.
+    TooManyKeys(&'a str, u32),
     /// A file isn't a valid script.
     Script(&'a str, rdm_script::Refusal),
     /// A file isn't a valid script, and no more is known.
     NoScript(&'a str, ScriptError),
     /// A file isn't a valid trace, by this line, counted from 1.
     NoTrace(&'a str, usize),
+    /// A trace has more transactions than this, which is as many as a chart can have.
+    TooManyTransactions(&'a str, usize),
     /// The run of a script stops, at this line if it is known.
     Stopped(&'a str, Option<usize>, RunError),
     /// The setup of a script, at this line if it is known, isn't possible for a fixture with N sub-devices.
@@ -129,10 +134,12 @@ impl<'a> Fault<'a> {
     pub fn status(&self) -> u8 {
         match self {
             Fault::TooLong(_, _)
+            | Fault::TooManyKeys(_, _)
             | Fault::Script(_, _)
             | Fault::NoScript(_, _)
             | Fault::NoText(_, _)
             | Fault::NoTrace(_, _)
+            | Fault::TooManyTransactions(_, _)
             | Fault::Syntax(_, _, _)
             | Fault::Fixture(_, _, _)
             | Fault::ControllersUid(_)
@@ -146,10 +153,10 @@ impl<'a> Fault<'a> {
             | Fault::ReadTwice
             | Fault::WrittenTwice
             | Fault::Overwritten(_)
-            | Fault::TooManySubs(_)
-            | Fault::TooManyFixtures(_)
-            | Fault::TooFewDeviceIds(_, _)
-            | Fault::TwoOfOneUid(_)
+            | Fault::TooManySubs(_, _)
+            | Fault::TooManyFixtures(_, _)
+            | Fault::TooFewDeviceIds(_, _, _)
+            | Fault::TwoOfOneUid(_, _)
             | Fault::SavedOfMany(_)
             | Fault::NoParameter(_) => BAD_USAGE,
             Fault::Line(fault) => fault.status(),
@@ -224,10 +231,11 @@ impl fmt::Display for Fault<'_> {
             Fault::Memory => f.write_str("error: out of memory"),
             Fault::Line(fault) => write!(f, "{fault}"),
             Fault::Clock(error) => write!(f, "error: clock: {error}"),
-            Fault::Io(name, error) => write!(f, "error: {name}: {error}"),
-            Fault::TooLong(name, most) => write!(f, "{name}: more than {most} bytes"),
-            Fault::Script(name, refusal) => write!(f, "{name}:{refusal}"),
-            Fault::NoScript(name, error) => write!(f, "{name}: {error}"),
+            Fault::Io(name, error) => write!(f, "error: {}: {error}", Name(name)),
+            Fault::TooLong(name, most) => write!(f, "{}: more than {most} bytes", Name(name)),
+            Fault::TooManyKeys(name, most) => write!(f, "{}: more than {most} keys", Name(name)),
+            Fault::Script(name, refusal) => write!(f, "{}:{refusal}", Name(name)),
+            Fault::NoScript(name, error) => write!(f, "{}: {error}", Name(name)),
             Fault::Stopped(name, line, error) => {
                 write_place(f, name, *line)?;
                 write_stop(f, *error)
@@ -242,18 +250,37 @@ impl fmt::Display for Fault<'_> {
             }
             Fault::NoTrace(name, line) => write!(
                 f,
-                "{name}:{line}: this isn't a valid line of a trace"
+                "{}:{line}: this isn't a valid line of a trace",
+                Name(name)
             ),
-            Fault::NoText(name, place) => write!(f, "{name}:{place}: this isn't valid UTF-8"),
-            Fault::Syntax(name, place, error) => write!(f, "{name}:{place}: {}", error.message()),
+            Fault::NoText(name, place) => write!(
+                f,
+                "{}:{place}: this isn't valid UTF-8",
+                Name(name)
+            ),
+            Fault::Syntax(name, place, error) => write!(
+                f,
+                "{}:{place}: {}",
+                Name(name),
+                Name(error.message())
+            ),
+            Fault::TooManyTransactions(name, most) => write!(
+                f,
+                "{}: a chart can't have more than {most} transactions",
+                Name(name)
+            ),
             Fault::Fixture(name, line, refusal) => {
                 write_place(f, name, *line)?;
                 write!(f, "{refusal}")
             }
             Fault::NoDevice => f.write_str("error: this isn't a valid fixture"),
-            Fault::NotSaved(name) => write!(f, "{name}: this isn't a file of saved values"),
+            Fault::NotSaved(name) => write!(f, "{}: this isn't a file of saved values", Name(name)),
             Fault::OtherProfile(name) => {
-                write!(f, "{name}: these are the saved values of another fixture")
+                write!(
+                    f,
+                    "{}: these are the saved values of another fixture",
+                    Name(name)
+                )
             }
             _ => write_refused(f, self),
         }
@@ -268,19 +295,25 @@ fn write_refused<W: fmt::Write>(f: &mut fmt::Formatter<W>, fault: &Fault<'_>) ->
             "error: standard output can't take both the words and the chart",
         ),
         Fault::Overwritten(path) => {
-            write!(f, "error: {path}: input and output are the same file")
+            write!(
+                f,
+                "error: {}: input and output are the same file",
+                Name(path)
+            )
         }
-        Fault::TooManySubs(most) => write!(
+        Fault::TooManySubs(name, most) => write!(
             f,
-            "error: --subs: the fixture has only {most} sub-devices"
+            "error: --subs: {}: the fixture has only {most} sub-devices",
+            Name(name)
         ),
-        Fault::TooManyFixtures(_)
-        | Fault::TooFewDeviceIds(_, _)
-        | Fault::TwoOfOneUid(_)
+        Fault::TooManyFixtures(_, _)
+        | Fault::TooFewDeviceIds(_, _, _)
+        | Fault::TwoOfOneUid(_, _)
         | Fault::SavedOfMany(_) => write_no_rig(f, fault),
         Fault::NoParameter(name) => write!(
             f,
-            "error: {name}: the fixture has no such parameter; felosumay parameters lists them"
+            "error: {}: the fixture has no such parameter; felosumay parameters lists them",
+            Name(name)
         ),
         Fault::ControllersUid(uid) => write!(
             f,
@@ -293,15 +326,27 @@ fn write_refused<W: fmt::Write>(f: &mut fmt::Formatter<W>, fault: &Fault<'_>) ->
 /// Writes why the fixtures that the command line asks for can't be on one line.
 fn write_no_rig<W: fmt::Write>(f: &mut fmt::Formatter<W>, fault: &Fault<'_>) -> fmt::Result {
     match fault {
-        Fault::TooManyFixtures(count) => write!(
+        Fault::TooManyFixtures(kinds, 1) => write!(
             f,
-            "error: --count: {count} fixtures are more than {MOST_FIXTURES}"
+            "error: --fixture: {kinds} fixtures are more than {MOST_FIXTURES}"
         ),
-        Fault::TooFewDeviceIds(uid, count) => write!(
+        Fault::TooManyFixtures(kinds, each) => {
+            let count = kinds.saturating_mul(usize::from(*each));
+            write!(
+                f,
+                "error: --count: {each} of each of {kinds} files are {count} fixtures, more than {MOST_FIXTURES}"
+            )
+        }
+        Fault::TooFewDeviceIds(name, uid, count) => write!(
             f,
-            "error: --count: there are fewer than {count} device IDs from {uid} on"
+            "error: --count: {}: there are fewer than {count} device IDs from {uid} on",
+            Name(name)
         ),
-        Fault::TwoOfOneUid(uid) => write!(f, "error: two fixtures would have the UID {uid}"),
+        Fault::TwoOfOneUid(name, uid) => write!(
+            f,
+            "error: {}: two fixtures would have the UID {uid}",
+            Name(name)
+        ),
         Fault::SavedOfMany(count) => write!(
             f,
             "error: --saved: a file keeps the values of one fixture, not of {count}"
@@ -316,6 +361,7 @@ fn write_place<W: fmt::Write>(
     name: &str,
     line: Option<usize>,
 ) -> fmt::Result {
+    let name = Name(name);
     match line {
         Some(line) => write!(f, "{name}:{line}: "),
         None => write!(f, "{name}: "),

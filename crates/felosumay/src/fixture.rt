@@ -19,6 +19,23 @@ use std::str;
 /// How many bytes a fixture file may have: 1 MiB.
 const MOST_BYTES: u64 = 1048576;
 
+/// How many keys a fixture file may have, and `=` in its comments: some times as many as any fixture has. The time to read them grows with
+/// the square of their number.
+const MOST_KEYS: u32 = 8192;
+
+/// Whether there are more keys than a file may have: each has a `=` behind it. A line of them, as in a comment, is one.
+fn has_too_many_keys(bytes: &[u8]) -> bool {
+    let mut count = 0u32;
+    let mut before = 0;
+    for byte in bytes {
+        if *byte == b'=' && before != b'=' {
+            count = count.saturating_add(1);
+        }
+        before = *byte;
+    }
+    count > MOST_KEYS
+}
+
 /// Reads the fixture file that is named, and prints what it describes.
 pub fn run<'a, H: Host>(rt: H, asked: &ArgMatches<'a>) -> Result<(), Fault<'a>> {
     let source = Source::named(asked.get_str(usage::INPUT));
@@ -41,6 +58,9 @@ pub fn asked_for<'a, H: Host>(rt: H, asked: &ArgMatches<'a>) -> Result<Fixture, 
         None => Ok(demonstration()),
     }
 }
+
+/// By what name messages tell of the fixture on which scripts are played.
+pub const DEMONSTRATION: &str = "the demonstration";
 
 /// The fixture on which scripts are played.
 pub fn demonstration() -> Fixture {
@@ -74,6 +94,11 @@ impl<'a> FixtureFile<'a> {
         }
     }
 
+    /// By what name messages tell of it.
+    pub fn name(&self) -> &'a str {
+        self.name
+    }
+
     /// Reads a file.
     pub fn read<H: Host>(rt: H, source: Source<'a>) -> Result<FixtureFile<'a>, Fault<'a>> {
         Ok(FixtureFile {
@@ -87,6 +112,9 @@ impl<'a> FixtureFile<'a> {
         ensures described { IfOk result (Describes self.now.bytes.items) }
     {
         let bytes = self.bytes.as_slice();
+        if has_too_many_keys(bytes) {
+            return Err(Fault::TooManyKeys(self.name, MOST_KEYS));
+        }
         let text = match str::from_utf8(bytes) {
             Ok(text) => text,
             Err(error) => return Err(Fault::no_text(self.name, bytes, error.valid_up_to())),

@@ -1,12 +1,13 @@
 //! What the program needs of the machine that it runs on.
 
+use std::fs::File;
 use std::rt::Files;
 use std::sync::Wait;
 use std::thread::Threads;
 use std::time::Clock;
 
-/// Files, the standard streams, memory, and threads to wait for.
-pub trait Host: Files
+/// Files of the system, which can be locked, the standard streams, memory, and threads to wait for.
+pub trait Host: Files<File = File>
     + Input
     + Print
     + Eprint
@@ -20,7 +21,7 @@ pub trait Host: Files
 
 impl<T> Host for T
 where
-    T: Files
+    T: Files<File = File>
         + Input
         + Print
         + Eprint

@@ -3,9 +3,11 @@
 mod asking;
 mod collecting;
 mod console;
+mod entry;
 mod errand;
 pub mod fault;
 mod finding;
+mod knowledge;
 mod log;
 mod mailbox;
 mod playing;
@@ -22,13 +24,14 @@ use clap::ArgMatches;
 use console::Console;
 use errand::Errand;
 use fault::LineFault;
+use knowledge::Knowledge;
 use log::{Log, TraceFile};
 use rdm_collector::PortError;
 use rdm_interface::{Clock, Interface, RealClock};
 use recorder::Recorder;
-use std::fs::OpenOptions;
+use std::fs::{File, OpenOptions, TryLockError};
 use std::io;
-use std::io::{Read, Write};
+use std::io::{IsTerminal, Read, Write};
 use telling::{Place, Teller, Terminals};
 
 /// How many milliseconds the interface is waited for, unless something else is asked for.
@@ -52,6 +55,7 @@ pub fn run<'a, H: Host>(
     terminals: Terminals,
     asked: &ArgMatches<'a>,
 ) -> Result<(), Fault<'a>> {
+    refuse_clashes(asked)?;
     let errand = Errand::asked_for(rt, asked)?;
     match Source::named(asked.get_str(usage::PORT)) {
         Source::File(name) => {
@@ -72,25 +76,63 @@ pub fn run<'a, H: Host>(
     }
 }
 
-/// Both ends of the port of this name.
-fn ends_of<'a, H: Host>(rt: H, name: &'a str) -> Result<Ends<'a, H::File, H::File>, Fault<'a>> {
-    Ok(Ends {
-        name,
-        reader: open(rt, name)?,
-        writer: open(rt, name)?,
-        gives_up: true,
-    })
+/// Refuses standard input that is read twice, and a trace that would be written over what is read.
+fn refuse_clashes<'a>(asked: &ArgMatches<'a>) -> Result<(), Fault<'a>> {
+    let port = asked.get_str(usage::PORT).unwrap_or("-");
+    let fixtures = asked.get_strs(usage::FIXTURE).unwrap_or(&[]);
+    let mut readers = usize::from(port == "-");
+    for name in fixtures {
+        readers = readers.saturating_add(usize::from(*name == "-"));
+    }
+    if readers > 1 {
+        return Err(Fault::ReadTwice);
+    }
+    match asked.get_str(usage::TRACE) {
+        Some(path) if path == port || fixtures.iter().any(|name| *name == path) => {
+            Err(Fault::Overwritten(path))
+        }
+        _ => Ok(()),
+    }
+}
+
+/// Both ends of the port of this name, which no other program has as long as this one keeps them. What isn't a port is refused before
+/// anything is written to it.
+fn ends_of<'a, H: Host>(rt: H, name: &'a str) -> Result<Ends<'a, File, File>, Fault<'a>> {
+    let reader = open(rt, name)?;
+    if !reader.is_terminal() {
+        return Err(Fault::Line(LineFault::NoPort(name)));
+    }
+    lock(name, &reader)?;
+    match reader.try_clone() {
+        Ok(writer) => Ok(Ends {
+            name,
+            reader,
+            writer,
+            gives_up: true,
+        }),
+        Err(error) => Err(Fault::Io(name, error)),
+    }
+}
+
+/// Locks a port, so that another program that locks its port is refused there. The lock goes when the port is closed, also at a kill.
+fn lock<'a>(name: &'a str, port: &File) -> Result<(), Fault<'a>> {
+    match port.try_lock() {
+        Ok(()) => Ok(()),
+        Err(TryLockError::WouldBlock) => Err(Fault::Line(LineFault::Taken(name))),
+        Err(TryLockError::Error(error)) => Err(Fault::Io(name, error)),
+    }
 }
 
 /// Does it through this port.
 fn run_on<'a, H: Host, R: Read + Drop, W: Write + Drop>(
     teller: Teller<H>,
     asked: &ArgMatches<'a>,
-    errand: &Errand,
+    errand: &Errand<'a>,
     ends: Ends<'a, R, W>,
 ) -> Result<(), Fault<'a>> {
     let rt = teller.rt();
-    let log = Log::new(teller, trace_file(rt, asked)?);
+    let knowledge = Knowledge::asked_for(rt, asked)?;
+    let log = Log::new(teller, trace_file(rt, asked)?, knowledge);
     let clock = match RealClock::start(&rt, 1) {
         Ok(clock) => clock,
         Err(error) => return Err(Fault::Clock(error)),
@@ -109,7 +151,7 @@ fn run_on<'a, H: Host, R: Read + Drop, W: Write + Drop>(
 /// Does it through this interface, of a port of that name.
 fn talk<'a, H: Host, R: Read + Drop, W: Write + Drop, C: Clock + Drop>(
     teller: Teller<H>,
-    errand: &Errand,
+    errand: &Errand<'a>,
     name: &'a str,
     gives_up: bool,
     mut port: Interface<Watched<R>, Watched<W>, C>,
@@ -150,8 +192,8 @@ fn trace_file<'a, H: Host>(
     }
 }
 
-/// Opens a port. It is opened twice, for reading and for writing.
-fn open<'a, H: Host>(rt: H, path: &'a str) -> Result<H::File, Fault<'a>> {
+/// Opens what may be a port, for reading and writing, and changes nothing in it.
+fn open<'a, H: Host>(rt: H, path: &'a str) -> Result<File, Fault<'a>> {
     match OpenOptions::new().read(true).write(true).open(&rt, path) {
         Ok(file) => Ok(file),
         Err(error) => Err(Fault::Io(path, error)),

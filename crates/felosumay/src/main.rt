@@ -9,11 +9,13 @@ mod fault;
 mod fixture;
 mod host;
 mod line;
+mod name;
 mod parameters;
 mod play;
 mod rig;
 mod saved;
 mod source;
+mod streams;
 mod usage;
 mod watched;
 mod widget;
@@ -24,12 +26,19 @@ use clap::error::ErrorKind;
 use fault::Fault;
 use host::Host;
 use line::telling::Terminals;
+use name::Lines;
 use source::OUTPUT;
 use std::env;
 use std::io::IsTerminal;
 use std::process::ExitCode;
+use streams::Streams;
 
 fn main(rt: HostRuntime) -> ExitCode {
+    // They are held until all is done.
+    let _streams = match Streams::hold(&rt) {
+        Ok(streams) => streams,
+        Err(fault) => return end(rt, &fault),
+    };
     let words = match command_line(rt) {
         Ok(words) => words,
         Err(fault) => return end(rt, &fault),
@@ -105,13 +114,20 @@ fn is_coloured(rt: HostRuntime) -> bool {
 
 /// Prints a help page or the version that was asked for, or tells what is wrong with the command line.
 fn end_of_usage(rt: HostRuntime, error: &clap::Error) -> ExitCode {
-    let printed = error.print(&rt);
     match error.kind() {
-        ErrorKind::DisplayHelp | ErrorKind::DisplayVersion => match printed {
+        ErrorKind::DisplayHelp | ErrorKind::DisplayVersion => match error.print(&rt) {
             Ok(()) => ExitCode::SUCCESS,
             Err(error) => end(rt, &Fault::Io(OUTPUT, error)),
         },
-        ErrorKind::OutOfMemory => ExitCode::from(2),
-        _ => ExitCode::from(fault::BAD_USAGE),
+        ErrorKind::OutOfMemory => end(rt, &Fault::Memory),
+        _ => match error.to_string(rt.alloc()) {
+            Ok(text) => {
+                let lines = Lines(text.as_str());
+                // Nobody is left to be told if this can't be written.
+                let _ = eprint!(rt; "{lines}");
+                ExitCode::from(fault::BAD_USAGE)
+            }
+            Err(_) => end(rt, &Fault::Memory),
+        },
     }
 }

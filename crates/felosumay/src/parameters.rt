@@ -9,12 +9,12 @@ use crate::host::Host;
 use crate::source::print;
 use crate::{fixture, usage};
 use clap::ArgMatches;
-use data::{Data, data_of, put_data};
+use data::{Command, Data, data_of, numbers_tried, put_data};
 use own::put_own;
 use rdm_frame::digits::word_in;
 use rdm_frame::standard::ROOT_DEVICE;
 use rdm_params::{
-    Devices, Kind, Nack, NewError, Outcome, Profile, Severity, Verb, Verdict, Work, fits,
+    Devices, Kind, Nack, NewError, Outcome, Profile, Severity, Verb, Verdict, Work, fits, pid_named,
 };
 use std::alloc::{AllocError, Global};
 use std::fmt::Write;
@@ -28,8 +28,9 @@ pub fn run<'a, H: Host>(rt: H, asked: &ArgMatches<'a>) -> Result<(), Fault<'a>> 
     // Where there are none, this shows what one would have.
     profile.subs = profile.subs.max(SUB_DEVICE);
     let chosen = Chosen::of(rt.alloc(), &profile, asked.get_str(usage::PARAMETER))?;
+    let tried = numbers_tried(rt.alloc(), &profile)?;
     let devices = devices_of(rt.alloc(), profile)?;
-    let text = chosen.text(rt.alloc(), &devices)?;
+    let text = chosen.text(rt.alloc(), &devices, tried.as_slice())?;
     print(rt, text.as_bytes())
 }
 
@@ -58,8 +59,12 @@ impl Chosen {
         profile: &Profile,
         name: Option<&'a str>,
     ) -> Result<Chosen, Fault<'a>> {
-        let kinds = kinds_of(alloc, profile, name)?;
-        let own = own_of(alloc, profile, name)?;
+        let pid = match name {
+            Some(name) => pid_asked(alloc, name)?,
+            None => None,
+        };
+        let kinds = kinds_of(alloc, profile, name.is_none(), pid)?;
+        let own = own_of(alloc, profile, name, pid)?;
         match name {
             Some(name) if kinds.is_empty() && own.is_empty() => Err(Fault::NoParameter(name)),
             _ => Ok(Chosen { kinds, own }),
@@ -67,37 +72,43 @@ impl Chosen {
     }
 
     /// What is printed of them.
-    fn text(&self, alloc: Global, devices: &Devices) -> Result<String, AllocError> {
+    fn text(&self, alloc: Global, devices: &Devices, tried: &[u16]) -> Result<String, AllocError> {
         let mut text = String::new(alloc);
         for kind in &self.kinds {
-            put_parameter(&mut text, alloc, devices, *kind)?;
+            put_parameter(&mut text, alloc, devices, tried, *kind)?;
         }
         text.push_str(self.own.as_str())?;
         Ok(text)
     }
 }
 
-/// The parameters of the table that a fixture has: the one of this name, or of this PID in four hexadecimal digits, or all.
-fn kinds_of(alloc: Global, profile: &Profile, name: Option<&str>) -> Result<Vec<Kind>, AllocError> {
+/// The parameters of the table that a fixture has: the one of this PID, or all.
+fn kinds_of(
+    alloc: Global,
+    profile: &Profile,
+    all: bool,
+    pid: Option<u16>,
+) -> Result<Vec<Kind>, AllocError> {
     let mut kinds = Vec::new(alloc);
     for kind in Kind::all() {
-        let is_asked = match name {
-            Some(name) => is_named(name, kind.pid(), kind.name().as_bytes()),
-            None => true,
-        };
-        if is_asked && !profile.lacks(kind.pid()) {
+        if (all || pid == Some(kind.pid())) && !profile.lacks(kind.pid()) {
             kinds.push(kind)?;
         }
     }
     Ok(kinds)
 }
 
-/// The same of the parameters that the maker adds, in words.
-fn own_of(alloc: Global, profile: &Profile, name: Option<&str>) -> Result<String, AllocError> {
+/// The same of the parameters that the maker adds, in words: those of this PID or of this description, or all.
+fn own_of(
+    alloc: Global,
+    profile: &Profile,
+    name: Option<&str>,
+    pid: Option<u16>,
+) -> Result<String, AllocError> {
     let mut text = String::new(alloc);
     for def in profile.particulars.own() {
         let is_asked = match name {
-            Some(name) => is_named(name, def.pid, def.name.as_slice()),
+            Some(name) => pid == Some(def.pid) || def.name.as_slice() == name.as_bytes(),
             None => true,
         };
         if is_asked {
@@ -107,12 +118,16 @@ fn own_of(alloc: Global, profile: &Profile, name: Option<&str>) -> Result<String
     Ok(text)
 }
 
-/// Whether a parameter has this name, or this PID in four hexadecimal digits.
-fn is_named(asked: &str, pid: u16, name: &[u8]) -> bool {
-    match word_in(asked.as_bytes()) {
-        Some(number) => number == pid,
-        None => name == asked.as_bytes(),
+/// The PID that is asked for, if it is in four hexadecimal digits, or by a name of the standards in capitals or small letters.
+fn pid_asked(alloc: Global, asked: &str) -> Result<Option<u16>, AllocError> {
+    if let Some(pid) = word_in(asked.as_bytes()) {
+        return Ok(Some(pid));
     }
+    let capitals: String = asked
+        .chars()
+        .map(|c| c.to_ascii_uppercase())
+        .collect(alloc)?;
+    Ok(pid_named(capitals.as_bytes()))
 }
 
 /// A parameter, where it is, and its commands, each on a line.
@@ -120,6 +135,7 @@ fn put_parameter(
     text: &mut String,
     alloc: Global,
     devices: &Devices,
+    tried: &[u16],
     kind: Kind,
 ) -> Result<(), AllocError> {
     let pid = kind.pid();
@@ -134,33 +150,34 @@ fn put_parameter(
         "root"
     };
     writeln!(text, "{pid:04X} {name}, {place}")?;
-    put_command(text, alloc, devices, kind, Verb::Get, is_at_each)?;
-    put_command(text, alloc, devices, kind, Verb::Set, is_at_each)
+    for verb in [Verb::Get, Verb::Set] {
+        let asked = Asked {
+            devices,
+            tried,
+            kind,
+            verb,
+        };
+        put_command(text, alloc, asked, is_at_each)?;
+    }
+    Ok(())
 }
 
 /// A command on a line, if the parameter has it.
 fn put_command(
     text: &mut String,
     alloc: Global,
-    devices: &Devices,
-    kind: Kind,
-    verb: Verb,
+    asked: Asked<'_>,
     is_at_each: bool,
 ) -> Result<(), AllocError> {
-    let Some(data) = data_of(kind, verb) else {
+    let Some(data) = data_of(asked.kind, asked.verb) else {
         return Ok(());
     };
-    text.push_str(match verb {
+    text.push_str(match asked.verb {
         Verb::Get => "  GET: ",
         Verb::Set => "  SET: ",
     })?;
-    let asked = Asked {
-        devices,
-        kind,
-        verb,
-    };
     put_places(text, alloc, asked, &data, is_at_each)?;
-    put_job(text, devices, kind.pid(), verb)?;
+    put_job(text, asked.devices, asked.kind.pid(), asked.verb)?;
     text.push_str("\n")
 }
 
@@ -168,6 +185,8 @@ fn put_command(
 #[derive(Clone, Copy)]
 struct Asked<'a> {
     devices: &'a Devices,
+    /// The numbers that are tried in its data.
+    tried: &'a [u16],
     kind: Kind,
     verb: Verb,
 }
@@ -176,7 +195,14 @@ impl Asked<'_> {
     /// The data of the command to one of them, in words.
     fn data(&self, alloc: Global, sub: u16, data: &Data) -> Result<String, AllocError> {
         let mut text = String::new(alloc);
-        put_data(&mut text, self.devices, sub, self.kind, self.verb, data)?;
+        let command = Command {
+            devices: self.devices,
+            tried: self.tried,
+            sub,
+            kind: self.kind,
+            verb: self.verb,
+        };
+        put_data(&mut text, command, data)?;
         Ok(text)
     }
 }
@@ -191,8 +217,11 @@ fn put_places(
 ) -> Result<(), AllocError> {
     let at_root = asked.data(alloc, ROOT_DEVICE, data)?;
     text.push_str(at_root.as_str())?;
+    if !is_at_each {
+        return Ok(());
+    }
     let at_each = asked.data(alloc, SUB_DEVICE, data)?;
-    if is_at_each && at_each.as_str() != at_root.as_str() {
+    if at_each.as_str() != at_root.as_str() {
         write!(text, "; at a sub-device {at_each}")?;
     }
     Ok(())

@@ -1,7 +1,7 @@
 //! The rig of `felosumay widget`: the fixtures that are asked for, on one line.
 
 use crate::fault::Fault;
-use crate::fixture::{FixtureFile, demonstration};
+use crate::fixture::{DEMONSTRATION, FixtureFile, demonstration};
 use crate::host::Host;
 use crate::source::Source;
 use crate::usage;
@@ -26,9 +26,10 @@ pub fn fixture_count<'a>(asked: &ArgMatches<'a>) -> Result<usize, Fault<'a>> {
         Some(names) => names.len(),
         None => 1,
     };
-    let count = kinds.saturating_mul(usize::from(count_of_each(asked)));
+    let each = count_of_each(asked);
+    let count = kinds.saturating_mul(usize::from(each));
     if count > usize::from(usage::MOST_FIXTURES) {
-        return Err(Fault::TooManyFixtures(count));
+        return Err(Fault::TooManyFixtures(kinds, each));
     }
     Ok(count)
 }
@@ -67,6 +68,7 @@ fn join_each<'a, H: Host>(
     line: &mut Line<LiveFixture>,
 ) -> Result<(), Fault<'a>> {
     let count = count_of_each(asked);
+    let name = name_of(file);
     for number in 0..count {
         let mut fixture = match file {
             Some(file) => file.fixture(rt)?,
@@ -74,26 +76,29 @@ fn join_each<'a, H: Host>(
         };
         fixture.uid = match counted_up(fixture.uid, number) {
             Some(uid) => uid,
-            None => return Err(Fault::TooFewDeviceIds(fixture.uid, count)),
+            None => return Err(Fault::TooFewDeviceIds(name, fixture.uid, count)),
         };
-        join(line, fixture.uid, live(rt, asked, fixture)?)?;
+        let uid = fixture.uid;
+        if let Err(refused) = line.join(live(rt, asked, name, fixture)?) {
+            return Err(no_rig(refused.error, name, uid));
+        }
     }
     Ok(())
 }
 
-/// A fixture, which has this UID, joins a line.
-fn join<'a>(line: &mut Line<LiveFixture>, uid: Uid, live: LiveFixture) -> Result<(), Fault<'a>> {
-    match line.join(live) {
-        Ok(()) => Ok(()),
-        Err(refused) => Err(no_rig(refused.error, uid)),
+/// By what name messages tell of a file's fixture, or of the demonstration.
+fn name_of<'a>(file: Option<&FixtureFile<'a>>) -> &'a str {
+    match file {
+        Some(file) => file.name(),
+        None => DEMONSTRATION,
     }
 }
 
-/// Why the fixture with this UID can't join the line.
-fn no_rig<'a>(error: JoinError, uid: Uid) -> Fault<'a> {
+/// Why the fixture of this name and with this UID can't join the line.
+fn no_rig<'a>(error: JoinError, name: &'a str, uid: Uid) -> Fault<'a> {
     match error {
         JoinError::OutOfMemory => Fault::Memory,
-        JoinError::Taken => Fault::TwoOfOneUid(uid),
+        JoinError::Taken => Fault::TwoOfOneUid(name, uid),
         JoinError::BadUid => Fault::NoDevice,
     }
 }
@@ -111,6 +116,7 @@ fn counted_up(uid: Uid, number: u16) -> Option<Uid> {
 pub fn live<'a, H: Host>(
     rt: H,
     asked: &ArgMatches<'a>,
+    name: &'a str,
     fixture: Fixture,
 ) -> Result<LiveFixture, Fault<'a>> {
     let Fixture {
@@ -121,7 +127,7 @@ pub fn live<'a, H: Host>(
     } = fixture;
     if let Some(subs) = asked.get_one::<u16>(usage::SUBS) {
         if asked.contains_id(usage::FIXTURE) && subs > profile.subs {
-            return Err(Fault::TooManySubs(profile.subs));
+            return Err(Fault::TooManySubs(name, profile.subs));
         }
         profile.subs = subs;
     }

@@ -1,5 +1,7 @@
 //! The command line: its subcommands and what each takes.
 
+mod line;
+
 use clap::{Arg, ArgAction, ArgMatches, Command, Error, value_parser};
 use rdm_frame::standard::MOST_SUB_DEVICES;
 use std::alloc::Global;
@@ -64,7 +66,7 @@ fn command<'a>(alloc: Global) -> Result<Command<'a>, Error> {
     let command = with(command, fixture(alloc))?;
     let command = with(command, parameters(alloc))?;
     let command = with(command, widget(alloc))?;
-    with(command, line(alloc))
+    with(command, line::command(alloc))
 }
 
 /// The program, without its subcommands.
@@ -76,7 +78,7 @@ fn program<'a>(alloc: Global) -> Result<Command<'a>, Error> {
         .arg_required_else_help(true)
         .propagate_version(true)
         .after_help(
-            "Exit status: 0 on success, 1 for invalid input, 2 if out of memory, 3 if a run stops early, 4 if reading or writing fails, 64 for a usage error.",
+            "Exit status: 0 on success, 1 for invalid input, 2 if out of memory,\n3 if a run stops early, 4 if reading or writing fails, 64 for a usage error.",
         );
     Ok(command.bin_name("felosumay")?)
 }
@@ -94,10 +96,6 @@ fn with<'a>(
 
 /// `felosumay play`.
 fn play<'a>(alloc: Global) -> Result<Command<'a>, Error> {
-    let words = Arg::new(alloc, WORDS)
-        .long(WORDS)
-        .action(ArgAction::SetTrue)
-        .help("Print the trace in words");
     Ok(
         Command::new(alloc, "play")
             .about("Play a script on a fixture and print the trace")
@@ -108,14 +106,14 @@ fn play<'a>(alloc: Global) -> Result<Command<'a>, Error> {
             ))?
             .arg(fixture_file(
                 alloc,
-                "The fixture to play it on; standard input if -, the demonstration fixture if omitted",
+                "The fixture to play it on; standard input if -,\nthe demonstration fixture if omitted",
             ))?
-            .arg(words)?
+            .arg(in_words(alloc))?
             .arg(option(
                 alloc,
                 CHART,
                 "FILE.svg",
-                "Also write a chart of the trace to this file; if -, print the chart instead of the trace",
+                "Also write a chart of the trace to this file;\nif -, print the chart instead of the trace",
             ))?,
     )
 }
@@ -124,11 +122,11 @@ fn play<'a>(alloc: Global) -> Result<Command<'a>, Error> {
 fn words<'a>(alloc: Global) -> Result<Command<'a>, Error> {
     Ok(
         Command::new(alloc, "words")
-            .about("Decode a trace into words, or frames in hexadecimal digits, one per line")
+            .about("Decode a trace, or frames in hexadecimal digits, into words")
             .arg(input(alloc, "TRACE", "The trace; standard input if omitted or -"))?
             .arg(fixture_file(
                 alloc,
-                "The fixture for sensor units and status texts; standard input if -, the demonstration fixture if omitted",
+                "The fixture for sensor units and status texts;\nstandard input if -, none if omitted",
             ))?,
     )
 }
@@ -142,7 +140,7 @@ fn chart<'a>(alloc: Global) -> Result<Command<'a>, Error> {
             .arg(output(alloc))?
             .arg(fixture_file(
                 alloc,
-                "The fixture for sensor units and status texts; standard input if -, the demonstration fixture if omitted",
+                "The fixture for sensor units and status texts;\nstandard input if -, none if omitted",
             ))?,
     )
 }
@@ -160,7 +158,7 @@ fn fixture<'a>(alloc: Global) -> Result<Command<'a>, Error> {
 fn parameters<'a>(alloc: Global) -> Result<Command<'a>, Error> {
     Ok(
         Command::new(alloc, "parameters")
-            .about("List the parameters of a fixture and the data that their commands take")
+            .about("List a fixture's parameters and the data that they take")
             .arg(argument(
                 alloc,
                 PARAMETER,
@@ -169,7 +167,7 @@ fn parameters<'a>(alloc: Global) -> Result<Command<'a>, Error> {
             ))?
             .arg(fixture_file(
                 alloc,
-                "The fixture; standard input if -, the demonstration fixture if omitted",
+                "The fixture; standard input if -,\nthe demonstration fixture if omitted",
             ))?,
     )
 }
@@ -178,12 +176,10 @@ fn parameters<'a>(alloc: Global) -> Result<Command<'a>, Error> {
 fn widget<'a>(alloc: Global) -> Result<Command<'a>, Error> {
     Ok(
         Command::new(alloc, "widget")
-            .about(
-                "Run virtual fixtures behind an ENTTEC DMX USB Pro, on standard input and output",
-            )
+            .about("Run virtual fixtures as an ENTTEC DMX USB Pro on stdin and stdout")
             .arg(fixture_file(
                 alloc,
-                "A fixture on the line, given once for each; the demonstration fixture if omitted",
+                "A fixture on the line, given once for each;\nthe demonstration fixture if omitted",
             )
             .action(ArgAction::Append))?
             .arg(count(alloc))?
@@ -199,108 +195,12 @@ fn widget<'a>(alloc: Global) -> Result<Command<'a>, Error> {
     )
 }
 
-/// `felosumay line`.
-fn line<'a>(alloc: Global) -> Result<Command<'a>, Error> {
-    let line = Command::new(alloc, "line")
-        .about("Find, read, set and collect on a real line, through an ENTTEC DMX USB Pro")
-        .subcommand_required(true)
-        .arg_required_else_help(true)
-        .arg(port(alloc))?
-        .arg(limit(alloc))?
-        .arg(option(
-            alloc,
-            TRACE,
-            "FILE",
-            "Also write what is sent and heard to this file, as a trace",
-        ))?;
-    errands(alloc, line)
-}
-
-/// What `felosumay line` does.
-fn errands<'a>(alloc: Global, line: Command<'a>) -> Result<Command<'a>, Error> {
-    let find = Command::new(alloc, "find").about("Find all devices");
-    let line = with(line, Ok(find))?;
-    let line = with(line, line_get(alloc))?;
-    let line = with(line, line_set(alloc))?;
-    let line = with(line, line_collect(alloc))?;
-    let watch = Command::new(alloc, "watch").about(
-        "Poll all devices in turn, and print each message as it comes",
-    );
-    let line = with(line, Ok(watch))?;
-    with(line, line_play(alloc))
-}
-
-/// `felosumay line get`.
-fn line_get<'a>(alloc: Global) -> Result<Command<'a>, Error> {
-    let get = Command::new(alloc, "get").about("Read a parameter of a device");
-    let get = of_parameter(alloc, get)?;
-    let help = "The data, as in a script; none if omitted";
-    Ok(get.arg(argument(alloc, DATA, "DATA", help))?)
-}
-
-/// `felosumay line set`.
-fn line_set<'a>(alloc: Global) -> Result<Command<'a>, Error> {
-    let set = Command::new(alloc, "set").about(
-        "Set a parameter of a device, and wait for the result",
-    );
-    let set = of_parameter(alloc, set)?;
-    let data = argument(alloc, DATA, "DATA", "The data, as in a script");
-    Ok(set.arg(data.required(true))?)
-}
-
-/// `felosumay line collect`.
-fn line_collect<'a>(alloc: Global) -> Result<Command<'a>, Error> {
-    Ok(
-        Command::new(alloc, "collect")
-            .about("Fetch all messages that wait in a device")
-            .arg(device(alloc))?,
-    )
-}
-
-/// `felosumay line play`.
-fn line_play<'a>(alloc: Global) -> Result<Command<'a>, Error> {
-    let device = option(
-        alloc,
-        UID,
-        "UID",
-        "The device to play it on, as 7FF0:00000001",
-    );
-    Ok(
-        Command::new(alloc, "play")
-            .about("Play a script on a device and print the trace, with the times")
-            .arg(input(
-                alloc,
-                "SCRIPT",
-                "The script; standard input if omitted or -",
-            ))?
-            .arg(device.required(true))?,
-    )
-}
-
-/// What a command of a parameter takes before its data.
-fn of_parameter<'a>(alloc: Global, command: Command<'a>) -> Result<Command<'a>, Error> {
-    Ok(
-        command
-            .arg(device(alloc))?
-            .arg(argument(
-                alloc,
-                PARAMETER,
-                "PARAMETER",
-                "The parameter, by name or PID",
-            )
-            .required(true))?
-            .arg(option(
-                alloc,
-                SUB,
-                "SUB",
-                "The sub-device, as in a script; the root if omitted",
-            ))?,
-    )
-}
-
-/// The argument that names a device.
-fn device<'a>(alloc: Global) -> Arg<'a> {
-    argument(alloc, UID, "UID", "The device, as 7FF0:00000001").required(true)
+/// The option for words in place of the trace.
+fn in_words<'a>(alloc: Global) -> Arg<'a> {
+    Arg::new(alloc, WORDS)
+        .long(WORDS)
+        .action(ArgAction::SetTrue)
+        .help("Print the trace in words")
 }
 
 /// An argument by its place.
@@ -322,7 +222,7 @@ fn subs<'a>(alloc: Global) -> Arg<'a> {
         .long(SUBS)
         .value_name("N")
         .value_parser(value_parser!(u16).range(0..=i64::from(MOST_SUB_DEVICES)))
-        .help("The number of sub-devices; if omitted, all of the file's, or none without a file")
+        .help("The number of sub-devices; if omitted, all of the\nfile's, or none without a file")
 }
 
 /// The option for how fast time passes.
@@ -334,33 +234,13 @@ fn speed<'a>(alloc: Global) -> Arg<'a> {
         .help("Run slow commands N times faster; 1 if omitted")
 }
 
-/// The option that names the port of an interface.
-fn port<'a>(alloc: Global) -> Arg<'a> {
-    option(
-        alloc,
-        PORT,
-        "PATH",
-        "The serial device of the interface, set raw with min 0 time 1; standard input and output if -",
-    )
-    .required(true)
-}
-
-/// The option for how long the interface is waited for.
-fn limit<'a>(alloc: Global) -> Arg<'a> {
-    Arg::new(alloc, LIMIT)
-        .long(LIMIT)
-        .value_name("MS")
-        .value_parser(value_parser!(u16).range(1..=65535))
-        .help("How many milliseconds the interface is waited for; 1000 if omitted")
-}
-
 /// The option that names the file of a chart.
 fn output<'a>(alloc: Global) -> Arg<'a> {
     option(
         alloc,
         OUTPUT,
         "FILE.svg",
-        "The file to write the chart to; standard output if omitted or -",
+        "The file to write the chart to; standard output\nif omitted or -",
     )
     .short('o')
 }
@@ -371,7 +251,7 @@ fn count<'a>(alloc: Global) -> Arg<'a> {
         .long(COUNT)
         .value_name("N")
         .value_parser(value_parser!(u16).range(1..=i64::from(MOST_FIXTURES)))
-        .help("The number of each fixture, with device IDs counted up; 1 if omitted")
+        .help("The number of each fixture, with device IDs counted\nup; 1 if omitted")
 }
 
 /// The option for what is on the line if several fixtures answer at once.
@@ -380,7 +260,7 @@ fn collision<'a>(alloc: Global) -> Arg<'a> {
         .long(COLLISION)
         .value_name("RULE")
         .value_parser(COLLISIONS.as_slice())
-        .help("What comes of several answers at once; all-bits if omitted")
+        .help("What is on the line if several answer at once;\nall-bits if omitted\n")
 }
 
 /// A text that is read, by its place.

@@ -1,9 +1,10 @@
 //! `felosumay widget`: virtual fixtures on standard input and output.
 
 use crate::fault::Fault;
+use crate::fixture::DEMONSTRATION;
 use crate::host::Host;
 use crate::saved::Saved;
-use crate::source::{INPUT, OUTPUT, refuse_clashes};
+use crate::source::{INPUT, OUTPUT, Source, refuse_clashes};
 use crate::watched::Watched;
 use crate::{fixture, rig, saved, usage};
 use clap::ArgMatches;
@@ -29,7 +30,11 @@ pub fn run<'a, H: Host>(rt: H, asked: &ArgMatches<'a>) -> Result<(), Fault<'a>> 
 /// Serves with the one fixture that is asked for, and keeps its values in a file if that is asked for.
 fn serve_one<'a, H: Host>(rt: H, asked: &ArgMatches<'a>) -> Result<(), Fault<'a>> {
     let fixture = fixture::asked_for(rt, asked)?;
-    let mut live = rig::live(rt, asked, fixture)?;
+    let name = match asked.get_str(usage::FIXTURE) {
+        Some(path) => Source::named(Some(path)).name(),
+        None => DEMONSTRATION,
+    };
+    let mut live = rig::live(rt, asked, name, fixture)?;
     match asked.get_str(usage::SAVED) {
         Some(name) => serve_kept(rt, asked, name, &mut live),
         None => serve_line(rt, asked, &mut live),

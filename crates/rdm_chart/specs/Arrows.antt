@@ -2,7 +2,7 @@
 use Rattle.std.specs.Prelude.{ℕ, List, [], ◌∷◌, length, Some, None}
 use Rattle.std.specs.List.{flat_map}
 use Rattle.rdm_trace.specs.declared.line.Line.{Line}
-use Rattle.rdm_trace.specs.declared.line.Line.TheVariants.{Send, Reply, Job, Heard, Found, Arrive, Panel, Message, End}
+use Rattle.rdm_trace.specs.declared.line.Line.TheVariants.{Send, Reply, Job, Heard, Found, Arrive, Panel, Message, Time, End}
 use Rattle.rdm_trace.specs.declared.text.TraceError.{TraceError}
 use Rattle.rdm_trace.specs.declared.text.TraceError.TheVariants as trace
 use Rattle.rdm_chart.specs.declared.charting.ChartError.{ChartError}
@@ -21,6 +21,7 @@ arrows_of (Found uid) = []
 arrows_of (Arrive job outcome) = Arrive job outcome ∷ []
 arrows_of (Panel change refused) = Panel change refused ∷ []
 arrows_of (Message message) = []
+arrows_of (Time millis) = []
 arrows_of End = []
 
 -- the lines of which an arrow is drawn

@@ -2,3 +2,4 @@ pub mod Arrows
 pub mod Elements
 pub mod Markup
 pub mod Pictures
+pub mod Requests

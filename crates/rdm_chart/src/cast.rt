@@ -65,6 +65,7 @@ fn named_by(line: &Line) -> Option<Party> {
         | Line::Heard(_)
         | Line::Found(_)
         | Line::Message(_)
+        | Line::Time { .. }
         | Line::End => None,
     }
 }

@@ -1,16 +1,18 @@
 //! A trace as a picture.
 
-ghost use Rattle.std.specs.Prelude.{◌≡◌, ℕ, length, IfOk};
+ghost use Rattle.std.specs.Prelude.{◌≡◌, ◌<◌, ◌≤◌, ℕ, length, IfOk};
 ghost use Rattle.rdm_trace.specs.Traces.{pieces_of, lines_said, AreWhole, IsFirstUnread};
+ghost use Rattle.rdm_chart.specs.Requests.{request_count};
 ghost use Rattle.rdm_chart.specs.Pictures.{IsDocument, HasArrowCount};
 ghost use Rattle.rdm_chart.specs.Arrows.{with_arrow, HasArrows, chart_error};
-ghost use Rattle.rdm_chart.specs.declared.charting.ChartError.TheVariants.{OutOfMemory};
+ghost use Rattle.rdm_chart.specs.declared.charting.ChartError.TheVariants.{OutOfMemory, TooMany};
 
 use crate::cast::Cast;
 use crate::drawing::Drawing;
 use crate::page::Picture;
+use crate::requests::request_count;
 use rdm_trace::{Line, TraceError, lines_of};
-use rdm_words::Known;
+use rdm_words::{Before, Known};
 use std::alloc::{AllocError, Global};
 use thiserror::Error;
 
@@ -23,18 +25,30 @@ pub enum ChartError {
     /// This line, counted from 1, isn't a valid line of a trace.
     #[error("line {0}: this isn't a valid line of a trace")]
     Line(usize),
+    /// The trace has more transactions than can be drawn well.
+    #[error("a chart can't have more than {MOST_TRANSACTIONS} transactions")]
+    TooMany,
 }
+
+/// How many transactions a chart of a text can have.
+pub const MOST_TRANSACTIONS: usize = 2000;
 
 /// A trace as a sequence chart: a document of SVG 1.1, in UTF-8.
 ///
-/// A trace that stops before its `end` is drawn as far as it goes. A line that isn't part of a trace is rejected, but for what
+/// One of more than [`MOST_TRANSACTIONS`] is rejected before its lines are kept. A trace that stops before its `end` is drawn as far as it
+/// goes. Remarks are left out, and a line that isn't part of a trace is rejected, but for what
 /// comes after the last end of a line: if that isn't a line, but may begin one, it was cut off, and is left out.
 pub fn chart(alloc: Global, trace: &[u8], known: &Known<'_>) -> Result<Vec<u8>, ChartError>
     ensures document { IfOk result (λ svg. IsDocument svg.items) }
     ensures arrows { IfOk result (λ svg. HasArrows (lines_said (pieces_of trace.now)) svg.items) }
     ensures whole { IfOk result (λ _. AreWhole (pieces_of trace.now)) }
     ensures line { (number : ℕ) → result ≡ Err (ChartError.Line number) → IsFirstUnread (pieces_of trace.now) number }
+    ensures few { IfOk result (λ _. request_count (pieces_of trace.now) ≤ 2000) }
+    ensures many { result ≡ Err TooMany → 2000 < request_count (pieces_of trace.now) }
 {
+    if request_count(trace) > MOST_TRANSACTIONS {
+        return Err(ChartError::TooMany);
+    }
     let lines = lines_of(alloc, trace)?;
     let drawing = drawn(alloc, lines.as_slice(), known)?;
     // they take more memory than what is drawn of them
@@ -66,8 +80,10 @@ fn drawn(alloc: Global, lines: &[Line], known: &Known<'_>) -> Result<Drawing, Al
 {
     let cast = Cast::of(alloc, lines)?;
     let mut drawing = Drawing::new(alloc, cast)?;
+    let mut before = Before::nothing();
     for line in lines {
-        drawing.draw(alloc, line, known)?;
+        drawing.draw(alloc, &before, line, known)?;
+        before.then(line);
     }
     Ok(drawing)
 }

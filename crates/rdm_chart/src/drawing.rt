@@ -20,7 +20,7 @@ use crate::wording::line_words;
 use crate::work::{draw_change, draw_job, draw_report};
 use rdm_bus::Fault;
 use rdm_trace::Line;
-use rdm_words::Known;
+use rdm_words::{Before, Known};
 use std::alloc::{AllocError, Global};
 
 /// A chart that is drawn so far.
@@ -42,6 +42,8 @@ pub(crate) struct Drawing {
     pub(crate) transactions: u64,
     /// What goes wrong with the last of them.
     pub(crate) fault: Fault,
+    /// When the next of them happened, if it is told.
+    pub(crate) time: Option<u64>,
     /// Whether there is room on the right of the last arrow, as beside a reply.
     pub(crate) has_room_beside: bool,
     /// How many messages the controller has recorded.
@@ -74,16 +76,18 @@ impl Drawing {
             lives_to: None,
             transactions: 0,
             fault: Fault::None,
+            time: None,
             has_room_beside: false,
             recorded: 0,
             listed: 0,
         })
     }
 
-    /// Draws what a line says.
+    /// Draws what a line says, by what went before it.
     pub(crate) fn draw(
         &mut self,
         alloc: Global,
+        before: &Before,
         line: &Line,
         known: &Known<'_>,
     ) -> Result<(), AllocError>
@@ -96,19 +100,23 @@ impl Drawing {
             }
             Line::Reply(reply) => draw_reply(self, alloc, reply, known),
             Line::Job(job) => draw_job(self, alloc, *job),
-            Line::Heard(heard) => draw_heard(self, alloc, *heard),
+            Line::Heard(heard) => draw_heard(self, alloc, before, *heard),
             Line::Found(uid) => draw_found(self, alloc, *uid),
             Line::Arrive { job, .. } => {
-                let words = line_words(alloc, line, known)?;
+                let words = line_words(alloc, before, line, known)?;
                 draw_report(self, alloc, *job, words.as_str())
             }
             Line::Panel { refused, .. } => {
-                let words = line_words(alloc, line, known)?;
+                let words = line_words(alloc, before, line, known)?;
                 draw_change(self, alloc, *refused, words.as_str())
             }
             Line::Message(_) => {
-                let words = line_words(alloc, line, known)?;
+                let words = line_words(alloc, before, line, known)?;
                 draw_message(self, alloc, words.as_str())
+            }
+            Line::Time { millis } => {
+                self.time = Some(*millis);
+                Ok(())
             }
             Line::End => Ok(()),
         }

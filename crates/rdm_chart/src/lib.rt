@@ -18,6 +18,7 @@ mod layout;
 mod lettering;
 mod page;
 mod recorded;
+mod requests;
 mod shape;
 mod style;
 mod svg;
@@ -25,6 +26,6 @@ mod transaction;
 mod wording;
 mod work;
 
-pub use charting::{ChartError, chart, chart_of};
+pub use charting::{ChartError, MOST_TRANSACTIONS, chart, chart_of};
 pub use escape::put_escaped;
 pub use laws::{chart_errors_are_equal_by_value, escaped_text_has_no_tags};

@@ -10,7 +10,7 @@ use crate::drawing::{Drawing, Label};
 use crate::heads::draw_heads;
 use crate::layout::{
     BASE, BELOW_ARROW, CONTROLLER_X, GAP, HEAD_HEIGHT, HEADS_EVERY, LINE_HEIGHT, MARGIN, PADDING,
-    RESPONDER_X, TAG_HEIGHT, TAG_WIDTH,
+    Px, RESPONDER_X, TAG_HEIGHT, TAG_WIDTH,
 };
 use crate::page::width_of;
 use crate::shape::Area;
@@ -18,7 +18,7 @@ use crate::style::Class;
 use crate::wording::{reply_words, request_words};
 use rdm_bus::{Fault, Heard};
 use rdm_frame::{Uid, Wire};
-use rdm_words::Known;
+use rdm_words::{Before, Known};
 use std::alloc::{AllocError, Global};
 
 /// Draws a request below what is drawn, as the beginning of a transaction.
@@ -81,7 +81,23 @@ fn begin_transaction(drawing: &mut Drawing, alloc: Global) -> Result<(), AllocEr
         .front
         .text(Class::Count, MARGIN + GAP, base, text.as_str())?;
     drawing.transactions = number.saturating_add(1);
-    Ok(())
+    draw_time(drawing, alloc, base)
+}
+
+/// Draws when a transaction happened, beside its number, if that is told.
+fn draw_time(drawing: &mut Drawing, alloc: Global, base: Px) -> Result<(), AllocError>
+    ensures { OnOk result (drawing.new.arrows ≡ drawing.old.arrows) }
+{
+    let Some(millis) = drawing.time else {
+        return Ok(());
+    };
+    drawing.time = None;
+    let (seconds, rest) = (millis / 1000, millis % 1000);
+    let text = format!(in alloc; "{seconds}.{rest:03} s")?;
+    let x = CONTROLLER_X - PADDING;
+    drawing
+        .front
+        .text(Class::NoteBefore, x, base, text.as_str())
 }
 
 /// What goes wrong, in words, or nothing.
@@ -141,12 +157,15 @@ fn draw_silence(drawing: &mut Drawing) -> Result<(), AllocError>
 pub(crate) fn draw_heard(
     drawing: &mut Drawing,
     alloc: Global,
+    before: &Before,
     heard: Option<Heard>,
 ) -> Result<(), AllocError>
     ensures { OnOk result (drawing.new.arrows ≡ drawing.old.arrows) }
 {
     match heard {
         Some(Heard::Message) => draw_recorded(drawing, alloc),
+        // A device that answers a search isn't ignored.
+        Some(Heard::Ignored) if before.answerer().is_some() => Ok(()),
         Some(Heard::Ignored) => {
             let base = drawing.y.saturating_sub(2);
             drawing

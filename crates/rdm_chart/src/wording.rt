@@ -1,7 +1,7 @@
 //! The words of what is drawn.
 
 use rdm_trace::Line;
-use rdm_words::{Known, put_line_words, put_reply_words, put_request_words};
+use rdm_words::{Before, Known, put_line_words, put_reply_words, put_request_words};
 use std::alloc::{AllocError, Global};
 
 /// What a request says.
@@ -26,13 +26,14 @@ pub(crate) fn reply_words(
     String::from_utf8_lossy(alloc, words.as_slice())
 }
 
-/// What a line of a trace says.
+/// What a line of a trace says, by what went before it.
 pub(crate) fn line_words(
     alloc: Global,
+    before: &Before,
     line: &Line,
     known: &Known<'_>,
 ) -> Result<String, AllocError> {
     let mut words = Vec::new(alloc);
-    put_line_words(&mut words, line, known)?;
+    put_line_words(&mut words, before, line, known)?;
     String::from_utf8_lossy(alloc, words.as_slice())
 }

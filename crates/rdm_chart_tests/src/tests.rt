@@ -77,6 +77,18 @@ found 7FF0:00000001
 end
 ";
 
+/// A search that a fixture answers, which isn't ignored, with its time; and one that nobody answers in time.
+const SEARCHED: &[u8] = b"# 61.004 s
+send CC0124FFFFFFFFFFFF7FF00000000200010000001000010C000000000000FFFFFFFFFFFF0E74
+reply FEFEFEFEFEFEFEAAFF7FFAF5AA55AA55AA55AB55AF57EA7F
+heard ignored
+# a remark
+send CC01187FF0000000017FF00000000202010000001000020003DB
+reply CC011A7FF0000000027FF000000001020000000011000202000003DF
+heard ignored
+end
+";
+
 /// A label that has no room beside the words before it.
 const BROKEN: &[u8] =
     b"send CC01387FF0000000017FF00000000200010000003000822057575757575757575757575757575757575757575757575757575757575757570F99
@@ -98,6 +110,9 @@ fn rows_of_charts(rt: HostRuntime) -> Result<(), Fail> {
         (MUTED, "class=\"arrow\"", 2),
         (MUTED, ">found</text>", 1),
         (MUTED, ">7FF0:00000001</text>", 1),
+        (SEARCHED, ">61.004 s</text>", 1),
+        (SEARCHED, ">ignored</text>", 1),
+        (SEARCHED, "class=\"arrow\"", 4),
         (BROKEN, ">SET DEVICE_LABEL:</text>", 1),
         (
             BROKEN,
@@ -145,9 +160,26 @@ fn a_line_of_no_trace_is_refused(rt: HostRuntime) {
         (b"end\nsend CC0", Ok(())),
         (b"end\nsen", Ok(())),
         (b"end\nsen CC0", Err(ChartError::Line(2))),
+        (b"# 0.5 s\n#\n# a remark\n", Ok(())),
+        (b"#", Ok(())),
         (b"nonsense", Err(ChartError::Line(1))),
         (b"send CC0\n", Err(ChartError::Line(1))),
     ] {
         assert_eq!(rt; outcome(rt.alloc(), trace), expected);
     }
+}
+
+#[test]
+fn a_chart_of_too_many_is_refused(rt: HostRuntime) -> Result<(), Fail> {
+    let mut trace = Vec::new(rt.alloc());
+    for _request in 0..2001 {
+        trace.extend_from_slice(b"send 00\n")?;
+    }
+    assert_eq!(rt;
+        outcome(rt.alloc(), trace.as_slice()),
+        Err(ChartError::TooMany)
+    );
+    let most = trace.get(..16000).unwrap_or(&[]);
+    assert_eq!(rt; outcome(rt.alloc(), most), Ok(()));
+    Ok(())
 }

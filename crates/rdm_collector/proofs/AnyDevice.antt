@@ -1,5 +1,10 @@
+pub mod Cut
+pub mod CutRuns
+pub mod Effects
+pub mod GoingOn
 pub mod Hearing
 pub mod Joining
 pub mod Kept
+pub mod NoLoss
 pub mod Parts
 pub mod Runs

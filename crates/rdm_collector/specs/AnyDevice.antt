@@ -1,7 +1,9 @@
 pub mod Answers
 pub mod Collecting
+pub mod Cut
 pub mod Devices
 pub mod Items
 pub mod Joining
 pub mod Laws
+pub mod NoLoss
 pub mod Parts

@@ -11,6 +11,7 @@ pub use collector::DeviceCollector;
 pub use heard::DeviceHeard;
 pub use laws::{
     any_device_answers_go_on, any_device_is_recorded, any_device_law_rules_out,
-    collecteds_are_equal_by_value, device_heards_are_equal_by_value,
+    any_device_loses_none, collecteds_are_equal_by_value, cut_messages_are_joined,
+    device_heards_are_equal_by_value,
 };
 pub use parts::{first_message, is_sure, join_data};

@@ -25,8 +25,8 @@ mod want;
 
 pub use any_device::{
     Collected, DeviceCollector, DeviceHeard, any_device_answers_go_on, any_device_is_recorded,
-    any_device_law_rules_out, collecteds_are_equal_by_value, device_heards_are_equal_by_value,
-    first_message, is_sure, join_data,
+    any_device_law_rules_out, any_device_loses_none, collecteds_are_equal_by_value,
+    cut_messages_are_joined, device_heards_are_equal_by_value, first_message, is_sure, join_data,
 };
 pub use collector::{AskError, Collector, PollError};
 pub use command::{Action, Command, is_reserved};

@@ -15,11 +15,13 @@ use Rattle.rdm_params.specs.declared.jobs.status.Severity.TheVariants.{Advisory,
 use Rattle.rdm_outcomes.specs.declared.rule.Rule.{Rule}
 use Rattle.toml.specs.Data.{Data, string, integer, float, boolean, datetime, array, table, Members, get_member}
 use Rattle.rdm_fixture.specs.declared.fixture.Fixture.{Fixture}
-use Rattle.rdm_fixture.specs.Values.{number, signed, uid, own_uid, language, language_in, is_letter}
-use Rattle.rdm_fixture.specs.Keys.{may, must, OfTable}
+use Rattle.rdm_fixture_keys.specs.Values.{number, signed, uid, own_uid, language, language_in, is_letter}
+use Rattle.rdm_fixture_keys.specs.Keys.{may, must}
+use Rattle.rdm_fixture.specs.Lists.{OfTable}
 use Rattle.rdm_fixture.specs.Outcomes.{IsOutcome, severity, only_number, done, failed, failed_in, outcome_at}
 use Rattle.rdm_fixture.specs.Parameters.{IsParameter}
-use Rattle.rdm_fixture.specs.Format.{IsPersonality, IsSlot, IsSensor, IsSelfTest, IsStatus, IsChoice, IsUnit, SubDevices, LanguagesAt, IsProfile, SaysFixture}
+use Rattle.rdm_fixture_keys.specs.Entries.{IsPersonality, IsSlot, IsSensor, IsSelfTest, IsStatus, IsChoice}
+use Rattle.rdm_fixture.specs.Format.{IsUnit, SubDevices, LanguagesAt, IsProfile, SaysFixture}
 use Rattle.rdm_fixture.specs.Starting.{SaysPresent}
 use Rattle.rdm_fixture.specs.Working.{CanWork}
 use Rattle.rdm_fixture.specs.Describes.{Describes}

@@ -11,7 +11,7 @@ use Rattle.std.specs.BTreeMap.{insert_entry}
 use Rattle.toml.specs.Data.{Data, Members, no_members, member, get_member, members_depth, members_have_valid_dates, table}
 use Rattle.toml.specs.View.{view, members_view}
 use Rattle.toml.specs.declared.value.Value.{Value}
-use Rattle.rdm_fixture.specs.Keys.{has_only}
+use Rattle.rdm_fixture_keys.specs.Keys.{has_only}
 use Rattle.rdm_fixture.specs.Writing.{with_member, with_field, IsPlain}
 
 abbrev pub Field : Type 0

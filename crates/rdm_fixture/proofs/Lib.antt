@@ -1,6 +1,4 @@
-pub mod OnlyKeys
 pub mod ListEntries
-pub mod Readings
 pub mod OneFixture
 pub mod Locks
 pub mod NumberSlots
@@ -10,10 +8,7 @@ pub mod SaidParameters
 pub mod Made
 pub mod Described
 pub mod Equality
-pub mod RefusalEquality
-pub mod Parts
 pub mod WrongEntries
-pub mod Names
 pub mod WrongRules
 pub mod Fields
 pub mod Texts

@@ -5,7 +5,7 @@ use Rattle.toml.specs.Data.{Data, string, integer, float, boolean, datetime, arr
 use Rattle.toml.specs.View.{view, items_view, array_view, table_view}
 use Rattle.toml.proofs.Views.{view-Array, view-Table}
 use Rattle.toml.specs.declared.value.Value.{Value, Array, Table}
-use Rattle.rdm_fixture.specs.Keys.{EachIs, ListAt, items_count}
+use Rattle.rdm_fixture.specs.Lists.{EachIs, ListAt, items_count}
 use Rattle.rdm_fixture.specs.Format.{slot_count}
 
 -- one more at the end

@@ -1,17 +1,16 @@
 -- What lock states lock, one after the other.
-use Rattle.std.proofs.Common.{◌≡◌, ℕ, zero, suc, ◌+◌, ◌<◌, ◌≤◌, ◌==◌, nat_le, Bool, true, false, ◌&&◌, ◌||◌, All, IsTrue, List, [], ◌∷◌, ◌++◌, length, get_or, take, map, Option, Some, None, refl, sym, ap, ◌∙◌, subst, arith}
+use Rattle.std.proofs.Common.{◌≡◌, ℕ, zero, suc, ◌+◌, ◌<◌, ◌≤◌, ◌==◌, nat_le, Bool, true, false, ◌&&◌, All, IsTrue, List, [], ◌∷◌, ◌++◌, length, get_or, take, map, Option, Some, None, refl, sym, ap, ◌∙◌, arith}
 use Rattle.std.specs.List.{list_any}
 use Rattle.std.proofs.lemmas.Bool.{leb-true}
 use Rattle.std.proofs.lemmas.List.{take_more}
-use Rattle.arrayvec.specs.declared.array_vec.ArrayVec.{ArrayVec}
-use Rattle.toml.specs.Data.{Data, string, integer, float, boolean, datetime, array, table, Items, no_items, item, Members, get_member}
+use Rattle.toml.specs.Data.{Data, string, integer, float, boolean, datetime, array, table, Items, no_items, item}
 use Rattle.rdm_device.specs.declared.profile.locks.Lock.{Lock}
 use Rattle.rdm_device.specs.declared.profile.own.ParameterDef.{ParameterDef}
 use Rattle.rdm_device.specs.Device.Choices.{greatest}
 use Rattle.rdm_device.specs.Device.Locks.{is_state_of, has_state}
 use Rattle.rdm_fixture.specs.declared.profile.locks.Locking.{Locking}
-use Rattle.rdm_fixture.specs.Format.{locks_of, all_locks, IsLocking, AreLocks}
-use Rattle.rdm_fixture.specs.Keys.{OfTable, EachIs, ListAt}
+use Rattle.rdm_fixture.specs.Format.{locks_of, all_locks, IsLocking}
+use Rattle.rdm_fixture.specs.Lists.{OfTable, EachIs, ListAt}
 use Rattle.rdm_fixture.specs.Writing.{locking_of}
 use Rattle.rdm_fixture.proofs.ChoiceNumbers.{one_of_two}
 

@@ -13,9 +13,11 @@ use Rattle.rdm_device.specs.Device.OwnParameters.{is_addable, has_limits, can_st
 use Rattle.rdm_device.specs.Device.Standards.{follows}
 use Rattle.rdm_device.specs.Device.Profiles.{IsGoodUnit, CanOpen, CanHold, CanBeMade}
 use Rattle.toml.specs.Data.{Data, string, integer, float, boolean, datetime, array, table, Items, no_items, item, Members, get_member}
-use Rattle.rdm_fixture.specs.Values.{number}
-use Rattle.rdm_fixture.specs.Keys.{may, must, OfTable, EachIs, ListAt}
-use Rattle.rdm_fixture.specs.Format.{IsPersonality, IsSelfTest, IsUnit, SubDevices, LanguagesAt, IsProfile, slot_count, root_slots}
+use Rattle.rdm_fixture_keys.specs.Values.{number}
+use Rattle.rdm_fixture_keys.specs.Keys.{may, must}
+use Rattle.rdm_fixture.specs.Lists.{OfTable, EachIs, ListAt}
+use Rattle.rdm_fixture_keys.specs.Entries.{IsPersonality, IsSelfTest}
+use Rattle.rdm_fixture.specs.Format.{IsUnit, SubDevices, LanguagesAt, IsProfile, slot_count, root_slots}
 use Rattle.rdm_fixture.specs.Parameters.{IsParameter}
 use Rattle.rdm_fixture.proofs.ListEntries.{slot_count-of}
 use Rattle.rdm_fixture.proofs.SaidParameters.{free_pid, good_limits}

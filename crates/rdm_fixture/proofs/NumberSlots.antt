@@ -1,11 +1,11 @@
 -- Numbers in the slots of data, and back.
-use Rattle.std.proofs.Common.{◌≡◌, ℕ, suc, ◌+◌, ◌-◌, ◌%◌, ◌<◌, ◌≤◌, ℤ, pos, negsuc, neg_ℤ, int_le, Bool, true, false, ◌&&◌, List, [], ◌∷◌, length, Option, Some, None, option_and_then, inl, inr, refl, sym, ap, subst, ◌∙◌, arith, if◌then◌else◌}
+use Rattle.std.proofs.Common.{◌≡◌, ℕ, suc, ◌+◌, ◌-◌, ◌%◌, ◌<◌, ◌≤◌, ℤ, pos, negsuc, neg_ℤ, int_le, Bool, true, false, ◌&&◌, List, [], ◌∷◌, length, Option, Some, None, option_and_then, inl, inr, refl, ap, subst, ◌∙◌, arith, if◌then◌else◌}
 use Rattle.std.specs.Prelude.{slice_index}
 use Rattle.std.specs.Int.{w8, w16, w32, w64, from_be_bytes, cast_signed, cast_unsigned}
 use Rattle.std.specs.Option.{option_map_or}
-use Rattle.std.proofs.lemmas.Bool.{and_from, and_parts, leb-true, le-leb, eqb-true, eq-eqb, cases_lt}
+use Rattle.std.proofs.lemmas.Bool.{and_from, and_parts, eqb-true, cases_lt}
 use Rattle.std.proofs.lemmas.Int.{ints, to_z-of_z, to_z_pos}
-use Rattle.std.proofs.lemmas.Nat.{be_bytes_2, be_bytes_4, from_be_bytes-to_be_bytes_2, from_be_bytes-to_be_bytes_4}
+use Rattle.std.proofs.lemmas.Nat.{be_bytes_2, be_bytes_4}
 use Rattle.std.proofs.lemmas.Option.{same_Some}
 use Rattle.rdm_device.specs.declared.profile.fields.Field.{Field}
 use Rattle.rdm_device.specs.declared.profile.own.ParameterDef.{ParameterDef}
@@ -16,7 +16,8 @@ use Rattle.rdm_device.specs.Device.Fields.{says}
 use Rattle.rdm_device.specs.Device.OwnParameters.{form_of, number_in, has_number, can_start}
 use Rattle.rdm_device.specs.Device.Values.{word_slots, long_slots}
 use Rattle.toml.specs.Data.{Data, string, integer, float, boolean, datetime, array, table}
-use Rattle.rdm_fixture.specs.Parameters.{least_of, greatest_of, integer_from, number_slots}
+use Rattle.rdm_fixture_keys.specs.Values.{integer_from}
+use Rattle.rdm_fixture.specs.Parameters.{least_of, greatest_of, number_slots}
 
 -- ---- the order of numbers
 

@@ -30,12 +30,14 @@ use Rattle.rdm_fixture.specs.declared.profile.locks.Locking.{Locking}
 use Rattle.rdm_fixture.specs.declared.starting.Starting.{Starting}
 use Rattle.rdm_fixture.specs.Describes.{Describes}
 use Rattle.rdm_fixture.specs.FirstWrong.{AreNamed, AreLocked}
-use Rattle.rdm_fixture.specs.Keys.{may, must, OfTable, EachIs, ListAt, Lists}
-use Rattle.rdm_fixture.specs.Parameters.{IsField, SaysParameter, IsParameter, greatest_said, low_in, high_in, start, flag, is_setting}
+use Rattle.rdm_fixture_keys.specs.Keys.{may, must}
+use Rattle.rdm_fixture.specs.Lists.{OfTable, EachIs, ListAt, Lists}
+use Rattle.rdm_fixture_keys.specs.Values.{flag, number, language}
+use Rattle.rdm_fixture.specs.Parameters.{IsField, SaysParameter, IsParameter, greatest_said, low_in, high_in, start, is_setting}
 use Rattle.rdm_fixture.specs.Starting.{SaysPresent, IsStarting}
-use Rattle.rdm_fixture.specs.Values.{number, language}
 use Rattle.rdm_fixture.specs.Outcomes.{IsOutcome}
-use Rattle.rdm_fixture.specs.Format.{IsPersonality, IsSlot, IsSensor, IsSelfTest, IsStatus, IsChoice, IsUnit, SubDevices, IsEstimates, EstimatesAt, IsWorkers, WorkersAt, LanguagesAt, IsProfile, SaysFixture, IsFixture, parameter_named, IsLocking, AreLocks, all_locks, locked_pid}
+use Rattle.rdm_fixture_keys.specs.Entries.{IsPersonality, IsSlot, IsSensor, IsSelfTest, IsStatus, IsChoice}
+use Rattle.rdm_fixture.specs.Format.{IsUnit, SubDevices, IsEstimates, EstimatesAt, IsWorkers, WorkersAt, LanguagesAt, IsProfile, SaysFixture, IsFixture, parameter_named, IsLocking, AreLocks, all_locks, locked_pid}
 
 -- what is said is one thing
 abbrev pub SaysOne : {S A : Type 0} → (S → A → Type 0) → Type 0

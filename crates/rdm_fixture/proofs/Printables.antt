@@ -4,8 +4,8 @@ use Rattle.std.proofs.lemmas.Bool.{and_parts}
 use Rattle.std.proofs.lemmas.Option.{same_Some}
 use Rattle.toml.specs.Data.{Data, string, integer, float, boolean, datetime, array, table, Members, get_member}
 use Rattle.rdm_fixture.specs.Describable.{are_printable}
-use Rattle.rdm_fixture.specs.Keys.{may}
-use Rattle.rdm_fixture.specs.Values.{text, is_text}
+use Rattle.rdm_fixture_keys.specs.Keys.{may}
+use Rattle.rdm_fixture_keys.specs.Values.{text, is_text}
 
 pub when : {A : Type 0} (b : Bool) (k n : A) → (if b then Some k else None) ≡ Some n → (b ≡ true) × (k ≡ n)
 when true k n h = (refl, same_Some _ _ h)

@@ -2,8 +2,8 @@
 use Rattle.std.proofs.Common.{◌≡◌, Bool, ℕ, ℤ, ◌≤◌, pos, List, [], ◌∷◌, Option, Some, None, refl, ap, ◌∙◌, arith}
 use Rattle.std.proofs.lemmas.Bool.{le-leb}
 use Rattle.toml.specs.Data.{Data, integer, boolean}
-use Rattle.rdm_fixture.specs.Keys.{must, may, Must, May}
-use Rattle.rdm_fixture.specs.Values.{number, text}
+use Rattle.rdm_fixture_keys.specs.Keys.{must, may, Must, May}
+use Rattle.rdm_fixture_keys.specs.Values.{number, text}
 use Rattle.rdm_fixture.specs.Writing.{text_field, IsPlain}
 use Rattle.rdm_fixture.proofs.Fields.{Field, members_from, find_field, or_else, get_from, ArePlain}
 

@@ -11,9 +11,10 @@ use Rattle.rdm_device.specs.declared.profile.own.Shape.TheVariants as shapes
 use Rattle.rdm_device.specs.Device.OwnParameters.{is_addable, has_number, has_limits}
 use Rattle.toml.specs.Data.{Data, Members, get_member}
 use Rattle.rdm_fixture.specs.Describable.{are_printable, can_stand, limits_stand, is_sayable}
-use Rattle.rdm_fixture.specs.Keys.{may, must, Must, May, has_only, OfTable, Lists}
-use Rattle.rdm_fixture.specs.Parameters.{IsField, SaysParameter, IsParameter, parameter_keys, own_pid, command_class, least_of, greatest_of, limit, integer_from, low_in, high_in, shape_in, slots_of, spelled, start, start as starting, flag, is_setting, can_reset}
-use Rattle.rdm_fixture.specs.Values.{number, text}
+use Rattle.rdm_fixture_keys.specs.Keys.{may, must, Must, May, has_only}
+use Rattle.rdm_fixture.specs.Lists.{OfTable, Lists}
+use Rattle.rdm_fixture_keys.specs.Values.{integer_from, flag, number, text}
+use Rattle.rdm_fixture.specs.Parameters.{IsField, SaysParameter, IsParameter, parameter_keys, own_pid, command_class, least_of, greatest_of, limit, low_in, high_in, shape_in, slots_of, spelled, start, start as starting, is_setting, can_reset}
 use Rattle.rdm_fixture.proofs.NumberSlots.{le_through, le_same, least_greatest, in_shape, within_from}
 use Rattle.rdm_fixture.proofs.Starts.{IsSized, sized, spelled_slots, stands}
 use Rattle.rdm_fixture.proofs.Printables.{printable_at}

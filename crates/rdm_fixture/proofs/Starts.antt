@@ -27,9 +27,9 @@ use Rattle.rdm_device.specs.Device.Fields.{says}
 use Rattle.rdm_device.specs.Device.OwnParameters.{form_of, number_in, can_start}
 use Rattle.toml.specs.Data.{Data, string, integer, float, boolean, datetime, array, table}
 use Rattle.rdm_fixture.specs.Describable.{are_printable, can_stand}
-use Rattle.rdm_fixture.specs.Keys.{must}
-use Rattle.rdm_fixture.specs.Parameters.{command_class, shape_named, data_type, slots_of, least_of, greatest_of, integer_from, number_slots, spelled, start}
-use Rattle.rdm_fixture.specs.Values.{text, is_text}
+use Rattle.rdm_fixture_keys.specs.Keys.{must}
+use Rattle.rdm_fixture_keys.specs.Values.{integer_from, text, is_text}
+use Rattle.rdm_fixture.specs.Parameters.{command_class, shape_named, data_type, slots_of, number_slots, spelled, start}
 use Rattle.rdm_fixture.specs.Writing.{rights_name, shape_name, written_slots}
 use Rattle.rdm_fixture.proofs.NumberSlots.{integer_again, can_be, can_be_of, IsBytes, number_said, said_within, slots_again, tested, never_some, parts_of}
 use Rattle.rdm_fixture.proofs.Texts.{ascii}

@@ -5,8 +5,8 @@ use Rattle.std.proofs.lemmas.Bool.{and_parts, leb-true, le-leb}
 use Rattle.std.proofs.lemmas.Str.{IsUtf8-from_ascii, utf8_lossy-IsUtf8}
 use Rattle.toml.specs.Data.{string}
 use Rattle.rdm_fixture.specs.Describable.{are_printable}
-use Rattle.rdm_fixture.specs.Keys.{may}
-use Rattle.rdm_fixture.specs.Values.{text, is_printable}
+use Rattle.rdm_fixture_keys.specs.Keys.{may}
+use Rattle.rdm_fixture_keys.specs.Values.{text, is_printable}
 use Rattle.rdm_fixture.specs.Writing.{text_field}
 
 pub ascii : (s : List ℕ) → IsTrue (are_printable s) → IsAscii s

@@ -13,11 +13,12 @@ use Rattle.rdm_device.specs.declared.profile.workers.Worker.TheVariants.{First, 
 use Rattle.rdm_device.specs.declared.profile.workers.Workers.{Workers}
 use Rattle.rdm_device.specs.Device.Workers.{worker_number}
 use Rattle.toml.specs.Data.{Data, integer, boolean, table, get_member}
-use Rattle.rdm_fixture.specs.Format.{IsPersonality, IsSlot, IsSensor, IsSelfTest, IsStatus, IsChoice, IsLocking, locked_pid, IsEstimates, IsWorkers, estimates_keys, workers_keys, personality_keys, slot_keys, sensor_keys, self_test_keys, status_keys, choice_keys, locking_keys}
-use Rattle.rdm_fixture.specs.Keys.{may, ListAt}
-use Rattle.rdm_fixture.specs.Parameters.{flag}
+use Rattle.rdm_fixture_keys.specs.Entries.{IsPersonality, IsSlot, IsSensor, IsSelfTest, IsStatus, IsChoice, personality_keys, slot_keys, sensor_keys, self_test_keys, status_keys, choice_keys}
+use Rattle.rdm_fixture.specs.Format.{IsLocking, locked_pid, IsEstimates, IsWorkers, estimates_keys, workers_keys, locking_keys}
+use Rattle.rdm_fixture_keys.specs.Keys.{may}
+use Rattle.rdm_fixture.specs.Lists.{ListAt}
+use Rattle.rdm_fixture_keys.specs.Values.{flag, number, worker, signed, text}
 use Rattle.rdm_fixture.specs.Starting.{measured, SaysPresent}
-use Rattle.rdm_fixture.specs.Values.{number, worker, signed, text}
 use Rattle.rdm_fixture.specs.Writing.{text_field, locking_of, IsPlain}
 use Rattle.rdm_fixture.proofs.Fields.{Field, members_from, get_from, only_from, plain_from}
 use Rattle.rdm_fixture.proofs.Said.{number_says, must_say, may_say, may_text, or_none, number_plain, flag_plain, text_plain, option_plain}

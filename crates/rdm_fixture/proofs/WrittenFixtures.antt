@@ -11,12 +11,14 @@ use Rattle.toml.specs.View.{view, items_view}
 use Rattle.toml.specs.declared.value.Value.{Value}
 use Rattle.rdm_fixture.specs.declared.fixture.Fixture.{Fixture}
 use Rattle.rdm_fixture.specs.Describable.{CanBeDescribed}
-use Rattle.rdm_fixture.specs.Format.{IsFixture, IsUnit, IsSlot, IsSensor, IsSelfTest, IsStatus, IsChoice, IsLocking, SubDevices, EstimatesAt, WorkersAt, LanguagesAt, slot_count, root_slots, parameter_named, unit_keys, root_keys, fixture_keys}
-use Rattle.rdm_fixture.specs.Keys.{may, must, has_only, EachIs, ListAt, OfTable}
+use Rattle.rdm_fixture_keys.specs.Entries.{IsSlot, IsSensor, IsSelfTest, IsStatus, IsChoice}
+use Rattle.rdm_fixture.specs.Format.{IsFixture, IsUnit, IsLocking, SubDevices, EstimatesAt, WorkersAt, LanguagesAt, slot_count, root_slots, parameter_named, root_keys, fixture_keys}
+use Rattle.rdm_fixture_keys.specs.Keys.{may, must, has_only}
+use Rattle.rdm_fixture.specs.Lists.{EachIs, ListAt, OfTable}
 use Rattle.rdm_fixture.specs.Outcomes.{IsOutcome}
 use Rattle.rdm_fixture.specs.Parameters.{IsParameter}
 use Rattle.rdm_fixture.specs.Starting.{IsCounted, SaysPresent}
-use Rattle.rdm_fixture.specs.Values.{number, text, uid, own_uid, language}
+use Rattle.rdm_fixture_keys.specs.Values.{number, text, uid, own_uid, language}
 use Rattle.rdm_fixture.specs.Writing.{with_field, text_field, locking_of, IsPlain}
 use Rattle.rdm_fixture.proofs.Fields.{Field, members_on, find_on, or_else, get_on, only_on, absent, plain_on}
 use Rattle.rdm_fixture.proofs.ListEntries.{EachIs-last, slot_count-of}

@@ -6,7 +6,7 @@ use Rattle.toml.specs.Data.{Data, array, table, Members, depth, items_depth, has
 use Rattle.toml.specs.View.{view, items_view, table_view}
 use Rattle.toml.proofs.Views.{view-Table}
 use Rattle.toml.specs.declared.value.Value.{Value, Table}
-use Rattle.rdm_fixture.specs.Keys.{EachIs, OfTable}
+use Rattle.rdm_fixture.specs.Lists.{EachIs, OfTable}
 use Rattle.rdm_fixture.specs.Writing.{IsPlain}
 use Rattle.rdm_fixture.proofs.Fields.{and_two, first_true, second_true}
 use Rattle.rdm_fixture.proofs.ListEntries.{EachIs-last}

@@ -19,9 +19,10 @@ use Rattle.toml.specs.View.{view, items_view}
 use Rattle.toml.specs.declared.value.Value.{Value}
 use Rattle.rdm_fixture.specs.Describable.{are_printable, can_stand, limits_stand, is_sayable}
 use Rattle.rdm_fixture.specs.Format.{parameter_named}
-use Rattle.rdm_fixture.specs.Keys.{must, EachIs, ListAt, OfTable}
-use Rattle.rdm_fixture.specs.Parameters.{IsField, field_keys, width, greatest_said, SaysParameter, IsParameter, parameter_keys, own_pid, command_class, data_type, slots_of, shape_in, least_of, greatest_of, limit, integer_from, start, flag, is_setting, can_reset}
-use Rattle.rdm_fixture.specs.Values.{number}
+use Rattle.rdm_fixture_keys.specs.Keys.{must}
+use Rattle.rdm_fixture.specs.Lists.{EachIs, ListAt, OfTable}
+use Rattle.rdm_fixture_keys.specs.Values.{integer_from, flag, number}
+use Rattle.rdm_fixture.specs.Parameters.{IsField, field_keys, width, greatest_said, SaysParameter, IsParameter, parameter_keys, own_pid, command_class, data_type, slots_of, shape_in, least_of, greatest_of, limit, start, is_setting, can_reset}
 use Rattle.rdm_fixture.specs.Writing.{text_field, rights_name, shape_name, IsPlain}
 use Rattle.rdm_fixture.proofs.Fields.{Field, members_from, get_from, only_from, plain_from}
 use Rattle.rdm_fixture.proofs.ListEntries.{EachIs-last}

@@ -13,9 +13,9 @@ use Rattle.rdm_outcomes.specs.declared.rule.Task.TheVariants.{LampState, PowerSt
 use Rattle.rdm_outcomes.specs.Outcomes.{suits, kind_of}
 use Rattle.toml.specs.Data.{Data, integer, string, boolean, table}
 use Rattle.rdm_fixture.specs.Describable.{is_base_form, is_counted, is_told, is_ruled}
-use Rattle.rdm_fixture.specs.Keys.{may, must, has_only}
+use Rattle.rdm_fixture_keys.specs.Keys.{may, must, has_only}
 use Rattle.rdm_fixture.specs.Outcomes.{IsOutcome, task, severity, only_number, outcome_in, outcome_at, failed, rule_keys}
-use Rattle.rdm_fixture.specs.Values.{number}
+use Rattle.rdm_fixture_keys.specs.Values.{number}
 use Rattle.rdm_fixture.specs.Writing.{with_fields, outcome_fields, HasWords, IsPlain}
 use Rattle.rdm_fixture.proofs.Fields.{Field, members_from, find_field, or_else, get_from, only_from, ArePlain, plain_from}
 use Rattle.rdm_fixture.proofs.Said.{must_say, or_none, number_plain, option_plain}

@@ -6,11 +6,13 @@ use Rattle.rdm_device.specs.declared.profile.Unit.{Unit as DeviceUnit}
 use Rattle.rdm_device.specs.Device.Profiles.{IsGoodUnit}
 use Rattle.toml.specs.Data.{Data, integer, table, Members, no_members, member, get_member}
 use Rattle.rdm_fixture.specs.Describable.{are_printable, HasPrintableUnit}
-use Rattle.rdm_fixture.specs.Format.{IsUnit, IsSub, IsPersonality, unit_keys, root_keys}
-use Rattle.rdm_fixture.specs.Keys.{may, must, has_only, ListAt, OfTable}
+use Rattle.rdm_fixture_keys.specs.Entries.{IsPersonality}
+use Rattle.rdm_fixture.specs.Format.{IsUnit, IsSub, unit_keys, root_keys}
+use Rattle.rdm_fixture_keys.specs.Keys.{may, must, has_only}
+use Rattle.rdm_fixture.specs.Lists.{ListAt, OfTable}
 use Rattle.rdm_fixture.specs.declared.starting.Starting.{Starting}
 use Rattle.rdm_fixture.specs.Starting.{IsCounted, counter_keys}
-use Rattle.rdm_fixture.specs.Values.{number, text}
+use Rattle.rdm_fixture_keys.specs.Values.{number, text}
 use Rattle.rdm_fixture.specs.Writing.{text_field, IsPlain}
 use Rattle.rdm_fixture.proofs.Fields.{Field, members_on, members_from, find_on, get_on, get_from, only_on, only_from, plain_on, plain_from, and_two, first_true, second_true}
 use Rattle.rdm_fixture.proofs.Said.{number_says, must_say, may_say, may_text, or_none, number_plain, text_plain, option_plain}

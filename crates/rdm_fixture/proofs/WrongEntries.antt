@@ -1,28 +1,19 @@
--- The first entry of a list that says nothing, and the first key that is another.
-use Rattle.std.proofs.Common.{◌≡◌, ℕ, zero, suc, ◌+◌, ◌<◌, ◌≤◌, Bool, true, false, List, [], ◌∷◌, ◌++◌, length, get_or, take, IsTrue, string_bytes, inl, inr, Some, Result, Ok, Err, IfErr, codes, refl, ap, ◌∙◌, arith}
+-- The first entry of a list that says nothing.
+use Rattle.std.proofs.Common.{◌≡◌, ℕ, zero, suc, ◌+◌, ◌<◌, ◌≤◌, Bool, true, false, List, [], ◌∷◌, length, get_or, take, inl, inr, Some, Result, Ok, Err, IfErr, codes, refl, ap, ◌∙◌, arith}
 use Rattle.std.proofs.lemmas.Bool.{and_parts, leb-true}
-use Rattle.std.specs.List.{list_any}
-use Rattle.std.specs.Str.{bytes_eq}
 use Rattle.toml.specs.Data.{array, Items, Members}
-use Rattle.toml.specs.View.{view, items_view, members_view}
+use Rattle.toml.specs.View.{view, items_view}
 use Rattle.toml.specs.declared.value.Value.{Value}
-use Rattle.toml.proofs.Views.{Entry}
 use Rattle.arrayvec.specs.declared.array_vec.ArrayVec.{ArrayVec}
-use Rattle.rdm_fixture.specs.declared.refusal.Refusal.{Refusal}
-use Rattle.rdm_fixture.specs.declared.refusal.Agreement.TheVariants as agreements
-use Rattle.rdm_fixture.specs.declared.refusal.Wanted.TheVariants as wanted
-use Rattle.rdm_fixture.specs.Faults.{Fault, fault, in_entry, told}
+use Rattle.rdm_fixture_keys.specs.declared.refusal.Refusal.{Refusal}
+use Rattle.rdm_fixture_keys.specs.declared.refusal.Agreement.TheVariants as agreements
+use Rattle.rdm_fixture_keys.specs.declared.refusal.Wanted.TheVariants as wanted
+use Rattle.rdm_fixture_keys.specs.Faults.{Fault, fault, in_entry, told}
 use Rattle.rdm_fixture.specs.FirstWrong.{WrongLanguages, WrongLocked, WrongNames}
 use Rattle.rdm_fixture.specs.Format.{parameter_named, locked_pid}
-use Rattle.rdm_fixture.specs.Keys.{has_only, OfTable, EachIs, items_count, Reads}
-use Rattle.rdm_fixture.specs.Values.{within, language}
-use Rattle.rdm_fixture.specs.Wrong.{FirstOther, InEntry, FirstEntry}
-
-pub other_at : (keys : List (List ℕ)) (done : List Entry) (e : Entry) (left : List Entry) → IsTrue (has_only keys (members_view done))
-    → list_any (bytes_eq (string_bytes e.0)) keys ≡ false → FirstOther keys (members_view (done ++ e ∷ left)) (string_bytes e.0)
-other_at keys [] e left h missed = inl (missed, refl)
-other_at keys (d ∷ done) e left h missed =
-    let (here, rest) = and_parts _ _ h in inr (here, other_at keys done e left rest missed)
+use Rattle.rdm_fixture_keys.specs.Keys.{Reads}
+use Rattle.rdm_fixture.specs.Lists.{OfTable, EachIs, items_count, InEntry, FirstEntry}
+use Rattle.rdm_fixture_keys.specs.Values.{within, language}
 
 pub first_at : {A : Type 0} (list : List ℕ) (P : Members → A → Type 0) (W : Members → Fault → Type 0) (vs : List Value) (xs : List A) (i : ℕ) (d : Value) (n : ℕ) (g f : Fault)
     → EachIs (OfTable P) (items_view (take i vs)) xs → i < length vs → InEntry list W (view (get_or vs i d)) g → f ≡ in_entry list (n + i) g

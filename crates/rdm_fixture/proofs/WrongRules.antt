@@ -6,13 +6,13 @@ use Rattle.rdm_params.specs.declared.jobs.status.Severity.{Severity}
 use Rattle.rdm_outcomes.specs.declared.rule.Rule.{Rule}
 use Rattle.rdm_outcomes.specs.declared.rule.Task.{Task}
 use Rattle.rdm_outcomes.specs.Outcomes.{suits}
-use Rattle.rdm_fixture.specs.declared.refusal.Wanted.TheVariants as wanted
-use Rattle.rdm_fixture.specs.Faults.{Fault, fault}
+use Rattle.rdm_fixture_keys.specs.declared.refusal.Wanted.TheVariants as wanted
+use Rattle.rdm_fixture_keys.specs.Faults.{Fault, fault}
 use Rattle.rdm_fixture.specs.FirstWrong.{job_parts, failure_parts, WrongOutcome}
-use Rattle.rdm_fixture.specs.Keys.{must, may, has_only}
+use Rattle.rdm_fixture_keys.specs.Keys.{must, may, has_only}
 use Rattle.rdm_fixture.specs.Outcomes.{IsOutcome, task, only_number, outcome_in, outcome_at, failed, rule_keys}
-use Rattle.rdm_fixture.specs.Values.{number}
-use Rattle.rdm_fixture.specs.Wrong.{FirstWrong, AllRight, SaysSome}
+use Rattle.rdm_fixture_keys.specs.Values.{number}
+use Rattle.rdm_fixture_keys.specs.Wrong.{FirstWrong, AllRight, SaysSome}
 use Rattle.rdm_fixture.proofs.OneFixture.{rule_of}
 
 -- ---- what is there

@@ -3,9 +3,9 @@ use Rattle.std.specs.Prelude.{◌≡◌, Option, Some, None}
 use Rattle.toml.specs.Data.{Members}
 use Rattle.rdm_fixture.specs.declared.document.FixtureError.{FixtureError}
 use Rattle.rdm_fixture.specs.declared.document.FixtureError.TheVariants.{OutOfMemory, Syntax, Refused}
-use Rattle.rdm_fixture.specs.Faults.{told}
+use Rattle.rdm_fixture_keys.specs.Faults.{told}
 use Rattle.rdm_fixture.specs.FirstWrong.{fixture_parts}
-use Rattle.rdm_fixture.specs.Wrong.{FirstWrong}
+use Rattle.rdm_fixture_keys.specs.Wrong.{FirstWrong}
 
 -- Without memory nothing is said of the text. Else it isn't a document, or the first part of it that isn't right is wrong as the
 -- refusal tells.

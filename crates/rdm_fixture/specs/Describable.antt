@@ -16,7 +16,7 @@ use Rattle.rdm_outcomes.specs.declared.rule.Rule.{Rule}
 use Rattle.rdm_outcomes.specs.Outcomes.{suits}
 use Rattle.rdm_fixture.specs.declared.fixture.Fixture.{Fixture}
 use Rattle.rdm_fixture.specs.Parameters.{least_of, greatest_of, can_reset}
-use Rattle.rdm_fixture.specs.Values.{is_printable, is_letter}
+use Rattle.rdm_fixture_keys.specs.Values.{is_printable, is_letter}
 use Rattle.rdm_fixture.specs.Working.{CanWork}
 
 -- ---- texts

@@ -20,48 +20,23 @@ use Rattle.rdm_outcomes.specs.declared.rule.Task.{Task}
 use Rattle.rdm_outcomes.specs.Outcomes as rules
 use Rattle.rdm_fixture.specs.declared.fixture.Fixture.{Fixture}
 use Rattle.rdm_fixture.specs.declared.profile.locks.Locking.{Locking}
-use Rattle.rdm_fixture.specs.declared.refusal.Agreement.TheVariants as agreements
-use Rattle.rdm_fixture.specs.declared.refusal.Wanted.{Wanted}
-use Rattle.rdm_fixture.specs.declared.refusal.Wanted.TheVariants as wanted
-use Rattle.rdm_fixture.specs.declared.refusal.Section.TheVariants as sections
-use Rattle.rdm_fixture.specs.Faults.{Fault, fault, in_entry, in_section}
-use Rattle.rdm_fixture.specs.Format.{IsPersonality, IsSlot, IsSensor, IsSelfTest, IsStatus, IsChoice, IsLocking, AreLocks, all_locks, IsUnit, SubDevices, EstimatesAt, WorkersAt, LanguagesAt, IsProfile, SaysFixture, personality_keys, slot_keys, sensor_keys, self_test_keys, status_keys, choice_keys, locking_keys, locked_pid, estimates_keys, workers_keys, unit_keys, fixture_keys, root_slots, parameter_named}
-use Rattle.rdm_fixture.specs.Keys.{must, has_only, OfTable, EachIs, Lists, items_count}
+use Rattle.rdm_fixture_keys.specs.declared.refusal.Agreement.TheVariants as agreements
+use Rattle.rdm_fixture_keys.specs.declared.refusal.Wanted.{Wanted}
+use Rattle.rdm_fixture_keys.specs.declared.refusal.Wanted.TheVariants as wanted
+use Rattle.rdm_fixture_keys.specs.declared.refusal.Section.TheVariants as sections
+use Rattle.rdm_fixture_keys.specs.Faults.{Fault, fault, in_entry, in_section}
+use Rattle.rdm_fixture_keys.specs.Entries.{IsPersonality, IsSlot, IsSensor, IsSelfTest, IsStatus, IsChoice, personality_parts, slot_parts, sensor_parts, self_test_parts, status_parts, choice_parts}
+use Rattle.rdm_fixture.specs.Format.{IsLocking, AreLocks, all_locks, IsUnit, SubDevices, EstimatesAt, WorkersAt, LanguagesAt, IsProfile, SaysFixture, locking_keys, locked_pid, estimates_keys, workers_keys, unit_keys, fixture_keys, root_slots, parameter_named}
+use Rattle.rdm_fixture_keys.specs.Keys.{must, has_only}
+use Rattle.rdm_fixture.specs.Lists.{OfTable, EachIs, Lists, items_count, entries}
 use Rattle.rdm_fixture.specs.Outcomes.{IsOutcome, task, severity, outcome_in, and_job_keys, rule_keys}
-use Rattle.rdm_fixture.specs.Parameters.{IsField, SaysParameter, IsParameter, parameter_keys, own_pid, command_class, data_type, slots_of, shape_in, least_of, greatest_of, limit, integer_from, low_in, high_in, start, flag, can_reset}
+use Rattle.rdm_fixture_keys.specs.Values.{integer_from, flag, within, number, worker, language, uid}
+use Rattle.rdm_fixture.specs.Parameters.{IsField, SaysParameter, IsParameter, parameter_keys, own_pid, command_class, data_type, slots_of, shape_in, least_of, greatest_of, limit, low_in, high_in, start, can_reset}
 use Rattle.rdm_fixture.specs.Starting.{measured, SaysPresent, IsStarting}
-use Rattle.rdm_fixture.specs.Values.{within, number, worker, language, uid}
 use Rattle.rdm_fixture.specs.Working.{CanWork, IsIdle}
-use Rattle.rdm_fixture.specs.Wrong.{Part, FirstWrong, says_one, given, FirstOther, only, needed_as, needed, free, needed_number, free_number, free_signed, free_text, entries}
+use Rattle.rdm_fixture_keys.specs.Wrong.{Part, FirstWrong, says_one, given, FirstOther, only, needed_as, needed, free, needed_number, free_number, free_text}
 
--- ---- the entries of lists
-
-abbrev pub personality_parts : ℕ → List Part
-personality_parts slots = only personality_keys ∷ needed_number (codes "dmx_footprint") 0 slots ∷ free_text (codes "description") ∷ []
-
-abbrev pub slot_parts : List Part
-slot_parts =
-    only slot_keys ∷ needed_number (codes "label_id") 0 0xFFFF ∷ free_number (codes "type") 0 0xFF
-    ∷ free_number (codes "default_value") 0 0xFF ∷ free_text (codes "description") ∷ []
-
-abbrev pub sensor_parts : List Part
-sensor_parts =
-    only sensor_keys ∷ needed_number (codes "type") 0 0xFF ∷ free_number (codes "unit") 0 0xFF ∷ free_number (codes "prefix") 0 0xFF
-    ∷ free_signed (codes "range_minimum_value") ∷ free_signed (codes "range_maximum_value")
-    ∷ free_signed (codes "normal_minimum_value") ∷ free_signed (codes "normal_maximum_value")
-    ∷ free_number (codes "recorded_value_support") 0 0xFF ∷ free_text (codes "description")
-    ∷ free (codes "answered_at_once") flag wanted.Boolean ∷ []
-
-abbrev pub self_test_parts : List Part
-self_test_parts = only self_test_keys ∷ needed_number (codes "number") 1 254 ∷ free_text (codes "description") ∷ []
-
-abbrev pub status_parts : List Part
-status_parts = only status_keys ∷ needed_number (codes "id") 0 0xFFFF ∷ free_text (codes "description") ∷ []
-
-abbrev pub choice_parts : List Part
-choice_parts =
-    only choice_keys ∷ needed_number (codes "pid") 0 0xFFFF ∷ needed_number (codes "number") 1 0xFF
-    ∷ free_number (codes "hertz") 0 0xFFFFFFFF ∷ free_text (codes "description") ∷ []
+-- ---- what lock states keep from being set
 
 -- these are the PIDs of the parameters that are locked
 abbrev pub AreLocked : Members → List ℕ → Type 0

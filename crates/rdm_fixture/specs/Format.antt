@@ -1,15 +1,9 @@
 -- Which table is a fixture: each key, what it says, and its default. A key is named as the parameter or the field of
 -- E1.20 that it sets, in small letters.
-use Rattle.std.specs.Prelude.{◌≡◌, ◌≢◌, false, ℕ, ◌+◌, ◌<◌, ◌≤◌, min, pos, neg_ℤ, IsTrue, List, [], ◌∷◌, ◌++◌, length, Option, Some, None, option_map, unwrap_or, AllPairs, codes}
+use Rattle.std.specs.Prelude.{◌≡◌, ◌≢◌, ℕ, ◌+◌, ◌<◌, ◌≤◌, min, IsTrue, List, [], ◌∷◌, ◌++◌, length, Option, Some, None, option_map, unwrap_or, AllPairs, codes}
 use Rattle.toml.specs.Data.{Data, string, table, array, Members, get_member}
-use Rattle.rdm_device.specs.declared.profile.choices.ChoiceName.{ChoiceName}
 use Rattle.rdm_device.specs.declared.profile.locks.Lock.{Lock}
-use Rattle.rdm_device.specs.declared.profile.Personality.{Personality}
 use Rattle.rdm_device.specs.declared.profile.Profile.{Profile}
-use Rattle.rdm_device.specs.declared.profile.SelfTest.{SelfTest}
-use Rattle.rdm_device.specs.declared.profile.SensorDef.{SensorDef}
-use Rattle.rdm_device.specs.declared.profile.Slot.{Slot}
-use Rattle.rdm_device.specs.declared.profile.StatusText.{StatusText}
 use Rattle.rdm_device.specs.declared.profile.Unit.{Unit as DeviceUnit}
 use Rattle.rdm_device.specs.declared.profile.estimates.Estimates.{Estimates}
 use Rattle.rdm_device.specs.declared.profile.workers.Worker.TheVariants.{First, Second}
@@ -22,82 +16,13 @@ use Rattle.rdm_params.specs.Table.Names.{pid_named}
 use Rattle.rdm_fixture.specs.declared.fixture.Fixture.{Fixture}
 use Rattle.rdm_fixture.specs.declared.profile.locks.Locking.{Locking}
 use Rattle.rdm_fixture.specs.Outcomes.{IsOutcome}
-use Rattle.rdm_fixture.specs.Parameters.{IsParameter, flag}
+use Rattle.rdm_fixture_keys.specs.Entries.{IsPersonality, IsSlot, IsSensor, IsSelfTest, IsStatus, IsChoice}
+use Rattle.rdm_fixture_keys.specs.Values.{number, worker, text, language, uid}
+use Rattle.rdm_fixture.specs.Parameters.{IsParameter}
 use Rattle.rdm_fixture.specs.Starting.{IsStarting, counter_keys}
 use Rattle.rdm_fixture.specs.Working.{CanWork}
-use Rattle.rdm_fixture.specs.Values.{number, worker, signed, text, language, uid}
-use Rattle.rdm_fixture.specs.Keys.{may, Must, May, has_only, OfTable, EachIs, Lists, items_count}
-
--- ---- the entries of lists
-
-abbrev pub personality_keys : List (List ℕ)
-personality_keys = codes "dmx_footprint" ∷ codes "description" ∷ []
-
--- A personality uses no more slots than there are. Section 10.6.2.
-pub record IsPersonality (slots : ℕ) (t : Members) (m : Personality) : Type 0 where
-  pub keys : IsTrue (has_only personality_keys t)
-  pub footprint : Must t (codes "dmx_footprint") (number 0 slots) m.footprint
-  pub name : May t (codes "description") [] text m.name
-
-abbrev pub slot_keys : List (List ℕ)
-slot_keys = codes "type" ∷ codes "label_id" ∷ codes "default_value" ∷ codes "description" ∷ []
-
--- Sections 10.6.4 to 10.6.6.
-pub record IsSlot (t : Members) (s : Slot) : Type 0 where
-  pub keys : IsTrue (has_only slot_keys t)
-  pub kind : May t (codes "type") 0 (number 0 0xFF) s.kind
-  pub label : Must t (codes "label_id") (number 0 0xFFFF) s.label
-  pub value : May t (codes "default_value") 0 (number 0 0xFF) s.value
-  pub name : May t (codes "description") [] text s.name
-
-abbrev pub sensor_keys : List (List ℕ)
-sensor_keys =
-    codes "type" ∷ codes "unit" ∷ codes "prefix" ∷ codes "range_minimum_value" ∷ codes "range_maximum_value"
-    ∷ codes "normal_minimum_value" ∷ codes "normal_maximum_value" ∷ codes "recorded_value_support"
-    ∷ codes "description" ∷ codes "answered_at_once" ∷ codes "present" ∷ []
-
--- What it measures is no part of what it is. Sections 10.7.1 and 10.7.2.
-pub record IsSensor (t : Members) (s : SensorDef) : Type 0 where
-  pub keys : IsTrue (has_only sensor_keys t)
-  pub kind : Must t (codes "type") (number 0 0xFF) s.kind
-  pub unit : May t (codes "unit") 0 (number 0 0xFF) s.unit
-  pub prefix : May t (codes "prefix") 0 (number 0 0xFF) s.prefix
-  pub low : May t (codes "range_minimum_value") (neg_ℤ (pos 32768)) signed s.low
-  pub high : May t (codes "range_maximum_value") (pos 32767) signed s.high
-  pub normal_low : May t (codes "normal_minimum_value") (neg_ℤ (pos 32768)) signed s.normal_low
-  pub normal_high : May t (codes "normal_maximum_value") (pos 32767) signed s.normal_high
-  pub support : May t (codes "recorded_value_support") 0 (number 0 0xFF) s.support
-  pub name : May t (codes "description") [] text s.name
-  pub at_once : May t (codes "answered_at_once") false flag s.at_once
-
-abbrev pub self_test_keys : List (List ℕ)
-self_test_keys = codes "number" ∷ codes "description" ∷ []
-
--- Section 10.11. The numbers 0 and 255 stand for no test and for all.
-pub record IsSelfTest (t : Members) (s : SelfTest) : Type 0 where
-  pub keys : IsTrue (has_only self_test_keys t)
-  pub number : Must t (codes "number") (number 1 254) s.number
-  pub name : May t (codes "description") [] text s.name
-
-abbrev pub status_keys : List (List ℕ)
-status_keys = codes "id" ∷ codes "description" ∷ []
-
--- Section 10.3.3.
-pub record IsStatus (t : Members) (s : StatusText) : Type 0 where
-  pub keys : IsTrue (has_only status_keys t)
-  pub id : Must t (codes "id") (number 0 0xFFFF) s.id
-  pub text : May t (codes "description") [] text s.text
-
-abbrev pub choice_keys : List (List ℕ)
-choice_keys = codes "pid" ∷ codes "number" ∷ codes "hertz" ∷ codes "description" ∷ []
-
--- What a thing is called of which one is chosen, by the parameter that tells it. E1.37-1, CURVE_DESCRIPTION and the like.
-pub record IsChoice (t : Members) (c : ChoiceName) : Type 0 where
-  pub keys : IsTrue (has_only choice_keys t)
-  pub pid : Must t (codes "pid") (number 0 0xFFFF) c.pid
-  pub hertz : May t (codes "hertz") 0 (number 0 0xFFFFFFFF) c.hertz
-  pub number : Must t (codes "number") (number 1 0xFF) c.number
-  pub name : May t (codes "description") [] text c.name
+use Rattle.rdm_fixture_keys.specs.Keys.{may, Must, May, has_only}
+use Rattle.rdm_fixture.specs.Lists.{OfTable, EachIs, Lists, items_count}
 
 -- ---- what lock states keep from being set
 

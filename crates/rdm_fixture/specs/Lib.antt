@@ -1,5 +1,4 @@
-pub mod Values
-pub mod Keys
+pub mod Lists
 pub mod Outcomes
 pub mod Parameters
 pub mod Starting
@@ -9,8 +8,5 @@ pub mod Drafts
 pub mod Describes
 pub mod Describable
 pub mod Cause
-pub mod Refusals
-pub mod Faults
-pub mod Wrong
 pub mod FirstWrong
 pub mod Writing

@@ -10,8 +10,8 @@ use Rattle.rdm_outcomes.specs.declared.rule.Rule.{Rule}
 use Rattle.rdm_outcomes.specs.declared.rule.Task.{Task}
 use Rattle.rdm_outcomes.specs.declared.rule.Task.TheVariants.{LampState, PowerState, PerformSelfTest, SensorValue}
 use Rattle.rdm_outcomes.specs.Outcomes.{suits}
-use Rattle.rdm_fixture.specs.Values.{number, signed}
-use Rattle.rdm_fixture.specs.Keys.{must, may, Must, May, has_only}
+use Rattle.rdm_fixture_keys.specs.Values.{number, signed}
+use Rattle.rdm_fixture_keys.specs.Keys.{must, may, Must, May, has_only}
 
 -- the parameter of this name whose command is a job
 abbrev pub task_named : List ℕ → Option Task

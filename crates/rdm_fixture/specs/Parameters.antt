@@ -1,9 +1,9 @@
 -- Which table is a parameter that a profile adds: one of the maker's own, or one of the standards'. A key is named as the field of
 -- PARAMETER_DESCRIPTION that it sets, in small letters; commands and types have the names of tables A-16 and A-15. E1.20 section 10.4.2.
-use Rattle.std.specs.Prelude.{◌≡◌, ℕ, ◌-◌, ◌/◌, ◌%◌, min, ℤ, pos, neg_ℤ, Bool, true, false, ◌&&◌, ◌||◌, not, if◌then◌else◌, ◌==◌, nat_le, int_le, IsTrue, List, [], ◌∷◌, length, Option, Some, None, option_and_then, option_map, codes}
+use Rattle.std.specs.Prelude.{◌≡◌, ℕ, ◌-◌, ◌/◌, ◌%◌, min, ℤ, pos, neg_ℤ, Bool, true, false, ◌||◌, not, if◌then◌else◌, ◌==◌, nat_le, IsTrue, List, [], ◌∷◌, length, Option, Some, None, option_and_then, option_map, codes}
 use Rattle.std.specs.Int.{w64, cast_unsigned}
 use Rattle.std.specs.Str.{bytes_eq}
-use Rattle.toml.specs.Data.{Data, string, integer, boolean, Members, get_member}
+use Rattle.toml.specs.Data.{Data, string, Members, get_member}
 use Rattle.rdm_frame.specs.DigitReading.{bytes_in}
 use Rattle.rdm_device.specs.declared.profile.fields.Field.{Field}
 use Rattle.rdm_device.specs.declared.profile.fields.Width.{Width}
@@ -17,8 +17,9 @@ use Rattle.rdm_device.specs.Device.Fields.{reach_of}
 use Rattle.rdm_device.specs.Device.OwnParameters.{is_addable, can_start, has_good_fields}
 use Rattle.rdm_device.specs.Device.Standards.{follows}
 use Rattle.rdm_device.specs.Device.Values.{word_slots, long_slots}
-use Rattle.rdm_fixture.specs.Keys.{must, may, Must, May, has_only, OfTable, Lists}
-use Rattle.rdm_fixture.specs.Values.{number, text}
+use Rattle.rdm_fixture_keys.specs.Keys.{must, may, Must, May, has_only}
+use Rattle.rdm_fixture.specs.Lists.{OfTable, Lists}
+use Rattle.rdm_fixture_keys.specs.Values.{number, integer_from, flag, text}
 
 -- ---- its PID and its commands
 
@@ -95,11 +96,6 @@ greatest_of shapes.Long = pos 4294967295
 greatest_of shapes.SignedLong = pos 2147483647
 greatest_of _ = pos 0
 
--- the number, if it is an integer from low to high
-abbrev pub integer_from : ℤ → ℤ → Data → Option ℤ
-integer_from low high (integer z) = if int_le low z && int_le z high then Some z else None
-integer_from low high _ = None
-
 -- a limit of its numbers
 abbrev pub limit : Shape → Data → Option ℤ
 limit shape d = integer_from (least_of shape) (greatest_of shape) d
@@ -160,10 +156,6 @@ pub record IsField (t : Members) (f : Field) : Type 0 where
   pub also : May t (codes "also_valid_value") f.low (number 0 0xFFFFFFFF) f.also
 
 -- ---- the whole
-
-abbrev pub flag : Data → Option Bool
-flag (boolean b) = Some b
-flag _ = None
 
 abbrev pub parameter_keys : List (List ℕ)
 parameter_keys =

@@ -4,8 +4,9 @@ use Rattle.rdm_device.specs.declared.profile.SensorDef.{SensorDef}
 use Rattle.rdm_device.specs.Device.Values.{signed_slots}
 use Rattle.toml.specs.Data.{Data, Members}
 use Rattle.rdm_fixture.specs.declared.starting.Starting.{Starting}
-use Rattle.rdm_fixture.specs.Keys.{May, Lists, OfTable}
-use Rattle.rdm_fixture.specs.Values.{number, signed}
+use Rattle.rdm_fixture_keys.specs.Keys.{May}
+use Rattle.rdm_fixture.specs.Lists.{Lists, OfTable}
+use Rattle.rdm_fixture_keys.specs.Values.{number, signed}
 
 -- ---- counters: sections 10.8.1 to 10.8.6
 

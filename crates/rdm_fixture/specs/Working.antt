@@ -1,6 +1,6 @@
 -- What a file says in vain: how jobs end that never begin, a status ID that nothing describes, and values of parameters that the
 -- fixture lacks.
-use Rattle.std.specs.Prelude.{◌≡◌, ℕ, ◌+◌, ◌<◌, ◌==◌, Bool, true, false, ◌&&◌, ◌||◌, not, if◌then◌else◌, nat_le, ◌⊎◌, IsTrue, List, [], ◌∷◌, length, slice_get, slice_index_or, Option, ℤ, Some, None, is_some, codes}
+use Rattle.std.specs.Prelude.{◌≡◌, ℕ, ◌+◌, ◌<◌, ◌==◌, Bool, true, false, ◌&&◌, ◌||◌, not, if◌then◌else◌, nat_le, ◌⊎◌, IsTrue, List, length, slice_get, slice_index_or, Option, ℤ, Some, None, is_some, codes}
 use Rattle.std.specs.List.{list_any, list_all}
 use Rattle.std.specs.Option.{option_map_or}
 use Rattle.rdm_device.specs.declared.profile.Profile.{Profile}
@@ -16,11 +16,11 @@ use Rattle.rdm_outcomes.specs.declared.rule.Task.{Task}
 use Rattle.rdm_outcomes.specs.declared.rule.Task.TheVariants.{LampState, PowerState, PerformSelfTest, SensorValue}
 use Rattle.rdm_outcomes.specs.Outcomes.{task_pid}
 use Rattle.rdm_fixture.specs.declared.fixture.Fixture.{Fixture}
-use Rattle.rdm_fixture.specs.declared.refusal.Agreement.{Agreement}
-use Rattle.rdm_fixture.specs.declared.refusal.Agreement.TheVariants as agreements
-use Rattle.rdm_fixture.specs.declared.refusal.Wanted.TheVariants as wanted
+use Rattle.rdm_fixture_keys.specs.declared.refusal.Agreement.{Agreement}
+use Rattle.rdm_fixture_keys.specs.declared.refusal.Agreement.TheVariants as agreements
+use Rattle.rdm_fixture_keys.specs.declared.refusal.Wanted.TheVariants as wanted
 use Rattle.rdm_fixture.specs.declared.starting.Starting.{Starting}
-use Rattle.rdm_fixture.specs.Faults.{Fault, fault, in_entry}
+use Rattle.rdm_fixture_keys.specs.Faults.{Fault, fault, in_entry}
 
 -- ---- how jobs end
 

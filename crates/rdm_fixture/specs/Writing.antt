@@ -17,9 +17,9 @@ use Rattle.rdm_fixture.specs.declared.fixture.Fixture.{Fixture}
 use Rattle.rdm_fixture.specs.declared.profile.locks.Locking.{Locking}
 use Rattle.rdm_fixture.specs.Describable.{HasPrintableUnit}
 use Rattle.rdm_fixture.specs.Format.{IsUnit, root_keys}
-use Rattle.rdm_fixture.specs.Keys.{has_only}
+use Rattle.rdm_fixture_keys.specs.Keys.{has_only}
 use Rattle.rdm_fixture.specs.Starting.{IsCounted}
-use Rattle.rdm_fixture.specs.Values.{number, signed}
+use Rattle.rdm_fixture_keys.specs.Values.{number, signed}
 use Rattle.toml.specs.Data.{Data, string, integer, boolean, depth, has_valid_dates, Members, no_members, member}
 
 -- the members with this one besides, in the order of the keys; if the key was there, it has the new value

@@ -3,16 +3,16 @@
 ghost use Rattle.std.specs.Prelude.{◌≡◌, IfErr, codes};
 ghost use Rattle.toml.specs.Data.{get_member};
 ghost use Rattle.toml.specs.View.{table_view};
-ghost use Rattle.rdm_fixture.specs.Faults.{told};
+ghost use Rattle.rdm_fixture_keys.specs.Faults.{told};
 ghost use Rattle.rdm_fixture.specs.FirstWrong.{estimates_parts, WrongEstimates};
 ghost use Rattle.rdm_fixture.specs.Format.{IsEstimates, EstimatesAt};
-ghost use Rattle.rdm_fixture.specs.Keys.{may, Reads};
-ghost use Rattle.rdm_fixture.specs.Values.{number};
-ghost use Rattle.rdm_fixture.specs.Wrong.{FirstWrong};
+ghost use Rattle.rdm_fixture_keys.specs.Keys.{may, Reads};
+ghost use Rattle.rdm_fixture_keys.specs.Values.{number};
+ghost use Rattle.rdm_fixture_keys.specs.Wrong.{FirstWrong};
 
-use crate::keys::{find, integer_in, only};
-use crate::refusal::{Refusal, Section, Wanted};
 use rdm_device::Estimates;
+use rdm_fixture_keys::keys::{find, integer_in, only};
+use rdm_fixture_keys::{Refusal, Section, Wanted};
 use toml::{Table, Value};
 
 /// What is wanted of a time.

@@ -9,14 +9,12 @@ mod document;
 mod entries;
 mod estimates;
 mod fixture;
-mod keys;
 mod laws;
 mod line;
 mod lists;
 mod outcomes;
 mod parameters;
 mod profile;
-mod refusal;
 mod starting;
 mod unit;
 mod workers;
@@ -26,10 +24,13 @@ mod writing;
 pub use document::FixtureError;
 pub use fixture::Fixture;
 pub use laws::{
-    agreements_are_equal_by_value, entries_are_equal_by_value, fixtures_are_equal_by_value,
-    refusals_are_equal_by_value, sections_are_equal_by_value, starts_are_equal_by_value,
-    text_describes_one_fixture, wanteds_are_equal_by_value, write_errors_are_equal_by_value,
+    fixtures_are_equal_by_value, starts_are_equal_by_value, text_describes_one_fixture,
+    write_errors_are_equal_by_value,
 };
-pub use refusal::{Agreement, Entry, Name, Refusal, Section, Wanted};
+pub use rdm_fixture_keys::{
+    Agreement, Entry, Name, Refusal, Section, Wanted, agreements_are_equal_by_value,
+    entries_are_equal_by_value, refusals_are_equal_by_value, sections_are_equal_by_value,
+    wanteds_are_equal_by_value,
+};
 pub use starting::{Starting, shown_at_start};
 pub use writing::WriteError;

@@ -1,12 +1,12 @@
 //! On which line of the text is what a refusal is about, for the message. No clause speaks of the line.
 
 ghost use Rattle.std.specs.Prelude.{◌≡◌};
-ghost use Rattle.rdm_fixture.specs.Faults.{told};
+ghost use Rattle.rdm_fixture_keys.specs.Faults.{told};
 
 mod walk;
 mod way;
 
-use crate::Refusal;
+use rdm_fixture_keys::Refusal;
 use std::alloc::Global;
 use walk::place_of;
 use way::way_to;
@@ -22,7 +22,7 @@ pub(crate) fn with_line(alloc: Global, text: &str, refusal: Refusal) -> Refusal
         // There was no memory to look for it.
         Err(_) => None,
     };
-    refusal.in_line(line)
+    Refusal { line, ..refusal }
 }
 
 /// The line, from 1, on which N bytes are left of the text.

@@ -3,13 +3,13 @@
 ghost use Rattle.std.specs.Prelude.{◌≡◌, ◌≢◌, ◌≤◌, ◌↔◌, ℕ, List, IfOk, IfErr, IsTrue, AllPairs, length, codes};
 ghost use Rattle.toml.specs.Data.{Members, get_member};
 ghost use Rattle.toml.specs.View.{view, array_view, table_view};
-ghost use Rattle.rdm_fixture.specs.Faults.{Fault, told};
-ghost use Rattle.rdm_fixture.specs.Keys.{Reads, OfTable, EachIs, Lists};
-ghost use Rattle.rdm_fixture.specs.Wrong.{InEntry, FirstEntry, entries as list_part};
+ghost use Rattle.rdm_fixture_keys.specs.Faults.{Fault, told};
+ghost use Rattle.rdm_fixture_keys.specs.Keys.{Reads};
+ghost use Rattle.rdm_fixture.specs.Lists.{OfTable, EachIs, Lists, InEntry, FirstEntry, entries as list_part};
 
-use crate::keys::find;
-use crate::refusal::{Refusal, Wanted};
 use arrayvec::ArrayVec;
+use rdm_fixture_keys::keys::find;
+use rdm_fixture_keys::{Refusal, Wanted};
 use toml::value::Array;
 use toml::{Table, Value};
 

@@ -3,19 +3,19 @@
 ghost use Rattle.std.specs.Prelude.{◌≡◌, ◌↔◌, IfErr, IsOk, IsTrue, Some, None, MatchOption, codes};
 ghost use Rattle.toml.specs.Data.{get_member};
 ghost use Rattle.toml.specs.View.{view, table_view};
-ghost use Rattle.rdm_fixture.specs.Faults.{told};
+ghost use Rattle.rdm_fixture_keys.specs.Faults.{told};
 ghost use Rattle.rdm_fixture.specs.FirstWrong.{rule_parts};
-ghost use Rattle.rdm_fixture.specs.Keys.{must, may, has_only};
+ghost use Rattle.rdm_fixture_keys.specs.Keys.{must, may, has_only};
 ghost use Rattle.rdm_fixture.specs.Outcomes as says;
 ghost use Rattle.rdm_fixture.specs.Outcomes.{IsOutcome};
-ghost use Rattle.rdm_fixture.specs.Values.{number};
-ghost use Rattle.rdm_fixture.specs.Wrong.{FirstWrong, only as only_part};
+ghost use Rattle.rdm_fixture_keys.specs.Values.{number};
+ghost use Rattle.rdm_fixture_keys.specs.Wrong.{FirstWrong, only as only_part};
 
 mod wrong;
 
-use crate::keys::{find, integer_in, integer16_in, only};
 use crate::lists::FromEntry;
-use crate::refusal::Refusal;
+use rdm_fixture_keys::Refusal;
+use rdm_fixture_keys::keys::{find, integer_in, integer16_in, only};
 use rdm_outcomes::{Rule, Task};
 use rdm_params::{Outcome, Severity};
 use toml::{Table, Value};

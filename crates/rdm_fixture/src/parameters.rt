@@ -5,26 +5,25 @@ ghost use Rattle.std.specs.Result.{result_ok};
 ghost use Rattle.toml.specs.Data.{get_member};
 ghost use Rattle.toml.specs.View.{view, table_view};
 ghost use Rattle.rdm_device.specs.declared.profile.own.Rights.TheVariants as rights;
-ghost use Rattle.rdm_fixture.specs.Faults.{told};
+ghost use Rattle.rdm_fixture_keys.specs.Faults.{told};
 ghost use Rattle.rdm_fixture.specs.FirstWrong as parts;
-ghost use Rattle.rdm_fixture.specs.Keys.{must};
+ghost use Rattle.rdm_fixture_keys.specs.Keys.{must, Reads};
 ghost use Rattle.rdm_fixture.specs.Parameters as says;
-ghost use Rattle.rdm_fixture.specs.Keys.{Reads};
 ghost use Rattle.rdm_fixture.specs.Parameters.{SaysParameter, IsParameter};
-ghost use Rattle.rdm_fixture.specs.Wrong.{FirstWrong, needed};
-ghost use Rattle.rdm_fixture.specs.declared.refusal.Wanted.TheVariants as wanted;
+ghost use Rattle.rdm_fixture_keys.specs.Wrong.{FirstWrong, needed};
+ghost use Rattle.rdm_fixture_keys.specs.declared.refusal.Wanted.TheVariants as wanted;
 
 mod fields;
 mod limits;
 mod starting;
 
-use crate::keys::{find, flag_or, integer_in, number_or, only, text_or_none};
 use crate::lists::FromEntry;
-use crate::refusal::{Agreement, Refusal, Wanted};
 use fields::fields;
 use limits::{greatest, least};
 pub(crate) use limits::{greatest_of, least_of};
 use rdm_device::{ParameterDef, Rights, Shape, can_start, follows, has_good_fields, is_addable};
+use rdm_fixture_keys::keys::{find, flag_or, integer_in, number_or, only, text_or_none};
+use rdm_fixture_keys::{Agreement, Refusal, Wanted};
 use starting::start;
 use toml::{Table, Value};
 

@@ -4,28 +4,30 @@ ghost use Rattle.std.specs.Prelude.{◌≡◌, ◌≢◌, ◌+◌, ◌≤◌, �
 ghost use Rattle.std.specs.Result.{result_ok};
 ghost use Rattle.toml.specs.Data.{get_member};
 ghost use Rattle.toml.specs.View.{view, array_view, table_view};
-ghost use Rattle.rdm_fixture.specs.Faults.{fault, in_entry, told};
+ghost use Rattle.rdm_fixture_keys.specs.Faults.{fault, in_entry, told};
 ghost use Rattle.rdm_fixture.specs.FirstWrong as parts;
 ghost use Rattle.rdm_fixture.specs.Drafts.{profile_with};
-ghost use Rattle.rdm_fixture.specs.Format.{IsProfile, IsSlot, IsSelfTest, IsStatus, LanguagesAt, slot_count};
-ghost use Rattle.rdm_fixture.specs.Keys.{Reads, may, OfTable, EachIs, Lists};
-ghost use Rattle.rdm_fixture.specs.Values as says;
-ghost use Rattle.rdm_fixture.specs.Wrong.{FirstWrong, entries, free_number};
-ghost use Rattle.rdm_fixture.specs.declared.refusal.Wanted.TheVariants as wanted;
+ghost use Rattle.rdm_fixture_keys.specs.Entries.{IsSlot, IsSelfTest, IsStatus, slot_parts, self_test_parts, status_parts};
+ghost use Rattle.rdm_fixture.specs.Format.{IsProfile, LanguagesAt, slot_count};
+ghost use Rattle.rdm_fixture_keys.specs.Keys.{Reads, may};
+ghost use Rattle.rdm_fixture.specs.Lists.{OfTable, EachIs, Lists, entries};
+ghost use Rattle.rdm_fixture_keys.specs.Values as says;
+ghost use Rattle.rdm_fixture_keys.specs.Wrong.{FirstWrong, free_number};
+ghost use Rattle.rdm_fixture_keys.specs.declared.refusal.Wanted.TheVariants as wanted;
 
 mod added;
 mod locks;
 
 use crate::estimates::estimates;
-use crate::keys::{find, number_or, text_or_none};
 use crate::lists::list;
-use crate::refusal::{Refusal, Wanted};
 use crate::unit::{sub_devices, unit};
 use crate::workers::workers;
 pub(crate) use added::Added;
 use added::{additions, without};
 use arrayvec::ArrayVec;
 use rdm_device::{Estimates, Particulars, Profile, SelfTest, Slot, StatusText};
+use rdm_fixture_keys::keys::{find, number_or, text_or_none};
+use rdm_fixture_keys::{Refusal, Wanted};
 use toml::value::Array;
 use toml::{Table, Value};
 
@@ -107,7 +109,7 @@ fn root_slots(described: usize, more: u16) -> u16
 fn slots(table: &Table) -> Result<ArrayVec<Slot, 46>, Refusal>
     ensures read { Reads (λ t xs. Lists t (codes "slot") (OfTable IsSlot) 0 46 xs.items) (table_view table.now) result }
     ensures count { IfOk result (λ xs. length xs.items ≡ slot_count (get_member (codes "slot") (table_view table.now))) }
-    ensures wrong { IfErr result (λ e. (entries (codes "slot") IsSlot (FirstWrong parts.slot_parts) 0 46).Wrong (table_view table.now) (told e)) }
+    ensures wrong { IfErr result (λ e. (entries (codes "slot") IsSlot (FirstWrong slot_parts) 0 46).Wrong (table_view table.now) (told e)) }
 {
     list(table, "slot", 0, 0)
 }
@@ -164,7 +166,7 @@ fn language_of(code: &Value) -> Option<u16>
 fn self_tests(table: &Table) -> Result<ArrayVec<SelfTest, 8>, Refusal>
     ensures read { Reads (λ t xs. Lists t (codes "self_test") (OfTable IsSelfTest) 0 8 xs.items
         × AllPairs (λ a b. a.number ≢ b.number) xs.items) (table_view table.now) result }
-    ensures wrong { IfErr result (λ e. FirstWrong (entries (codes "self_test") IsSelfTest (FirstWrong parts.self_test_parts) 0 8
+    ensures wrong { IfErr result (λ e. FirstWrong (entries (codes "self_test") IsSelfTest (FirstWrong self_test_parts) 0 8
         ∷ parts.differing (codes "self_test") (codes "number") IsSelfTest (λ a. a.number) ∷ []) (table_view table.now) (told e)) }
 {
     let tests = list(table, "self_test", 0, 0)?;
@@ -193,7 +195,7 @@ fn test_again(tests: &[SelfTest]) -> Option<usize>
 fn status_texts(table: &Table) -> Result<ArrayVec<StatusText, 8>, Refusal>
     ensures read { Reads (λ t xs. Lists t (codes "status") (OfTable IsStatus) 0 8 xs.items
         × AllPairs (λ a b. a.id ≢ b.id) xs.items) (table_view table.now) result }
-    ensures wrong { IfErr result (λ e. FirstWrong (entries (codes "status") IsStatus (FirstWrong parts.status_parts) 0 8
+    ensures wrong { IfErr result (λ e. FirstWrong (entries (codes "status") IsStatus (FirstWrong status_parts) 0 8
         ∷ parts.differing (codes "status") (codes "id") IsStatus (λ a. a.id) ∷ []) (table_view table.now) (told e)) }
 {
     let texts = list(table, "status", 0, 0)?;

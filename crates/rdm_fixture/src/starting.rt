@@ -1,19 +1,19 @@
 //! What a fixture shows when it is switched on.
 
 ghost use Rattle.std.specs.Prelude.{◌≡◌, IfErr};
-ghost use Rattle.rdm_fixture.specs.Faults.{told};
+ghost use Rattle.rdm_fixture_keys.specs.Faults.{told};
 ghost use Rattle.rdm_fixture.specs.FirstWrong as parts;
-ghost use Rattle.rdm_fixture.specs.Keys.{Reads};
+ghost use Rattle.rdm_fixture_keys.specs.Keys.{Reads};
 ghost use Rattle.rdm_fixture.specs.Starting as says;
 ghost use Rattle.rdm_fixture.specs.Starting.{IsStarting, SaysPresent};
-ghost use Rattle.rdm_fixture.specs.Wrong.{FirstWrong};
+ghost use Rattle.rdm_fixture_keys.specs.Wrong.{FirstWrong};
 ghost use Rattle.toml.specs.View.{table_view};
 
-use crate::keys::{find, number_or, signed_in};
 use crate::lists::{FromEntry, list};
-use crate::refusal::Refusal;
 use arrayvec::ArrayVec;
 use rdm_device::SensorDef;
+use rdm_fixture_keys::Refusal;
+use rdm_fixture_keys::keys::{find, number_or, signed_in};
 use toml::Table;
 
 /// The values with which a device is switched on, beside those of its profile.

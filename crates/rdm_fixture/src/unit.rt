@@ -3,16 +3,16 @@
 ghost use Rattle.std.specs.Prelude.{◌≡◌, ℕ, IfErr, codes};
 ghost use Rattle.toml.specs.Data.{get_member};
 ghost use Rattle.toml.specs.View.{view, table_view};
-ghost use Rattle.rdm_fixture.specs.Faults.{told};
+ghost use Rattle.rdm_fixture_keys.specs.Faults.{told};
 ghost use Rattle.rdm_fixture.specs.FirstWrong.{unit_parts, sub_parts, WrongSubs};
 ghost use Rattle.rdm_fixture.specs.Format.{IsUnit, IsSub, SubDevices};
-ghost use Rattle.rdm_fixture.specs.Keys.{Reads};
-ghost use Rattle.rdm_fixture.specs.Wrong.{FirstWrong};
+ghost use Rattle.rdm_fixture_keys.specs.Keys.{Reads};
+ghost use Rattle.rdm_fixture_keys.specs.Wrong.{FirstWrong};
 
-use crate::keys::{find, number, number_or, only, text_or_none};
 use crate::lists::list;
-use crate::refusal::{Refusal, Section, Wanted};
 use rdm_device::Unit;
+use rdm_fixture_keys::keys::{find, number, number_or, only, text_or_none};
+use rdm_fixture_keys::{Refusal, Section, Wanted};
 use rdm_frame::standard::{MOST_DMX_SLOTS, MOST_SUB_DEVICES};
 use toml::{Table, Value};
 

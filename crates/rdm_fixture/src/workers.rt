@@ -3,16 +3,16 @@
 ghost use Rattle.std.specs.Prelude.{◌≡◌, IfErr, codes};
 ghost use Rattle.toml.specs.Data.{get_member};
 ghost use Rattle.toml.specs.View.{view, table_view};
-ghost use Rattle.rdm_fixture.specs.Faults.{told};
+ghost use Rattle.rdm_fixture_keys.specs.Faults.{told};
 ghost use Rattle.rdm_fixture.specs.FirstWrong.{workers_parts, WrongWorkers};
 ghost use Rattle.rdm_fixture.specs.Format.{IsWorkers, WorkersAt};
-ghost use Rattle.rdm_fixture.specs.Keys.{may, Reads};
-ghost use Rattle.rdm_fixture.specs.Values as says;
-ghost use Rattle.rdm_fixture.specs.Wrong.{FirstWrong};
+ghost use Rattle.rdm_fixture_keys.specs.Keys.{may, Reads};
+ghost use Rattle.rdm_fixture_keys.specs.Values as says;
+ghost use Rattle.rdm_fixture_keys.specs.Wrong.{FirstWrong};
 
-use crate::keys::{find, integer_in, only};
-use crate::refusal::{Refusal, Section, Wanted};
 use rdm_device::{Worker, Workers};
+use rdm_fixture_keys::keys::{find, integer_in, only};
+use rdm_fixture_keys::{Refusal, Section, Wanted};
 use toml::{Table, Value};
 
 /// What is wanted of a worker.

@@ -4,16 +4,16 @@ ghost use Rattle.std.specs.Prelude.{◌≡◌, ◌↔◌, not, is_some, ◌==◌
 ghost use Rattle.std.specs.List.{list_any, list_all};
 ghost use Rattle.rdm_device.specs.Device.LeftOut.{leaves_out};
 ghost use Rattle.rdm_fixture.specs.Drafts.{fixture_with};
-ghost use Rattle.rdm_fixture.specs.Faults.{told};
+ghost use Rattle.rdm_fixture_keys.specs.Faults.{told};
 ghost use Rattle.rdm_fixture.specs.Working as spec;
 ghost use Rattle.rdm_outcomes.specs.declared.rule.Task.TheVariants as tasks;
 ghost use Rattle.rdm_params.specs.Table.Kinds.{pid_of};
 
 use crate::fixture::Fixture;
 use crate::profile::Apart;
-use crate::refusal::{Agreement, Refusal, Wanted};
 use crate::starting::Starting;
 use rdm_device::{Profile, SelfTest, SensorDef, StatusText, can_hold, can_open};
+use rdm_fixture_keys::{Agreement, Refusal, Wanted};
 use rdm_outcomes::{Rule, Task};
 use rdm_params::{Kind, Outcome};
 

@@ -1,5 +1,5 @@
 -- A search through a controller's port.
-use Rattle.std.proofs.Common.{◌≡◌, ◌⊎◌, ℕ, zero, suc, ◌+◌, ◌*◌, ◌<◌, ◌≤◌, false, List, [], ◌++◌, Option, Some, None, Result, Ok, Err, refl, sym, ap, ◌∙◌, subst, inl, inr, arith, add-one, append_assoc}
+use Rattle.std.proofs.Common.{◌≡◌, ◌⊎◌, ℕ, zero, suc, ◌+◌, ◌*◌, ◌<◌, ◌≤◌, false, List, [], ◌∷◌, ◌++◌, map, Option, Some, None, Result, Ok, Err, refl, sym, ap, ◌∙◌, subst, inl, inr, arith, add-one, append_assoc}
 use Rattle.std.specs.Prelude.{unwrap_or, IfOk}
 use Rattle.rdm_frame.specs.declared.uid.Uid.{Uid}
 use Rattle.rdm_frame.specs.declared.frame.Frame.{Frame}
@@ -11,16 +11,18 @@ use Rattle.rdm_search.specs.declared.stage.Stage.{Stage}
 use Rattle.rdm_search.specs.Answers.{found_uids, newcomer}
 use Rattle.rdm_search.specs.declared.stage.Stage.TheVariants.{Start, Asking, Muting, Ended}
 use Rattle.std.specs.Option.{option_to_list}
-use Rattle.std.proofs.lemmas.List.{append-nil}
+use Rattle.std.proofs.lemmas.List.{append-nil, map-append}
+use Rattle.rdm_search.specs.Exchanges.{Exchange, IsRun, IsAsked, HasHeard}
 use Rattle.rdm_search.specs.Line.{Fixture, IsFound}
 use Rattle.rdm_search.specs.Losses.{is_answered, IsKept, IsLost}
 use Rattle.rdm_search.specs.Requests.{request_frame, IsRequest}
 use Rattle.rdm_search.specs.Searches.{next_of, found_after}
 use Rattle.rdm_search.specs.Stages.{request_of, IsStage, IsReal, Stands, Hears, price}
+use Rattle.rdm_search.proofs.Exchanges.{asked_said, heard_then, nothing_said, run_then, sends}
 use Rattle.rdm_search.proofs.Losses.{IsUnanswered as IsVain, Asked, unanswered, void_is, kept_kept, kept_lost, lost_kept, lost_lost, once_more}
 use Rattle.rdm_search.proofs.Reals.{Answered, stays_real}
 use Rattle.rdm_search.proofs.Runs.{Same, Comes, request_fits, answer_leads, ended, costs, next_frame, next_none, next_err}
-use Rattle.rdm_interface.specs.Lines.{IsHeardOnce, IsUnanswered, IsAskedAgain, IsLineOf, IsLossyLineOf}
+use Rattle.rdm_interface.specs.Lines.{IsHeardOnce, IsExchange, IsUnanswered, IsAskedAgain, IsLineOf, IsLossyLineOf}
 
 -- ---- what was asked in vain, and then once more
 
@@ -30,8 +32,8 @@ SoFar request line after = (after ≡ line) ⊎ ((heard : List ℕ) × IsVain re
 
 -- the same, counted from another number
 recount : (request : Request) (line : List Fixture) (heard : List ℕ) (after : List Fixture) (m m' n : ℕ) → IsKept request line heard after m m' → (n' : ℕ) × IsKept request line heard after n n'
-recount request line heard after m m' n (inl h, e) = (n, (inl (h.0, refl), e))
-recount request line heard after m m' n (inr h, e) = (suc n, (inr (h.0, refl), e))
+recount request line heard after m m' n (inl h, e) = (n, (inl (h.0, inl refl), e))
+recount request line heard after m m' n (inr h, e) = (suc n, (inr (h.0, inl refl), e))
 
 then_answered : (request : Request) (line mid after : List Fixture) (heard : List ℕ) → SoFar request line mid → Answered request mid heard after → Answered request line heard after
 then_answered request line mid after heard (inl e) now = subst (λ (l : List Fixture). Answered request l heard after) e now
@@ -194,27 +196,65 @@ pub asked_at_last : {P E : Type 0} (hears : P → List ℕ → Option (List ℕ)
 asked_at_last hears retries before mid after frame (Ok h) vain once = record { times = retries; mid = mid; in_vain = vain; last = once; within = omega arith; all_in_vain = λ e. refl }
 asked_at_last hears retries before mid after frame (Err e) vain once = tt
 
+-- ---- what was said
+
+then_once : {P : Type 0} (hears : P → List ℕ → Option (List ℕ) → P → Type 0) (frame : Frame) (others : List (List ℕ)) (heard : List ℕ) (a b c : P) → IsRun (IsExchange hears) (map (sends frame) others) a b → IsHeardOnce hears b c (frame_text frame) heard → IsRun (IsExchange hears) (map (sends frame) (others ++ heard ∷ [])) a c
+then_once hears frame others heard a b c run once =
+    subst (λ (xs : List Exchange). IsRun (IsExchange hears) xs a c) (sym (map-append (sends frame) others (heard ∷ [])))
+    (run_then (IsExchange hears) (map (sends frame) others) (sends frame heard ∷ []) a b c run (c, once, refl))
+
+vain_run : {P : Type 0} (hears : P → List ℕ → Option (List ℕ) → P → Type 0) (frame : Frame) (n : ℕ) (before after : P) → IsUnanswered hears frame n before after → (others : List (List ℕ)) × IsRun (IsExchange hears) (map (sends frame) others) before after
+vain_run hears frame zero before after vain = ([], vain)
+vain_run hears frame (suc n) before after vain =
+    let first = vain_run hears frame n before vain.0 vain.2 in
+    (first.0 ++ vain.1 ∷ [], then_once hears frame first.0 vain.1 before vain.0 after first.1 vain.3)
+
+asked_of : {P : Type 0} (hears : P → List ℕ → Option (List ℕ) → P → Type 0) (retries : ℕ) (frame : Frame) (heard : List ℕ) (before after : P) → IsAskedAgain hears retries before after frame heard → IsAsked (IsExchange hears) before frame heard after
+asked_of hears retries frame heard before after again =
+    let vain = vain_run hears frame again.times before again.mid again.in_vain in
+    (vain.0, then_once hears frame vain.0 heard before again.mid after vain.1 again.last)
+
+-- one transaction
+pub transaction_said : {P : Type 0} (hears : P → List ℕ → Option (List ℕ) → P → Type 0) (retries : ℕ) (before after : P) (source : Uid) (tn left : ℕ) (stage : Stage) (found more : List Found) (frame : Frame) (heard : List ℕ)
+    → Same (Ok (Some frame)) (next_of source tn (request_of stage) left) → IsAskedAgain hears retries before after frame heard
+    → more ≡ found_after stage found heard → HasHeard (IsExchange hears) source before after found more
+transaction_said hears retries before after source tn left stage found more frame heard e again noted =
+    let n = next_frame source tn (request_of stage) left frame e in
+    let again_so : IsAskedAgain hears retries before after (request_frame source tn n.0) heard = subst (λ f. IsAskedAgain hears retries before after f heard) n.2 again in
+    asked_said (IsExchange hears) source tn stage n.0 before after found more heard n.1 (asked_of hears retries (request_frame source tn n.0) heard before after again_so) noted
+
+pub said_to_end : {P : Type 0} (hears : P → List ℕ → Option (List ℕ) → P → Type 0) (source : Uid) (before after : P) (known found : List Found) → (last : P) × HasHeard (IsExchange hears) source before last known found × (after ≡ last) → HasHeard (IsExchange hears) source before after known found
+said_to_end {P} hears source before after known found said = subst (λ (p : P). HasHeard (IsExchange hears) source before p known found) (sym said.2) said.1
+
+-- Nothing was found where it fails.
+pub failed_said : {P : Type 0} (hears : P → List ℕ → Option (List ℕ) → P → Type 0) (source : Uid) (before : P) (known found : List Found) → found ≡ known → (last : P) × HasHeard (IsExchange hears) source before last known found × Unit {0}
+failed_said hears source before known found e = (before, nothing_said (IsExchange hears) source [] before before known found refl e, tt)
+
 -- ---- one transaction after another
 
 -- what a search has come to through a port
-pub record Through {P : Type 0} (hears : P → List ℕ → Option (List ℕ) → P → Type 0) (most : ℕ) (stage : Stage) (left : ℕ) (found : List Found) (port : P) (stage' : Stage) (left' : ℕ) (found' : List Found) (port' : P) : Type 0 where
+pub record Through {P : Type 0} (hears : P → List ℕ → Option (List ℕ) → P → Type 0) (most : ℕ) (source : Uid) (stage : Stage) (left : ℕ) (found : List Found) (port : P) (source' : Uid) (stage' : Stage) (left' : ℕ) (found' : List Found) (port' : P) : Type 0 where
   pub stands : (fixtures : P → List Fixture) (line : IsLineOf hears fixtures most) → Stands stage (found_uids found) (fixtures port)
       → Stands stage' (found_uids found') (fixtures port')
       × (price stage' (fixtures port') + 2 * left + 3 * line.altered port ≤ price stage (fixtures port) + 2 * left' + 3 * line.altered port')
   pub real : (fixtures : P → List Fixture) → IsLossyLineOf hears fixtures → IsReal (found_uids found) (fixtures port) → IsReal (found_uids found') (fixtures port')
   pub kept : (more : List Found) × (found' ≡ found ++ more)
+  pub said : HasHeard (IsExchange hears) source port port' found found'
+  pub same_source : source' ≡ source
 
 -- and one transaction more
-pub through_next : {P : Type 0} (hears : P → List ℕ → Option (List ℕ) → P → Type 0) (most : ℕ) (s s' s'' : Stage) (n n' n'' : ℕ) (f f' f'' : List Found) (p p' p'' : P) → Through hears most s n f p s' n' f' p'
+pub through_next : {P : Type 0} (hears : P → List ℕ → Option (List ℕ) → P → Type 0) (most : ℕ) (u u' u'' : Uid) (s s' s'' : Stage) (n n' n'' : ℕ) (f f' f'' : List Found) (p p' p'' : P) → Through hears most u s n f p u' s' n' f' p'
     → ((fixtures : P → List Fixture) (line : IsLineOf hears fixtures most) → Stands s' (found_uids f') (fixtures p') → Comes s' (fixtures p') s'' (found_uids f'') (fixtures p'') (line.altered p') (line.altered p''))
     → ((fixtures : P → List Fixture) → IsLossyLineOf hears fixtures → IsReal (found_uids f') (fixtures p') → IsReal (found_uids f'') (fixtures p''))
-    → (more : List Found) × (f'' ≡ f' ++ more) → n'' + 1 ≡ n' → Through hears most s n f p s'' n'' f'' p''
-through_next hears most s s' s'' n n' n'' f f' f'' p p' p'' so comes real more left = record {
+    → (more : List Found) × (f'' ≡ f' ++ more) → n'' + 1 ≡ n' → HasHeard (IsExchange hears) u' p' p'' f' f'' → u'' ≡ u' → Through hears most u s n f p u'' s'' n'' f'' p''
+through_next hears most u u' u'' s s' s'' n n' n'' f f' f'' p p' p'' so comes real more left said same = record {
   stands = λ fixtures line stands. (
       let before = so.stands fixtures line stands in let now = comes fixtures line before.0 in
       (now.0, omega (arith, before.1, now.1, left)));
   real = λ fixtures line is. real fixtures line (so.real fixtures line is);
   kept = (so.kept.0 ++ more.0, more.1 ∙ ap (λ (xs : List Found). xs ++ more.0) so.kept.1 ∙ append_assoc f so.kept.0 more.0);
+  said = heard_then (IsExchange hears) u u' p p' p'' f f' f'' so.said so.same_source said;
+  same_source = same ∙ so.same_source;
 }
 
 -- what was found stays, and more stands behind it

@@ -1,5 +1,5 @@
 -- What is asked of the interface, and which message answers. Labels are those of the ENTTEC DMX USB Pro; sections are E1.20's.
-use Rattle.std.specs.Prelude.{ℕ, ◌+◌, Bool, false, ◌==◌, ◌&&◌, ◌||◌, nat_lt, nat_le, List, [], ◌∷◌, length, take, drop, slice_index, Option, Some, None, if◌then◌else◌}
+use Rattle.std.specs.Prelude.{ℕ, ◌+◌, Bool, false, not, is_some, ◌==◌, ◌&&◌, ◌||◌, nat_lt, nat_le, List, [], ◌∷◌, length, take, drop, slice_index, Option, Some, None, if◌then◌else◌}
 use Rattle.std.specs.Int.{w16, w32, from_le_bytes}
 use Rattle.std.specs.Option.{option_map_or}
 use Rattle.rdm_frame.specs.declared.frame.Frame.{Frame}
@@ -38,6 +38,10 @@ is_response request f = (f.tn == request.tn) && same_uid f.src request.dst && sa
 abbrev pub is_branch : Frame → Bool
 is_branch f = (f.class == 0x10) && (f.pid == 0x0001)
 
+-- DISC_MUTE. Who asks for it, asks again where the answer was altered. Section 7.6.
+abbrev pub is_mute : Frame → Bool
+is_mute f = (f.class == 0x10) && (f.pid == 0x0002)
+
 -- which message is waited for after these bytes: if they are no frame, nothing on the line answers
 abbrev pub wanted_for : Option Frame → Wanted
 wanted_for None = Labelled 12
@@ -69,12 +73,20 @@ line_bytes m = drop 1 m.body
 abbrev pub is_timeout : Message → Bool
 is_timeout m = m.label == 12
 
+-- a response to this request came from the line
+abbrev pub has_response : Frame → Message → Bool
+has_response request m = is_from_line m && option_map_or (is_response request) (frame_in (line_bytes m)) false
+
+-- bytes came from the line that are no frame, as an answer is that was altered on its way
+abbrev pub is_altered : Message → Bool
+is_altered m = is_from_line m && nat_lt 1 (length m.body) && not (is_some (frame_in (line_bytes m)))
+
 -- The message is what is waited for: the one with a label; of DISC_UNIQUE_BRANCH any bytes, or that there are none; of another
--- request a response to it, or that there is none.
+-- request a response to it, or that there is none, and of DISC_MUTE an altered one, too.
 abbrev pub belongs : Wanted → Message → Bool
 belongs (Labelled label) m = m.label == label
 belongs Branch m = is_timeout m || (is_from_line m && nat_lt 1 (length m.body))
-belongs (Response request) m = is_timeout m || (is_from_line m && option_map_or (is_response request) (frame_in (line_bytes m)) false)
+belongs (Response request) m = is_timeout m || has_response request m || (is_mute request && is_altered m)
 
 -- What is heard if this message answers: of the bytes from the line as many as a frame has at most.
 abbrev pub heard_in : Option Message → Option (List ℕ)

@@ -14,6 +14,10 @@ use Rattle.rdm_search.specs.Requests.{request_frame, IsRequest}
 abbrev pub IsHeardOnce : {P : Type 0} → (P → List ℕ → Option (List ℕ) → P → Type 0) → P → P → List ℕ → List ℕ → Type 0
 IsHeardOnce hears before after bytes heard = (came : Option (List ℕ)) × hears before bytes came after × (heard ≡ unwrap_or came [])
 
+-- A frame is sent once, and this is heard: one exchange of a search.
+abbrev pub IsExchange : {P : Type 0} → (P → List ℕ → Option (List ℕ) → P → Type 0) → P → Frame → List ℕ → P → Type 0
+IsExchange hears before frame heard after = IsHeardOnce hears before after (frame_text frame) heard
+
 -- A frame is sent N times, and what is heard never answers it.
 abbrev pub IsUnanswered : {P : Type 0} → (P → List ℕ → Option (List ℕ) → P → Type 0) → Frame → ℕ → P → P → Type 0
 IsUnanswered hears frame zero before after = after ≡ before
@@ -35,11 +39,11 @@ pub record IsAskedAgain {P : Type 0} (hears : P → List ℕ → Option (List �
 -- The line behind a port has these fixtures: what is heard after the requests of a search is what they may sound like, and they
 -- change as it says. A request may be lost on its way to some or all of them, or what they answer, or the answer to a mute altered:
 -- then no valid answer is heard, and each has carried the request out or not. No more askings in a row are lost than so many: with 0
--- nothing ever is. Answers to branches may be altered as often as it likes: so many were.
+-- nothing ever is. Answers to branches may be altered as often as it likes, and noise may come after mutes for nobody: so many were.
 pub record IsLineOf {P : Type 0} (hears : P → List ℕ → Option (List ℕ) → P → Type 0) (fixtures : P → List Fixture) (most : ℕ) : Type 0 where
   -- how many askings in a row were lost, up to the last
   pub lost : P → ℕ
-  -- how many answers to branches were altered
+  -- how many answers were altered
   pub altered : P → ℕ
   pub kept_or_lost : (before after : P) (request : Request) (source : Uid) (tn : ℕ) (came : Option (List ℕ)) → IsRequest request
       → hears before (frame_text (request_frame source tn request)) came after

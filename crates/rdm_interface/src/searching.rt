@@ -1,10 +1,11 @@
 //! A search of a line through a controller's port.
 
-ghost use Rattle.std.specs.Prelude.{◌≡◌, ◌+◌, ◌-◌, ◌*◌, ◌<◌, ◌≤◌, ◌++◌, List, length, Ok, Err, true, false, All, IfOk, OnOk};
+ghost use Rattle.std.specs.Prelude.{◌≡◌, ◌+◌, ◌-◌, ◌*◌, ◌<◌, ◌≤◌, ◌++◌, [], List, length, Ok, Err, true, false, All, IfOk, OnOk};
 ghost use Rattle.rdm_search.specs.Answers.{found_uids};
+ghost use Rattle.rdm_search.specs.Exchanges.{HasHeard};
 ghost use Rattle.rdm_search.specs.Line.{Fixture, IsDevice, IsFound};
 ghost use Rattle.rdm_search.specs.Stages.{IsReal, Stands, price};
-ghost use Rattle.rdm_interface.specs.Lines.{IsAskedAgain, IsHeardOnce, IsLineOf, IsLossyLineOf};
+ghost use Rattle.rdm_interface.specs.Lines.{IsAskedAgain, IsExchange, IsHeardOnce, IsLineOf, IsLossyLineOf};
 
 use rdm_collector::{Port, PortError};
 use rdm_frame::{Frame, Uid, Wire, encode};
@@ -24,8 +25,9 @@ pub enum SearchFault {
 }
 
 /// Finds all fixtures of the line behind a port, and mutes them, in at most this many transactions: 74 for each fixture and 2 more
-/// are enough, and 2 for each answer to a branch that is altered on its way (E1.20 sections 7.5 and 7.6). Each request is asked up to
-/// `retries` times again while no valid answer is heard. Memory is taken from `alloc` for what is found.
+/// are enough, and 2 for each answer to a branch that is altered on its way, and for each noise after a mute that no fixture answers (E1.20
+/// sections 7.5 and 7.6). Each request is asked up to `retries` times again while no valid answer is heard. Memory is taken from `alloc`
+/// for what is found.
 ///
 /// A fixture may be missed where more than `retries` askings in a row are lost, or their answers are lost or altered.
 pub fn discover_through<P: Port>(
@@ -38,7 +40,9 @@ pub fn discover_through<P: Port>(
     // On the line of any fixtures, where no more askings in a row are lost than are repeated, what is found is these, each once.
     ensures found { IfOk result (λ found. (fixtures : P → List Fixture) → IsLineOf P.hears fixtures retries
         → All (λ f. IsDevice f.uid) (fixtures port.old) → IsFound (found_uids found.items) (fixtures port.new)) }
-    // There the limit is reached only if it is less than all fixtures take, and the answers to branches that were altered.
+    // What is told of each is what its valid answer to DISC_MUTE said, heard in this run.
+    ensures said { IfOk result (λ found. HasHeard (IsExchange P.hears) source port.old port.new [] found.items) }
+    // There the limit is reached only if it is less than all fixtures take, and the altered answers and noise.
     ensures limit { result ≡ Err (SearchFault.Search SearchError.Limit) → (fixtures : P → List Fixture)
         (line : IsLineOf P.hears fixtures retries) → All (λ f. IsDevice f.uid) (fixtures port.old)
         → limit < 74 * length (fixtures port.old) + 2 + 2 * (line.altered port.new - line.altered port.old) }
@@ -68,7 +72,9 @@ pub fn run_through<P: Port>(
     ensures real { OnOk result ((fixtures : P → List Fixture) → IsLossyLineOf P.hears fixtures
         → IsReal (found_uids search.old.found.items) (fixtures port.old)
         → IsReal (found_uids search.new.found.items) (fixtures port.new)) }
-    // Also where it fails, what was found stays, and what was found since stands behind it.
+    // Also where it fails, what was found stays, and what was found since is what was said until then.
+    ensures said { (last : P) × HasHeard (IsExchange P.hears) search.old.source port.old last search.old.found.items search.new.found.items
+        × OnOk result (port.new ≡ last) }
     ensures kept { (more : List Found) × (search.new.found.items ≡ search.old.found.items ++ more) }
 {
     while step_through(search, port, retries)? {}
@@ -97,6 +103,9 @@ pub fn step_through<P: Port>(
         → IsReal (found_uids search.old.found.items) (fixtures port.old)
         → IsReal (found_uids search.new.found.items) (fixtures port.new)) }
     ensures kept { (more : List Found) × (search.new.found.items ≡ search.old.found.items ++ more) }
+    ensures said { (last : P) × HasHeard (IsExchange P.hears) search.old.source port.old last search.old.found.items search.new.found.items
+        × OnOk result (port.new ≡ last) }
+    ensures source { search.new.source ≡ search.old.source }
     ensures left { result ≡ Ok true → search.new.left + 1 ≡ search.old.left }
 {
     match search.next() {

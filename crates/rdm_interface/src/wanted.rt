@@ -1,14 +1,14 @@
 //! Which message answers what is asked.
 
-ghost use Rattle.std.specs.Prelude.{◌≡◌, ◌&&◌, nat_lt, false, length, drop};
+ghost use Rattle.std.specs.Prelude.{◌≡◌, ◌&&◌, nat_lt, false, is_some, length, drop};
 ghost use Rattle.std.specs.Option.{option_map_or};
 ghost use Rattle.rdm_frame.specs.Reading.{frame_in};
 ghost use Rattle.rdm_messages.specs.Framing.{message_in};
-ghost use Rattle.rdm_interface.specs.Answers.{asks_again, belongs, is_branch, is_fetch, is_from_line, is_response, label_for, line_bytes, responds_to, wanted_by};
+ghost use Rattle.rdm_interface.specs.Answers.{asks_again, belongs, has_response, is_altered, is_branch, is_fetch, is_from_line, is_mute, is_response, label_for, line_bytes, responds_to, wanted_by};
 
 use rdm_frame::standard::{
-    DISC_UNIQUE_BRANCH, DISCOVERY_COMMAND, GET_COMMAND, GET_COMMAND_RESPONSE, GET_LAST_MESSAGE,
-    SET_COMMAND_RESPONSE,
+    DISC_MUTE, DISC_UNIQUE_BRANCH, DISCOVERY_COMMAND, GET_COMMAND, GET_COMMAND_RESPONSE,
+    GET_LAST_MESSAGE, SET_COMMAND_RESPONSE,
 };
 use rdm_frame::{FrameView, decode_view};
 use rdm_messages::MessageView;
@@ -45,7 +45,9 @@ impl Wanted<'_> {
             Wanted::Labelled(label) => message.label == *label,
             Wanted::Branch => message.label == TIMEOUT || has_bytes(message),
             Wanted::Response(request) => {
-                message.label == TIMEOUT || has_response(request, message)
+                message.label == TIMEOUT
+                    || has_response(request, message)
+                    || is_mute(request) && is_altered(message)
             }
         }
     }
@@ -74,6 +76,13 @@ fn is_branch(request: &FrameView<'_>) -> bool
     request.class == DISCOVERY_COMMAND && request.pid == DISC_UNIQUE_BRANCH
 }
 
+/// Whether a request is DISC_MUTE, which is asked again where the answer was altered.
+fn is_mute(request: &FrameView<'_>) -> bool
+    ensures { result ≡ is_mute request.now }
+{
+    request.class == DISCOVERY_COMMAND && request.pid == DISC_MUTE
+}
+
 /// Whether a message says that bytes came from the line.
 fn has_bytes(message: &MessageView<'_>) -> bool
     ensures { result ≡ (is_from_line (message_in message.now) && nat_lt 1 (length message.now.body.now)) }
@@ -83,10 +92,23 @@ fn has_bytes(message: &MessageView<'_>) -> bool
 
 /// Whether a message says that a response to a request came from the line.
 fn has_response(request: &FrameView<'_>, message: &MessageView<'_>) -> bool
-    ensures { result ≡ (is_from_line (message_in message.now)
-        && option_map_or (is_response request.now) (frame_in (line_bytes (message_in message.now))) false) }
+    ensures { result ≡ has_response request.now (message_in message.now) }
 {
     message.label == FROM_LINE && is_response_in(request, line_bytes(message.body))
+}
+
+/// Whether a message says that bytes came from the line that are no frame.
+fn is_altered(message: &MessageView<'_>) -> bool
+    ensures { result ≡ is_altered (message_in message.now) }
+{
+    has_bytes(message) && !is_frame(line_bytes(message.body))
+}
+
+/// Whether bytes are the text of a frame.
+fn is_frame(bytes: &[u8]) -> bool
+    ensures { result ≡ is_some (frame_in bytes.now) }
+{
+    decode_view(bytes).is_ok()
 }
 
 /// The bytes that came from the line, behind the status byte.

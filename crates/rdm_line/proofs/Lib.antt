@@ -2,6 +2,7 @@ pub mod Alone
 pub mod Collisions
 pub mod Each
 pub mod Joinings
+pub mod Keeping
 pub mod Loops
 pub mod Ones
 pub mod Ports

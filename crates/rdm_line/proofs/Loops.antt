@@ -25,13 +25,13 @@ abbrev pub sofar : List ℕ → List History → ℕ → List History
 sofar bytes hs i = map (heard_by bytes) (take i hs) ++ drop i hs
 
 -- the histories round a place, of which those before have heard the bytes
-abbrev Round : List ℕ → List History → ℕ → History → Type 0
+abbrev pub Round : List ℕ → List History → ℕ → History → Type 0
 Round bytes hs i h = sofar bytes hs i ≡ map (heard_by bytes) (take i hs) ++ h ∷ drop (suc i) hs
 
-round : (bytes : List ℕ) (hs : List History) (i : ℕ) (c : Cut hs i) → Round bytes hs i c.item
+pub round : (bytes : List ℕ) (hs : List History) (i : ℕ) (c : Cut hs i) → Round bytes hs i c.item
 round bytes hs i c = ap (λ (ks : List History). map (heard_by bytes) (take i hs) ++ ks) c.rest
 
-place : (bytes : List ℕ) (hs : List History) (i : ℕ) (c : Cut hs i) → length (map (heard_by bytes) (take i hs)) ≡ i
+pub place : (bytes : List ℕ) (hs : List History) (i : ℕ) (c : Cut hs i) → length (map (heard_by bytes) (take i hs)) ≡ i
 place bytes hs i c = length-map (take i hs) (heard_by bytes) ∙ c.place
 
 onward : (bytes : List ℕ) (hs : List History) (i : ℕ) (c : Cut hs i) → map (heard_by bytes) (take i hs) ++ heard_by bytes c.item ∷ drop (suc i) hs ≡ sofar bytes hs (suc i)

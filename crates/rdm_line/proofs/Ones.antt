@@ -20,7 +20,11 @@ pub record One {D : Type 0} (R : D → History → Type 0) (devices : List D) (h
   pub one : History
   pub after : List History
   pub place : length before ≡ i
+  pub all : hs ≡ before ++ one ∷ after
   pub zip : AllZip R devices (before ++ one ∷ after)
+  pub deaf_before : Deaf bytes before
+  pub deaf_after : Deaf bytes after
+  pub hearing : hears one.setup.uid bytes ≡ true
   pub answer : answers bytes hs ≡ option_to_list (reply_of one bytes)
   pub heard : map (heard_by bytes) hs ≡ before ++ then_event one (Heard bytes) ∷ after
 
@@ -35,14 +39,19 @@ one_of R devices uids hs dst bytes i zip stand long d single place =
     let alone_there : is_broadcast (uid_at bytes 3) ≡ false = ap is_broadcast (sym d) ∙ single in
     let deaf_before = others_deaf bytes at.before alone_there (subst (λ (u : Uid). Others u at.before) d at.others_before) in
     let deaf_after = others_deaf bytes at.after alone_there (subst (λ (u : Uid). Others u at.after) d at.others_after) in
+    let hearing = hears_its_own at.one.setup.uid bytes long (at.uid ∙ d) in
     record {
       before = at.before;
       one = at.one;
       after = at.after;
       place = at.place;
+      all = at.all;
       zip = subst (AllZip R devices) at.all zip;
+      deaf_before = deaf_before;
+      deaf_after = deaf_after;
+      hearing = hearing;
       answer = ap (answers bytes) at.all ∙ one_answers bytes at.before at.one at.after deaf_before deaf_after;
-      heard = ap (map (heard_by bytes)) at.all ∙ one_heard bytes at.before at.one at.after deaf_before deaf_after (hears_its_own at.one.setup.uid bytes long (at.uid ∙ d));
+      heard = ap (map (heard_by bytes)) at.all ∙ one_heard bytes at.before at.one at.after deaf_before deaf_after hearing;
     }
 
 -- ---- the histories of the line

@@ -1,5 +1,6 @@
 pub mod Collisions
 pub mod Hearing
+pub mod Keeping
 pub mod Laws
 pub mod Lends
 pub mod Line

@@ -1,6 +1,7 @@
 -- A line of devices, as a search sees it. E1.20 sections 7.5 and 7.6.
 use Rattle.std.specs.Prelude.{◌≡◌, ◌≢◌, ℕ, Bool, List, [], map, zip, All, AllPairs}
 use Rattle.rdm_frame.specs.declared.uid.Uid.{Uid}
+use Rattle.rdm_frame.specs.declared.frame.Frame.{Frame}
 use Rattle.rdm_frame.specs.FrameText.{frame_text, IsFrame}
 use Rattle.rdm_search.specs.declared.request.Request.{Request}
 use Rattle.rdm_search.specs.Line.{Fixture, IsDevice, IsHeard, after_request}
@@ -33,6 +34,13 @@ RequestsAreHeard =
 -- the fixtures that the devices of a line are, where `muted` says of each whether it is muted
 abbrev pub fixtures_of : {D : Type 0} → (D → Bool) → State D → List Fixture
 fixtures_of muted line = map (λ x. record { uid = x.0; muted = muted x.1 }) (zip line.uids line.devices)
+
+-- A frame is sent on a line: after any histories that lead to its state, this is on the wire, and each device that is addressed has
+-- heard it.
+abbrev pub IsSent : {D : Type 0} → (D → History → Type 0) → State D → Frame → List ℕ → State D → Type 0
+IsSent stands before frame heard after =
+    (hs : List History) → StandFor stands before hs
+    → (heard ≡ (on_wire before.rule [] (answers (frame_text frame) hs)).1) × StandFor stands after (map (heard_by (frame_text frame)) hs)
 
 -- There are histories that lead each device of the line to its state.
 abbrev pub HasHistories : {D : Type 0} → (D → History → Type 0) → State D → Type 0

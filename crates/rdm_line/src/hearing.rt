@@ -1,6 +1,6 @@
 //! What a line hears.
 
-ghost use Rattle.std.specs.Prelude.{◌≡◌, ◌<◌, ◌≤◌, ◌∷◌, ◌++◌, [], List, ℕ, length, map, false};
+ghost use Rattle.std.specs.Prelude.{◌≡◌, ◌≢◌, ◌<◌, ◌≤◌, ◌∷◌, ◌++◌, [], List, ℕ, length, map, slice_index_or, false, IfSome};
 ghost use Rattle.std.specs.Bool.{OnFalse};
 ghost use Rattle.std.specs.List.{AllZip};
 ghost use Rattle.rdm_frame.specs.Addressing.{is_broadcast};
@@ -9,6 +9,7 @@ ghost use Rattle.rdm_responder.specs.History.{History, Heard, then_event};
 ghost use Rattle.rdm_responder.specs.Rules.{answered, reply_of};
 ghost use Rattle.rdm_line.specs.Collisions.{on_wire as wave};
 ghost use Rattle.rdm_line.specs.Hearing.{answers, heard_by};
+ghost use Rattle.rdm_line.specs.Keeping.{CameTo, HasKept, HaveKept};
 ghost use Rattle.rdm_line.specs.Line.{StandFor};
 
 use crate::collision::collide;
@@ -28,6 +29,8 @@ impl<D: Device> Line<D> {
             → (result, wire.new) ≡ wave self.old.rule wire.old (answers bytes.now hs) }
         ensures stands { (hs : List History) → StandFor D.stands self.old hs
             → StandFor D.stands self.new (map (heard_by bytes.now) hs) }
+        ensures kept { (hs : List History) → StandFor D.stands self.old hs
+            → HaveKept D.came_to bytes.now hs self.old.devices self.new.devices }
         ensures rest { map D.rest self.new.devices ≡ map D.rest self.old.devices }
         ensures uids { self.new.uids ≡ self.old.uids }
         ensures rule { self.new.rule ≡ self.old.rule }
@@ -58,6 +61,8 @@ impl<D: Device> Line<D> {
             → (result, wire.new) ≡ wave self.old.rule wire.old (answers bytes.now hs) }
         ensures stands { (hs : List History) → StandFor D.stands self.old hs
             → StandFor D.stands self.new (map (heard_by bytes.now) hs) }
+        ensures kept { (hs : List History) → StandFor D.stands self.old hs
+            → HaveKept D.came_to bytes.now hs self.old.devices self.new.devices }
         ensures rest { map D.rest self.new.devices ≡ map D.rest self.old.devices }
         ensures uids { self.new.uids ≡ self.old.uids }
         ensures rule { self.new.rule ≡ self.old.rule }
@@ -83,6 +88,10 @@ fn hear_at<D: Device>(devices: &mut [D], index: usize, bytes: &[u8], wire: &mut 
         → AllZip D.stands devices.old (before ++ h ∷ after)
         → AllZip D.stands devices.new (before ++ then_event h (Heard bytes.now) ∷ after) }
     ensures silent { OnFalse result (wire.new ≡ wire.old) }
+    ensures kept { (before after : List History) (h : History) → length before ≡ index
+        → AllZip D.stands devices.old (before ++ h ∷ after)
+        → (d : D) → IfSome (D.came_to (slice_index_or devices.new index d)) (CameTo h bytes.now) }
+    ensures others { (i : ℕ) (d : D) → i ≢ index → slice_index_or devices.new i d ≡ slice_index_or devices.old i d }
     ensures rest { map D.rest devices.new ≡ map D.rest devices.old }
     ensures len { length devices.new ≡ length devices.old }
 {
@@ -102,6 +111,8 @@ fn hear_all<D: Device>(
         → (result, wire.new) ≡ wave rule wire.old (answers bytes.now hs) }
     ensures stands { (hs : List History) → AllZip D.stands devices.old hs
         → AllZip D.stands devices.new (map (heard_by bytes.now) hs) }
+    ensures kept { (hs : List History) → AllZip D.stands devices.old hs
+        → HaveKept D.came_to bytes.now hs devices.old devices.new }
     ensures rest { map D.rest devices.new ≡ map D.rest devices.old }
     ensures len { length devices.new ≡ length devices.old }
 {
@@ -131,6 +142,10 @@ fn hear_next<D: Device>(
     ensures stands { (before after : List History) (h : History) → length before ≡ index
         → AllZip D.stands devices.old (before ++ h ∷ after)
         → AllZip D.stands devices.new (before ++ heard_by bytes.now h ∷ after) }
+    ensures kept { (before after : List History) (h : History) → length before ≡ index
+        → AllZip D.stands devices.old (before ++ h ∷ after)
+        → (d : D) → HasKept D.came_to bytes.now h (slice_index_or devices.old index d) (slice_index_or devices.new index d) }
+    ensures others { (i : ℕ) (d : D) → i ≢ index → slice_index_or devices.new i d ≡ slice_index_or devices.old i d }
     ensures rest { map D.rest devices.new ≡ map D.rest devices.old }
     ensures len { length devices.new ≡ length devices.old }
 {

@@ -5,7 +5,7 @@ ghost use Rattle.rdm_frame.specs.declared.uid.Uid.{Uid};
 ghost use Rattle.rdm_search.specs.declared.request.Request.{Request};
 ghost use Rattle.rdm_search.specs.Line.{IsDevice, IsHeard, after_request};
 ghost use Rattle.rdm_search.specs.Requests.{request_frame, IsRequest};
-ghost use Rattle.rdm_line.specs.Searching.{fixtures_of, HasHistories};
+ghost use Rattle.rdm_line.specs.Searching.{fixtures_of, HasHistories, IsSent};
 
 use crate::ranges::frame_fits;
 use crate::{Device, Line};
@@ -55,6 +55,8 @@ impl<D: Device> LinePort<D> {
 impl<D: Device> Port for LinePort<D> {
     ghost fixtures = { λ p. fixtures_of D.muted p.line };
 
+    ghost hears = { λ p frame heard q. IsSent D.stands p.line frame heard q.line };
+
     ghost sent = { λ p. p.sent };
 
     // Nothing is altered on it.
@@ -70,6 +72,7 @@ impl<D: Device> Port for LinePort<D> {
 fn ask<D: Device>(line: &mut Line<D>, frame: &Frame) -> Wire
     requires { HasHistories D.stands line.old }
     ensures alive { HasHistories D.stands line.new }
+    ensures exchanged { IsSent D.stands line.old frame.now result line.new }
     ensures heard { (request : Request) (source : Uid) (tn : ℕ) → IsRequest request
         → frame.now ≡ request_frame source tn request → IsHeard request (fixtures_of D.muted line.old) result }
     ensures after { (request : Request) (source : Uid) (tn : ℕ) → IsRequest request

@@ -5,6 +5,7 @@ use rdm_frame::{Uid, Wire};
 use rdm_responder::Responder;
 
 impl Device for Responder {
+    ghost use Rattle.std.specs.Prelude.{None};
     ghost use Rattle.rdm_responder.specs.StandsFor.{StandsFor};
 
     ghost stands = { StandsFor };
@@ -12,6 +13,9 @@ impl Device for Responder {
     ghost muted = { λ r. r.muted };
 
     ghost mutings = { λ r h is. is.muted };
+
+    // It keeps none of it.
+    ghost came_to = { λ _. None };
 
     ghost Rest = { Unit {0} };
 

@@ -13,6 +13,7 @@ pub struct Station {
 }
 
 impl Device for Station {
+    ghost use Rattle.std.specs.Prelude.{Some};
     ghost use Rattle.rdm_line.specs.Stations.{StationStandsFor};
 
     ghost stands = { StationStandsFor };
@@ -20,6 +21,8 @@ impl Device for Station {
     ghost muted = { λ s. s.responder.muted };
 
     ghost mutings = { λ s h is. is.muted };
+
+    ghost came_to = { λ s. Some s.stepped };
 
     ghost Rest = { Unit {0} };
 
@@ -29,6 +32,7 @@ impl Device for Station {
         self.responder.uid()
     }
 
+    #[tactic(auto, using(crate::proofs::Keeping::came))]
     fn hear(&mut self, bytes: &[u8], wire: &mut Wire) -> bool {
         self.stepped = self.responder.step_into(bytes, wire);
         self.stepped.replied

@@ -2,7 +2,7 @@
 use Rattle.std.proofs.Common.{◌≡◌, ◌⊎◌, ℕ, ◌+◌, ◌^◌, ◌<◌, ◌≤◌, ◌==◌, ◌&&◌, ◌||◌, Bool, true, false, cond, List, ◌∷◌, length, Option, Some, None, refl, sym, ap, subst, ◌∙◌, inl, inr, arith}
 use Rattle.std.specs.Prelude.{not}
 use Rattle.std.specs.Option.{option_map_or}
-use Rattle.std.proofs.lemmas.Bool.{and_left, and_right, and_parts, and_from, both_ways, cases_Bool, cond_both, eqb-true, eq-eqb, lt-ltb}
+use Rattle.std.proofs.lemmas.Bool.{and_left, and_right, and_parts, and_from, both_ways, cases_Bool, cond_both, eqb-true, eq-eqb, lt-ltb, or_left}
 use Rattle.rdm_frame.specs.declared.frame.Frame.{Frame}
 use Rattle.rdm_frame.specs.declared.uid.Uid.{Uid}
 use Rattle.rdm_frame.specs.Addressing.{is_addressed, is_broadcast, same_uid}
@@ -17,7 +17,7 @@ use Rattle.rdm_responder.specs.Rules.{Account, Response, account_of, answer_to, 
 use Rattle.rdm_line.proofs.Alone.{uid_decides}
 use Rattle.rdm_line.proofs.Unheard.{setup_of}
 use Rattle.rdm_messages.specs.Protocol.{from_line}
-use Rattle.rdm_interface.specs.Answers.{belongs, is_branch, is_fetch, is_response, responds_to, wanted_for}
+use Rattle.rdm_interface.specs.Answers.{belongs, has_response, is_branch, is_fetch, is_response, responds_to, wanted_for}
 use Rattle.rdm_line_ends.specs.Replies.{AreBytes, RepliesAreResponses, BranchesAreAnswered, RepliesBelong}
 use Rattle.rdm_line_ends.proofs.Messages.{AreResponses, messages_are_responses}
 use Rattle.rdm_line_ends.proofs.Rereading.{each_byte, few_data, fits_read, found_fits, read_back, text_read, text_size}
@@ -227,7 +227,7 @@ response_belongs f request reply asked are found other is =
     let read = read_response f g (found_fits request f asked found) is.number is.device is.controller is.fits in (
       omega (arith, size, few_data g (each_byte (frame_text g) bytes)),
       if_second (is_branch f) _ _ (λ w. belongs w (from_line reply)) other
-          ∙ ap (λ (l : List ℕ). option_map_or (is_response f) (frame_in l) false) is.text ∙ read,
+          ∙ or_left (has_response f (from_line reply)) _ (ap (λ (l : List ℕ). option_map_or (is_response f) (frame_in l) false) is.text ∙ read),
     )
 
 none_heard : (a : Account) (reply : List ℕ) → answer_to a (request_in a.setup.uid None) ≡ Some reply → ⊥

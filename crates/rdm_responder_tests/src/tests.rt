@@ -22,10 +22,9 @@ use play::{Run, plays};
 use rdm_frame::standard::{DISCOVERY_COMMAND as DISCOVERY, GET_COMMAND as GET, SET_COMMAND as SET};
 use rdm_frame::{Body, Frame, Uid, Wire, encode};
 use rdm_params::Profile;
-use rdm_responder::{Input, NewError, Output, Responder};
+use rdm_responder::{Input, Output, Responder};
 use std::alloc::Global;
 use std::process::Abort;
-use std::test::Fail;
 
 const DEVICE: Uid = Uid {
     maker: 0x7FF0,
@@ -40,8 +39,8 @@ const CONTROLLER: Uid = Uid {
 const IDENTIFY_DEVICE: u16 = 0x1000;
 
 /// A request of the controller to root devices.
-fn request(dst: Uid, tn: u8, class: u8, pid: u16, slots: &[u8]) -> Result<Wire, Fail> {
-    Ok(encode(&Frame {
+fn request(rt: &impl Abort, dst: Uid, tn: u8, class: u8, pid: u16, slots: &[u8]) -> Wire {
+    encode(&Frame {
         dst,
         src: CONTROLLER,
         tn,
@@ -50,8 +49,8 @@ fn request(dst: Uid, tn: u8, class: u8, pid: u16, slots: &[u8]) -> Result<Wire, 
         sub: 0,
         class,
         pid,
-        body: Body::from_slice(slots).ok_or("slots of a frame")?,
-    }))
+        body: Body::from_slice(slots).expect(rt, "slots of a frame"),
+    })
 }
 
 /// The bytes that hexadecimal digits print. Blanks between them are for the eye.
@@ -80,41 +79,40 @@ fn append(rt: &impl Abort, wire: &mut Wire, bytes: &[u8]) {
 }
 
 /// A responder of the demo fixture with so many sub-devices, and room for so many results of slow commands.
-fn responder_with(alloc: Global, subs: u16, queue_size: u16) -> Result<Responder, NewError> {
-    Responder::new(alloc, DEVICE, Profile::demo(subs), queue_size)
+fn responder_with(rt: &impl Abort, alloc: Global, subs: u16, queue_size: u16) -> Responder {
+    let made = Responder::new(alloc, DEVICE, Profile::demo(subs), queue_size);
+    made.expect(rt, "a good profile and size")
 }
 
 #[test]
-fn runs_go_as_printed(rt: HostRuntime) -> Result<(), Fail> {
-    play_all(&rt, rt.alloc(), &discovery::RUNS)?;
-    play_all(&rt, rt.alloc(), &identify::RUNS)?;
-    play_all(&rt, rt.alloc(), &parameters::RUNS)?;
-    play_all(&rt, rt.alloc(), &waiting::RUNS)?;
-    play_all(&rt, rt.alloc(), &clear::RUNS)?;
-    play_all(&rt, rt.alloc(), &panel::RUNS)
+fn runs_go_as_printed(rt: HostRuntime) {
+    play_all(&rt, rt.alloc(), discovery::RUNS);
+    play_all(&rt, rt.alloc(), identify::RUNS);
+    play_all(&rt, rt.alloc(), parameters::RUNS);
+    play_all(&rt, rt.alloc(), waiting::RUNS);
+    play_all(&rt, rt.alloc(), clear::RUNS);
+    play_all(&rt, rt.alloc(), panel::RUNS);
 }
 
-fn play_all(rt: &impl Abort, alloc: Global, runs: &[Run<'_>]) -> Result<(), Fail> {
+fn play_all(rt: &impl Abort, alloc: Global, runs: &[Run<'_>]) {
     for run in runs {
-        plays(rt, alloc, *run)?;
+        plays(rt, alloc, *run);
     }
-    Ok(())
 }
 
 #[test]
-fn requests_have_the_printed_bytes(rt: HostRuntime) -> Result<(), Fail> {
-    for (dst, class, pid, slots, text) in &REQUESTS {
-        let bytes = request(*dst, 0, *class, *pid, slots)?;
+fn requests_have_the_printed_bytes(rt: HostRuntime) {
+    for (dst, class, pid, slots, text) in REQUESTS {
+        let bytes = request(&rt, *dst, 0, *class, *pid, slots);
         assert_eq!(rt; bytes, printed(&rt, text), "{text}");
     }
-    Ok(())
 }
 
 /// A request: to which device, the class, the PID, the slots, and its bytes.
 type Request = (Uid, u8, u16, &'static [u8], &'static str);
 
 /// IDENTIFY_DEVICE, and a branch of the device alone.
-const REQUESTS: [Request; 3] = [
+const REQUESTS: &[Request] = &[
     (
         DEVICE,
         GET,
@@ -138,27 +136,23 @@ const REQUESTS: [Request; 3] = [
     ),
 ];
 
+/// IDENTIFY_DEVICE is set to on at all devices, and asked for.
+const SET_ON: &str = "CC0119 FFFFFFFFFFFF 7FF000000002 00 01 00 0000 30 1000 01 01 0894";
+
+const ASK: &str = "CC0118 7FF000000001 7FF000000002 02 01 00 0000 20 1000 00 03F9";
+
+const IS_ON: &str = "CC0119 7FF000000002 7FF000000001 02 00 00 0000 21 1000 01 01 03FC";
+
 #[test]
-fn a_whole_run_is_answered_in_order(rt: HostRuntime) -> Result<(), Fail> {
-    let mut responder = responder_with(rt.alloc(), 0, 8)?;
-    let set = printed(
-        &rt,
-        "CC0119 FFFFFFFFFFFF 7FF000000002 00 01 00 0000 30 1000 01 01 0894",
-    );
-    let get = printed(
-        &rt,
-        "CC0118 7FF000000001 7FF000000002 02 01 00 0000 20 1000 00 03F9",
-    );
+fn a_whole_run_is_answered_in_order(rt: HostRuntime) {
+    let (set, get) = (printed(&rt, SET_ON), printed(&rt, ASK));
     let inputs = [Input::Heard(set.as_slice()), Input::Heard(get.as_slice())];
-    let outputs = responder.step_all(rt.alloc(), &inputs)?;
-    let on = printed(
-        &rt,
-        "CC0119 7FF000000002 7FF000000001 02 00 00 0000 21 1000 01 01 03FC",
-    );
+    let mut responder = responder_with(&rt, rt.alloc(), 0, 8);
+    let outputs = responder.step_all(rt.alloc(), &inputs);
     let expected = [
         Output::Answered(None, None),
-        Output::Answered(Some(on), None),
+        Output::Answered(Some(printed(&rt, IS_ON)), None),
     ];
+    let outputs = outputs.expect(&rt, "memory");
     assert_eq!(rt; outputs.as_slice(), expected.as_slice());
-    Ok(())
 }

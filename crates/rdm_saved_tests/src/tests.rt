@@ -126,18 +126,16 @@ fn changed(rt: &impl Abort, alloc: Global) -> Fixture {
     fixture
 }
 
+/// The image of a fixture is this one.
+fn has_image(rt: &impl Abort, fixture: &Fixture, image: &[u8]) {
+    assert_eq!(rt; fixture.image().as_slice(), image);
+}
+
 #[test]
 fn images_are_those_worked_out(rt: HostRuntime) {
-    assert_eq!(rt;
-        Fixture::at_start(&rt, rt.alloc(), Profile::demo(1))
-            .image()
-            .as_slice(),
-        AT_START.as_slice()
-    );
-    assert_eq!(rt;
-        changed(&rt, rt.alloc()).image().as_slice(),
-        CHANGED.as_slice()
-    );
+    let at_start = Fixture::at_start(&rt, rt.alloc(), Profile::demo(1));
+    has_image(&rt, &at_start, &AT_START);
+    has_image(&rt, &changed(&rt, rt.alloc()), &CHANGED);
 }
 
 #[test]
@@ -155,38 +153,53 @@ fn an_image_stands_in_front(rt: HostRuntime) {
     assert_eq!(rt; shorter.as_slice(), [0xEE; 131].as_slice());
 }
 
+/// An image is restored, and the fixture then has it.
+fn restores(rt: &impl Abort, fixture: &mut Fixture, image: &[u8]) {
+    assert_eq!(rt; fixture.restore(image), Ok(()));
+    has_image(rt, fixture, image);
+}
+
+/// A device has this label and this start address.
+fn is_labelled(rt: &impl Abort, device: &CommonValues, label: &[u8], start: u16) {
+    assert_eq!(rt; (device.label.as_slice(), device.start), (label, start));
+}
+
 #[test]
 fn saved_values_are_restored(rt: HostRuntime) {
     let mut fixture = Fixture::at_start(&rt, rt.alloc(), Profile::demo(1));
-    assert_eq!(rt; fixture.restore(&CHANGED), Ok(()));
-    assert_eq!(rt; fixture.image().as_slice(), CHANGED.as_slice());
-    assert_eq!(rt; fixture.root.label.as_slice(), b"Left".as_slice());
-    assert_eq!(rt; fixture.root.start, 0x0123);
-    assert_eq!(rt; fixture.own.power_cycles, 0x2122_2324);
+    restores(&rt, &mut fixture, &CHANGED);
+    is_labelled(&rt, &fixture.root, b"Left", 0x0123);
+    is_labelled(&rt, &fixture.subs[0], b"", 512);
+    let recorded = fixture.own.sensors.first().map(|sensor| sensor.recorded);
     assert_eq!(rt;
-        fixture.own.sensors.first().map(|sensor| sensor.recorded),
-        Some(-2)
+        (fixture.own.power_cycles, recorded),
+        (0x2122_2324, Some(-2))
     );
-    assert_eq!(rt; fixture.subs[0].label.as_slice(), b"".as_slice());
-    assert_eq!(rt; fixture.subs[0].start, 512);
 }
 
 #[test]
 fn values_of_the_moment_stay(rt: HostRuntime) {
     let mut fixture = changed(&rt, rt.alloc());
-    assert_eq!(rt; fixture.restore(&AT_START), Ok(()));
-    assert_eq!(rt; fixture.image().as_slice(), AT_START.as_slice());
-    assert_eq!(rt; fixture.root.lamp_state, 3);
-    assert_eq!(rt; fixture.root.identify, 1);
-    assert_eq!(rt; fixture.root.power_state, 0);
-    assert_eq!(rt; fixture.own.self_test, 1);
-    assert_eq!(rt; fixture.own.preset, (2, 3));
-    let sensor = fixture.own.sensors.first();
+    restores(&rt, &mut fixture, &AT_START);
+    root_values_stay(&rt, &fixture.root);
+    own_values_stay(&rt, &fixture.own);
+    assert_eq!(rt; fixture.subs[0].identify, 1);
+}
+
+/// The root identifies itself, and its lamp and power are as they were.
+fn root_values_stay(rt: &impl Abort, root: &CommonValues) {
+    let shown = (root.lamp_state, root.identify, root.power_state);
+    assert_eq!(rt; shown, (3, 1, 0));
+}
+
+/// A self test and a preset go on, and the first sensor has measured what it has.
+fn own_values_stay(rt: &impl Abort, own: &RootValues) {
+    assert_eq!(rt; (own.self_test, own.preset), (1, (2, 3)));
+    let sensor = own.sensors.first();
     assert_eq!(rt;
         sensor.map(|sensor| (sensor.present, sensor.lowest, sensor.highest)),
         Some((5, -7, 9))
     );
-    assert_eq!(rt; fixture.subs[0].identify, 1);
 }
 
 #[test]

@@ -19,10 +19,10 @@ use Rattle.rdm_search.specs.Line.{Fixture, IsDevice, IsHeard, IsAltered, IsCalle
 use Rattle.rdm_search.specs.Answers.{is_mute_answer, found_in, mute_answer, found_uids, knows, newcomer}
 use Rattle.rdm_search.specs.Ranges.{low, high, IsRange}
 use Rattle.rdm_search.specs.Searches.{found_after, is_in_doubt}
-use Rattle.rdm_search.specs.Stages.{Hears, IsReal, IsLeft, Stands, Leads, Strays, stage_of_mute, whole}
+use Rattle.rdm_search.specs.Stages.{Hears, IsReal, IsLeft, Stands, Leads, Strays, stage_of_mute, halved, whole}
 use Rattle.rdm_search.proofs.Prices.{at_most}
 use Rattle.rdm_search.proofs.Standing.{IsKnown, IsCovered}
-use Rattle.rdm_search.proofs.Mutes.{same, newly, again}
+use Rattle.rdm_search.proofs.Mutes.{same, newly, again, sent_again, given_up}
 
 -- ---- what is known
 
@@ -68,6 +68,10 @@ abbrev Goal : Range → Uid → List Found → List Fixture → Option Found →
 Goal r u found line new =
     Leads (Muting r u) line (stage_of_mute r new) (found_uids (found ++ option_to_list new)) (map (after_mute u) line)
 
+abbrev Stray : Range → Uid → List Found → List Fixture → Option Found → Type 0
+Stray r u found line new =
+    Strays (Muting r u) line (stage_of_mute r new) (found_uids (found ++ option_to_list new)) (map (after_mute u) line)
+
 none_new : (r : Range) (u : Uid) (found : List Found) (line : List Fixture) → IsRange r → Stands (Muting r u) (found_uids found) line → (Contains (uids line) u → Contains (found_uids found) u) → Goal r u found line None
 none_new r u found line fits stands there =
     subst (λ (us : List Uid). Leads (Muting r u) line (stage_of_mute r None) us (map (after_mute u) line)) (sym (ap found_uids (append-nil found))) (again r fits u (found_uids found) line stands there)
@@ -84,6 +88,18 @@ mute_leads r u found heard fits line stands called =
       | inl k ↦ subst (Goal r u found line) (sym (cond-true (knows found u) None (mute_answer u heard) k)) (none_new r u found line fits stands (λ there. known found u k))
       | inr n ↦ subst (Goal r u found line) (sym (cond-false (knows found u) None (mute_answer u heard) n)) (heard_by r u found line fits stands n (mute_answer u heard) (answer_of u heard) called)
     ]
+
+-- ---- no fixture answered it, and noise was heard
+
+no_one : (b : Bool) (o : Option Found) → o ≡ None → cond b None o ≡ None
+no_one true o e = refl
+no_one false o e = e
+
+stray_leads : (r : Range) (u : Uid) (found : List Found) (heard : List ℕ) → IsRange r → (line : List Fixture) → Stands (Muting r u) (found_uids found) line → IsAltered (Mute u) line heard → Stray r u found line (newcomer found u heard)
+stray_leads r u found heard fits line stands noise =
+    let none : newcomer found u heard ≡ None = no_one (knows found u) (mute_answer u heard) noise.2 in
+    let on = given_up r fits u (found_uids found) line stands noise.0 in
+    subst (Stray r u found line) (sym none) (subst (λ (us : List Uid). Strays (Muting r u) line (halved r) us (map (after_mute u) line)) (sym (ap found_uids (append-nil found))) on)
 
 -- ---- all are un-muted
 
@@ -138,7 +154,7 @@ mute_hears r u found found' heard next fits e e' =
     let new = newcomer found u heard in
     let here : Here r u found heard (stage_of_mute r new) (found ++ option_to_list new) = λ request line is stands. (
     let this : Mute u ≡ request = cc in
-    subst (After (Muting r u) (found_uids found) heard (stage_of_mute r new) (found_uids (found ++ option_to_list new)) line) this (λ h. mute_leads r u found heard fits line stands h.0, λ h. absurd h)) in
+    subst (After (Muting r u) (found_uids found) heard (stage_of_mute r new) (found_uids (found ++ option_to_list new)) line) this (λ h. mute_leads r u found heard fits line stands h.0, λ noise. stray_leads r u found heard fits line stands noise)) in
     subst (λ (stage : Stage). Here r u found heard stage found') (sym e) (subst (λ (after : List Found). Here r u found heard (stage_of_mute r new) after) (sym e') here)
 
 -- ---- a mute that is in doubt
@@ -149,24 +165,34 @@ sounds heard h e = false≢true (sym (ap (λ (xs : List ℕ). not (length xs == 
 not_some : (b : Bool) → not b ≡ true → b ≡ true → ⊥
 not_some b h e = false≢true (sym (ap not e) ∙ h)
 
-pub doubt_hears : (stage next : Stage) (found found' : List Found) (heard : List ℕ) → true ≡ is_in_doubt stage found heard → Hears stage (found_uids found) heard next (found_uids found')
-doubt_hears Start next found found' heard h request line e stands = absurd (false≢true (sym h))
-doubt_hears (Asking r) next found found' heard h request line e stands = absurd (false≢true (sym h))
-doubt_hears Ended next found found' heard h request line e stands = absurd (false≢true (sym h))
-doubt_hears (Muting r u) next found found' heard h request line e stands =
-    let parts = and_parts (not (length heard == 0)) (not (knows found u) && not (is_some (mute_answer u heard))) (sym h) in
-    let none = and_parts (not (knows found u)) (not (is_some (mute_answer u heard))) parts.1 in
-    let this : Mute u ≡ request = cc in
-    subst (After (Muting r u) (found_uids found) heard next (found_uids found') line) this
-    (λ is. absurd (not_some (is_some (mute_answer u heard)) none.1 (is.1 (sounds heard parts.0))), λ altered. absurd altered)
-
 no_new : (o : Option Found) → not (is_some o) ≡ true → o ≡ None
 no_new None h = refl
 no_new (Some x) h = absurd (false≢true h)
 
-no_one : (b : Bool) (o : Option Found) → o ≡ None → cond b None o ≡ None
-no_one true o e = refl
-no_one false o e = e
+-- the stage after noise, on each line where the search stands
+doubt_leads : (r : Range) (u : Uid) (next : Stage) (found : List Found) (heard : List ℕ) → true ≡ is_in_doubt (Muting r u) found heard
+    → ((line : List Fixture) → Stands (Muting r u) (found_uids found) line → (Contains (uids line) u → ⊥) → Strays (Muting r u) line next (found_uids found) (map (after_mute u) line))
+    → Hears (Muting r u) (found_uids found) heard next (found_uids found)
+doubt_leads r u next found heard h on request line e stands =
+    let parts = and_parts (not (length heard == 0)) (not (knows found u) && not (is_some (mute_answer u heard))) (sym h) in
+    let none = and_parts (not (knows found u)) (not (is_some (mute_answer u heard))) parts.1 in
+    let this : Mute u ≡ request = cc in
+    subst (After (Muting r u) (found_uids found) heard next (found_uids found) line) this
+    (λ is. absurd (not_some (is_some (mute_answer u heard)) none.1 (is.1 (sounds heard parts.0))), λ noise. on line stands noise.0)
+
+-- the same mute is sent again
+pub doubt_repeats : (stage : Stage) (found : List Found) (heard : List ℕ) → true ≡ is_in_doubt stage found heard → Hears stage (found_uids found) heard stage (found_uids found)
+doubt_repeats Start found heard h = absurd (false≢true (sym h))
+doubt_repeats (Asking r) found heard h = absurd (false≢true (sym h))
+doubt_repeats Ended found heard h = absurd (false≢true (sym h))
+doubt_repeats (Muting r u) found heard h = doubt_leads r u (Muting r u) found heard h (λ line stands gone. sent_again r u (found_uids found) line stands gone)
+
+-- the search goes on without its answer
+pub doubt_goes_on : (stage next : Stage) (r : Range) (u : Uid) (found : List Found) (heard : List ℕ) → stage ≡ Muting r u → IsRange r → next ≡ halved r → true ≡ is_in_doubt stage found heard → Hears stage (found_uids found) heard next (found_uids found)
+doubt_goes_on stage next r u found heard e fits e' h =
+    let here : Hears (Muting r u) (found_uids found) heard (halved r) (found_uids found) =
+    doubt_leads r u (halved r) found heard (h ∙ ap (λ (s : Stage). is_in_doubt s found heard) e) (λ line stands gone. given_up r fits u (found_uids found) line stands gone) in
+    subst (λ (s : Stage). Hears s (found_uids found) heard next (found_uids found)) (sym e) (subst (λ (n : Stage). Hears (Muting r u) (found_uids found) heard n (found_uids found)) (sym e') here)
 
 pub doubt_found : (stage : Stage) (found : List Found) (heard : List ℕ) → true ≡ is_in_doubt stage found heard → found_after stage found heard ≡ found
 doubt_found Start found heard h = refl

@@ -6,6 +6,7 @@ pub mod Standing
 pub mod Branches
 pub mod Mutes
 pub mod Hearings
+pub mod Exchanges
 pub mod Runs
 pub mod Losses
 pub mod Reals

@@ -13,11 +13,17 @@ use Rattle.rdm_search.specs.declared.stage.Stage.{Stage}
 use Rattle.rdm_search.specs.declared.stage.Stage.TheVariants.{Asking, Muting}
 use Rattle.rdm_search.specs.Line.{Fixture, IsDevice, uids, after_mute}
 use Rattle.rdm_search.specs.Ranges.{place, IsRange}
-use Rattle.rdm_search.specs.Stages.{when, count, busy, is_unmuted, is_astray, stage_after, halved, IsReal, IsLeft, IsDue, IsUnmuted, Stands, Leads}
+use Rattle.rdm_search.specs.Stages.{when, count, busy, is_unmuted, is_astray, stage_after, halved, IsReal, IsLeft, IsDue, IsUnmuted, Stands, Leads, Strays}
 use Rattle.rdm_search.proofs.Places.{one_number, last_place}
 use Rattle.rdm_search.proofs.Counts.{fewer, no_more, counted, addressed_itself}
 use Rattle.rdm_search.proofs.Prices.{later_less, busy_one_less, mute_pays, stray_pays}
 use Rattle.rdm_search.proofs.Standing.{IsKnown, IsCovered, IsPast, behind, lower, single}
+
+abbrev pub fixture : Uid → Bool → Fixture
+fixture u m = record { uid = u; muted = m }
+
+pub two : (f g : Fixture) (line after : List Fixture) → g ≡ f → after ≡ line → g ∷ after ≡ f ∷ line
+two f g line after e e' = rw (e, e') refl
 
 abbrev uid : ℕ → ℕ → Uid
 uid m d = record { maker = m; device = d }
@@ -211,3 +217,32 @@ again r fits u found line stands there =
           let here : Leads (Muting r u) line (stage_after d i) found after = (next.0, omega (arith, next.1)) in
           subst (λ (stage : Stage). Leads (Muting r u) line stage found after) (sym (single r deepest)) here
     ]
+
+-- ---- nobody answers, and noise is heard
+
+or_false : (m b : Bool) → b ≡ false → (m || b) ≡ m
+or_false true b e = refl
+or_false false b e = e
+
+unaddressed : (u : Uid) → IsDevice u → (f : Fixture) → (f.uid ≡ u → ⊥) → after_mute u f ≡ f
+unaddressed u device f other =
+    let not_it : is_addressed f.uid u ≡ false = elim (cases_Bool (is_addressed f.uid u)) [ inl it ↦ absurd (other (one_addressed f.uid u device it)) | inr no' ↦ no' ] in
+    ap (λ (m : Bool). fixture f.uid m) (or_false f.muted (is_addressed f.uid u) not_it)
+
+-- the fixtures are as they were
+nobody_muted : (u : Uid) → IsDevice u → (line : List Fixture) → (Contains (uids line) u → ⊥) → map (after_mute u) line ≡ line
+nobody_muted u device [] gone = refl
+nobody_muted u device (f ∷ line) gone =
+    two f (after_mute u f) line (map (after_mute u) line) (unaddressed u device f (λ e. gone (0, omega arith, e))) (nobody_muted u device line (λ there. gone (suc there.0, omega (arith, there.1), there.2)))
+
+-- the same mute is sent again
+pub sent_again : (r : Range) (u : Uid) (found : List Uid) (line : List Fixture) → Stands (Muting r u) found line → (Contains (uids line) u → ⊥) → Strays (Muting r u) line (Muting r u) found (map (after_mute u) line)
+sent_again r u found line stands gone =
+    let here : Strays (Muting r u) line (Muting r u) found line = (stands, omega arith) in
+    subst (λ (l : List Fixture). Strays (Muting r u) line (Muting r u) found l) (sym (nobody_muted u stands.1.device line gone)) here
+
+-- the search goes on without an answer
+pub given_up : (r : Range) → IsRange r → (u : Uid) (found : List Uid) (line : List Fixture) → Stands (Muting r u) found line → (Contains (uids line) u → ⊥) → Strays (Muting r u) line (halved r) found (map (after_mute u) line)
+given_up r fits u found line stands gone =
+    let on = again r fits u found line stands (λ there. absurd (gone there)) in
+    (on.0, omega (arith, on.1))

@@ -20,7 +20,7 @@ use Rattle.rdm_search.specs.Stages.{IsReal, request_of}
 use Rattle.rdm_search.proofs.Runs.{request_keeps, none_found}
 use Rattle.rdm_search.proofs.Mutes.{real_push}
 use Rattle.rdm_search.proofs.Hearings.{answer_of, push_uid, unknown}
-use Rattle.rdm_search.proofs.Losses.{Asked, partly_uids}
+use Rattle.rdm_search.proofs.Losses.{Asked, no_answer, partly_uids}
 
 -- ---- the fixtures stay
 
@@ -54,7 +54,7 @@ same_fixtures request line heard after (inr lost) = partly_uids request line aft
 
 answered_so : (u : Uid) (line : List Fixture) (heard : List ℕ) (n n' : ℕ) → IsAnswer (Mute u) line heard n n' → IsSome (mute_answer u heard) → Contains (uids line) u
 answered_so u line heard n n' (inl h) some = h.0.0.0 some
-answered_so u line heard n n' (inr h) some = absurd h.0
+answered_so u line heard n n' (inr h) some = absurd (no_answer u heard h.0.2 some)
 
 on_line : (u : Uid) (line : List Fixture) (heard : List ℕ) (after : List Fixture) → Answered (Mute u) line heard after → (x : Found) → mute_answer u heard ≡ Some x → Contains (uids line) u
 on_line u line heard after (inl kept) x e = answered_so u line heard kept.0 kept.1 kept.2.0 (subst IsSome (sym e) refl)

@@ -15,7 +15,7 @@ use Rattle.rdm_search.specs.declared.request.Request.TheVariants.{UnMute, Unique
 use Rattle.rdm_search.specs.declared.stage.Stage.{Stage}
 use Rattle.rdm_search.specs.declared.stage.Stage.TheVariants.{Start, Asking, Muting, Ended}
 use Rattle.rdm_search.specs.Requests.{request_frame, IsRequest}
-use Rattle.rdm_search.specs.Line.{Fixture, IsDevice, IsHeard, IsAltered, IsAnswer, IsFound, uids, unmuted, after_request}
+use Rattle.rdm_search.specs.Line.{Fixture, IsDevice, IsHeard, IsAltered, IsCounted, IsAnswer, IsFound, uids, unmuted, after_request}
 use Rattle.rdm_search.specs.Ranges.{uid_of, low, high, place}
 use Rattle.rdm_search.specs.Searches.{next_of}
 use Rattle.rdm_search.specs.Stages.{when, request_of, IsStage, count, price, IsReal, Stands, Leads, Strays, whole}
@@ -33,19 +33,23 @@ request_keeps (Mute u) line = same_uids u line
 
 -- ---- what was heard, altered or not
 
--- From this stage a search has come to another one, where it stands, and this many answers to branches were altered.
+-- From this stage a search has come to another one, where it stands, and this many answers were altered.
 abbrev pub Comes : Stage → List Fixture → Stage → List Uid → List Fixture → ℕ → ℕ → Type 0
 Comes stage line stage' found' line' n n' = Stands stage' found' line' × (price stage' line' + 2 + 3 * n ≤ price stage line + 3 * n')
+
+pub counted_more : (request : Request) (line : List Fixture) (n n' : ℕ) → IsCounted request line n n' → n ≤ n'
+counted_more request line n n' (inl e) = omega (arith, e)
+counted_more request line n n' (inr h) = h.1
 
 pub answer_leads : (stage stage' : Stage) (found found' : List Uid) (request : Request) (line : List Fixture) (heard : List ℕ) (n n' : ℕ)
     → (IsHeard request line heard → Leads stage line stage' found' (after_request request line)) × (IsAltered request line heard → Strays stage line stage' found' (after_request request line))
     → IsAnswer request line heard n n' → Comes stage line stage' found' (after_request request line) n n'
-answer_leads stage stage' found found' request line heard n n' leads (inl h) = let on = leads.0 h.0 in (on.0, omega (arith, on.1, h.1))
-answer_leads stage stage' found found' request line heard n n' leads (inr h) = let on = leads.1 h.0 in (on.0, omega (arith, on.1, h.1))
+answer_leads stage stage' found found' request line heard n n' leads (inl h) = let on = leads.0 h.0 in let more = counted_more request line n n' h.1 in (on.0, omega (arith, on.1, more))
+answer_leads stage stage' found found' request line heard n n' leads (inr h) = let on = leads.1 h.0 in let more = counted_more request line (suc n) n' h.1 in (on.0, omega (arith, on.1, more))
 
 pub altered_more : (request : Request) (line : List Fixture) (heard : List ℕ) (n n' : ℕ) → IsAnswer request line heard n n' → n ≤ n'
-altered_more request line heard n n' (inl h) = omega (arith, h.1)
-altered_more request line heard n n' (inr h) = omega (arith, h.1)
+altered_more request line heard n n' (inl h) = counted_more request line n n' h.1
+altered_more request line heard n n' (inr h) = let more = counted_more request line (suc n) n' h.1 in omega (arith, more)
 
 -- ---- the end
 

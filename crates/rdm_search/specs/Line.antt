@@ -1,5 +1,5 @@
 -- A line: its fixtures, what is heard of them, and what a search has to find. E1.20 sections 7.5 and 7.6.
-use Rattle.std.specs.Prelude.{◌≡◌, ◌≢◌, ◌↔◌, ◌⊎◌, ℕ, suc, Bool, true, false, not, ◌&&◌, ◌||◌, nat_le, List, [], ◌∷◌, map, Contains, All, AllPairs, IsSome}
+use Rattle.std.specs.Prelude.{◌≡◌, ◌≢◌, ◌↔◌, ◌⊎◌, ℕ, suc, ◌≤◌, Bool, true, false, not, ◌&&◌, ◌||◌, nat_le, List, [], ◌∷◌, map, Contains, All, AllPairs, None, IsSome}
 use Rattle.std.specs.List.{filter}
 use Rattle.rdm_frame.specs.declared.uid.Uid.{Uid}
 use Rattle.rdm_frame.specs.FrameText.{IsUid}
@@ -45,16 +45,28 @@ IsHeard (UniqueBranch low high) line heard = IsCalled (callers low high line) he
 IsHeard (Mute uid) line heard =
     (IsSome (mute_answer uid heard) ↔ Contains (uids line) uid) × (heard ≢ [] → IsSome (mute_answer uid heard))
 
--- An answer to a branch was altered on its way: any bytes are heard, though not none. They may decode as the UID of anybody.
+-- A mute for a UID that no fixture has: bytes that aren't an answer may decode as one.
+abbrev pub IsForNobody : Request → List Fixture → Type 0
+IsForNobody UnMute line = ⊥
+IsForNobody (UniqueBranch low high) line = ⊥
+IsForNobody (Mute uid) line = Contains (uids line) uid → ⊥
+
+-- An answer to a branch was altered on its way: any bytes are heard, though not none. They may decode as the UID of anybody. Or there is
+-- noise after a mute for nobody: any bytes that aren't a valid answer of that device, and not none.
 abbrev pub IsAltered : Request → List Fixture → List ℕ → Type 0
 IsAltered UnMute line heard = ⊥
 IsAltered (UniqueBranch low high) line heard = (callers low high line ≢ []) × (heard ≢ [])
-IsAltered (Mute uid) line heard = ⊥
+IsAltered (Mute uid) line heard = IsForNobody (Mute uid) line × (heard ≢ []) × (mute_answer uid heard ≡ None)
 
--- What may be heard where answers to branches may be altered, and how many were, before and after.
+-- No more were altered than these. But a port may send a mute for nobody several times, with noise after each.
+abbrev pub IsCounted : Request → List Fixture → ℕ → ℕ → Type 0
+IsCounted request line altered altered' = (altered' ≡ altered) ⊎ (IsForNobody request line × (altered ≤ altered'))
+
+-- What may be heard where answers may be altered, and how many were, before and after.
 abbrev pub IsAnswer : Request → List Fixture → List ℕ → ℕ → ℕ → Type 0
 IsAnswer request line heard altered altered' =
-    (IsHeard request line heard × (altered' ≡ altered)) ⊎ (IsAltered request line heard × (altered' ≡ suc altered))
+    (IsHeard request line heard × IsCounted request line altered altered')
+    ⊎ (IsAltered request line heard × IsCounted request line (suc altered) altered')
 
 -- what a mute for this destination leaves of a fixture
 abbrev pub after_mute : Uid → Fixture → Fixture

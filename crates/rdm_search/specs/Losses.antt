@@ -30,8 +30,8 @@ IsPartly request [] (g ∷ after) = ⊥
 IsPartly request (f ∷ line) [] = ⊥
 IsPartly request (f ∷ line) (g ∷ after) = ((g ≡ f) ⊎ (g ≡ carried_out request f)) × IsPartly request line after
 
--- Nothing was lost: all have carried the request out, and what they answered was heard, if it is to a branch also altered. So many
--- answers to branches were altered before and after.
+-- Nothing was lost: all have carried the request out, and what they answered was heard, if it is to a branch also altered, or noise after
+-- a mute for nobody. So many answers were altered before and after.
 abbrev pub IsKept : Request → List Fixture → List ℕ → List Fixture → ℕ → ℕ → Type 0
 IsKept request line heard after altered altered' =
     IsAnswer request line heard altered altered' × (after ≡ after_request request line)

@@ -140,7 +140,7 @@ abbrev pub Strays : Stage → List Fixture → Stage → List Uid → List Fixtu
 Strays stage line stage' found' line' = Stands stage' found' line' × (price stage' line' ≤ price stage line + 1)
 
 -- What was heard leads on from this stage, on every line on which the search stands there. Where it was altered the search stands too,
--- and has a transaction and a half more before it than it had else.
+-- and has at most a transaction and a half more before it than it had else.
 abbrev pub Hears : Stage → List Uid → List ℕ → Stage → List Uid → Type 0
 Hears stage found heard stage' found' =
     (request : Request) (line : List Fixture) → request_of stage ≡ Some request → Stands stage found line

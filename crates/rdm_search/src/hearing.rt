@@ -25,7 +25,7 @@ const MOST_AGAIN: u8 = 8;
 
 /// Where a search goes on from a stage after these bytes were heard, and how many times the mute at hand was sent again then. What was
 /// found is noted, and who sounded after each mute without a valid answer.
-#[tactic(auto, using(crate::proofs::Hearings::doubt_hears, crate::proofs::Hearings::doubt_found))]
+#[tactic(auto, using(crate::proofs::Hearings::doubt_found))]
 pub(crate) fn heard(
     found: &mut Vec<Found>,
     unsure: &mut Vec<Uid>,

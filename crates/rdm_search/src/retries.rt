@@ -4,6 +4,7 @@ ghost use Rattle.std.specs.Prelude.{◌≡◌, ℕ, ◌+◌, ◌≤◌, ◌⊎�
 ghost use Rattle.rdm_frame.specs.declared.uid.Uid.{Uid};
 ghost use Rattle.rdm_search.specs.declared.request.Request.{Request};
 ghost use Rattle.rdm_search.specs.Requests.{request_frame, IsRequest};
+ghost use Rattle.rdm_search.specs.Exchanges.{IsAsked};
 ghost use Rattle.rdm_search.specs.Losses.{is_answered, IsKept, IsLost};
 
 use crate::found::Found;
@@ -32,6 +33,7 @@ pub(crate) fn ask<L: LossyPort>(port: &mut L, retries: u8, frame: &Frame) -> Wir
         → IsKept request (L.fixtures port.old) result (L.fixtures port.new) (L.altered port.old) (L.altered port.new)
         ⊎ (IsLost request (L.fixtures port.old) result (L.fixtures port.new)
         × (L.lost port.old + retries + 1 ≤ L.lost port.new) × (L.altered port.new ≡ L.altered port.old)) }
+    ensures exchanged { IsAsked L.hears port.old frame.now result port.new }
     ensures within { L.may_lose port.new (L.lost port.new) }
     ensures same { (n : ℕ) → L.may_lose port.new n → L.may_lose port.old n }
     ensures sent { L.sent port.new ≤ L.sent port.old + retries + 1 }

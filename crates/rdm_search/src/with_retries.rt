@@ -1,6 +1,7 @@
 //! A port that asks again.
 
 ghost use Rattle.std.specs.Prelude.{ℕ, ◌≤◌};
+ghost use Rattle.rdm_search.specs.Exchanges.{IsAsked};
 
 use crate::lossy::LossyPort;
 use crate::port::Port;
@@ -45,6 +46,9 @@ impl<L: LossyPort> Port for WithRetries<L> {
     ghost use Rattle.std.specs.Prelude.{◌+◌, ◌/◌};
 
     ghost fixtures = { λ p. L.fixtures p.port };
+
+    // What is heard at last.
+    ghost hears = { λ p frame heard q. IsAsked L.hears p.port frame heard q.port };
 
     // A transaction is that many askings at most.
     ghost sent = { λ p. L.sent p.port / (p.retries + 1) };

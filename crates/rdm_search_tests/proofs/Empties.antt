@@ -25,7 +25,7 @@ nothing_heard (UniqueBranch a b) heard e = e
 nothing_heard (Mute u) heard e = subst (λ (h : List ℕ). IsHeard (Mute u) [] h) (sym e) (absent u)
 
 pub nothing_comes : (request : Request) (heard : List ℕ) → heard ≡ [] → IsAnswer request [] heard 0 0
-nothing_comes request heard e = inl (nothing_heard request heard e, refl)
+nothing_comes request heard e = inl (nothing_heard request heard e, inl refl)
 
 pub nobody_after : (request : Request) → [] ≡ after_request request []
 nobody_after UnMute = refl

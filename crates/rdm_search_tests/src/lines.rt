@@ -16,9 +16,11 @@ struct Empty {
 }
 
 impl Port for Empty {
-    ghost use Rattle.std.specs.Prelude.{[]};
+    ghost use Rattle.std.specs.Prelude.{◌≡◌, []};
 
     ghost fixtures = { λ _. [] };
+
+    ghost hears = { λ _ _ heard _. heard ≡ [] };
 
     ghost sent = { λ _. 0 };
 
@@ -35,6 +37,8 @@ impl LossyPort for Empty {
     ghost use Rattle.std.specs.Prelude.{◌≡◌, []};
 
     ghost fixtures = { λ _. [] };
+
+    ghost hears = { λ _ _ heard _. heard ≡ [] };
 
     ghost sent = { λ p. p.sent };
 

@@ -3,4 +3,5 @@ pub mod Decimals
 pub mod HexBack
 pub mod ReadBack
 pub mod Spacing
+mod Times
 pub mod Traces

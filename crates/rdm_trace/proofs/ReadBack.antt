@@ -25,12 +25,13 @@ use Rattle.rdm_collector.specs.declared.transaction.Heard.{Heard as TheHeard}
 use Rattle.rdm_collector.specs.declared.transaction.Heard.TheVariants as heard
 use Rattle.rdm_trace.specs.declared.line.JobName.{JobName}
 use Rattle.rdm_trace.specs.declared.line.Line.{Line}
-use Rattle.rdm_trace.specs.declared.line.Line.TheVariants.{Send, Reply, Job, Heard, Found, Arrive, Panel, Message, End}
-use Rattle.rdm_trace.specs.LineText.{line_text, word_digits, pair_words, data_words, fault_words, reply_words, job_words, heard_word, status_words, outcome_words, change_words, refused_words, IsBytes, IsWire, IsFault, IsJob, IsOutcome, IsChange, IsLine}
+use Rattle.rdm_trace.specs.declared.line.Line.TheVariants.{Send, Reply, Job, Heard, Found, Arrive, Panel, Message, Time, End}
+use Rattle.rdm_trace.specs.LineText.{line_text, word_digits, pair_words, data_words, fault_words, reply_words, job_words, heard_word, status_words, outcome_words, change_words, refused_words, seconds_words, IsBytes, IsWire, IsFault, IsJob, IsOutcome, IsChange, IsLine}
 use Rattle.rdm_trace.specs.Numbers.{number_up_to, signed_in}
-use Rattle.rdm_trace.specs.Reading.{first_word, behind_word, up_to, wire_in, code_in, body_in, lost_in, altered, altered_in, fault_in, request_in, reply_in, heard_in, job_of, job_in, failed_in, outcome_in, report_in, label_in, change_in, refused_in, panel_in, message_in, told_by, said_by, line_in}
+use Rattle.rdm_trace.specs.Reading.{first_word, behind_word, up_to, wire_in, code_in, body_in, lost_in, altered, altered_in, fault_in, request_in, reply_in, heard_in, job_of, job_in, failed_in, outcome_in, report_in, label_in, change_in, refused_in, panel_in, message_in, time_in, told_by, said_by, line_in}
 use Rattle.rdm_trace.proofs.Cuts.{no_space, first_is, behind_is, first_alone, behind_alone}
 use Rattle.rdm_trace.proofs.Decimals.{decimal_no_space, number_back, signed_back}
+use Rattle.rdm_trace.proofs.Times.{time_back}
 use Rattle.rdm_trace.proofs.HexBack.{digits_no_space, wire_back, code_back, word_back, data_no_space, body_back, digits_not_none}
 
 -- ---- what goes wrong
@@ -281,6 +282,10 @@ said_message : (rest : List ℕ) (m : TheMessage) → message_in rest ≡ Some m
 unfolding said_by told_by
 said_message rest m e = rw e refl
 
+said_time : (rest : List ℕ) → said_by (codes "#") rest ≡ time_in rest
+unfolding said_by told_by
+said_time rest = refl
+
 end_back : line_in (codes "end") ≡ Some End
 unfolding line_in said_by told_by first_word behind_word
 end_back = refl
@@ -296,4 +301,5 @@ line_back (Found uid) h = by_word (codes "found") (uid_text uid) _ refl (said_fo
 line_back (Arrive job outcome) h = by_word (codes "arrive") (job_words job ++ outcome_words outcome) _ refl (said_arrive _ ∙ report_back job outcome h.0 h.1)
 line_back (Panel change refused) h = by_word (codes "panel") (change_words change ++ refused_words refused) _ refl (said_panel _ ∙ panel_back change refused h)
 line_back (Message m) h = by_word (codes "message") _ _ refl (said_message _ m (message_back m h.0 h.1 h.2 h.3))
+line_back (Time millis) h = by_word (codes "#") (seconds_words millis ++ codes " s") _ refl (said_time _ ∙ time_back millis h)
 line_back End h = end_back

@@ -9,7 +9,7 @@ use Rattle.std.proofs.lemmas.List.Sums.{prefix_len_passes}
 use Rattle.std.proofs.lemmas.List.Splits.{slice_split_first, slice_split_none}
 use Rattle.std.proofs.lemmas.Option.{cond_some}
 use Rattle.rdm_trace.specs.declared.line.Line.{Line}
-use Rattle.rdm_trace.specs.Traces.{pieces_of, line_of, is_line, lines_said, AreWhole, IsFirstUnread}
+use Rattle.rdm_trace.specs.Traces.{pieces_of, line_of, is_line, is_remark, lines_said, AreWhole, IsFirstUnread}
 
 abbrev is_lf : ℕ → Bool
 is_lf b = b == 10
@@ -73,8 +73,8 @@ read_more pieces index piece rest lines n line read = record {
 }
 
 -- a line that isn't one of a trace, behind lines that are
-pub unread : (pieces : List (List ℕ)) (index number : ℕ) (piece : List ℕ) (rest : List (List ℕ)) (lines : List Line) → IsNext pieces index piece rest → number ≡ index + 1 → line_of piece ≡ None → HasRead pieces index lines → IsFirstUnread pieces number
-unread pieces index number piece rest lines n counted none read = record { index = index; counted = counted; piece = piece; there = n.there; unread = none; before = read.before }
+pub unread : (pieces : List (List ℕ)) (index number : ℕ) (piece : List ℕ) (rest : List (List ℕ)) (lines : List Line) → IsNext pieces index piece rest → number ≡ index + 1 → line_of piece ≡ None → is_remark piece ≡ false → HasRead pieces index lines → IsFirstUnread pieces number
+unread pieces index number piece rest lines n counted none other read = record { index = index; counted = counted; piece = piece; there = n.there; unread = none; other = other; before = read.before }
 
 -- where one line is left, all lines are those before it and this one
 last_count : (pieces : List (List ℕ)) (index : ℕ) (piece : List ℕ) → drop index pieces ≡ piece ∷ [] → length pieces ≡ suc index

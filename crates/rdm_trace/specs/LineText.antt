@@ -1,5 +1,5 @@
 -- The text of a line of a trace, without its line end, and what a line can hold.
-use Rattle.std.specs.Prelude.{ℕ, ◌<◌, ◌≤◌, ◌^◌, Bool, true, false, List, [], ◌∷◌, ◌++◌, length, Option, Some, None, codes, decimal}
+use Rattle.std.specs.Prelude.{ℕ, ◌+◌, ◌/◌, ◌%◌, ◌<◌, ◌≤◌, ◌^◌, Bool, true, false, List, [], ◌∷◌, ◌++◌, length, Option, Some, None, codes, decimal}
 use Rattle.std.specs.Fmt.{signed_decimal}
 use Rattle.std.specs.Int.{w16, to_be_bytes}
 use Rattle.std.specs.Int.RustNames.{FitsSigned}
@@ -19,7 +19,7 @@ use Rattle.rdm_collector.specs.declared.transaction.Heard.{Heard as TheHeard}
 use Rattle.rdm_collector.specs.declared.transaction.Heard.TheVariants as heard
 use Rattle.rdm_trace.specs.declared.line.JobName.{JobName}
 use Rattle.rdm_trace.specs.declared.line.Line.{Line}
-use Rattle.rdm_trace.specs.declared.line.Line.TheVariants.{Send, Reply, Job, Heard, Found, Arrive, Panel, Message, End}
+use Rattle.rdm_trace.specs.declared.line.Line.TheVariants.{Send, Reply, Job, Heard, Found, Arrive, Panel, Message, Time, End}
 
 -- four digits for a number of 16 bits, most significant byte first
 abbrev pub word_digits : ℕ → List ℕ
@@ -83,6 +83,16 @@ abbrev pub refused_words : Bool → List ℕ
 refused_words true = codes " refused"
 refused_words false = []
 
+-- ---- a time
+
+-- three decimal digits of a number below 1,000
+abbrev pub three_figures : ℕ → List ℕ
+three_figures n = (48 + n / 100) ∷ (48 + n / 10 % 10) ∷ (48 + n % 10) ∷ []
+
+-- seconds, a point and thousandths
+abbrev pub seconds_words : ℕ → List ℕ
+seconds_words millis = decimal (millis / 1000) ++ 46 ∷ three_figures (millis % 1000)
+
 -- ---- a line
 
 -- The text of a line. A request has its bytes and what goes wrong; a message its command class, parameter ID, sub-device
@@ -96,6 +106,7 @@ line_text (Found uid) = codes "found " ++ uid_text uid
 line_text (Arrive job outcome) = codes "arrive " ++ job_words job ++ outcome_words outcome
 line_text (Panel change refused) = codes "panel " ++ change_words change ++ refused_words refused
 line_text (Message m) = codes "message " ++ digits (m.class ∷ []) ++ 32 ∷ word_digits m.pid ++ 32 ∷ word_digits m.sub ++ 32 ∷ data_words m.body
+line_text (Time millis) = codes "# " ++ seconds_words millis ++ codes " s"
 line_text End = codes "end"
 
 -- a line with its line end
@@ -148,4 +159,5 @@ IsLine (Found uid) = IsUid uid
 IsLine (Arrive job outcome) = IsJob job × IsOutcome outcome
 IsLine (Panel change refused) = IsChange change
 IsLine (Message m) = (m.class < 2 ^ 8) × (m.pid < 2 ^ 16) × (m.sub < 2 ^ 16) × IsBytes 231 m.body
+IsLine (Time millis) = millis < 4294967296000
 IsLine End = Unit {0}

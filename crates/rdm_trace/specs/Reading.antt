@@ -1,6 +1,6 @@
 -- How a line of a trace is read, as the code does it. More is read than is written: digits of either case, blanks between
 -- the bytes of a reply, and the numbers of Numbers.antt. LineText.antt has what is written.
-use Rattle.std.specs.Prelude.{ℕ, ◌-◌, Bool, true, false, ◌==◌, ◌&&◌, ◌||◌, if◌then◌else◌, List, [], ◌∷◌, length, Option, Some, None, nat_le, codes}
+use Rattle.std.specs.Prelude.{ℕ, ◌+◌, ◌-◌, ◌*◌, Bool, true, false, ◌==◌, ◌&&◌, ◌||◌, if◌then◌else◌, List, [], ◌∷◌, length, slice_index, Option, Some, None, nat_le, codes}
 use Rattle.std.specs.Int.{w16}
 use Rattle.std.specs.Str.{bytes_eq}
 use Rattle.std.specs.List.{before_first, after_first}
@@ -17,7 +17,7 @@ use Rattle.rdm_collector.specs.declared.transaction.Heard.{Heard as TheHeard}
 use Rattle.rdm_collector.specs.declared.transaction.Heard.TheVariants as heard
 use Rattle.rdm_trace.specs.declared.line.JobName.{JobName}
 use Rattle.rdm_trace.specs.declared.line.Line.{Line}
-use Rattle.rdm_trace.specs.declared.line.Line.TheVariants.{Send, Reply, Job, Heard, Found, Arrive, Panel, Message, End}
+use Rattle.rdm_trace.specs.declared.line.Line.TheVariants.{Send, Reply, Job, Heard, Found, Arrive, Panel, Message, Time, End}
 use Rattle.rdm_trace.specs.Numbers.{number_up_to, signed_in}
 
 -- ---- words
@@ -173,14 +173,47 @@ message_in words = do
   body ← body_in (behind_word (behind_word (behind_word words)))
   Some (record { class = class; pid = pid; sub = sub; body = body })
 
+-- ---- a time
+
+-- what stands before the point of a number
+unfoldable pub before_point : List ℕ → List ℕ
+before_point number = before_first (λ b. b == 46) number
+
+-- what stands behind it
+unfoldable pub behind_point : List ℕ → List ℕ
+behind_point number = after_first (λ b. b == 46) number
+
+-- the number that a decimal digit stands for
+abbrev pub figure_in : ℕ → Option ℕ
+figure_in digit = if nat_le 48 digit && nat_le digit 57 then Some (digit - 48) else None
+
+-- three decimal digits
+unfoldable pub thousandths_in : List ℕ → Option ℕ
+thousandths_in digits =
+    if length digits == 3
+    then (figure_in (slice_index digits 0) >>= λ hundreds. figure_in (slice_index digits 1) >>= λ tens. figure_in (slice_index digits 2) >>= λ ones.
+    Some (hundreds * 100 + tens * 10 + ones)) else None
+
+-- seconds with three digits behind the point, as milliseconds
+unfoldable pub seconds_in : List ℕ → Option ℕ
+seconds_in number = do
+  seconds ← number_up_to 4294967295 (before_point number)
+  thousandths ← thousandths_in (behind_point number)
+  Some (seconds * 1000 + thousandths)
+
+-- a time: seconds, and their sign
+unfoldable pub time_in : List ℕ → Option Line
+time_in words = if bytes_eq (behind_word words) (codes "s") then (seconds_in (first_word words) >>= λ millis. Some (Time millis)) else None
+
 -- what a line that tells of no transaction says
 unfoldable pub told_by : List ℕ → List ℕ → Option Line
 told_by word rest =
     if bytes_eq word (codes "arrive") then report_in rest
     else (if bytes_eq word (codes "panel") then panel_in rest
     else (if bytes_eq word (codes "message") then (message_in rest >>= λ m. Some (Message m))
+    else (if bytes_eq word (codes "#") then time_in rest
     else (if bytes_eq word (codes "end") && (length rest == 0) then Some End
-    else None)))
+    else None))))
 
 -- what a line says by its first word and the rest
 unfoldable pub said_by : List ℕ → List ℕ → Option Line

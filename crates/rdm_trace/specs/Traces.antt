@@ -1,5 +1,5 @@
 -- How a whole text is read as a trace.
-use Rattle.std.specs.Prelude.{◌≡◌, ℕ, ◌+◌, ◌-◌, Bool, true, ◌==◌, List, length, take, slice_get, Option, Some, None, is_some}
+use Rattle.std.specs.Prelude.{◌≡◌, ℕ, ◌+◌, ◌-◌, Bool, true, false, ◌==◌, ◌&&◌, ◌||◌, nat_lt, slice_index, List, length, take, slice_get, Option, Some, None, is_some}
 use Rattle.std.specs.Option.{option_to_list}
 use Rattle.std.specs.Str.Lines.{strip_carriage_return}
 use Rattle.std.specs.List.{flat_map, list_all, slice_split}
@@ -14,14 +14,19 @@ pieces_of text = slice_split (λ b. b == 10) text
 abbrev pub line_of : List ℕ → Option Line
 line_of piece = line_in (strip_carriage_return piece)
 
-abbrev pub is_line : List ℕ → Bool
-is_line piece = is_some (line_of piece)
+-- it is a remark, which begins with a number sign
+abbrev pub is_remark : List ℕ → Bool
+is_remark piece = nat_lt 0 (length piece) && (slice_index piece 0 == 35)
 
--- What the lines of a text say, in order. One that isn't a line of a trace says nothing.
+-- one that a trace may have
+abbrev pub is_line : List ℕ → Bool
+is_line piece = is_some (line_of piece) || is_remark piece
+
+-- What the lines of a text say, in order. A remark says nothing.
 abbrev pub lines_said : List (List ℕ) → List Line
 lines_said pieces = flat_map (λ piece. option_to_list (line_of piece)) pieces
 
--- Every line is one of a trace, but for what stands behind the last LF: that may have been cut off.
+-- Every line is one of a trace or a remark, but for what stands behind the last LF: that may have been cut off.
 abbrev pub AreWhole : List (List ℕ) → Type 0
 AreWhole pieces = list_all is_line (take (length pieces - 1) pieces) ≡ true
 
@@ -32,4 +37,5 @@ pub record IsFirstUnread (pieces : List (List ℕ)) (number : ℕ) : Type 0 wher
   pub piece : List ℕ
   pub there : slice_get pieces index ≡ Some piece
   pub unread : line_of piece ≡ None
+  pub other : is_remark piece ≡ false
   pub before : list_all is_line (take index pieces) ≡ true

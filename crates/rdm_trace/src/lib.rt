@@ -19,6 +19,7 @@ mod reading;
 mod report;
 mod run_lines;
 mod text;
+mod time;
 mod words;
 mod writing;
 
@@ -28,5 +29,5 @@ pub use laws::{trace_errors_are_equal_by_value, written_line_is_read_back};
 pub use line::{JobName, Line};
 pub use reading::read;
 pub use run_lines::trace_lines;
-pub use text::{TraceError, lines_of, text_of};
+pub use text::{TraceError, is_remark, lines_of, text_of};
 pub use writing::put_line;

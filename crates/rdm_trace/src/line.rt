@@ -39,6 +39,11 @@ pub enum Line {
     },
     /// `message`: a message that the controller recorded.
     Message(Message),
+    /// `#`: when the next line happened.
+    Time {
+        /// So many milliseconds after the first. 4,294,967,295 seconds and 999 milliseconds are the most that is read.
+        millis: u64,
+    },
     /// `end`: the trace is whole.
     End,
 }

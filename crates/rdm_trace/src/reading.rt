@@ -8,6 +8,7 @@ use crate::digits::{body_in, code_in, wire_in};
 use crate::fault::fault_in;
 use crate::panel::panel_in;
 use crate::report::{job_in, report_in};
+use crate::time::time_in;
 use crate::words::first_word;
 use rdm_collector::Heard;
 use rdm_frame::Uid;
@@ -57,6 +58,8 @@ fn told_by(word: &[u8], rest: &[u8]) -> Option<Line>
         panel_in(rest)
     } else if word == b"message".as_slice() {
         Some(Line::Message(message_in(rest)?))
+    } else if word == b"#".as_slice() {
+        time_in(rest)
     } else if word == b"end".as_slice() && rest.is_empty() {
         Some(Line::End)
     } else {

@@ -3,10 +3,11 @@
 ghost use Rattle.std.specs.Prelude.{◌≡◌, ◌++◌, ◌∷◌, OnOk, codes, decimal};
 ghost use Rattle.rdm_frame.specs.Digits.{digits};
 ghost use Rattle.rdm_frame.specs.UidText.{uid_text};
-ghost use Rattle.rdm_trace.specs.LineText.{whole_line, line_text, fault_words, reply_words, job_words, heard_word, outcome_words, change_words, refused_words, pair_words};
+ghost use Rattle.rdm_trace.specs.LineText.{whole_line, line_text, fault_words, reply_words, job_words, heard_word, outcome_words, change_words, refused_words, pair_words, seconds_words};
 ghost use Rattle.rdm_trace.specs.declared.line.Line.TheVariants.{Message as TheMessage};
 
 use crate::put::{put_data, put_number, put_pair, put_status, put_word};
+use crate::time::put_seconds;
 use crate::{JobName, Line};
 use rdm_bus::Fault;
 use rdm_collector::Heard;
@@ -43,6 +44,7 @@ fn put_words(text: &mut Vec<u8>, line: &Line) -> Result<(), AllocError>
         Line::Arrive { job, outcome } => put_report(text, *job, *outcome),
         Line::Panel { change, refused } => put_panel(text, change, *refused),
         Line::Message(message) => put_message(text, message),
+        Line::Time { millis } => put_time(text, *millis),
         Line::End => text.extend_from_slice(b"end"),
     }
 }
@@ -179,6 +181,15 @@ fn put_setting(text: &mut Vec<u8>, words: &[u8], number: u16) -> Result<(), Allo
 {
     text.extend_from_slice(words)?;
     put_number(text, number)
+}
+
+/// A time, in seconds.
+fn put_time(text: &mut Vec<u8>, millis: u64) -> Result<(), AllocError>
+    ensures { OnOk result (text.new.items ≡ text.old.items ++ (codes "# " ++ seconds_words millis ++ codes " s")) }
+{
+    text.extend_from_slice(b"# ")?;
+    put_seconds(text, millis)?;
+    text.extend_from_slice(b" s")
 }
 
 /// A message: its command class, parameter ID, sub-device and data.

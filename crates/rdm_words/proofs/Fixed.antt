@@ -19,9 +19,11 @@ use Rattle.rdm_bus.specs.declared.fault.Fault.{Fault}
 use Rattle.rdm_collector.specs.declared.transaction.Heard.{Heard as TheHeard}
 use Rattle.rdm_collector.specs.declared.transaction.Heard.TheVariants as heard
 use Rattle.rdm_trace.specs.declared.line.Line.{Line}
-use Rattle.rdm_trace.specs.declared.line.Line.TheVariants.{Send, Reply, Found}
+use Rattle.rdm_trace.specs.declared.line.Line.TheVariants.{Send, Reply, Heard, Found, Time}
 use Rattle.rdm_words.specs.Plain.{is_plain, IsPlain, IsFixed, shown_byte, shown}
-use Rattle.rdm_words.specs.Fixed.{cause_words, stray_words, answer_words, raised_words, fault_line, heard_words, found_words, job_words, IsAnswerOf, AreWordsOfBytes, AreWordsOfLine}
+use Rattle.rdm_words.specs.declared.before.Before.{Before}
+use Rattle.rdm_words.specs.Before.{IsAnswerOf, IsAnswerIn}
+use Rattle.rdm_words.specs.Fixed.{cause_words, stray_words, answer_words, raised_words, fault_line, heard_words, answerer_words, found_words, job_words, is_readable, AreWordsOfWhole, AreWordsOfBytes, AreWordsOfHeard, AreWordsOfLine}
 use Rattle.rdm_words.specs.Said.{Tells}
 use Rattle.rdm_words.proofs.Plainness.{plain_append, digit_plain, digit_small, told_line}
 
@@ -80,7 +82,7 @@ plain_cause Length = tried (cause_words Length) refl
 plain_cause Pdl = tried (cause_words Pdl) refl
 plain_cause Checksum = tried (cause_words Checksum) refl
 
-fixed_stray : (cause : FrameError) (bytes : List ℕ) → AreBytes bytes → IsFixed (stray_words cause bytes)
+pub fixed_stray : (cause : FrameError) (bytes : List ℕ) → AreBytes bytes → IsFixed (stray_words cause bytes)
 fixed_stray cause bytes fits = record { some = some; plain = plain }
   where
     some : stray_words cause bytes ≢ []
@@ -113,8 +115,8 @@ fixed_answer uid = record { some = some; plain = plain }
     plain : IsPlain (answer_words uid)
     plain = plain_append (uid_text uid) (codes " answers: DISC_UNIQUE_BRANCH") (plain_uid uid) (tried (codes " answers: DISC_UNIQUE_BRANCH") refl)
 
-fixed_bytes : (bytes : List ℕ) → AreBytes bytes → (words : List ℕ) → AreWordsOfBytes bytes words → IsFixed words
-fixed_bytes bytes fits words (inl stray) = subst (λ (w : List ℕ). IsFixed w) (sym stray.2) (fixed_stray stray.0 bytes fits)
+fixed_bytes : (bytes : List ℕ) → AreBytes bytes → (words : List ℕ) → AreWordsOfWhole bytes words → IsFixed words
+fixed_bytes bytes fits words (inl stray) = subst (λ (w : List ℕ). IsFixed w) (sym stray.3) (fixed_stray stray.0 bytes fits)
 fixed_bytes bytes fits words (inr answer) = subst (λ (w : List ℕ). IsFixed w) (sym answer.2) (fixed_answer answer.0)
 
 -- an answer has at most 24 bytes, and so it is no frame
@@ -124,7 +126,7 @@ short_answer uid bytes reply =
     (tt, λ long. absurd (omega (arith, long, length-drop reply.0 (branch_reply uid), ap (λ (t : List ℕ). length t) reply.2)))
 
 -- the words that are fixed are of no frame
-none_of_frame : (bytes words : List ℕ) → ((cause : FrameError) → IsFirstFault cause bytes → ⊥) → AreWordsOfBytes bytes words → ⊥
+none_of_frame : (bytes words : List ℕ) → ((cause : FrameError) → IsFirstFault cause bytes → ⊥) → AreWordsOfWhole bytes words → ⊥
 none_of_frame bytes words none (inl stray) = none stray.0 stray.1.0
 none_of_frame bytes words none (inr answer) = none Short (short_answer answer.0 bytes answer.1.1)
 
@@ -150,21 +152,21 @@ pub same_err : {T E : Type 0} (r : Result T E) (a b : E) → r ≡ Err a → r �
 same_err {T = T} {E = E} r a b p q = ap (λ (x : Result T E). err_or a x) (sym p ∙ q)
 
 pub adds_none : {T E : Type 0} (r : Result T E) (bytes old new : List ℕ) → ((cause : FrameError) → IsFirstFault cause bytes → ⊥)
-    → Adds r (λ words. AreWordsOfBytes bytes words) old new
+    → Adds r (λ words. AreWordsOfWhole bytes words) old new
 adds_none (Ok t) bytes old new none = λ words are. absurd (none_of_frame bytes words none are)
 adds_none (Err e) bytes old new none = tt
 
 pub adds_bytes : {T E : Type 0} (r : Result T E) (error : FrameError) (bytes old new : List ℕ) → ((i : ℕ) → slice_index bytes i < 256)
     → ((cause : FrameError) → IsFirstFault cause bytes → error ≡ cause)
     → ((uid : Uid) → IsAnswerOf uid bytes → OnOk r (new ≡ old ++ answer_words uid))
-    → (((uid : Uid) → IsAnswerOf uid bytes → ⊥) → OnOk r (new ≡ old ++ stray_words error bytes))
-    → Adds r (λ words. AreWordsOfBytes bytes words) old new
+    → (((uid : Uid) → IsAnswerOf uid bytes → ⊥) → is_readable bytes ≢ true → OnOk r (new ≡ old ++ stray_words error bytes))
+    → Adds r (λ words. AreWordsOfWhole bytes words) old new
 adds_bytes (Err e) error bytes old new fits same answers strays = tt
 adds_bytes (Ok t) error bytes old new fits same answers strays = λ words are. (fixed_bytes bytes (each_fits bytes fits) words are, by words are)
   where
-    by : (words : List ℕ) → AreWordsOfBytes bytes words → new ≡ old ++ words
+    by : (words : List ℕ) → AreWordsOfWhole bytes words → new ≡ old ++ words
     by words (inl stray) =
-        strays stray.1.1 ∙ ap (λ (e : FrameError). old ++ stray_words e bytes) (same stray.0 stray.1.0) ∙ ap (λ (w : List ℕ). old ++ w) (sym stray.2)
+        strays stray.1.1 stray.2 ∙ ap (λ (e : FrameError). old ++ stray_words e bytes) (same stray.0 stray.1.0) ∙ ap (λ (w : List ℕ). old ++ w) (sym stray.3)
     by words (inr answer) = answers answer.0 answer.1 ∙ ap (λ (w : List ℕ). old ++ w) (sym answer.2)
 
 -- ---- the words of lines
@@ -203,6 +205,38 @@ fixed_heard (Some heard.Message) = record { some = λ e. absurd cc; plain = trie
 fixed_heard (Some heard.Reply) = record { some = λ e. absurd cc; plain = tried (heard_words (Some heard.Reply)) refl }
 fixed_heard (Some heard.Ignored) = record { some = λ e. absurd cc; plain = tried (heard_words (Some heard.Ignored)) refl }
 
+fixed_answerer : (uid : Uid) → IsFixed (answerer_words uid)
+fixed_answerer uid = record {
+  some = λ e. absurd cc;
+  plain = plain_append (codes "the controller hears the answer of ") (uid_text uid) (tried (codes "the controller hears the answer of ") refl) (plain_uid uid);
+}
+
+-- what the controller took a reply for
+heard_so : (taken : Option TheHeard) (words old new : List ℕ) → words ≡ heard_words taken → new ≡ old ++ heard_words taken → IsFixed words × (new ≡ old ++ words)
+heard_so taken words old new is added =
+    (subst (λ (w : List ℕ). IsFixed w) (sym is) (fixed_heard taken), added ∙ ap (λ (w : List ℕ). old ++ w) (sym is))
+
+by_heard : (reply : Option (List ℕ)) (taken : Option TheHeard) (old new : List ℕ)
+    → ((uid : Uid) → taken ≡ Some heard.Ignored → IsAnswerIn reply uid → new ≡ old ++ answerer_words uid)
+    → ((taken ≡ Some heard.Ignored → (uid : Uid) → IsAnswerIn reply uid → ⊥) → new ≡ old ++ heard_words taken)
+    → (words : List ℕ) → AreWordsOfHeard reply taken words → IsFixed words × (new ≡ old ++ words)
+by_heard reply (Some heard.Ignored) old new answer other words (inl are) =
+    (subst (λ (w : List ℕ). IsFixed w) (sym are.2) (fixed_answerer are.0), answer are.0 refl are.1 ∙ ap (λ (w : List ℕ). old ++ w) (sym are.2))
+by_heard reply (Some heard.Ignored) old new answer other words (inr are) =
+    heard_so (Some heard.Ignored) words old new are.1 (other (λ e. are.0))
+by_heard reply (Some heard.Message) old new answer other words are = heard_so (Some heard.Message) words old new are (other (λ e. absurd cc))
+by_heard reply (Some heard.Reply) old new answer other words are = heard_so (Some heard.Reply) words old new are (other (λ e. absurd cc))
+by_heard reply None old new answer other words are = heard_so None words old new are (other (λ e. absurd cc))
+
+pub adds_heard : {T E : Type 0} (r : Result T E) (before : Before) (line : Line) (taken : Option TheHeard) (old new : List ℕ)
+    → line ≡ Heard taken
+    → ((uid : Uid) → taken ≡ Some heard.Ignored → IsAnswerIn before.reply uid → OnOk r (new ≡ old ++ answerer_words uid))
+    → ((taken ≡ Some heard.Ignored → (uid : Uid) → IsAnswerIn before.reply uid → ⊥) → OnOk r (new ≡ old ++ heard_words taken))
+    → Adds r (λ words. AreWordsOfLine before line words) old new
+adds_heard (Err e) before line taken old new is answer other = tt
+adds_heard (Ok t) before line taken old new is answer other = λ words are.
+    by_heard before.reply taken old new answer other words (subst (λ (l : Line). AreWordsOfLine before l words) is are)
+
 fixed_found : (uid : Uid) → IsFixed (found_words uid)
 fixed_found uid = record {
   some = λ e. absurd cc;
@@ -219,37 +253,42 @@ pub fixed_append : (xs ys : List ℕ) → IsFixed xs → IsPlain ys → IsFixed 
 fixed_append [] ys p q = absurd (p.some refl)
 fixed_append (x ∷ xs) ys p q = record { some = λ e. absurd cc; plain = plain_append (x ∷ xs) ys p.plain q }
 
-send_adds : (bytes : List ℕ) (fault : Fault) (old mid new : List ℕ)
+send_adds : (before : Before) (bytes : List ℕ) (fault : Fault) (old mid new : List ℕ)
     → ((words : List ℕ) → AreWordsOfBytes bytes words → IsFixed words × (mid ≡ old ++ words))
     → new ≡ mid ++ fault_line fault → IsPlain (fault_line fault)
-    → (words : List ℕ) → AreWordsOfLine (Send bytes fault) words → IsFixed words × (new ≡ old ++ words)
-send_adds bytes fault old mid new first second plain words are =
+    → (words : List ℕ) → AreWordsOfLine before (Send bytes fault) words → IsFixed words × (new ≡ old ++ words)
+send_adds before bytes fault old mid new first second plain words are =
     let front = first are.0 are.1 in (
       subst (λ (w : List ℕ). IsFixed w) (sym are.2) (fixed_append are.0 (fault_line fault) front.0 plain),
       second ∙ ap (λ (w : List ℕ). w ++ fault_line fault) front.1 ∙ append_assoc old are.0 (fault_line fault) ∙ ap (λ (w : List ℕ). old ++ w) (sym are.2),
     )
 
-pub adds_send : {T E : Type 0} (r : Result T E) (line : Line) (given bytes : List ℕ) (fault : Fault) (old mid new : List ℕ)
+pub adds_send : {T E : Type 0} (r : Result T E) (before : Before) (line : Line) (given bytes : List ℕ) (fault : Fault) (old mid new : List ℕ)
     → line ≡ Send bytes fault → given ≡ bytes
     → ((words : List ℕ) → AreWordsOfBytes given words → IsFixed words × (mid ≡ old ++ words))
-    → OnOk r (new ≡ mid ++ fault_line fault) → IsPlain (fault_line fault) → Adds r (λ words. AreWordsOfLine line words) old new
-adds_send (Err e) line given bytes fault old mid new is same first second plain = tt
-adds_send (Ok t) line given bytes fault old mid new is same first second plain = λ words are.
-    send_adds given fault old mid new first second plain words
-    (subst (λ (l : Line). AreWordsOfLine l words) (is ∙ ap (λ (b : List ℕ). Send b fault) (sym same)) are)
+    → OnOk r (new ≡ mid ++ fault_line fault) → IsPlain (fault_line fault) → Adds r (λ words. AreWordsOfLine before line words) old new
+adds_send (Err e) before line given bytes fault old mid new is same first second plain = tt
+adds_send (Ok t) before line given bytes fault old mid new is same first second plain = λ words are.
+    send_adds before given fault old mid new first second plain words
+    (subst (λ (l : Line). AreWordsOfLine before l words) (is ∙ ap (λ (b : List ℕ). Send b fault) (sym same)) are)
 
-pub adds_reply : {T E : Type 0} (r : Result T E) (line : Line) (given bytes old new : List ℕ)
-    → line ≡ Reply (Some bytes) → given ≡ bytes → Adds r (λ words. AreWordsOfBytes given words) old new → Adds r (λ words. AreWordsOfLine line words) old new
-adds_reply (Err e) line given bytes old new is same adds = tt
-adds_reply (Ok t) line given bytes old new is same adds = λ words are.
-    adds words (subst (λ (l : Line). AreWordsOfLine l words) (is ∙ ap (λ (b : List ℕ). Reply (Some b)) (sym same)) are)
+pub adds_reply : {T E : Type 0} (r : Result T E) (before : Before) (line : Line) (given bytes old new : List ℕ)
+    → line ≡ Reply (Some bytes) → given ≡ bytes → Adds r (λ words. AreWordsOfBytes given words) old new → Adds r (λ words. AreWordsOfLine before line words) old new
+adds_reply (Err e) before line given bytes old new is same adds = tt
+adds_reply (Ok t) before line given bytes old new is same adds = λ words are.
+    adds words (subst (λ (l : Line). AreWordsOfLine before l words) (is ∙ ap (λ (b : List ℕ). Reply (Some b)) (sym same)) are)
 
-pub adds_found : {T E : Type 0} (r : Result T E) (line : Line) (uid : Uid) (old new : List ℕ)
-    → line ≡ Found uid → OnOk r (new ≡ old ++ found_words uid) → Adds r (λ words. AreWordsOfLine line words) old new
-adds_found (Err e) line uid old new is added = tt
-adds_found (Ok t) line uid old new is added = λ words are.
-    let same : words ≡ found_words uid = subst (λ (l : Line). AreWordsOfLine l words) is are in
+pub adds_found : {T E : Type 0} (r : Result T E) (before : Before) (line : Line) (uid : Uid) (old new : List ℕ)
+    → line ≡ Found uid → OnOk r (new ≡ old ++ found_words uid) → Adds r (λ words. AreWordsOfLine before line words) old new
+adds_found (Err e) before line uid old new is added = tt
+adds_found (Ok t) before line uid old new is added = λ words are.
+    let same : words ≡ found_words uid = subst (λ (l : Line). AreWordsOfLine before l words) is are in
     (subst (λ (w : List ℕ). IsFixed w) (sym same) (fixed_found uid), added ∙ ap (λ (w : List ℕ). old ++ w) (sym same))
+
+pub adds_no_time : {T E : Type 0} (r : Result T E) (before : Before) (line : Line) (millis : ℕ) (old new : List ℕ)
+    → line ≡ Time millis → Adds r (λ words. AreWordsOfLine before line words) old new
+adds_no_time (Err e) before line millis old new is = tt
+adds_no_time (Ok t) before line millis old new is = λ words are. absurd (subst (λ (l : Line). AreWordsOfLine before l words) is are)
 
 -- ---- written as they are
 

@@ -1,6 +1,7 @@
 pub mod Fixed
 pub mod FixtureWords
 pub mod Last
+pub mod Learning
 pub mod Lines
 pub mod Plainness
 pub mod Says

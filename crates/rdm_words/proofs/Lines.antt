@@ -7,7 +7,9 @@ use Rattle.std.proofs.lemmas.Bool.{ltb-true, ltb-false, ne_eqb}
 use Rattle.std.proofs.lemmas.Option.{cond_some}
 use Rattle.std.proofs.lemmas.List.Sums.{prefix_len_passes}
 use Rattle.std.proofs.lemmas.List.Splits.{slice_split_first, slice_split_none, length-slice_split}
-use Rattle.rdm_words.specs.Said.{Says, SayInTurn}
+use Rattle.rdm_trace.specs.Reading.{line_in}
+use Rattle.rdm_words.specs.declared.before.Before.{Before}
+use Rattle.rdm_words.specs.Said.{Says, SayInTurn, behind}
 
 abbrev is_lf : ℕ → Bool
 is_lf b = b == 10
@@ -58,26 +60,30 @@ nothing [] h = refl
 nothing (x ∷ xs) h = absurd (omega (arith, h))
 
 -- what is said so far, before what is said of the lines of the rest, says the whole
-abbrev pub SaidBefore : List ℕ → List ℕ → List ℕ → Type 0
-SaidBefore text rest said = (more : List ℕ) → SayInTurn (lines rest) more → SayInTurn (lines text) (said ++ more)
+abbrev pub SaidBefore : Before → List ℕ → Before → List ℕ → List ℕ → Type 0
+SaidBefore first text before rest said = (more : List ℕ) → SayInTurn before (lines rest) more → SayInTurn first (lines text) (said ++ more)
 
-put_together : (lines : List (List ℕ)) (said own more : List ℕ) → SayInTurn lines (said ++ (own ++ more)) → SayInTurn lines ((said ++ own) ++ more)
-put_together lines said own more h = subst (λ (text : List ℕ). SayInTurn lines text) (sym (append_assoc said own more)) h
+put_together : (first : Before) (lines : List (List ℕ)) (said own more : List ℕ) → SayInTurn first lines (said ++ (own ++ more)) → SayInTurn first lines ((said ++ own) ++ more)
+put_together first lines said own more h = subst (λ (text : List ℕ). SayInTurn first lines text) (sym (append_assoc said own more)) h
 
 -- once the first line of the rest is said
-pub said_more : (text rest line said own : List ℕ) (end : ℕ) → position is_lf rest ≡ Some end → line ≡ without_return (take end rest) → Says line own → SaidBefore text rest said → SaidBefore text (drop (end + 1) rest) (said ++ own)
-said_more text rest line said own end h same says before = λ more told.
-    put_together (lines text) said own more (before (own ++ more) (
-    subst (λ (ls : List (List ℕ)). SayInTurn ls (own ++ more)) (sym (lines_more rest end h))
-    (own, more, refl, subst (λ (l : List ℕ). Says l own) same says, told)))
+pub said_more : (first before next : Before) (text rest line said own : List ℕ) (end : ℕ) → position is_lf rest ≡ Some end → line ≡ without_return (take end rest)
+    → Says before line own → next ≡ behind (line_in line) before → SaidBefore first text before rest said
+    → SaidBefore first text next (drop (end + 1) rest) (said ++ own)
+said_more first before next text rest line said own end h same says is so_far = λ more told.
+    put_together first (lines text) said own more (so_far (own ++ more) (
+    subst (λ (ls : List (List ℕ)). SayInTurn before ls (own ++ more)) (sym (lines_more rest end h))
+    (subst (λ (l : List ℕ). SayInTurn before (l ∷ lines (drop (end + 1) rest)) (own ++ more)) same
+    (own, more, refl, says, subst (λ (b : Before). SayInTurn b (lines (drop (end + 1) rest)) more) is told))))
 
 -- once the last line is said, which no LF ends
-pub said_last : (text rest said own : List ℕ) → position is_lf rest ≡ None → length rest ≢ 0 → Says rest own → SaidBefore text rest said → SayInTurn (lines text) (said ++ own)
-said_last text rest said own h some says before =
-    before own (subst (λ (ls : List (List ℕ)). SayInTurn ls own) (sym (lines_last rest h some)) (own, [], sym (append-nil own), says, refl))
+pub said_last : (first before : Before) (text rest said own : List ℕ) → position is_lf rest ≡ None → length rest ≢ 0 → Says before rest own → SaidBefore first text before rest said
+    → SayInTurn first (lines text) (said ++ own)
+said_last first before text rest said own h some says so_far =
+    so_far own (subst (λ (ls : List (List ℕ)). SayInTurn before ls own) (sym (lines_last rest h some)) (own, [], sym (append-nil own), says, refl))
 
 -- where no line is left
-pub said_whole : (text rest said : List ℕ) → length rest ≡ 0 → SaidBefore text rest said → SayInTurn (lines text) said
-said_whole text rest said none before =
-    subst (λ (t : List ℕ). SayInTurn (lines text) t) (append-nil said)
-    (before [] (subst (λ (r : List ℕ). SayInTurn (lines r) []) (sym (nothing rest none)) refl))
+pub said_whole : (first before : Before) (text rest said : List ℕ) → length rest ≡ 0 → SaidBefore first text before rest said → SayInTurn first (lines text) said
+said_whole first before text rest said none so_far =
+    subst (λ (t : List ℕ). SayInTurn first (lines text) t) (append-nil said)
+    (so_far [] (subst (λ (r : List ℕ). SayInTurn before (lines r) []) (sym (nothing rest none)) refl))

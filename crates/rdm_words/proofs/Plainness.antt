@@ -6,7 +6,10 @@ use Rattle.std.proofs.lemmas.Bool.Decides.{nat_tests}
 use Rattle.rdm_frame.specs.Digits.{digit}
 use Rattle.rdm_words.specs.Plain.{is_printable, is_plain, IsPlain, by_digits, shown_byte, shown, escaped_byte, escaped}
 use Rattle.rdm_trace.specs.Reading.{line_in, wire_in}
-use Rattle.rdm_words.specs.Said.{IsTold, SaysBy, SayInTurn, AreToldInTurn}
+use Rattle.rdm_trace.specs.Traces.{is_remark}
+use Rattle.rdm_words.specs.declared.before.Before.{Before}
+use Rattle.rdm_words.specs.Before.{after}
+use Rattle.rdm_words.specs.Said.{IsTold, SaysBy, SayInTurn, AreToldInTurn, behind, other_words}
 use Rattle.rdm_trace.specs.declared.line.Line.{Line}
 
 -- ---- plain texts
@@ -74,23 +77,28 @@ shown_some (b ∷ words) h e = by (is_plain b) e
 pub told_line : (words : List ℕ) → words ≢ [] → IsTold (shown words ++ 10 ∷ [])
 told_line words h = record { words = shown words; whole = refl; some = shown_some words h; plain = plain_line (shown words) (plain_shown words) }
 
--- what is said of a line, by what it is
-plain_says : (empty : Bool) (said : Option Line) (frame : Option (List ℕ)) (line own : List ℕ) → SaysBy empty said frame line own → IsPlain own
-plain_says true said frame line own s = subst (λ (o : List ℕ). IsPlain o) (sym s) (refl, tt)
-plain_says false (Some said) frame line own s = s.told.plain
-plain_says false None (Some bytes) line own s = s.told.plain
-plain_says false None None line own s =
-    subst (λ (o : List ℕ). IsPlain o) (sym s) (plain_append (codes "not read: ") (escaped line ++ 10 ∷ []) front (plain_line (escaped line) (plain_escaped line)))
+-- a line that says nothing of a bus
+plain_other : (remark : Bool) (line : List ℕ) → IsPlain (other_words remark line)
+plain_other true line = plain_line (escaped line) (plain_escaped line)
+plain_other false line = plain_append (codes "not read: ") (escaped line ++ 10 ∷ []) front (plain_line (escaped line) (plain_escaped line))
   where
     front : IsPlain (codes "not read: ")
     front = (refl, (refl, (refl, (refl, (refl, (refl, (refl, (refl, (refl, (refl, tt))))))))))
 
-pub said_plain : (lines : List (List ℕ)) (said : List ℕ) → SayInTurn lines said → IsPlain said
-said_plain [] said s = subst (λ (o : List ℕ). IsPlain o) (sym s) tt
-said_plain (line ∷ lines) said (own, rest, parts, one, more) =
-    subst (λ (o : List ℕ). IsPlain o) (sym parts) (plain_append own rest (plain_says (length line == 0) (line_in line) (wire_in line) line own one) (said_plain lines rest more))
+-- what is said of a line, by what it is
+plain_says : (before : Before) (empty : Bool) (said : Option Line) (frame : Option (List ℕ)) (line own : List ℕ) → SaysBy before empty said frame line own → IsPlain own
+plain_says before true said frame line own s = subst (λ (o : List ℕ). IsPlain o) (sym s) (refl, tt)
+plain_says before false (Some said) frame line own s = s.told.plain
+plain_says before false None (Some bytes) line own s = s.told.plain
+plain_says before false None None line own s = subst (λ (o : List ℕ). IsPlain o) (sym s) (plain_other (is_remark line) line)
 
-pub told_plain : (lines : List Line) (said : List ℕ) → AreToldInTurn lines said → IsPlain said
-told_plain [] said s = subst (λ (o : List ℕ). IsPlain o) (sym s) tt
-told_plain (line ∷ lines) said (own, rest, parts, one, more) =
-    subst (λ (o : List ℕ). IsPlain o) (sym parts) (plain_append own rest one.told.plain (told_plain lines rest more))
+pub said_plain : (before : Before) (lines : List (List ℕ)) (said : List ℕ) → SayInTurn before lines said → IsPlain said
+said_plain before [] said s = subst (λ (o : List ℕ). IsPlain o) (sym s) tt
+said_plain before (line ∷ lines) said (own, rest, parts, one, more) =
+    subst (λ (o : List ℕ). IsPlain o) (sym parts)
+    (plain_append own rest (plain_says before (length line == 0) (line_in line) (wire_in line) line own one) (said_plain (behind (line_in line) before) lines rest more))
+
+pub told_plain : (before : Before) (lines : List Line) (said : List ℕ) → AreToldInTurn before lines said → IsPlain said
+told_plain before [] said s = subst (λ (o : List ℕ). IsPlain o) (sym s) tt
+told_plain before (line ∷ lines) said (own, rest, parts, one, more) =
+    subst (λ (o : List ℕ). IsPlain o) (sym parts) (plain_append own rest one.told.plain (told_plain (after line before) lines rest more))

@@ -1,5 +1,8 @@
+pub mod Before
 pub mod Fixed
 pub mod FixtureWords
+pub mod Known
+pub mod Learned
 pub mod Plain
 pub mod Said
 pub mod Unescaping

@@ -2,6 +2,9 @@
 use Rattle.std.specs.Prelude.{◌≡◌, ◌≢◌, ℕ, Bool, true, false, ◌==◌, List, [], ◌∷◌, ◌++◌, length, Option, Some, None, codes}
 use Rattle.rdm_trace.specs.declared.line.Line.{Line}
 use Rattle.rdm_trace.specs.Reading.{line_in, wire_in}
+use Rattle.rdm_trace.specs.Traces.{is_remark}
+use Rattle.rdm_words.specs.declared.before.Before.{Before}
+use Rattle.rdm_words.specs.Before.{after}
 use Rattle.rdm_words.specs.Plain.{IsPlain, escaped}
 use Rattle.rdm_words.specs.Fixed.{AreWordsOfBytes, AreWordsOfLine}
 use Rattle.rdm_words.specs.Unread.{AreLastOfBytes, AreLastOfLine}
@@ -22,26 +25,39 @@ pub record Tells (AreWords : List ℕ → Type 0) (AreLast : List ℕ → Type 0
 abbrev pub TellsBytes : List ℕ → List ℕ → Type 0
 TellsBytes bytes own = Tells (λ words. AreWordsOfBytes bytes words) (λ words. AreLastOfBytes bytes words) own
 
-abbrev pub TellsLine : Line → List ℕ → Type 0
-TellsLine line own = Tells (λ words. AreWordsOfLine line words) (λ words. AreLastOfLine line words) own
+abbrev pub TellsLine : Before → Line → List ℕ → Type 0
+TellsLine before line own = Tells (λ words. AreWordsOfLine before line words) (λ words. AreLastOfLine line words) own
+
+-- a line that says nothing of a bus: a remark stands as it is
+abbrev pub other_words : Bool → List ℕ → List ℕ
+other_words true line = escaped line ++ 10 ∷ []
+other_words false line = codes "not read: " ++ escaped line ++ 10 ∷ []
 
 -- by whether the line is empty, which line of a trace it is, and of which frame it has the digits
-abbrev pub SaysBy : Bool → Option Line → Option (List ℕ) → List ℕ → List ℕ → Type 0
-SaysBy true said frame line own = own ≡ 10 ∷ []
-SaysBy false (Some said) frame line own = TellsLine said own
-SaysBy false None (Some bytes) line own = TellsBytes bytes own
-SaysBy false None None line own = own ≡ codes "not read: " ++ escaped line ++ 10 ∷ []
+abbrev pub SaysBy : Before → Bool → Option Line → Option (List ℕ) → List ℕ → List ℕ → Type 0
+SaysBy before true said frame line own = own ≡ 10 ∷ []
+SaysBy before false (Some said) frame line own = TellsLine before said own
+SaysBy before false None (Some bytes) line own = TellsBytes bytes own
+SaysBy before false None None line own = own ≡ other_words (is_remark line) line
 
--- These bytes say a line: an empty one stays empty, one that is read has its words, and any other stands there escaped.
-abbrev pub Says : List ℕ → List ℕ → Type 0
-Says line own = SaysBy (length line == 0) (line_in line) (wire_in line) line own
+-- These bytes say a line, by what went before it: an empty one stays empty, one that is read has its words, and any other stands there
+-- escaped.
+abbrev pub Says : Before → List ℕ → List ℕ → Type 0
+Says before line own = SaysBy before (length line == 0) (line_in line) (wire_in line) line own
+
+-- what went before the line that follows this one: a line that isn't one of a trace changes nothing
+abbrev pub behind : Option Line → Before → Before
+behind None before = before
+behind (Some said) before = after said before
 
 -- These bytes say the lines, one after the other: each line has its own part, in order, and nothing else stands there.
-abbrev pub SayInTurn : List (List ℕ) → List ℕ → Type 0
-SayInTurn [] said = said ≡ []
-SayInTurn (line ∷ lines) said = (own : List ℕ) × (rest : List ℕ) × (said ≡ own ++ rest) × Says line own × SayInTurn lines rest
+abbrev pub SayInTurn : Before → List (List ℕ) → List ℕ → Type 0
+SayInTurn before [] said = said ≡ []
+SayInTurn before (line ∷ lines) said =
+    (own : List ℕ) × (rest : List ℕ) × (said ≡ own ++ rest) × Says before line own × SayInTurn (behind (line_in line) before) lines rest
 
 -- The words of lines of a trace, one after the other.
-abbrev pub AreToldInTurn : List Line → List ℕ → Type 0
-AreToldInTurn [] said = said ≡ []
-AreToldInTurn (line ∷ lines) said = (own : List ℕ) × (rest : List ℕ) × (said ≡ own ++ rest) × TellsLine line own × AreToldInTurn lines rest
+abbrev pub AreToldInTurn : Before → List Line → List ℕ → Type 0
+AreToldInTurn before [] said = said ≡ []
+AreToldInTurn before (line ∷ lines) said =
+    (own : List ℕ) × (rest : List ℕ) × (said ≡ own ++ rest) × TellsLine before line own × AreToldInTurn (after line before) lines rest

@@ -1,13 +1,14 @@
 -- The last words of a line: data that nothing interprets, since no table has their parameter. They stand there as all of their digits.
-use Rattle.std.specs.Prelude.{◌≡◌, ◌≢◌, ℕ, Bool, true, ◌==◌, ◌||◌, List, [], ◌∷◌, ◌++◌, Option, Some, None, codes}
+use Rattle.std.specs.Prelude.{◌≡◌, ◌≢◌, ◌⊎◌, ℕ, Bool, true, ◌==◌, ◌||◌, List, [], ◌∷◌, ◌++◌, Option, Some, None, codes}
 use Rattle.rdm_frame.specs.declared.frame.Frame.{Frame}
+use Rattle.rdm_frame.specs.declared.decoding.FrameError.{FrameError}
 use Rattle.rdm_frame.specs.Digits.{digits}
 use Rattle.rdm_frame.specs.Reading.{frame_in}
 use Rattle.rdm_params.specs.declared.jobs.message.Message.{Message}
 use Rattle.rdm_params.specs.Table.Rows.{row_of}
 use Rattle.rdm_trace.specs.declared.line.Line.{Line}
-use Rattle.rdm_trace.specs.declared.line.Line.TheVariants.{Send, Reply, Job, Heard, Found, Arrive, Panel, Message as TheMessage, End}
-use Rattle.rdm_words.specs.Fixed.{fault_line}
+use Rattle.rdm_trace.specs.declared.line.Line.TheVariants.{Send, Reply, Job, Heard, Found, Arrive, Panel, Message as TheMessage, Time, End}
+use Rattle.rdm_words.specs.Fixed.{fault_line, stray_words, with_start, is_readable, IsStray}
 
 -- a line of its own with the data
 abbrev pub data_line : List ℕ → List ℕ
@@ -36,9 +37,18 @@ pub record HasUnread (f : Frame) : Type 0 where
   pub unread : AreUnread f.class f.pid f.body
   pub answer : is_response f.class ≡ true → is_put_off f.port ≢ true
 
--- the last words of bytes from the bus that are such a frame
+-- a line of its own with bytes that aren't a frame: why, and all of their digits
+abbrev pub stray_line : FrameError → List ℕ → List ℕ
+stray_line cause bytes = 10 ∷ codes "  " ++ stray_words cause bytes
+
+-- the last words of bytes from the bus that are such a frame, or that are none and can be read as one all the same
+abbrev pub AreLastOfWhole : List ℕ → List ℕ → Type 0
+AreLastOfWhole bytes words =
+    ((f : Frame) × (frame_in bytes ≡ Some f) × HasUnread f × (words ≡ data_line f.body))
+    ⊎ ((cause : FrameError) × IsStray cause bytes × (is_readable bytes ≡ true) × (words ≡ stray_line cause bytes))
+
 abbrev pub AreLastOfBytes : List ℕ → List ℕ → Type 0
-AreLastOfBytes bytes words = (f : Frame) × (frame_in bytes ≡ Some f) × HasUnread f × (words ≡ data_line f.body)
+AreLastOfBytes bytes words = AreLastOfWhole (with_start bytes) words
 
 -- the last words of a line of a trace with such a frame or such a message
 abbrev pub AreLastOfLine : Line → List ℕ → Type 0
@@ -50,5 +60,6 @@ AreLastOfLine (Heard heard) words = ⊥
 AreLastOfLine (Found uid) words = ⊥
 AreLastOfLine (Arrive job outcome) words = ⊥
 AreLastOfLine (Panel change refused) words = ⊥
+AreLastOfLine (Time millis) words = ⊥
 AreLastOfLine (TheMessage message) words = AreUnread message.class message.pid message.body × (words ≡ data_line message.body)
 AreLastOfLine End words = ⊥

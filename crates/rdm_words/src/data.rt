@@ -1,9 +1,12 @@
 //! The words of parameter data: what their slots are, and how each is said.
 
 pub(crate) mod added;
+pub(crate) mod causes;
+pub(crate) mod described;
 pub(crate) mod form;
 pub(crate) mod known;
 pub(crate) mod layout;
+pub(crate) mod lengths;
 pub(crate) mod lists;
 pub(crate) mod meanings;
 pub(crate) mod own;

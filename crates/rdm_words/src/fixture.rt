@@ -7,7 +7,7 @@ ghost use Rattle.rdm_words.specs.Plain.{IsPlain};
 mod added;
 mod slow;
 
-use crate::Known;
+use crate::data::known::Facts;
 use crate::data::sensors::put_range;
 use crate::tables::parameters::parameter;
 use crate::tables::products::PRODUCT_CATEGORIES;
@@ -239,7 +239,7 @@ fn put_own_parts(text: &mut String, profile: &Profile) -> Result<(), AllocError>
         put_choice_name(text, name)?;
     }
     for lock in profile.particulars.locks() {
-        put_lock(text, *lock, &Known::whose(profile))?;
+        put_lock(text, *lock, &Facts::whose(profile))?;
     }
     put_estimates(text, &profile.particulars.estimates())?;
     put_workers(text, &profile.workers)?;

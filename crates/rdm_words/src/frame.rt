@@ -3,5 +3,6 @@
 pub(crate) mod class;
 pub(crate) mod frame_words;
 pub(crate) mod header;
+pub(crate) mod invalid;
 pub(crate) mod place;
 pub(crate) mod short;

@@ -3,6 +3,7 @@
 ghost use Rattle.std.specs.Prelude.{◌≡◌, ◌<◌, ℕ, List};
 ghost use Rattle.std.specs.List.{AllByRecursion};
 ghost use Rattle.rdm_trace.specs.declared.line.Line.{Line as TheLine};
+ghost use Rattle.rdm_words.specs.declared.before.Before.{Before as TheBefore};
 ghost use Rattle.rdm_words.specs.Plain.{IsPlain, escaped};
 ghost use Rattle.rdm_words.specs.Said.{SayInTurn, AreToldInTurn};
 ghost use Rattle.rdm_words.specs.Unescaping.{unescaped};
@@ -16,6 +17,6 @@ pub fn escaped_text_is_read_back()
 /// Whatever the lines hold, what is said of them is plain: nothing in it commands a terminal.
 #[tactic(auto, using(crate::proofs::Plainness::said_plain, crate::proofs::Plainness::told_plain))]
 pub fn what_is_said_is_plain()
-    ensures said { (lines : List (List ℕ)) → (said : List ℕ) → SayInTurn lines said → IsPlain said }
-    ensures told { (lines : List TheLine) → (said : List ℕ) → AreToldInTurn lines said → IsPlain said }
+    ensures said { (before : TheBefore) (lines : List (List ℕ)) → (said : List ℕ) → SayInTurn before lines said → IsPlain said }
+    ensures told { (before : TheBefore) (lines : List TheLine) → (said : List ℕ) → AreToldInTurn before lines said → IsPlain said }
 {}

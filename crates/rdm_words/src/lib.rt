@@ -6,17 +6,22 @@
 //! written that commands a terminal. `docs/WORDS.md` has the forms.
 #![tactic(auto)]
 
+mod before;
 mod data;
 mod fixture;
 mod frame;
 mod laws;
+mod learned;
 mod line_words;
 pub mod tables;
 mod text;
 mod trace_words;
 
+pub use before::Before;
+pub use data::causes::put_cause;
 pub use data::known::Known;
 pub use fixture::put_fixture;
 pub use frame::short::{put_reply_words, put_request_words};
 pub use laws::{escaped_text_is_read_back, what_is_said_is_plain};
-pub use line_words::{put_line_words, words, words_of_lines};
+pub use learned::{Learned, Question};
+pub use line_words::{put_line_words, put_text_line, words, words_of_lines};

@@ -10,9 +10,9 @@ pub mod settings;
 pub mod slots;
 pub mod statuses;
 
-/// A table of the standard: numbers, each with its words.
+/// A table of the standard: numbers, each with its words, a row each.
 #[derive(Clone, Copy)]
-pub struct Table(pub(crate) &'static [(u32, &'static str)]);
+pub struct Table(pub &'static [(u32, &'static str)]);
 
 impl Table {
     /// The words of a number, or `None` if the table has none for it.

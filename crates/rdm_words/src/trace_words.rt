@@ -1,18 +1,22 @@
 //! The words of the lines of a trace.
 
-ghost use Rattle.std.specs.Prelude.{◌≡◌, ℕ, List, ◌++◌, OnOk, string_bytes};
-ghost use Rattle.rdm_words.specs.Fixed.{AreWordsOfBytes, AreWordsOfLine, fault_line, found_words, heard_words, job_words, raised_words};
+ghost use Rattle.std.specs.Prelude.{◌≡◌, ℕ, List, ◌++◌, Some, OnOk, string_bytes};
+ghost use Rattle.rdm_words.specs.Fixed.{AreWordsOfBytes, AreWordsOfLine, answerer_words, fault_line, found_words, heard_words, job_words, raised_words};
+ghost use Rattle.rdm_words.specs.Before.{IsAnswerIn};
 ghost use Rattle.rdm_words.specs.Plain.{IsFixed, IsPlain};
+ghost use Rattle.rdm_frame.specs.declared.uid.Uid.{Uid as TheUid};
+ghost use Rattle.rdm_collector.specs.declared.transaction.Heard.TheVariants.{Ignored};
 ghost use Rattle.rdm_words.specs.Unread.{AreUnread, AreLastOfLine, data_line};
 
-use crate::Known;
+use crate::data::known::Facts;
 use crate::data::layout::layout_of;
 use crate::data::own::{put_own_line, put_parameter};
 use crate::data::statuses::{Status, put_failure};
 use crate::frame::class::put_class;
-use crate::frame::frame_words::{put_bytes_words, put_data_lines};
+use crate::frame::frame_words::{Subject, put_bytes_words, put_data_lines};
 use crate::frame::place::put_place;
 use crate::text::put_quoted;
+use crate::{Before, Known};
 use rdm_bus::{Fault, Heard};
 use rdm_frame::Uid;
 use rdm_params::{Change, Message, Outcome};
@@ -23,35 +27,37 @@ use std::fmt::Write;
 /// The words of a line of a trace.
 pub(crate) fn put_trace_line(
     text: &mut String,
+    before: &Before,
     line: &Line,
     known: &Known<'_>,
 ) -> Result<(), AllocError>
     ensures fixed { OnOk result
-        ((words : List ℕ) → AreWordsOfLine line.now words → IsFixed words × (string_bytes text.new ≡ string_bytes text.old ++ words)) }
+        ((words : List ℕ) → AreWordsOfLine before.now line.now words → IsFixed words × (string_bytes text.new ≡ string_bytes text.old ++ words)) }
     ensures last { OnOk result ((words : List ℕ) → AreLastOfLine line.now words
         → IsFixed words × (front : List ℕ) × (string_bytes text.new ≡ string_bytes text.old ++ (front ++ words))) }
 {
     match line {
         Line::Send { bytes, fault } => {
-            put_bytes_words(text, bytes.as_slice(), known)?;
+            put_bytes_words(text, bytes, known)?;
             put_fault(text, *fault)
         }
         Line::Reply(reply) => match reply {
-            Some(bytes) => put_bytes_words(text, bytes.as_slice(), known),
+            Some(bytes) => put_bytes_words(text, bytes, known),
             None => text.push_str("no reply"),
         },
         Line::Job(job) => {
             put_job(text, job.worker, job.number)?;
             text.push_str(" starts")
         }
-        Line::Heard(heard) => text.push_str(heard_words(*heard)),
+        Line::Heard(heard) => put_heard(text, before, *heard),
         Line::Found(uid) => put_found(text, *uid),
         Line::Arrive { job, outcome } => {
             put_job(text, job.worker, job.number)?;
-            put_outcome(text, *outcome, known)
+            put_outcome(text, *outcome, &before.facts(known))
         }
         Line::Panel { change, refused } => put_panel(text, change, *refused),
-        Line::Message(message) => put_message(text, message, known),
+        Line::Message(message) => put_message(text, message, &before.facts(known)),
+        Line::Time { millis } => put_time(text, *millis),
         Line::End => text.push_str("end of the trace"),
     }
 }
@@ -101,6 +107,38 @@ fn heard_words(heard: Option<Heard>) -> &'static str
     }
 }
 
+/// What the controller took the last reply for.
+fn put_heard(text: &mut String, before: &Before, heard: Option<Heard>) -> Result<(), AllocError>
+    ensures answer { (uid : TheUid) → heard ≡ Some Ignored → IsAnswerIn before.now.reply uid
+        → OnOk result (string_bytes text.new ≡ string_bytes text.old ++ answerer_words uid) }
+    ensures other { (heard ≡ Some Ignored → (uid : TheUid) → IsAnswerIn before.now.reply uid → ⊥)
+        → OnOk result (string_bytes text.new ≡ string_bytes text.old ++ heard_words heard) }
+{
+    match heard {
+        Some(Heard::Ignored) => put_ignored(text, before),
+        _ => text.push_str(heard_words(heard)),
+    }
+}
+
+/// What the controller heard that it took for no reply: the answer of a device to DISC_UNIQUE_BRANCH, or something else.
+fn put_ignored(text: &mut String, before: &Before) -> Result<(), AllocError>
+    ensures answer { (uid : TheUid) → IsAnswerIn before.now.reply uid
+        → OnOk result (string_bytes text.new ≡ string_bytes text.old ++ answerer_words uid) }
+    ensures other { ((uid : TheUid) → IsAnswerIn before.now.reply uid → ⊥)
+        → OnOk result (string_bytes text.new ≡ string_bytes text.old ++ heard_words (Some Ignored)) }
+{
+    if let Some(uid) = before.answerer() {
+        return write!(text, "the controller hears the answer of {uid}");
+    }
+    text.push_str(heard_words(Some(Heard::Ignored)))
+}
+
+/// When the next line happened.
+fn put_time(text: &mut String, millis: u64) -> Result<(), AllocError> {
+    let (seconds, rest) = (millis / 1000, millis % 1000);
+    write!(text, "at {seconds}.{rest:03} s")
+}
+
 /// Which fixture the controller finds.
 fn put_found(text: &mut String, uid: Uid) -> Result<(), AllocError>
     ensures { OnOk result (string_bytes text.new ≡ string_bytes text.old ++ found_words uid) }
@@ -109,7 +147,7 @@ fn put_found(text: &mut String, uid: Uid) -> Result<(), AllocError>
 }
 
 /// How a job ended.
-fn put_outcome(text: &mut String, outcome: Outcome, known: &Known<'_>) -> Result<(), AllocError> {
+fn put_outcome(text: &mut String, outcome: Outcome, known: &Facts<'_>) -> Result<(), AllocError> {
     match outcome {
         Outcome::Done => text.push_str(" is done"),
         Outcome::Reading(value) => write!(text, " has measured {value}"),
@@ -149,7 +187,7 @@ fn put_panel(text: &mut String, change: &Change, refused: bool) -> Result<(), Al
 }
 
 /// A message that the controller recorded.
-fn put_message(text: &mut String, message: &Message, known: &Known<'_>) -> Result<(), AllocError>
+fn put_message(text: &mut String, message: &Message, known: &Facts<'_>) -> Result<(), AllocError>
     ensures last { AreUnread message.now.class message.now.pid message.now.body → OnOk result (IsPlain (data_line message.now.body)
         × (front : List ℕ) × (string_bytes text.new ≡ string_bytes text.old ++ (front ++ data_line message.now.body))) }
 {
@@ -157,11 +195,12 @@ fn put_message(text: &mut String, message: &Message, known: &Known<'_>) -> Resul
     put_heading(&mut head, message, known)?;
     text.push_str(head.as_str())?;
     let layout = layout_of(message.class, message.pid);
-    put_data_lines(text, layout, message.body.as_slice(), known)
+    let subject = Subject::whole(message.pid);
+    put_data_lines(text, subject, layout, message.body.as_slice(), known)
 }
 
 /// What a message is, and of what.
-fn put_heading(text: &mut String, message: &Message, known: &Known<'_>) -> Result<(), AllocError> {
+fn put_heading(text: &mut String, message: &Message, known: &Facts<'_>) -> Result<(), AllocError> {
     let Message {
         class,
         pid,

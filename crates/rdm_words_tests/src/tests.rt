@@ -1,5 +1,8 @@
 //! What no clause says: the words themselves, held against the fields of the standard.
 
+mod belonging;
+mod captures;
+mod causes;
 mod choices;
 mod lines;
 mod own;

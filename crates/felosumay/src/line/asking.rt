@@ -3,11 +3,13 @@
 use super::collecting::Fetched;
 use super::console::Console;
 use super::fault::LineFault;
-use super::mailbox::{Letter, Mailbox};
+use super::mailbox::Mailbox;
 use crate::fault::Fault;
 use crate::host::Host;
 use rdm_collector::{Action, Command, Port, Response, Want};
-use rdm_frame::standard::{GET_COMMAND_RESPONSE, SET_COMMAND_RESPONSE};
+use rdm_console::{Awaiting, Entry, Verdict};
+use rdm_frame::Uid;
+use rdm_words::put_cause;
 use std::io::Write;
 
 /// How many tenths of a second there are between two polls for a result that is late.
@@ -21,6 +23,8 @@ const MOST_POLLS: u32 = 60;
 enum Next {
     /// The result came, and this was it.
     Done(Response),
+    /// The command failed, for this reason.
+    Failed(Entry),
     /// It is polled for again at once.
     Poll,
     /// It is polled for after so many tenths of a second.
@@ -58,11 +62,12 @@ impl<'a, H: Host, P: Port, F: Write> Console<'a, H, P, F> {
         command: &Command,
         tenths: u16,
     ) -> Result<(), Fault<'a>> {
+        let mut awaiting = Awaiting::new(command);
         self.teller.wait(command.dst, tenths);
         for _turn in 0..MOST_POLLS {
-            match self.look(mailbox, command)? {
-                Next::Done(Response::AckTimer { tenths }) => self.teller.wait(command.dst, tenths),
+            match self.look(mailbox, &mut awaiting)? {
                 Next::Done(response) => return ended(command, response),
+                Next::Failed(cause) => return Err(self.failure(command.dst, &cause)?),
                 Next::Poll => {}
                 Next::Wait(tenths) => self.teller.wait(command.dst, tenths),
                 Next::NoQueue => match self.ask_again(mailbox, command)? {
@@ -74,19 +79,27 @@ impl<'a, H: Host, P: Port, F: Write> Console<'a, H, P, F> {
         Err(Fault::Line(LineFault::NoResult(command.dst)))
     }
 
-    /// Fetches a message, and looks whether it is the result of a command.
-    fn look(&mut self, mailbox: &mut Mailbox, command: &Command) -> Result<Next, Fault<'a>> {
+    /// Fetches a message, and looks what it means for a command.
+    fn look(
+        &mut self,
+        mailbox: &mut Mailbox,
+        awaiting: &mut Awaiting<'_>,
+    ) -> Result<Next, Fault<'a>> {
         match self.fetch(mailbox)? {
-            Fetched::Message => match mailbox.last() {
-                Some(letter) if is_result(letter, command) => Ok(Next::Done(letter.response)),
-                _ => Ok(Next::Poll),
-            },
+            Fetched::Message => Ok(heard_by(mailbox, awaiting)),
             Fetched::Repeat => Ok(Next::Poll),
             Fetched::Nothing => Ok(Next::Wait(BETWEEN)),
             Fetched::NotYet(tenths) => Ok(Next::Wait(tenths)),
             Fetched::NoQueue | Fetched::Refused(_) => Ok(Next::NoQueue),
-            Fetched::Silent => Err(Fault::Line(LineFault::Silent(command.dst))),
+            Fetched::Silent => Err(Fault::Line(LineFault::Silent(mailbox.uid()))),
         }
+    }
+
+    /// The fault of a command that failed, for this reason. Its text is known, since the message was told.
+    fn failure(&mut self, uid: Uid, cause: &Entry) -> Result<Fault<'a>, Fault<'a>> {
+        let mut words = String::new(self.teller.rt().alloc());
+        put_cause(&mut words, uid, cause, &self.port.log().knowledge.of(uid))?;
+        Ok(Fault::Line(LineFault::Failed(words)))
     }
 
     /// Asks for a value again of a device that gives no messages. A SET can't be sent again, since it was carried out perhaps.
@@ -110,12 +123,16 @@ fn ended<'a>(command: &Command, response: Response) -> Result<(), Fault<'a>> {
     }
 }
 
-/// Whether a message is the result of a command.
-fn is_result(letter: &Letter, command: &Command) -> bool {
-    let class = match command.action {
-        Action::Set => SET_COMMAND_RESPONSE,
-        Action::Get | Action::Disc => GET_COMMAND_RESPONSE,
+/// What there is to do after the message that came last.
+fn heard_by(mailbox: &Mailbox, awaiting: &mut Awaiting<'_>) -> Next {
+    let Some(letter) = mailbox.last() else {
+        return Next::Poll;
     };
-    let message = &letter.message;
-    message.class == class && message.pid == command.pid && message.sub == command.sub
+    match awaiting.hear(&letter.view()) {
+        Verdict::Waits => Next::Poll,
+        Verdict::Done => Next::Done(Response::Ack),
+        Verdict::Rejected { reason } => Next::Done(Response::Nack { reason }),
+        Verdict::NeedsTime { tenths } => Next::Wait(tenths),
+        Verdict::Failed(cause) => Next::Failed(cause),
+    }
 }

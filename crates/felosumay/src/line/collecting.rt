@@ -109,7 +109,7 @@ impl<'a, H: Host, P: Port, F: Write> Console<'a, H, P, F> {
             Sorted::Part => false,
         };
         if let Some(reply) = heard {
-            self.teller.tell_reply(reply)?;
+            self.tell_reply(mailbox, reply)?;
         }
         if !is_whole {
             return Ok(Polled::Part);
@@ -125,6 +125,11 @@ impl<'a, H: Host, P: Port, F: Write> Console<'a, H, P, F> {
         };
         if let Some(joined) = &letter.joined {
             self.teller.tell_joined(joined.as_slice())?;
+        }
+        if !letter.is_whole {
+            self.teller.tell(
+                b"  a poll for its parts wasn't answered, and a part may be missing\n",
+            )?;
         }
         if letter.again {
             self.teller.tell(b"  it was asked for again, and may have been fetched before\n")?;

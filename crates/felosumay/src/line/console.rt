@@ -6,7 +6,8 @@ use super::recorder::Recorder;
 use super::telling::Teller;
 use crate::fault::Fault;
 use crate::host::Host;
-use rdm_collector::{Command, DeviceHeard, Port, Response, Wire, read_reply};
+use rdm_collector::{Action, Command, DeviceHeard, Port, Response, Wire, read_reply};
+use rdm_words::Question;
 use std::io::Write;
 
 /// How many times in a row a device is asked that doesn't answer.
@@ -14,6 +15,9 @@ pub const TRIES: u8 = 3;
 
 /// How many parts a reply has at most: a parameter of 65,536 slots.
 pub const MOST_PARTS: u32 = 300;
+
+/// How many questions are asked at most before a reply is told: a status message has at most 25 entries.
+const MOST_QUESTIONS: u32 = 32;
 
 /// What a console talks through, and how it tells what it hears.
 #[derive(Drop)]
@@ -90,11 +94,68 @@ impl<'a, H: Host, P: Port, F: Write> Console<'a, H, P, F> {
         joined: &mut Vec<u8>,
     ) -> Result<Response, Fault<'a>> {
         let reply = self.answer(mailbox, command)?;
-        self.teller.tell_reply(&reply)?;
+        self.tell_reply(mailbox, &reply)?;
         let Some(said) = read_reply(reply.as_slice()) else {
             return Err(Fault::Line(LineFault::Unknown(mailbox.uid())));
         };
         joined.extend_from_slice(said.body)?;
         Ok(said.response)
+    }
+
+    /// Tells the words of a reply of the device of a mailbox. What it takes to say it in words, as the unit of a sensor, is asked
+    /// first.
+    pub fn tell_reply(&mut self, mailbox: &mut Mailbox, reply: &Wire) -> Result<(), Fault<'a>> {
+        self.learn(mailbox, reply)?;
+        let teller = self.teller;
+        let known = self.port.log().knowledge.of(mailbox.uid());
+        teller.tell_reply(reply, &known)
+    }
+
+    /// Asks the device of a mailbox what it takes to say a reply in words.
+    fn learn(&mut self, mailbox: &mut Mailbox, reply: &Wire) -> Result<(), Fault<'a>> {
+        for _turn in 0..MOST_QUESTIONS {
+            let missing = self
+                .port
+                .log()
+                .knowledge
+                .missing(mailbox.uid(), reply.as_slice());
+            let Some(question) = missing else {
+                return Ok(());
+            };
+            let answer = self.inquire(mailbox, &question)?;
+            self.port.log().knowledge.note(&question, data_in(&answer))?;
+        }
+        Ok(())
+    }
+
+    /// What the device of a mailbox answers to a question, if it does.
+    fn inquire(
+        &mut self,
+        mailbox: &mut Mailbox,
+        question: &Question,
+    ) -> Result<Option<Wire>, Fault<'a>> {
+        let command = Command {
+            dst: question.uid,
+            action: Action::Get,
+            sub: 0,
+            pid: question.pid,
+            load: question.data.copy(),
+        };
+        match self.answer(mailbox, &command) {
+            Ok(reply) => Ok(Some(reply)),
+            Err(Fault::Line(LineFault::Silent(_))) => Ok(None),
+            Err(fault) => Err(fault),
+        }
+    }
+}
+
+/// The data of an answer, if it is an ACK.
+fn data_in(answer: &Option<Wire>) -> Option<&[u8]> {
+    let Some(reply) = answer else {
+        return None;
+    };
+    match read_reply(reply.as_slice()) {
+        Some(said) if said.response == Response::Ack => Some(said.body),
+        _ => None,
     }
 }

@@ -1,6 +1,7 @@
 //! What is asked for on a line.
 
 use super::console::Console;
+use super::entry::{Described, Entry, load_in, parameter_in};
 use super::fault::LineFault;
 use super::playing::Play;
 use crate::fault::Fault;
@@ -12,17 +13,18 @@ use rdm_bus::Fault as BusFault;
 use rdm_collector::{Action, Command, Port, is_reserved};
 use rdm_crew::CrewStep;
 use rdm_frame::Uid;
-use rdm_frame::standard::MOST_DATA;
 use rdm_script::{Dialect, ScriptError, Spelling, parse_as, refusal_at};
 use std::io::Write;
 
 /// What is done on a line.
 #[derive(Drop)]
-pub enum Errand {
+pub enum Errand<'a> {
     /// All devices are looked for.
     Find,
     /// A command is sent.
     Ask(Command),
+    /// A command is sent whose data the device describes first.
+    Describe(Described<'a>),
     /// The messages of a device are fetched.
     Collect(Uid),
     /// All devices are polled in turn.
@@ -31,12 +33,12 @@ pub enum Errand {
     Play(Play),
 }
 
-impl Errand {
+impl<'a> Errand<'a> {
     /// What the words of the command line ask for. What they can't ask for is refused.
-    pub fn asked_for<'a, H: Host>(rt: H, asked: &ArgMatches<'a>) -> Result<Errand, Fault<'a>> {
+    pub fn asked_for<H: Host>(rt: H, asked: &ArgMatches<'a>) -> Result<Errand<'a>, Fault<'a>> {
         match asked.subcommand() {
-            Some(("get", words)) => command(rt, "get", words),
-            Some(("set", words)) => command(rt, "set", words),
+            Some(("get", words)) => command(rt, Action::Get, words),
+            Some(("set", words)) => command(rt, Action::Set, words),
             Some(("collect", words)) => Ok(Errand::Collect(device_in(words)?)),
             Some(("watch", _words)) => Ok(Errand::Watch),
             Some(("play", words)) => {
@@ -48,13 +50,14 @@ impl Errand {
     }
 
     /// Does it.
-    pub fn run<'a, H: Host, P: Port, F: Write>(
+    pub fn run<H: Host, P: Port, F: Write>(
         &self,
         console: &mut Console<'a, H, P, F>,
     ) -> Result<(), Fault<'a>> {
         match self {
             Errand::Find => console.find(),
             Errand::Ask(command) => console.ask(command),
+            Errand::Describe(described) => console.ask_described(described),
             Errand::Collect(uid) => console.collect(*uid),
             Errand::Watch => console.watch(),
             Errand::Play(play) => console.play(play),
@@ -92,17 +95,27 @@ pub fn device_in<'a>(asked: &ArgMatches<'a>) -> Result<Uid, Fault<'a>> {
     Ok(uid)
 }
 
-/// The command that is asked for, in the words of a script. A GET to several devices is refused, since nobody answers it.
-fn command<'a, H: Host>(rt: H, verb: &str, asked: &ArgMatches<'a>) -> Result<Errand, Fault<'a>> {
+/// The command that is asked for: a parameter by its name, and its data as people write them. A GET to several devices is refused,
+/// since nobody answers it.
+fn command<'a, H: Host>(
+    rt: H,
+    action: Action,
+    asked: &ArgMatches<'a>,
+) -> Result<Errand<'a>, Fault<'a>> {
     let uid = uid_in(asked)?;
-    let sub = asked.get_str(usage::SUB).unwrap_or("root");
-    let parameter = asked.get_str(usage::PARAMETER).unwrap_or("");
-    let data = asked.get_str(usage::DATA).unwrap_or("-");
-    let text = format!(in rt.alloc(); "{verb} {uid} {sub} {parameter} {data}")?;
-    let command = command_in(rt, uid, text.as_bytes())?;
-    match refusal(&command) {
-        Some(fault) => Err(Fault::Line(fault)),
-        None => Ok(Errand::Ask(command)),
+    let mut command = place_in(rt, uid, asked.get_str(usage::SUB).unwrap_or("root"))?;
+    command.action = action;
+    command.pid = parameter_in(asked.get_str(usage::PARAMETER).unwrap_or(""))?;
+    if let Some(fault) = refusal(&command) {
+        return Err(Fault::Line(fault));
+    }
+    let words = asked.get_strs(usage::DATA).unwrap_or(&[]);
+    match load_in(&command, words)? {
+        Entry::Data(load) => {
+            command.load = load;
+            Ok(Errand::Ask(command))
+        }
+        Entry::Unknown => Ok(Errand::Describe(Described::new(rt.alloc(), command, words)?)),
     }
 }
 
@@ -114,10 +127,13 @@ fn refusal<'a>(command: &Command) -> Option<LineFault<'a>> {
     if is_reserved(command.pid) {
         return Some(LineFault::Reserved);
     }
-    if command.load.as_slice().len() > MOST_DATA {
-        return Some(LineFault::TooLong);
-    }
     None
+}
+
+/// A command without data to this device, and to the sub-device that is named as in a script.
+fn place_in<'a, H: Host>(rt: H, uid: Uid, sub: &str) -> Result<Command, Fault<'a>> {
+    let text = format!(in rt.alloc(); "get {uid} {sub} DEVICE_INFO -")?;
+    command_in(rt, uid, text.as_bytes())
 }
 
 /// The one command that a line of a script says.

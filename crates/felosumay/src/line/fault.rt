@@ -1,7 +1,9 @@
 //! Why a console couldn't do its work on a line.
 
 use crate::fault::{BAD_USAGE, Fault};
+use crate::name::Name;
 use rdm_collector::PortError;
+use rdm_entry::Complaint;
 use rdm_frame::Uid;
 use rdm_frame::standard::MOST_DATA;
 use rdm_interface::SearchFault;
@@ -17,6 +19,12 @@ pub enum LineFault<'a> {
     NoUid(&'a str),
     /// A word of a command isn't what it has to be.
     Word(Refusal),
+    /// A word isn't a parameter, but perhaps it means this one.
+    NoParameter(&'a str, Option<&'static str>),
+    /// A word says nothing for a field of the data of a command.
+    NoData(Complaint<'a>),
+    /// A word isn't data in hexadecimal digits.
+    NoDigits(&'a str),
     /// The words aren't one command.
     NoCommand,
     /// Only a SET can be sent to the devices of this UID, which are several.
@@ -25,6 +33,10 @@ pub enum LineFault<'a> {
     Reserved,
     /// The command has more data than a frame can carry.
     TooLong,
+    /// This isn't a port, so nothing was written to it.
+    NoPort(&'a str),
+    /// Another program has locked this port.
+    Taken(&'a str),
     /// No interface answers on this port.
     NoInterface(&'a str),
     /// The port is closed at its other end.
@@ -39,6 +51,8 @@ pub enum LineFault<'a> {
     Silent(Uid),
     /// The device rejects the command.
     Rejected(Uid),
+    /// A command that took time failed, for this reason.
+    Failed(String),
     /// The device answers by a response type that E1.20 doesn't have.
     Unknown(Uid),
     /// The device doesn't have QUEUED_MESSAGE.
@@ -57,15 +71,23 @@ impl LineFault<'_> {
         match self {
             LineFault::NoUid(_)
             | LineFault::Word(_)
+            | LineFault::NoParameter(_, _)
+            | LineFault::NoData(_)
+            | LineFault::NoDigits(_)
             | LineFault::NoCommand
             | LineFault::Several(_)
             | LineFault::Reserved
             | LineFault::TooLong => BAD_USAGE,
-            LineFault::NoInterface(_) | LineFault::Closed(_) | LineFault::Port(_) => 4,
+            LineFault::NoPort(_)
+            | LineFault::Taken(_)
+            | LineFault::NoInterface(_)
+            | LineFault::Closed(_)
+            | LineFault::Port(_) => 4,
             LineFault::NoDevice
             | LineFault::Unsearched
             | LineFault::Silent(_)
             | LineFault::Rejected(_)
+            | LineFault::Failed(_)
             | LineFault::Unknown(_)
             | LineFault::NoQueue(_)
             | LineFault::Refused(_, _)
@@ -97,11 +119,15 @@ impl fmt::Display for LineFault<'_> {
         match self {
             LineFault::NoUid(word) => write!(
                 f,
-                "\"{word}\" isn't a valid UID: expected 4 and 8 hexadecimal digits, such as 7FF0:00000001"
+                "\"{}\" isn't a valid UID: expected 4 and 8 hexadecimal digits, such as 7FF0:00000001",
+                Name(word)
             ),
             LineFault::Word(refusal) => {
                 let reason = refusal.reason();
                 write!(f, "{reason}")
+            }
+            LineFault::NoParameter(_, _) | LineFault::NoData(_) | LineFault::NoDigits(_) => {
+                write_no_word(f, self)
             }
             LineFault::NoCommand => f.write_str("this isn't one command"),
             LineFault::Several(uid) => {
@@ -117,24 +143,54 @@ impl fmt::Display for LineFault<'_> {
                 f,
                 "a frame can't carry more than {MOST_DATA} bytes of data"
             ),
-            LineFault::NoInterface(_) | LineFault::Closed(_) | LineFault::Port(_) => {
-                write_no_port(f, self)
-            }
+            LineFault::NoPort(_)
+            | LineFault::Taken(_)
+            | LineFault::NoInterface(_)
+            | LineFault::Closed(_)
+            | LineFault::Port(_) => { write_no_port(f, self) }
             _ => write_unanswered(f, self),
         }
+    }
+}
+
+/// Writes which word of a command isn't what it has to be.
+fn write_no_word<W: fmt::Write>(f: &mut fmt::Formatter<W>, fault: &LineFault<'_>) -> fmt::Result {
+    match fault {
+        LineFault::NoParameter(word, Some(name)) => write!(
+            f,
+            "\"{word}\" isn't a valid parameter: is it {name}?"
+        ),
+        LineFault::NoParameter(word, None) => write!(
+            f,
+            "\"{word}\" isn't a valid parameter: expected 4 hexadecimal digits, or a name in E1.20 such as DEVICE_INFO; a maker's own has its PID alone"
+        ),
+        LineFault::NoData(complaint) => write!(f, "{complaint}"),
+        LineFault::NoDigits(word) => write!(
+            f,
+            "\"{word}\" isn't valid data: expected -, or two hexadecimal digits for each byte, since nobody describes this parameter"
+        ),
+        _ => Ok(()),
     }
 }
 
 /// Writes why nothing can be sent on a port.
 fn write_no_port<W: fmt::Write>(f: &mut fmt::Formatter<W>, fault: &LineFault<'_>) -> fmt::Result {
     match fault {
+        LineFault::NoPort(path) => write!(
+            f,
+            "{}: this isn't a serial port: expected a terminal device, such as /dev/ttyUSB0",
+            Name(path)
+        ),
+        LineFault::Taken(path) => write!(f, "{}: another program uses this port", Name(path)),
         LineFault::NoInterface(path) => write!(
             f,
-            "{path}: no interface answers: is it an ENTTEC DMX USB Pro or one like it, and the port set raw?"
+            "{}: no interface answers: is it an ENTTEC DMX USB Pro or one like it, and the port set raw?",
+            Name(path)
         ),
         LineFault::Closed(path) => write!(
             f,
-            "{path}: the line is closed, or the port isn't set to min 0 time 1"
+            "{}: the line is closed, or the port isn't set to min 0 time 1",
+            Name(path)
         ),
         LineFault::Port(error) => write!(f, "{error}"),
         _ => Ok(()),
@@ -152,9 +208,10 @@ fn write_unanswered<W: fmt::Write>(
         ),
         LineFault::Silent(uid) => write!(
             f,
-            "{uid} doesn't answer: does find tell it, and does it have power?"
+            "{uid}: no answer; does find list it, and is it powered?"
         ),
         LineFault::Rejected(uid) => write!(f, "{uid} rejects the command"),
+        LineFault::Failed(reason) => write!(f, "the command failed: {reason}"),
         LineFault::Unknown(uid) => {
             write!(
                 f,
@@ -166,8 +223,8 @@ fn write_unanswered<W: fmt::Write>(
             let reason = Reason(*code);
             write!(f, "{uid} rejects QUEUED_MESSAGE: {reason}")
         }
-        LineFault::NoResult(uid) => write!(f, "{uid} hasn't told the result in time"),
-        LineFault::Endless(uid) => write!(f, "{uid} tells more without end"),
+        LineFault::NoResult(uid) => write!(f, "{uid} sent no result in time"),
+        LineFault::Endless(uid) => write!(f, "{uid} sends messages without end"),
         _ => f.write_str("the search found no end"),
     }
 }

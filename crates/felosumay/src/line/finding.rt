@@ -9,8 +9,9 @@ use crate::host::Host;
 use crate::usage::MOST_FIXTURES;
 use rdm_collector::{Action, Command, Load, Port, Response, Want, read_reply};
 use rdm_frame::Uid;
-use rdm_interface::discover_through;
+use rdm_interface::step_through;
 use rdm_params::Kind;
+use rdm_search::{Found, Search};
 use std::fmt::Write as WriteText;
 use std::io::Write;
 
@@ -21,27 +22,92 @@ const RETRIES: u8 = 2;
 const LIMIT: u32 = 74 * MOST_FIXTURES as u32 + 2;
 
 impl<'a, H: Host, P: Port, F: Write> Console<'a, H, P, F> {
-    /// Finds all devices, and tells the UID of each, its model and its label.
+    /// Finds all devices, and tells the UID of each, its model and its label as it is found.
     pub fn find(&mut self) -> Result<(), Fault<'a>> {
-        let found = self.found()?;
-        for uid in &found {
-            self.tell_found(*uid)?;
-        }
+        self.search(true)?;
         Ok(())
     }
 
     /// The UIDs of all devices on the line. If there is none, that is a fault.
     pub fn found(&mut self) -> Result<Vec<Uid>, Fault<'a>> {
-        let alloc = self.teller.rt().alloc();
-        let found = discover_through(alloc, &mut self.port, CONSOLE, RETRIES, LIMIT)?;
-        if found.is_empty() {
-            return Err(Fault::Line(LineFault::NoDevice));
-        }
-        let mut uids = Vec::with_capacity(alloc, found.len())?;
-        for one in &found {
+        let search = self.search(false)?;
+        let found = search.found();
+        let mut uids = Vec::with_capacity(self.teller.rt().alloc(), found.len())?;
+        for one in found {
             uids.push(one.uid)?;
         }
         Ok(uids)
+    }
+
+    /// Searches the line. If nobody is found, that is a fault. Whoever is found may be told at once.
+    fn search(&mut self, is_told: bool) -> Result<Search, Fault<'a>> {
+        let mut search = Search::new(self.teller.rt().alloc(), CONSOLE, LIMIT);
+        let ran = self.search_on(&mut search, is_told);
+        self.show("");
+        ran?;
+        self.name_unsure(&search);
+        if search.found().is_empty() {
+            return Err(Fault::Line(LineFault::NoDevice));
+        }
+        Ok(search)
+    }
+
+    /// Runs a search to its end.
+    fn search_on(&mut self, search: &mut Search, is_told: bool) -> Result<(), Fault<'a>> {
+        let mut told = 0;
+        for sent in 0..u64::MAX {
+            self.show_progress(search.found().len(), sent)?;
+            if !step_through(search, &mut self.port, RETRIES)? {
+                return Ok(());
+            }
+            if is_told {
+                told = self.tell_new(search.found(), told)?;
+            }
+        }
+        Ok(())
+    }
+
+    /// Tells the device that comes behind so many that were told, if it was found. Gives how many are told then.
+    fn tell_new(&mut self, found: &[Found], told: usize) -> Result<usize, Fault<'a>> {
+        let Some(one) = found.get(told) else {
+            return Ok(told);
+        };
+        self.show("");
+        self.tell_found(one.uid)?;
+        Ok(told.saturating_add(1))
+    }
+
+    /// Shows how far a search is, where somebody sees it.
+    fn show_progress(&self, found: usize, sent: u64) -> Result<(), Fault<'a>> {
+        if self.teller.is_seen() {
+            let words = format!(in self.teller.rt().alloc();
+                "{found} found so far, {sent} requests"
+            )?;
+            self.show(words.as_str());
+        }
+        Ok(())
+    }
+
+    /// Shows this in place of what was shown before, where somebody sees it.
+    fn show(&self, words: &str) {
+        if self.teller.is_seen() {
+            // Nothing is lost if it can't be shown.
+            let rt = self.teller.rt();
+            let _ = eprint!(rt; "\r{words}\u{1b}[K");
+        }
+    }
+
+    /// Names those that may be there, though they weren't found.
+    fn name_unsure(&self, search: &Search) {
+        let rt = self.teller.rt();
+        for uid in search.unsure() {
+            let uid = *uid;
+            if !search.found().iter().any(|one| one.uid == uid) {
+                let _ = eprintln!(rt;
+                    "{uid} may be there: it answered DISC_MUTE, but never validly"
+                );
+            }
+        }
     }
 
     /// Tells the UID of a device, its model and its label.

@@ -1,9 +1,12 @@
 //! The trace of what a console sends and hears.
 
+use super::knowledge::Knowledge;
 use super::telling::Teller;
 use crate::fault::Fault;
 use crate::host::Speaker;
+use rdm_frame::Uid;
 use rdm_trace::{Line, put_line};
+use rdm_words::{Before, put_line_words};
 use std::io::Write;
 use std::time::Instant;
 
@@ -16,14 +19,30 @@ pub struct TraceFile<'a, F> {
     pub file: F,
 }
 
-/// The trace of what is sent and heard: in a file, if one is asked for, and printed, if a script is played. It is written as it
-/// comes, so that nothing of it is lost when the program is ended.
+/// As what a trace is printed.
+#[derive(Clone, Copy, PartialEq, Eq)]
+pub enum Printed {
+    /// It isn't.
+    Nothing,
+    /// As a trace.
+    Trace,
+    /// In words, by what is known of the fixture with this UID.
+    Words(Uid),
+}
+
+/// The trace of what is sent and heard, with the time of each request: in a file, if one is asked for, and printed, if a script is
+/// played. It is written as it comes, so that nothing of it is lost when the program is ended.
 #[derive(Drop)]
 pub struct Log<'a, H, F> {
+    /// What is known of the fixtures that are heard.
+    pub knowledge: Knowledge,
     teller: Teller<H>,
     kept_in: Option<TraceFile<'a, F>>,
-    /// From when on times are told, if it is printed.
-    printed_since: Option<Instant>,
+    printed: Printed,
+    /// When the first request was sent.
+    start: Option<Instant>,
+    /// What the lines that were printed told, for the words of the next.
+    before: Before,
     /// Why it isn't kept any more.
     fault: Option<Fault<'a>>,
 }
@@ -34,18 +53,25 @@ pub struct NotKept;
 
 impl<'a, H: Speaker, F: Write> Log<'a, H, F> {
     /// One in this file, if there is one.
-    pub fn new(teller: Teller<H>, kept_in: Option<TraceFile<'a, F>>) -> Log<'a, H, F> {
+    pub fn new(
+        teller: Teller<H>,
+        kept_in: Option<TraceFile<'a, F>>,
+        knowledge: Knowledge,
+    ) -> Log<'a, H, F> {
         Log {
+            knowledge,
             teller,
             kept_in,
-            printed_since: None,
+            printed: Printed::Nothing,
+            start: None,
+            before: Before::nothing(),
             fault: None,
         }
     }
 
-    /// Prints it from now on, with the times since then in lines of their own.
-    pub fn print_from(&mut self, start: Instant) {
-        self.printed_since = Some(start);
+    /// Prints it so from now on.
+    pub fn print_as(&mut self, printed: Printed) {
+        self.printed = printed;
     }
 
     /// Keeps a line.
@@ -56,10 +82,13 @@ impl<'a, H: Speaker, F: Write> Log<'a, H, F> {
         }
     }
 
-    /// Tells the time, if it is printed: it is that of what comes next.
+    /// Keeps the time since the first request, if a trace is kept or printed: it is that of what comes next.
     pub fn keep_time(&mut self) -> Result<(), NotKept> {
-        match self.print_time() {
-            Ok(()) => Ok(()),
+        if self.kept_in.is_none() && self.printed == Printed::Nothing {
+            return Ok(());
+        }
+        match self.millis() {
+            Ok(millis) => self.keep(&Line::Time { millis }),
             Err(fault) => self.fail(fault),
         }
     }
@@ -72,7 +101,7 @@ impl<'a, H: Speaker, F: Write> Log<'a, H, F> {
         self.fault
     }
 
-    /// Writes a line to where the trace is kept.
+    /// Writes a line to where the trace is kept, and prints it.
     fn write(&mut self, line: &Line) -> Result<(), Fault<'a>> {
         let mut text = Vec::new(self.teller.rt().alloc());
         put_line(&mut text, line)?;
@@ -81,25 +110,43 @@ impl<'a, H: Speaker, F: Write> Log<'a, H, F> {
                 return Err(Fault::Io(kept_in.path, error));
             }
         }
-        match self.printed_since {
-            Some(_) => self.teller.tell(text.as_slice()),
-            None => Ok(()),
+        match self.printed {
+            Printed::Nothing => Ok(()),
+            Printed::Trace => self.teller.tell(text.as_slice()),
+            Printed::Words(uid) => self.print_words(line, uid),
         }
     }
 
-    /// Prints the time, if the trace is printed.
-    fn print_time(&self) -> Result<(), Fault<'a>> {
-        let Some(start) = self.printed_since else {
-            return Ok(());
-        };
+    /// Prints the words of a line, by what is known of the fixture with this UID.
+    fn print_words(&mut self, line: &Line, uid: Uid) -> Result<(), Fault<'a>> {
+        let mut words = Vec::new(self.teller.rt().alloc());
+        put_line_words(&mut words, &self.before, line, &self.knowledge.of(uid))?;
+        self.before.then(line);
+        self.teller.tell(words.as_slice())
+    }
+
+    /// How many milliseconds have passed since the first request, which is this one if there was none.
+    fn millis(&mut self) -> Result<u64, Fault<'a>> {
         let rt = self.teller.rt();
-        let passed = match start.elapsed(&rt) {
-            Ok(passed) => passed.as_millis(),
-            Err(error) => return Err(Fault::Clock(error)),
+        let passed = match self.start {
+            Some(start) => start.elapsed(&rt),
+            None => return self.begin(),
         };
-        let (seconds, rest) = (passed / 1000, passed % 1000);
-        let text = format!(in rt.alloc(); "# {seconds}.{rest:03} s\n")?;
-        self.teller.tell(text.as_bytes())
+        match passed {
+            Ok(passed) => Ok(u64::try_from(passed.as_millis()).unwrap_or(u64::MAX)),
+            Err(error) => Err(Fault::Clock(error)),
+        }
+    }
+
+    /// The times begin now.
+    fn begin(&mut self) -> Result<u64, Fault<'a>> {
+        match Instant::now(&self.teller.rt()) {
+            Ok(now) => {
+                self.start = Some(now);
+                Ok(0)
+            }
+            Err(error) => Err(Fault::Clock(error)),
+        }
     }
 
     /// It isn't kept, for this reason.

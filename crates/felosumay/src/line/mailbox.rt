@@ -5,8 +5,9 @@ use super::telling::CONSOLE;
 use crate::fault::Fault;
 use rdm_collector::{
     AskError, Collected, Command, DeviceCollector, DeviceHeard, Message, PollError, Response, Uid,
-    Want, Wire, first_message, join_data,
+    Want, Wire, first_message, is_sure, join_data,
 };
+use rdm_console::MessageView;
 use rdm_params::Kind;
 use std::alloc::Global;
 
@@ -30,6 +31,25 @@ pub struct Letter {
     pub again: bool,
     /// The data of all its parts, if it came in parts (section 6.3.2).
     pub joined: Option<Vec<u8>>,
+    /// Whether each poll for its parts was answered, so that none is missing.
+    pub is_whole: bool,
+}
+
+impl Letter {
+    /// The message, with the data of all its parts.
+    pub fn view(&self) -> MessageView<'_> {
+        let body = match &self.joined {
+            Some(joined) => joined.as_slice(),
+            None => self.message.body.as_slice(),
+        };
+        MessageView {
+            response: self.response,
+            class: self.message.class,
+            sub: self.message.sub,
+            pid: self.message.pid,
+            body,
+        }
+    }
 }
 
 /// What the answer to a poll is for a console.
@@ -144,6 +164,7 @@ fn letter_of<'a>(alloc: Global, items: &[Collected]) -> Result<Option<Letter>, F
         message: last.message.copy(),
         again: last.again,
         joined,
+        is_whole: is_sure(items),
     }))
 }
 

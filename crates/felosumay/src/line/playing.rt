@@ -2,6 +2,7 @@
 
 use super::console::Console;
 use super::errand::device_in;
+use super::log::Printed;
 use super::mailbox::Mailbox;
 use crate::fault::Fault;
 use crate::host::Host;
@@ -18,13 +19,14 @@ use rdm_frame::standard::DISC_MUTE;
 use rdm_script::{Dialect, MOST_BYTES, Script, Spelling, parse_as};
 use rdm_trace::Line;
 use std::io::Write;
-use std::time::Instant;
 
 /// A script for a device.
 #[derive(Drop)]
 pub struct Play {
     uid: Uid,
     script: Script,
+    /// As what its trace is printed.
+    printed: Printed,
 }
 
 impl Play {
@@ -41,8 +43,21 @@ impl Play {
         };
         match stop_of(&script) {
             Some((line, error)) => Err(Fault::Stopped(source.name(), line, error)),
-            None => Ok(Play { uid, script }),
+            None => Ok(Play {
+                uid,
+                script,
+                printed: printed(asked, uid),
+            }),
         }
+    }
+}
+
+/// As what the trace of a script for this device is to be printed.
+fn printed(asked: &ArgMatches<'_>, uid: Uid) -> Printed {
+    if asked.get_flag(usage::WORDS) {
+        Printed::Words(uid)
+    } else {
+        Printed::Trace
     }
 }
 
@@ -85,18 +100,18 @@ struct Playing {
 }
 
 impl<'a, H: Host, P: Port, F: Write> Console<'a, H, P, F> {
-    /// Plays a script, and prints its trace. Its commands and polls are sent, once each, and what goes wrong with them does. A
-    /// settle waits for as long as the device has estimated for all commands since the last one. What else happens in a script,
-    /// happens in the device by itself.
+    /// Plays a script, and prints its trace, or its words. Its commands and polls are sent, once each, and what goes wrong with them
+    /// does. A settle waits for as long as the device has estimated for all commands since the last one. What else happens in a
+    /// script, happens in the device by itself.
     pub fn play(&mut self, play: &Play) -> Result<(), Fault<'a>> {
-        let Play { uid, script } = play;
-        let rt = self.teller.rt();
-        match Instant::now(&rt) {
-            Ok(start) => self.port.log().print_from(start),
-            Err(error) => return Err(Fault::Clock(error)),
-        }
+        let Play {
+            uid,
+            script,
+            printed,
+        } = play;
+        self.port.log().print_as(*printed);
         let mut playing = Playing {
-            mailbox: Mailbox::new(rt.alloc(), *uid, script.setup.want),
+            mailbox: Mailbox::new(self.teller.rt().alloc(), *uid, script.setup.want),
             tells_finds: has_search(script),
             tenths: 0,
         };

@@ -6,7 +6,7 @@ use crate::source::print;
 use rdm_frame::digits::put_digits;
 use rdm_frame::{Uid, Wire};
 use rdm_trace::Line;
-use rdm_words::{Known, put_line_words};
+use rdm_words::{Before, Known, put_line_words};
 use std::alloc::AllocError;
 use std::time::Duration;
 use std::{str, thread};
@@ -60,6 +60,11 @@ impl<H: Speaker> Teller<H> {
         self.rt
     }
 
+    /// Whether somebody sees standard error as it is written.
+    pub fn is_seen(&self) -> bool {
+        self.is_seen
+    }
+
     /// Tells this.
     pub fn tell<'a>(&self, text: &[u8]) -> Result<(), Fault<'a>> {
         match self.place {
@@ -68,11 +73,11 @@ impl<H: Speaker> Teller<H> {
         }
     }
 
-    /// Tells the words of a reply, as `felosumay words` has them.
-    pub fn tell_reply<'a>(&self, reply: &Wire) -> Result<(), Fault<'a>> {
+    /// Tells the words of a reply, as `felosumay words` has them, by what is known of the device.
+    pub fn tell_reply<'a>(&self, reply: &Wire, known: &Known<'_>) -> Result<(), Fault<'a>> {
         let mut words = Vec::new(self.rt.alloc());
         let line = Line::Reply(Some(reply.copy()));
-        put_line_words(&mut words, &line, &Known::nothing())?;
+        put_line_words(&mut words, &Before::nothing(), &line, known)?;
         self.tell(words.as_slice())
     }
 

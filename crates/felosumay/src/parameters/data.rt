@@ -1,8 +1,8 @@
 //! The data of a command: their length and their range, found by handing in data of each length and each value.
 
 use rdm_frame::standard::MOST_DATA;
-use rdm_params::{Devices, Kind, Value, Verb, read_value};
-use std::alloc::AllocError;
+use rdm_params::{Devices, Kind, Profile, Value, Verb, read_value};
+use std::alloc::{AllocError, Global};
 use std::fmt::Write;
 
 /// The data of a command: how many bytes at least and at most, and what the fewest of them say.
@@ -53,6 +53,37 @@ impl Number {
     }
 }
 
+/// How many of the least and of the greatest numbers are tried: among them are all that the standards name.
+const AT_ENDS: u16 = 0x400;
+
+/// The numbers of 16 bits at which a range can begin or end, in their order: the least and the greatest, and beside each that the profile
+/// names the one before and the one behind it. Trying all of them would take a second and more.
+pub fn numbers_tried(alloc: Global, profile: &Profile) -> Result<Vec<u16>, AllocError> {
+    let mut tried = Vec::new(alloc);
+    for number in 0..AT_ENDS {
+        tried.push(number)?;
+        tried.push(u16::MAX - number)?;
+    }
+    push_around(&mut tried, profile.presets)?;
+    for status in profile.status_texts.as_slice() {
+        push_around(&mut tried, status.id)?;
+    }
+    for def in profile.particulars.own() {
+        push_around(&mut tried, def.pid)?;
+    }
+    tried.sort_unstable();
+    tried.dedup();
+    Ok(tried)
+}
+
+/// A number, and the one before and the one behind it.
+fn push_around(tried: &mut Vec<u16>, number: u16) -> Result<(), AllocError> {
+    tried.push(number.saturating_sub(1))?;
+    tried.push(number)?;
+    tried.push(number.saturating_add(1))?;
+    Ok(())
+}
+
 /// The data of a command, or nothing if the parameter has no such command.
 pub fn data_of(kind: Kind, verb: Verb) -> Option<Data> {
     let zeros = [0; MOST_DATA];
@@ -77,26 +108,13 @@ pub fn data_of(kind: Kind, verb: Verb) -> Option<Data> {
 }
 
 /// The length and the range of the data of a command to a device, in hexadecimal digits.
-pub fn put_data(
-    text: &mut String,
-    devices: &Devices,
-    sub: u16,
-    kind: Kind,
-    verb: Verb,
-    data: &Data,
-) -> Result<(), AllocError> {
+pub fn put_data(text: &mut String, command: Command<'_>, data: &Data) -> Result<(), AllocError> {
     match (data.least, data.most) {
         (0, 0) => text.push_str("no data")?,
         (1, 1) => text.push_str("1 byte, ")?,
         (least, most) if least == most => write!(text, "{most} bytes, ")?,
         (least, most) => write!(text, "{least} to {most} bytes, ")?,
     }
-    let command = Command {
-        devices,
-        sub,
-        kind,
-        verb,
-    };
     match &data.value {
         Value::Byte(_) => command.put_range(text, Number::Byte),
         Value::Word(_) => command.put_range(text, Number::Word),
@@ -113,28 +131,33 @@ pub fn put_data(
 
 /// A command to a device.
 #[derive(Clone, Copy)]
-struct Command<'a> {
-    devices: &'a Devices,
-    sub: u16,
-    kind: Kind,
-    verb: Verb,
+pub struct Command<'a> {
+    pub devices: &'a Devices,
+    /// The numbers that are tried in its data, as `numbers_tried` gives them.
+    pub tried: &'a [u16],
+    pub sub: u16,
+    pub kind: Kind,
+    pub verb: Verb,
 }
 
 impl Command<'_> {
     /// The numbers that are in range.
     fn put_range(&self, text: &mut String, number: Number) -> Result<(), AllocError> {
         let mut first = None;
-        let mut separator = "";
-        for value in 0..=number.greatest() {
+        let mut has_run = false;
+        for value in self.tried.iter().copied() {
+            if value > number.greatest() {
+                break;
+            }
             let is_in_range = self
                 .devices
                 .in_range(self.sub, self.kind, self.verb, &number.value(value));
             match first {
                 None if is_in_range => first = Some(value),
                 Some(from) if !is_in_range => {
-                    text.push_str(separator)?;
+                    put_comma(text, has_run)?;
                     put_run(text, number, from, value.saturating_sub(1))?;
-                    separator = ", ";
+                    has_run = true;
                     first = None;
                 }
                 _ => {}
@@ -142,13 +165,18 @@ impl Command<'_> {
         }
         match first {
             Some(from) => {
-                text.push_str(separator)?;
+                put_comma(text, has_run)?;
                 put_run(text, number, from, number.greatest())
             }
-            None if separator.is_empty() => text.push_str("no value"),
-            None => Ok(()),
+            None if has_run => Ok(()),
+            None => text.push_str("no value"),
         }
     }
+}
+
+/// A comma between this run and one before it.
+fn put_comma(text: &mut String, has_run: bool) -> Result<(), AllocError> {
+    if has_run { text.push_str(", ") } else { Ok(()) }
 }
 
 /// Numbers that follow one another.

@@ -18,7 +18,7 @@ use Rattle.rdm_collector.specs.declared.any_device.collected.Collected.{Collecte
 use Rattle.rdm_collector.specs.Answers.{is_poll, is_reply}
 use Rattle.rdm_collector.specs.Replies.{response_in}
 use Rattle.rdm_collector.specs.AnyDevice.Answers.{poll_heard, taken_for}
-use Rattle.rdm_collector.specs.AnyDevice.Collecting.{DeviceState, after_poll, after_over, after_answer, after_taken, after_frame, after_hearing, collected}
+use Rattle.rdm_collector.specs.AnyDevice.Collecting.{DeviceState, after_poll, after_answer, after_taken, after_frame, after_hearing, collected}
 use Rattle.rdm_collector.specs.AnyDevice.Devices.{IsReplyTo, IsNoise, poll_of}
 use Rattle.rdm_collector.proofs.Hearing.{from_both}
 use Rattle.rdm_collector.proofs.ReadBack.{read_as_itself}

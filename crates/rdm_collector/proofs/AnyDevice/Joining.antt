@@ -1,6 +1,5 @@
 -- Joining what a device says.
 use Rattle.std.proofs.Common.{◌≡◌, true, false, List, [], ◌∷◌, ◌++◌, length, refl, sym, ap, ◌∙◌, arith, inl, inr}
-use Rattle.std.specs.List.{fold}
 use Rattle.std.proofs.lemmas.Bool.{cases_Bool, both_ways, and_from, eq-eqb, cond-true, cond-false}
 use Rattle.std.proofs.lemmas.List.Sums.{fold-append}
 use Rattle.rdm_collector.specs.AnyDevice.Items.{Item, same_item, type_code}
@@ -8,7 +7,7 @@ use Rattle.rdm_collector.specs.AnyDevice.Joining.{ends_with, and_then, join}
 use Rattle.rdm_collector.specs.AnyDevice.Laws.{SkippingIsRefused, RecordingNothingIsRefused}
 use Rattle.rdm_collector.proofs.Joining.{same-refl}
 
-item-refl : (x : Item) → same_item x x ≡ true
+pub item-refl : (x : Item) → same_item x x ≡ true
 unfolding same_item
 item-refl x = and_from _ _ (eq-eqb (type_code x.response) (type_code x.response) refl) (same-refl x.message)
 
@@ -41,16 +40,16 @@ join-push xs x = fold-append (and_then same_item) [] xs (x ∷ [])
 
 -- ---- what the prefix law rules out
 
-join-nil : join same_item [] ≡ []
+pub join-nil : join same_item [] ≡ []
 unfolding join
 join-nil = refl
 
-join-one : (x : Item) → join same_item (x ∷ []) ≡ x ∷ []
+pub join-one : (x : Item) → join same_item (x ∷ []) ≡ x ∷ []
 unfolding join
 join-one x = and_then_new [] x refl
 
 -- two that don't say the same stay apart
-join-two : (x y : Item) → same_item x y ≡ false → join same_item (x ∷ y ∷ []) ≡ x ∷ y ∷ []
+pub join-two : (x y : Item) → same_item x y ≡ false → join same_item (x ∷ y ∷ []) ≡ x ∷ y ∷ []
 unfolding join
 join-two x y other = rw (and_then_new [] x refl) (and_then_new (x ∷ []) y other)
 

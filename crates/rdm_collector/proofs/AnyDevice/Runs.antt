@@ -1,6 +1,6 @@
 -- Against any device what is recorded is what it dispensed, and answers go on.
 use Rattle.std.proofs.Common.{◌≡◌, ◌≢◌, ℕ, ◌+◌, ◌%◌, ◌==◌, ◌||◌, Bool, true, false, cond, List, [], ◌∷◌, ◌++◌, map, Option, Some, None, refl, sym, ap, subst, ◌∙◌, true≢false, inl, inr, append_assoc}
-use Rattle.std.specs.List.{All, fold}
+use Rattle.std.specs.List.{fold}
 use Rattle.std.proofs.lemmas.List.{append-nil, map-append}
 use Rattle.rdm_frame.specs.declared.frame.Frame.{Frame}
 use Rattle.rdm_collector.specs.declared.reply.Response.{Response}
@@ -12,7 +12,7 @@ use Rattle.rdm_collector.specs.declared.any_device.collected.Collected.{Collecte
 use Rattle.rdm_collector.specs.Requests.{type_of, request_of, queued_message}
 use Rattle.rdm_collector.specs.AnyDevice.Answers.{poll_heard}
 use Rattle.rdm_collector.specs.AnyDevice.Collecting.{DeviceState, after_ask, after_poll, after_over, after_answer, after_hearing, collected}
-use Rattle.rdm_collector.specs.AnyDevice.Devices.{Device, Event, IsNext, IsReply, IsReplyTo, IsRun, MayDecline, MayGive, after, after_all, after_giving, asks_again, device_after, dispensed, dispensed_by, is_kept, poll_of}
+use Rattle.rdm_collector.specs.AnyDevice.Devices.{Device, Event, IsNext, IsRun, MayDecline, MayGive, after, after_all, after_giving, asks_again, device_after, dispensed, dispensed_by, is_kept, poll_of}
 use Rattle.rdm_collector.specs.AnyDevice.Devices.Event.{Arrived, Asked, Polled}
 use Rattle.rdm_collector.specs.AnyDevice.Devices.Reply.{Silence, Gives, Declines}
 use Rattle.rdm_collector.specs.AnyDevice.Items.{Item, item_in, item_of}
@@ -28,7 +28,7 @@ asks_at false Advisory = refl
 asks_at false Warning = refl
 asks_at false Error = refl
 
-asks : (s : DeviceState) → asks_again (poll_of s) ≡ s.unanswered
+pub asks : (s : DeviceState) → asks_again (poll_of s) ≡ s.unanswered
 asks s = asks_at s.unanswered s.want
 
 -- ---- where a collector stands
@@ -65,7 +65,7 @@ given_unheard : (base : List Collected) (s : DeviceState) (d : Device) (x : Item
     → Stands base (after_poll s) (Some x) (ds ++ x ∷ [])
 given_unheard base s d x ds (cs, is, k) may = (cs, is, Kept-given_unheard s.unanswered d.last d.waiting x ds (map item_of cs) k may)
 
-kept_answer : (t : DeviceState) (c : Collected) (h : DeviceHeard) → is_kept h ≡ true
+pub kept_answer : (t : DeviceState) (c : Collected) (h : DeviceHeard) → is_kept h ≡ true
     → after_answer t c h ≡ record (after_over t) { unanswered = false; lost = false; recorded = t.recorded ++ c ∷ [] }
 kept_answer t c heard.Message e = refl
 kept_answer t c heard.Part e = refl

@@ -123,6 +123,11 @@ after s (Polled reply heard) = after_over (fold after_hearing (after_poll s) hea
 abbrev pub after_all : DeviceState → List Event → DeviceState
 after_all s events = fold after s events
 
+-- the device after these events
+abbrev pub device_after_all : DeviceState → Device → List Event → Device
+device_after_all s d [] = d
+device_after_all s d (e ∷ es) = device_after_all (after s e) (device_after s d e) es
+
 -- These events happen in turn.
 abbrev pub IsRun : DeviceState → Device → List Event → Type 0
 IsRun s d [] = Unit {0}
@@ -138,3 +143,12 @@ dispensed_by (Polled (Declines f r) heard) = []
 
 abbrev pub dispensed : List Event → List Item
 dispensed es = flat_map dispensed_by es
+
+-- the messages that entered its queue
+abbrev pub arrived_by : Event → List Item
+arrived_by (Arrived x) = x ∷ []
+arrived_by (Asked c heard) = []
+arrived_by (Polled reply heard) = []
+
+abbrev pub arrived : List Event → List Item
+arrived es = flat_map arrived_by es

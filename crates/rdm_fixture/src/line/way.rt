@@ -1,8 +1,7 @@
 //! The way from the top of a document to what a refusal is about.
 
-use crate::Refusal;
-use crate::refusal::{Section, Wanted, name_of};
 use arrayvec::ArrayVec;
+use rdm_fixture_keys::{Refusal, Section, Wanted, name_of};
 
 /// A step of the way.
 #[derive(Clone, Copy)]

@@ -1,20 +1,20 @@
 //! What is wrong with a table that isn't a valid rule, for the message.
 
 ghost use Rattle.std.specs.Prelude.{◌≡◌, MatchOption, None};
-ghost use Rattle.rdm_fixture.specs.Faults.{fault, told};
+ghost use Rattle.rdm_fixture_keys.specs.Faults.{fault, told};
 ghost use Rattle.rdm_fixture.specs.FirstWrong as parts;
 ghost use Rattle.rdm_fixture.specs.Outcomes as says;
 ghost use Rattle.rdm_fixture.specs.Outcomes.{IsOutcome};
-ghost use Rattle.rdm_fixture.specs.Wrong.{FirstWrong, AllRight};
-ghost use Rattle.rdm_fixture.specs.declared.refusal.Wanted.TheVariants as wanted;
+ghost use Rattle.rdm_fixture_keys.specs.Wrong.{FirstWrong, AllRight};
+ghost use Rattle.rdm_fixture_keys.specs.declared.refusal.Wanted.TheVariants as wanted;
 ghost use Rattle.rdm_outcomes.specs.declared.rule.Rule.{Rule};
 ghost use Rattle.toml.specs.View.{table_view};
 
 use super::{
     and_job_keys, data_value, only_its_keys, outcome, severity, status_id, task, turn, value,
 };
-use crate::keys::{find, only};
-use crate::refusal::{Refusal, Wanted};
+use rdm_fixture_keys::keys::{find, only};
+use rdm_fixture_keys::{Refusal, Wanted};
 use rdm_params::Outcome;
 use toml::Table;
 
@@ -42,7 +42,7 @@ pub(super) fn what_is_wrong(table: &Table) -> Refusal
     };
     match only_its_keys(table, &outcome) {
         Ok(()) => Refusal::at(key_of(&outcome), Wanted::Suiting),
-        Err(refusal) => refusal.beside_an_outcome(),
+        Err(refusal) => beside_an_outcome(refusal),
     }
 }
 
@@ -101,6 +101,16 @@ fn wrong_failure(table: &Table) -> Refusal
         return out_of_range("data_value_1", 0, 0xFFFF);
     }
     out_of_range("data_value_2", 0, 0xFFFF)
+}
+
+/// The same, of a key of another outcome.
+fn beside_an_outcome(refusal: Refusal) -> Refusal
+    ensures { told result ≡ record (told refusal) { wanted = wanted.OneOutcome } }
+{
+    Refusal {
+        wanted: Wanted::OneOutcome,
+        ..refusal
+    }
 }
 
 fn out_of_range(key: &str, least: i64, most: i64) -> Refusal

@@ -3,18 +3,18 @@
 ghost use Rattle.std.specs.Prelude.{◌≡◌, None, IfErr, IfSome, codes};
 ghost use Rattle.toml.specs.Data.{get_member};
 ghost use Rattle.toml.specs.View.{view, table_view};
-ghost use Rattle.rdm_fixture.specs.Faults.{told};
+ghost use Rattle.rdm_fixture_keys.specs.Faults.{told};
 ghost use Rattle.rdm_fixture.specs.FirstWrong.{fields_part, AreFields};
-ghost use Rattle.rdm_fixture.specs.Keys.{must, may, Reads};
+ghost use Rattle.rdm_fixture_keys.specs.Keys.{must, may, Reads};
 ghost use Rattle.rdm_fixture.specs.Parameters as says;
 ghost use Rattle.rdm_fixture.specs.Parameters.{IsField};
-ghost use Rattle.rdm_fixture.specs.Values.{number};
+ghost use Rattle.rdm_fixture_keys.specs.Values.{number};
 
-use crate::keys::{find, integer_in, only};
 use crate::lists::{FromEntry, list};
-use crate::refusal::{Agreement, Refusal, Wanted};
 use arrayvec::ArrayVec;
 use rdm_device::{Field, Width};
+use rdm_fixture_keys::keys::{find, integer_in, only};
+use rdm_fixture_keys::{Agreement, Refusal, Wanted};
 use toml::{Table, Value};
 
 /// The numbers that slots say, one after another. Whatever is wrong in them is told of their key.

@@ -3,13 +3,13 @@
 ghost use Rattle.std.specs.Prelude.{◌≡◌, IfErr};
 ghost use Rattle.std.specs.Result.{result_ok};
 ghost use Rattle.toml.specs.View.{table_view};
-ghost use Rattle.rdm_fixture.specs.Faults.{told};
+ghost use Rattle.rdm_fixture_keys.specs.Faults.{told};
 ghost use Rattle.rdm_fixture.specs.FirstWrong.{least_part, greatest_part};
 ghost use Rattle.rdm_fixture.specs.Parameters as says;
 
-use crate::keys::integer_or;
-use crate::refusal::Refusal;
 use rdm_device::Shape;
+use rdm_fixture_keys::Refusal;
+use rdm_fixture_keys::keys::integer_or;
 use toml::Table;
 
 /// The least value: where nothing is said of it, the least that the data can say.

@@ -5,14 +5,14 @@ ghost use Rattle.std.specs.Result.{result_ok};
 ghost use Rattle.toml.specs.Data.{get_member};
 ghost use Rattle.toml.specs.View.{view, table_view};
 ghost use Rattle.rdm_device.specs.declared.profile.own.Shape.TheVariants as shapes;
-ghost use Rattle.rdm_fixture.specs.Faults.{told};
+ghost use Rattle.rdm_fixture_keys.specs.Faults.{told};
 ghost use Rattle.rdm_fixture.specs.FirstWrong as parts;
-ghost use Rattle.rdm_fixture.specs.Keys.{must};
+ghost use Rattle.rdm_fixture_keys.specs.Keys.{must};
 ghost use Rattle.rdm_fixture.specs.Parameters as says;
 
-use crate::keys::{find, integer_from, printable_in};
-use crate::refusal::{Refusal, Wanted};
 use rdm_device::Shape;
+use rdm_fixture_keys::keys::{find, integer_from, printable_in};
+use rdm_fixture_keys::{Refusal, Wanted};
 use rdm_frame::Text;
 use rdm_frame::digits::bytes_in;
 use toml::{Table, Value};

@@ -3,23 +3,24 @@
 
 ghost use Rattle.std.specs.Prelude.{◌≡◌, ◌<◌, ◌≤◌, ◌↔◌, Some, None, IfErr, IfSome, AllPairs, length, [], ◌∷◌, codes};
 ghost use Rattle.rdm_device.specs.Device.Profiles.{MayBeLeftOut, Agree, HaveStates};
-ghost use Rattle.rdm_fixture.specs.Faults.{fault, told};
+ghost use Rattle.rdm_fixture_keys.specs.Faults.{fault, told};
 ghost use Rattle.rdm_fixture.specs.FirstWrong as parts;
 ghost use Rattle.rdm_fixture.specs.Format as says;
 ghost use Rattle.rdm_fixture.specs.Format.{AreLocks};
-ghost use Rattle.rdm_fixture.specs.Keys.{Reads, OfTable, EachIs, Lists};
+ghost use Rattle.rdm_fixture_keys.specs.Keys.{Reads};
+ghost use Rattle.rdm_fixture.specs.Lists.{OfTable, EachIs, Lists, entries};
 ghost use Rattle.rdm_fixture.specs.Parameters.{IsParameter};
-ghost use Rattle.rdm_fixture.specs.Wrong.{FirstWrong, entries};
-ghost use Rattle.rdm_fixture.specs.declared.refusal.Wanted.TheVariants as wanted;
+ghost use Rattle.rdm_fixture_keys.specs.Wrong.{FirstWrong};
+ghost use Rattle.rdm_fixture_keys.specs.declared.refusal.Wanted.TheVariants as wanted;
 ghost use Rattle.toml.specs.Data.{get_member};
 ghost use Rattle.toml.specs.View.{view, array_view, table_view};
 
-use crate::keys::find;
 use crate::lists::list;
 use crate::profile::locks::locks;
-use crate::refusal::{Agreement, Refusal, Wanted};
 use arrayvec::ArrayVec;
 use rdm_device::{ChoiceName, Lock, ParameterDef, agree, are_optional, have_states, leave_no_need};
+use rdm_fixture_keys::keys::find;
+use rdm_fixture_keys::{Agreement, Refusal, Wanted};
 use rdm_params::Kind;
 use toml::value::Array;
 use toml::{Table, Value};

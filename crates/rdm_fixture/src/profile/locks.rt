@@ -1,22 +1,23 @@
 //! Which parameters the lock states keep from being set.
 
 ghost use Rattle.std.specs.Prelude.{◌≡◌, ◌≢◌, ◌+◌, ◌<◌, ◌≤◌, ◌++◌, Some, None, IfErr, IfSome, length, codes};
-ghost use Rattle.rdm_fixture.specs.Faults.{fault, told};
+ghost use Rattle.rdm_fixture_keys.specs.Faults.{fault, told};
 ghost use Rattle.rdm_fixture.specs.FirstWrong as parts;
 ghost use Rattle.rdm_fixture.specs.Format as says;
 ghost use Rattle.rdm_fixture.specs.Format.{IsLocking, AreLocks};
-ghost use Rattle.rdm_fixture.specs.Keys.{Reads, EachIs};
-ghost use Rattle.rdm_fixture.specs.Wrong.{FirstWrong};
-ghost use Rattle.rdm_fixture.specs.declared.refusal.Agreement.TheVariants as agreements;
-ghost use Rattle.rdm_fixture.specs.declared.refusal.Wanted.TheVariants as wanted;
+ghost use Rattle.rdm_fixture_keys.specs.Keys.{Reads};
+ghost use Rattle.rdm_fixture.specs.Lists.{EachIs};
+ghost use Rattle.rdm_fixture_keys.specs.Wrong.{FirstWrong};
+ghost use Rattle.rdm_fixture_keys.specs.declared.refusal.Agreement.TheVariants as agreements;
+ghost use Rattle.rdm_fixture_keys.specs.declared.refusal.Wanted.TheVariants as wanted;
 ghost use Rattle.toml.specs.Data.{get_member};
 ghost use Rattle.toml.specs.View.{view, array_view, table_view};
 
-use crate::keys::{find, integer_in, number, only};
 use crate::lists::{FromEntry, list};
-use crate::refusal::{Agreement, Refusal, Wanted};
 use arrayvec::ArrayVec;
 use rdm_device::Lock;
+use rdm_fixture_keys::keys::{find, integer_in, number, only};
+use rdm_fixture_keys::{Agreement, Refusal, Wanted};
 use rdm_params::pid_named;
 use toml::value::Array;
 use toml::{Table, Value};

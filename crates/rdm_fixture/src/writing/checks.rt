@@ -3,16 +3,16 @@
 ghost use Rattle.std.specs.Prelude.{◌≡◌, ◌↔◌, ◌≤◌, IsTrue, All, length};
 ghost use Rattle.rdm_fixture.specs.Describable as spec;
 ghost use Rattle.rdm_fixture.specs.Working as spec_of_work;
-ghost use Rattle.rdm_fixture.specs.Values.{is_letter as is_small_letter};
+ghost use Rattle.rdm_fixture_keys.specs.Values.{is_letter as is_small_letter};
 
 use crate::fixture::Fixture;
-use crate::keys::are_printable;
 use crate::parameters::{can_reset, greatest_of, least_of};
 use crate::working::can_work;
 use rdm_device::{
     ChoiceName, ParameterDef, Personality, Profile, SelfTest, SensorDef, Shape, Slot, StatusText,
     Unit, is_good,
 };
+use rdm_fixture_keys::keys::are_printable;
 use rdm_frame::Text;
 use rdm_frame::standard::{MOST_DMX_SLOTS, MOST_SUB_DEVICES};
 use rdm_outcomes::Rule;

@@ -3,8 +3,9 @@
 ghost use Rattle.std.specs.Prelude.{◌≡◌, ◌≤◌, ◌<◌, IsTrue, IfOk, Some, [], ◌∷◌};
 ghost use Rattle.toml.specs.View.{view};
 ghost use Rattle.rdm_fixture.specs.Describable.{are_printable};
-ghost use Rattle.rdm_fixture.specs.Format.{IsPersonality, IsSlot, IsSelfTest, IsStatus, IsChoice, IsLocking, locked_pid};
-ghost use Rattle.rdm_fixture.specs.Keys.{ListAt};
+ghost use Rattle.rdm_fixture_keys.specs.Entries.{IsPersonality, IsSlot, IsSelfTest, IsStatus, IsChoice};
+ghost use Rattle.rdm_fixture.specs.Format.{IsLocking, locked_pid};
+ghost use Rattle.rdm_fixture.specs.Lists.{ListAt};
 ghost use Rattle.rdm_fixture.specs.Writing.{IsPlain, locking_of};
 
 use super::fields::{ToEntry, put, put_byte, put_long, put_text, put_word};

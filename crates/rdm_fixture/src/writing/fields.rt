@@ -5,8 +5,9 @@ ghost use Rattle.toml.specs.Data.{Members, table as table_data, string, integer,
 ghost use Rattle.toml.specs.View.{view, table_view};
 ghost use Rattle.rdm_device.specs.Device.Workers.{worker_number};
 ghost use Rattle.rdm_fixture.specs.Describable.{are_printable};
-ghost use Rattle.rdm_fixture.specs.Keys.{may, OfTable, ListAt};
-ghost use Rattle.rdm_fixture.specs.Values as says;
+ghost use Rattle.rdm_fixture_keys.specs.Keys.{may};
+ghost use Rattle.rdm_fixture.specs.Lists.{OfTable, ListAt};
+ghost use Rattle.rdm_fixture_keys.specs.Values as says;
 ghost use Rattle.rdm_fixture.specs.Writing.{with_field, text_field, IsPlain};
 
 use rdm_device::Worker;

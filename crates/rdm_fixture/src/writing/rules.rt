@@ -3,7 +3,7 @@
 ghost use Rattle.std.specs.Prelude.{◌≡◌, None, Some, IfOk, IfSome, IsTrue, option_map};
 ghost use Rattle.toml.specs.View.{view, table_view};
 ghost use Rattle.rdm_fixture.specs.Describable.{is_counted, is_ruled};
-ghost use Rattle.rdm_fixture.specs.Keys.{may};
+ghost use Rattle.rdm_fixture_keys.specs.Keys.{may};
 ghost use Rattle.rdm_fixture.specs.Outcomes.{IsOutcome, only_number};
 ghost use Rattle.rdm_fixture.specs.Writing.{with_fields, outcome_fields, HasWords, IsPlain};
 

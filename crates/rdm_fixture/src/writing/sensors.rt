@@ -4,8 +4,9 @@ ghost use Rattle.std.specs.Prelude.{◌≡◌, IsTrue, IfOk, IfSome, Some, None,
 ghost use Rattle.toml.specs.Data.{table as table_data};
 ghost use Rattle.toml.specs.View.{view, table_view};
 ghost use Rattle.rdm_fixture.specs.Describable.{are_printable};
-ghost use Rattle.rdm_fixture.specs.Format.{IsSensor};
-ghost use Rattle.rdm_fixture.specs.Keys.{ListAt, OfTable, may};
+ghost use Rattle.rdm_fixture_keys.specs.Entries.{IsSensor};
+ghost use Rattle.rdm_fixture_keys.specs.Keys.{may};
+ghost use Rattle.rdm_fixture.specs.Lists.{ListAt, OfTable};
 ghost use Rattle.rdm_fixture.specs.Starting.{SaysPresent, measured};
 ghost use Rattle.rdm_fixture.specs.Writing.{IsPlain};
 

@@ -9,8 +9,8 @@ ghost use Rattle.rdm_device.specs.Device.Profiles.{IsGoodUnit, CanBeMade};
 ghost use Rattle.rdm_params.specs.Table.Kinds.{pid_of, kind_named};
 ghost use Rattle.rdm_fixture.specs.Describable.{HasPrintableUnit, CanBeDescribed, is_coded};
 ghost use Rattle.rdm_fixture.specs.Format.{IsFixture, IsUnit, SubDevices, EstimatesAt, WorkersAt, LanguagesAt, parameter_named};
-ghost use Rattle.rdm_fixture.specs.Keys.{ListAt};
-ghost use Rattle.rdm_fixture.specs.Values as says;
+ghost use Rattle.rdm_fixture.specs.Lists.{ListAt};
+ghost use Rattle.rdm_fixture_keys.specs.Values as says;
 ghost use Rattle.rdm_fixture.specs.Writing.{with_field, IsRoot, IsPlain};
 
 use super::fields::{list_of, put, put_long, put_text, put_word, put_worker};

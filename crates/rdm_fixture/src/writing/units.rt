@@ -6,7 +6,7 @@ ghost use Rattle.toml.specs.View.{table_view};
 ghost use Rattle.rdm_device.specs.Device.Profiles.{IsGoodUnit};
 ghost use Rattle.rdm_fixture.specs.Describable.{HasPrintableUnit};
 ghost use Rattle.rdm_fixture.specs.Format.{IsUnit, unit_keys, root_keys};
-ghost use Rattle.rdm_fixture.specs.Keys.{has_only};
+ghost use Rattle.rdm_fixture_keys.specs.Keys.{has_only};
 ghost use Rattle.rdm_fixture.specs.Starting.{IsCounted};
 ghost use Rattle.rdm_fixture.specs.Writing.{IsPlain};
 

@@ -319,7 +319,7 @@ fn how_many_are_locked(rt: HostRuntime) -> Result<(), Fail> {
 #[test]
 fn refused_parameters(rt: HostRuntime) -> Result<(), Fail> {
     let other =
-        "line 7: in parameter 1, `pid` is that of a parameter of E1.20 or E1.37-1 with other commands or other data";
+        "line 7: in parameter 1, `pid` is that of a parameter of E1.20 or E1.37-1 with other commands or other data than docs/PARAMETERS.md has";
     try_rows(
         &rt,
         &[

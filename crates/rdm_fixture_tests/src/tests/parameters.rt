@@ -384,7 +384,7 @@ fn parameters_that_a_fixture_lacks(rt: HostRuntime) -> Result<(), Fail> {
             (
                 "more_slots = 3",
                 "[[slot]]\nlabel_id = 1\n[[personality]]\ndmx_footprint = 5",
-                "line 9: in personality 2, `dmx_footprint` isn't an integer from 0 to 4",
+                "line 9: in personality 2, `dmx_footprint` isn't an integer from 0 to 4 (the number of slots)",
             ),
         ],
     )

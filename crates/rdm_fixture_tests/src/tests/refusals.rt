@@ -174,7 +174,7 @@ fn lists_and_sub_devices(rt: HostRuntime) -> Result<(), Fail> {
             (
                 "",
                 "[[personality]]\ndmx_footprint = 2\n[[slot]]\nlabel_id = 1",
-                "line 7: in personality 2, `dmx_footprint` isn't an integer from 0 to 1",
+                "line 7: in personality 2, `dmx_footprint` isn't an integer from 0 to 1 (the number of slots)",
             ),
             (
                 "slot = 1",

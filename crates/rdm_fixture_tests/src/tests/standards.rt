@@ -109,7 +109,8 @@ fn refused_numbers(rt: HostRuntime) -> Result<(), Fail> {
         "doesn't take all slots of the data, or has a limit that its slots can't say or that is out of order";
     let listed =
         "isn't a list of at most 8 numbers, such as { slots = 2, maximum_valid_value = 100 }";
-    let other = "is that of a parameter of E1.20 or E1.37-1 with other commands or other data";
+    let other =
+        "is that of a parameter of E1.20 or E1.37-1 with other commands or other data than docs/PARAMETERS.md has";
     let rows: [(&str, &str, &str); 12] = [
         (
             slots!("0x8001" "fields = 3\ndefault_value = \"00\""),

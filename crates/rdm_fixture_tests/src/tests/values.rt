@@ -159,7 +159,12 @@ fn try_number(
     least: i64,
     most: i64,
 ) -> Result<(), Fail> {
-    let wanted = format!(in rt.alloc(); "`{key}` isn't an integer from {least} to {most}")?;
+    let behind = if key == "dmx_footprint" {
+        " (the number of slots)"
+    } else {
+        ""
+    };
+    let wanted = format!(in rt.alloc(); "`{key}` isn't an integer from {least} to {most}{behind}")?;
     for (number, expected) in [
         (least, ""),
         (most, ""),

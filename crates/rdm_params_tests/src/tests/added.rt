@@ -1,28 +1,6 @@
 //! A fixture with parameters of its maker's own, which lacks some of the table's.
 
-ghost use Rattle.std.specs.Prelude.{◌≤◌, length};
-
 use super::*;
-
-/// A parameter with this PID, these rights and data, and with a number in this range.
-fn parameter(
-    pid: u16,
-    rights: Rights,
-    shape: Shape,
-    range: (i64, i64),
-    start: &[u8],
-) -> ParameterDef
-    requires { length start.now ≤ 32 }
-{
-    let mut def = ParameterDef::default();
-    def.pid = pid;
-    def.rights = rights;
-    def.shape = shape;
-    def.low = range.0;
-    def.high = range.1;
-    def.start = Text::of(start);
-    def
-}
 
 /// The colour temperature of the fixture.
 fn colour() -> ParameterDef {
@@ -42,18 +20,17 @@ fn colour() -> ParameterDef {
 
 /// A demonstration device with five parameters of its own, one of which is in E1.37-1, and without four of the table's.
 fn wash(rt: &impl Abort, alloc: Global) -> Profile {
-    let mut own = OwnParameters::none();
     let identify = parameter(0x1040, Rights::Both, Shape::Byte, (0, 1), &[0]);
-    own.push(alloc, identify).expect(rt, "memory");
-    own.push(alloc, colour()).expect(rt, "memory");
     let hours = parameter(0x8002, Rights::Get, Shape::Long, (0, 9), &[0, 0, 0, 7]);
-    own.push(alloc, hours).expect(rt, "memory");
     let trim = parameter(0x8010, Rights::Both, Shape::SignedByte, (-20, 20), &[0xFF]);
-    own.push(alloc, trim).expect(rt, "memory");
     let show = parameter(0x8020, Rights::Set, Shape::Text, (0, 0), b"Show");
-    own.push(alloc, show).expect(rt, "memory");
     let mut particular = Particular::usual();
-    particular.own = own;
+    let own = &mut particular.own;
+    add(rt, alloc, own, identify);
+    add(rt, alloc, own, colour());
+    add(rt, alloc, own, hours);
+    add(rt, alloc, own, trim);
+    add(rt, alloc, own, show);
     for pid in [0x0402, 0x0600, 0x0601, 0x0602] {
         assert!(rt; particular.without.try_push(pid).is_ok());
     }
@@ -93,7 +70,7 @@ const SUB: [u8; 20] = [
     0x04, 0x04, 0x10, 0x10,
 ];
 
-const STEPS: [Step<'static>; 42] = [
+const STEPS: &[Step<'static>] = &[
     (Get, 0, 0x8001, &[], Reply(&[0x15, 0xE0])),
     (Set, 0, 0x8001, &[0x0F, 0xA0], Reply(&[])),
     (Get, 0, 0x8001, &[], Reply(&[0x0F, 0xA0])),
@@ -156,37 +133,37 @@ const STEPS: [Step<'static>; 42] = [
 #[test]
 fn a_fixture_has_the_parameters_that_it_has(rt: HostRuntime) {
     let profile = wash(&rt, rt.alloc());
-    plays(&rt, &mut made(&rt, rt.alloc(), profile), &STEPS);
+    plays(&rt, &mut made(&rt, rt.alloc(), profile), STEPS);
 }
 
-#[test]
-fn the_demonstration_has_no_description(rt: HostRuntime) {
-    let steps: [Step<'static>; 1] = [(Get, 0, 0x0051, &[0x80, 0x01], Refuse(UnknownPid))];
-    plays(&rt, &mut demo(&rt, rt.alloc(), 0), &steps);
-}
+/// The demonstration has no description.
+pub(super) const RUNS: &[Run] = &[(0, NO_DESCRIPTION)];
+
+const NO_DESCRIPTION: &[Step<'static>] = &[(Get, 0, 0x0051, &[0x80, 0x01], Refuse(UnknownPid))];
+
+/// The trim isn't set back, and the colour temperature is.
+const DEFAULTS: &[Step<'static>] = &[
+    (Get, 0, 0x0090, &[], Reply(&[1])),
+    (Set, 0, 0x8010, &[3], Reply(&[])),
+    (Get, 0, 0x0090, &[], Reply(&[1])),
+    (Set, 0, 0x8001, &[0x0F, 0xA0], Reply(&[])),
+    (Get, 0, 0x0090, &[], Reply(&[0])),
+    (Set, 0, 0x0090, &[], Reply(&[])),
+    (Get, 0, 0x8001, &[], Reply(&[0x15, 0xE0])),
+    (Get, 0, 0x8010, &[], Reply(&[3])),
+    (Get, 0, 0x0090, &[], Reply(&[1])),
+];
 
 #[test]
 fn factory_defaults_set_back_what_says_so(rt: HostRuntime) {
     let profile = wash(&rt, rt.alloc());
-    let steps: [Step<'static>; 9] = [
-        (Get, 0, 0x0090, &[], Reply(&[1])),
-        // The trim isn't set back, and the colour temperature is.
-        (Set, 0, 0x8010, &[3], Reply(&[])),
-        (Get, 0, 0x0090, &[], Reply(&[1])),
-        (Set, 0, 0x8001, &[0x0F, 0xA0], Reply(&[])),
-        (Get, 0, 0x0090, &[], Reply(&[0])),
-        (Set, 0, 0x0090, &[], Reply(&[])),
-        (Get, 0, 0x8001, &[], Reply(&[0x15, 0xE0])),
-        (Get, 0, 0x8010, &[], Reply(&[3])),
-        (Get, 0, 0x0090, &[], Reply(&[1])),
-    ];
-    plays(&rt, &mut made(&rt, rt.alloc(), profile), &steps);
+    plays(&rt, &mut made(&rt, rt.alloc(), profile), DEFAULTS);
 }
 
 use PlaceError::{Length, NoDevice, NoValue, OutOfRange};
 
 /// What firmware places at the fixture: the sub-device, the PID, the data, and why it is refused.
-const PLACED: [(u16, u16, &'static [u8], Result<(), PlaceError>); 9] = [
+const PLACED: &[Placed<'static>] = &[
     // One without SET, and one without GET.
     (0, 0x8002, &[0, 0, 0, 9], Ok(())),
     (0, 0x8020, b"Encore", Ok(())),
@@ -200,21 +177,16 @@ const PLACED: [(u16, u16, &'static [u8], Result<(), PlaceError>); 9] = [
     (0, 0x0402, &[0, 0, 0, 1], Err(NoValue)),
 ];
 
+const SHOWN: &[Step<'static>] = &[
+    (Get, 0, 0x8002, &[], Reply(&[0, 0, 0, 9])),
+    (Get, 0, 0x8001, &[], Reply(&[0x1F, 0x40])),
+    (Get, 0, 0x0090, &[], Reply(&[0])),
+];
+
 #[test]
 fn what_is_placed_of_its_own_is_shown(rt: HostRuntime) {
     let profile = wash(&rt, rt.alloc());
     let mut devices = made(&rt, rt.alloc(), profile);
-    for (sub, pid, bytes, expected) in &PLACED {
-        assert_eq!(rt;
-            devices.place(*sub, *pid, bytes),
-            *expected,
-            "{sub:04X} {pid:04X} {bytes:?}"
-        );
-    }
-    let steps: [Step<'static>; 3] = [
-        (Get, 0, 0x8002, &[], Reply(&[0, 0, 0, 9])),
-        (Get, 0, 0x8001, &[], Reply(&[0x1F, 0x40])),
-        (Get, 0, 0x0090, &[], Reply(&[0])),
-    ];
-    plays(&rt, &mut devices, &steps);
+    place_all(&rt, &mut devices, PLACED);
+    plays(&rt, &mut devices, SHOWN);
 }

@@ -1,14 +1,11 @@
 //! DMX_BLOCK_ADDRESS: where the slots of all sub-devices lie.
 
+use super::changes::{Told, tells};
 use super::*;
 
 /// A parameter that tells where the slots of all sub-devices lie.
 fn block() -> ParameterDef {
-    let mut def = ParameterDef::default();
-    def.pid = 0x0140;
-    def.rights = Rights::Both;
-    def.shape = Shape::Block;
-    def
+    parameter(0x0140, Rights::Both, Shape::Block, (0, 0), &[])
 }
 
 /// One that uses so many slots.
@@ -23,37 +20,9 @@ fn personality(footprint: u16) -> Personality {
 /// parameter, if there is one.
 fn rack(rt: &impl Abort, alloc: Global, subs: u16, locked: Option<u16>) -> Devices {
     let mut particular = Particular::usual();
-    let own = &mut particular.own;
-    own.push(alloc, block()).expect(rt, "memory");
+    add(rt, alloc, &mut particular.own, block());
     if let Some(pid) = locked {
-        let mut pin = ParameterDef::default();
-        pin.pid = 0x0640;
-        pin.rights = Rights::Both;
-        pin.shape = Shape::Pin;
-        pin.high = 9999;
-        pin.start = Text::from_slice(&[0, 0]).expect(rt, "a short text");
-        own.push(alloc, pin).expect(rt, "memory");
-        let mut state = ParameterDef::default();
-        state.pid = 0x0641;
-        state.rights = Rights::Both;
-        state.shape = Shape::Lock;
-        state.high = 1;
-        state.start = Text::from_slice(&[1]).expect(rt, "a short text");
-        own.push(alloc, state).expect(rt, "memory");
-        let mut names = ParameterDef::default();
-        names.pid = 0x0642;
-        names.rights = Rights::Get;
-        names.shape = Shape::Names;
-        own.push(alloc, names).expect(rt, "memory");
-        let choice = ChoiceName {
-            pid: 0x0642,
-            number: 1,
-            hertz: 0,
-            name: Text::from_slice(b"Locked").expect(rt, "a short name"),
-        };
-        particular.choices.push(alloc, choice).expect(rt, "memory");
-        let lock = Lock { state: 1, pid };
-        particular.locks.push(alloc, lock).expect(rt, "memory");
+        lock_up(rt, alloc, &mut particular, pid);
     }
     let mut profile = set_apart(rt, alloc, subs, particular);
     let uses = &mut profile.sub.personalities;
@@ -64,7 +33,26 @@ fn rack(rt: &impl Abort, alloc: Global, subs: u16, locked: Option<u16>) -> Devic
     made(rt, alloc, profile)
 }
 
-const STEPS: [Step<'static>; 45] = [
+/// Adds a lock of this parameter in state 1, which the device starts with.
+fn lock_up(rt: &impl Abort, alloc: Global, particular: &mut Particular, pid: u16) {
+    let pin = parameter(0x0640, Rights::Both, Shape::Pin, (0, 9999), &[0, 0]);
+    let state = parameter(0x0641, Rights::Both, Shape::Lock, (0, 1), &[1]);
+    let names = parameter(0x0642, Rights::Get, Shape::Names, (0, 0), &[]);
+    let own = &mut particular.own;
+    add(rt, alloc, own, pin);
+    add(rt, alloc, own, state);
+    add(rt, alloc, own, names);
+    add_name(
+        rt,
+        alloc,
+        &mut particular.choices,
+        (0x0642, 1, 0),
+        b"Locked",
+    );
+    add_locks(rt, alloc, &mut particular.locks, &[(1, pid)]);
+}
+
+const STEPS: &[Step<'static>] = &[
     // All start at 1, and so don't follow one another.
     (Get, 0, 0x0140, &[], Reply(&[0, 3, 0xFF, 0xFF])),
     (Set, 0, 0x0140, &[0, 10], Reply(&[])),
@@ -122,84 +110,80 @@ const STEPS: [Step<'static>; 45] = [
 
 #[test]
 fn a_block_is_told_and_moved(rt: HostRuntime) {
-    plays(&rt, &mut rack(&rt, rt.alloc(), 3, None), &STEPS);
+    plays(&rt, &mut rack(&rt, rt.alloc(), 3, None), STEPS);
 }
+
+const NO_BLOCK: &[Step<'static>] = &[
+    (Get, 0, 0x0140, &[], Reply(&[0, 0, 0xFF, 0xFF])),
+    (Set, 0, 0x0140, &[0, 1], Refuse(DataOutOfRange)),
+];
 
 #[test]
 fn without_sub_devices_there_is_no_block(rt: HostRuntime) {
-    let steps: [Step<'static>; 2] = [
-        (Get, 0, 0x0140, &[], Reply(&[0, 0, 0xFF, 0xFF])),
-        (Set, 0, 0x0140, &[0, 1], Refuse(DataOutOfRange)),
-    ];
-    plays(&rt, &mut rack(&rt, rt.alloc(), 0, None), &steps);
+    plays(&rt, &mut rack(&rt, rt.alloc(), 0, None), NO_BLOCK);
 }
+
+/// A lock of the block, and one of the start address.
+const LOCKED: &[Step<'static>] = &[
+    (Set, 0, 0x0140, &[0, 5], Refuse(WriteProtect)),
+    (Get, 0, 0x0140, &[], Reply(&[0, 2, 0xFF, 0xFF])),
+];
+
+const MOVED: &[Step<'static>] = &[
+    (Set, 1, 0x00F0, &[0, 5], Refuse(WriteProtect)),
+    (Set, 0, 0x0140, &[0, 5], Reply(&[])),
+    (Get, 0, 0x0140, &[], Reply(&[0, 2, 0, 5])),
+];
 
 #[test]
 fn a_block_has_a_lock_of_its_own(rt: HostRuntime) {
-    let mut locked = rack(&rt, rt.alloc(), 2, Some(0x0140));
-    let refused: [Step<'static>; 2] = [
-        (Set, 0, 0x0140, &[0, 5], Refuse(WriteProtect)),
-        (Get, 0, 0x0140, &[], Reply(&[0, 2, 0xFF, 0xFF])),
-    ];
-    plays(&rt, &mut locked, &refused);
-    let mut open = rack(&rt, rt.alloc(), 2, Some(0x00F0));
-    let moved: [Step<'static>; 3] = [
-        (Set, 1, 0x00F0, &[0, 5], Refuse(WriteProtect)),
-        (Set, 0, 0x0140, &[0, 5], Reply(&[])),
-        (Get, 0, 0x0140, &[], Reply(&[0, 2, 0, 5])),
-    ];
-    plays(&rt, &mut open, &moved);
+    for (locked, steps) in [(0x0140, LOCKED), (0x00F0, MOVED)] {
+        plays(&rt, &mut rack(&rt, rt.alloc(), 2, Some(locked)), steps);
+    }
 }
 
 /// The sub-devices keep where it begins.
+const PLACED: &[Placed<'static>] = &[
+    (0, 0x0140, &[], Err(PlaceError::NoValue)),
+    (0, 0x0140, &[0, 1], Err(PlaceError::NoValue)),
+    (0, 0x0140, &[0, 10], Err(PlaceError::NoValue)),
+];
+
 #[test]
 fn a_block_can_not_be_placed(rt: HostRuntime) {
-    let mut devices = rack(&rt, rt.alloc(), 2, None);
-    for bytes in [b"".as_slice(), &[0, 1], &[0, 10]] {
-        assert_eq!(&rt; devices.place(0, 0x0140, bytes), Err(PlaceError::NoValue));
-    }
+    place_all(&rt, &mut rack(&rt, rt.alloc(), 2, None), PLACED);
 }
+
+const CHANGED: &[Told] = &[
+    (0, 0x0140, &[0, 1], Some(Changed::Several)),
+    (0, 0x0140, &[0, 1], None),
+    (0, 0x0140, &[0, 2], Some(Changed::Several)),
+    (0, 0x0140, &[0, 0], None),
+];
 
 #[test]
 fn a_block_tells_that_several_values_changed(rt: HostRuntime) {
-    let mut devices = rack(&rt, rt.alloc(), 2, None);
-    let mut body = Body::new();
-    for (base, expected) in [
-        (1, Some(Changed::Several)),
-        (1, None),
-        (2, Some(Changed::Several)),
-        (0, None),
-    ] {
-        let (_, changed) = devices.set_into(0, 0x0140, &[0, base], &mut body);
-        assert_eq!(&rt; changed, expected, "{base}");
-    }
+    tells(&rt, &mut rack(&rt, rt.alloc(), 2, None), CHANGED);
 }
 
-/// A profile with this parameter can be made.
-fn can_have(rt: &impl Abort, alloc: Global, def: ParameterDef) -> bool {
-    let mut own = OwnParameters::none();
-    own.push(alloc, def).expect(rt, "memory");
-    Devices::new(alloc, with_own(rt, alloc, 2, own)).is_ok()
-}
+/// A PID, commands, data and what these start with, and whether a profile can have them.
+type Had = (u16, Rights, Shape, &'static [u8], bool);
+
+/// A block can be read alone. It is no order, has this PID and no data, and is none of the maker's.
+const HAD: &[Had] = &[
+    (0x0140, Rights::Both, Shape::Block, &[], true),
+    (0x0140, Rights::Get, Shape::Block, &[], true),
+    (0x0140, Rights::Set, Shape::Block, &[], false),
+    (0x0141, Rights::Both, Shape::Block, &[], false),
+    (0x0140, Rights::Both, Shape::Word, &[0, 0], false),
+    (0x8000, Rights::Both, Shape::Block, &[], false),
+];
 
 #[test]
 fn a_block_is_no_order_and_has_no_data(rt: HostRuntime) {
-    let alloc = rt.alloc();
-    assert!(&rt; can_have(&rt, alloc, block()));
-    let mut read = block();
-    read.rights = Rights::Get;
-    assert!(&rt; can_have(&rt, alloc, read));
-    let mut ordered = block();
-    ordered.rights = Rights::Set;
-    assert!(&rt; !can_have(&rt, alloc, ordered));
-    let mut other = block();
-    other.pid = 0x0141;
-    assert!(&rt; !can_have(&rt, alloc, other));
-    let mut word = block();
-    word.shape = Shape::Word;
-    word.start = Text::from_slice(&[0, 0]).expect(&rt, "a short text");
-    assert!(&rt; !can_have(&rt, alloc, word));
-    let mut makers = block();
-    makers.pid = 0x8000;
-    assert!(&rt; !can_have(&rt, alloc, makers));
+    for (pid, rights, shape, start, good) in HAD {
+        let def = parameter(*pid, *rights, *shape, (0, 0), start);
+        let told = refusal_with(&rt, rt.alloc(), 2, def);
+        assert_eq!(&rt; told.is_none(), *good, "{pid:04X} {rights:?} {shape:?}");
+    }
 }

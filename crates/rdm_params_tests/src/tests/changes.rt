@@ -4,9 +4,10 @@ use super::*;
 use Changed::{Several, Value as One};
 
 /// A SET to the root or to a sub-device, of a PID, with these data; and what it says that it changed.
-type Told = (u16, u16, &'static [u8], Option<Changed>);
+pub(super) type Told = (u16, u16, &'static [u8], Option<Changed>);
 
-fn tells(rt: &impl Abort, devices: &mut Devices, rows: &[Told]) {
+/// Each SET says so.
+pub(super) fn tells(rt: &impl Abort, devices: &mut Devices, rows: &[Told]) {
     for (sub, pid, bytes, expected) in rows {
         let mut body = Body::new();
         let (_, changed) = devices.set_into(*sub, *pid, bytes, &mut body);
@@ -15,7 +16,7 @@ fn tells(rt: &impl Abort, devices: &mut Devices, rows: &[Told]) {
 }
 
 /// A value of each form, set to what it is, to another, and to that again.
-const FORMS: [Told; 16] = [
+const FORMS: &[Told] = &[
     (0, 0x1000, &[0], None),
     (
         0,
@@ -91,7 +92,7 @@ const FORMS: [Told; 16] = [
 ];
 
 /// One sub-device, and all of them, of which the second has the value already.
-const DEVICES: [Told; 6] = [
+const DEVICES: &[Told] = &[
     (
         2,
         0x1000,
@@ -109,7 +110,7 @@ const DEVICES: [Told; 6] = [
 ];
 
 /// FACTORY_DEFAULTS sets several values back, and no second time.
-const DEFAULTS: [Told; 4] = [
+const DEFAULTS: &[Told] = &[
     (0, 0x0090, &[], Some(Several)),
     (0, 0x0090, &[], None),
     (
@@ -125,7 +126,7 @@ const DEFAULTS: [Told; 4] = [
 ];
 
 /// What is refused, starts a job or clears status entries changes no value.
-const NOTHING: [Told; 6] = [
+const NOTHING: &[Told] = &[
     (0, 0x1000, &[2], None),
     (4, 0x1000, &[1], None),
     (0, 0x9999, &[1], None),
@@ -137,14 +138,19 @@ const NOTHING: [Told; 6] = [
 #[test]
 fn a_set_tells_what_it_changed(rt: HostRuntime) {
     let mut devices = demo(&rt, rt.alloc(), 3);
-    tells(&rt, &mut devices, &FORMS);
-    tells(&rt, &mut devices, &DEVICES);
-    tells(&rt, &mut devices, &DEFAULTS);
-    tells(&rt, &mut devices, &NOTHING);
+    tells(&rt, &mut devices, FORMS);
+    tells(&rt, &mut devices, DEVICES);
+    tells(&rt, &mut devices, DEFAULTS);
+    tells(&rt, &mut devices, NOTHING);
 }
 
+/// What the two sensors show.
+const FIRST: &[Placed<'static>] = &[(0, 0x0201, &[0, 0, 25, 0, 25, 0, 25, 0, 0], Ok(()))];
+
+const SECOND: &[Placed<'static>] = &[(0, 0x0201, &[1, 0, 30, 0, 20, 0, 40, 0, 30], Ok(()))];
+
 /// RECORD_SENSORS and a SET of SENSOR_VALUE write what SENSOR_VALUE shows.
-const RECORDED: [Told; 3] = [
+const RECORDED: &[Told] = &[
     (0, 0x0202, &[1], None),
     (
         0,
@@ -158,7 +164,7 @@ const RECORDED: [Told; 3] = [
     (0, 0x0202, &[0xFF], None),
 ];
 
-const RESET: [Told; 3] = [
+const RESET: &[Told] = &[
     (0, 0x0201, &[0], None),
     (
         0,
@@ -175,10 +181,8 @@ const RESET: [Told; 3] = [
 #[test]
 fn recorded_sensors_are_told_as_sensor_values(rt: HostRuntime) {
     let mut devices = demo(&rt, rt.alloc(), 0);
-    let first = devices.place(0, 0x0201, &[0, 0, 25, 0, 25, 0, 25, 0, 0]);
-    assert_eq!(rt; first, Ok(()));
-    tells(&rt, &mut devices, &RECORDED);
-    let second = devices.place(0, 0x0201, &[1, 0, 30, 0, 20, 0, 40, 0, 30]);
-    assert_eq!(rt; second, Ok(()));
-    tells(&rt, &mut devices, &RESET);
+    place_all(&rt, &mut devices, FIRST);
+    tells(&rt, &mut devices, RECORDED);
+    place_all(&rt, &mut devices, SECOND);
+    tells(&rt, &mut devices, RESET);
 }

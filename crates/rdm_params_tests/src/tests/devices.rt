@@ -2,7 +2,7 @@
 
 use super::*;
 
-pub(super) const RUNS: [Run; 3] = [(2, &OWN_VALUES), (0, &NO_SUB_DEVICE), (3, &ALL_CALL)];
+pub(super) const RUNS: &[Run] = &[(2, OWN_VALUES), (0, NO_SUB_DEVICE), (3, ALL_CALL)];
 
 /// A command to the root, its answer, and the data that stand beside the answer in place of others.
 type Answered = (Verb, u16, &'static [u8], Answer, &'static [u8]);
@@ -32,7 +32,7 @@ const LAMP_ON: Answer = Answer::Starts {
     estimate: 50,
 };
 
-const ANSWERED: [Answered; 4] = [
+const ANSWERED: &[Answered] = &[
     (Set, 0x1000, &[1], Answer::Done, &[]),
     (Get, 0x1000, &[], Answer::Done, &[1]),
     (Get, 0x1000, &[1], Answer::Refused(FormatError), &[]),
@@ -41,14 +41,14 @@ const ANSWERED: [Answered; 4] = [
 
 #[test]
 fn a_reply_takes_the_place_of_the_last(rt: HostRuntime) {
-    answers(&rt, &mut demo(&rt, rt.alloc(), 0), &ANSWERED);
+    answers(&rt, &mut demo(&rt, rt.alloc(), 0), ANSWERED);
     let label = Answer::Done.with(Body::of(b"Fixture"));
     assert_eq!(rt; label, Verdict::Reply(Body::of(b"Fixture")));
     assert_eq!(rt; Answer::Clears.with(Body::new()), Verdict::Clear);
 }
 
 /// Each device has its own values.
-const OWN_VALUES: [Step<'static>; 9] = [
+const OWN_VALUES: &[Step<'static>] = &[
     (Set, 2, 0x1000, &[1], Reply(&[])),
     (Get, 0, 0x1000, &[], Reply(&[0])),
     (Get, 1, 0x1000, &[], Reply(&[0])),
@@ -61,15 +61,9 @@ const OWN_VALUES: [Step<'static>; 9] = [
 ];
 
 /// All-call is for every sub-device, and for none where there are none.
-const NO_SUB_DEVICE: [Step<'static>; 1] = [(
-    Set,
-    0xFFFF,
-    0x1000,
-    &[1],
-    Refuse(SubDeviceOutOfRange),
-)];
+const NO_SUB_DEVICE: &[Step<'static>] = &[(Set, 0xFFFF, 0x1000, &[1], Refuse(SubDeviceOutOfRange))];
 
-const ALL_CALL: [Step<'static>; 9] = [
+const ALL_CALL: &[Step<'static>] = &[
     (Set, 0xFFFF, 0x1000, &[1], Reply(&[])),
     (Get, 0, 0x1000, &[], Reply(&[0])),
     (Get, 1, 0x1000, &[], Reply(&[1])),
@@ -82,7 +76,7 @@ const ALL_CALL: [Step<'static>; 9] = [
 ];
 
 /// All-call changes all or none: the third cell has a personality without slots first, and then none has.
-const NONE_CHANGES: [Step<'static>; 5] = [
+const NONE_CHANGES: &[Step<'static>] = &[
     (Set, 3, 0x00E0, &[2], Reply(&[])),
     (Set, 0xFFFF, 0x00F0, &[0, 9], Refuse(DataOutOfRange)),
     (Get, 1, 0x00F0, &[], Reply(&[0, 1])),
@@ -90,7 +84,7 @@ const NONE_CHANGES: [Step<'static>; 5] = [
     (Get, 3, 0x00F0, &[], Reply(&[0xFF, 0xFF])),
 ];
 
-const ALL_CHANGE: [Step<'static>; 4] = [
+const ALL_CHANGE: &[Step<'static>] = &[
     (Set, 0xFFFF, 0x00E0, &[1], Reply(&[])),
     (Set, 0xFFFF, 0x00F0, &[0, 9], Reply(&[])),
     (Get, 3, 0x00F0, &[], Reply(&[0, 9])),
@@ -113,9 +107,9 @@ fn takes_9(devices: &Devices, sub: u16) -> bool {
 #[test]
 fn all_call_changes_all_or_none(rt: HostRuntime) {
     let mut devices = made(&rt, rt.alloc(), cells(&rt));
-    plays(&rt, &mut devices, &NONE_CHANGES);
+    plays(&rt, &mut devices, NONE_CHANGES);
     assert!(rt; !takes_9(&devices, 0xFFFF) && takes_9(&devices, 1));
-    plays(&rt, &mut devices, &ALL_CHANGE);
+    plays(&rt, &mut devices, ALL_CHANGE);
 }
 
 /// The longest text.
@@ -198,7 +192,7 @@ fn add_named(rt: &impl Abort, profile: &mut Profile, number: u8) {
 }
 
 /// What the devices of the greatest profile reply, with the last personality.
-const GREATEST: [Step<'static>; 15] = [
+const GREATEST: &[Step<'static>] = &[
     (Set, 0, 0x00E0, &[8], Reply(&[])),
     (Get, 0, 0x0031, &[0x90, 0x08], Reply(&LONGEST)),
     (Get, 0, 0x0050, &[], Reply(&rows::AT_ROOT)),
@@ -254,5 +248,5 @@ const GREATEST: [Step<'static>; 15] = [
 
 #[test]
 fn the_greatest_profile_is_read_whole(rt: HostRuntime) {
-    plays(&rt, &mut made(&rt, rt.alloc(), greatest(&rt)), &GREATEST);
+    plays(&rt, &mut made(&rt, rt.alloc(), greatest(&rt)), GREATEST);
 }

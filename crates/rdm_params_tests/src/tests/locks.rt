@@ -2,31 +2,8 @@
 
 use super::*;
 
-/// A parameter with this PID, these rights and data, and with a number in this range.
-fn parameter(pid: u16, rights: Rights, shape: Shape, high: i64, start: &[u8]) -> ParameterDef {
-    let mut def = ParameterDef::default();
-    def.pid = pid;
-    def.rights = rights;
-    def.shape = shape;
-    def.high = high;
-    def.start = Text::from_slice(start).unwrap_or(Text::new());
-    def
-}
-
-/// What a lock state is called.
-fn state_name(number: u8, name: &[u8]) -> ChoiceName {
-    ChoiceName {
-        pid: 0x0642,
-        number,
-        hertz: 0,
-        name: Text::from_slice(name).unwrap_or(Text::new()),
-    }
-}
-
-/// A lock of this parameter in this state.
-fn lock(state: u8, pid: u16) -> Lock {
-    Lock { state, pid }
-}
+/// What the lock states are called.
+const STATES: [(u8, &'static [u8]); 2] = [(1, b"Address"), (2, b"Address, hours")];
 
 /// A demonstration device with PIN 0439, if these are its commands, in whose state 1 the start address is locked, and in state 2 also the
 /// burn in time and this parameter.
@@ -37,32 +14,29 @@ fn profile_with(
     state_rights: Rights,
     locked: u16,
 ) -> Profile {
+    let burn_in = parameter(0x0440, Rights::Both, Shape::Byte, (0, 255), &[0]);
+    let state = parameter(0x0641, state_rights, Shape::Lock, (0, 2), &[0]);
+    let names = parameter(0x0642, Rights::Get, Shape::Names, (0, 0), &[]);
     let mut particular = Particular::usual();
     let own = &mut particular.own;
-    let burn_in = parameter(0x0440, Rights::Both, Shape::Byte, 255, &[0]);
-    own.push(alloc, burn_in).expect(rt, "memory");
+    add(rt, alloc, own, burn_in);
     if let Some(rights) = pin_rights {
-        let pin = parameter(0x0640, rights, Shape::Pin, 9999, &[0x01, 0xB7]);
-        own.push(alloc, pin).expect(rt, "memory");
+        let pin = parameter(0x0640, rights, Shape::Pin, (0, 9999), &[0x01, 0xB7]);
+        add(rt, alloc, own, pin);
     }
-    let state = parameter(0x0641, state_rights, Shape::Lock, 2, &[0]);
-    own.push(alloc, state).expect(rt, "memory");
-    let names = parameter(0x0642, Rights::Get, Shape::Names, 0, &[]);
-    own.push(alloc, names).expect(rt, "memory");
-    let choices = &mut particular.choices;
-    choices
-        .push(alloc, state_name(1, b"Address"))
-        .expect(rt, "memory");
-    choices
-        .push(alloc, state_name(2, b"Address, hours"))
-        .expect(rt, "memory");
-    let locks = &mut particular.locks;
-    locks.push(alloc, lock(1, 0x00F0)).expect(rt, "memory");
-    locks.push(alloc, lock(2, 0x00F0)).expect(rt, "memory");
-    locks.push(alloc, lock(2, 0x0440)).expect(rt, "memory");
-    locks.push(alloc, lock(2, locked)).expect(rt, "memory");
+    add(rt, alloc, own, state);
+    add(rt, alloc, own, names);
+    name_states(rt, alloc, &mut particular.choices);
+    let locks = [(1, 0x00F0), (2, 0x00F0), (2, 0x0440), (2, locked)];
+    add_locks(rt, alloc, &mut particular.locks, &locks);
     assert!(rt; particular.without.try_push(0x0501).is_ok());
     set_apart(rt, alloc, 1, particular)
+}
+
+fn name_states(rt: &impl Abort, alloc: Global, names: &mut ChoiceNames) {
+    for (number, text) in &STATES {
+        add_name(rt, alloc, names, (0x0642, *number, 0), text);
+    }
 }
 
 /// Devices of it, which lock LAMP_ON_MODE in state 2.
@@ -71,7 +45,7 @@ fn rack(rt: &impl Abort, alloc: Global, pin_rights: Rights) -> Devices {
     made(rt, alloc, profile)
 }
 
-const STEPS: [Step<'static>; 32] = [
+const STEPS: &[Step<'static>] = &[
     (Get, 0, 0x0640, &[], Reply(&[0x01, 0xB7])),
     (Get, 0, 0x0641, &[], Reply(&[0, 2])),
     (Get, 0, 0x0642, &[1], Reply(b"\x01Address")),
@@ -118,27 +92,22 @@ const STEPS: [Step<'static>; 32] = [
 
 #[test]
 fn a_lock_refuses_what_it_locks(rt: HostRuntime) {
-    plays(&rt, &mut rack(&rt, rt.alloc(), Rights::Both), &STEPS);
+    plays(&rt, &mut rack(&rt, rt.alloc(), Rights::Both), STEPS);
 }
 
 #[test]
 fn the_menu_and_the_firmware_are_not_locked(rt: HostRuntime) {
     let mut devices = rack(&rt, rt.alloc(), Rights::Both);
-    assert_eq!(&rt; devices.place(0, 0x0641, &[2]), Ok(()));
-    assert_eq!(&rt;
-        devices.set(0, 0x00F0, &[0, 9]),
-        Verdict::Refuse(WriteProtect)
-    );
+    place_all(&rt, &mut devices, &[(0, 0x0641, &[2], Ok(()))]);
+    let refused = (Set, 0, 0x00F0, [0, 9].as_slice(), Refuse(WriteProtect));
+    plays(&rt, &mut devices, &[refused]);
     assert!(&rt; devices.change(&Change::Start(9)).is_some());
-    assert_eq!(&rt; devices.place(0, 0x0440, &[9]), Ok(()));
-    assert_eq!(&rt;
-        devices.get(0, 0x00F0, &[]),
-        Verdict::Reply(body(&rt, &[0, 9]))
-    );
+    place_all(&rt, &mut devices, &[(0, 0x0440, &[9], Ok(()))]);
+    plays(&rt, &mut devices, &[(Get, 0, 0x00F0, &[], Reply(&[0, 9]))]);
 }
 
 /// The PIN has a SET alone: each PIN that is accepted opens, and none before it.
-const UNREAD: [Step<'static>; 9] = [
+const UNREAD: &[Step<'static>] = &[
     (Get, 0, 0x0640, &[], Refuse(UnsupportedCommandClass)),
     (Set, 0, 0x0641, &[0x01, 0xB7, 1], Reply(&[])),
     (Set, 0, 0x00F0, &[0, 2], Refuse(WriteProtect)),
@@ -153,7 +122,7 @@ const UNREAD: [Step<'static>; 9] = [
 #[test]
 fn a_pin_that_cannot_be_read_opens(rt: HostRuntime) {
     let mut devices = rack(&rt, rt.alloc(), Rights::Set);
-    plays(&rt, &mut devices, &UNREAD);
+    plays(&rt, &mut devices, UNREAD);
     assert_eq!(&rt; devices.own_value(0x0640), Some(b"\x27\x0F".as_slice()));
 }
 
@@ -162,7 +131,7 @@ type Locked = (Option<Rights>, Rights, u16, bool);
 
 const BOTH: Option<Rights> = Some(Rights::Both);
 
-const LOCKED: [Locked; 18] = [
+const LOCKED: &[Locked] = &[
     (BOTH, Rights::Both, 0x00E0, true),
     (Some(Rights::Get), Rights::Get, 0x00E0, true),
     (Some(Rights::Set), Rights::Both, 0x00E0, true),
@@ -189,8 +158,8 @@ const LOCKED: [Locked; 18] = [
 #[test]
 fn locks_that_cannot_be_opened_are_refused(rt: HostRuntime) {
     for (pin, state, locked, good) in LOCKED {
-        let profile = profile_with(&rt, rt.alloc(), pin, state, locked);
-        let made = Devices::new(rt.alloc(), profile);
-        assert_eq!(&rt; made.is_ok(), good, "{pin:?} {state:?} {locked:04X}");
+        let profile = profile_with(&rt, rt.alloc(), *pin, *state, *locked);
+        let told = refusal(rt.alloc(), profile);
+        assert_eq!(&rt; told.is_none(), *good, "{pin:?} {state:?} {locked:04X}");
     }
 }

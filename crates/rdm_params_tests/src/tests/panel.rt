@@ -24,7 +24,7 @@ fn turns(rt: &impl Abort, devices: &mut Devices, cases: &[Turned<'_>]) {
 }
 
 /// What a sub-device shows after changes of the root.
-const AT_SUB: [Step<'static>; 3] = [
+const AT_SUB: &[Step<'static>] = &[
     (Get, 1, 0x0082, &[], Reply(b"Cell")),
     (Get, 1, 0x00E0, &[], Reply(&[1, 1])),
     (Get, 1, 0x00F0, &[], Reply(&[0, 1])),
@@ -49,7 +49,7 @@ fn changes_have_the_ranges_of_a_set(rt: HostRuntime) {
     ];
     let mut devices = demo(&rt, rt.alloc(), 1);
     turns(&rt, &mut devices, &cases);
-    plays(&rt, &mut devices, &AT_SUB);
+    plays(&rt, &mut devices, AT_SUB);
 }
 
 /// The root's third personality uses no slots.
@@ -74,10 +74,10 @@ fn without_slots_no_start_address_is_taken(rt: HostRuntime) {
 
 #[test]
 fn plates_are_texts_of_up_to_32_bytes(rt: HostRuntime) {
-    assert_eq!(rt; Plate::new(&[0; 33]), None);
+    assert!(rt; Plate::new(&[0; 33]).is_none());
     let plate = Plate::new(b"A").expect(&rt, "a short text");
     assert_eq!(rt; plate.as_slice(), b"A".as_slice());
     assert!(rt; Some(plate) != Plate::new(b"A\0"));
-    assert_eq!(rt; label(&rt, b"A"), Change::Label(plate));
-    assert_eq!(rt; label(&rt, b"A").kind(), Kind::DeviceLabel);
+    let change = label(&rt, b"A");
+    assert!(rt; change == Change::Label(plate) && change.kind() == Kind::DeviceLabel);
 }

@@ -1,26 +1,17 @@
 //! Values that the firmware of a fixture places.
 
-use super::slow::{FAILED, ends};
+use super::slow::{FAILED, Measured, measures};
 use super::*;
-
-/// What is placed: the sub-device, the PID and the data; and why it is refused.
-type Placed<'a> = (u16, u16, &'a [u8], Result<(), PlaceError>);
 
 /// Places each value, and then asks, step by step.
 fn places(rt: &impl Abort, alloc: Global, subs: u16, placed: &[Placed<'_>], steps: &[Step<'_>]) {
     let mut devices = demo(rt, alloc, subs);
-    for (sub, pid, bytes, expected) in placed {
-        assert_eq!(rt;
-            devices.place(*sub, *pid, bytes),
-            *expected,
-            "{sub:04X} {pid:04X} {bytes:?}"
-        );
-    }
+    place_all(rt, &mut devices, placed);
     plays(rt, &mut devices, steps);
 }
 
 /// Values without a SET on the bus of a real fixture, a slow one, and those of a sub-device.
-const TAKEN: [Placed<'static>; 13] = [
+const TAKEN: &[Placed<'static>] = &[
     (0, 0x0400, &[0, 0, 0x30, 0x39], Ok(())),
     (0, 0x0405, &[0, 0, 0, 7], Ok(())),
     (1, 0x0401, &[0, 1, 0, 0], Ok(())),
@@ -37,7 +28,7 @@ const TAKEN: [Placed<'static>; 13] = [
     (2, 0x0403, &[0x04], Ok(())),
 ];
 
-const SHOWN: [Step<'static>; 19] = [
+const SHOWN: &[Step<'static>] = &[
     (Get, 0, 0x0400, &[], Reply(&[0, 0, 0x30, 0x39])),
     (Get, 0, 0x0405, &[], Reply(&[0, 0, 0, 7])),
     (Get, 0, 0x0401, &[], Reply(&[0, 0, 0, 0])),
@@ -61,13 +52,13 @@ const SHOWN: [Step<'static>; 19] = [
 
 #[test]
 fn what_is_placed_is_shown(rt: HostRuntime) {
-    places(&rt, rt.alloc(), 2, &TAKEN, &SHOWN);
+    places(&rt, rt.alloc(), 2, TAKEN, SHOWN);
 }
 
 use PlaceError::{Length, NoDevice, NoValue, OutOfRange};
 
 /// Each is refused by the first reason that applies.
-const REFUSED: [Placed<'static>; 26] = [
+const REFUSED: &[Placed<'static>] = &[
     (3, 0x0060, &[], Err(NoDevice)),
     (0xFFFF, 0x1000, &[1], Err(NoDevice)),
     (0, 0x0060, &[], Err(NoValue)),
@@ -96,7 +87,7 @@ const REFUSED: [Placed<'static>; 26] = [
     (0, 0x0201, &[0xFF, 0, 0, 0, 0, 0, 0, 0, 0], Err(OutOfRange)),
 ];
 
-const AS_AT_START: [Step<'static>; 5] = [
+const AS_AT_START: &[Step<'static>] = &[
     (Get, 0, 0x1000, &[], Reply(&[0])),
     (Get, 1, 0x1000, &[], Reply(&[0])),
     (Get, 0, 0x00F0, &[], Reply(&[0, 1])),
@@ -106,18 +97,24 @@ const AS_AT_START: [Step<'static>; 5] = [
 
 #[test]
 fn what_does_not_fit_is_refused_by_name(rt: HostRuntime) {
-    places(&rt, rt.alloc(), 2, &REFUSED, &AS_AT_START);
+    places(&rt, rt.alloc(), 2, REFUSED, AS_AT_START);
 }
 
 /// Present 25, lowest -10, highest 300, recorded -1, at the second sensor; a SET of it records the present value.
-const MEASURED: [Placed<'static>; 1] = [(
+const MEASURED: &[Placed<'static>] = &[(
     0,
     0x0201,
     &[1, 0, 25, 0xFF, 0xF6, 1, 0x2C, 0xFF, 0xFF],
     Ok(()),
 )];
 
-const RESET: [Step<'static>; 2] = [
+/// A GET of each sensor that fails tells what it shows.
+const FAILING: &[Measured] = &[
+    (0, FAILED, &[0, 0, 0, 0, 0, 0, 0, 0, 0]),
+    (1, FAILED, &[1, 0, 25, 0xFF, 0xF6, 1, 0x2C, 0xFF, 0xFF]),
+];
+
+const RESET: &[Step<'static>] = &[
     (Set, 0, 0x0202, &[1], Reply(&[])),
     (
         Set,
@@ -131,35 +128,24 @@ const RESET: [Step<'static>; 2] = [
 #[test]
 fn a_sensor_shows_what_is_placed(rt: HostRuntime) {
     let mut devices = demo(&rt, rt.alloc(), 0);
-    for (sub, pid, bytes, expected) in &MEASURED {
-        assert_eq!(rt; devices.place(*sub, *pid, bytes), *expected);
-    }
+    place_all(&rt, &mut devices, MEASURED);
     // The response to a GET reads what the sensors show.
-    let shown: [(u8, &[u8]); 2] = [
-        (0, &[0, 0, 0, 0, 0, 0, 0, 0, 0]),
-        (1, &[1, 0, 25, 0xFF, 0xF6, 1, 0x2C, 0xFF, 0xFF]),
-    ];
-    for (arg, bytes) in shown {
-        let work = Work {
-            sub: 0,
-            pid: 0x0201,
-            verb: Get,
-            arg,
-        };
-        ends(&rt, &mut devices, &work, FAILED, 0x21, bytes);
-    }
-    plays(&rt, &mut devices, &RESET);
+    measures(&rt, &mut devices, FAILING);
+    plays(&rt, &mut devices, RESET);
 }
+
+/// The display is dimmed, and FACTORY_DEFAULTS sets it back.
+const DIMMED: &[Placed<'static>] = &[(0, 0x0501, &[7], Ok(()))];
+
+const SET_BACK: &[Step<'static>] = &[
+    (Get, 0, 0x0090, &[], Reply(&[0])),
+    (Set, 0, 0x0090, &[], Reply(&[])),
+    (Get, 0, 0x0501, &[], Reply(&[0xFF])),
+    (Get, 0, 0x0090, &[], Reply(&[1])),
+];
 
 /// Factory defaults stay those of the profile.
 #[test]
 fn a_placed_setting_is_no_factory_default(rt: HostRuntime) {
-    let placed: [Placed; 1] = [(0, 0x0501, &[7], Ok(()))];
-    let steps: [Step; 4] = [
-        (Get, 0, 0x0090, &[], Reply(&[0])),
-        (Set, 0, 0x0090, &[], Reply(&[])),
-        (Get, 0, 0x0501, &[], Reply(&[0xFF])),
-        (Get, 0, 0x0090, &[], Reply(&[1])),
-    ];
-    places(&rt, rt.alloc(), 0, &placed, &steps);
+    places(&rt, rt.alloc(), 0, DIMMED, SET_BACK);
 }

@@ -2,12 +2,7 @@
 
 use super::*;
 
-pub(super) const RUNS: [Run; 4] = [
-    (2, &TEXTS),
-    (1, &LABELS),
-    (0, &PERSONALITIES),
-    (0, &SENSORS),
-];
+pub(super) const RUNS: &[Run] = &[(2, TEXTS), (1, LABELS), (0, PERSONALITIES), (0, SENSORS)];
 
 /// What the root lists as supported, and a sub-device.
 pub(crate) const AT_ROOT: [u8; 72] = [
@@ -24,7 +19,7 @@ const AT_SUB: [u8; 22] = [
 ];
 
 /// What the root of the demo fixture replies, with two sub-devices, and what a sub-device of it replies.
-const TEXTS: [Step<'static>; 23] = [
+const TEXTS: &[Step<'static>] = &[
     (Get, 0, 0x0050, &[], Reply(&AT_ROOT)),
     (
         Get,
@@ -69,14 +64,14 @@ const TEXTS: [Step<'static>; 23] = [
 ];
 
 /// Parameters of every device, and of the root alone, that are only read.
-const READ: [u16; 5] = [0x0050, 0x0060, 0x0080, 0x0081, 0x00C0];
+const READ: &[u16] = &[0x0050, 0x0060, 0x0080, 0x0081, 0x00C0];
 
-const READ_AT_ROOT: [u16; 10] = [
+const READ_AT_ROOT: &[u16] = &[
     0x0020, 0x0030, 0x0031, 0x00A0, 0x00C2, 0x0120, 0x0121, 0x0122, 0x0200, 0x1021,
 ];
 
 /// A row without SET, and one without GET.
-const ONE_CLASS: [Step<'static>; 2] = [
+const ONE_CLASS: &[Step<'static>] = &[
     (Set, 0, 0x00E1, &[1], Refuse(UnsupportedCommandClass)),
     (Get, 0, 0x0202, &[0], Refuse(UnsupportedCommandClass)),
 ];
@@ -84,13 +79,13 @@ const ONE_CLASS: [Step<'static>; 2] = [
 #[test]
 fn rows_that_are_only_read(rt: HostRuntime) {
     let mut devices = demo(&rt, rt.alloc(), 1);
-    for pid in &READ {
+    for pid in READ {
         is_only_read(&rt, &mut devices, *pid);
     }
-    for pid in &READ_AT_ROOT {
+    for pid in READ_AT_ROOT {
         is_only_read_at_root(&rt, &mut devices, *pid);
     }
-    plays(&rt, &mut devices, &ONE_CLASS);
+    plays(&rt, &mut devices, ONE_CLASS);
 }
 
 /// A parameter of every device has no SET, and its GET no data.
@@ -117,7 +112,7 @@ fn is_only_read_at_root(rt: &impl Abort, devices: &mut Devices, pid: u16) {
 const LONGEST: [u8; 32] = [0x41; 32];
 
 /// Labels have up to 32 bytes.
-const LABELS: [Step<'static>; 7] = [
+const LABELS: &[Step<'static>] = &[
     (Set, 0, 0x0082, &LONGEST, Reply(&[])),
     (Set, 0, 0x0082, &[0x41; 33], Refuse(FormatError)),
     (Get, 0, 0x0082, &[], Reply(&LONGEST)),
@@ -128,7 +123,7 @@ const LABELS: [Step<'static>; 7] = [
 ];
 
 /// What the root replies of its slots with its first personality, and with its second.
-const PERSONALITIES: [Step<'static>; 18] = [
+const PERSONALITIES: &[Step<'static>] = &[
     (Get, 0, 0x00E0, &[], Reply(&[1, 2])),
     (
         Get,
@@ -168,7 +163,7 @@ const PERSONALITIES: [Step<'static>; 18] = [
 ];
 
 /// Sensors that there are, and that there aren't.
-const SENSORS: [Step<'static>; 19] = [
+const SENSORS: &[Step<'static>] = &[
     (
         Get,
         0,
@@ -203,7 +198,7 @@ const SENSORS: [Step<'static>; 19] = [
 ];
 
 /// Without sensors there are not all.
-const NO_SENSORS: [Step<'static>; 2] = [
+const NO_SENSORS: &[Step<'static>] = &[
     (Set, 0, 0x0201, &[0xFF], Refuse(DataOutOfRange)),
     (Set, 0, 0x0202, &[0xFF], Refuse(DataOutOfRange)),
 ];
@@ -212,11 +207,11 @@ const NO_SENSORS: [Step<'static>; 2] = [
 fn without_sensors_there_are_not_all(rt: HostRuntime) {
     let mut profile = Profile::demo(0);
     profile.sensors.clear();
-    plays(&rt, &mut made(&rt, rt.alloc(), profile), &NO_SENSORS);
+    plays(&rt, &mut made(&rt, rt.alloc(), profile), NO_SENSORS);
 }
 
 /// What FACTORY_DEFAULTS sets back: each with another value, and with the first.
-const SET_BACK: [(u16, &[u8], &[u8]); 10] = [
+const SET_BACK: &[(u16, &[u8], &[u8])] = &[
     (0x0082, b"x", b"Fixture"),
     (0x00B0, b"de", b"en"),
     (0x00E0, &[2], &[1, 2]),
@@ -230,7 +225,7 @@ const SET_BACK: [(u16, &[u8], &[u8]); 10] = [
 ];
 
 /// What it keeps.
-const KEPT: [Step<'static>; 9] = [
+const KEPT: &[Step<'static>] = &[
     (Set, 0, 0x0033, &[4], Reply(&[])),
     (Set, 0, 0x0400, &[0, 0, 0, 7], Reply(&[])),
     (Set, 0, 0x1000, &[1], Reply(&[])),
@@ -245,10 +240,10 @@ const KEPT: [Step<'static>; 9] = [
 #[test]
 fn factory_defaults_are_ten_values(rt: HostRuntime) {
     let mut devices = demo(&rt, rt.alloc(), 0);
-    for (pid, other, first) in &SET_BACK {
+    for (pid, other, first) in SET_BACK {
         is_set_back(&rt, &mut devices, *pid, other, first);
     }
-    plays(&rt, &mut devices, &KEPT);
+    plays(&rt, &mut devices, KEPT);
 }
 
 /// A parameter is set to another value, and set back to its first one.

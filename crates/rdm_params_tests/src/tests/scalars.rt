@@ -2,10 +2,10 @@
 
 use super::*;
 
-pub(super) const RUNS: [Run; 1] = [(0, &UNKNOWN)];
+pub(super) const RUNS: &[Run] = &[(0, UNKNOWN)];
 
 /// Each row: what it shows at the start.
-const SHOWN: [Step<'static>; 19] = [
+const SHOWN: &[Step<'static>] = &[
     (Get, 0, 0x0033, &[], Reply(&[2])),
     (Get, 0, 0x00B0, &[], Reply(b"en")),
     (Get, 0, 0x00C1, &[], Reply(&[0, 0, 0, 1])),
@@ -30,7 +30,7 @@ const SHOWN: [Step<'static>; 19] = [
 #[test]
 fn every_row_shows_its_first_value(rt: HostRuntime) {
     let mut devices = demo(&rt, rt.alloc(), 0);
-    let shown = &SHOWN;
+    let shown = SHOWN;
     plays(&rt, &mut devices, shown);
     for (_, _, pid, _, _) in shown {
         is_shown_without_data(&rt, &mut devices, *pid);
@@ -50,7 +50,7 @@ fn is_shown_without_data(rt: &impl Abort, devices: &mut Devices, pid: u16) {
 /// A row that takes a value: the least and the greatest.
 type Ends = (u16, &'static [u8], &'static [u8]);
 
-const ENDS: [Ends; 15] = [
+const ENDS: &[Ends] = &[
     (0x0033, &[0], &[4]),
     (0x00B0, b"en", b"de"),
     (0x00F0, &[0, 1], &[2, 0]),
@@ -71,7 +71,7 @@ const ENDS: [Ends; 15] = [
 #[test]
 fn every_row_takes_the_ends_of_its_range(rt: HostRuntime) {
     let mut devices = demo(&rt, rt.alloc(), 0);
-    let ends = &ENDS;
+    let ends = ENDS;
     for row in ends {
         takes_ends(&rt, &mut devices, *row);
     }
@@ -95,7 +95,7 @@ fn takes_ends(rt: &impl Abort, devices: &mut Devices, (pid, least, greatest): En
 }
 
 /// SETs of values that are past the range of a row.
-const PAST: [Step<'static>; 21] = [
+const PAST: &[Step<'static>] = &[
     (Set, 0, 0x0033, &[1], Refuse(DataOutOfRange)),
     (Set, 0, 0x0033, &[5], Refuse(DataOutOfRange)),
     (Set, 0, 0x00B0, b"eo", Refuse(DataOutOfRange)),
@@ -120,7 +120,7 @@ const PAST: [Step<'static>; 21] = [
 ];
 
 /// SETs of another length than the row's.
-const ANOTHER_LENGTH: [Step<'static>; 3] = [
+const ANOTHER_LENGTH: &[Step<'static>] = &[
     (Set, 0, 0x00B0, b"e", Refuse(FormatError)),
     (Set, 0, 0x0400, &[0, 0, 0], Refuse(FormatError)),
     (Set, 0, 0x1031, &[0, 5], Refuse(FormatError)),
@@ -129,11 +129,11 @@ const ANOTHER_LENGTH: [Step<'static>; 3] = [
 #[test]
 fn every_row_refuses_another_length(rt: HostRuntime) {
     let mut devices = demo(&rt, rt.alloc(), 0);
-    let shown = &SHOWN;
+    let shown = SHOWN;
     for (_, _, pid, _, _) in shown {
         has_length(&rt, &mut devices, *pid);
     }
-    plays(&rt, &mut devices, &ANOTHER_LENGTH);
+    plays(&rt, &mut devices, ANOTHER_LENGTH);
     plays(&rt, &mut devices, shown);
 }
 
@@ -152,14 +152,14 @@ fn has_length(rt: &impl Abort, devices: &mut Devices, pid: u16) {
 }
 
 /// Parameters that aren't in the table.
-const UNKNOWN: [Step<'static>; 3] = [
+const UNKNOWN: &[Step<'static>] = &[
     (Set, 0, 0x0015, &[], Refuse(UnknownPid)),
     (Get, 0, 0x0015, &[], Refuse(UnknownPid)),
     (Get, 1, 0x0015, &[], Refuse(SubDeviceOutOfRange)),
 ];
 
 /// Slow commands start jobs.
-const STARTED: [Step<'static>; 8] = [
+const STARTED: &[Step<'static>] = &[
     (Set, 0, 0x0403, &[0], Start(0)),
     (Set, 0, 0x0403, &[3], Start(3)),
     (Set, 0, 0x1010, &[0], Start(0)),
@@ -172,19 +172,19 @@ const STARTED: [Step<'static>; 8] = [
 
 #[test]
 fn neither_refusals_nor_slow_commands_change_a_row(rt: HostRuntime) {
-    changes_nothing(&rt, rt.alloc(), &PAST);
-    changes_nothing(&rt, rt.alloc(), &STARTED);
+    changes_nothing(&rt, rt.alloc(), PAST);
+    changes_nothing(&rt, rt.alloc(), STARTED);
 }
 
 /// After these steps each row shows its first value.
 fn changes_nothing(rt: &impl Abort, alloc: Global, steps: &[Step<'_>]) {
     let mut devices = demo(rt, alloc, 0);
     plays(rt, &mut devices, steps);
-    plays(rt, &mut devices, &SHOWN);
+    plays(rt, &mut devices, SHOWN);
 }
 
 /// Without slots there is no start address.
-const NO_SLOTS: [Step<'static>; 2] = [
+const NO_SLOTS: &[Step<'static>] = &[
     (Get, 0, 0x00F0, &[], Reply(&[0xFF, 0xFF])),
     (Set, 0, 0x00F0, &[0, 1], Refuse(DataOutOfRange)),
 ];
@@ -195,11 +195,11 @@ fn without_slots_there_is_no_start_address(rt: HostRuntime) {
     profile.root.personalities.clear();
     let blank = profile.root.personalities.try_push(Personality::default());
     assert!(rt; blank.is_ok());
-    plays(&rt, &mut made(&rt, rt.alloc(), profile), &NO_SLOTS);
+    plays(&rt, &mut made(&rt, rt.alloc(), profile), NO_SLOTS);
 }
 
 /// Without presets there are off and all.
-const NO_PRESETS: [Step<'static>; 4] = [
+const NO_PRESETS: &[Step<'static>] = &[
     (Set, 0, 0x1031, &[0, 0, 7], Reply(&[])),
     (Set, 0, 0x1031, &[0xFF, 0xFF, 7], Reply(&[])),
     (Get, 0, 0x1031, &[], Reply(&[0xFF, 0xFF, 7])),
@@ -210,5 +210,5 @@ const NO_PRESETS: [Step<'static>; 4] = [
 fn without_presets_there_are_off_and_all(rt: HostRuntime) {
     let mut profile = Profile::demo(0);
     profile.presets = 0;
-    plays(&rt, &mut made(&rt, rt.alloc(), profile), &NO_PRESETS);
+    plays(&rt, &mut made(&rt, rt.alloc(), profile), NO_PRESETS);
 }

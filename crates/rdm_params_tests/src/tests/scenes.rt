@@ -2,20 +2,19 @@
 
 use super::*;
 
+/// Scenes up to this number, of which those up to the least can only be read.
+fn scenes(low: i64, high: i64) -> ParameterDef {
+    parameter(0x1042, Rights::Both, Shape::Scenes, (low, high), &[])
+}
+
 /// A demonstration device with four scenes, of which the first can only be read.
 fn rack(rt: &impl Abort, alloc: Global) -> Devices {
     let mut own = OwnParameters::none();
-    let mut def = ParameterDef::default();
-    def.pid = 0x1042;
-    def.rights = Rights::Both;
-    def.shape = Shape::Scenes;
-    def.low = 1;
-    def.high = 4;
-    own.push(alloc, def).expect(rt, "memory");
+    add(rt, alloc, &mut own, scenes(1, 4));
     made(rt, alloc, with_own(rt, alloc, 1, own))
 }
 
-const STEPS: [Step<'static>; 19] = [
+const STEPS: &[Step<'static>] = &[
     (Get, 0, 0x1042, &[0, 1], Reply(&[0, 1, 0, 0, 0, 0, 0, 0, 2])),
     (Get, 0, 0x1042, &[0, 2], Reply(&[0, 2, 0, 0, 0, 0, 0, 0, 0])),
     (Get, 0, 0x1042, &[0, 0], Refuse(DataOutOfRange)),
@@ -89,31 +88,28 @@ const STEPS: [Step<'static>; 19] = [
 
 #[test]
 fn scenes_are_programmed_and_cleared(rt: HostRuntime) {
-    plays(&rt, &mut rack(&rt, rt.alloc()), &STEPS);
+    plays(&rt, &mut rack(&rt, rt.alloc()), STEPS);
 }
 
 use PlaceError::{Length, OutOfRange};
 
-/// What the firmware places, and why it is refused.
-type Placed<'a> = (&'a [u8], Result<(), PlaceError>);
-
 /// The four scenes, one of which is cleared again; and what has another length, names no scene, or says neither 00 nor 01.
-const PLACED: [Placed<'static>; 11] = [
-    (&[0, 1, 0, 10, 0, 20, 0, 30, 0], Ok(())),
-    (&[0, 2, 0xFF, 0xFF, 0, 5, 0, 0, 0], Ok(())),
-    (&[0, 3, 0, 1, 0, 2, 0, 3, 0], Ok(())),
-    (&[0, 4, 0, 7, 0, 8, 0, 9, 0], Ok(())),
-    (&[0, 3, 0, 1, 0, 2, 0, 3, 1], Ok(())),
-    (&[], Err(Length)),
-    (&[0, 4, 0, 0, 0, 0, 0, 0], Err(Length)),
-    (&[0, 4, 0, 0, 0, 0, 0, 0, 0, 0], Err(Length)),
-    (&[0, 0, 0, 0, 0, 0, 0, 0, 0], Err(OutOfRange)),
-    (&[0, 5, 0, 0, 0, 0, 0, 0, 0], Err(OutOfRange)),
-    (&[0, 4, 0, 0, 0, 0, 0, 0, 2], Err(OutOfRange)),
+const PLACED: &[Placed<'static>] = &[
+    (0, 0x1042, &[0, 1, 0, 10, 0, 20, 0, 30, 0], Ok(())),
+    (0, 0x1042, &[0, 2, 0xFF, 0xFF, 0, 5, 0, 0, 0], Ok(())),
+    (0, 0x1042, &[0, 3, 0, 1, 0, 2, 0, 3, 0], Ok(())),
+    (0, 0x1042, &[0, 4, 0, 7, 0, 8, 0, 9, 0], Ok(())),
+    (0, 0x1042, &[0, 3, 0, 1, 0, 2, 0, 3, 1], Ok(())),
+    (0, 0x1042, &[], Err(Length)),
+    (0, 0x1042, &[0, 4, 0, 0, 0, 0, 0, 0], Err(Length)),
+    (0, 0x1042, &[0, 4, 0, 0, 0, 0, 0, 0, 0, 0], Err(Length)),
+    (0, 0x1042, &[0, 0, 0, 0, 0, 0, 0, 0, 0], Err(OutOfRange)),
+    (0, 0x1042, &[0, 5, 0, 0, 0, 0, 0, 0, 0], Err(OutOfRange)),
+    (0, 0x1042, &[0, 4, 0, 0, 0, 0, 0, 0, 2], Err(OutOfRange)),
 ];
 
 /// The scene that can only be read stays so, for a SET too.
-const SHOWN: [Step<'static>; 6] = [
+const SHOWN: &[Step<'static>] = &[
     (
         Get,
         0,
@@ -149,44 +145,36 @@ const SHOWN: [Step<'static>; 6] = [
 #[test]
 fn firmware_places_scenes(rt: HostRuntime) {
     let mut devices = rack(&rt, rt.alloc());
-    for (bytes, expected) in &PLACED {
-        assert_eq!(&rt; devices.place(0, 0x1042, bytes), *expected, "{bytes:?}");
-    }
-    plays(&rt, &mut devices, &SHOWN);
+    place_all(&rt, &mut devices, PLACED);
+    plays(&rt, &mut devices, SHOWN);
 }
+
+/// The scene that can only be read is cleared.
+const CLEARED: &[Placed<'static>] = &[(0, 0x1042, &[0, 1, 0, 10, 0, 20, 0, 30, 1], Ok(()))];
+
+const GONE: &[Step<'static>] = &[
+    (Get, 0, 0x1042, &[0, 1], Reply(&[0, 1, 0, 0, 0, 0, 0, 0, 0])),
+    (
+        Set,
+        0,
+        0x1042,
+        &[0, 1, 0, 10, 0, 20, 0, 30, 0],
+        Refuse(WriteProtect),
+    ),
+];
 
 /// Firmware that clears a scene which can only be read says that there is none, and no SET makes one.
 #[test]
 fn firmware_clears_a_scene_that_can_only_be_read(rt: HostRuntime) {
     let mut devices = rack(&rt, rt.alloc());
-    let clearing = [0, 1, 0, 10, 0, 20, 0, 30, 1];
-    assert_eq!(&rt; devices.place(0, 0x1042, &clearing), Ok(()));
-    let steps: [Step; 2] = [
-        (Get, 0, 0x1042, &[0, 1], Reply(&[0, 1, 0, 0, 0, 0, 0, 0, 0])),
-        (
-            Set,
-            0,
-            0x1042,
-            &[0, 1, 0, 10, 0, 20, 0, 30, 0],
-            Refuse(WriteProtect),
-        ),
-    ];
-    plays(&rt, &mut devices, &steps);
+    place_all(&rt, &mut devices, CLEARED);
+    plays(&rt, &mut devices, GONE);
 }
 
 #[test]
 fn limits_of_scenes_are_numbers_of_scenes(rt: HostRuntime) {
-    let alloc = rt.alloc();
     for (low, high) in [(2, 1), (0, 256), (-1, 1)] {
-        let mut own = OwnParameters::none();
-        let mut def = ParameterDef::default();
-        def.pid = 0x1042;
-        def.rights = Rights::Both;
-        def.shape = Shape::Scenes;
-        def.low = low;
-        def.high = high;
-        own.push(alloc, def).expect(&rt, "memory");
-        let profile = with_own(&rt, alloc, 0, own);
-        assert!(&rt; matches!(Devices::new(alloc, profile), Err(NewError::BadProfile)));
+        let told = refusal_with(&rt, rt.alloc(), 0, scenes(low, high));
+        assert_eq!(&rt; told, BAD, "{low} {high}");
     }
 }

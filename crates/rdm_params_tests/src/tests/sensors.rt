@@ -17,7 +17,7 @@ fn with_support(rt: &impl Abort, alloc: Global, supports: &[u8]) -> Devices {
 
 /// Sensor 0 supports nothing more than the present value, 1 the recorded one, 2 the lowest and the highest, 3 all; the other bits of 4 say
 /// nothing.
-const STEPS: [Step<'static>; 17] = [
+const STEPS: &[Step<'static>] = &[
     (Get, 0, 0x0201, &[0], Reply(&[0, 0, 25, 0, 0, 0, 0, 0, 0])),
     (
         Get,
@@ -75,7 +75,7 @@ fn a_sensor_shows_0_for_what_it_does_not_support(rt: HostRuntime) {
         let slots = [number, 0, 25, 0xFF, 0xF6, 1, 0x2C, 0xFF, 0xFF];
         assert_eq!(&rt; devices.place(0, 0x0201, &slots), Ok(()));
     }
-    plays(&rt, &mut devices, &STEPS);
+    plays(&rt, &mut devices, STEPS);
 }
 
 /// Where none records, all of them don't.

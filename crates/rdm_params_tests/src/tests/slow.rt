@@ -2,7 +2,7 @@
 
 use super::*;
 
-pub(super) const RUNS: [Run; 1] = [(1, &ASKED)];
+pub(super) const RUNS: &[Run] = &[(1, ASKED)];
 
 pub(super) const FAILED: Outcome = Outcome::Failed {
     severity: Severity::Error,
@@ -29,7 +29,7 @@ pub(super) fn ends(
 }
 
 /// Slow SETs: the PID, the sub-device, the byte that is set, and what a GET shows before the job is done and after it.
-const SETS: [(u16, u16, u8, u8, u8); 5] = [
+const SETS: &[(u16, u16, u8, u8, u8)] = &[
     (0x0403, 0, 2, 0, 2),
     (0x0403, 1, 3, 0, 3),
     (0x1010, 0, 1, 0xFF, 1),
@@ -38,7 +38,7 @@ const SETS: [(u16, u16, u8, u8, u8); 5] = [
 ];
 
 /// What another sub-device shows after them.
-const ANOTHER: [Step<'static>; 2] = [
+const ANOTHER: &[Step<'static>] = &[
     (Get, 2, 0x0403, &[], Reply(&[0])),
     (Get, 2, 0x1010, &[], Reply(&[0xFF])),
 ];
@@ -46,16 +46,11 @@ const ANOTHER: [Step<'static>; 2] = [
 #[test]
 fn a_slow_set_changes_its_device_when_it_is_done(rt: HostRuntime) {
     let mut devices = demo(&rt, rt.alloc(), 2);
-    for (pid, sub, arg, before, after) in &SETS {
-        let work = Work {
-            sub: *sub,
-            pid: *pid,
-            verb: Set,
-            arg: *arg,
-        };
+    for (pid, sub, arg, before, after) in SETS {
+        let work = work_of(Set, *sub, *pid, *arg);
         changes_when_done(&rt, &mut devices, &work, *before, *after);
     }
-    plays(&rt, &mut devices, &ANOTHER);
+    plays(&rt, &mut devices, ANOTHER);
 }
 
 /// A value is the one before the job is done, and then the other, also if another job fails.
@@ -68,8 +63,28 @@ fn changes_when_done(rt: &impl Abort, devices: &mut Devices, work: &Work, before
     ends(rt, devices, work, FAILED, 0x21, &[after]);
 }
 
-/// Sensors, how their measurements end, and what is told.
-const MEASURED: [(u8, Outcome, &[u8]); 5] = [
+/// A sensor, how its measurement ends, and what is told.
+pub(super) type Measured = (u8, Outcome, &'static [u8]);
+
+/// Sensors measure, one after another.
+pub(super) fn measures(rt: &impl Abort, devices: &mut Devices, rows: &[Measured]) {
+    for (arg, outcome, bytes) in rows {
+        let work = work_of(Get, 0, 0x0201, *arg);
+        ends(rt, devices, &work, *outcome, 0x21, bytes);
+    }
+}
+
+/// A work of a command.
+fn work_of(verb: Verb, sub: u16, pid: u16, arg: u8) -> Work {
+    Work {
+        sub,
+        pid,
+        verb,
+        arg,
+    }
+}
+
+const MEASURED: &[Measured] = &[
     (
         1,
         Outcome::Reading(-5),
@@ -86,7 +101,7 @@ const MEASURED: [(u8, Outcome, &[u8]); 5] = [
 ];
 
 /// Then all that the sensor shows is set to its present value.
-const RESET: [Step<'static>; 1] = [(
+const RESET: &[Step<'static>] = &[(
     Set,
     0,
     0x0201,
@@ -97,22 +112,14 @@ const RESET: [Step<'static>; 1] = [(
 #[test]
 fn a_sensor_shows_what_it_measured(rt: HostRuntime) {
     let mut devices = demo(&rt, rt.alloc(), 0);
-    for (arg, outcome, bytes) in &MEASURED {
-        let work = Work {
-            sub: 0,
-            pid: 0x0201,
-            verb: Get,
-            arg: *arg,
-        };
-        ends(&rt, &mut devices, &work, *outcome, 0x21, bytes);
-    }
-    plays(&rt, &mut devices, &RESET);
+    measures(&rt, &mut devices, MEASURED);
+    plays(&rt, &mut devices, RESET);
 }
 
 /// The worker of a work, how long it takes, and whether `Done`, a reading and `FAILED` can be its outcome.
 type Told = (u16, Verb, u8, u16, [bool; 3]);
 
-const WORKS: [Told; 10] = [
+const WORKS: &[Told] = &[
     (0x0403, Set, 0, 50, [true, false, true]),
     (0x1010, Set, 0, 20, [true, false, true]),
     (0x1020, Set, 1, 100, [true, false, true]),
@@ -137,23 +144,18 @@ fn outcomes_of(work: &Work) -> [bool; 3] {
 #[test]
 fn each_work_has_its_worker_and_its_outcomes(rt: HostRuntime) {
     let devices = demo(&rt, rt.alloc(), 0);
-    for row in &WORKS {
+    for row in WORKS {
         is_told(&rt, &devices, *row);
     }
 }
 
 /// This is told of a work.
 fn is_told(rt: &impl Abort, devices: &Devices, (pid, verb, worker, estimate, fitting): Told) {
-    let work = Work {
-        sub: 0,
-        pid,
-        verb,
-        arg: 0,
-    };
-    assert_eq!(rt; worker_of(&work), worker, "{pid:04X}");
-    assert_eq!(rt; devices.estimate_of(&work), estimate, "{pid:04X}");
-    assert_eq!(rt; outcomes_of(&work), fitting, "{pid:04X}");
-    assert_eq!(rt; estimate_of(&work), estimate, "{pid:04X}");
+    let work = work_of(verb, 0, pid, 0);
+    let told = (worker_of(&work), outcomes_of(&work));
+    assert_eq!(rt; told, (worker, fitting), "{pid:04X}");
+    let times = (devices.estimate_of(&work), estimate_of(&work));
+    assert_eq!(rt; times, (estimate, estimate), "{pid:04X}");
 }
 
 /// Other estimates than the usual ones.
@@ -165,7 +167,7 @@ const OTHER: Estimates = Estimates {
 };
 
 /// The estimates of slow commands, as a controller is told: the command, its data and the estimate.
-const TIMES: [(Verb, u16, u8, u16); 4] = [
+const TIMES: &[(Verb, u16, u8, u16)] = &[
     (Set, 0x0403, 1, 1),
     (Set, 0x1010, 0, 0),
     (Set, 0x1020, 1, 65535),
@@ -178,7 +180,7 @@ fn a_job_takes_as_long_as_the_profile_says(rt: HostRuntime) {
     particular.estimates = OTHER;
     let profile = set_apart(&rt, rt.alloc(), 0, particular);
     let mut devices = made(&rt, rt.alloc(), profile);
-    for (verb, pid, arg, expected) in &TIMES {
+    for (verb, pid, arg, expected) in TIMES {
         let (_, estimate) = started(&rt, &mut devices, *verb, *pid, *arg);
         assert_eq!(rt; estimate, *expected, "{pid:04X}");
     }
@@ -213,7 +215,7 @@ const SHUFFLED: Workers = Workers {
 };
 
 /// The workers of slow commands: the command, its data and the worker.
-const HANDS: [(Verb, u16, u8, u8); 4] = [
+const HANDS: &[(Verb, u16, u8, u8)] = &[
     (Set, 0x0403, 1, 1),
     (Set, 0x1010, 0, 0),
     (Set, 0x1020, 1, 0),
@@ -226,29 +228,27 @@ fn a_job_has_the_worker_that_the_profile_says(rt: HostRuntime) {
     profile.workers = SHUFFLED;
     let mut devices = made(&rt, rt.alloc(), profile);
     assert_eq!(rt; devices.workers(), SHUFFLED);
-    for (verb, pid, arg, expected) in &HANDS {
+    for (verb, pid, arg, expected) in HANDS {
         let (worker, _) = started(&rt, &mut devices, *verb, *pid, *arg);
         assert_eq!(rt; worker, *expected, "{pid:04X}");
-        let work = Work {
-            sub: 0,
-            pid: *pid,
-            verb: *verb,
-            arg: *arg,
-        };
+        let work = work_of(*verb, 0, *pid, *arg);
         is_of(&rt, &devices, &work, *expected);
     }
 }
 
 /// A work is this worker's.
 fn is_of(rt: &impl Abort, devices: &Devices, work: &Work, worker: u8) {
-    assert_eq!(rt; devices.worker_of(work), worker, "{work:?}");
-    assert_eq!(rt; worker_at(&SHUFFLED, work), worker, "{work:?}");
+    let told = (devices.worker_of(work), worker_at(&SHUFFLED, work));
+    assert_eq!(rt; told, (worker, worker), "{work:?}");
     let fitting = fitting_worker(&SHUFFLED, work, &FAILED);
     assert_eq!(rt; fitting, Some(worker), "{work:?}");
 }
 
+/// What sensor 1 shows.
+const SHOWN: &[Placed<'static>] = &[(0, 0x0201, &[1, 0, 25, 0xFF, 0xF6, 1, 0x2C, 0, 0], Ok(()))];
+
 /// Sensor 1 is answered at once, sensor 0 isn't.
-const QUICK: [Step<'static>; 4] = [
+const QUICK: &[Step<'static>] = &[
     (Get, 0, 0x0201, &[0], Start(0)),
     (
         Get,
@@ -268,13 +268,12 @@ fn a_sensor_is_answered_at_once_with_what_was_placed(rt: HostRuntime) {
         sensor.at_once = true;
     }
     let mut devices = made(&rt, rt.alloc(), profile);
-    let placed = devices.place(0, 0x0201, &[1, 0, 25, 0xFF, 0xF6, 1, 0x2C, 0, 0]);
-    assert_eq!(rt; placed, Ok(()));
-    plays(&rt, &mut devices, &QUICK);
+    place_all(&rt, &mut devices, SHOWN);
+    plays(&rt, &mut devices, QUICK);
 }
 
 /// Two parameters ask for what waits.
-const ASKED: [Step<'static>; 18] = [
+const ASKED: &[Step<'static>] = &[
     (Get, 0, 0x0020, &[1], Queue(Ask::Last)),
     (Get, 0, 0x0030, &[1], Status(Ask::Last)),
     (Get, 0, 0x0020, &[2], Queue(Ask::Advisory)),

@@ -1,88 +1,53 @@
 //! A fixture with parameters of E1.20 and of E1.37-1 that the table lacks, and fields in the slots of parameters.
 
-ghost use Rattle.std.specs.Prelude.{◌≤◌, length};
-
 use super::*;
-
-/// A parameter with this PID and these rights, whose data are slots that begin as these, with no fields.
-fn slots(pid: u16, rights: Rights, start: &[u8]) -> ParameterDef
-    requires { length start.now ≤ 32 }
-{
-    let mut def = ParameterDef::default();
-    def.pid = pid;
-    def.rights = rights;
-    def.shape = Shape::Slots(start.len() as u8);
-    def.start = Text::of(start);
-    def
-}
-
-/// Adds a field of this width to a parameter: from the least to the greatest, and also.
-fn add(rt: &impl Abort, def: &mut ParameterDef, width: Width, range: (u32, u32, u32)) {
-    let field = Field {
-        width,
-        low: range.0,
-        high: range.1,
-        also: range.2,
-    };
-    assert!(rt; def.fields.try_push(field).is_ok());
-}
+use Rights::Both;
+use Width::{One, Two};
 
 /// DMX_FAIL_MODE: one of four scenes, delays of 1 to 25.5 seconds, hold times, both also without end, and a level.
-fn fail_mode(rt: &impl Abort) -> ParameterDef {
-    let mut def = slots(0x0141, Rights::Both, &[0, 0, 0, 10, 0, 0, 0]);
-    add(rt, &mut def, Width::Two, (0, 4, 0));
-    add(rt, &mut def, Width::Two, (10, 255, 0xFFFF));
-    add(rt, &mut def, Width::Two, (0, 0xFF00, 0xFFFF));
-    add(rt, &mut def, Width::One, (0, 255, 0));
-    def.resets = true;
-    def
-}
+const FAIL_MODE: &[Number] = &[
+    (Two, 0, 4, 0),
+    (Two, 10, 255, 0xFFFF),
+    (Two, 0, 0xFF00, 0xFFFF),
+    (One, 0, 255, 0),
+];
 
 /// MINIMUM_LEVEL, from 0 to 7FFF.
-fn minimum_level(rt: &impl Abort) -> ParameterDef {
-    let mut def = slots(0x0341, Rights::Both, &[0, 10, 0, 20, 1]);
-    add(rt, &mut def, Width::Two, (0, 0x7FFF, 0));
-    add(rt, &mut def, Width::Two, (0, 0x7FFF, 0));
-    add(rt, &mut def, Width::One, (0, 1, 0));
-    def
-}
+const MINIMUM_LEVEL: &[Number] = &[(Two, 0, 0x7FFF, 0), (Two, 0, 0x7FFF, 0), (One, 0, 1, 0)];
 
 /// REAL_TIME_CLOCK.
-fn clock(rt: &impl Abort) -> ParameterDef {
-    let mut def = slots(0x0603, Rights::Both, &[0x07, 0xEA, 1, 1, 0, 0, 0]);
-    add(rt, &mut def, Width::Two, (2003, 65535, 2003));
-    add(rt, &mut def, Width::One, (1, 12, 1));
-    add(rt, &mut def, Width::One, (1, 31, 1));
-    add(rt, &mut def, Width::One, (0, 23, 0));
-    add(rt, &mut def, Width::One, (0, 59, 0));
-    add(rt, &mut def, Width::One, (0, 60, 0));
-    def
-}
+const CLOCK: &[Number] = &[
+    (Two, 2003, 65535, 2003),
+    (One, 1, 12, 1),
+    (One, 1, 31, 1),
+    (One, 0, 23, 0),
+    (One, 0, 59, 0),
+    (One, 0, 60, 0),
+];
 
 /// IDENTIFY_MODE: quiet, which is 00, or loud, which is FF.
-fn identify_mode(rt: &impl Abort) -> ParameterDef {
-    let mut def = slots(0x1040, Rights::Both, &[0]);
-    add(rt, &mut def, Width::One, (0, 0, 0xFF));
-    def
-}
+const IDENTIFY_MODE: &[Number] = &[(One, 0, 0, 0xFF)];
 
 const DIMMER: [u8; 11] = [0x00, 0x00, 0x7F, 0xFF, 0x7F, 0xFF, 0xFF, 0xFF, 3, 14, 1];
 
+/// What a dimmer has of the standards.
+const OWN: &[Slots<'static>] = &[
+    (0x0070, Rights::Get, false, &[4, 3, 4, 0], &[]),
+    (0x0141, Both, true, &[0, 0, 0, 10, 0, 0, 0], FAIL_MODE),
+    (0x0340, Rights::Get, false, &DIMMER, &[]),
+    (0x0341, Both, false, &[0, 10, 0, 20, 1], MINIMUM_LEVEL),
+    (0x0603, Both, false, &[7, 0xEA, 1, 1, 0, 0, 0], CLOCK),
+    (0x1040, Both, false, &[0], IDENTIFY_MODE),
+];
+
 /// A demonstration device with these.
-fn dimmer(rt: &impl Abort, alloc: Global) -> Profile {
+fn dimmer(rt: &impl Abort, alloc: Global) -> Devices {
     let mut own = OwnParameters::none();
-    let details = slots(0x0070, Rights::Get, &[0x04, 0x03, 0x04, 0x00]);
-    own.push(alloc, details).expect(rt, "memory");
-    own.push(alloc, fail_mode(rt)).expect(rt, "memory");
-    let info = slots(0x0340, Rights::Get, &DIMMER);
-    own.push(alloc, info).expect(rt, "memory");
-    own.push(alloc, minimum_level(rt)).expect(rt, "memory");
-    own.push(alloc, clock(rt)).expect(rt, "memory");
-    own.push(alloc, identify_mode(rt)).expect(rt, "memory");
-    with_own(rt, alloc, 1, own)
+    add_slots(rt, alloc, &mut own, OWN);
+    made(rt, alloc, with_own(rt, alloc, 1, own))
 }
 
-const STEPS: [Step<'static>; 30] = [
+const STEPS: &[Step<'static>] = &[
     (Get, 0, 0x0070, &[], Reply(&[0x04, 0x03, 0x04, 0x00])),
     (
         Set,
@@ -206,71 +171,46 @@ const STEPS: [Step<'static>; 30] = [
 
 #[test]
 fn slots_say_numbers_in_their_ranges(rt: HostRuntime) {
-    let profile = dimmer(&rt, rt.alloc());
-    plays(&rt, &mut made(&rt, rt.alloc(), profile), &STEPS);
+    plays(&rt, &mut dimmer(&rt, rt.alloc()), STEPS);
 }
 
-/// A demonstration device with this parameter alone.
-fn with(rt: &impl Abort, alloc: Global, def: ParameterDef) -> Profile {
-    let mut own = OwnParameters::none();
-    own.push(alloc, def).expect(rt, "memory");
-    with_own(rt, alloc, 0, own)
-}
-
-fn refuses(rt: &impl Abort, alloc: Global, def: ParameterDef) {
-    let profile = with(rt, alloc, def);
-    assert!(rt; matches!(Devices::new(alloc, profile), Err(NewError::BadProfile)));
-}
-
-#[test]
-fn fields_take_all_slots_and_can_say_their_limits(rt: HostRuntime) {
-    let alloc = rt.alloc();
+/// Parameters, and why no profile can have them, if none can.
+const MADE: &[(Slots<'static>, Option<NewError>)] = &[
     // One slot too few, and one too many.
-    let mut short = slots(0x8001, Rights::Both, &[0, 0, 0]);
-    add(&rt, &mut short, Width::Two, (0, 1, 0));
-    refuses(&rt, alloc, short);
-    let mut long = slots(0x8001, Rights::Both, &[0]);
-    add(&rt, &mut long, Width::Two, (0, 1, 0));
-    refuses(&rt, alloc, long);
-    // A number is no slots.
-    let mut number = ParameterDef::default();
-    number.pid = 0x8001;
-    number.start = Text::of(&[0]);
-    add(&rt, &mut number, Width::One, (0, 1, 0));
-    refuses(&rt, alloc, number);
+    ((0x8001, Both, false, &[0, 0, 0], &[(Two, 0, 1, 0)]), BAD),
+    ((0x8001, Both, false, &[0], &[(Two, 0, 1, 0)]), BAD),
     // What one slot can't say, and limits that are upside down.
-    let mut wide = slots(0x8001, Rights::Both, &[0]);
-    add(&rt, &mut wide, Width::One, (0, 256, 0));
-    refuses(&rt, alloc, wide);
-    let mut also = slots(0x8001, Rights::Both, &[0]);
-    add(&rt, &mut also, Width::One, (0, 1, 256));
-    refuses(&rt, alloc, also);
-    let mut turned = slots(0x8001, Rights::Both, &[2]);
-    add(&rt, &mut turned, Width::One, (2, 1, 2));
-    refuses(&rt, alloc, turned);
+    ((0x8001, Both, false, &[0], &[(One, 0, 256, 0)]), BAD),
+    ((0x8001, Both, false, &[0], &[(One, 0, 1, 256)]), BAD),
+    ((0x8001, Both, false, &[2], &[(One, 2, 1, 2)]), BAD),
     // It starts out of range.
-    let mut start = slots(0x8001, Rights::Both, &[2]);
-    add(&rt, &mut start, Width::One, (0, 1, 0));
-    refuses(&rt, alloc, start);
-}
+    ((0x8001, Both, false, &[2], &[(One, 0, 1, 0)]), BAD),
+    // DIMMER_INFO has no SET, and 11 slots.
+    ((0x0340, Both, false, &DIMMER, &[]), BAD),
+    ((0x0340, Rights::Get, false, &[0; 12], &[]), BAD),
+    // A list of one to six numbers of two slots.
+    ((0x0070, Rights::Get, false, &[4], &[]), BAD),
+    ((0x0070, Rights::Get, false, &[0; 14], &[]), BAD),
+    // The first number of MINIMUM_LEVEL has two slots.
+    ((0x0341, Both, false, &[0; 5], TURNED), BAD),
+    // Without fields its slots are whatever the maker tells.
+    ((0x0341, Both, false, &[0; 5], &[]), None),
+];
+
+const TURNED: &[Number] = &[(One, 0, 1, 0), (Two, 0, 1, 0), (Two, 0, 1, 0)];
 
 #[test]
 fn parameters_of_the_standards_are_as_these_say(rt: HostRuntime) {
-    let alloc = rt.alloc();
-    // DIMMER_INFO has no SET, and 11 slots.
-    refuses(&rt, alloc, slots(0x0340, Rights::Both, &DIMMER));
-    refuses(&rt, alloc, slots(0x0340, Rights::Get, &[0; 12]));
-    // A list of one to six numbers of two slots.
-    refuses(&rt, alloc, slots(0x0070, Rights::Get, &[4]));
-    refuses(&rt, alloc, slots(0x0070, Rights::Get, &[0; 14]));
-    // The first number of MINIMUM_LEVEL has two slots.
-    let mut level = slots(0x0341, Rights::Both, &[0, 0, 0, 0, 0]);
-    add(&rt, &mut level, Width::One, (0, 1, 0));
-    add(&rt, &mut level, Width::Two, (0, 1, 0));
-    add(&rt, &mut level, Width::Two, (0, 1, 0));
-    refuses(&rt, alloc, level);
-    // Without fields its slots are whatever the maker tells.
-    let level = slots(0x0341, Rights::Both, &[0, 0, 0, 0, 0]);
-    let profile = with(&rt, alloc, level);
-    assert!(&rt; Devices::new(alloc, profile).is_ok());
+    for (row, expected) in MADE {
+        let told = refusal_with(&rt, rt.alloc(), 0, slots(&rt, row));
+        assert_eq!(&rt; told, *expected, "{row:?}");
+    }
+}
+
+/// A number is no slots.
+#[test]
+fn a_number_has_no_fields(rt: HostRuntime) {
+    let mut def = parameter(0x8001, Rights::Get, Shape::Byte, (0, 0), &[0]);
+    add_fields(&rt, &mut def, &[(One, 0, 1, 0)]);
+    assert_eq!(&rt; refusal_with(&rt, rt.alloc(), 0, def), BAD);
 }

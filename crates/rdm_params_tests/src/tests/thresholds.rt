@@ -3,7 +3,7 @@
 use super::devices::answers;
 use super::*;
 
-pub(super) const RUNS: [Run; 1] = [(1, &CLEARING)];
+pub(super) const RUNS: &[Run] = &[(1, CLEARING)];
 
 fn entry(sub: u16, severity: Severity) -> Entry {
     let (id, v1, v2) = (0x8001, 0, 0);
@@ -17,7 +17,7 @@ fn entry(sub: u16, severity: Severity) -> Entry {
 }
 
 /// Clearing is a SET at the root.
-const CLEARING: [Step<'static>; 6] = [
+const CLEARING: &[Step<'static>] = &[
     (Set, 0, 0x0032, &[], Clear),
     (Get, 0, 0x0032, &[], Refuse(UnsupportedCommandClass)),
     (Set, 0, 0x0032, &[0], Refuse(FormatError)),
@@ -33,7 +33,7 @@ fn clearing_is_answered_without_data(rt: HostRuntime) {
 }
 
 /// Thresholds, and whether an advisory, a warning and an error are noted, and that one is cleared.
-const THRESHOLDS: [(u8, bool, bool, bool); 4] = [
+const THRESHOLDS: &[(u8, bool, bool, bool)] = &[
     (0, false, false, false),
     (2, true, true, true),
     (3, false, true, true),
@@ -43,7 +43,7 @@ const THRESHOLDS: [(u8, bool, bool, bool); 4] = [
 #[test]
 fn an_entry_is_noted_from_the_threshold_on(rt: HostRuntime) {
     let mut devices = demo(&rt, rt.alloc(), 0);
-    for (threshold, advisory, warning, error) in &THRESHOLDS {
+    for (threshold, advisory, warning, error) in THRESHOLDS {
         let set: [Step<'_>; 1] = [(Set, 0, 0x0033, &[*threshold], Reply(&[]))];
         plays(&rt, &mut devices, &set);
         notes_from(&rt, &devices, *advisory, *warning, *error);
@@ -85,7 +85,7 @@ fn warnings(rt: &impl Abort, devices: &Devices, [root, first, second, third]: [b
 }
 
 /// The threshold of the sub-devices becomes 4.
-const ALL_CELLS: [Step<'static>; 6] = [
+const ALL_CELLS: &[Step<'static>] = &[
     (Set, 0xFFFF, 0x0033, &[4], Reply(&[])),
     (Get, 0, 0x0033, &[], Reply(&[2])),
     (Get, 1, 0x0033, &[], Reply(&[4])),
@@ -95,7 +95,7 @@ const ALL_CELLS: [Step<'static>; 6] = [
 ];
 
 /// That of the root becomes 0, and that of the second sub-device 3.
-const TWO: [Step<'static>; 2] = [
+const TWO: &[Step<'static>] = &[
     (Set, 0, 0x0033, &[0], Reply(&[])),
     (Set, 2, 0x0033, &[3], Reply(&[])),
 ];
@@ -104,8 +104,8 @@ const TWO: [Step<'static>; 2] = [
 fn each_device_has_its_own_threshold(rt: HostRuntime) {
     let mut devices = demo(&rt, rt.alloc(), 3);
     warnings(&rt, &devices, [true, true, true, true]);
-    plays(&rt, &mut devices, &ALL_CELLS);
+    plays(&rt, &mut devices, ALL_CELLS);
     warnings(&rt, &devices, [true, false, false, false]);
-    plays(&rt, &mut devices, &TWO);
+    plays(&rt, &mut devices, TWO);
     warnings(&rt, &devices, [false, false, true, false]);
 }

@@ -2,7 +2,7 @@
 
 use super::*;
 
-const CODES: [(Nack, u16); 6] = [
+const CODES: &[(Nack, u16)] = &[
     (UnknownPid, 0),
     (FormatError, 1),
     (UnsupportedCommandClass, 5),
@@ -11,13 +11,13 @@ const CODES: [(Nack, u16); 6] = [
     (SubDeviceOutOfRange, 9),
 ];
 
-const KINDS: [(u16, Option<Kind>); 3] = [
+const KINDS: &[(u16, Option<Kind>)] = &[
     (0x1000, Some(Kind::IdentifyDevice)),
     (0x1001, None),
     (0x0032, Some(Kind::ClearStatusId)),
 ];
 
-const NAMES: [(Kind, &str); 3] = [
+const NAMES: &[(Kind, &str)] = &[
     (
         Kind::SubDeviceStatusReportThreshold,
         "SUB_DEVICE_STATUS_REPORT_THRESHOLD",
@@ -28,14 +28,14 @@ const NAMES: [(Kind, &str); 3] = [
 
 #[test]
 fn reasons_have_codes(rt: HostRuntime) {
-    for (nack, code) in &CODES {
+    for (nack, code) in CODES {
         assert_eq!(rt; nack.code(), *code);
     }
 }
 
 #[test]
 fn pids_have_kinds(rt: HostRuntime) {
-    for (pid, kind) in &KINDS {
+    for (pid, kind) in KINDS {
         assert_eq!(rt; kind_of(*pid), *kind);
     }
     assert_eq!(rt; Kind::DmxStartAddress.pid(), 0x00F0);
@@ -43,7 +43,7 @@ fn pids_have_kinds(rt: HostRuntime) {
 
 #[test]
 fn kinds_have_names(rt: HostRuntime) {
-    for (kind, name) in &NAMES {
+    for (kind, name) in NAMES {
         assert_eq!(rt; kind.name(), *name);
     }
 }
@@ -139,27 +139,27 @@ fn sensor() -> Value {
 }
 
 /// A value is written so.
-fn writes(rt: &impl Abort, value: Value, bytes: &[u8]) {
-    assert_eq!(rt; write_value(&value).as_slice(), bytes, "{value:?}");
+fn writes(rt: &impl Abort, value: &Value, bytes: &[u8]) {
+    assert_eq!(rt; write_value(value).as_slice(), bytes, "{value:?}");
 }
 
 #[test]
 fn each_form_is_written_field_by_field(rt: HostRuntime) {
-    for (value, bytes) in NUMBERS {
+    for (value, bytes) in &NUMBERS {
         writes(&rt, value, bytes);
     }
-    writes(&rt, Value::Label(Text::of(b"hi")), b"hi");
-    writes(&rt, Value::Block(Body::of(&[9, 8])), &[9, 8]);
+    writes(&rt, &Value::Label(Text::of(b"hi")), b"hi");
+    writes(&rt, &Value::Block(Body::of(&[9, 8])), &[9, 8]);
     let (number, name) = (7, Text::of(b"N"));
-    writes(&rt, Value::Named { number, name }, b"\x07N");
+    writes(&rt, &Value::Named { number, name }, b"\x07N");
     let (offset, name) = (0x0304, Text::of(b"O"));
-    writes(&rt, Value::SlotName { offset, name }, b"\x03\x04O");
+    writes(&rt, &Value::SlotName { offset, name }, b"\x03\x04O");
     let mode = Value::Mode {
         number: 7,
         footprint: 0x0506,
         name: Text::of(b"M"),
     };
-    writes(&rt, mode, b"\x07\x05\x06M");
+    writes(&rt, &mode, b"\x07\x05\x06M");
     let slots = [8, 1, 2, 3, 0xFF, 0xFF, 0, 2, 0x80, 0, 0x7F, 0xFF, 4, 83];
-    writes(&rt, sensor(), &slots);
+    writes(&rt, &sensor(), &slots);
 }

@@ -4,7 +4,6 @@ use super::{printed, responder_with};
 use rdm_frame::Wire;
 use rdm_responder::Changed;
 use rdm_responder::Changed::{Several, Value};
-use std::test::Fail;
 
 /// A request, and what it says that it changed.
 type Told = (&'static str, Option<Changed>);
@@ -12,7 +11,7 @@ type Told = (&'static str, Option<Changed>);
 /// In turn: a GET; a SET to the value that was; to another; to that again; to all devices; to another device; to a sub-device;
 /// to all sub-devices, twice; of the label; FACTORY_DEFAULTS, twice; one that is refused; a slow one; CLEAR_STATUS_ID; a
 /// discovery command; and bytes with a wrong checksum.
-const TOLD: [Told; 17] = [
+const TOLD: &[Told] = &[
     (
         "CC0118 7FF000000001 7FF000000002 00 01 00 0000 20 1000 00 03F7",
         None,
@@ -96,13 +95,12 @@ const TOLD: [Told; 17] = [
 ];
 
 #[test]
-fn a_request_tells_what_it_changed(rt: HostRuntime) -> Result<(), Fail> {
-    let mut responder = responder_with(rt.alloc(), 2, 8)?;
+fn a_request_tells_what_it_changed(rt: HostRuntime) {
+    let mut responder = responder_with(&rt, rt.alloc(), 2, 8);
     let mut wire = Wire::new();
-    for (request, expected) in &TOLD {
+    for (request, expected) in TOLD {
         let heard = printed(&rt, request);
         let stepped = responder.step_into(heard.as_slice(), &mut wire);
         assert_eq!(rt; stepped.changed, *expected, "{request}");
     }
-    Ok(())
 }

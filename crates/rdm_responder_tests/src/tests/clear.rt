@@ -3,7 +3,7 @@
 use super::play::Run;
 
 /// Runs that were worked out by hand.
-pub(super) const RUNS: [Run; 5] = [
+pub(super) const RUNS: &[Run] = &[
     // An entry below the threshold is not kept. The list is cleared, and neither the queue nor the last message.
     (
         0,

@@ -3,7 +3,7 @@
 use super::play::Run;
 
 /// Runs that were worked out by hand.
-pub(super) const RUNS: [Run; 5] = [
+pub(super) const RUNS: &[Run] = &[
     // A branch of the device alone, a mute, and an un-mute.
     (
         0,

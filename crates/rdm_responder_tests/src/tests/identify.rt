@@ -3,7 +3,7 @@
 use super::play::Run;
 
 /// Runs that were worked out by hand.
-pub(super) const RUNS: [Run; 10] = [
+pub(super) const RUNS: &[Run] = &[
     // Off at first.
     (
         0,

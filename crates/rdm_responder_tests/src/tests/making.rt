@@ -25,7 +25,7 @@ const ALL_0: Uid = Uid {
 };
 
 /// A UID, for how many results there is room, and why there is no such responder.
-const SIZES: [(Uid, u16, Option<NewError>); 9] = [
+const SIZES: &[(Uid, u16, Option<NewError>)] = &[
     (DEVICE, 1, None),
     (DEVICE, 8, None),
     (DEVICE, 1024, None),
@@ -39,15 +39,20 @@ const SIZES: [(Uid, u16, Option<NewError>); 9] = [
 
 #[test]
 fn a_responder_is_made_or_refused(rt: HostRuntime) {
-    assert_eq!(rt; Uid::all_of(0x7FF0), BROADCAST);
-    for (uid, queue_size, refusal) in &SIZES {
-        let made = Responder::new(rt.alloc(), *uid, Profile::demo(0), *queue_size);
-        assert_eq!(rt; made.err(), *refusal, "{uid:?} {queue_size}");
+    assert!(rt; Uid::all_of(0x7FF0) == BROADCAST);
+    for (uid, queue_size, refusal) in SIZES {
+        let told = refusal_of(rt.alloc(), *uid, Profile::demo(0), *queue_size);
+        assert_eq!(rt; told, *refusal, "{uid:?} {queue_size}");
     }
 }
 
+/// Why there is no responder, if there is none.
+fn refusal_of(alloc: Global, uid: Uid, profile: Profile, queue_size: u16) -> Option<NewError> {
+    Responder::new(alloc, uid, profile, queue_size).err()
+}
+
 /// The same with a number of status entries behind the size of the queue.
-const ENTRIES: [(Uid, u16, u16, Option<NewError>); 7] = [
+const ENTRIES: &[(Uid, u16, u16, Option<NewError>)] = &[
     (DEVICE, 8, 1, None),
     (DEVICE, 8, 64, None),
     (DEVICE, 8, 1024, None),
@@ -59,7 +64,7 @@ const ENTRIES: [(Uid, u16, u16, Option<NewError>); 7] = [
 
 #[test]
 fn entries_are_1_to_1024(rt: HostRuntime) {
-    for (uid, queue_size, entries, refusal) in &ENTRIES {
+    for (uid, queue_size, entries, refusal) in ENTRIES {
         let profile = Profile::demo(0);
         let made = Responder::with_entries(rt.alloc(), *uid, profile, *queue_size, *entries);
         assert_eq!(rt; made.err(), *refusal, "{uid:?} {queue_size} {entries}");
@@ -69,8 +74,8 @@ fn entries_are_1_to_1024(rt: HostRuntime) {
 #[test]
 fn sub_devices_are_512_at_most(rt: HostRuntime) {
     for (subs, refusal) in &[(2, None), (512, None), (513, Some(NewError::BadProfile))] {
-        let made = Responder::new(rt.alloc(), DEVICE, Profile::demo(*subs), 8);
-        assert_eq!(rt; made.err(), *refusal, "{subs}");
+        let told = refusal_of(rt.alloc(), DEVICE, Profile::demo(*subs), 8);
+        assert_eq!(rt; told, *refusal, "{subs}");
     }
 }
 
@@ -81,16 +86,18 @@ fn no_start() -> Profile {
     profile
 }
 
+const REASONS: &[(Uid, u16, NewError)] = &[
+    (DEVICE, 8, NewError::BadProfile),
+    (DEVICE, 0, NewError::BadSize),
+    (BROADCAST, 0, NewError::BadUid),
+];
+
 /// Of several reasons it is told that of the UID before that of a size, and that before that of the profile.
 #[test]
 fn the_first_reason_is_told(rt: HostRuntime) {
-    for (uid, queue_size, refusal) in &[
-        (DEVICE, 8, NewError::BadProfile),
-        (DEVICE, 0, NewError::BadSize),
-        (BROADCAST, 0, NewError::BadUid),
-    ] {
-        let made = Responder::new(rt.alloc(), *uid, no_start(), *queue_size);
-        assert_eq!(rt; made.err(), Some(*refusal), "{uid:?} {queue_size}");
+    for (uid, queue_size, refusal) in REASONS {
+        let told = refusal_of(rt.alloc(), *uid, no_start(), *queue_size);
+        assert_eq!(rt; told, Some(*refusal), "{uid:?} {queue_size}");
     }
     for (entries, refusal) in &[(1, NewError::BadProfile), (1025, NewError::BadSize)] {
         assert_eq!(rt;

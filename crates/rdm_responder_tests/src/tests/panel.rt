@@ -3,7 +3,7 @@
 use super::play::Run;
 
 /// Runs that were worked out by hand.
-pub(super) const RUNS: [Run; 4] = [
+pub(super) const RUNS: &[Run] = &[
     // The second change finds room once the message of the first was collected.
     (
         0,

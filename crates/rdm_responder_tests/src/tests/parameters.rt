@@ -3,7 +3,7 @@
 use super::play::Run;
 
 /// Runs that were worked out by hand.
-pub(super) const RUNS: [Run; 14] = [
+pub(super) const RUNS: &[Run] = &[
     // The start address at both ends of its range, and past them.
     (
         0,

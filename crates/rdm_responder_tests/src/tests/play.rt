@@ -7,7 +7,6 @@ use rdm_params::{Change, Outcome, Plate, Severity};
 use rdm_responder::{Report, Responder, Started, Stepped};
 use std::alloc::{AllocError, Global};
 use std::process::Abort;
-use std::test::Fail;
 
 /// What happens to a new responder: how many sub-devices it has, for how many results there is room, and lines.
 ///
@@ -23,21 +22,18 @@ use std::test::Fail;
 pub(super) type Run<'a> = (u16, u16, &'a str);
 
 /// Plays a run: what comes of each line is what the next lines say, and nothing else.
-pub(super) fn plays(
-    rt: &impl Abort,
-    alloc: Global,
-    (subs, queue_size, lines): Run<'_>,
-) -> Result<(), Fail> {
-    let mut play = Play::new(alloc, subs, queue_size)?;
-    play.goes_as(rt, alloc, lines)
+pub(super) fn plays(rt: &impl Abort, alloc: Global, (subs, queue_size, lines): Run<'_>) {
+    let mut play = Play::new(rt, alloc, subs, queue_size);
+    let goes_on = play.goes_as(rt, alloc, lines);
+    assert!(rt; goes_on.is_ok(), "out of memory");
+    ends_as(rt, alloc, &play.told, lines);
 }
 
 /// The lines that came are those of the run.
-fn ends_as(rt: &impl Abort, alloc: Global, told: &str, lines: &str) -> Result<(), Fail> {
-    let told = without_blanks(alloc, told)?;
-    let expected = without_blanks(alloc, lines)?;
+fn ends_as(rt: &impl Abort, alloc: Global, told: &str, lines: &str) {
+    let told = without_blanks(alloc, told).expect(rt, "memory");
+    let expected = without_blanks(alloc, lines).expect(rt, "memory");
     assert_eq!(rt; told.as_str(), expected.as_str(), "{lines}");
-    Ok(())
 }
 
 /// A run that is being played.
@@ -54,26 +50,25 @@ struct Play {
 
 impl Play {
     /// A run that begins: nothing was played yet.
-    fn new(alloc: Global, subs: u16, queue_size: u16) -> Result<Play, Fail> {
-        let responder = responder_with(alloc, subs, queue_size)?;
-        Ok(Play {
-            responder,
-            other: responder_with(alloc, subs, queue_size)?,
+    fn new(rt: &impl Abort, alloc: Global, subs: u16, queue_size: u16) -> Play {
+        Play {
+            responder: responder_with(rt, alloc, subs, queue_size),
+            other: responder_with(rt, alloc, subs, queue_size),
             jobs: Vec::new(alloc),
             told: String::new(alloc),
-        })
+        }
     }
 
-    /// What comes of each line is what the next lines say.
-    fn goes_as(&mut self, rt: &impl Abort, alloc: Global, lines: &str) -> Result<(), Fail> {
+    /// Does what each line says, and tells what comes of it.
+    fn goes_as(&mut self, rt: &impl Abort, alloc: Global, lines: &str) -> Result<(), AllocError> {
         for line in lines.lines() {
             self.goes_on(rt, alloc, line)?;
         }
-        ends_as(rt, alloc, &self.told, lines)
+        Ok(())
     }
 
     /// Does what a line says, where it says what is done.
-    fn goes_on(&mut self, rt: &impl Abort, alloc: Global, line: &str) -> Result<(), Fail> {
+    fn goes_on(&mut self, rt: &impl Abort, alloc: Global, line: &str) -> Result<(), AllocError> {
         if let Some(bytes) = line.strip_prefix("send ") {
             self.tells(line)?;
             self.hears(rt, alloc, &printed(rt, bytes))
@@ -95,7 +90,7 @@ impl Play {
     }
 
     /// Hears a frame. Both responders answer the same.
-    fn hears(&mut self, rt: &impl Abort, alloc: Global, heard: &Wire) -> Result<(), Fail> {
+    fn hears(&mut self, rt: &impl Abort, alloc: Global, heard: &Wire) -> Result<(), AllocError> {
         let (reply, job) = self.responder.step(heard.as_slice());
         let mut wire = Wire::new();
         let stepped = self.other.step_into(heard.as_slice(), &mut wire);
@@ -117,7 +112,7 @@ impl Play {
         alloc: Global,
         stepped: Stepped,
         wire: &Wire,
-    ) -> Result<(), Fail> {
+    ) -> Result<(), AllocError> {
         if stepped.replied {
             self.tells_reply(alloc, wire)?;
         } else {
@@ -136,7 +131,7 @@ impl Play {
         alloc: Global,
         started: Started,
         wire: &Wire,
-    ) -> Result<(), Fail> {
+    ) -> Result<(), AllocError> {
         if let Some(carried) = wire.as_slice().get(24..26) {
             assert_eq!(rt; carried, started.estimate.to_be_bytes().as_slice());
         }
@@ -157,8 +152,8 @@ impl Play {
     }
 
     /// Takes a report. One that is astray comes back as it is, and nothing waits or ends by it.
-    fn takes(&mut self, rt: &impl Abort, report: &str) -> Result<(), Fail> {
-        let report = self.report_in(report)?;
+    fn takes(&mut self, rt: &impl Abort, report: &str) -> Result<(), AllocError> {
+        let report = self.report_in(report).expect(rt, "a report");
         let counts = (self.responder.waiting(), self.responder.outstanding());
         let is_other_astray = self.other.arrive(report).is_err();
         let (is_astray, told) = match self.responder.arrive(report) {
@@ -177,7 +172,7 @@ impl Play {
     }
 
     /// Puts a line at the end, if there is something to tell.
-    fn tells_of(&mut self, told: &str) -> Result<(), Fail> {
+    fn tells_of(&mut self, told: &str) -> Result<(), AllocError> {
         if !told.is_empty() {
             self.tells(told)?;
         }
@@ -185,8 +180,8 @@ impl Play {
     }
 
     /// Takes a change. One for which there is no room comes back as it is.
-    fn changes(&mut self, rt: &impl Abort, text: &str) -> Result<(), Fail> {
-        let change = change_in(rt, text)?;
+    fn changes(&mut self, rt: &impl Abort, text: &str) -> Result<(), AllocError> {
+        let change = change_in(rt, text).expect(rt, "a change");
         let has_room = self.responder.room();
         assert_eq!(rt; self.other.change(change).is_ok(), has_room, "{change:?}");
         let (is_taken, told) = match self.responder.change(change) {
@@ -200,84 +195,70 @@ impl Play {
         self.tells_of(told)
     }
 
-    /// The report that words say.
-    fn report_in(&self, text: &str) -> Result<Report, Fail> {
-        let (at, said) = text.split_once(' ').ok_or("which job, and a report")?;
-        let (number, outcome) = said.split_once(' ').ok_or("a number and an outcome")?;
-        let started = self
-            .jobs
-            .get(decimal(at)? as usize)
-            .ok_or("a job of the run")?;
+    /// The report that words say: which job, a number and an outcome.
+    fn report_in(&self, text: &str) -> Option<Report> {
+        let (at, said) = text.split_once(' ')?;
+        let (number, outcome) = said.split_once(' ')?;
+        let started = self.jobs.get(decimal(at)? as usize)?;
         let number = decimal(number)?;
         let outcome = outcome_in(outcome)?;
         let job = Job { number, ..*started };
-        Ok(Report { job, outcome })
+        Some(Report { job, outcome })
     }
 }
 
 /// The change that words say: a number in decimal digits, or a label in hexadecimal ones.
-fn change_in(rt: &impl Abort, text: &str) -> Result<Change, Fail> {
-    let (kind, value) = text.split_once(' ').ok_or("what is changed, and a value")?;
-    match kind {
-        "start" => {
-            let address = value.parse::<u16>().ok();
-            Ok(Change::Start(address.ok_or("an address")?))
-        }
-        "personality" => {
-            let number = value.parse::<u8>().ok();
-            Ok(Change::Personality(number.ok_or("a number")?))
-        }
-        "label" => {
+fn change_in(rt: &impl Abort, text: &str) -> Option<Change> {
+    match text.split_once(' ')? {
+        ("start", value) => Some(Change::Start(value.parse::<u16>().ok()?)),
+        ("personality", value) => Some(Change::Personality(value.parse::<u8>().ok()?)),
+        ("label", value) => {
             let plate = Plate::new(printed(rt, value).as_slice());
-            Ok(Change::Label(plate.ok_or("a short label")?))
+            Some(Change::Label(plate?))
         }
-        _ => Err("no such change".into()),
+        _ => None,
     }
 }
 
 /// The outcome that words say.
-fn outcome_in(text: &str) -> Result<Outcome, Fail> {
+fn outcome_in(text: &str) -> Option<Outcome> {
     match text.split_once(' ') {
-        None if text == "done" => Ok(Outcome::Done),
-        Some(("reading", value)) => {
-            let value = value.parse::<i16>().ok();
-            Ok(Outcome::Reading(value.ok_or("a reading")?))
-        }
+        None if text == "done" => Some(Outcome::Done),
+        Some(("reading", value)) => Some(Outcome::Reading(value.parse::<i16>().ok()?)),
         Some(("failed", status)) => failed_in(status),
-        _ => Err("no such outcome".into()),
+        _ => None,
     }
 }
 
 /// A failure: the code of its severity, the number of its status message, and two values.
-fn failed_in(text: &str) -> Result<Outcome, Fail> {
+fn failed_in(text: &str) -> Option<Outcome> {
     let mut words = text.split_whitespace();
-    Ok(Outcome::Failed {
-        severity: severity_in(words.next())?,
-        id: word_in(words.next())?,
-        v1: word_in(words.next())?,
-        v2: word_in(words.next())?,
+    Some(Outcome::Failed {
+        severity: severity_in(words.next()?)?,
+        id: word_in(words.next()?)?,
+        v1: word_in(words.next()?)?,
+        v2: word_in(words.next()?)?,
     })
 }
 
 /// The number that decimal digits print.
-fn decimal(digits: &str) -> Result<u32, Fail> {
-    Ok(digits.parse::<u32>().ok().ok_or("a number")?)
+fn decimal(digits: &str) -> Option<u32> {
+    digits.parse::<u32>().ok()
 }
 
 /// The severity of this code (E1.20 table A-4).
-fn severity_in(word: Option<&str>) -> Result<Severity, Fail> {
+fn severity_in(word: &str) -> Option<Severity> {
     match word {
-        Some("02") => Ok(Severity::Advisory),
-        Some("03") => Ok(Severity::Warning),
-        Some("04") => Ok(Severity::Error),
-        _ => Err("no such severity".into()),
+        "02" => Some(Severity::Advisory),
+        "03" => Some(Severity::Warning),
+        "04" => Some(Severity::Error),
+        _ => None,
     }
 }
 
 /// The number that hexadecimal digits print.
-fn word_in(word: Option<&str>) -> Result<u16, Fail> {
-    let number = word.and_then(|digits| u16::from_str_radix(digits, 16).ok());
-    Ok(number.ok_or("four digits")?)
+fn word_in(digits: &str) -> Option<u16> {
+    u16::from_str_radix(digits, 16).ok()
 }
 
 /// The text without its blanks.

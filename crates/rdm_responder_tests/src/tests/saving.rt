@@ -5,7 +5,6 @@ use rdm_params::{RestoreError, SaveError, Verdict};
 use rdm_responder::Responder;
 use std::alloc::Global;
 use std::process::Abort;
-use std::test::Fail;
 
 /// The image of the demo fixture with one sub-device.
 const IMAGE: usize = 132;
@@ -18,18 +17,23 @@ fn shows(rt: &impl Abort, responder: &Responder, pid: u16, expected: &[u8]) {
     }
 }
 
+/// A value of the root is placed.
+fn places(rt: &impl Abort, responder: &mut Responder, pid: u16, bytes: &[u8]) {
+    assert_eq!(rt; responder.place(0, pid, bytes), Ok(()), "{pid:04X}");
+}
+
 /// A responder with this start address, this number of power cycles, a label, and a mode of the maker's, which no SET may ask for.
 fn place_all(rt: &impl Abort, responder: &mut Responder, start: u8, cycles: &[u8]) {
-    assert_eq!(rt; responder.place(0, 0x00F0, &[0, start]), Ok(()));
-    assert_eq!(rt; responder.place(0, 0x0405, cycles), Ok(()));
-    assert_eq!(rt; responder.place(0, 0x0082, &[0x46, 0x4F, 0x48]), Ok(()));
-    assert_eq!(rt; responder.place(0, 0x0404, &[0x80]), Ok(()));
+    places(rt, responder, 0x00F0, &[0, start]);
+    places(rt, responder, 0x0405, cycles);
+    places(rt, responder, 0x0082, &[0x46, 0x4F, 0x48]);
+    places(rt, responder, 0x0404, &[0x80]);
 }
 
 /// A list that is too short stays as it was, and of one that is longer the rest does.
 #[test]
-fn an_image_has_its_length(rt: HostRuntime) -> Result<(), Fail> {
-    let responder = responder_with(rt.alloc(), 1, 1)?;
+fn an_image_has_its_length(rt: HostRuntime) {
+    let responder = responder_with(&rt, rt.alloc(), 1, 1);
     assert_eq!(rt; responder.saved_len(), IMAGE);
     let mut short = [0xEE; IMAGE - 1];
     assert_eq!(rt; responder.save_into(&mut short), Err(SaveError::Short));
@@ -37,49 +41,53 @@ fn an_image_has_its_length(rt: HostRuntime) -> Result<(), Fail> {
     let mut long = [0xEE; IMAGE + 1];
     assert_eq!(rt; responder.save_into(&mut long), Ok(IMAGE));
     assert_eq!(rt; long[IMAGE], 0xEE);
-    Ok(())
 }
+
+/// What the root shows then.
+const RESTORED: &[(u16, &[u8])] = &[
+    (0x00F0, &[0, 101]),
+    (0x0405, &[0, 0, 0, 42]),
+    (0x0082, &[0x46, 0x4F, 0x48]),
+    (0x00E0, &[1, 2]),
+    (0x0404, &[0x80]),
+    (0x1000, &[1]),
+];
 
 /// The values that last are back, with one more power cycle; what identifies itself goes on, and what waits stays.
 #[test]
-fn what_was_saved_is_restored(rt: HostRuntime) -> Result<(), Fail> {
-    let identify = request(DEVICE, 0, SET, 0x1000, &[1])?;
-    let image = saved_image(&rt, rt.alloc())?;
-    let mut restored = responder_with(rt.alloc(), 1, 1)?;
+fn what_was_saved_is_restored(rt: HostRuntime) {
+    let identify = request(&rt, DEVICE, 0, SET, 0x1000, &[1]);
+    let image = saved_image(&rt, rt.alloc());
+    let mut restored = responder_with(&rt, rt.alloc(), 1, 1);
     assert!(rt; restored.step(identify.as_slice()).0.is_some());
     assert!(rt; restored.change(rdm_params::Change::Personality(2)).is_ok());
     assert_eq!(rt; restored.restore(&image), Ok(()));
-    shows(&rt, &restored, 0x00F0, &[0, 101]);
-    shows(&rt, &restored, 0x0405, &[0, 0, 0, 42]);
-    shows(&rt, &restored, 0x0082, &[0x46, 0x4F, 0x48]);
-    shows(&rt, &restored, 0x00E0, &[1, 2]);
-    shows(&rt, &restored, 0x0404, &[0x80]);
-    shows(&rt, &restored, 0x1000, &[1]);
+    for (pid, expected) in RESTORED {
+        shows(&rt, &restored, *pid, expected);
+    }
     assert_eq!(rt; restored.waiting(), 1);
-    Ok(())
 }
 
 /// What is saved of a responder that was switched on 41 times.
-fn saved_image(rt: &impl Abort, alloc: Global) -> Result<[u8; IMAGE], Fail> {
-    let mut saved = responder_with(alloc, 1, 1)?;
+fn saved_image(rt: &impl Abort, alloc: Global) -> [u8; IMAGE] {
+    let mut saved = responder_with(rt, alloc, 1, 1);
     let mut image = [0; IMAGE];
     place_all(rt, &mut saved, 101, &[0, 0, 0, 41]);
     assert_eq!(rt; saved.save_into(&mut image), Ok(IMAGE));
-    Ok(image)
+    image
 }
 
 /// Each restart counts one more, until the count is full.
 #[test]
-fn a_restart_is_one_more_power_cycle(rt: HostRuntime) -> Result<(), Fail> {
-    for (before, after) in &POWER_CYCLES {
-        let mut responder = responder_with(rt.alloc(), 1, 1)?;
+fn a_restart_is_one_more_power_cycle(rt: HostRuntime) {
+    for (before, after) in POWER_CYCLES {
+        let mut responder = responder_with(&rt, rt.alloc(), 1, 1);
         restarts(&rt, &mut responder, before, after);
     }
-    Ok(())
 }
 
 /// The numbers of power cycles before a restart, and after it.
-const POWER_CYCLES: [([u8; 4], [u8; 4]); 4] = [
+const POWER_CYCLES: &[([u8; 4], [u8; 4])] = &[
     ([0, 0, 0, 0], [0, 0, 0, 1]),
     ([0, 0, 0, 0xFF], [0, 0, 1, 0]),
     ([0xFF, 0xFF, 0xFF, 0xFE], [0xFF, 0xFF, 0xFF, 0xFF]),
@@ -97,10 +105,10 @@ fn restarts(rt: &impl Abort, responder: &mut Responder, before: &[u8], after: &[
 
 /// An image that is cut, altered or of another fixture is refused, and the values stay.
 #[test]
-fn no_other_image_is_restored(rt: HostRuntime) -> Result<(), Fail> {
-    let get = request(DEVICE, 0, GET, 0x0405, &[])?;
-    let image = saved_image(&rt, rt.alloc())?;
-    let mut responder = responder_with(rt.alloc(), 1, 1)?;
+fn no_other_image_is_restored(rt: HostRuntime) {
+    let get = request(&rt, DEVICE, 0, GET, 0x0405, &[]);
+    let image = saved_image(&rt, rt.alloc());
+    let mut responder = responder_with(&rt, rt.alloc(), 1, 1);
     place_all(&rt, &mut responder, 7, &[0, 0, 0, 9]);
     refuses_fronts(&rt, &mut responder, &image);
     refuses_altered(&rt, &mut responder, &image);
@@ -108,7 +116,6 @@ fn no_other_image_is_restored(rt: HostRuntime) -> Result<(), Fail> {
     shows(&rt, &responder, 0x00F0, &[0, 7]);
     shows(&rt, &responder, 0x0405, &[0, 0, 0, 9]);
     assert!(rt; responder.step(get.as_slice()).0.is_some());
-    Ok(())
 }
 
 /// An image that is cut anywhere is refused.

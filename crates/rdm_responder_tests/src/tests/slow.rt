@@ -26,13 +26,13 @@ fn failed(severity: Severity, v1: u16) -> Outcome {
 }
 
 /// SET LAMP_STATE 1.
-fn lamp(tn: u8) -> Result<Wire, Fail> {
-    request(DEVICE, tn, SET, LAMP_STATE, &[1])
+fn lamp(rt: &impl Abort, tn: u8) -> Wire {
+    request(rt, DEVICE, tn, SET, LAMP_STATE, &[1])
 }
 
 /// The reply to the controller with so many messages waiting, that carries these slots of status entries.
-fn status_reply(tn: u8, count: u8, slots: &[u8]) -> Result<Wire, Fail> {
-    Ok(encode(&Frame {
+fn status_reply(rt: &impl Abort, tn: u8, count: u8, slots: &[u8]) -> Wire {
+    encode(&Frame {
         dst: CONTROLLER,
         src: DEVICE,
         tn,
@@ -41,20 +41,19 @@ fn status_reply(tn: u8, count: u8, slots: &[u8]) -> Result<Wire, Fail> {
         sub: 0,
         class: 0x21,
         pid: STATUS_MESSAGES,
-        body: Body::from_slice(slots).ok_or("slots of a frame")?,
-    }))
+        body: Body::from_slice(slots).expect(rt, "slots of a frame"),
+    })
 }
 
 /// The job that starts where a responder hears these bytes.
-fn started(responder: &mut Responder, heard: &Wire) -> Result<Job, Fail> {
+fn started(rt: &impl Abort, responder: &mut Responder, heard: &Wire) -> Job {
     let (_, job) = responder.step(heard.as_slice());
-    Ok(job.ok_or("a job")?)
+    job.expect(rt, "a job")
 }
 
 /// Reports on a job, which may arrive.
-fn ends(responder: &mut Responder, job: Job, outcome: Outcome) -> Result<(), Fail> {
-    responder.arrive(Report { job, outcome })?;
-    Ok(())
+fn ends(rt: &impl Abort, responder: &mut Responder, job: Job, outcome: Outcome) {
+    assert!(rt; responder.arrive(Report { job, outcome }).is_ok());
 }
 
 /// A responder hears bytes, gives this reply, and starts no job.
@@ -64,17 +63,16 @@ fn answers(rt: &impl Abort, responder: &mut Responder, heard: &Wire, reply: Wire
 }
 
 /// 27 lamps fail to strike, the first of them by an advisory.
-fn lamps_fail(responder: &mut Responder) -> Result<(), Fail> {
+fn lamps_fail(rt: &impl Abort, responder: &mut Responder) {
     for number in 0..27u8 {
-        let job = started(responder, &lamp(number)?)?;
+        let job = started(rt, responder, &lamp(rt, number));
         let severity = if number == 0 {
             Severity::Advisory
         } else {
             Severity::Error
         };
-        ends(responder, job, failed(severity, u16::from(number)))?;
+        ends(rt, responder, job, failed(severity, u16::from(number)));
     }
-    Ok(())
 }
 
 /// The slots of the entries 1 to 25.
@@ -96,34 +94,23 @@ struct Asked {
 }
 
 /// What is asked is answered by these slots of status entries.
-fn shows(
-    rt: &impl Abort,
-    responder: &mut Responder,
-    asked: Asked,
-    slots: &[u8],
-) -> Result<(), Fail> {
+fn shows(rt: &impl Abort, responder: &mut Responder, asked: Asked, slots: &[u8]) {
     let Asked {
         tn,
         pid,
         status_type,
         count,
     } = asked;
-    let heard = request(DEVICE, tn, GET, pid, &[status_type])?;
-    answers(rt, responder, &heard, status_reply(tn, count, slots)?);
-    Ok(())
+    let heard = request(rt, DEVICE, tn, GET, pid, &[status_type]);
+    answers(rt, responder, &heard, status_reply(rt, tn, count, slots));
 }
 
 /// The first entries are shown, and again as the last message; then the rest, and then nothing, while 27 messages wait.
-fn shows_25_at_once(
-    rt: &impl Abort,
-    responder: &mut Responder,
-    shown: &[u8],
-    rest: &[u8],
-) -> Result<(), Fail> {
-    shows(rt, responder, while_27_wait(27, STATUS_MESSAGES, 4), shown)?;
-    shows(rt, responder, while_27_wait(28, QUEUED_MESSAGE, 1), shown)?;
-    shows(rt, responder, while_27_wait(29, STATUS_MESSAGES, 2), rest)?;
-    shows(rt, responder, while_27_wait(30, STATUS_MESSAGES, 2), &[])
+fn shows_25_at_once(rt: &impl Abort, responder: &mut Responder, shown: &[u8], rest: &[u8]) {
+    shows(rt, responder, while_27_wait(27, STATUS_MESSAGES, 4), shown);
+    shows(rt, responder, while_27_wait(28, QUEUED_MESSAGE, 1), shown);
+    shows(rt, responder, while_27_wait(29, STATUS_MESSAGES, 2), rest);
+    shows(rt, responder, while_27_wait(30, STATUS_MESSAGES, 2), &[]);
 }
 
 /// A GET while 27 messages wait.
@@ -137,59 +124,53 @@ fn while_27_wait(tn: u8, pid: u16, status_type: u8) -> Asked {
 }
 
 #[test]
-fn a_status_message_shows_25_entries_once(rt: HostRuntime) -> Result<(), Fail> {
-    let mut responder = responder_with(rt.alloc(), 0, 27)?;
-    lamps_fail(&mut responder)?;
-    let shown = first_shown(rt.alloc())?;
+fn a_status_message_shows_25_entries_once(rt: HostRuntime) {
+    let mut responder = responder_with(&rt, rt.alloc(), 0, 27);
+    lamps_fail(&rt, &mut responder);
+    let shown = first_shown(rt.alloc()).expect(&rt, "memory");
     let rest = printed(&rt, "0000 02 8001 0000 0000 0000 04 8001 001A 0000");
-    shows_25_at_once(&rt, &mut responder, &shown, rest.as_slice())
+    shows_25_at_once(&rt, &mut responder, &shown, rest.as_slice());
 }
 
 /// A lamp fails to strike, and its entry is kept or not.
-fn fails(rt: &impl Abort, responder: &mut Responder, tn: u8, kept: bool) -> Result<(), Fail> {
-    let job = started(responder, &lamp(tn)?)?;
+fn fails(rt: &impl Abort, responder: &mut Responder, tn: u8, kept: bool) {
+    let job = started(rt, responder, &lamp(rt, tn));
     let outcome = failed(Severity::Error, u16::from(tn));
-    let arrival = responder.arrive(Report { job, outcome })?;
+    let arrival = responder.arrive(Report { job, outcome });
+    let arrival = arrival.expect(rt, "a report that may arrive");
     assert_eq!(rt; arrival.kept, kept, "{tn}");
-    Ok(())
 }
 
 /// A request for status messages of errors is answered by these, while so many messages wait.
-fn shows_errors(
-    rt: &impl Abort,
-    responder: &mut Responder,
-    tn: u8,
-    count: u8,
-    shown: &str,
-) -> Result<(), Fail> {
+fn shows_errors(rt: &impl Abort, responder: &mut Responder, tn: u8, count: u8, shown: &str) {
     let asked = Asked {
         tn,
         pid: STATUS_MESSAGES,
         status_type: 4,
         count,
     };
-    shows(rt, responder, asked, printed(rt, shown).as_slice())
+    shows(rt, responder, asked, printed(rt, shown).as_slice());
 }
 
 /// Of three entries the first two are kept and shown, while three messages wait. Then there is room again.
-fn keeps_two(rt: &impl Abort, responder: &mut Responder) -> Result<(), Fail> {
-    fails(rt, responder, 0, true)?;
-    fails(rt, responder, 1, true)?;
-    fails(rt, responder, 2, false)?;
+fn keeps_two(rt: &impl Abort, responder: &mut Responder) {
+    fails(rt, responder, 0, true);
+    fails(rt, responder, 1, true);
+    fails(rt, responder, 2, false);
     let shown = "0000 04 8001 0000 0000 0000 04 8001 0001 0000";
-    shows_errors(rt, responder, 3, 3, shown)?;
-    fails(rt, responder, 4, true)?;
-    shows_errors(rt, responder, 5, 4, "0000 04 8001 0004 0000")
+    shows_errors(rt, responder, 3, 3, shown);
+    fails(rt, responder, 4, true);
+    shows_errors(rt, responder, 5, 4, "0000 04 8001 0004 0000");
 }
 
 #[test]
-fn a_list_of_2_entries_drops_that_of_the_third_failure(rt: HostRuntime) -> Result<(), Fail> {
-    let mut responder = Responder::with_entries(rt.alloc(), DEVICE, Profile::demo(0), 8, 2)?;
-    keeps_two(&rt, &mut responder)
+fn a_list_of_2_entries_drops_that_of_the_third_failure(rt: HostRuntime) {
+    let made = Responder::with_entries(rt.alloc(), DEVICE, Profile::demo(0), 8, 2);
+    keeps_two(&rt, &mut made.expect(&rt, "a good size"));
 }
 
 /// IDENTIFY_DEVICE, and QUEUED_MESSAGE twice, while 256 messages wait at first.
-const COUNTED: [(&str, &str); 3] = [
+const COUNTED: &[(&str, &str)] = &[
     (
         "CC0118 7FF000000001 7FF000000002 00 01 00 0000 20 1000 00 03F7",
         "CC0119 7FF000000002 7FF000000001 00 00 FF 0000 21 1000 01 00 04F8",
@@ -205,30 +186,22 @@ const COUNTED: [(&str, &str); 3] = [
 ];
 
 /// So many jobs start and are done, with the numbers from 0 on.
-fn does_jobs(
-    rt: &impl Abort,
-    responder: &mut Responder,
-    set: &Wire,
-    count: u32,
-) -> Result<(), Fail> {
+fn does_jobs(rt: &impl Abort, responder: &mut Responder, set: &Wire, count: u32) {
     for number in 0..count {
-        let job = started(responder, set)?;
+        let job = started(rt, responder, set);
         assert_eq!(rt; job.number, number);
-        ends(responder, job, Outcome::Done)?;
+        ends(rt, responder, job, Outcome::Done);
     }
-    Ok(())
 }
 
 #[test]
-fn more_than_255_messages_count_as_255(rt: HostRuntime) -> Result<(), Fail> {
-    let set = lamp(0)?;
-    let mut responder = responder_with(rt.alloc(), 0, 300)?;
-    does_jobs(&rt, &mut responder, &set, 256)?;
-    for (frame, reply) in &COUNTED {
+fn more_than_255_messages_count_as_255(rt: HostRuntime) {
+    let mut responder = responder_with(&rt, rt.alloc(), 0, 300);
+    does_jobs(&rt, &mut responder, &lamp(&rt, 0), 256);
+    for (frame, reply) in COUNTED {
         let heard = printed(&rt, frame);
         answers(&rt, &mut responder, &heard, printed(&rt, reply));
     }
-    Ok(())
 }
 
 /// What is answered to SET LAMP_STATE while 254 messages wait and a job is outstanding, and then, with 255, to
@@ -240,75 +213,72 @@ const ALL_WAIT: &str = "CC0119 7FF000000002 7FF000000001 00 00 FF 0000 21 1000 0
 const ONE_LESS: &str = "CC0118 7FF000000002 7FF000000001 01 00 FE 0000 31 0403 00 04FD";
 
 #[test]
-fn a_queue_of_255_is_used_up_to_its_end(rt: HostRuntime) -> Result<(), Fail> {
-    let set = lamp(0)?;
-    let mut responder = responder_with(rt.alloc(), 0, 255)?;
-    does_jobs(&rt, &mut responder, &set, 254)?;
-    uses_last_place(&rt, &mut responder, &set)?;
-    tells_how_many_wait(&rt, &mut responder)
+fn a_queue_of_255_is_used_up_to_its_end(rt: HostRuntime) {
+    let set = lamp(&rt, 0);
+    let mut responder = responder_with(&rt, rt.alloc(), 0, 255);
+    does_jobs(&rt, &mut responder, &set, 254);
+    uses_last_place(&rt, &mut responder, &set);
+    tells_how_many_wait(&rt, &mut responder);
 }
 
 /// The last place is for a job that is outstanding, and then for its message.
-fn uses_last_place(rt: &impl Abort, responder: &mut Responder, set: &Wire) -> Result<(), Fail> {
-    let last = started(responder, set)?;
+fn uses_last_place(rt: &impl Abort, responder: &mut Responder, set: &Wire) {
+    let last = started(rt, responder, set);
     assert_eq!(rt; (responder.waiting(), responder.outstanding()), (254, 1));
     answers(rt, responder, set, printed(rt, NO_PLACE));
-    ends(responder, last, Outcome::Done)
+    ends(rt, responder, last, Outcome::Done);
 }
 
 /// All messages wait, and after one was collected one less.
-fn tells_how_many_wait(rt: &impl Abort, responder: &mut Responder) -> Result<(), Fail> {
-    let identify = request(DEVICE, 0, GET, IDENTIFY_DEVICE, &[])?;
+fn tells_how_many_wait(rt: &impl Abort, responder: &mut Responder) {
+    let identify = request(rt, DEVICE, 0, GET, IDENTIFY_DEVICE, &[]);
     answers(rt, responder, &identify, printed(rt, ALL_WAIT));
-    let collect = request(DEVICE, 1, GET, QUEUED_MESSAGE, &[2])?;
+    let collect = request(rt, DEVICE, 1, GET, QUEUED_MESSAGE, &[2]);
     answers(rt, responder, &collect, printed(rt, ONE_LESS));
-    Ok(())
 }
 
 /// A responder whose jobs are numbered from this number on.
-fn numbered_from(alloc: Global, first: u32) -> Result<Responder, Fail> {
-    Ok(Responder::new_numbered(alloc, DEVICE, Profile::demo(0), 8, 64, first)?)
+fn numbered_from(rt: &impl Abort, alloc: Global, first: u32) -> Responder {
+    let made = Responder::new_numbered(alloc, DEVICE, Profile::demo(0), 8, 64, first);
+    made.expect(rt, "a good size")
 }
 
 /// The next job of a responder has this number. While it is done, a report on a job of the responder before is astray.
-fn does(rt: &impl Abort, responder: &mut Responder, number: u32, before: Job) -> Result<(), Fail> {
-    let job = started(responder, &lamp(0)?)?;
+fn does(rt: &impl Abort, responder: &mut Responder, number: u32, before: Job) {
+    let job = started(rt, responder, &lamp(rt, 0));
     assert_eq!(rt; job.number, number);
     let late = Report {
         job: before,
         outcome: Outcome::Done,
     };
     assert!(rt; responder.arrive(late).is_err(), "{number}");
-    ends(responder, job, Outcome::Done)
+    ends(rt, responder, job, Outcome::Done);
 }
 
 /// The first job of a responder that counts from 7 on.
-fn job_7(alloc: Global) -> Result<Job, Fail> {
-    let set = lamp(0)?;
-    let mut responder = numbered_from(alloc, 7)?;
-    started(&mut responder, &set)
+fn job_7(rt: &impl Abort, alloc: Global) -> Job {
+    started(rt, &mut numbered_from(rt, alloc, 7), &lamp(rt, 0))
 }
 
 #[test]
-fn a_report_for_the_responder_before_is_astray(rt: HostRuntime) -> Result<(), Fail> {
-    let before = job_7(rt.alloc())?;
+fn a_report_for_the_responder_before_is_astray(rt: HostRuntime) {
+    let before = job_7(&rt, rt.alloc());
     assert_eq!(rt; before.number, 7);
     for (first, second) in &[(8, 9), (0, 1), (0xFFFF_FFFF, 0)] {
-        let mut responder = numbered_from(rt.alloc(), *first)?;
-        does(&rt, &mut responder, *first, before)?;
-        does(&rt, &mut responder, *second, before)?;
+        let mut responder = numbered_from(&rt, rt.alloc(), *first);
+        does(&rt, &mut responder, *first, before);
+        does(&rt, &mut responder, *second, before);
     }
-    Ok(())
 }
 
 /// The place of a profile is handed on. With the same first number no report can be told from one on a job before.
 #[test]
-fn a_profile_may_have_its_place_already(rt: HostRuntime) -> Result<(), Fail> {
-    let set = lamp(0)?;
-    let profile = Box::new(rt.alloc(), Profile::demo(0))?;
-    let mut responder = Responder::new_boxed(rt.alloc(), DEVICE, profile, 8, 64, 7)?;
-    assert_eq!(rt; started(&mut responder, &set)?.number, 7);
-    Ok(())
+fn a_profile_may_have_its_place_already(rt: HostRuntime) {
+    let profile = Box::new(rt.alloc(), Profile::demo(0)).expect(&rt, "memory");
+    let made = Responder::new_boxed(rt.alloc(), DEVICE, profile, 8, 64, 7);
+    let mut responder = made.expect(&rt, "a good size");
+    let job = started(&rt, &mut responder, &lamp(&rt, 0));
+    assert_eq!(rt; job.number, 7);
 }
 
 /// SET LAMP_STATE on, QUEUED_MESSAGE, and what is answered to them: ACK_TIMER with 50 tenths of a second, and the response

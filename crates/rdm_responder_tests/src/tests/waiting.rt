@@ -3,7 +3,7 @@
 use super::play::Run;
 
 /// Runs that were worked out by hand.
-pub(super) const RUNS: [Run; 7] = [
+pub(super) const RUNS: &[Run] = &[
     // Two equal results wait one after the other.
     (
         0,

@@ -3,10 +3,10 @@
 use super::*;
 use rdm_outbox::Job;
 use rdm_params::{Change, Outcome, Verb, Work};
-use rdm_responder::{Astray, NoRoom, Report};
+use rdm_responder::{Astray, NewError, NoRoom, Report};
 
 /// Why there is no responder, and the words for it.
-const NEW_ERRORS: [(NewError, &str); 4] = [
+const NEW_ERRORS: &[(NewError, &str)] = &[
     (NewError::OutOfMemory, "out of memory"),
     (NewError::BadProfile, "bad profile"),
     (NewError::BadSize, "bad queue size"),
@@ -35,15 +35,11 @@ const NO_ROOM: NoRoom = NoRoom {
 };
 
 #[test]
-fn errors_say_what_is_wrong(rt: HostRuntime) -> Result<(), Fail> {
-    for (error, words) in &NEW_ERRORS {
-        assert_eq!(rt;
-            format!(in rt.alloc(); "{error}")?.as_str(),
-            *words,
-            "{error:?}"
-        );
+fn errors_say_what_is_wrong(rt: HostRuntime) {
+    for (error, words) in NEW_ERRORS {
+        let said = format!(in rt.alloc(); "{error}").expect(&rt, "memory");
+        assert_eq!(rt; said.as_str(), *words);
     }
-    assert_eq!(rt; format!(in rt.alloc(); "{ASTRAY}")?.as_str(), "astray");
-    assert_eq!(rt; format!(in rt.alloc(); "{NO_ROOM}")?.as_str(), "no room");
-    Ok(())
+    let said = format!(in rt.alloc(); "{ASTRAY}, {NO_ROOM}").expect(&rt, "memory");
+    assert_eq!(rt; said.as_str(), "astray, no room");
 }

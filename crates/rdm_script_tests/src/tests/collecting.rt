@@ -4,7 +4,7 @@ use rdm_crew::RunError;
 use rdm_script::ProgramError;
 
 /// Scripts beside what they print. The frames were worked out by hand from the packet format.
-pub(super) const PLAYED: [(&str, &str); 7] = [
+pub(super) const PLAYED: &[(&str, &str)] = &[
     // The reply to the second poll is altered, so the third asks for the last message again.
     (
         "collect lost-request
@@ -117,7 +117,7 @@ end
 ];
 
 /// Scripts that can't be played to their end, and why.
-pub(super) const STOPPED: [(&str, ProgramError); 6] = [
+pub(super) const STOPPED: &[(&str, ProgramError)] = &[
     ("setup 0 0 advisory", BAD_SETUP),
     ("setup 0 1025 advisory", BAD_SETUP),
     ("setup 513 8 advisory", BAD_SETUP),

@@ -5,12 +5,12 @@ use rdm_script::{ProgramError, ScriptError, report, run_program};
 use std::alloc::Global;
 use std::io;
 use std::io::Read;
-use std::process::ExitCode;
+use std::process::{Abort, ExitCode};
 use std::sync::Wait;
 use std::thread::Threads;
 
 /// Each error, the status of a program that ends so, and its line.
-const ENDINGS: [(ProgramError, u8, &str); 11] = [
+const ENDINGS: &[(ProgramError, u8, &str)] = &[
     (
         ProgramError::Script(ScriptError::Line(12)),
         1,
@@ -59,9 +59,9 @@ const ENDINGS: [(ProgramError, u8, &str); 11] = [
 #[test]
 fn tells_each_error(rt: HostRuntime) {
     for (error, status, line) in ENDINGS {
-        let (code, errors) = reported(rt.alloc(), error);
-        assert_eq!(rt; code, ExitCode::from(status), "{line}");
-        assert_eq!(rt; errors.as_slice(), line.as_bytes());
+        let (code, errors) = reported(rt.alloc(), *error);
+        let told = (code, errors.as_slice());
+        assert_eq!(rt; told, (ExitCode::from(*status), line.as_bytes()));
     }
 }
 
@@ -76,8 +76,11 @@ fn reported(alloc: Global, error: ProgramError) -> (ExitCode, Vec<u8>) {
 fn tells_want_of_memory(rt: HostRuntime) {
     let mut errors = Vec::new(rt.alloc());
     let code = report(&mut errors, take_too_much(rt.alloc()));
-    assert_eq!(rt; code, ExitCode::from(2));
-    assert_eq!(rt; errors.as_slice(), b"error: out of memory\n".as_slice());
+    let told = (code, errors.as_slice());
+    assert_eq!(rt;
+        told,
+        (ExitCode::from(2), b"error: out of memory\n".as_slice())
+    );
 }
 
 /// Asks for more memory than there is.
@@ -87,7 +90,7 @@ fn take_too_much(alloc: Global) -> Result<(), ProgramError> {
 }
 
 /// A script that isn't played, the status of a program that reads it, and its line.
-const STOPPED: [(&str, u8, &str); 2] = [
+const STOPPED: &[(&str, u8, &str)] = &[
     ("get dev 0000 1000 -\nfoo\n", 1, "error: line 2\n"),
     ("get dev 0000 0020 02\n", 3, "error: run reserved\n"),
 ];
@@ -95,11 +98,7 @@ const STOPPED: [(&str, u8, &str); 2] = [
 #[test]
 fn tells_why_a_script_isnt_played(rt: HostRuntime) {
     for (script, status, line) in STOPPED {
-        let mut reader = script.as_bytes();
-        let (code, written, errors) = ended(rt, rt.alloc(), &mut reader);
-        assert_eq!(rt; code, ExitCode::from(status), "{line}");
-        assert!(rt; written.is_empty(), "{line}");
-        assert_eq!(rt; errors.as_slice(), line.as_bytes());
+        ends_so(rt, rt.alloc(), &mut script.as_bytes(), *status, line);
     }
 }
 
@@ -115,19 +114,17 @@ impl Read for Broken {
 
 #[test]
 fn tells_that_nothing_can_be_read(rt: HostRuntime) {
-    let (code, written, errors) = ended(rt, rt.alloc(), &mut Broken);
-    assert_eq!(rt; code, ExitCode::from(4));
-    assert!(rt; written.is_empty());
-    assert_eq!(rt; errors.as_slice(), b"error: read\n".as_slice());
+    ends_so(rt, rt.alloc(), &mut Broken, 4, "error: read\n");
 }
 
-/// The exit status of a program that plays what a reader gives, what it writes, and what it writes of errors.
-fn ended<T, R: Read>(rt: T, alloc: Global, reader: &mut R) -> (ExitCode, Vec<u8>, Vec<u8>)
+/// A program that plays what a reader gives has this exit status, writes nothing, and this line of its error.
+fn ends_so<T, R: Read>(rt: T, alloc: Global, reader: &mut R, status: u8, line: &str)
 where
-    T: Threads + Wait + Copy + Send + 'static,
+    T: Threads + Wait + Abort + Copy + Send + 'static,
 {
     let mut written = Vec::new(alloc);
     let mut errors = Vec::new(alloc);
     let code = run_program(rt, alloc, reader, &mut written, &mut errors);
-    (code, written, errors)
+    let told = (code, written.len(), errors.as_slice());
+    assert_eq!(rt; told, (ExitCode::from(status), 0, line.as_bytes()));
 }

@@ -7,7 +7,7 @@ use rdm_script::{
 };
 use rdm_search::Search;
 use rdm_trace::Line;
-use std::test::Fail;
+use std::process::Abort;
 
 const DEVICE: Uid = Uid {
     maker: 0x7FF0,
@@ -20,7 +20,7 @@ const CONTROLLER: Uid = Uid {
 };
 
 /// Friendly scripts, and their traces. The frames were worked out from the packet format, by another program.
-const TRACES: [(&str, &str); 4] = [
+const TRACES: &[(&str, &str)] = &[
     (
         "find",
         "send CC0118FFFFFFFFFFFF7FF0000000020001000000100003000864
@@ -109,8 +109,8 @@ end
 fn finds_are_told(rt: HostRuntime) {
     for (script, trace) in TRACES {
         let (outcome, written) = played_as(rt, rt.alloc(), Spelling::Friendly, script.as_bytes());
-        assert_eq!(rt; outcome, Ok(()), "{script:?}");
-        assert_eq!(rt; written.as_slice(), trace.as_bytes(), "{script:?}");
+        let told = (outcome, written.as_slice());
+        assert_eq!(rt; told, (Ok(()), trace.as_bytes()), "{script:?}");
     }
 }
 
@@ -120,45 +120,55 @@ fn strict_scripts_find_nobody(rt: HostRuntime) {
     for (script, line) in [("find", 1), ("draw\n# find\nfind\n", 3)] {
         let (outcome, written) = played_as(rt, rt.alloc(), Spelling::Strict, script.as_bytes());
         let faulty = ProgramError::Script(ScriptError::Line(line));
-        assert_eq!(rt; outcome, Err(faulty), "{script:?}");
-        assert!(rt; written.is_empty(), "{script:?}");
+        assert_eq!(rt; (outcome, written.len()), (Err(faulty), 0), "{script:?}");
         assert!(rt; parse(rt.alloc(), script.as_bytes()).is_err(), "{script:?}");
     }
 }
 
 /// All four steps of a search are on its line.
 #[test]
-fn a_search_is_on_one_line(rt: HostRuntime) -> Result<(), Fail> {
+fn a_search_is_on_one_line(rt: HostRuntime) {
     let text = b"setup 0 8 error\n\nfind\ndraw\n#\nfind";
-    let script = parse_as(rt.alloc(), &Dialect::of(DEVICE, Spelling::Friendly), text)?;
+    let script = parse_as(rt.alloc(), &Dialect::of(DEVICE, Spelling::Friendly), text);
+    let script = script.expect(&rt, "a script");
     assert_eq!(rt;
         script.lines.as_slice(),
         [3, 3, 3, 3, 4, 6, 6, 6, 6].as_slice()
     );
-    Ok(())
 }
 
 /// A console's search of a line that has this fixture alone asks what `find` asks, to the byte, and finds whom the trace tells.
 #[test]
-fn a_find_is_a_search(rt: HostRuntime) -> Result<(), Fail> {
-    let lines = play_demonstration(rt, rt.alloc(), Spelling::Friendly, b"find")?;
+fn a_find_is_a_search(rt: HostRuntime) {
+    let lines = play_demonstration(rt, rt.alloc(), Spelling::Friendly, b"find");
+    let lines = lines.expect(&rt, "a run");
     let mut search = Search::new(rt.alloc(), CONTROLLER, 4);
     for line in lines.iter() {
-        match line {
-            Line::Send { bytes, .. } => {
-                let frame = search.next()?.ok_or("it asks no more")?;
-                assert_eq!(rt; bytes.as_slice(), encode(&frame).as_slice());
-            }
-            Line::Reply(Some(reply)) => search.hear(reply.as_slice())?,
-            Line::Reply(None) => search.hear(&[])?,
-            Line::Found(uid) => assert_eq!(rt; *uid, DEVICE),
-            _ => {}
-        }
+        goes_on(&rt, &mut search, line);
     }
-    assert_eq!(rt; search.next()?, None);
-    let [found] = search.found() else {
-        return Err("one fixture".into());
-    };
-    assert_eq!(rt; found.uid, DEVICE);
-    Ok(())
+    asks(&rt, &mut search, None);
+    assert_eq!(rt; search.found().len(), 1);
+    assert!(rt; search.found().iter().all(|found| found.uid == DEVICE));
+}
+
+/// A search asks what a line sends, and hears what it is answered.
+fn goes_on(rt: &impl Abort, search: &mut Search, line: &Line) {
+    match line {
+        Line::Send { bytes, .. } => asks(rt, search, Some(bytes.as_slice())),
+        Line::Reply(Some(reply)) => hears(rt, search, reply.as_slice()),
+        Line::Reply(None) => hears(rt, search, &[]),
+        Line::Found(uid) => assert_eq!(rt; *uid, DEVICE),
+        _ => {}
+    }
+}
+
+/// A search asks this next, or nothing any more.
+fn asks(rt: &impl Abort, search: &mut Search, bytes: Option<&[u8]>) {
+    let next = search.next().expect(rt, "memory");
+    let wire = next.map(|frame| encode(&frame));
+    assert_eq!(rt; wire.as_ref().map(|wire| wire.as_slice()), bytes);
+}
+
+fn hears(rt: &impl Abort, search: &mut Search, bytes: &[u8]) {
+    assert!(rt; search.hear(bytes).is_ok());
 }

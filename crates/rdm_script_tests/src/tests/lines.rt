@@ -1,11 +1,9 @@
 //! Which line says which step.
 
 use rdm_script::parse;
-use std::process::Abort;
-use std::test::Fail;
 
 /// Scripts, the line of the setup of each, and the lines of its steps.
-const ROWS: [(&str, Option<usize>, &[usize]); 9] = [
+const ROWS: &[(&str, Option<usize>, &[usize])] = &[
     ("", None, &[]),
     ("# draw\n\n \t\r\n", None, &[]),
     ("draw", None, &[1]),
@@ -27,11 +25,10 @@ const ROWS: [(&str, Option<usize>, &[usize]); 9] = [
 
 /// Lines are counted from 1, with those that say nothing.
 #[test]
-fn lines(rt: HostRuntime) -> Result<(), Fail> {
+fn lines(rt: HostRuntime) {
     for (text, setup_line, lines) in ROWS {
-        let script = parse(rt.alloc(), text.as_bytes())?;
-        assert_eq!(rt; script.setup_line, setup_line, "{text:?}");
-        assert_eq!(rt; script.lines.as_slice(), lines, "{text:?}");
+        let script = parse(rt.alloc(), text.as_bytes()).expect(&rt, "a script");
+        let told = (script.setup_line, script.lines.as_slice());
+        assert_eq!(rt; told, (*setup_line, *lines), "{text:?}");
     }
-    Ok(())
 }

@@ -5,7 +5,7 @@ use rdm_crew::RunError;
 use rdm_script::{ProgramError, ScriptError};
 
 /// Bytes that aren't UTF-8, in a comment; a comment of 17 words; and a device whose number is 0.
-pub(super) const ODD: [(&[u8], &str); 3] = [
+pub(super) const ODD: &[(&[u8], &str)] = &[
     (b"#\xFF\xFE \xC3\x28\n  #\x80\x00", "end\n"),
     (b"# a b c d e f g h i j k l m n o p", "end\n"),
     (
@@ -23,7 +23,7 @@ const RESERVED: Ends = Ends::Stops(ProgramError::Run(RunError::Reserved));
 const TOO_LONG: Ends = Ends::Stops(ProgramError::Run(RunError::TooLong));
 
 /// Scripts by their beginning, a text that comes next, how many times, and their end; and how they end.
-pub(super) const LONG: [(&str, &str, usize, &str, Ends); 10] = [
+pub(super) const LONG: &[(&str, &str, usize, &str, Ends)] = &[
     // Which refusal comes first, by the number of data bytes.
     ("get dev 0000 1000 ", "a5", 231, "", Ends::Plays),
     ("get dev 0000 1000 ", "a5", 232, "", TOO_LONG),

@@ -4,7 +4,6 @@ use super::traces::prints_event;
 use rdm_bus::Event;
 use rdm_frame::Body;
 use rdm_params::{Change, Message, Plate};
-use std::test::Fail;
 
 /// A change, of which there is a message or not.
 fn event_of(change: Change, told: bool) -> Event {
@@ -21,7 +20,7 @@ fn event_of(change: Change, told: bool) -> Event {
 }
 
 /// Labels, whether there is a message, and the trace.
-const LABELS: [(&[u8], bool, &str); 3] = [
+const LABELS: &[(&[u8], bool, &str)] = &[
     (b"Panel", true, "panel label 50616E656C\nend\n"),
     (b"", true, "panel label -\nend\n"),
     (b"", false, "panel label - refused\nend\n"),
@@ -40,13 +39,17 @@ const CHANGES: [(Change, bool, &str); 4] = [
 ];
 
 #[test]
-fn prints_changes(rt: HostRuntime) -> Result<(), Fail> {
+fn prints_changes(rt: HostRuntime) {
     for (text, told, trace) in LABELS {
-        let label = Plate::new(text).ok_or("at most 32 bytes")?;
-        prints_event(&rt, rt.alloc(), event_of(Change::Label(label), told), trace)?;
+        let label = Plate::new(text).expect(&rt, "at most 32 bytes");
+        prints_event(
+            &rt,
+            rt.alloc(),
+            event_of(Change::Label(label), *told),
+            trace,
+        );
     }
-    for (change, told, trace) in CHANGES {
-        prints_event(&rt, rt.alloc(), event_of(change, told), trace)?;
+    for (change, told, trace) in &CHANGES {
+        prints_event(&rt, rt.alloc(), event_of(*change, *told), trace);
     }
-    Ok(())
 }

@@ -6,7 +6,6 @@ use rdm_frame::{Load, Uid};
 use rdm_script::{Script, ScriptError, ScriptSetup, parse};
 use std::alloc::Global;
 use std::process::Abort;
-use std::test::Fail;
 
 /// The setup of a script.
 fn setup_in(alloc: Global, script: &str) -> Result<ScriptSetup, ScriptError> {
@@ -23,18 +22,18 @@ fn is_faulty(rt: &impl Abort, alloc: Global, script: &str, line: usize) {
 }
 
 /// The only step of a script that has the plain setup.
-fn step_in(rt: &impl Abort, alloc: Global, line: &str) -> Result<CrewStep, Fail> {
+fn step_in(rt: &impl Abort, alloc: Global, line: &str) -> CrewStep {
     let Script {
         setup,
         mut steps,
         ..
-    } = parse(alloc, line.as_bytes())?;
+    } = parse(alloc, line.as_bytes()).expect(rt, "a script");
     assert_eq!(rt; (setup, steps.len()), (ScriptSetup::PLAIN, 1), "{line:?}");
-    Ok(steps.pop().ok_or("a step")?)
+    steps.pop().expect(rt, "a step")
 }
 
 /// Scripts, and the setups that they say: sub-devices, room for results, and what is wanted.
-const SETUPS: [(&str, u16, u16, Want); 12] = [
+const SETUPS: &[(&str, u16, u16, Want)] = &[
     ("", 0, 8, Want::Advisory),
     ("# setup 1 1 error\ncollect\n", 0, 8, Want::Advisory),
     ("setup 0 8 advisory\n", 0, 8, Want::Advisory),
@@ -71,9 +70,9 @@ const SETUPS: [(&str, u16, u16, Want); 12] = [
 fn reads_setups(rt: HostRuntime) {
     for (script, subs, queue_size, want) in SETUPS {
         let setup = ScriptSetup {
-            subs,
-            queue_size,
-            want,
+            subs: *subs,
+            queue_size: *queue_size,
+            want: *want,
         };
         assert_eq!(rt; setup_in(rt.alloc(), script), Ok(setup), "{script:?}");
     }
@@ -90,7 +89,7 @@ fn fault_at(step: &CrewStep) -> (bool, Fault) {
 }
 
 /// Lines, and what goes wrong at the steps that they say.
-const FAULTS: [(&str, Fault); 13] = [
+const FAULTS: &[(&str, Fault)] = &[
     ("collect", Fault::None),
     ("collect lost-request", Fault::LostRequest),
     ("collect lost-reply", Fault::LostReply),
@@ -113,17 +112,16 @@ const FAULTS: [(&str, Fault); 13] = [
 ];
 
 #[test]
-fn reads_what_goes_wrong(rt: HostRuntime) -> Result<(), Fail> {
+fn reads_what_goes_wrong(rt: HostRuntime) {
     for (line, fault) in FAULTS {
-        let step = step_in(&rt, rt.alloc(), line)?;
-        let expected = (line.contains("collect"), fault);
+        let step = step_in(&rt, rt.alloc(), line);
+        let expected = (line.contains("collect"), *fault);
         assert_eq!(rt; fault_at(&step), expected, "{line:?}");
     }
-    Ok(())
 }
 
 /// Lines at which reports arrive or a change happens, and how often a `settle` and a `panel` may find none.
-const ARRIVALS: [(&str, Option<u32>); 9] = [
+const ARRIVALS: &[(&str, Option<u32>)] = &[
     ("draw", None),
     ("\tdraw \t", None),
     ("settle 0", Some(0)),
@@ -146,13 +144,12 @@ fn empties_at(step: &CrewStep) -> Option<(bool, Option<u32>)> {
 }
 
 #[test]
-fn reads_when_reports_arrive(rt: HostRuntime) -> Result<(), Fail> {
+fn reads_when_reports_arrive(rt: HostRuntime) {
     for (line, empties) in ARRIVALS {
-        let step = step_in(&rt, rt.alloc(), line)?;
-        let expected = Some((line.contains("panel"), empties));
+        let step = step_in(&rt, rt.alloc(), line);
+        let expected = Some((line.contains("panel"), *empties));
         assert_eq!(rt; empties_at(&step), expected, "{line:?}");
     }
-    Ok(())
 }
 
 /// Lines that no script has.
@@ -241,7 +238,7 @@ fn refuses_what_just_misses(rt: HostRuntime) {
 }
 
 /// Scripts beside their first faulty line. A setup is a line of a script only where no line before it says anything.
-const COUNTED: [(&str, usize); 6] = [
+const COUNTED: &[(&str, usize)] = &[
     ("collect\nsetup 0 8 advisory\n", 2),
     ("setup 0 8 advisory\nsetup 0 8 advisory", 2),
     (
@@ -256,7 +253,7 @@ const COUNTED: [(&str, usize); 6] = [
 #[test]
 fn names_the_first_faulty_line(rt: HostRuntime) {
     for (script, number) in COUNTED {
-        is_faulty(&rt, rt.alloc(), script, number);
+        is_faulty(&rt, rt.alloc(), script, *number);
     }
 }
 
@@ -264,7 +261,7 @@ fn names_the_first_faulty_line(rt: HostRuntime) {
 const MIXED: &[u8] = b"set aBcD:Ef012345 Fa01 bcDE aBcDEf01 bad-reply 9 9";
 
 #[test]
-fn reads_digits_in_either_case(rt: HostRuntime) -> Result<(), Fail> {
+fn reads_digits_in_either_case(rt: HostRuntime) {
     let expected = Command {
         dst: Uid {
             maker: 0xABCD,
@@ -275,9 +272,8 @@ fn reads_digits_in_either_case(rt: HostRuntime) -> Result<(), Fail> {
         pid: 0xBCDE,
         load: Load::of(&[0xAB, 0xCD, 0xEF, 0x01]),
     };
-    let script = parse(rt.alloc(), MIXED)?;
+    let script = parse(rt.alloc(), MIXED).expect(&rt, "a script");
     assert!(rt;
         matches!(script.steps.as_slice(), [CrewStep::Ask(command, _)] if *command == expected)
     );
-    Ok(())
 }

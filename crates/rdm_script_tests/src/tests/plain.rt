@@ -4,7 +4,7 @@ use super::{FIRST_SCRIPT, FIRST_TRACE};
 use rdm_script::{ProgramError, ScriptError};
 
 /// Scripts beside what they print.
-pub(super) const PLAYED: [(&str, &str); 10] = [
+pub(super) const PLAYED: &[(&str, &str)] = &[
     ("", "end\n"),
     (FIRST_SCRIPT, FIRST_TRACE),
     // A broadcast is obeyed and not answered.
@@ -128,7 +128,7 @@ end
 ];
 
 /// Other ways to write the first script.
-pub(super) const SPELLINGS: [(&str, &str); 7] = [
+pub(super) const SPELLINGS: &[(&str, &str)] = &[
     ("get dev 0000 1000 -", FIRST_TRACE),
     ("get dev 0000 1000 -\r\n", FIRST_TRACE),
     ("\tget\tdev \t 0000\t1000 -\t\n", FIRST_TRACE),
@@ -173,7 +173,7 @@ panel
 ";
 
 /// Scripts beside their first faulty line.
-pub(super) const COUNTED: [(&str, ProgramError); 5] = [
+pub(super) const COUNTED: &[(&str, ProgramError)] = &[
     (
         "get dev 0000 1000 -\rget",
         ProgramError::Script(ScriptError::Line(1)),

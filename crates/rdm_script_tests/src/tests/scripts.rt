@@ -69,29 +69,28 @@ where
 
 #[test]
 fn scripts_end_as_they_should(rt: HostRuntime) {
-    all_print(rt, rt.alloc(), &plain::PLAYED);
-    all_print(rt, rt.alloc(), &collecting::PLAYED);
-    all_print(rt, rt.alloc(), &working::PLAYED);
-    all_print(rt, rt.alloc(), &plain::SPELLINGS);
+    all_print(rt, rt.alloc(), plain::PLAYED);
+    all_print(rt, rt.alloc(), collecting::PLAYED);
+    all_print(rt, rt.alloc(), working::PLAYED);
+    all_print(rt, rt.alloc(), plain::SPELLINGS);
     all_are_faulty(rt, rt.alloc(), plain::FAULTY);
-    all_stop(rt, rt.alloc(), &plain::COUNTED);
-    all_stop(rt, rt.alloc(), &collecting::STOPPED);
+    all_stop(rt, rt.alloc(), plain::COUNTED);
+    all_stop(rt, rt.alloc(), collecting::STOPPED);
 }
 
 #[test]
-fn odd_scripts_end_as_they_should(rt: HostRuntime) -> Result<(), Fail> {
+fn odd_scripts_end_as_they_should(rt: HostRuntime) {
     for (script, trace) in odd::ODD {
         ends_so(rt, rt.alloc(), script, Ends::Prints(trace));
     }
     for (front, text, count, end, ends) in odd::LONG {
-        let script = long(rt.alloc(), front, text, count, end)?;
-        ends_so(rt, rt.alloc(), script.as_bytes(), ends);
+        let script = long(rt.alloc(), front, text, *count, end).expect(&rt, "memory");
+        ends_so(rt, rt.alloc(), script.as_bytes(), *ends);
     }
-    Ok(())
 }
 
 /// A text so many times over, between two others.
-fn long(
+pub(super) fn long(
     alloc: Global,
     front: &str,
     text: &str,

@@ -36,7 +36,7 @@ const SECOND_STRIKE: Rule = Rule {
 };
 
 /// Scripts, and how they end. The frames were worked out by hand from the packet format.
-const STAGED: [(&str, Ends); 8] = [
+const STAGED: &[(&str, Ends)] = &[
     (
         "get dev 0000 1000 -\n",
         Ends::Prints(
@@ -124,7 +124,7 @@ end
 ];
 
 /// UIDs that no fixture of a script may have: the controller's, and a broadcast.
-pub(super) const OTHERS: [Uid; 2] = [
+pub(super) const OTHERS: &[Uid] = &[
     Uid {
         maker: 0x7FF0,
         device: 0x0000_0002,
@@ -168,9 +168,9 @@ where
 #[test]
 fn scripts_play_on_a_fixture_of_ones_own(rt: HostRuntime) {
     for (script, ends) in STAGED {
-        ends_so(rt, rt.alloc(), stage(DEVICE), script, ends);
+        ends_so(rt, rt.alloc(), stage(DEVICE), script, *ends);
     }
     for device in OTHERS {
-        ends_so(rt, rt.alloc(), stage(device), "", BAD_SETUP);
+        ends_so(rt, rt.alloc(), stage(*device), "", BAD_SETUP);
     }
 }

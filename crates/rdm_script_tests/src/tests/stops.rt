@@ -1,6 +1,6 @@
 //! Why a script isn't played to its end, and at which line.
 
-use super::repeated;
+use super::scripts::long;
 use super::staged::{OTHERS, stage};
 use rdm_crew::RunError;
 use rdm_frame::Uid;
@@ -10,11 +10,10 @@ use rdm_script::{
 use std::alloc::{AllocError, Global};
 use std::process::Abort;
 use std::sync::Wait;
-use std::test::Fail;
 use std::thread::Threads;
 
 /// Friendly scripts, and how each stops, if it does.
-const ROWS: [(&str, Option<Unplayed>); 10] = [
+const ROWS: &[(&str, Option<Unplayed>)] = &[
     // The setup comes first, whatever stands behind it.
     (
         "# so\nsetup 600 8 error\nget dev root DEVICE_INFO -\nsettle 3\nget dev root 0030 00\nget dev 0000 0020 01",
@@ -70,23 +69,22 @@ where
 #[test]
 fn stops_are_told_with_their_lines(rt: HostRuntime) {
     for (script, why) in ROWS {
-        assert_eq!(rt; stop_of(rt, rt.alloc(), script), why, "{script:?}");
+        assert_eq!(rt; stop_of(rt, rt.alloc(), script), *why, "{script:?}");
     }
 }
 
 /// The data of the first long command don't fit a frame; those of the second neither, and the last is reserved.
 #[test]
-fn long_data_are_told_with_their_line(rt: HostRuntime) -> Result<(), Fail> {
+fn long_data_are_told_with_their_line(rt: HostRuntime) {
     let front = "draw\n# 232 bytes\nset dev root 8123 ";
-    let mut script = repeated(rt.alloc(), front, "AA", 232)?;
-    script.push_str("\nget dev root 0030 00\n")?;
+    let script = long(rt.alloc(), front, "AA", 232, "\nget dev root 0030 00\n");
     let why = Unplayed::Stopped(RunError::TooLong, Some(3));
+    let script = script.expect(&rt, "memory");
     assert_eq!(rt; stop_of(rt, rt.alloc(), script.as_str()), Some(why));
-    Ok(())
 }
 
 /// A script with a settle that may give up, the line of it, and how the script stops if it doesn't.
-const SETTLES: [(&str, usize, Option<Unplayed>); 3] = [
+const SETTLES: &[(&str, usize, Option<Unplayed>)] = &[
     (
         "# so\nsetup 2 8 error\nset dev root LAMP_STATE 03\nsettle 0\nget dev root 0030 00",
         4,
@@ -125,7 +123,7 @@ where
 fn settles_in_vain_are_told_with_their_lines(rt: HostRuntime) {
     for (script, line, otherwise) in SETTLES {
         assert!(rt;
-            gives_up(rt, rt.alloc(), script, line, otherwise),
+            gives_up(rt, rt.alloc(), script, *line, *otherwise),
             "{script:?}"
         );
     }
@@ -147,17 +145,19 @@ where
 #[test]
 fn bad_setups_may_have_no_line(rt: HostRuntime) {
     for device in OTHERS {
-        let why = stop_at(rt, rt.alloc(), device, "draw\n");
-        assert_eq!(rt; why, Some(Unplayed::Stopped(RunError::BadSetup, None)));
-        let why = stop_at(rt, rt.alloc(), device, "# so\nsetup 0 8 error\n");
-        assert_eq!(rt; why, Some(Unplayed::Stopped(RunError::BadSetup, Some(2))));
+        for (script, line) in [("draw\n", None), ("# so\nsetup 0 8 error\n", Some(2))] {
+            let why = stop_at(rt, rt.alloc(), *device, script);
+            assert_eq!(rt; why, Some(Unplayed::Stopped(RunError::BadSetup, line)));
+        }
     }
 }
 
 /// Want of memory is of no line.
 #[test]
 fn want_of_memory_has_no_line(rt: HostRuntime) {
-    assert_eq!(rt; Unplayed::from(AllocError), Unplayed::OutOfMemory);
-    let faulty = Unplayed::from(ScriptError::OutOfMemory);
-    assert_eq!(rt; faulty, Unplayed::OutOfMemory);
+    let told = (
+        Unplayed::from(AllocError),
+        Unplayed::from(ScriptError::OutOfMemory),
+    );
+    assert_eq!(rt; told, (Unplayed::OutOfMemory, Unplayed::OutOfMemory));
 }

@@ -7,7 +7,6 @@ use std::alloc::Global;
 use std::io;
 use std::io::{ErrorKind, Read, Write};
 use std::sync::Wait;
-use std::test::Fail;
 use std::thread::Threads;
 
 /// A script with a slow command.
@@ -167,10 +166,13 @@ fn a_reader_that_fails_is_a_fault(rt: HostRuntime) {
         let mut reader = dripping(failing(count));
         let mut writer = taking(rt.alloc(), 64, None);
         let outcome = plays(rt, rt.alloc(), &mut reader, &mut writer);
-        assert_eq!(rt; outcome, Err(ProgramError::Read), "after {count}");
         // What failed isn't tried again.
-        assert_eq!(rt; reader.calls, count + 1, "after {count}");
-        assert_eq!(rt; writer.calls, 0, "after {count}");
+        let told = (outcome, reader.calls, writer.calls);
+        assert_eq!(rt;
+            told,
+            (Err(ProgramError::Read), count + 1, 0),
+            "after {count}"
+        );
     }
 }
 
@@ -180,14 +182,11 @@ fn a_writer_that_fails_has_the_bytes_before(rt: HostRuntime) {
         let mut reader = dripping(None);
         let mut writer = taking(rt.alloc(), 7, failing(count));
         let outcome = plays(rt, rt.alloc(), &mut reader, &mut writer);
-        assert_eq!(rt; outcome, Err(ProgramError::Write), "after {count}");
-        assert_eq!(rt;
-            writer.taken.as_slice(),
-            &TRACE.as_bytes()[..count],
-            "after {count}"
-        );
         // What failed isn't tried again.
-        assert_eq!(rt; writer.calls, count.div_ceil(7) + 1, "after {count}");
+        let told = (outcome, writer.taken.as_slice(), writer.calls);
+        let front = &TRACE.as_bytes()[..count];
+        let expected = (Err(ProgramError::Write), front, count.div_ceil(7) + 1);
+        assert_eq!(rt; told, expected, "after {count}");
     }
 }
 
@@ -203,14 +202,10 @@ fn an_interrupted_call_is_made_again(rt: HostRuntime) {
         let mut reader = dripping(interrupted(read));
         let mut writer = taking(rt.alloc(), 7, interrupted(written));
         let outcome = plays(rt, rt.alloc(), &mut reader, &mut writer);
-        assert_eq!(rt; outcome, Ok(()), "after {read}, {written}");
-        assert_eq!(rt;
-            writer.taken.as_slice(),
-            TRACE.as_bytes(),
-            "after {read}, {written}"
-        );
         // One call more than without the interruption: each byte of the script, and the end.
-        assert_eq!(rt; reader.calls, SCRIPT.len() + 2, "after {read}");
+        let told = (outcome, writer.taken.as_slice(), reader.calls);
+        let expected = (Ok(()), TRACE.as_bytes(), SCRIPT.len() + 2);
+        assert_eq!(rt; told, expected, "after {read}, {written}");
     }
 }
 
@@ -219,11 +214,11 @@ fn streams_take_their_time(rt: HostRuntime) {
     let mut reader = dripping(None);
     let mut writer = taking(rt.alloc(), 1, None);
     let outcome = plays(rt, rt.alloc(), &mut reader, &mut writer);
-    assert_eq!(rt; outcome, Ok(()));
-    assert_eq!(rt; writer.taken.as_slice(), TRACE.as_bytes());
-    assert_eq!(rt; writer.calls, TRACE.len());
+    let told = (outcome, writer.taken.as_slice());
+    assert_eq!(rt; told, (Ok(()), TRACE.as_bytes()));
     // A read that gives nothing is the end: there is none after it.
-    assert_eq!(rt; reader.calls, SCRIPT.len() + 1);
+    let calls = (reader.calls, writer.calls);
+    assert_eq!(rt; calls, (SCRIPT.len() + 1, TRACE.len()));
 }
 
 #[test]
@@ -231,8 +226,7 @@ fn a_writer_that_takes_nothing_is_a_fault(rt: HostRuntime) {
     let mut reader = dripping(None);
     let mut writer = taking(rt.alloc(), 0, None);
     let outcome = plays(rt, rt.alloc(), &mut reader, &mut writer);
-    assert_eq!(rt; outcome, Err(ProgramError::Write));
-    assert_eq!(rt; writer.calls, 1);
+    assert_eq!(rt; (outcome, writer.calls), (Err(ProgramError::Write), 1));
 }
 
 #[test]
@@ -240,24 +234,22 @@ fn stops_reading_without_end(rt: HostRuntime) {
     let mut reader = Endless { given: 0 };
     let mut writer = taking(rt.alloc(), 64, None);
     let outcome = plays(rt, rt.alloc(), &mut reader, &mut writer);
-    assert_eq!(rt; outcome, Err(ProgramError::Script(ScriptError::TooLong)));
-    assert_eq!(rt; reader.given, 65_537);
-    assert!(rt; writer.taken.is_empty());
+    let told = (outcome, reader.given, writer.taken.len());
+    let too_long = Err(ProgramError::Script(ScriptError::TooLong));
+    assert_eq!(rt; told, (too_long, 65_537, 0));
 }
 
 #[test]
-fn plays_thousands_of_commands(rt: HostRuntime) -> Result<(), Fail> {
-    let script = repeated(rt.alloc(), "", FIRST_SCRIPT, COMMANDS)?;
+fn plays_thousands_of_commands(rt: HostRuntime) {
+    let script = repeated(rt.alloc(), "", FIRST_SCRIPT, COMMANDS).expect(&rt, "memory");
     let mut reader = script.as_bytes();
     let mut writer = taking(rt.alloc(), 1_000, None);
     let outcome = plays(rt, rt.alloc(), &mut reader, &mut writer);
-    assert_eq!(rt; outcome, Ok(()));
-    assert_eq!(rt; writer.taken.len(), TRACE_BYTES);
+    assert_eq!(rt; (outcome, writer.taken.len()), (Ok(()), TRACE_BYTES));
     assert!(rt;
         writer
             .taken
             .as_slice()
             .ends_with(b"\nheard reply\nend\n".as_slice())
     );
-    Ok(())
 }

@@ -8,7 +8,6 @@ use rdm_responder::Report;
 use rdm_script::trace_text;
 use std::alloc::Global;
 use std::process::Abort;
-use std::test::Fail;
 
 const LAMP_STATE: u16 = 0x0403;
 
@@ -31,7 +30,7 @@ const SENSOR: Work = Work {
 };
 
 /// What is reported, and the trace.
-const REPORTS: [(Work, u32, Outcome, &str); 5] = [
+const REPORTS: &[(Work, u32, Outcome, &str)] = &[
     (LAMP, 0, Outcome::Done, "arrive 0 0 done\nend\n"),
     (
         SENSOR,
@@ -70,36 +69,37 @@ const REPORTS: [(Work, u32, Outcome, &str); 5] = [
 ];
 
 /// A message with this class, PID and data.
-fn message(class: u8, pid: u16, sub: u16, data: &[u8]) -> Result<Message, Fail> {
-    Ok(Message {
+fn message(rt: &impl Abort, class: u8, pid: u16, sub: u16, data: &[u8]) -> Message {
+    let body = Body::from_slice(data).expect(rt, "at most 231 bytes");
+    Message {
         class,
         pid,
         sub,
-        body: Body::from_slice(data).ok_or("at most 231 bytes")?,
-    })
+        body,
+    }
 }
 
 /// Events and messages have this trace.
-fn prints(
+fn prints(rt: &impl Abort, alloc: Global, events: &[Event], messages: &[Message], trace: &str) {
+    prints_as(rt, alloc, &Workers::usual(), events, messages, trace);
+}
+
+/// The same where the jobs have these workers.
+fn prints_as(
     rt: &impl Abort,
     alloc: Global,
+    workers: &Workers,
     events: &[Event],
     messages: &[Message],
     trace: &str,
-) -> Result<(), Fail> {
-    let text = trace_text(alloc, &Workers::usual(), events, messages)?;
+) {
+    let text = trace_text(alloc, workers, events, messages).expect(rt, "memory");
     assert_eq!(rt; text.as_slice(), trace.as_bytes());
-    Ok(())
 }
 
 /// One event has this trace.
-pub(super) fn prints_event(
-    rt: &impl Abort,
-    alloc: Global,
-    event: Event,
-    trace: &str,
-) -> Result<(), Fail> {
-    prints(rt, alloc, &[event], &[], trace)
+pub(super) fn prints_event(rt: &impl Abort, alloc: Global, event: Event, trace: &str) {
+    prints(rt, alloc, &[event], &[], trace);
 }
 
 /// A report, on which nothing is kept.
@@ -120,11 +120,11 @@ fn event_of(work: Work, number: u32, outcome: Outcome) -> Event {
 }
 
 #[test]
-fn prints_reports(rt: HostRuntime) -> Result<(), Fail> {
+fn prints_reports(rt: HostRuntime) {
     for (work, number, outcome, trace) in REPORTS {
-        prints_event(&rt, rt.alloc(), event_of(work, number, outcome), trace)?;
+        let event = event_of(*work, *number, *outcome);
+        prints_event(&rt, rt.alloc(), event, trace);
     }
-    Ok(())
 }
 
 /// A choice by which the second worker has all jobs.
@@ -136,11 +136,10 @@ const SECOND: Workers = Workers {
 };
 
 #[test]
-fn a_job_is_named_by_the_worker_that_has_it(rt: HostRuntime) -> Result<(), Fail> {
+fn a_job_is_named_by_the_worker_that_has_it(rt: HostRuntime) {
     let events = [event_of(LAMP, 7, Outcome::Done)];
-    let text = trace_text(rt.alloc(), &SECOND, &events, &[])?;
-    assert_eq!(rt; text.as_slice(), b"arrive 1 7 done\nend\n".as_slice());
-    Ok(())
+    let trace = "arrive 1 7 done\nend\n";
+    prints_as(&rt, rt.alloc(), &SECOND, &events, &[], trace);
 }
 
 /// What a sensor measured.
@@ -154,10 +153,9 @@ end
 ";
 
 #[test]
-fn prints_messages_after_all_events(rt: HostRuntime) -> Result<(), Fail> {
-    let lamp = message(0x31, LAMP_STATE, 0, &[])?;
-    let sensor = message(0x21, SENSOR_VALUE, 0, &MEASURED)?;
-    let address = message(0x21, 0x00E0, 0x01FF, &[0x02, 0xFE])?;
-    let messages = [lamp, sensor, address];
-    prints(&rt, rt.alloc(), &[], &messages, MESSAGES)
+fn prints_messages_after_all_events(rt: HostRuntime) {
+    let lamp = message(&rt, 0x31, LAMP_STATE, 0, &[]);
+    let sensor = message(&rt, 0x21, SENSOR_VALUE, 0, &MEASURED);
+    let address = message(&rt, 0x21, 0x00E0, 0x01FF, &[0x02, 0xFE]);
+    prints(&rt, rt.alloc(), &[], &[lamp, sensor, address], MESSAGES);
 }

@@ -1,7 +1,7 @@
 //! Scripts with slow commands, whose jobs two workers do.
 
 /// Scripts beside what they print. The frames were worked out by hand from the packet format.
-pub(super) const PLAYED: [(&str, &str); 2] = [
+pub(super) const PLAYED: &[(&str, &str)] = &[
     // The lamp fails to strike: the value stays, and a status message says why.
     (
         "set dev 0000 0403 02

@@ -5,7 +5,7 @@ use rdm_frame::{Uid, Wire};
 use rdm_line::Device;
 
 impl Device for LiveFixture {
-    ghost use Rattle.std.specs.Prelude.{◌≡◌};
+    ghost use Rattle.std.specs.Prelude.{◌≡◌, None};
     ghost use Rattle.rdm_responder.specs.StandsFor.{StandsFor};
     ghost use Rattle.rdm_widget.specs.Timing.{Timing, timing_of};
 
@@ -14,6 +14,9 @@ impl Device for LiveFixture {
     ghost muted = { λ d. d.responder.muted };
 
     ghost mutings = { λ d h is. is.0.muted };
+
+    // It does its jobs itself.
+    ghost came_to = { λ _. None };
 
     ghost Rest = { Timing };
 

@@ -37,6 +37,7 @@ const ASKED: &[(u16, Record)] = &[(0x1042, SCENE_NUMBER)];
 
 /// What a GET is told.
 const TOLD: &[(u16, Record)] = &[
+    (0x0011, PROXIED_COUNT),
     (0x0015, COMMS_STATUS),
     (0x0140, BLOCK),
     (0x0340, DIMMER_INFO),
@@ -69,6 +70,15 @@ const BOTH: &[(u16, Record)] = &[
     (0x1044, SWITCH),
 ];
 
+/// PROXIED_DEVICE_COUNT.
+const PROXIED_COUNT: Record = Record::Exactly(
+    3,
+    &[
+        Field("proxied devices ", 0, 2, Value::Number),
+        Field(", list changed ", 2, 1, Value::Code(TRUTHS)),
+    ],
+);
+
 /// COMMS_STATUS: what was heard and wasn't understood.
 const COMMS_STATUS: Record = Record::Exactly(
     6,
@@ -95,7 +105,7 @@ const BASE_ADDRESS: Record = Record::Exactly(2, &[Field("base address ", 0, 2, V
 const MODE: Record = Record::Exactly(
     7,
     &[
-        Field("", 0, 2, Value::Other(Meaning::Scene)),
+        Field("", 0, 2, Value::Other(Meaning::ModeScene)),
         Field(", delay ", 2, 2, Value::Other(Meaning::Endless)),
         Field(", hold time ", 4, 2, Value::Other(Meaning::Endless)),
         Field(", level ", 6, 1, Value::Number),

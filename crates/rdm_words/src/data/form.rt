@@ -11,6 +11,8 @@ pub(crate) struct Layout(pub(crate) &'static str, pub(crate) Form);
 pub(crate) enum Form {
     /// No data.
     Nothing,
+    /// Data that are shown as they are, whatever their length.
+    Shown,
     /// A number of this table, of one slot.
     Code(Table),
     /// A status type (table A-4).
@@ -19,6 +21,8 @@ pub(crate) enum Form {
     Fields(Record),
     /// The fields of the first record, of which the second one is said in a picture.
     InShort(Record, Record),
+    /// The fields of the record, or of the first of the others that has as many slots as the data.
+    OneOf(Record, &'static [Record]),
     /// Languages, of two letters each (sections 10.5.7 and 10.5.8).
     Languages,
     /// A list.
@@ -120,6 +124,8 @@ pub(crate) enum Meaning {
     Measured,
     /// A scene of PRESET_PLAYBACK (section 10.11).
     Scene,
+    /// A scene of DMX_FAIL_MODE or DMX_STARTUP_MODE, of which 0 is no scene, but the level alone (E1.37-1).
+    ModeScene,
     /// The flags of a control field (section 7.6).
     Flags,
     /// The binding UID, if there is one (section 7.6).

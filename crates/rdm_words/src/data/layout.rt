@@ -7,8 +7,8 @@ ghost use Rattle.rdm_words.specs.Unread.{is_discovery};
 use crate::data::form::{Form, Layout, List};
 use crate::data::records::{
     BRANCH, COUNT, DEVICE_INFO, MUTED, NUMBER, PERSONALITY, PERSONALITY_TEXT, PRESET, PRODUCT,
-    SELF_TEST, SELF_TEST_TEXT, SENSOR, SENSOR_DEFINITION, SENSOR_NAME, SENSOR_VALUE, SLOT,
-    SLOT_TEXT, START_ADDRESS, STATUS_ID, TEXT, VERSION,
+    SELF_TEST, SELF_TEST_TEXT, SENSOR, SENSOR_DEFINITION, SENSOR_EXTREMES, SENSOR_NAME,
+    SENSOR_RECORDED, SENSOR_VALUE, SLOT, SLOT_TEXT, START_ADDRESS, STATUS_ID, TEXT, VERSION,
 };
 use crate::frame::class::Class;
 use crate::tables::settings::{
@@ -19,8 +19,17 @@ use rdm_frame::standard::{
 };
 use rdm_params::{Kind, kind_of};
 
-/// No data, or data that are shown as they are.
+/// No data.
 const NOTHING: Layout = Layout("", Form::Nothing);
+
+/// Data that are shown as they are: those of a command that the parameter doesn't have.
+const SHOWN: Layout = Layout("", Form::Shown);
+
+/// What a sensor has measured, with which values it keeps or without.
+const MEASURED: Layout = Layout(
+    "",
+    Form::OneOf(SENSOR_VALUE, &[SENSOR_RECORDED, SENSOR_EXTREMES]),
+);
 
 /// The data of a parameter in frames of the command class with this code. If the class or the parameter isn't known there is
 /// no layout, and the data are shown as they are.
@@ -41,10 +50,10 @@ fn known_layout(class: Class, kind: Kind) -> Layout {
         Class::GetResponse => get_reply_layout(kind),
         Class::Set => set_layout(kind),
         Class::SetResponse => match kind {
-            Kind::SensorValue => Layout("", Form::Fields(SENSOR_VALUE)),
+            Kind::SensorValue => MEASURED,
             _ => NOTHING,
         },
-        Class::Discovery | Class::DiscoveryResponse => NOTHING,
+        Class::Discovery | Class::DiscoveryResponse => SHOWN,
     }
 }
 
@@ -99,7 +108,7 @@ fn get_reply_layout(kind: Kind) -> Layout {
         Kind::SlotDescription => Layout("", Form::Fields(SLOT_TEXT)),
         Kind::DefaultSlotValue => Layout("", Form::List(List::SlotDefaults)),
         Kind::SensorDefinition => Layout("", Form::InShort(SENSOR_DEFINITION, SENSOR_NAME)),
-        Kind::SensorValue => Layout("", Form::Fields(SENSOR_VALUE)),
+        Kind::SensorValue => MEASURED,
         Kind::SelfTestDescription => Layout("", Form::Fields(SELF_TEST_TEXT)),
         _ => value_layout(kind),
     }
@@ -140,6 +149,6 @@ fn code_layout(kind: Kind) -> Layout {
         Kind::PanTiltSwap => Layout("pan/tilt swap", Form::Code(SWITCHES)),
         Kind::IdentifyDevice => Layout("identify device", Form::Code(SWITCHES)),
         Kind::PowerState => Layout("power state", Form::Code(POWER_STATES)),
-        _ => NOTHING,
+        _ => SHOWN,
     }
 }

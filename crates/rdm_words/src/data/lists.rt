@@ -2,8 +2,8 @@
 
 ghost use Rattle.std.specs.Prelude.{◌<◌};
 
-use crate::Known;
 use crate::data::form::{List, Record};
+use crate::data::known::Facts;
 use crate::data::records::{SLOT_DEFAULT, SLOT_INFO, STATUS, SUPPORTED};
 use crate::data::values::put_record;
 use std::alloc::AllocError;
@@ -14,7 +14,7 @@ pub(crate) fn put_entries(
     text: &mut String,
     list: List,
     data: &[u8],
-    known: &Known<'_>,
+    known: &Facts<'_>,
 ) -> Result<(), AllocError> {
     if data.is_empty() {
         text.push_str("\n  ")?;
@@ -39,7 +39,7 @@ pub(crate) fn put_count_of(text: &mut String, list: List, data: &[u8]) -> Result
 }
 
 /// How many slots an entry has.
-fn slots_of(list: List) -> usize
+pub(crate) fn slots_of(list: List) -> usize
     ensures { 0 < result }
 {
     match list {

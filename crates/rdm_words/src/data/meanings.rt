@@ -1,7 +1,7 @@
 //! The words of fields that only some parameters have.
 
-use crate::Known;
 use crate::data::form::Meaning;
+use crate::data::known::Facts;
 use crate::data::own::put_parameter;
 use crate::data::sensors::{put_measured, put_measures, put_range};
 use crate::data::statuses::{Status, put_failure, put_status_text};
@@ -44,7 +44,7 @@ pub(crate) fn put_meaning(
     text: &mut String,
     meaning: Meaning,
     slots: &[u8],
-    known: &Known<'_>,
+    known: &Facts<'_>,
 ) -> Result<(), AllocError> {
     match (meaning, slots) {
         (Meaning::Signed, [a, b]) => {
@@ -88,7 +88,7 @@ fn put_parameter_code(
     text: &mut String,
     pid: u16,
     slots: &[u8],
-    known: &Known<'_>,
+    known: &Facts<'_>,
 ) -> Result<(), AllocError> {
     match (parameter(pid), known.parameter(pid)) {
         (None, Some(_)) => put_parameter(text, pid, known),
@@ -108,13 +108,9 @@ fn put_rare(text: &mut String, meaning: Meaning, slots: &[u8]) -> Result<(), All
             Some(words) => text.push_str(words),
             None => write!(text, "support {support:02X}"),
         },
-        (Meaning::Scene, [a, b]) => {
-            let mode = u16::from_be_bytes([*a, *b]);
-            match PRESETS.name(u32::from(mode)) {
-                Some(name) => text.push_str(name),
-                None => write!(text, "scene {mode}"),
-            }
-        }
+        (Meaning::Scene, [a, b]) => put_scene(text, u16::from_be_bytes([*a, *b])),
+        (Meaning::ModeScene, [0, 0]) => text.push_str("fixed level"),
+        (Meaning::ModeScene, [a, b]) => put_scene(text, u16::from_be_bytes([*a, *b])),
         (Meaning::Flags, [flags]) => put_flags(text, *flags),
         (Meaning::Binding, []) => Ok(()),
         (Meaning::Binding, [_, _, _, _, _, _]) => {
@@ -126,6 +122,14 @@ fn put_rare(text: &mut String, meaning: Meaning, slots: &[u8]) -> Result<(), All
             put_data(text, slots)
         }
         _ => put_time_or_pin(text, meaning, slots),
+    }
+}
+
+/// What is played: a scene, none or all of them.
+fn put_scene(text: &mut String, scene: u16) -> Result<(), AllocError> {
+    match PRESETS.name(u32::from(scene)) {
+        Some(name) => text.push_str(name),
+        None => write!(text, "scene {scene}"),
     }
 }
 
@@ -151,7 +155,7 @@ fn put_flags(text: &mut String, flags: u8) -> Result<(), AllocError> {
 }
 
 /// What a lock state is called: 0 is unlocked, and the fixture may be known to name another one.
-fn put_lock_name(text: &mut String, state: u8, known: &Known<'_>) -> Result<(), AllocError> {
+fn put_lock_name(text: &mut String, state: u8, known: &Facts<'_>) -> Result<(), AllocError> {
     if state == 0 {
         return text.push_str(", unlocked");
     }

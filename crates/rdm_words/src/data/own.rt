@@ -1,8 +1,10 @@
 //! The words of parameters that a fixture adds (E1.20 section 10.4.2, E1.37-1).
 
-use crate::Known;
 use crate::data::added::fields_of;
+use crate::data::described::{Added, common_shape};
 use crate::data::form::Record;
+use crate::data::known::Facts;
+use crate::data::lengths::put_other_length;
 use crate::data::sensors::put_unit;
 use crate::data::values::{number_of as number_in_slots, put_coded, put_record};
 use crate::frame::class::Class;
@@ -11,8 +13,9 @@ use crate::tables::parameters::parameter;
 use crate::tables::products::PRODUCT_DETAILS;
 use crate::text::put_quoted;
 use rdm_device::columns::added::{number_in, read_shape};
-use rdm_device::{Field, ParameterDef, Shape};
-use rdm_frame::standard::{PARAMETER_DESCRIPTION, PRODUCT_DETAIL_ID_LIST};
+use rdm_device::{Field, Shape};
+use rdm_frame::standard::{PARAMETER_DESCRIPTION, PRODUCT_DETAIL_ID_LIST, PROXIED_DEVICES};
+use rdm_frame::uid_at;
 use std::alloc::AllocError;
 use std::fmt::Write;
 
@@ -37,14 +40,14 @@ const COMMAND_CLASSES: Table = Table(&[(0x01, "GET"), (0x02, "SET"), (0x03, "GET
 pub(crate) fn put_parameter(
     text: &mut String,
     pid: u16,
-    known: &Known<'_>,
+    known: &Facts<'_>,
 ) -> Result<(), AllocError> {
     if let Some(name) = parameter(pid) {
         return write!(text, "{name} ({pid:04X})");
     }
     match known.parameter(pid) {
         Some(def) => {
-            put_quoted(text, def.name.as_slice())?;
+            put_quoted(text, def.name)?;
             write!(text, " ({pid:04X})")
         }
         None => write!(text, "parameter {pid:04X}"),
@@ -52,21 +55,35 @@ pub(crate) fn put_parameter(
 }
 
 /// What data say of a parameter that isn't in the table, on a line of its own before the data themselves: the fields of one of the
-/// standards, the value of one that the fixture is known to add, or the description of one. There is no line if that isn't known.
+/// standards, the value of one that the fixture is known to add, or the description of one. There is no line if that isn't known; and one
+/// that they haven't the length of the parameter, if that is so.
 pub(crate) fn put_own_line(
     text: &mut String,
     code: u8,
     pid: u16,
     data: &[u8],
-    known: &Known<'_>,
+    known: &Facts<'_>,
 ) -> Result<(), AllocError> {
     let mut words = String::new(*text.allocator());
     put_own(&mut words, "value ", code, pid, data, known)?;
     if words.is_empty() {
-        return Ok(());
+        return match unfit(code, pid, data) {
+            Some(record) => put_other_length(text, pid, record, data),
+            None => Ok(()),
+        };
     }
     text.push_str("\n  ")?;
     text.push_str(words.as_str())
+}
+
+/// The fields of a parameter of the standards, if the data have another length.
+fn unfit(code: u8, pid: u16, data: &[u8]) -> Option<Record> {
+    let record = fields_of(Class::of(code)?, pid)?;
+    if record.fits(data) {
+        None
+    } else {
+        Some(record)
+    }
 }
 
 /// The same in one line, with these words before a value.
@@ -76,7 +93,7 @@ pub(crate) fn put_own(
     code: u8,
     pid: u16,
     data: &[u8],
-    known: &Known<'_>,
+    known: &Facts<'_>,
 ) -> Result<(), AllocError> {
     match (Class::of(code), data) {
         (Some(Class::Get), [a, b]) if pid == PARAMETER_DESCRIPTION => {
@@ -88,6 +105,7 @@ pub(crate) fn put_own(
         (Some(Class::GetResponse), _) if pid == PRODUCT_DETAIL_ID_LIST => {
             put_details(text, data)
         }
+        (Some(Class::GetResponse), _) if pid == PROXIED_DEVICES => put_uids(text, data),
         (Some(class), _) => match fields_of(class, pid) {
             Some(record) => put_if_fits(text, record, data, known),
             None => put_known(text, noun, class, pid, data, known),
@@ -101,7 +119,7 @@ fn put_if_fits(
     text: &mut String,
     record: Record,
     data: &[u8],
-    known: &Known<'_>,
+    known: &Facts<'_>,
 ) -> Result<(), AllocError> {
     if record.fits(data) {
         put_record(text, "", record, data, known)
@@ -124,26 +142,59 @@ fn put_details(text: &mut String, data: &[u8]) -> Result<(), AllocError> {
     Ok(())
 }
 
-/// What the data say of a parameter that the fixture is known to add.
+/// The UIDs of proxied devices, if there are six slots for each (section 10.3.1).
+fn put_uids(text: &mut String, data: &[u8]) -> Result<(), AllocError> {
+    if data.len() % 6 != 0 {
+        return Ok(());
+    }
+    if data.is_empty() {
+        return text.push_str("no proxied devices");
+    }
+    text.push_str("proxied devices")?;
+    for slots in data.chunks(6) {
+        if slots.len() == 6 {
+            let uid = uid_at(slots, 0);
+            write!(text, " {uid}")?;
+        }
+    }
+    Ok(())
+}
+
+/// What the data say of a parameter that isn't in the table, if that is known.
 fn put_known(
     text: &mut String,
     noun: &str,
     class: Class,
     pid: u16,
     data: &[u8],
-    known: &Known<'_>,
+    known: &Facts<'_>,
 ) -> Result<(), AllocError> {
     match (class, data) {
-        (Class::Get, [number]) => match known.parameter(pid) {
+        (Class::Get, [number]) => match added(pid, known) {
             Some(def) if tells_names(def.shape) => write!(text, "number {number}"),
             _ => Ok(()),
         },
-        (Class::GetResponse | Class::Set, _) => match known.parameter(pid) {
-            Some(def) => put_value_of(text, noun, def, data, known),
+        (Class::GetResponse | Class::Set, _) => match added(pid, known) {
+            Some(def) => put_value_of(text, noun, &def, data, known),
             None => Ok(()),
         },
         _ => Ok(()),
     }
+}
+
+/// A parameter that the fixture is known to add, or one of E1.37-1 whose data are the same for each fixture.
+fn added<'a>(pid: u16, known: &Facts<'a>) -> Option<Added<'a>> {
+    if let Some(def) = known.parameter(pid) {
+        return Some(def);
+    }
+    Some(Added {
+        pid,
+        name: &[],
+        shape: common_shape(pid)?,
+        fields: &[],
+        prefix: 0,
+        unit: 0,
+    })
 }
 
 /// Whether a parameter tells what things are called.
@@ -155,18 +206,18 @@ fn tells_names(shape: Shape) -> bool {
 fn put_value_of(
     text: &mut String,
     noun: &str,
-    def: &ParameterDef,
+    def: &Added<'_>,
     data: &[u8],
-    known: &Known<'_>,
+    known: &Facts<'_>,
 ) -> Result<(), AllocError> {
     match (def.shape, data) {
         (Shape::Choice, [number]) => {
             write!(text, "{noun}{number}")?;
-            put_chosen(text, known.choice(def, *number))
+            put_chosen(text, known.choice(def.pid, *number))
         }
         (Shape::Choice, [number, most]) => {
             write!(text, "{noun}{number} of {most}")?;
-            put_chosen(text, known.choice(def, *number))
+            put_chosen(text, known.choice(def.pid, *number))
         }
         (Shape::Names, [number, name @ ..]) => {
             write!(text, "number {number}: ")?;
@@ -179,7 +230,7 @@ fn put_value_of(
             write!(text, ", {hertz} Hz")
         }
         (Shape::Slots(slots), _) if data.len() == usize::from(slots) => {
-            put_numbers(text, noun, def.fields.as_slice(), data)
+            put_numbers(text, noun, def.fields, data)
         }
         _ => put_single(text, noun, def, data),
     }
@@ -222,7 +273,7 @@ fn put_numbers(
 fn put_single(
     text: &mut String,
     noun: &str,
-    def: &ParameterDef,
+    def: &Added<'_>,
     data: &[u8],
 ) -> Result<(), AllocError> {
     let Some(value) = read_shape(def.shape, data) else {

@@ -150,6 +150,27 @@ pub(crate) const SENSOR_VALUE: Record = Record::Exactly(
     ],
 );
 
+/// The same of a sensor that says no lowest and highest value.
+pub(crate) const SENSOR_RECORDED: Record = Record::Exactly(
+    5,
+    &[
+        Field("", 0, 1, Value::Counted("sensor ", EVERY_SENSOR)),
+        Field(": ", 0, 3, Value::Other(Meaning::Measured)),
+        Field(", recorded ", 3, 2, Value::Other(Meaning::Signed)),
+    ],
+);
+
+/// The same of a sensor that says no recorded value.
+pub(crate) const SENSOR_EXTREMES: Record = Record::Exactly(
+    7,
+    &[
+        Field("", 0, 1, Value::Counted("sensor ", EVERY_SENSOR)),
+        Field(": ", 0, 3, Value::Other(Meaning::Measured)),
+        Field(", lowest ", 3, 2, Value::Other(Meaning::Signed)),
+        Field(", highest ", 5, 2, Value::Other(Meaning::Signed)),
+    ],
+);
+
 /// The number of a self test, none or all of them (section 10.11).
 pub(crate) const SELF_TEST: Record = Record::Exactly(
     1,

@@ -1,6 +1,6 @@
 //! The words of what sensors measure (E1.20 section 10.7).
 
-use crate::Known;
+use crate::data::known::Facts;
 use crate::tables::sensors::{SENSOR_UNITS, UNIT_PREFIXES};
 use std::alloc::AllocError;
 use std::fmt::Write;
@@ -52,11 +52,11 @@ pub(crate) fn put_measured(
     text: &mut String,
     number: u8,
     present: i16,
-    known: &Known<'_>,
+    known: &Facts<'_>,
 ) -> Result<(), AllocError> {
     write!(text, "{present}")?;
-    match known.sensor(number) {
-        Some(sensor) => put_unit(text, "", sensor.prefix, sensor.unit),
+    match known.unit_of(number) {
+        Some((prefix, unit)) => put_unit(text, "", prefix, unit),
         None => Ok(()),
     }
 }

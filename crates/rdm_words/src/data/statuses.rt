@@ -1,6 +1,6 @@
 //! The words of status messages (E1.20 section 10.3 and table B-2).
 
-use crate::Known;
+use crate::data::known::Facts;
 use crate::data::values::{put_coded, put_named};
 use crate::tables::slots::SLOT_LABELS;
 use crate::tables::statuses::{STATUS_IDS, status_type};
@@ -12,7 +12,7 @@ use std::fmt::Write;
 pub(crate) fn put_status_text(
     text: &mut String,
     id: u16,
-    known: &Known<'_>,
+    known: &Facts<'_>,
 ) -> Result<(), AllocError> {
     let Some(words) = template(id, known) else {
         return Ok(());
@@ -34,28 +34,44 @@ pub(crate) struct Status {
 pub(crate) fn put_failure(
     text: &mut String,
     status: &Status,
-    known: &Known<'_>,
+    known: &Facts<'_>,
 ) -> Result<(), AllocError> {
-    let id = status.id;
     put_named(text, status_type(status.severity), &[status.severity])?;
     text.push_str(", ")?;
-    match template(id, known) {
-        Some(words) => {
-            put_filled(text, words, status)?;
-            write!(text, " ({id:04X})")?;
-            if words.contains(&b'%') {
-                return Ok(());
-            }
-        }
-        None => write!(text, "status ID {id:04X}")?,
+    put_meaning(text, status, known)?;
+    if has_values(status.id, known) {
+        return Ok(());
     }
-    // The text says nothing of the two values.
     let (first, second) = (status.first.cast_signed(), status.second.cast_signed());
     write!(text, ", values {first} and {second}")
 }
 
+/// The words of a status message without how bad it is: what it is, and no values that its text doesn't name.
+pub(crate) fn put_meaning(
+    text: &mut String,
+    status: &Status,
+    known: &Facts<'_>,
+) -> Result<(), AllocError> {
+    let id = status.id;
+    match template(id, known) {
+        Some(words) => {
+            put_filled(text, words, status)?;
+            write!(text, " ({id:04X})")
+        }
+        None => write!(text, "status ID {id:04X}"),
+    }
+}
+
+/// Whether the text of a status ID names the two values.
+fn has_values(id: u16, known: &Facts<'_>) -> bool {
+    match template(id, known) {
+        Some(words) => words.contains(&b'%'),
+        None => false,
+    }
+}
+
 /// The text of a status ID: that of the standard, or of the fixture if it is known.
-fn template<'a>(id: u16, known: &Known<'a>) -> Option<&'a [u8]> {
+fn template<'a>(id: u16, known: &Facts<'a>) -> Option<&'a [u8]> {
     match STATUS_IDS.name(u32::from(id)) {
         Some(words) => Some(words.as_bytes()),
         None => known.status_text(id),

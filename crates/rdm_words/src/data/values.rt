@@ -3,8 +3,8 @@
 ghost use Rattle.std.specs.Prelude.{◌≡◌, ◌≢◌, [], ◌++◌, OnOk, codes, string_bytes};
 ghost use Rattle.rdm_frame.specs.Digits.{digits};
 
-use crate::Known;
 use crate::data::form::{Field, Form, Layout, Record, Value};
+use crate::data::known::Facts;
 use crate::data::lists::put_count_of;
 use crate::data::meanings::put_meaning;
 use crate::tables::Table;
@@ -18,11 +18,11 @@ pub(crate) fn put_value(
     text: &mut String,
     layout: Layout,
     data: &[u8],
-    known: &Known<'_>,
+    known: &Facts<'_>,
 ) -> Result<(), AllocError> {
     let Layout(noun, form) = layout;
     match form {
-        Form::Nothing => put_data(text, data),
+        Form::Nothing | Form::Shown => put_data(text, data),
         Form::Code(table) => match data {
             [code] => {
                 put_noun(text, noun)?;
@@ -40,9 +40,22 @@ pub(crate) fn put_value(
         Form::Fields(record) | Form::InShort(record, _) => {
             put_record(text, noun, record, data, known)
         }
+        Form::OneOf(record, others) => {
+            put_record(text, noun, fitting(record, others, data), data, known)
+        }
         Form::Languages => put_languages(text, noun, data),
         Form::List(list) => put_count_of(text, list, data),
     }
+}
+
+/// The first of the others that has as many slots as the data, or else the record itself.
+fn fitting(record: Record, others: &[Record], data: &[u8]) -> Record {
+    for other in others {
+        if other.fits(data) {
+            return *other;
+        }
+    }
+    record
 }
 
 /// Data that have no words, in hexadecimal digits.
@@ -70,7 +83,7 @@ pub(crate) fn put_record(
     noun: &str,
     record: Record,
     data: &[u8],
-    known: &Known<'_>,
+    known: &Facts<'_>,
 ) -> Result<(), AllocError> {
     if !record.fits(data) {
         return put_data(text, data);
@@ -87,7 +100,7 @@ fn put_field(
     text: &mut String,
     field: Field,
     data: &[u8],
-    known: &Known<'_>,
+    known: &Facts<'_>,
 ) -> Result<(), AllocError> {
     let Field(words, first, count, value) = field;
     text.push_str(words)?;

@@ -1,31 +1,35 @@
 //! The words of a frame: a line of its header, and lines of its data below.
 
-ghost use Rattle.std.specs.Prelude.{◌≡◌, ◌≢◌, ℕ, List, [], ◌++◌, None, OnOk, string_bytes};
-ghost use Rattle.rdm_words.specs.Fixed.{AreWordsOfBytes, IsAnswerOf, answer_words, cause_words, stray_words};
+ghost use Rattle.std.specs.Prelude.{◌≡◌, ◌≢◌, ◌<◌, ℕ, List, [], ◌++◌, true, None, IsTrue, OnOk, length, string_bytes};
+ghost use Rattle.rdm_words.specs.Fixed.{AreWordsOfBytes, AreWordsOfWhole, answer_words, cause_words, has_no_start, is_readable, stray_words, with_start};
+ghost use Rattle.rdm_words.specs.Before.{IsAnswerOf};
 ghost use Rattle.rdm_words.specs.Plain.{IsFixed, IsPlain};
-ghost use Rattle.rdm_words.specs.Unread.{HasUnread, AreLastOfBytes, data_line, is_put_off};
+ghost use Rattle.rdm_words.specs.Unread.{HasUnread, AreLastOfBytes, AreLastOfWhole, data_line, is_put_off, stray_line};
 
 use crate::Known;
 use crate::data::form::{Form, Layout};
+use crate::data::known::Facts;
 use crate::data::layout::layout_of;
+use crate::data::lengths::put_wrong_length;
 use crate::data::lists::put_entries;
 use crate::data::own::put_own_line;
 use crate::data::values::{put_data, put_value};
 use crate::frame::class::{Class, is_response};
 use crate::frame::header::{put_request, put_response};
+use crate::frame::invalid::{header_of, is_readable, put_wrongs};
 use crate::text::put_hex;
-use rdm_frame::standard::{ACK, ACK_TIMER, NACK_REASON};
-use rdm_frame::{FrameError, FrameView, Uid, branch_uid, decode_view};
+use rdm_frame::standard::{ACK, ACK_TIMER, MOST_SLOTS, NACK_REASON, START_CODE, SUB_START_CODE};
+use rdm_frame::{FrameError, FrameView, Uid, Wire, branch_uid, decode_view};
 use std::alloc::AllocError;
 use std::fmt::Write;
 
 /// What stands before a line of data.
 const DATA_LINE: &str = "\n  ";
 
-/// The words of bytes from the bus.
+/// The words of bytes from the bus, which may lack their START code.
 pub(crate) fn put_bytes_words(
     text: &mut String,
-    bytes: &[u8],
+    bytes: &Wire,
     known: &Known<'_>,
 ) -> Result<(), AllocError>
     ensures fixed { OnOk result
@@ -33,20 +37,97 @@ pub(crate) fn put_bytes_words(
     ensures last { OnOk result ((words : List ℕ) → AreLastOfBytes bytes.now words
         → IsFixed words × (front : List ℕ) × (string_bytes text.new ≡ string_bytes text.old ++ (front ++ words))) }
 {
+    put_whole_words(text, with_start(bytes).as_slice(), known)
+}
+
+/// The bytes with their START code, which Art-Net leaves out.
+fn with_start(bytes: &Wire) -> Wire
+    ensures { result ≡ with_start bytes.now }
+{
+    if has_no_start(bytes.as_slice()) {
+        let mut whole = Wire::new();
+        whole.append(&[START_CODE]);
+        whole.append(bytes.as_slice());
+        return whole;
+    }
+    bytes.copy()
+}
+
+/// Whether bytes begin at the sub-START code, and there is room for the START code.
+fn has_no_start(bytes: &[u8]) -> bool
+    ensures start { result ≡ has_no_start bytes.now }
+    ensures room { IsTrue result → length bytes.now < 257 }
+{
+    !bytes.is_empty() && bytes[0] == SUB_START_CODE && bytes.len() < MOST_SLOTS
+}
+
+/// The words of bytes from the bus.
+fn put_whole_words(text: &mut String, bytes: &[u8], known: &Known<'_>) -> Result<(), AllocError>
+    ensures fixed { OnOk result
+        ((words : List ℕ) → AreWordsOfWhole bytes.now words → IsFixed words × (string_bytes text.new ≡ string_bytes text.old ++ words)) }
+    ensures last { OnOk result ((words : List ℕ) → AreLastOfWhole bytes.now words
+        → IsFixed words × (front : List ℕ) × (string_bytes text.new ≡ string_bytes text.old ++ (front ++ words))) }
+{
     match decode_view(bytes) {
         Ok(frame) => put_frame(text, &frame, known),
-        Err(error) => put_other(text, bytes, error),
+        Err(error) => put_other(text, bytes, error, known),
     }
 }
 
-/// Bytes that aren't a valid frame: the answer to DISC_UNIQUE_BRANCH, or bytes that are shown as they are.
-fn put_other(text: &mut String, bytes: &[u8], error: FrameError) -> Result<(), AllocError>
+/// Bytes that aren't a valid frame: the answer to DISC_UNIQUE_BRANCH, or bytes that are shown as they are, behind what they say if they can
+/// be read all the same.
+fn put_other(
+    text: &mut String,
+    bytes: &[u8],
+    error: FrameError,
+    known: &Known<'_>,
+) -> Result<(), AllocError>
     ensures answer { (uid : Uid) → IsAnswerOf uid bytes.now → OnOk result (string_bytes text.new ≡ string_bytes text.old ++ answer_words uid) }
-    ensures stray { ((uid : Uid) → IsAnswerOf uid bytes.now → ⊥) → OnOk result (string_bytes text.new ≡ string_bytes text.old ++ stray_words error bytes.now) }
+    ensures stray { ((uid : Uid) → IsAnswerOf uid bytes.now → ⊥) → is_readable bytes.now ≢ true
+        → OnOk result (string_bytes text.new ≡ string_bytes text.old ++ stray_words error bytes.now) }
+    ensures readable { ((uid : Uid) → IsAnswerOf uid bytes.now → ⊥) → is_readable bytes.now ≡ true
+        → OnOk result ((front : List ℕ) × (string_bytes text.new ≡ string_bytes text.old ++ (front ++ stray_line error bytes.now))) }
 {
     if let Some(uid) = branch_uid(bytes) {
         return write!(text, "{uid} answers: DISC_UNIQUE_BRANCH");
     }
+    if is_readable(bytes) {
+        return put_readable(text, bytes, error, known);
+    }
+    put_stray(text, bytes, error)
+}
+
+/// Bytes that aren't a valid frame, and can be read as one: what they say, what is wrong with them, and the bytes.
+fn put_readable(
+    text: &mut String,
+    bytes: &[u8],
+    error: FrameError,
+    known: &Known<'_>,
+) -> Result<(), AllocError>
+    ensures { OnOk result ((front : List ℕ) × (string_bytes text.new ≡ string_bytes text.old ++ (front ++ stray_line error bytes.now))) }
+{
+    let mut head = String::new(*text.allocator());
+    put_invalid(&mut head, bytes, known)?;
+    text.push_str(head.as_str())?;
+    text.push_str(DATA_LINE)?;
+    put_stray(text, bytes, error)
+}
+
+/// What bytes say that aren't a valid frame, and what is wrong with them.
+fn put_invalid(text: &mut String, bytes: &[u8], known: &Known<'_>) -> Result<(), AllocError> {
+    let Some(frame) = header_of(bytes) else {
+        return Ok(());
+    };
+    text.push_str("invalid: ")?;
+    put_frame(text, &frame, known)?;
+    text.push_str(DATA_LINE)?;
+    put_wrongs(text, bytes)
+}
+
+/// Bytes that aren't a valid frame: why, and all of their digits.
+fn put_stray(text: &mut String, bytes: &[u8], error: FrameError) -> Result<(), AllocError>
+    ensures { OnOk result (string_bytes text.new ≡ string_bytes text.old ++ stray_words error bytes.now) }
+{
     let cause = cause_of(error);
     write!(text, "no frame ({cause}): ")?;
     put_hex(text, bytes)
@@ -111,7 +192,8 @@ fn put_body(text: &mut String, frame: &FrameView<'_>, known: &Known<'_>) -> Resu
 {
     let layout = layout_of(frame.class, frame.pid);
     if !is_response(frame.class) {
-        return put_data_lines(text, layout, frame.body, &known.at(frame.dst));
+        let subject = Subject::whole(frame.pid);
+        return put_data_lines(text, subject, layout, frame.body, &known.at(frame.dst));
     }
     if is_put_off(frame.port) {
         return match frame.body {
@@ -119,7 +201,30 @@ fn put_body(text: &mut String, frame: &FrameView<'_>, known: &Known<'_>) -> Resu
             slots => put_plain_line(text, slots),
         };
     }
-    put_data_lines(text, layout, frame.body, &known.at(frame.src))
+    let subject = Subject {
+        pid: frame.pid,
+        is_whole: frame.port == ACK,
+    };
+    put_data_lines(text, subject, layout, frame.body, &known.at(frame.src))
+}
+
+/// Of what data are.
+#[derive(Clone, Copy)]
+pub(crate) struct Subject {
+    /// The parameter.
+    pid: u16,
+    /// Whether they are all there, and not a part of them.
+    is_whole: bool,
+}
+
+impl Subject {
+    /// All data of a parameter.
+    pub(crate) fn whole(pid: u16) -> Subject {
+        Subject {
+            pid,
+            is_whole: true,
+        }
+    }
 }
 
 /// Whether the response type is ACK_TIMER or NACK_REASON.
@@ -132,15 +237,16 @@ fn is_put_off(port: u8) -> bool
 /// The lines of data, if there is something to say.
 pub(crate) fn put_data_lines(
     text: &mut String,
+    subject: Subject,
     layout: Option<Layout>,
     slots: &[u8],
-    known: &Known<'_>,
+    known: &Facts<'_>,
 ) -> Result<(), AllocError>
     ensures last { layout ≡ None → slots.now ≢ [] → OnOk result (string_bytes text.new ≡ string_bytes text.old ++ data_line slots.now) }
     ensures plain { IsPlain (data_line slots.now) }
 {
     match layout {
-        Some(layout) => put_laid_out(text, layout, slots, known),
+        Some(layout) => put_laid_out(text, subject, layout, slots, known),
         None => put_plain_line(text, slots),
     }
 }
@@ -148,13 +254,17 @@ pub(crate) fn put_data_lines(
 /// The lines of data of this layout.
 fn put_laid_out(
     text: &mut String,
+    subject: Subject,
     layout: Layout,
     data: &[u8],
-    known: &Known<'_>,
+    known: &Facts<'_>,
 ) -> Result<(), AllocError> {
     let Layout(_, form) = layout;
+    if subject.is_whole {
+        put_wrong_length(text, subject.pid, form, data)?;
+    }
     match form {
-        Form::Nothing => put_plain_line(text, data),
+        Form::Nothing | Form::Shown => put_plain_line(text, data),
         Form::List(list) => put_entries(text, list, data, known),
         _ => {
             text.push_str(DATA_LINE)?;

@@ -1,15 +1,14 @@
 //! The words of a frame's header (E1.20 section 6.2).
 
-use crate::Known;
+use crate::data::known::Facts;
 use crate::data::own::put_parameter;
 use crate::data::times::put_tenths;
 use crate::data::values::put_named;
 use crate::frame::class::put_class;
 use crate::frame::place::put_place;
-use crate::tables::replies::RESPONSE_TYPES;
+use crate::tables::replies::{RESPONSE_TYPES, nack_reason};
 use rdm_frame::standard::{ACK_TIMER, FIRST_PORT, NACK_REASON};
 use rdm_frame::{FrameView, Uid};
-use rdm_params::reason_name;
 use std::alloc::AllocError;
 use std::fmt::Write;
 
@@ -19,7 +18,7 @@ pub(crate) fn put_request(
     text: &mut String,
     verb: &str,
     frame: &FrameView<'_>,
-    known: &Known<'_>,
+    known: &Facts<'_>,
 ) -> Result<(), AllocError> {
     put_parties(text, verb, frame)?;
     put_class(text, frame.class)?;
@@ -35,7 +34,7 @@ pub(crate) fn put_request(
 pub(crate) fn put_response(
     text: &mut String,
     frame: &FrameView<'_>,
-    known: &Known<'_>,
+    known: &Facts<'_>,
 ) -> Result<(), AllocError> {
     put_parties(text, "answers", frame)?;
     put_response_type(text, frame.port, frame.body)?;
@@ -63,7 +62,7 @@ fn put_parties(text: &mut String, verb: &str, frame: &FrameView<'_>) -> Result<(
 fn put_subject(
     text: &mut String,
     frame: &FrameView<'_>,
-    known: &Known<'_>,
+    known: &Facts<'_>,
 ) -> Result<(), AllocError> {
     let (pid, tn) = (frame.pid, frame.tn);
     text.push(' ')?;
@@ -90,7 +89,7 @@ pub(crate) fn put_response_type(
         }
         (NACK_REASON, [a, b]) => {
             text.push(' ')?;
-            put_named(text, reason_name(u16::from_be_bytes([*a, *b])), data)
+            put_named(text, nack_reason(u16::from_be_bytes([*a, *b])), data)
         }
         _ => Ok(()),
     }

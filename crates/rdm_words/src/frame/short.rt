@@ -5,6 +5,7 @@ ghost use Rattle.rdm_words.specs.Plain.{IsPlain};
 
 use crate::Known;
 use crate::data::form::{Form, Layout};
+use crate::data::known::Facts;
 use crate::data::layout::layout_of;
 use crate::data::own::put_own;
 use crate::data::values::put_value;
@@ -13,10 +14,10 @@ use crate::frame::frame_words::cause_of;
 use crate::frame::header::put_response_type;
 use crate::frame::place::put_place;
 use crate::tables::parameters::parameter;
+use crate::tables::replies::nack_reason;
 use crate::text::{put_quoted, put_shown};
 use rdm_frame::standard::{ACK, NACK_REASON, ROOT_DEVICE};
 use rdm_frame::{FrameError, FrameView, branch_uid, decode_view};
-use rdm_params::reason_name;
 use std::alloc::AllocError;
 use std::fmt::Write;
 
@@ -67,7 +68,7 @@ fn put_no_frame(text: &mut String, error: FrameError) -> Result<(), AllocError> 
 fn put_request(
     text: &mut String,
     frame: &FrameView<'_>,
-    known: &Known<'_>,
+    known: &Facts<'_>,
 ) -> Result<(), AllocError> {
     put_class(text, frame.class)?;
     put_subject(text, frame, known)?;
@@ -81,7 +82,7 @@ fn put_request(
 fn put_reply(
     text: &mut String,
     frame: &FrameView<'_>,
-    known: &Known<'_>,
+    known: &Facts<'_>,
 ) -> Result<(), AllocError> {
     if Class::of(frame.class).is_none() {
         return put_request(text, frame, known);
@@ -94,7 +95,7 @@ fn put_reply(
         }
         (NACK_REASON, [a, b]) => {
             let code = u16::from_be_bytes([*a, *b]);
-            match reason_name(code) {
+            match nack_reason(code) {
                 Some(reason) => write!(text, "NACK: {reason}"),
                 None => write!(text, "NACK: reason {code:04X}"),
             }
@@ -107,13 +108,13 @@ fn put_reply(
 fn put_subject(
     text: &mut String,
     frame: &FrameView<'_>,
-    known: &Known<'_>,
+    known: &Facts<'_>,
 ) -> Result<(), AllocError> {
     let pid = frame.pid;
     text.push(' ')?;
     match (parameter(pid), known.parameter(pid)) {
         (Some(name), _) => text.push_str(name)?,
-        (None, Some(def)) => put_quoted(text, def.name.as_slice())?,
+        (None, Some(def)) => put_quoted(text, def.name)?,
         (None, None) => write!(text, "{pid:04X}")?,
     }
     if frame.sub == ROOT_DEVICE {
@@ -127,7 +128,7 @@ fn put_subject(
 fn put_short_value(
     text: &mut String,
     frame: &FrameView<'_>,
-    known: &Known<'_>,
+    known: &Facts<'_>,
 ) -> Result<(), AllocError> {
     let data = frame.body;
     let form = match layout_of(frame.class, frame.pid) {

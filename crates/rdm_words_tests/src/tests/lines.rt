@@ -66,7 +66,9 @@ FEFEAAFF7FFAF5AA55AA55AA55AB55AF57EA7E
 no frame (fewer bytes than the shortest frame): FEFEAAFF7FFAF5AA55AA55AA55AB55AF57EA7E
 
 CC01187FF0000000017FF00000000200010000002010000003F8
-no frame (wrong checksum): CC01187FF0000000017FF00000000200010000002010000003F8
+invalid: 7FF0:00000002 asks 7FF0:00000001: GET IDENTIFY_DEVICE (1000), root, transaction 0
+  wrong: checksum 03F8, should be 03F7
+  no frame (wrong checksum): CC01187FF0000000017FF00000000200010000002010000003F8
 
 cc 01 18 7f f0 00 00 00 01 7f f0 00 00 00 02 00 01 00 00 00 20 10 00 00 03 f7
 7FF0:00000002 asks 7FF0:00000001: GET IDENTIFY_DEVICE (1000), root, transaction 0
@@ -77,10 +79,12 @@ CC01217FF0000000027FF00000000500000000002102010900002D0014002D0000046E
 
 CC011A7FF0000000027FF000000001000000000021040302010203F5
 7FF0:00000001 answers 7FF0:00000002: ACK, GET response LAMP_STATE (0403), root, transaction 0
+  2 data slots where 0403 has 1
   data 0102
 
 CC011B7FF0000000027FF00000000100000000002100500300820004BF
 7FF0:00000001 answers 7FF0:00000002: ACK, GET response SUPPORTED_PARAMETERS (0050), root, transaction 0
+  3 data slots where 0050 has a multiple of 2
   supports DEVICE_LABEL (0082)
   data 00
 
@@ -121,7 +125,7 @@ arrive 1 0 reading -5
 job 0 of worker 1 has measured -5
 
 arrive 0 0 failed 04 8001 0002 0000
-job 0 of worker 0 has failed: error (04), Lamp failed to strike (8001), values 2 and 0
+job 0 of worker 0 has failed: error (04), status ID 8001, values 2 and 0
 
 panel start 101
 at the fixture's menu: DMX start address 101
@@ -151,7 +155,7 @@ send CC01187FF0000000017FF00000000200010000002010000003F7 lost-reply
   fault: the reply is lost
 
 # a comment
-not read: # a comment
+# a comment
 
 CC0
 not read: CC0

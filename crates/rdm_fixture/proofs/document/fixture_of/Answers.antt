@@ -1,16 +1,16 @@
-use Rattle.std.proofs.Common.{◌≡◌, Some, None, refl, inl, inr, sym, ◌∙◌, subst}
+use Rattle.std.proofs.Common.{◌≡◌, refl, inl, inr, sym, ◌∙◌, subst}
 use Rattle.toml.specs.View.{table_view}
 use Rattle.rdm_fixture.specs.declared.fixture.Fixture.{Fixture}
 use Rattle.rdm_fixture.specs.Drafts.{profile_with, fixture_with}
 use Rattle.rdm_fixture.specs.FirstWrong.{fixture_parts}
 use Rattle.rdm_fixture.specs.Format.{IsFixture, SaysFixture}
 use Rattle.rdm_fixture.specs.Working.{CanWork}
-use Rattle.rdm_fixture.specs.Wrong.{FirstWrong}
-use Rattle.rdm_fixture.proofs.Parts.{exit, some}
+use Rattle.rdm_fixture_keys.specs.Wrong.{FirstWrong}
+use Rattle.rdm_fixture_keys.proofs.Parts.{exit, some}
 use Rattle.rdm_fixture.proofs.Made.{made}
 use Rattle.rdm_fixture.proofs.Described.{describable}
 use Rattle.rdm_fixture.proofs.OneFixture.{one_said_fixture}
-use Rattle.rdm_fixture.proofs.Readings.{Reads-err, not_none, none_said}
+use Rattle.rdm_fixture_keys.proofs.Readings.{Reads-err, not_none, none_said}
 use Rattle.rdm_fixture.proofs.document.fixture_of.Goals as goal
 
 -- ---- what was read

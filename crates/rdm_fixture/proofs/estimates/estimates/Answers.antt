@@ -1,7 +1,7 @@
 use Rattle.std.proofs.Common.{◌≡◌, Some, codes}
 use Rattle.toml.specs.Data.{table, get_member}
 use Rattle.toml.specs.View.{table_view}
-use Rattle.rdm_fixture.specs.Faults.{told}
+use Rattle.rdm_fixture_keys.specs.Faults.{told}
 use Rattle.rdm_fixture.proofs.ListEntries.{found_table}
 use Rattle.rdm_fixture.proofs.estimates.estimates.Goals as goal
 

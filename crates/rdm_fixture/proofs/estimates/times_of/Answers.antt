@@ -1,9 +1,9 @@
 use Rattle.std.proofs.Common.{rules, ◌≡◌, Some, None, refl, inl, inr, codes}
 use Rattle.toml.specs.Data.{get_member}
 use Rattle.toml.specs.View.{table_view}
-use Rattle.rdm_fixture.specs.Keys.{may}
-use Rattle.rdm_fixture.specs.Values.{number}
-use Rattle.rdm_fixture.proofs.Parts.{free_none, free_right}
+use Rattle.rdm_fixture_keys.specs.Keys.{may}
+use Rattle.rdm_fixture_keys.specs.Values.{number}
+use Rattle.rdm_fixture_keys.proofs.Parts.{free_none, free_right}
 use Rattle.rdm_fixture.proofs.estimates.times_of.Goals as goal
 
 pub returns-in_default-clause-wrong : goal.returns-in_default-clause-wrong

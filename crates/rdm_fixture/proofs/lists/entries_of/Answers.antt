@@ -1,9 +1,8 @@
 use Rattle.std.proofs.Common.{◌≡◌, ◌+◌, sym, ap, ◌∙◌, get_or, subst, arith}
 use Rattle.toml.specs.View.{view}
 use Rattle.toml.specs.declared.value.Value.{Value}
-use Rattle.rdm_fixture.specs.Faults.{in_entry, told}
-use Rattle.rdm_fixture.specs.Keys.{OfTable}
-use Rattle.rdm_fixture.specs.Wrong.{InEntry}
+use Rattle.rdm_fixture_keys.specs.Faults.{in_entry, told}
+use Rattle.rdm_fixture.specs.Lists.{OfTable, InEntry}
 use Rattle.rdm_fixture.proofs.ListEntries.{EachIs-at, EachIs-more}
 use Rattle.rdm_fixture.proofs.WrongEntries.{first_at}
 use Rattle.rdm_fixture.proofs.lists.entries_of.Goals as goal

@@ -1,6 +1,6 @@
 use Rattle.std.proofs.Common.{◌≡◌, take, length}
 use Rattle.toml.specs.View.{items_view}
-use Rattle.rdm_fixture.specs.Keys.{EachIs, OfTable}
+use Rattle.rdm_fixture.specs.Lists.{EachIs, OfTable}
 use Rattle.rdm_fixture.proofs.lists.entries_of.Given as goal
 
 abbrev pub invariant-loop-i : goal.invariant-loop-i

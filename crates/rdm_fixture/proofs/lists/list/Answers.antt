@@ -2,10 +2,10 @@ use Rattle.std.proofs.Common.{◌≡◌, false, length, Some, inl, arith}
 use Rattle.toml.specs.Data.{array, get_member}
 use Rattle.toml.specs.View.{array_view, table_view}
 use Rattle.arrayvec.specs.declared.array_vec.ArrayVec.{ArrayVec}
-use Rattle.rdm_fixture.specs.Keys.{EachIs, Lists, OfTable, items_count}
-use Rattle.rdm_fixture.specs.Values.{within}
+use Rattle.rdm_fixture.specs.Lists.{EachIs, Lists, OfTable, items_count}
+use Rattle.rdm_fixture_keys.specs.Values.{within}
 use Rattle.rdm_fixture.proofs.ListEntries.{EachIs-length, found_array}
-use Rattle.rdm_fixture.proofs.Readings.{Reads-same}
+use Rattle.rdm_fixture_keys.proofs.Readings.{Reads-same}
 use Rattle.rdm_fixture.proofs.WrongEntries.{count_items, outside}
 use Rattle.rdm_fixture.proofs.lists.list.Goals as goal
 use Rattle.rdm_fixture.proofs.lists.list.Goals.{then-len-least-via-then-len-least, then-len-least-via-else-len-least+then-len}

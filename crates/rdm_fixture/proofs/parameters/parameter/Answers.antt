@@ -1,4 +1,4 @@
-use Rattle.std.proofs.Common.{◌≡◌, ℤ, Bool, Some, None, refl, sym, ap, subst, ◌∙◌, inl, inr, codes, rules}
+use Rattle.std.proofs.Common.{◌≡◌, ℤ, Bool, Some, None, refl, sym, subst, inl, inr, codes, rules}
 use Rattle.std.specs.Int.{w64}
 use Rattle.std.proofs.lemmas.Int.{to_z-of_z}
 use Rattle.toml.specs.Data.{get_member}
@@ -6,13 +6,13 @@ use Rattle.toml.specs.View.{table_view}
 use Rattle.rdm_fixture.specs.FirstWrong.{said_parts}
 use Rattle.rdm_device.specs.declared.profile.own.Shape.{Shape}
 use Rattle.rdm_device.specs.declared.profile.own.Rights.{Rights}
-use Rattle.rdm_fixture.specs.Keys.{may, must}
-use Rattle.rdm_fixture.specs.Parameters.{SaysParameter, least_of, greatest_of, limit, integer_from, low_in, high_in, start, flag, is_setting}
-use Rattle.rdm_fixture.specs.Values.{number}
-use Rattle.rdm_fixture.specs.Wrong.{FirstWrong}
+use Rattle.rdm_fixture_keys.specs.Keys.{may, must}
+use Rattle.rdm_fixture_keys.specs.Values.{integer_from, flag, number}
+use Rattle.rdm_fixture.specs.Parameters.{SaysParameter, least_of, greatest_of, limit, low_in, high_in, start, is_setting}
+use Rattle.rdm_fixture_keys.specs.Wrong.{FirstWrong}
 use Rattle.rdm_fixture.proofs.OneFixture.{one}
-use Rattle.rdm_fixture.proofs.Parts.{exit, some, free_right}
-use Rattle.rdm_fixture.proofs.Readings.{Reads-err, none_said}
+use Rattle.rdm_fixture_keys.proofs.Parts.{exit, some, free_right}
+use Rattle.rdm_fixture_keys.proofs.Readings.{Reads-err, none_said}
 use Rattle.rdm_fixture.proofs.SaidParameters.{parameter_at}
 use Rattle.rdm_fixture.proofs.parameters.parameter.Goals as goal
 

@@ -3,11 +3,11 @@ use Rattle.std.proofs.lemmas.Bool.Decides.{nat_tests}
 use Rattle.arrayvec.specs.declared.array_vec.ArrayVec.{ArrayVec}
 use Rattle.toml.specs.Data.{array, get_member}
 use Rattle.toml.specs.View.{array_view, table_view}
-use Rattle.rdm_fixture.specs.Keys.{EachIs, items_count}
+use Rattle.rdm_fixture.specs.Lists.{EachIs, items_count}
 use Rattle.rdm_fixture.specs.Format.{LanguagesAt}
-use Rattle.rdm_fixture.specs.Values.{language, within}
+use Rattle.rdm_fixture_keys.specs.Values.{language, within}
 use Rattle.rdm_fixture.proofs.ListEntries.{EachIs-length, found_array}
-use Rattle.rdm_fixture.proofs.Readings.{Reads-same}
+use Rattle.rdm_fixture_keys.proofs.Readings.{Reads-same}
 use Rattle.rdm_fixture.proofs.WrongEntries.{count_items, outside, language_wrong}
 use Rattle.rdm_fixture.proofs.profile.languages.Goals as goal
 use Rattle.rdm_fixture.proofs.profile.languages.Goals.{then-is_empty-via-then-is_empty, then-is_empty-via-else-is_empty+then-len-gt8}

@@ -1,6 +1,6 @@
 use Rattle.std.proofs.Common.{◌≡◌, Some, sym, ap, ◌∙◌, get_or, arith}
 use Rattle.toml.specs.View.{view}
-use Rattle.rdm_fixture.specs.Values.{language}
+use Rattle.rdm_fixture_keys.specs.Values.{language}
 use Rattle.rdm_fixture.proofs.ListEntries.{EachIs-at, EachIs-more}
 use Rattle.rdm_fixture.proofs.profile.languages_of.Goals as goal
 

@@ -1,7 +1,7 @@
 use Rattle.std.proofs.Common.{◌≡◌, take, length, Some}
 use Rattle.toml.specs.View.{items_view}
-use Rattle.rdm_fixture.specs.Keys.{EachIs}
-use Rattle.rdm_fixture.specs.Values.{language}
+use Rattle.rdm_fixture.specs.Lists.{EachIs}
+use Rattle.rdm_fixture_keys.specs.Values.{language}
 use Rattle.rdm_fixture.proofs.profile.languages_of.Given as goal
 
 abbrev pub invariant-loop-code : goal.invariant-loop-code

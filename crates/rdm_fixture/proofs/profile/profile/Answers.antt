@@ -6,15 +6,17 @@ use Rattle.rdm_device.specs.Device.Profiles.{Agree, HaveStates}
 use Rattle.toml.specs.Data.{Members, get_member}
 use Rattle.toml.specs.View.{table_view}
 use Rattle.rdm_fixture.specs.Drafts.{profile_with}
-use Rattle.rdm_fixture.specs.Faults.{told}
-use Rattle.rdm_fixture.specs.FirstWrong.{profile_parts, unit_parts, self_test_parts, status_parts, differing, names, optional, unneeded, added_parts, AreAdded, times, choice}
-use Rattle.rdm_fixture.specs.Format.{IsProfile, IsSelfTest, IsStatus, AreLocks, root_slots}
-use Rattle.rdm_fixture.specs.Keys.{may}
-use Rattle.rdm_fixture.specs.Values.{number, text}
-use Rattle.rdm_fixture.specs.Wrong.{Part, FirstWrong, AllRight, entries}
+use Rattle.rdm_fixture_keys.specs.Faults.{told}
+use Rattle.rdm_fixture_keys.specs.Entries.{self_test_parts, status_parts, IsSelfTest, IsStatus}
+use Rattle.rdm_fixture.specs.FirstWrong.{profile_parts, unit_parts, differing, names, optional, unneeded, added_parts, AreAdded, times, choice}
+use Rattle.rdm_fixture.specs.Format.{IsProfile, AreLocks, root_slots}
+use Rattle.rdm_fixture_keys.specs.Keys.{may}
+use Rattle.rdm_fixture_keys.specs.Values.{number, text}
+use Rattle.rdm_fixture_keys.specs.Wrong.{Part, FirstWrong, AllRight}
+use Rattle.rdm_fixture.specs.Lists.{entries}
 use Rattle.rdm_fixture.proofs.Made.{slots_counted}
-use Rattle.rdm_fixture.proofs.Parts.{exit, free_right, among, behind}
-use Rattle.rdm_fixture.proofs.Readings.{Reads-err}
+use Rattle.rdm_fixture_keys.proofs.Parts.{exit, free_right, among, behind}
+use Rattle.rdm_fixture_keys.proofs.Readings.{Reads-err}
 use Rattle.rdm_fixture.proofs.profile.profile.Goals as goal
 
 abbrev tests_parts : List Part

@@ -1,9 +1,9 @@
 use Rattle.std.proofs.Common.{◌≡◌, ◌+◌, List, inl, inr, sym, ap, ◌∙◌, subst, codes}
 use Rattle.rdm_device.specs.declared.profile.SelfTest.{SelfTest}
-use Rattle.rdm_fixture.specs.Faults.{in_entry}
+use Rattle.rdm_fixture_keys.specs.Faults.{in_entry}
 use Rattle.rdm_fixture.specs.FirstWrong.{IsFirstAgain}
-use Rattle.rdm_fixture.specs.Format.{IsSelfTest}
-use Rattle.rdm_fixture.proofs.Readings.{not_none}
+use Rattle.rdm_fixture_keys.specs.Entries.{IsSelfTest}
+use Rattle.rdm_fixture_keys.proofs.Readings.{not_none}
 use Rattle.rdm_fixture.proofs.OneFixture.{one_list, one_self_test}
 use Rattle.rdm_fixture.proofs.profile.self_tests.Goals as goal
 

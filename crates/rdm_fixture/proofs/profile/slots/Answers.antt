@@ -3,10 +3,11 @@ use Rattle.arrayvec.specs.declared.array_vec.ArrayVec.{ArrayVec}
 use Rattle.rdm_device.specs.declared.profile.Slot.{Slot}
 use Rattle.toml.specs.Data.{get_member}
 use Rattle.toml.specs.View.{table_view}
-use Rattle.rdm_fixture.specs.Format.{IsSlot, slot_count}
-use Rattle.rdm_fixture.specs.Keys.{Lists, OfTable}
+use Rattle.rdm_fixture_keys.specs.Entries.{IsSlot}
+use Rattle.rdm_fixture.specs.Format.{slot_count}
+use Rattle.rdm_fixture.specs.Lists.{Lists, OfTable}
 use Rattle.rdm_fixture.proofs.ListEntries.{slot_count-of}
-use Rattle.rdm_fixture.proofs.Readings.{Reads-ok}
+use Rattle.rdm_fixture_keys.proofs.Readings.{Reads-ok}
 use Rattle.rdm_fixture.proofs.profile.slots.Goals as goal
 
 pub returns-clause-count : goal.returns-clause-count

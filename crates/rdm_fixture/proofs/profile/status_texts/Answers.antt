@@ -1,9 +1,9 @@
 use Rattle.std.proofs.Common.{◌≡◌, ◌+◌, List, inl, inr, sym, ap, ◌∙◌, subst, codes}
 use Rattle.rdm_device.specs.declared.profile.StatusText.{StatusText}
-use Rattle.rdm_fixture.specs.Faults.{in_entry}
+use Rattle.rdm_fixture_keys.specs.Faults.{in_entry}
 use Rattle.rdm_fixture.specs.FirstWrong.{IsFirstAgain}
-use Rattle.rdm_fixture.specs.Format.{IsStatus}
-use Rattle.rdm_fixture.proofs.Readings.{not_none}
+use Rattle.rdm_fixture_keys.specs.Entries.{IsStatus}
+use Rattle.rdm_fixture_keys.proofs.Readings.{not_none}
 use Rattle.rdm_fixture.proofs.OneFixture.{one_list, one_status}
 use Rattle.rdm_fixture.proofs.profile.status_texts.Goals as goal
 

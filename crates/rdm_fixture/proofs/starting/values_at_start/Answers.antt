@@ -3,10 +3,10 @@ use Rattle.toml.specs.Data.{get_member}
 use Rattle.toml.specs.View.{table_view}
 use Rattle.rdm_fixture.specs.FirstWrong.{starting_parts}
 use Rattle.rdm_fixture.specs.Starting.{IsStarting}
-use Rattle.rdm_fixture.specs.Values.{number}
-use Rattle.rdm_fixture.specs.Wrong.{FirstWrong}
-use Rattle.rdm_fixture.proofs.Parts.{exit, free_right}
-use Rattle.rdm_fixture.proofs.Readings.{Reads-err, none_said}
+use Rattle.rdm_fixture_keys.specs.Values.{number}
+use Rattle.rdm_fixture_keys.specs.Wrong.{FirstWrong}
+use Rattle.rdm_fixture_keys.proofs.Parts.{exit, free_right}
+use Rattle.rdm_fixture_keys.proofs.Readings.{Reads-err, none_said}
 use Rattle.rdm_fixture.proofs.starting.values_at_start.Goals as goal
 
 pub returns-in_err-number_or-clause-wrong : goal.returns-in_err-number_or-clause-wrong

@@ -1,8 +1,8 @@
 use Rattle.std.proofs.Common.{refl, inr}
 use Rattle.toml.specs.View.{table_view}
 use Rattle.rdm_fixture.specs.FirstWrong.{sub_parts}
-use Rattle.rdm_fixture.specs.Wrong.{FirstWrong}
-use Rattle.rdm_fixture.proofs.Parts.{exit, some}
+use Rattle.rdm_fixture_keys.specs.Wrong.{FirstWrong}
+use Rattle.rdm_fixture_keys.proofs.Parts.{exit, some}
 use Rattle.rdm_fixture.proofs.unit.counted_unit.Goals as goal
 
 pub returns-in_err-unit-clause-wrong : goal.returns-in_err-unit-clause-wrong

@@ -2,9 +2,9 @@ use Rattle.std.proofs.Common.{[], inl, inr, codes}
 use Rattle.toml.specs.Data.{get_member}
 use Rattle.toml.specs.View.{table_view}
 use Rattle.rdm_fixture.specs.FirstWrong.{unit_parts}
-use Rattle.rdm_fixture.specs.Values.{number, text}
-use Rattle.rdm_fixture.specs.Wrong.{FirstWrong}
-use Rattle.rdm_fixture.proofs.Parts.{exit, some, free_right}
+use Rattle.rdm_fixture_keys.specs.Values.{number, text}
+use Rattle.rdm_fixture_keys.specs.Wrong.{FirstWrong}
+use Rattle.rdm_fixture_keys.proofs.Parts.{exit, some, free_right}
 use Rattle.rdm_fixture.proofs.unit.unit.Goals as goal
 
 pub returns-in_err-text_or_none-clause-wrong : goal.returns-in_err-text_or_none-clause-wrong

@@ -2,9 +2,9 @@ use Rattle.std.proofs.Common.{rules, ◌≡◌, Some, None, refl, inl, inr, code
 use Rattle.toml.specs.Data.{get_member}
 use Rattle.toml.specs.View.{table_view}
 use Rattle.rdm_device.specs.declared.profile.workers.Worker.TheVariants.{First, Second}
-use Rattle.rdm_fixture.specs.Keys.{may}
-use Rattle.rdm_fixture.specs.Values.{worker}
-use Rattle.rdm_fixture.proofs.Parts.{free_none, free_right}
+use Rattle.rdm_fixture_keys.specs.Keys.{may}
+use Rattle.rdm_fixture_keys.specs.Values.{worker}
+use Rattle.rdm_fixture_keys.proofs.Parts.{free_none, free_right}
 use Rattle.rdm_fixture.proofs.workers.choice_of.Goals as goal
 
 pub returns-in_default-clause-wrong : goal.returns-in_default-clause-wrong

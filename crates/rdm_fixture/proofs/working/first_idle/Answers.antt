@@ -1,7 +1,6 @@
 use Rattle.std.proofs.Common.{◌≡◌, ℕ, zero, suc, ◌+◌, ◌<◌, ◌⊎◌, inl, inr, List, [], ◌∷◌, Option, None, length, slice_index_or, refl, ap, subst, sym, ◌∙◌, arith, rules}
-use Rattle.rdm_device.specs.declared.profile.Profile.{Profile}
 use Rattle.rdm_outcomes.specs.declared.rule.Rule.{Rule}
-use Rattle.rdm_fixture.specs.declared.refusal.Agreement.{Agreement}
+use Rattle.rdm_fixture_keys.specs.declared.refusal.Agreement.{Agreement}
 use Rattle.rdm_fixture.specs.Working.{idle_with}
 use Rattle.rdm_fixture.proofs.working.first_idle.Goals as goal
 

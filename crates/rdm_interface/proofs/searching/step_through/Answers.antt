@@ -1,11 +1,12 @@
-use Rattle.std.proofs.Common.{ℕ, ◌+◌, ◌*◌, ◌<◌, List, Option, Ok, sym, ◌∙◌, subst, arith}
+use Rattle.std.proofs.Common.{ℕ, ◌+◌, ◌*◌, ◌<◌, List, [], Option, Ok, refl, sym, ◌∙◌, subst, arith}
 use Rattle.rdm_frame.specs.declared.frame.Frame.{Frame}
 use Rattle.rdm_search.specs.Answers.{found_uids}
 use Rattle.rdm_search.specs.Searches.{next_of}
 use Rattle.rdm_search.specs.Stages.{request_of}
+use Rattle.rdm_search.proofs.Exchanges.{nothing_said}
 use Rattle.rdm_search.proofs.Runs.{Same}
-use Rattle.rdm_interface.specs.Lines.{IsAskedAgain}
-use Rattle.rdm_interface.proofs.Searches.{ends, goes_on, stops, finds_real, noted_more}
+use Rattle.rdm_interface.specs.Lines.{IsAskedAgain, IsExchange}
+use Rattle.rdm_interface.proofs.Searches.{ends, goes_on, stops, finds_real, noted_more, failed_said, transaction_said}
 use Rattle.rdm_interface.proofs.searching.step_through.Goals as goal
 
 pub returns-in-Ok-None-clause-ended : goal.returns-in-Ok-None-clause-ended
@@ -42,3 +43,28 @@ pub returns-in-Ok-hear-clause-kept : goal.returns-in-Ok-hear-clause-kept
 returns-in-Ok-hear-clause-kept g c =
     let more = noted_more c.args.search.now.stage c.args.search.now.found.items c.as_slice.result.now in
     (more.0, c.in-Ok-hear.ensures.found ∙ more.1)
+
+pub returns-in-Ok-None-clause-said : goal.returns-in-Ok-None-clause-said
+returns-in-Ok-None-clause-said g c =
+    let old = c.args.search.now in
+    (c.args.port.now, nothing_said (IsExchange g.P.Port.hears) old.source [] c.args.port.now c.args.port.now old.found.items old.found.items refl refl, refl)
+
+pub returns-in-Ok-hear-clause-said : goal.returns-in-Ok-hear-clause-said
+returns-in-Ok-hear-clause-said g c =
+    let old = c.args.search.now in
+    let said = transaction_said g.P.Port.hears c.args.retries c.args.port.now c.heard_of.new.port old.source old.tn old.left old.stage old.found.items c.hear.new.self.found.items
+    c.in-Ok-Some.frame c.as_slice.result.now
+    (subst (λ (o : Option Frame). Same (Ok o) (next_of old.source old.tn (request_of old.stage) old.left)) c.in-Ok-Some.field-0-is c.in-Ok-Some.ensures)
+    (subst (λ (h : List ℕ). IsAskedAgain g.P.Port.hears c.args.retries c.args.port.now c.heard_of.new.port c.in-Ok-Some.frame h) (sym c.as_slice.ensures.value) c.in-Ok.ensures.heard)
+    c.in-Ok-hear.ensures.found in
+    (c.heard_of.new.port, said, refl)
+
+pub returns-in-Err-hear-clause-said : goal.returns-in-Err-hear-clause-said
+returns-in-Err-hear-clause-said g c =
+    failed_said g.P.Port.hears c.args.search.now.source c.args.port.now c.args.search.now.found.items c.hear.new.self.found.items c.in-Err-hear.ensures.same.1
+
+pub returns-in-Err-heard_of-clause-said : goal.returns-in-Err-heard_of-clause-said
+returns-in-Err-heard_of-clause-said g c = failed_said g.P.Port.hears c.args.search.now.source c.args.port.now c.args.search.now.found.items c.args.search.now.found.items refl
+
+pub returns-in-Err-clause-said : goal.returns-in-Err-clause-said
+returns-in-Err-clause-said g c = failed_said g.P.Port.hears c.args.search.now.source c.args.port.now c.args.search.now.found.items c.args.search.now.found.items refl

@@ -1,3 +1,6 @@
+use Rattle.std.proofs.Common.{sym, subst, get_or-set_other, get_or-set_same}
+use Rattle.std.specs.Prelude.{IfSome}
+use Rattle.rdm_line.specs.Keeping.{CameTo}
 use Rattle.rdm_line.proofs.Each.{map_set}
 use Rattle.rdm_line.proofs.Zips.{zip_at, zip_set}
 use Rattle.rdm_line.proofs.hearing.hear_at.Goals as goal
@@ -13,3 +16,11 @@ returns-clause-stands g c before after h place zip =
 
 pub returns-clause-rest : goal.returns-clause-rest
 returns-clause-rest g c = map_set g.D.Device.rest c.args.devices.now c.args.index _ _ c.hear.ensures.rest
+
+pub returns-clause-kept : goal.returns-clause-kept
+returns-clause-kept g c before after h place zip d =
+    subst (λ (x : g.row.D.Denot). IfSome (g.D.Device.came_to x) (CameTo h c.args.bytes.now)) (sym (get_or-set_same c.args.devices.now c.args.index c.hear.new.self d c.requires))
+    (c.hear.ensures.kept h (zip_at g.D.Device.stands c.args.devices.now before h after c.args.index _ place zip))
+
+pub returns-clause-others : goal.returns-clause-others
+returns-clause-others g c i d other = get_or-set_other c.args.devices.now c.args.index i c.hear.new.self d other

@@ -1,9 +1,10 @@
-use Rattle.std.proofs.Common.{◌≡◌, ap, subst, ◌∙◌}
-use Rattle.std.specs.Prelude.{List, ℕ}
+use Rattle.std.proofs.Common.{◌≡◌, map, ap, subst, ◌∙◌}
+use Rattle.std.specs.Prelude.{List, [], ℕ}
 use Rattle.rdm_frame.specs.FrameText.{frame_text, IsFrame}
 use Rattle.rdm_search.specs.Requests.{request_frame}
 use Rattle.rdm_line.specs.Collisions.{on_wire}
-use Rattle.rdm_line.specs.Hearing.{answers}
+use Rattle.rdm_line.specs.Hearing.{answers, heard_by}
+use Rattle.rdm_line.specs.Line.{StandFor}
 use Rattle.rdm_line.proofs.Ports.{Asked, lives_on, muted_after, asked_is_heard}
 use Rattle.rdm_line.proofs.port.ask.Goals as goal
 
@@ -18,6 +19,14 @@ returns-clause-alive g c =
       devices = c.uids_differ.ensures.devices;
       differ = c.uids_differ.ensures.differ;
     })
+
+pub returns-clause-exchanged : goal.returns-clause-exchanged
+returns-clause-exchanged g c hs stand =
+    let text : c.as_slice.result.now ≡ frame_text c.args.frame.now = c.as_slice.ensures.value ∙ c.encode.ensures in
+    let line = c.hear.ensures.line hs stand ∙ ap (λ (before : List ℕ). on_wire c.args.line.now.rule before (answers c.as_slice.result.now hs)) c.new-wire.ensures in (
+      ap (λ x. x.1) line ∙ ap (λ (bytes : List ℕ). (on_wire c.args.line.now.rule [] (answers bytes hs)).1) text,
+      subst (λ (bytes : List ℕ). StandFor g.D.Device.stands c.hear.new.self (map (heard_by bytes) hs)) text (c.hear.ensures.stands hs stand),
+    )
 
 pub returns-clause-heard : goal.returns-clause-heard
 returns-clause-heard g c request source tn is e =

@@ -1,9 +1,12 @@
-use Rattle.std.proofs.Common.{ℕ, ◌+◌, ◌*◌, ◌≤◌, List, Option, Some, None, Ok, refl, sym, ap, ◌∙◌, subst, arith}
+use Rattle.std.proofs.Common.{ℕ, ◌+◌, ◌*◌, ◌≤◌, List, [], ◌∷◌, Option, Some, None, Ok, refl, sym, ap, ◌∙◌, subst, arith}
 use Rattle.rdm_frame.specs.declared.frame.Frame.{Frame}
 use Rattle.rdm_search.specs.Answers.{found_uids}
 use Rattle.rdm_search.specs.Line.{Fixture, IsAnswer, uids}
+use Rattle.rdm_search.specs.Requests.{request_frame}
 use Rattle.rdm_search.specs.Searches.{next_of}
 use Rattle.rdm_search.specs.Stages.{request_of, Stands, price}
+use Rattle.rdm_search.specs.Exchanges.{IsAsked}
+use Rattle.rdm_search.proofs.Exchanges.{asked_said, nothing_said, once, sends}
 use Rattle.rdm_search.proofs.Runs.{Same, request_fits, request_keeps, answer_leads, altered_more, ended, costs, next_frame, next_none, next_err, on_err}
 use Rattle.rdm_search.proofs.driving.turn.Goals as goal
 
@@ -63,3 +66,25 @@ returns-in_ok-hear-in-Some-clause-same g c =
     let is : Same (Ok (Some c.in-Some.frame)) (next_of old.source old.tn (request_of old.stage) old.left) = subst (λ (o : Option Frame). Same (Ok o) (next_of old.source old.tn (request_of old.stage) old.left)) c.in-Some.is c.in_ok-next.ensures in
     let n = next_frame old.source old.tn (request_of old.stage) old.left c.in-Some.frame is in
     ap uids (c.exchange-heard.ensures.after n.0 old.source old.tn (request_fits old.stage n.0 old.valid n.1) n.2) ∙ request_keeps n.0 line
+
+pub returns-in_err-next-clause-said : goal.returns-in_err-next-clause-said
+returns-in_err-next-clause-said g c = nothing_said g.P.Port.hears _ [] _ _ _ _ refl refl
+
+pub returns-in-None-clause-said : goal.returns-in-None-clause-said
+returns-in-None-clause-said g c = nothing_said g.P.Port.hears _ [] _ _ _ _ refl refl
+
+pub returns-in_err-hear-in-Some-clause-said : goal.returns-in_err-hear-in-Some-clause-said
+returns-in_err-hear-in-Some-clause-said g c =
+    nothing_said g.P.Port.hears c.args.search.now.source (sends c.in-Some.frame c.exchange-heard.result ∷ []) c.args.port.now c.exchange-heard.new.self c.args.search.now.found.items c.hear.new.self.found.items
+    (c.exchange-heard.new.self, c.exchange-heard.ensures.exchanged, refl) c.in_err-hear-in-Some.ensures.same.1
+
+pub returns-in_ok-hear-in-Some-clause-said : goal.returns-in_ok-hear-in-Some-clause-said
+returns-in_ok-hear-in-Some-clause-said g c =
+    let old = c.args.search.now in
+    let is : Same (Ok (Some c.in-Some.frame)) (next_of old.source old.tn (request_of old.stage) old.left) = subst (λ (o : Option Frame). Same (Ok o) (next_of old.source old.tn (request_of old.stage) old.left)) c.in-Some.is c.in_ok-next.ensures in
+    let n = next_frame old.source old.tn (request_of old.stage) old.left c.in-Some.frame is in
+    let asked = once g.P.Port.hears c.args.port.now c.exchange-heard.new.self c.in-Some.frame c.exchange-heard.result c.exchange-heard.ensures.exchanged in
+    asked_said g.P.Port.hears old.source old.tn old.stage n.0 c.args.port.now c.exchange-heard.new.self old.found.items c.hear.new.self.found.items c.as_slice.result.now n.1
+    (subst (λ (h : List ℕ). IsAsked g.P.Port.hears c.args.port.now (request_frame old.source old.tn n.0) h c.exchange-heard.new.self) (sym c.as_slice.ensures.value)
+    (subst (λ (f : Frame). IsAsked g.P.Port.hears c.args.port.now f c.exchange-heard.result c.exchange-heard.new.self) n.2 asked))
+    c.in_ok-hear-in-Some.ensures.found

@@ -12,7 +12,7 @@ returns-in_err-put_whole-clause-line c = λ number is.
     let p = err_from_is_err_and c.from_residual.result c.from_residual.ensures.1 in
     let cause = c.in_err-put_whole.ensures.unread number cc in
     let left : drop c.loop-end.index (pieces_of c.args.trace.now) ≡ take end rest ∷ pieces_of (drop (end + 1) rest) = sym c.loop-end.invariant.left ∙ pieces_more rest end (sym c.in-Some.ensures.end) in
-    unread (pieces_of c.args.trace.now) c.loop-end.index number (take end rest) _ c.loop-end.lines.items (next _ _ _ _ left) cause.0 cause.1 c.loop-end.invariant.read
+    unread (pieces_of c.args.trace.now) c.loop-end.index number (take end rest) _ c.loop-end.lines.items (next _ _ _ _ left) cause.0 cause.1 cause.2 c.loop-end.invariant.read
 
 pub loop-end-preserved : goal.loop-end-preserved
 loop-end-preserved c =
@@ -34,7 +34,7 @@ returns-in_err-put_last-clause-line c = λ number is.
     let p = err_from_is_err_and c.from_residual-in_err-put_last.result c.from_residual-in_err-put_last.ensures.1 in
     let cause = c.in_err-put_last.ensures.unread number cc in
     let left : drop c.loop-end.index (pieces_of c.args.trace.now) ≡ rest ∷ [] = sym c.loop-end.invariant.left ∙ pieces_last rest (sym c.in_default.ensures.end) in
-    unread (pieces_of c.args.trace.now) c.loop-end.index number rest [] c.loop-end.lines.items (next _ _ _ _ left) cause.0 cause.1 c.loop-end.invariant.read
+    unread (pieces_of c.args.trace.now) c.loop-end.index number rest [] c.loop-end.lines.items (next _ _ _ _ left) cause.0 cause.1 cause.2 c.loop-end.invariant.read
 
 pub returns : goal.returns
 returns c =

@@ -1,11 +1,11 @@
 use Rattle.std.proofs.Common.{◌≡◌, ◌∙◌, [], ◌∷◌, Some, refl, sym, ap, inl, inr}
 use Rattle.toml.specs.View.{table_view}
-use Rattle.rdm_fixture.specs.Faults.{fault}
+use Rattle.rdm_fixture_keys.specs.Faults.{fault}
 use Rattle.rdm_fixture.specs.FirstWrong as parts
 use Rattle.rdm_fixture.specs.Outcomes.{outcome_in}
-use Rattle.rdm_fixture.specs.Wrong.{AllRight}
-use Rattle.rdm_fixture.specs.declared.refusal.Wanted.TheVariants as wanted
-use Rattle.rdm_fixture.proofs.Parts.{behind, some}
+use Rattle.rdm_fixture_keys.specs.Wrong.{AllRight}
+use Rattle.rdm_fixture_keys.specs.declared.refusal.Wanted.TheVariants as wanted
+use Rattle.rdm_fixture_keys.proofs.Parts.{behind, some}
 use Rattle.rdm_fixture.proofs.WrongRules.{unsuited}
 use Rattle.rdm_fixture.proofs.outcomes.wrong.what_is_wrong.Goals as goal
 

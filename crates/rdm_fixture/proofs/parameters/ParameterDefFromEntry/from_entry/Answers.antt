@@ -1,14 +1,14 @@
-use Rattle.std.proofs.Common.{◌≡◌, Bool, true, inl, inr, sym, ap, ◌∙◌}
+use Rattle.std.proofs.Common.{◌≡◌, true, inl, inr, sym, ap, ◌∙◌}
 use Rattle.std.proofs.lemmas.Bool.{false≢true}
 use Rattle.rdm_device.specs.Device.OwnParameters.{can_start, has_good_fields}
 use Rattle.rdm_device.specs.Device.Standards.{follows}
 use Rattle.toml.specs.View.{table_view}
 use Rattle.rdm_fixture.specs.FirstWrong.{parameter_parts}
 use Rattle.rdm_fixture.specs.Parameters.{IsParameter, can_reset}
-use Rattle.rdm_fixture.specs.Wrong.{FirstWrong}
+use Rattle.rdm_fixture_keys.specs.Wrong.{FirstWrong}
 use Rattle.rdm_fixture.proofs.OneFixture.{one_said}
-use Rattle.rdm_fixture.proofs.Parts.{exit}
-use Rattle.rdm_fixture.proofs.Readings.{Reads-err}
+use Rattle.rdm_fixture_keys.proofs.Parts.{exit}
+use Rattle.rdm_fixture_keys.proofs.Readings.{Reads-err}
 use Rattle.rdm_fixture.proofs.parameters.ParameterDefFromEntry.from_entry.Goals as goal
 
 pub returns-in_err-def-clause-read : goal.returns-in_err-def-clause-read

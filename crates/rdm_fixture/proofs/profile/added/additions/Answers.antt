@@ -1,17 +1,19 @@
-use Rattle.std.proofs.Common.{◌≡◌, ◌<◌, ◌++◌, List, [], ◌∷◌, AllPairs, inl, inr, sym, ap, ◌∙◌, subst, codes}
+use Rattle.std.proofs.Common.{◌≡◌, ◌<◌, ◌++◌, List, [], ◌∷◌, AllPairs, inl, inr, sym, ◌∙◌, subst, codes}
 use Rattle.std.proofs.lemmas.Bool.{false≢true}
 use Rattle.rdm_device.specs.declared.profile.choices.ChoiceName.{ChoiceName}
 use Rattle.rdm_device.specs.declared.profile.locks.Lock.{Lock}
 use Rattle.rdm_device.specs.declared.profile.own.ParameterDef.{ParameterDef}
 use Rattle.rdm_device.specs.Device.Profiles.{Agree, HaveStates}
 use Rattle.toml.specs.View.{table_view}
-use Rattle.rdm_fixture.specs.FirstWrong.{AreAdded, added_parts, parameter_parts, ascending, choice_parts, agreeing, lock_parts, stated}
-use Rattle.rdm_fixture.specs.Format.{IsChoice, AreLocks}
+use Rattle.rdm_fixture_keys.specs.Entries.{choice_parts, IsChoice}
+use Rattle.rdm_fixture.specs.FirstWrong.{AreAdded, added_parts, parameter_parts, ascending, agreeing, lock_parts, stated}
+use Rattle.rdm_fixture.specs.Format.{AreLocks}
 use Rattle.rdm_fixture.specs.Parameters.{IsParameter}
-use Rattle.rdm_fixture.specs.Wrong.{Part, FirstWrong, entries}
+use Rattle.rdm_fixture_keys.specs.Wrong.{Part, FirstWrong}
+use Rattle.rdm_fixture.specs.Lists.{entries}
 use Rattle.rdm_fixture.proofs.OneFixture.{one_list, one_parameter, one_choice_name, one_locks}
-use Rattle.rdm_fixture.proofs.Parts.{exit, among}
-use Rattle.rdm_fixture.proofs.Readings.{Reads-err}
+use Rattle.rdm_fixture_keys.proofs.Parts.{exit, among}
+use Rattle.rdm_fixture_keys.proofs.Readings.{Reads-err}
 use Rattle.rdm_fixture.proofs.profile.added.additions.Goals as goal
 
 abbrev own_parts : List Part

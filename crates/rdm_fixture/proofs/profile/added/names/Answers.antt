@@ -4,10 +4,10 @@ use Rattle.toml.specs.Data.{array, get_member}
 use Rattle.toml.specs.View.{array_view, table_view}
 use Rattle.rdm_fixture.specs.FirstWrong.{AreNamed}
 use Rattle.rdm_fixture.specs.Format.{parameter_named}
-use Rattle.rdm_fixture.specs.Keys.{EachIs, items_count}
-use Rattle.rdm_fixture.specs.Values.{within}
+use Rattle.rdm_fixture.specs.Lists.{EachIs, items_count}
+use Rattle.rdm_fixture_keys.specs.Values.{within}
 use Rattle.rdm_fixture.proofs.ListEntries.{EachIs-length, found_array}
-use Rattle.rdm_fixture.proofs.Readings.{Reads-same}
+use Rattle.rdm_fixture_keys.proofs.Readings.{Reads-same}
 use Rattle.rdm_fixture.proofs.WrongEntries.{count_items, outside, name_wrong}
 use Rattle.rdm_fixture.proofs.profile.added.names.Goals as goal
 

@@ -1,9 +1,9 @@
 use Rattle.std.proofs.Common.{◌≡◌, ◌+◌, List, inl, inr, sym, ap, ◌∙◌, subst, codes}
 use Rattle.rdm_device.specs.declared.profile.own.ParameterDef.{ParameterDef}
-use Rattle.rdm_fixture.specs.Faults.{in_entry}
+use Rattle.rdm_fixture_keys.specs.Faults.{in_entry}
 use Rattle.rdm_fixture.specs.FirstWrong.{IsFirstBelow}
 use Rattle.rdm_fixture.specs.Parameters.{IsParameter}
-use Rattle.rdm_fixture.proofs.Readings.{not_none}
+use Rattle.rdm_fixture_keys.proofs.Readings.{not_none}
 use Rattle.rdm_fixture.proofs.OneFixture.{one_list, one_parameter}
 use Rattle.rdm_fixture.proofs.profile.added.own_parameters.Goals as goal
 

@@ -1,7 +1,7 @@
 use Rattle.std.proofs.Common.{◌≡◌, take, length, Some}
 use Rattle.toml.specs.View.{items_view}
 use Rattle.rdm_fixture.specs.Format.{parameter_named}
-use Rattle.rdm_fixture.specs.Keys.{EachIs}
+use Rattle.rdm_fixture.specs.Lists.{EachIs}
 use Rattle.rdm_fixture.proofs.profile.added.pids_of.Given as goal
 
 abbrev pub invariant-loop-name : goal.invariant-loop-name

@@ -5,10 +5,10 @@ use Rattle.toml.specs.Data.{array, get_member}
 use Rattle.toml.specs.View.{array_view, table_view}
 use Rattle.rdm_fixture.specs.FirstWrong.{AreLocked}
 use Rattle.rdm_fixture.specs.Format.{locked_pid}
-use Rattle.rdm_fixture.specs.Keys.{EachIs, items_count}
-use Rattle.rdm_fixture.specs.Values.{within}
+use Rattle.rdm_fixture.specs.Lists.{EachIs, items_count}
+use Rattle.rdm_fixture_keys.specs.Values.{within}
 use Rattle.rdm_fixture.proofs.ListEntries.{EachIs-length, found_array}
-use Rattle.rdm_fixture.proofs.Readings.{Reads-same}
+use Rattle.rdm_fixture_keys.proofs.Readings.{Reads-same}
 use Rattle.rdm_fixture.proofs.WrongEntries.{count_items, outside, pid_wrong}
 use Rattle.rdm_fixture.proofs.profile.locks.locked.Goals as goal
 use Rattle.rdm_fixture.proofs.profile.locks.locked.Goals.{then-is_empty-via-then-is_empty, then-is_empty-via-else-is_empty+then-len-gt64}

@@ -1,9 +1,8 @@
 use Rattle.std.proofs.Common.{◌≡◌, ◌<◌, List, length, inl, inr, sym, ap, ◌∙◌, subst, arith}
-use Rattle.rdm_device.specs.declared.profile.locks.Lock.{Lock}
 use Rattle.rdm_fixture.specs.declared.profile.locks.Locking.{Locking}
 use Rattle.rdm_fixture.specs.Format.{IsLocking, AreLocks, all_locks}
 use Rattle.rdm_fixture.proofs.OneFixture.{one_list, one_locking}
-use Rattle.rdm_fixture.proofs.Readings.{Reads-err}
+use Rattle.rdm_fixture_keys.proofs.Readings.{Reads-err}
 use Rattle.rdm_fixture.proofs.profile.locks.locks.Goals as goal
 
 -- A list that can't be read says no locks.

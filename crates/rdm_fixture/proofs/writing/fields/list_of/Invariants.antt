@@ -1,7 +1,7 @@
 use Rattle.std.proofs.Common.{take, ℕ, ◌+◌, All}
 use Rattle.toml.specs.Data.{array}
 use Rattle.toml.specs.View.{items_view}
-use Rattle.rdm_fixture.specs.Keys.{EachIs, OfTable}
+use Rattle.rdm_fixture.specs.Lists.{EachIs, OfTable}
 use Rattle.rdm_fixture.specs.Writing.{IsPlain}
 use Rattle.rdm_fixture.proofs.writing.fields.list_of.Given as goal
 

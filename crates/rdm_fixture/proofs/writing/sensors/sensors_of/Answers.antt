@@ -1,7 +1,7 @@
 use Rattle.std.proofs.Common.{◌≡◌, ◌<◌, take, sym, arith, length, rules}
 use Rattle.std.proofs.lemmas.List.{take_all}
 use Rattle.toml.proofs.Views.{view-Array}
-use Rattle.rdm_fixture.specs.Format.{IsSensor}
+use Rattle.rdm_fixture_keys.specs.Entries.{IsSensor}
 use Rattle.rdm_fixture.specs.Starting.{SaysPresent}
 use Rattle.rdm_fixture.proofs.WrittenLists.{entry_more, plain_more}
 use Rattle.rdm_fixture.proofs.writing.sensors.sensors_of.Goals as goal

@@ -2,8 +2,8 @@ use Rattle.std.proofs.Common.{take, IsTrue, All}
 use Rattle.toml.specs.Data.{array}
 use Rattle.toml.specs.View.{items_view}
 use Rattle.rdm_fixture.specs.Describable.{are_printable}
-use Rattle.rdm_fixture.specs.Format.{IsSensor}
-use Rattle.rdm_fixture.specs.Keys.{EachIs, OfTable}
+use Rattle.rdm_fixture_keys.specs.Entries.{IsSensor}
+use Rattle.rdm_fixture.specs.Lists.{EachIs, OfTable}
 use Rattle.rdm_fixture.specs.Starting.{SaysPresent}
 use Rattle.rdm_fixture.specs.Writing.{IsPlain}
 use Rattle.rdm_fixture.proofs.writing.sensors.sensors_of.Given as goal

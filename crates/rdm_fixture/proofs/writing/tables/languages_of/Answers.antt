@@ -3,8 +3,8 @@ use Rattle.std.proofs.lemmas.List.{take_all}
 use Rattle.toml.specs.View.{items_view}
 use Rattle.toml.proofs.Views.{view-Array}
 use Rattle.rdm_fixture.specs.Describable.{is_coded}
-use Rattle.rdm_fixture.specs.Keys.{EachIs}
-use Rattle.rdm_fixture.specs.Values.{language}
+use Rattle.rdm_fixture.specs.Lists.{EachIs}
+use Rattle.rdm_fixture_keys.specs.Values.{language}
 use Rattle.rdm_fixture.proofs.WrittenFixtures.{code_more}
 use Rattle.rdm_fixture.proofs.WrittenLists.{plain_last}
 use Rattle.rdm_fixture.proofs.writing.tables.languages_of.Goals as goal

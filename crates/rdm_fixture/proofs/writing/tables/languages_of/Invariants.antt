@@ -2,8 +2,8 @@ use Rattle.std.proofs.Common.{◌≡◌, Some, take, All, IsTrue}
 use Rattle.toml.specs.Data.{array}
 use Rattle.toml.specs.View.{items_view}
 use Rattle.rdm_fixture.specs.Describable.{is_coded}
-use Rattle.rdm_fixture.specs.Keys.{EachIs}
-use Rattle.rdm_fixture.specs.Values.{language}
+use Rattle.rdm_fixture.specs.Lists.{EachIs}
+use Rattle.rdm_fixture_keys.specs.Values.{language}
 use Rattle.rdm_fixture.specs.Writing.{IsPlain}
 use Rattle.rdm_fixture.proofs.writing.tables.languages_of.Given as goal
 

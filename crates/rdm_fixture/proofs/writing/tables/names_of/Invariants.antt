@@ -3,7 +3,7 @@ use Rattle.toml.specs.Data.{array}
 use Rattle.toml.specs.View.{items_view}
 use Rattle.rdm_device.specs.Device.LeftOut.{is_optional}
 use Rattle.rdm_fixture.specs.Format.{parameter_named}
-use Rattle.rdm_fixture.specs.Keys.{EachIs}
+use Rattle.rdm_fixture.specs.Lists.{EachIs}
 use Rattle.rdm_fixture.specs.Writing.{IsPlain}
 use Rattle.rdm_fixture.proofs.writing.tables.names_of.Given as goal
 

@@ -1,9 +1,10 @@
 use Rattle.std.proofs.Common.{◌≡◌, ◌≤◌, Some, ap, sym, subst, length, refl, option_map, arith}
 use Rattle.toml.specs.Data.{Members, table}
 use Rattle.toml.specs.View.{view, table_view}
-use Rattle.rdm_fixture.specs.Format.{IsFixture, IsSlot, IsSensor, IsSelfTest, IsStatus, IsChoice, IsLocking, parameter_named}
+use Rattle.rdm_fixture_keys.specs.Entries.{IsSlot, IsSensor, IsSelfTest, IsStatus, IsChoice}
+use Rattle.rdm_fixture.specs.Format.{IsFixture, IsLocking, parameter_named}
 use Rattle.rdm_fixture.specs.Parameters.{IsParameter}
-use Rattle.rdm_fixture.specs.Keys.{ListAt, OfTable}
+use Rattle.rdm_fixture.specs.Lists.{ListAt, OfTable}
 use Rattle.rdm_fixture.specs.Outcomes.{IsOutcome}
 use Rattle.rdm_fixture.specs.Starting.{SaysPresent}
 use Rattle.rdm_fixture.specs.Writing.{locking_of, IsPlain}

@@ -1,8 +1,8 @@
 use Rattle.std.proofs.Common.{◌≤◌, All, IsTrue, ap, length, refl, option_map, arith}
 use Rattle.toml.specs.View.{view, members_view}
 use Rattle.rdm_fixture.specs.Describable.{are_printable}
-use Rattle.rdm_fixture.specs.Keys.{ListAt, OfTable}
-use Rattle.rdm_fixture.specs.Format.{IsPersonality}
+use Rattle.rdm_fixture.specs.Lists.{ListAt, OfTable}
+use Rattle.rdm_fixture_keys.specs.Entries.{IsPersonality}
 use Rattle.rdm_fixture.proofs.WrittenLists.{some_plain}
 use Rattle.rdm_fixture.proofs.WrittenUnits.{unit_says, unit_plain, can_write}
 use Rattle.rdm_fixture.proofs.writing.units.unit_table.Goals as goal

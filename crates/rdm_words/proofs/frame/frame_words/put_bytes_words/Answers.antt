@@ -1,20 +1,16 @@
-use Rattle.std.proofs.Common.{arith}
-use Rattle.rdm_words.proofs.Fixed.{adds_none, adds_bytes, clash, same_err}
-use Rattle.rdm_words.proofs.Last.{last_of_frame, last_of_none}
+use Rattle.std.proofs.Common.{◌≡◌, ℕ, List, string_bytes, subst, ◌∙◌}
+use Rattle.rdm_words.specs.Fixed.{with_start, AreWordsOfWhole}
+use Rattle.rdm_words.specs.Unread.{AreLastOfWhole}
+use Rattle.rdm_words.proofs.Fixed.{Adds}
+use Rattle.rdm_words.proofs.Last.{Ends}
 use Rattle.rdm_words.proofs.frame.frame_words.put_bytes_words.Goals as goal
 
-pub returns-in-Ok : goal.returns-in-Ok
-returns-in-Ok c =
+pub returns : goal.returns
+returns c =
+    let old = string_bytes c.args.text.now in
+    let new = string_bytes c.put_whole_words.new.text in
+    let same : c.as_slice.result.now ≡ with_start c.args.bytes.now = c.as_slice.ensures.value ∙ c.with_start.ensures in
     record {
-      fixed = adds_none c.put_frame.result c.args.bytes.now _ _ (λ e first. clash c.decode_view.result _ e c.in-Ok.is ((c.decode_view.ensures.fault e).1 first));
-      last = last_of_frame c.put_frame.result c.decode_view.result c.args.bytes.now c.in-Ok.frame _ _ c.in-Ok.is c.in-Ok.ensures.ok.0 c.decode_view.ensures.value
-          c.put_frame.ensures.last;
-    }
-
-pub returns-in-Err : goal.returns-in-Err
-returns-in-Err c =
-    record {
-      fixed = adds_bytes c.put_other.result c.in-Err.error c.args.bytes.now _ _ (λ i. omega (arith, c.type_inv.bytes i))
-          (λ e first. same_err c.decode_view.result c.in-Err.error e c.in-Err.is ((c.decode_view.ensures.fault e).1 first)) c.put_other.ensures.answer c.put_other.ensures.stray;
-      last = last_of_none c.put_other.result c.decode_view.result c.args.bytes.now c.in-Err.error _ _ c.in-Err.is c.decode_view.ensures.value;
+      fixed = subst (λ (b : List ℕ). Adds c.put_whole_words.result (λ words. AreWordsOfWhole b words) old new) same c.put_whole_words.ensures.fixed;
+      last = subst (λ (b : List ℕ). Ends c.put_whole_words.result (λ words. AreLastOfWhole b words) old new) same c.put_whole_words.ensures.last;
     }

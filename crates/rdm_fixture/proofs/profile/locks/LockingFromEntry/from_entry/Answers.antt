@@ -1,8 +1,8 @@
 use Rattle.std.proofs.Common.{refl, inl, inr}
 use Rattle.toml.specs.View.{table_view}
 use Rattle.rdm_fixture.specs.FirstWrong.{locking_parts}
-use Rattle.rdm_fixture.specs.Wrong.{FirstWrong}
-use Rattle.rdm_fixture.proofs.Parts.{exit, some}
+use Rattle.rdm_fixture_keys.specs.Wrong.{FirstWrong}
+use Rattle.rdm_fixture_keys.proofs.Parts.{exit, some}
 use Rattle.rdm_fixture.proofs.profile.locks.LockingFromEntry.from_entry.Goals as goal
 
 pub returns-in_err-number-clause-wrong : goal.returns-in_err-number-clause-wrong

@@ -2,7 +2,7 @@ use Rattle.std.proofs.Common.{◌≤◌, ap, length, option_map, refl, sym, arit
 use Rattle.std.specs.Int.{w64}
 use Rattle.std.proofs.lemmas.Int.{to_z-of_z}
 use Rattle.toml.specs.View.{view, members_view}
-use Rattle.rdm_fixture.specs.Keys.{ListAt, OfTable}
+use Rattle.rdm_fixture.specs.Lists.{ListAt, OfTable}
 use Rattle.rdm_fixture.specs.Parameters.{IsField}
 use Rattle.rdm_fixture.proofs.WrittenFixtures.{deeper}
 use Rattle.rdm_fixture.proofs.WrittenLists.{some_plain}

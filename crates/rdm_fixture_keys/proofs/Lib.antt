@@ -1,0 +1,5 @@
+pub mod OnlyKeys
+pub mod Readings
+pub mod RefusalEquality
+pub mod Parts
+pub mod Names
