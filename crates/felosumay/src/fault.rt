@@ -51,6 +51,8 @@ pub enum Fault<'a> {
     TooManyKeys(&'a str, u32),
     /// A file isn't a valid script.
     Script(&'a str, rdm_script::Refusal),
+    /// A file isn't a valid script: it names a parameter of the maker's own, and no file of a fixture gives those names.
+    NoOwnNames(&'a str, rdm_script::Refusal),
     /// A file isn't a valid script, and no more is known.
     NoScript(&'a str, ScriptError),
     /// A file isn't a valid trace, by this line, counted from 1.
@@ -136,6 +138,7 @@ impl<'a> Fault<'a> {
             Fault::TooLong(_, _)
             | Fault::TooManyKeys(_, _)
             | Fault::Script(_, _)
+            | Fault::NoOwnNames(_, _)
             | Fault::NoScript(_, _)
             | Fault::NoText(_, _)
             | Fault::NoTrace(_, _)
@@ -235,6 +238,11 @@ impl fmt::Display for Fault<'_> {
             Fault::TooLong(name, most) => write!(f, "{}: more than {most} bytes", Name(name)),
             Fault::TooManyKeys(name, most) => write!(f, "{}: more than {most} keys", Name(name)),
             Fault::Script(name, refusal) => write!(f, "{}:{refusal}", Name(name)),
+            Fault::NoOwnNames(name, refusal) => write!(
+                f,
+                "{}:{refusal}: --fixture FILE gives them",
+                Name(name)
+            ),
             Fault::NoScript(name, error) => write!(f, "{}: {error}", Name(name)),
             Fault::Stopped(name, line, error) => {
                 write_place(f, name, *line)?;

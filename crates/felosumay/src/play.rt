@@ -18,8 +18,8 @@ use clap::ArgMatches;
 use rdm_fixture::Fixture;
 use rdm_frame::standard::MOST_SUB_DEVICES;
 use rdm_script::{
-    CONTROLLER, DemoPanel, Dialect, MOST_BYTES, RuledPart, Spelling, Stage, Unplayed,
-    play_demonstration, play_script, ruled_parts_fit,
+    CONTROLLER, DemoPanel, Dialect, MOST_BYTES, Refusal, RuledPart, Spelling, Stage, Unplayed,
+    Wanted, play_demonstration, play_script, ruled_parts_fit,
 };
 use rdm_trace::{Line, text_of};
 use std::io;
@@ -173,8 +173,30 @@ impl<'a> Setting<'a> {
         let Script { name, text } = script;
         match why {
             Unplayed::OutOfMemory => Fault::Memory,
-            Unplayed::Faulty(error) => Fault::script(name, &self.dialect(), text, error),
+            Unplayed::Faulty(error) => self.refused(Fault::script(
+                name,
+                &self.dialect(),
+                text,
+                error,
+            )),
             Unplayed::Stopped(error, line) => Fault::stopped(name, line, self.subs(), error),
+        }
+    }
+
+    /// What is told of a text that is no script.
+    fn refused(&self, fault: Fault<'a>) -> Fault<'a> {
+        match fault {
+            Fault::Script(name, refusal) => self.refused_word(name, refusal),
+            _ => fault,
+        }
+    }
+
+    /// What is told of a word of a script. A file would give the names of a maker's own parameters, where none is asked for.
+    fn refused_word(&self, name: &'a str, refusal: Refusal) -> Fault<'a> {
+        if self.file.is_none() && refusal.wanted == Wanted::StandardParameter {
+            Fault::NoOwnNames(name, refusal)
+        } else {
+            Fault::Script(name, refusal)
         }
     }
 }

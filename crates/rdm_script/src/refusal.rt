@@ -24,6 +24,10 @@ pub enum Wanted {
     SubDevice,
     /// A parameter.
     Parameter,
+    /// A parameter, which may be one of the maker's own, by its name in double quotes.
+    AnyParameter,
+    /// A parameter, and not one of the maker's own by its name: no such name is known.
+    StandardParameter,
     /// The data of a command.
     Load,
     /// The double quote that ends a text.
@@ -58,7 +62,9 @@ impl Wanted {
             Wanted::SetupFirst => "comes too late",
             Wanted::Destination => "isn't a valid destination",
             Wanted::SubDevice => "isn't a valid sub-device",
-            Wanted::Parameter => "isn't a valid parameter",
+            Wanted::Parameter | Wanted::AnyParameter | Wanted::StandardParameter => {
+                "isn't a valid parameter"
+            }
             Wanted::Load => "isn't valid data",
             Wanted::QuoteEnd => "isn't closed",
             Wanted::Printable => "isn't valid text",
@@ -82,6 +88,12 @@ impl Wanted {
             Wanted::Destination => "dev, all, maker, or a UID such as 7FF0:00000001",
             Wanted::SubDevice => "4 hexadecimal digits, root, or 0 to 512",
             Wanted::Parameter => "4 hexadecimal digits, or a name in E1.20 such as DEVICE_INFO",
+            Wanted::AnyParameter => {
+                "4 hexadecimal digits, a name in E1.20 such as DEVICE_INFO, or a name of the maker's own in double quotes"
+            }
+            Wanted::StandardParameter => {
+                "4 hexadecimal digits, or a name in E1.20 such as DEVICE_INFO; a name in double quotes is a maker's own, and none is known"
+            }
             Wanted::Load => "-, two hexadecimal digits for each byte, or a text in double quotes",
             Wanted::QuoteEnd => "a double quote at the end of the text",
             Wanted::Printable => "printable ASCII characters in double quotes",
@@ -169,7 +181,7 @@ impl fmt::Display for Reason<'_> {
             return write!(f, "a word is missing: expected {wanted}");
         }
         f.write_str("\"")?;
-        for byte in self.refusal.word.as_slice() {
+        for byte in without_quotes(self.refusal.word.as_slice()) {
             write_shown(f, *byte)?;
         }
         let complaint = self.refusal.wanted.complaint();
@@ -177,11 +189,22 @@ impl fmt::Display for Reason<'_> {
     }
 }
 
-/// Writes a byte of a word: as it is if it is printable ASCII, else by its number.
+/// A word without the double quotes that a text has, since a message shows each word in double quotes. A text that isn't closed, or isn't
+/// shown to its end, has but the first of them.
+fn without_quotes(word: &[u8]) -> &[u8] {
+    match word {
+        [b'"', text @ .., b'"'] => text,
+        [b'"', text @ ..] => text,
+        _ => word,
+    }
+}
+
+/// Writes a byte of a word: as it is if it is printable ASCII, else by its number. A double quote and a backslash are escaped.
 fn write_shown<W: fmt::Write>(f: &mut fmt::Formatter<W>, byte: u8) -> fmt::Result {
-    if (0x20..0x7F).contains(&byte) {
-        f.write_char(char::from(byte))
-    } else {
-        write!(f, "\\x{byte:02X}")
+    match byte {
+        b'"' => f.write_str("\\\""),
+        b'\\' => f.write_str("\\\\"),
+        0x20..=0x7E => f.write_char(char::from(byte)),
+        _ => write!(f, "\\x{byte:02X}"),
     }
 }

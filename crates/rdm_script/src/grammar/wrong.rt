@@ -12,7 +12,7 @@ use super::decimals;
 use super::fault::{lost_in, raise_in};
 use super::line::want_in;
 use super::search::is_find_name;
-use crate::dialect::Dialect;
+use crate::dialect::{Dialect, Spelling};
 use crate::refusal::Wanted;
 
 /// How many digits the data of a command have at most.
@@ -134,8 +134,9 @@ fn wrong_in_command(dialect: &Dialect<'_>, words: &[&[u8]]) -> Option<WrongWord>
     if sub_in(spelling, text_at(words, 2)).is_none() {
         return Some(wrong(2, Wanted::SubDevice));
     }
-    if pid_in(spelling, dialect.own, text_at(words, 3)).is_none() {
-        return Some(wrong(3, Wanted::Parameter));
+    let parameter = text_at(words, 3);
+    if pid_in(spelling, dialect.own, parameter).is_none() {
+        return Some(wrong(3, parameter_wanted(dialect, parameter)));
     }
     if words.len() <= 4 {
         return Some(wrong(4, Wanted::Load));
@@ -147,6 +148,19 @@ fn wrong_in_command(dialect: &Dialect<'_>, words: &[&[u8]]) -> Option<WrongWord>
     match wrong_in_fault(words_from(words, 5)) {
         Some(word) => Some(wrong(word.index + 5, word.wanted)),
         None => None,
+    }
+}
+
+/// What is wanted if this word isn't a parameter.
+fn parameter_wanted(dialect: &Dialect<'_>, word: &[u8]) -> Wanted {
+    match (dialect.spelling, word) {
+        (Spelling::Strict, _) => Wanted::Parameter,
+        (Spelling::Friendly, [b'"', .., b'"']) if dialect.own.is_empty() =>
+            Wanted::StandardParameter,
+        (Spelling::Friendly, [b'"', .., b'"']) => Wanted::AnyParameter,
+        (Spelling::Friendly, [b'"', ..]) => Wanted::QuoteEnd,
+        (Spelling::Friendly, _) if dialect.own.is_empty() => Wanted::Parameter,
+        (Spelling::Friendly, _) => Wanted::AnyParameter,
     }
 }
 

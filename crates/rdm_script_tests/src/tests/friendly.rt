@@ -155,11 +155,11 @@ const REFUSALS: &[(&str, &str)] = &[
     ),
     (
         "set dev 0000 0082 \"ab",
-        "1:19: \"\"ab\" isn't closed: expected a double quote at the end of the text",
+        "1:19: \"ab\" isn't closed: expected a double quote at the end of the text",
     ),
     (
         "set dev 0000 0082 \"a\tb\"",
-        "1:19: \"\"a\\x09b\"\" isn't valid text: expected printable ASCII characters in double quotes",
+        "1:19: \"a\\x09b\" isn't valid text: expected printable ASCII characters in double quotes",
     ),
     (
         "get dev 0000 1000 - lost",
