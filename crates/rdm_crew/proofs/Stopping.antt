@@ -1,6 +1,6 @@
 -- Where steps end early, and what is told of it.
 use Rattle.std.proofs.Common.{◌≡◌, ℕ, zero, suc, ◌+◌, ◌<◌, List, [], ◌∷◌, length, take, get_or, Option, Some, None, refl, sym, subst, ◌∙◌}
-use Rattle.std.specs.Prelude.{IfSome, IfErr, Result, Ok, Err}
+use Rattle.std.specs.Prelude.{IfSome}
 use Rattle.std.specs.Option.{option_or}
 use Rattle.std.proofs.lemmas.List.Elements.{All-head, All-tail, All-more}
 use Rattle.std.proofs.lemmas.Option.{slice_get_within}
@@ -87,15 +87,3 @@ stops_unsettled steps BadSetup is same = absurd cc
 stops_unsettled steps (Reserved k) is same = absurd cc
 stops_unsettled steps (TooLong k) is same = absurd cc
 stops_unsettled steps (Unsettled k) is same = (k, is.0, is.1.0)
-
-pub if_reserved : {A : Type 0} (steps : List CrewStep) (r : Result A Stopped) → IfErr r (λ s. IsStopAt steps s) → IfErr r (λ s. error_of s ≡ run.Reserved → first_refusal steps ≡ Some refused.Reserved)
-if_reserved steps (Ok a) is = tt
-if_reserved steps (Err s) is = stops_reserved steps s is
-
-pub if_too_long : {A : Type 0} (steps : List CrewStep) (r : Result A Stopped) → IfErr r (λ s. IsStopAt steps s) → IfErr r (λ s. error_of s ≡ run.TooLong → first_refusal steps ≡ Some refused.TooLong)
-if_too_long steps (Ok a) is = tt
-if_too_long steps (Err s) is = stops_too_long steps s is
-
-pub if_within : {A : Type 0} (steps : List CrewStep) (r : Result A Stopped) → IfErr r (λ s. IsStopAt steps s) → IfErr r (λ s. IfSome (step_of s) (λ k. k < length steps))
-if_within steps (Ok a) is = tt
-if_within steps (Err s) is = stops_within steps s is

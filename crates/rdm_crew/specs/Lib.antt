@@ -10,3 +10,4 @@ pub mod Crews
 pub mod Settling
 pub mod Watchers
 pub mod Closes
+pub mod Stages

@@ -5,8 +5,9 @@
 //! are handed to it over a lane, and its reports come back over another. What a run is stands in `specs/RunTrace.antt`.
 //! `run_steps` does the same, and says at which step a run stopped (`specs/Stops.antt`).
 //!
-//! `running` has both calls. `bus` is what the bus thread does while there are steps, `threads` are the threads beside it with what
-//! they share, and `end` joins them and settles the lanes. It is for runs that end: each end of a lane keeps all that went through.
+//! `running` has both calls. `ready` makes all that a run is made of before its threads are started, `bus` is what the bus thread does
+//! while there are steps, `threads` are the threads beside it with what they share, and `end` joins them and settles the lanes. It is
+//! for runs that end: each end of a lane keeps all that went through.
 #![tactic(auto)]
 
 mod bus;
@@ -15,6 +16,7 @@ mod error;
 mod laws;
 mod panel;
 mod part;
+mod ready;
 mod running;
 mod setup;
 mod step;

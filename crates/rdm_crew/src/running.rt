@@ -1,36 +1,30 @@
 //! The run.
 
-ghost use Rattle.std.specs.Prelude.{◌≡◌, ◌≢◌, ◌↔◌, ◌<◌, [], true, Some, List, length, IfOk, IfErr, IfSome, OnOk, IsErrOf, ◌⊎◌};
+ghost use Rattle.std.specs.Prelude.{◌≡◌, ◌≢◌, ◌↔◌, ◌<◌, [], Some, List, length, IfOk, IfErr, IfSome, IsErrOf};
 ghost use Rattle.rdm_bus.specs.BusLaws.{BusLaws, recorded};
 ghost use Rattle.rdm_bus.specs.BusRun.{IsBusRun};
-ghost use Rattle.rdm_bus.specs.Systems.{IsTrace};
-ghost use Rattle.rdm_responder.specs.StandsFor.{IsQueueSize};
 ghost use Rattle.rdm_lane.specs.Lane.{LaneLaw};
-ghost use Rattle.rdm_crew.specs.Closes.{handed_by, IsHandedOver, HeadlineOfRun};
-ghost use Rattle.rdm_crew.specs.Crews.{IsTied, HasJobs, HasChanges};
-ghost use Rattle.rdm_crew.specs.Desks.{chosen, IsDrawn, HasRun};
+ghost use Rattle.rdm_crew.specs.Closes.{HeadlineOfRun};
+ghost use Rattle.rdm_crew.specs.Crews.{IsTied, HasChanges};
+ghost use Rattle.rdm_crew.specs.Desks.{chosen};
+ghost use Rattle.rdm_crew.specs.Stages.{IsReady, IsEnded};
 ghost use Rattle.rdm_crew.specs.RunTrace.{IsRunTrace, HaveFaults, HasSettle, FitsFor, first_refusal};
 ghost use Rattle.rdm_crew.specs.Settling.{IsLaneOfOne, AreLanes};
 ghost use Rattle.rdm_crew.specs.Setups.{switched_on, IsBadSetup};
 ghost use Rattle.rdm_crew.specs.Stops.{IsStopAt, error_of, step_of};
 
 use crate::bus::crew::Crew;
-use crate::bus::desk::Desk;
 use crate::end::closing::Closing;
 use crate::end::settling::Rooms;
-use crate::threads::equipment::equip;
-use crate::threads::joining::Started;
+use crate::ready::{Ready, make_ready};
+use crate::threads::joining::{Started, wait_out_if_started};
 use crate::threads::putting::close;
 use crate::threads::watcher::{Watched, Watches, watch};
 use crate::threads::worker::{Worked, Works, start};
 use crate::trace::Ended;
 use crate::{CrewStep, Panel, Part, RunError, Setup, Stopped, Trace};
-use rdm_bus::{PlayError, Step, System, bus_recording_laws_hold, messages_are_kept};
-use rdm_collector::Collector;
-use rdm_frame::Uid;
-use rdm_responder::{NewError, Responder};
+use rdm_bus::{PlayError, Step, bus_recording_laws_hold, messages_are_kept};
 use std::alloc::Global;
-use std::snapshot::Snapshot;
 use std::sync::Wait;
 use std::thread::Threads;
 
@@ -112,52 +106,90 @@ where
     // The trace is a run of the bus, and the laws, from which the headline follows, hold of every run.
     bus_recording_laws_hold();
     messages_are_kept();
-    let began = Snapshot::of(&setup);
-    let queue_size = setup.queue_size;
-    let system = match system_of(alloc, setup) {
-        Ok(system) => system,
-        Err(refusal) => return Err(refusal),
-    };
-    let kit = equip(alloc, queue_size)?;
-    let (first, second) = (kit.first, kit.second);
-    // The watcher ends by itself: its lane has room for all changes and the mark.
-    let Ok(watcher) = watch(rt, kit.offered, panel, kit.panel_bell) else {
-        return Err(Stopped::OutOfMemory);
-    };
-    let Ok(first_worker) = start(rt, first.jobs, first.reports, part0, first.signals) else {
-        let _ = watcher.join(&rt);
-        return Err(Stopped::OutOfMemory);
-    };
-    let Ok(second_worker) = start(rt, second.jobs, second.reports, part1, second.signals) else {
-        let _ = close(&rt, first.post, &first.bell);
-        let _ = first_worker.join(&rt);
-        let _ = watcher.join(&rt);
-        return Err(Stopped::OutOfMemory);
-    };
-    let desk = Desk {
-        setup: began,
-        system,
-        reports: kit.reports,
-        waiter: kit.waiter,
-    };
-    let crew = Crew {
-        desk,
-        first: first.post,
-        first_bell: first.bell,
-        second: second.post,
-        second_bell: second.bell,
-        changes: kit.changes,
-    };
-    let ended = play(
-        &rt,
+    match play_new(rt, alloc, setup, steps, part0, part1, panel) {
+        Ok(ended) => Ok(Trace::of(ended)),
+        Err(stopped) => Err(stopped),
+    }
+}
+
+/// Plays the steps as `run_steps` does, and gives what the run leaves.
+fn play_new<P, Q, N, R>(
+    rt: R,
+    alloc: Global,
+    setup: Setup,
+    steps: &[CrewStep],
+    part0: P,
+    part1: Q,
+    panel: N,
+) -> Result<Ended, Stopped>
+where
+    P: Part + Send + 'static,
+    Q: Part + Send + 'static,
+    N: Panel + Send + 'static,
+    R: Threads + Wait + Copy + Send + 'static,
+    requires fits { FitsFor setup.profile.workers 0 (P.gives part0) × FitsFor setup.profile.workers 1 (Q.gives part1) }
+    requires faults { HaveFaults steps.now }
+    ensures ended { IfOk result (λ ended. IsEnded setup (P.gives part0) (Q.gives part1) (N.offers panel) steps.now ended) }
+    ensures bad_setup { IsErrOf result Stopped.BadSetup ↔ IsBadSetup setup }
+    ensures stop { IfErr result (λ stopped. IsStopAt steps.now stopped) }
+{
+    match make_ready(alloc, setup) {
+        Ok(ready) => play_ready(rt, ready, steps, part0, part1, panel),
+        Err(refusal) => Err(refusal),
+    }
+}
+
+/// Starts the threads of a run, each whether or not another was refused, and plays the steps if all are there.
+fn play_ready<P, Q, N, R>(
+    rt: R,
+    ready: Ready,
+    steps: &[CrewStep],
+    part0: P,
+    part1: Q,
+    panel: N,
+) -> Result<Ended, Stopped>
+where
+    P: Part + Send + 'static,
+    Q: Part + Send + 'static,
+    N: Panel + Send + 'static,
+    R: Threads + Wait + Copy + Send + 'static,
+    requires fits { FitsFor (chosen ready.crew.desk) 0 (P.gives part0) × FitsFor (chosen ready.crew.desk) 1 (Q.gives part1) }
+    requires faults { HaveFaults steps.now }
+    requires ready { IsReady ready }
+    ensures ended { IfOk result (λ ended. IsEnded ready.crew.desk.setup.value
+        (P.gives part0) (Q.gives part1) (N.offers panel) steps.now ended) }
+    ensures stop { IfErr result (λ stopped. IsStopAt steps.now stopped) }
+    ensures set_up { IfErr result (λ stopped. stopped ≢ Stopped.BadSetup) }
+{
+    let Ready {
         crew,
-        steps,
-        first_worker,
-        second_worker,
+        first,
+        second,
         watcher,
-        kit.rooms,
-    )?;
-    Ok(Trace::of(ended))
+        rooms,
+    } = ready;
+    let first_worker = start(rt, first, part0);
+    let second_worker = start(rt, second, part1);
+    let watcher = watch(rt, watcher, panel);
+    match (first_worker, second_worker, watcher) {
+        (Ok(first_worker), Ok(second_worker), Ok(watcher)) => play(
+            &rt,
+            crew,
+            steps,
+            first_worker,
+            second_worker,
+            watcher,
+            rooms,
+        ),
+        (first_worker, second_worker, watcher) => {
+            // A thread was refused. The watcher ends by itself: its lane has room for all changes and the mark.
+            crew.call_off(&rt);
+            wait_out_if_started(&rt, first_worker);
+            wait_out_if_started(&rt, second_worker);
+            wait_out_if_started(&rt, watcher);
+            Err(Stopped::OutOfMemory)
+        }
+    }
 }
 
 /// Plays the steps with workers and a watcher that were just started, until these have ended.
@@ -178,12 +210,8 @@ fn play<P: Part, Q: Part, N: Panel, R: Threads + Wait>(
     requires lanes { AreLanes crew.desk.reports crew.first crew.second
         first_worker.jobs.value first_worker.reports.value
         second_worker.jobs.value second_worker.reports.value }
-    ensures trace { IfOk result (λ ended. IsRunTrace crew.desk.setup.value
-        (P.gives first_worker.part.value) (Q.gives second_worker.part.value)
-        (N.offers watcher.panel.value) steps.now ended.system.trace) }
-    ensures recorded { IfOk result (λ ended. ended.system.collector.recorded ≡ recorded ended.system.trace) }
-    ensures handed { IfOk result (λ ended. IsHandedOver (chosen crew.desk) ended.system.trace (handed_by ended.reports.taken)) }
-    ensures lane { IfOk result (λ ended. LaneLaw 2 ended.reports.taken ended.reports.posted) }
+    ensures ended { IfOk result (λ ended. IsEnded crew.desk.setup.value
+        (P.gives first_worker.part.value) (Q.gives second_worker.part.value) (N.offers watcher.panel.value) steps.now ended) }
     ensures stop { IfErr result (λ stopped. IsStopAt steps.now stopped) }
     ensures set_up { IfErr result (λ stopped. stopped ≢ Stopped.BadSetup) }
 {
@@ -224,31 +252,4 @@ fn play<P: Part, Q: Part, N: Panel, R: Threads + Wait>(
             Err(Stopped::OutOfMemory)
         }
     }
-}
-
-/// The device and the controller of a setup on one bus.
-fn system_of(alloc: Global, setup: Setup) -> Result<System, Stopped>
-    ensures new { IfOk result (λ system. IsTrace (switched_on setup) [] system) }
-    ensures size { OnOk result (IsQueueSize setup.queue_size) }
-    ensures bad { IsErrOf result Stopped.BadSetup ↔ IsBadSetup setup }
-    ensures err { IfErr result (λ e. (e ≡ Stopped.BadSetup) ⊎ (e ≡ Stopped.OutOfMemory)) }
-{
-    if setup.controller.is_broadcast() || is_same(setup.controller, setup.device) {
-        return Err(Stopped::BadSetup);
-    }
-    let collector = Collector::new(alloc, setup.controller, setup.device, setup.want);
-    match Responder::new(alloc, setup.device, setup.profile, setup.queue_size) {
-        Ok(responder) => Ok(System::new(alloc, responder, collector)),
-        Err(NewError::OutOfMemory) => Err(Stopped::OutOfMemory),
-        Err(NewError::BadProfile) => Err(Stopped::BadSetup),
-        Err(NewError::BadSize) => Err(Stopped::BadSetup),
-        Err(NewError::BadUid) => Err(Stopped::BadSetup),
-    }
-}
-
-/// Whether two UIDs are one.
-fn is_same(uid: Uid, other: Uid) -> bool
-    ensures { (result ≡ true) ↔ (uid ≡ other) }
-{
-    uid == other
 }

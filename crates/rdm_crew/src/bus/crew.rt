@@ -13,17 +13,20 @@ ghost use Rattle.rdm_crew.specs.Crews.{IsTied, HasChanges, HasChanged, IsSameCre
 ghost use Rattle.rdm_crew.specs.Desks.{chosen, IsDrawn, IsSameDesk, stands_at};
 ghost use Rattle.rdm_crew.specs.RunTrace.{HaveFaults, fault_at, refusal_at};
 
+use crate::Setup;
 use crate::bus::desk::{Desk, Drawn};
 use crate::bus::stop::{Stop, StopAt};
 use crate::step::CrewStep;
-use crate::threads::putting::put;
+use crate::threads::equipment::BusKit;
+use crate::threads::putting::{close, put};
 use crate::threads::waiting::{Bell, Waiter};
-use rdm_bus::{PlayError, Step};
+use rdm_bus::{PlayError, Step, System};
 use rdm_lane::{Post, Take, Taken};
 use rdm_outbox::Job;
 use rdm_params::{Change, started_work_is_its_command};
 use rdm_responder::Started;
 use std::alloc::AllocError;
+use std::snapshot::Snapshot;
 use std::sync::Wait;
 
 /// The bus with its end of the report lane, the posts of both job lanes, and the end of the panel's lane.
@@ -43,6 +46,53 @@ pub(crate) struct Crew {
 }
 
 impl Crew {
+    /// The bus thread's side of a run that has begun so, with what it has of the equipment.
+    pub(crate) fn new(began: Snapshot<Setup>, system: System, kit: BusKit) -> Self
+        ensures desk { (result.desk.setup ≡ began) × (result.desk.system ≡ system) × (result.desk.reports ≡ kit.reports) }
+        ensures posts { (result.first ≡ kit.first) × (result.second ≡ kit.second) }
+        ensures changes { result.changes ≡ kit.changes }
+    {
+        let BusKit {
+            reports,
+            waiter,
+            first,
+            first_bell,
+            second,
+            second_bell,
+            changes,
+        } = kit;
+        let desk = Desk {
+            setup: began,
+            system,
+            reports,
+            waiter,
+        };
+        Crew {
+            desk,
+            first,
+            first_bell,
+            second,
+            second_bell,
+            changes,
+        }
+    }
+
+    /// Closes the lanes of jobs, so that the workers end, and lets go the bus and all ends.
+    pub(crate) fn call_off<R: Wait>(self, rt: &R) {
+        let Crew {
+            desk,
+            first,
+            first_bell,
+            second,
+            second_bell,
+            changes,
+        } = self;
+        let _ = close(rt, first, &first_bell);
+        let _ = close(rt, second, &second_bell);
+        drop(desk);
+        drop(changes);
+    }
+
     /// Plays steps, one after another.
     pub(crate) fn play_all<R: Wait>(&mut self, rt: &R, steps: &[CrewStep]) -> Result<(), StopAt>
         requires tied { IsTied self.old }

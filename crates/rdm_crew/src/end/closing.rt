@@ -107,21 +107,32 @@ impl<P: Part, Q: Part, N: Panel> Closing<P, Q, N> {
         requires suspect { stop ≡ Stop.Astray → IsSuspect self.desk × HasJobs self.desk self.first self.second }
     {
         if stop == Stop::Astray {
-            return self.look_into(rt);
+            self.look_into(rt);
+        } else {
+            self.leave(rt);
         }
+    }
+
+    /// Lets go the bus and all ends, and waits until all threads have ended.
+    fn leave<R: Threads>(self, rt: &R) {
         let Closing {
-            desk: _desk,
-            first: _first,
-            second: _second,
-            changes: _changes,
+            desk,
+            first,
+            second,
+            changes,
             first_worker,
             second_worker,
             watcher,
-            rooms: _rooms,
+            rooms,
         } = self;
-        let _ = first_worker.join(rt);
-        let _ = second_worker.join(rt);
-        let _ = watcher.join(rt);
+        drop(desk);
+        drop(first);
+        drop(second);
+        drop(changes);
+        drop(rooms);
+        first_worker.wait_out(rt);
+        second_worker.wait_out(rt);
+        watcher.wait_out(rt);
     }
 
     /// Ends a run in which a report seemed astray. The lists of all lanes tell that it wasn't, unless memory is refused before
@@ -138,30 +149,24 @@ impl<P: Part, Q: Part, N: Panel> Closing<P, Q, N> {
             mut desk,
             first,
             second,
-            changes: _changes,
+            changes,
             first_worker,
             second_worker,
             watcher,
             rooms,
         } = self;
+        drop(changes);
         // A job that starts is a slow command.
         started_work_is_its_command();
         let drained = desk.drain(rt);
         let a = first_worker.join(rt);
         let b = second_worker.join(rt);
-        let _ = watcher.join(rt);
-        let Desk {
-            setup: _setup,
-            system: _system,
-            reports,
-            waiter: _waiter,
-        } = desk;
+        watcher.wait_out(rt);
+        let _ = settle(rt, rooms.workers, first, second, desk.reports, a, b);
         match drained {
-            Ok(()) => {}
-            Err(_) => return,
+            // The report is of the oldest outstanding job of its worker, so that it may arrive.
+            Ok(()) => unreachable!(),
+            Err(_) => {}
         }
-        let _ = settle(rt, rooms.workers, first, second, reports, a, b);
-        // The report is of the oldest outstanding job of its worker, so that it may arrive.
-        unreachable!()
     }
 }

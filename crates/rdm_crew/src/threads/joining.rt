@@ -2,6 +2,7 @@
 
 ghost use Rattle.std.specs.Prelude.{◌≡◌};
 
+use std::alloc::AllocError;
 use std::marker::Model;
 use std::thread::{Promise, PromisedHandle, Threads};
 
@@ -29,5 +30,21 @@ impl<T: Drop, P: Promise<T>> Started<T, P> {
     {
         let Started { handle } = self;
         handle.join(rt)
+    }
+
+    /// Waits until the thread has ended, and lets go what it leaves.
+    pub(crate) fn wait_out<R: Threads>(self, rt: &R) {
+        drop(self.join(rt));
+    }
+}
+
+/// Waits until a thread has ended, if it was started.
+pub(crate) fn wait_out_if_started<T: Drop, P: Promise<T>, R: Threads>(
+    rt: &R,
+    thread: Result<Started<T, P>, AllocError>,
+) {
+    match thread {
+        Ok(started) => started.wait_out(rt),
+        Err(_) => {}
     }
 }

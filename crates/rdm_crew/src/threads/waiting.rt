@@ -34,13 +34,23 @@ pub(crate) struct Signals {
     pub(crate) reports: Bell,
 }
 
-impl Signals {
-    /// The signals of a new worker, whose reports go to the thread of `bus`, and a bell that wakes the worker.
-    pub(crate) fn new(alloc: Global, bus: &Waiter) -> Result<(Signals, Bell), AllocError> {
+/// The signals of a worker, and the bell that wakes it.
+#[derive(Drop)]
+pub(crate) struct Wired {
+    pub(crate) signals: Signals,
+    pub(crate) bell: Bell,
+}
+
+impl Wired {
+    /// Those of a new worker, whose reports go to the thread of `bus`.
+    pub(crate) fn new(alloc: Global, bus: &Waiter) -> Result<Wired, AllocError> {
         let jobs = Waiter::new(alloc)?;
         let bell = jobs.bell()?;
         let reports = bus.bell()?;
-        Ok((Signals { jobs, reports }, bell))
+        Ok(Wired {
+            signals: Signals { jobs, reports },
+            bell,
+        })
     }
 }
 

@@ -4,6 +4,7 @@ ghost use Rattle.std.specs.Prelude.{◌≡◌, IfOk};
 ghost use Rattle.rdm_crew.specs.Watchers.{IsUnwatched, IsWatched};
 
 use crate::Panel;
+use crate::threads::equipment::WatcherKit;
 use crate::threads::joining::Started;
 use crate::threads::putting::{close, put};
 use crate::threads::waiting::Bell;
@@ -41,16 +42,16 @@ impl<N: Panel> Promise<Watched> for Watches<N> {
 /// Starts to watch a panel on a thread of its own.
 pub(crate) fn watch<N, R>(
     rt: R,
-    changes: Post<Change>,
+    kit: WatcherKit,
     panel: N,
-    bell: Bell,
 ) -> Result<Started<Watched, Watches<N>>, AllocError>
 where
     N: Panel + Send + 'static,
     R: Threads + Wait + Copy + Send + 'static,
-    requires { IsUnwatched changes }
-    ensures { IfOk result (λ watcher. (watcher.changes.value ≡ changes) × (watcher.panel.value ≡ panel)) }
+    requires { IsUnwatched kit.changes }
+    ensures { IfOk result (λ watcher. (watcher.changes.value ≡ kit.changes) × (watcher.panel.value ≡ panel)) }
 {
+    let WatcherKit { changes, bell } = kit;
     let watches = Watches {
         changes: Snapshot::of(&changes),
         panel: Snapshot::of(&panel),

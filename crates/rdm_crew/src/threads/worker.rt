@@ -4,6 +4,7 @@ ghost use Rattle.std.specs.Prelude.{◌≡◌, IfOk};
 ghost use Rattle.rdm_crew.specs.Workers.{IsIdle, IsWorked};
 
 use crate::Part;
+use crate::threads::equipment::WorkerKit;
 use crate::threads::joining::Started;
 use crate::threads::putting::{close, put};
 use crate::threads::waiting::{Bell, Signals};
@@ -42,25 +43,28 @@ impl<P: Part> Promise<Worked> for Works<P> {
 /// Starts a worker on a thread of its own.
 pub(crate) fn start<P, R>(
     rt: R,
-    jobs: Take<Job>,
-    reports: Post<Report>,
+    kit: WorkerKit,
     part: P,
-    signals: Signals,
 ) -> Result<Started<Worked, Works<P>>, AllocError>
 where
     P: Part + Send + 'static,
     R: Threads + Wait + Copy + Send + 'static,
-    requires { IsIdle jobs reports }
+    requires { IsIdle kit.jobs kit.reports }
     ensures { IfOk result (λ worker.
-        (worker.jobs.value ≡ jobs) × (worker.reports.value ≡ reports) × (worker.part.value ≡ part)) }
+        (worker.jobs.value ≡ kit.jobs) × (worker.reports.value ≡ kit.reports) × (worker.part.value ≡ part)) }
 {
+    let WorkerKit {
+        jobs,
+        reports,
+        signals,
+    } = kit;
     let works = Works {
         jobs: Snapshot::of(&jobs),
         reports: Snapshot::of(&reports),
         part: Snapshot::of(&part),
     };
     let worker = thread::spawn_with(&rt, works, move || {
-        work_all(&rt, jobs, reports, part, signals)
+        work_all(&rt, jobs, reports, part, &signals)
     })?;
     Ok(Started::of(worker))
 }
@@ -71,7 +75,7 @@ fn work_all<P: Part, R: Wait>(
     jobs: Take<Job>,
     reports: Post<Report>,
     part: P,
-    signals: Signals,
+    signals: &Signals,
 ) -> Worked
     requires { IsIdle jobs reports }
     ensures { IsWorked (P.gives part) jobs reports result }
