@@ -7,19 +7,26 @@
 #![tactic(auto)]
 
 mod decoding;
+mod disk;
+mod disk_memory;
 mod encoding;
+mod file_disk;
 mod image;
 mod images;
 mod laws;
 mod memory;
 
 pub use decoding::{ImageError, decode_image};
+pub use disk::{AREA_BYTES, DISK_BYTES, Disk};
+pub use disk_memory::DiskMemory;
 pub use encoding::encode_image;
+pub use file_disk::{FileDisk, FileMemory};
 pub use image::{HEADER_BYTES, Image, MOST_PAYLOAD};
 pub use images::{Images, ImagesError};
 pub use laws::{
     altered_image_is_refused, cut_image_is_refused, erased_area_is_sound,
     image_errors_are_equal_by_value, image_is_read_back, images_are_equal_by_value,
     images_errors_are_equal_by_value, memory_faults_are_equal_by_value, sides_are_equal_by_value,
+    values_outlast_restarts,
 };
 pub use memory::{Memory, MemoryFault, Side};
