@@ -84,10 +84,10 @@ pub other_stays : (s : Side) (bytes old left : List ℕ) → IsDisk old → IsDi
 other_stays s bytes old left d e room torn =
     let len : length (areas_in left (other s)) ≡ 36864 = area_length left (other s) e.size in
     ext_get_or 0 (areas_in left (other s)) (areas_in old (other s)) (omega (arith, len, area_length old (other s) d.size)) (λ k lt.
-      let low : k < 36864 = omega (arith, lt, len) in
-      at_part 36864 (place_of (other s)) k left low
-      ∙ squeezed _ _ _ (outside s bytes old k d.size room low) (torn (place_of (other s) + k))
-      ∙ sym (at_part 36864 (place_of (other s)) k old low))
+    let low : k < 36864 = omega (arith, lt, len) in
+    at_part 36864 (place_of (other s)) k left low
+    ∙ squeezed _ _ _ (outside s bytes old k d.size room low) (torn (place_of (other s) + k))
+    ∙ sym (at_part 36864 (place_of (other s)) k old low))
 
 after_small : (s : Side) (bytes disk : List ℕ) (k : ℕ) → AreBytes bytes → IsDisk disk → k < 36864 → get_or (bytes ++ drop (length bytes) (areas_in disk s)) k 0 < 256
 after_small s bytes disk k small d lt = bytes-append bytes (drop (length bytes) (areas_in disk s)) small (bytes-drop (length bytes) (areas_in disk s) (bytes-take 36864 (drop (place_of s) disk) (bytes-drop (place_of s) disk d.byte))) k
@@ -121,19 +121,19 @@ pub erase_rises : (s : Side) (bytes old left : List ℕ) → IsDisk old → IsDi
 erase_rises s bytes old left d e room erased torn =
     let old_length : length (areas_in old s) ≡ 36864 = area_length old s d.size in
     rises_each (areas_in old s) (areas_in left s) (omega (arith, old_length, area_length left s e.size)) (λ i lt.
-      let low : i < 36864 = omega (arith, lt, old_length) in
-      let was : get_or (areas_in old s) i 0 ≡ get_or old (place_of s + i) 0 = at_part 36864 (place_of s) i old low in
-      let is : get_or (areas_in left s) i 0 ≡ get_or left (place_of s + i) 0 = at_part 36864 (place_of s) i left low in
-      let wanted : get_or (put_in (place_of s) bytes old) (place_of s + i) 0 ≡ 255 =
-        within (place_of s) bytes old i (omega (arith, d.size, place_room s)) (omega (arith, low, room)) ∙ erased_byte bytes i erased (omega (arith, low, room)) in
-      let rose = to_erased _ _ _ wanted (d.byte (place_of s + i)) (e.byte (place_of s + i)) (torn (place_of s + i)) in
-      (omega (arith, was, is, rose), omega (arith, is, e.byte (place_of s + i))))
+    let low : i < 36864 = omega (arith, lt, old_length) in
+    let was : get_or (areas_in old s) i 0 ≡ get_or old (place_of s + i) 0 = at_part 36864 (place_of s) i old low in
+    let is : get_or (areas_in left s) i 0 ≡ get_or left (place_of s + i) 0 = at_part 36864 (place_of s) i left low in
+    let wanted : get_or (put_in (place_of s) bytes old) (place_of s + i) 0 ≡ 255 =
+    within (place_of s) bytes old i (omega (arith, d.size, place_room s)) (omega (arith, low, room)) ∙ erased_byte bytes i erased (omega (arith, low, room)) in
+    let rose = to_erased _ _ _ wanted (d.byte (place_of s + i)) (e.byte (place_of s + i)) (torn (place_of s + i)) in
+    (omega (arith, was, is, rose), omega (arith, is, e.byte (place_of s + i))))
 
 pub erased_area : (s : Side) (bytes disk : List ℕ) → IsDisk disk → length bytes ≡ 36864 → IsErased bytes → IsErased (areas_in (put_in (place_of s) bytes disk) s)
 erased_area s bytes disk d room erased =
     rw (put_in_area s bytes disk d (omega (arith, room))) (λ k x lt.
-      let low : k < length bytes = omega (arith, lt, room, after_length s bytes disk d.size (omega (arith, room))) in
-      get_or_append_left bytes (drop (length bytes) (areas_in disk s)) x k low ∙ erased k x low)
+    let low : k < length bytes = omega (arith, lt, room, after_length s bytes disk d.size (omega (arith, room))) in
+    get_or_append_left bytes (drop (length bytes) (areas_in disk s)) x k low ∙ erased k x low)
 
 -- bytes are written into an area that is erased, all or some
 pub write_rises : (s : Side) (bytes old left : List ℕ) → AreBytes bytes → IsDisk old → IsDisk left → length bytes ≤ 36864 → IsErased (areas_in old s)
@@ -141,14 +141,14 @@ pub write_rises : (s : Side) (bytes old left : List ℕ) → AreBytes bytes → 
 write_rises s bytes old left small d e room erased torn =
     let front : length (bytes ++ drop (length bytes) (areas_in old s)) ≡ 36864 = after_length s bytes old d.size room in
     rises_each (bytes ++ drop (length bytes) (areas_in old s)) (areas_in left s) (omega (arith, front, area_length left s e.size)) (λ i lt.
-      let low : i < 36864 = omega (arith, lt, front) in
-      let was : get_or old (place_of s + i) 0 ≡ 255 = sym (at_part 36864 (place_of s) i old low) ∙ erased_byte (areas_in old s) i erased (omega (arith, low, area_length old s d.size)) in
-      let is : get_or (areas_in left s) i 0 ≡ get_or left (place_of s + i) 0 = at_part 36864 (place_of s) i left low in
-      let goal_is : get_or (put_in (place_of s) bytes old) (place_of s + i) 0 ≡ get_or (bytes ++ drop (length bytes) (areas_in old s)) i 0 =
-        sym (at_part 36864 (place_of s) i _ low) ∙ in_area s bytes old i d.size room low in
-      let fits : get_or (bytes ++ drop (length bytes) (areas_in old s)) i 0 < 256 = after_small s bytes old i small d low in
-      let rose = from_erased _ _ _ was (omega (arith, goal_is, fits)) (e.byte (place_of s + i)) (torn (place_of s + i)) in
-      (omega (arith, goal_is, is, rose), omega (arith, is, e.byte (place_of s + i))))
+    let low : i < 36864 = omega (arith, lt, front) in
+    let was : get_or old (place_of s + i) 0 ≡ 255 = sym (at_part 36864 (place_of s) i old low) ∙ erased_byte (areas_in old s) i erased (omega (arith, low, area_length old s d.size)) in
+    let is : get_or (areas_in left s) i 0 ≡ get_or left (place_of s + i) 0 = at_part 36864 (place_of s) i left low in
+    let goal_is : get_or (put_in (place_of s) bytes old) (place_of s + i) 0 ≡ get_or (bytes ++ drop (length bytes) (areas_in old s)) i 0 =
+    sym (at_part 36864 (place_of s) i _ low) ∙ in_area s bytes old i d.size room low in
+    let fits : get_or (bytes ++ drop (length bytes) (areas_in old s)) i 0 < 256 = after_small s bytes old i small d low in
+    let rose = from_erased _ _ _ was (omega (arith, goal_is, fits)) (e.byte (place_of s + i)) (torn (place_of s + i)) in
+    (omega (arith, goal_is, is, rose), omega (arith, is, e.byte (place_of s + i))))
 
 -- ---- as the calls of a disk say it
 

@@ -1,7 +1,8 @@
 //! Values that are kept over power failures: the format of one image, and two images in a memory of the firmware's.
 //!
 //! `encode_image` writes the one text of an image, and `decode_image` reads exactly such texts. `Images` keeps two of them, in two
-//! areas of a `Memory`. Power may fail at any moment: what is loaded next is the old values or the new, whole.
+//! areas of a `Memory`. Power may fail at any moment: what is loaded next is the old values or the new, whole. `DiskMemory` is such a
+//! memory on a `Disk`, and `FileDisk` a file as a disk.
 //!
 //! It allocates nothing.
 #![tactic(auto)]

@@ -30,7 +30,8 @@ pub fn save_after_restart<D: Disk + Drop>(
     key: u32,
     payload: &[u8],
 ) -> (D, Result<(), ImagesError>)
-    ensures { IsSave key (record { payload = payload.now; is_over = is_ok result.1 }) (D.holds disk) (D.holds result.0) }
+    ensures { IsSave key (record { payload = payload.now; is_over = is_ok result.1 })
+        (D.holds disk) (D.holds result.0) }
 {
     let mut images = Images::new(DiskMemory::new(disk), key);
     let saved = images.save(payload, &mut [0; AREA_BYTES]);
