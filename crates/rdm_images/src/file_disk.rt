@@ -31,6 +31,7 @@ pub type FileMemory<F> = DiskMemory<FileDisk<F>>;
 impl<F: Read + Write + Seek + OpenFile + Drop> FileDisk<F> {
     /// A file that is open at its front. It fails if the file has fewer bytes than a disk; those behind them don't count.
     pub fn open(mut file: F) -> io::Result<Self>
+        ensures fresh { IfOk result (λ disk. disk.failed ≡ None) }
         ensures read { IfOk result (λ disk. Consumes (F.remaining file) (F.remaining disk.file) disk.copy) }
     {
         let mut copy = [0; DISK_BYTES];
@@ -44,6 +45,7 @@ impl<F: Read + Write + Seek + OpenFile + Drop> FileDisk<F> {
 
     /// A new file, which takes the bytes of a disk that is erased.
     pub fn create(mut file: F) -> io::Result<Self>
+        ensures fresh { IfOk result (λ disk. disk.failed ≡ None) }
         ensures erased { IfOk result (λ disk. IsErased disk.copy) }
         ensures written { IfOk result (λ disk. Appends (F.contents file) (F.contents disk.file) disk.copy) }
     {
@@ -86,6 +88,7 @@ impl<F: Read + Write + Seek + OpenFile + Drop> Disk for FileDisk<F> {
         ensures put { OnOk result (self.new.copy ≡ put_in place bytes.now self.old.copy) }
         ensures torn { IsTorn self.old.copy (put_in place bytes.now self.old.copy) self.new.copy }
         ensures cause { IfErr result (λ fault. self.new.failed ≡ Some fault) }
+        ensures ok { OnOk result (self.new.failed ≡ None) }
         // The file has taken the same bytes at the same place.
         ensures taken { OnOk result (TookAt F.stream_position F.contents self.old.file self.new.file place bytes.now) }
     {
