@@ -2,8 +2,7 @@
 
 use crate::fault::Fault;
 use crate::host::Host;
-use rdm_file_memory::{AREA_BYTES, FileMemory};
-use rdm_images::{Images, ImagesError};
+use rdm_images::{AREA_BYTES, DISK_BYTES, DiskMemory, FileDisk, FileMemory, Images, ImagesError};
 use rdm_responder::{Responder, RestoreError};
 use rdm_widget::LiveFixture;
 use std::fs::{OpenFile, OpenOptions};
@@ -14,7 +13,7 @@ use std::{fs, io, mem};
 const KEY: u32 = 0x4645_4C4F;
 
 /// How many bytes a file of values has.
-const FILE_BYTES: u64 = 2 * AREA_BYTES as u64;
+const FILE_BYTES: u64 = DISK_BYTES as u64;
 
 /// A file of values, and those that were saved last.
 #[derive(Drop)]
@@ -57,8 +56,8 @@ fn restore<'a, H: Host>(
         Ok(_) => return Err(Fault::NotSaved(name)),
         Err(error) => return Err(Fault::Io(name, error)),
     }
-    match FileMemory::read(file) {
-        Ok(memory) => restore_in(rt, name, memory, live),
+    match FileDisk::open(file) {
+        Ok(disk) => restore_in(rt, name, DiskMemory::new(disk), live),
         Err(error) => Err(Fault::Io(name, error)),
     }
 }
@@ -104,12 +103,12 @@ fn new_memory<'a, H: Host>(
         .create(true)
         .truncate(true)
         .open(&rt, path);
-    let memory = match made {
-        Ok(file) => FileMemory::create(file),
+    let disk = match made {
+        Ok(file) => FileDisk::create(file),
         Err(error) => Err(error),
     };
-    match memory {
-        Ok(memory) => Ok(memory),
+    match disk {
+        Ok(disk) => Ok(DiskMemory::new(disk)),
         Err(error) => Err(Fault::Io(name, error)),
     }
 }

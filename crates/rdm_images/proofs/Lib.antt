@@ -7,3 +7,5 @@ pub mod Writing
 pub mod Finding
 pub mod Altering
 pub mod Erasing
+pub mod Placing
+pub mod Restarting

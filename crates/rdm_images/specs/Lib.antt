@@ -2,3 +2,6 @@ pub mod ImageText
 pub mod Reading
 pub mod Areas
 pub mod Laws
+pub mod Disks
+pub mod Files
+pub mod Restarts

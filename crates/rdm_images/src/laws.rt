@@ -2,6 +2,7 @@
 
 ghost use Rattle.std.specs.Prelude.{◌≡◌, ◌↔◌, IsTrue};
 ghost use Rattle.rdm_images.specs.Laws.{ImageIsReadBack, CutIsRefused, AlteredIsRefused, ErasedIsSound};
+ghost use Rattle.rdm_images.specs.Restarts.{ValuesOutlastRestarts};
 
 use crate::{Image, ImageError, ImagesError, MemoryFault, Side};
 
@@ -23,6 +24,12 @@ pub fn altered_image_is_refused()
 /// An area that is erased holds no image, and images that are saved into it are kept over power failures.
 pub fn erased_area_is_sound()
     ensures { ErasedIsSound }
+{}
+
+/// After any saves into a disk that was erased once, each of them cut off at whatever byte or not, and restarts between them: what is
+/// loaded is what was saved last or, if that save wasn't over, that or what would have been loaded before it, whole.
+pub fn values_outlast_restarts()
+    ensures { ValuesOutlastRestarts }
 {}
 
 /// Two headers are equal by `==` exactly when each of their fields is.

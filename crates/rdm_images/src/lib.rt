@@ -1,25 +1,33 @@
 //! Values that are kept over power failures: the format of one image, and two images in a memory of the firmware's.
 //!
 //! `encode_image` writes the one text of an image, and `decode_image` reads exactly such texts. `Images` keeps two of them, in two
-//! areas of a `Memory`. Power may fail at any moment: what is loaded next is the old values or the new, whole.
+//! areas of a `Memory`. Power may fail at any moment: what is loaded next is the old values or the new, whole. `DiskMemory` is such a
+//! memory on a `Disk`, and `FileDisk` a file as a disk.
 //!
 //! It allocates nothing.
 #![tactic(auto)]
 
 mod decoding;
+mod disk;
+mod disk_memory;
 mod encoding;
+mod file_disk;
 mod image;
 mod images;
 mod laws;
 mod memory;
 
 pub use decoding::{ImageError, decode_image};
+pub use disk::{AREA_BYTES, DISK_BYTES, Disk};
+pub use disk_memory::DiskMemory;
 pub use encoding::encode_image;
+pub use file_disk::{FileDisk, FileMemory};
 pub use image::{HEADER_BYTES, Image, MOST_PAYLOAD};
 pub use images::{Images, ImagesError};
 pub use laws::{
     altered_image_is_refused, cut_image_is_refused, erased_area_is_sound,
     image_errors_are_equal_by_value, image_is_read_back, images_are_equal_by_value,
     images_errors_are_equal_by_value, memory_faults_are_equal_by_value, sides_are_equal_by_value,
+    values_outlast_restarts,
 };
 pub use memory::{Memory, MemoryFault, Side};

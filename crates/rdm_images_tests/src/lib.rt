@@ -8,4 +8,4 @@ mod power;
 mod tests;
 
 pub use cells::{AREA, Cells};
-pub use power::old_or_new_after_power_failure;
+pub use power::{old_or_new_after_power_failure, save_after_restart};

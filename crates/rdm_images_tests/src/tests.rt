@@ -3,6 +3,7 @@
 mod bytes;
 mod choices;
 mod cuts;
+mod files;
 mod firmware;
 
 use crate::cells::{AREA, Cells};
