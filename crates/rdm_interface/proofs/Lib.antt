@@ -3,3 +3,5 @@ pub mod Waits
 pub mod Sessions
 pub mod Alikes
 pub mod Searches
+pub mod Repeats
+pub mod Lines

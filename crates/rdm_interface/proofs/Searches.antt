@@ -1,151 +1,123 @@
 -- A search through a controller's port.
-use Rattle.std.proofs.Common.{◌≡◌, ◌⊎◌, ℕ, zero, suc, ◌+◌, ◌*◌, ◌<◌, ◌≤◌, false, List, [], ◌∷◌, ◌++◌, map, Option, Some, None, Result, Ok, Err, refl, sym, ap, ◌∙◌, subst, inl, inr, arith, add-one, append_assoc}
-use Rattle.std.specs.Prelude.{unwrap_or, IfOk}
+use Rattle.std.proofs.Common.{◌≡◌, ℕ, zero, suc, ◌+◌, ◌-◌, ◌*◌, ◌<◌, ◌≤◌, false, eqb, List, [], ◌∷◌, ◌++◌, length, map, Option, Some, None, Result, Ok, Err, refl, sym, ap, ◌∙◌, subst, inl, inr, arith, add-one, append_assoc}
+use Rattle.std.specs.Prelude.{IfOk}
+use Rattle.std.specs.Option.{option_to_list}
+use Rattle.std.proofs.lemmas.Bool.{cases_eq, eq-eqb, ne_eqb, cond-true, cond-false}
+use Rattle.std.proofs.lemmas.List.{append-nil, length-append, length-map, map-append}
 use Rattle.rdm_frame.specs.declared.uid.Uid.{Uid}
 use Rattle.rdm_frame.specs.declared.frame.Frame.{Frame}
-use Rattle.rdm_frame.specs.FrameText.{frame_text}
+use Rattle.rdm_frame.specs.FrameText.{frame_text, IsFrame}
 use Rattle.rdm_search.specs.declared.error.SearchError.{SearchError}
 use Rattle.rdm_search.specs.declared.found.Found.{Found}
 use Rattle.rdm_search.specs.declared.request.Request.{Request}
 use Rattle.rdm_search.specs.declared.stage.Stage.{Stage}
+use Rattle.rdm_search.specs.declared.stage.Stage.TheVariants.{Start, Asking as AskingStage, Muting, Ended}
 use Rattle.rdm_search.specs.Answers.{found_uids, newcomer}
-use Rattle.rdm_search.specs.declared.stage.Stage.TheVariants.{Start, Asking, Muting, Ended}
-use Rattle.std.specs.Option.{option_to_list}
-use Rattle.std.proofs.lemmas.List.{append-nil, map-append}
 use Rattle.rdm_search.specs.Exchanges.{Exchange, IsRun, IsAsked, HasHeard}
 use Rattle.rdm_search.specs.Line.{Fixture, IsFound}
-use Rattle.rdm_search.specs.Losses.{is_answered, IsKept, IsLost}
-use Rattle.rdm_search.specs.Requests.{request_frame, IsRequest}
+use Rattle.rdm_search.specs.Losses.{is_answered}
+use Rattle.rdm_search.specs.Requests.{request_frame}
 use Rattle.rdm_search.specs.Searches.{next_of, found_after}
 use Rattle.rdm_search.specs.Stages.{request_of, IsStage, IsReal, Stands, Hears, price}
 use Rattle.rdm_search.proofs.Exchanges.{asked_said, heard_then, nothing_said, run_then, sends}
-use Rattle.rdm_search.proofs.Losses.{IsUnanswered as IsVain, Asked, unanswered, void_is, kept_kept, kept_lost, lost_kept, lost_lost, once_more}
-use Rattle.rdm_search.proofs.Reals.{Answered, stays_real}
+use Rattle.rdm_search.proofs.Reals.{keeps_real, one_paid, stays_real}
 use Rattle.rdm_search.proofs.Runs.{Same, Comes, request_fits, answer_leads, ended, costs, next_frame, next_none, next_err}
-use Rattle.rdm_interface.specs.Lines.{IsHeardOnce, IsExchange, IsUnanswered, IsAskedAgain, IsLineOf, IsLossyLineOf}
+use Rattle.rdm_interface.specs.Askings.{Asking, IsAsking, AreAsked, HasAsked, Situation, AreHeardOf, FindsReal, GoesOn, askings_of}
+use Rattle.rdm_interface.specs.Lines.{IsHeardOnce, IsExchange, IsUnanswered, IsAskedAgain}
+use Rattle.rdm_interface.proofs.Repeats.{asking, AllVain, heard_apart, answered_of, kept_of}
 
--- ---- what was asked in vain, and then once more
+abbrev Relation : Type 0 → Type 1
+Relation P = P → List ℕ → Option (List ℕ) → P → Type 0
 
--- nothing has happened yet, or the request has come to this, and no answer
-abbrev SoFar : Request → List Fixture → List Fixture → Type 0
-SoFar request line after = (after ≡ line) ⊎ ((heard : List ℕ) × IsVain request heard × Answered request line heard after)
+-- ---- what was asked
 
--- the same, counted from another number
-recount : (request : Request) (line : List Fixture) (heard : List ℕ) (after : List Fixture) (m m' n : ℕ) → IsKept request line heard after m m' → (n' : ℕ) × IsKept request line heard after n n'
-recount request line heard after m m' n (inl h, e) = (n, (inl (h.0, inl refl), e))
-recount request line heard after m m' n (inr h, e) = (suc n, (inr (h.0, inl refl), e))
+pub asked_then : {P : Type 0} (hears : Relation P) (source : Uid) (xs ys : List Asking) (a b c : P) → AreAsked hears source a xs b → AreAsked hears source b ys c → AreAsked hears source a (xs ++ ys) c
+asked_then hears source [] ys a b c e later = subst (λ p. AreAsked hears source p ys c) e later
+asked_then hears source (x ∷ xs) ys a b c first later = (first.0, first.1, first.2, asked_then hears source xs ys first.0 b c first.3 later)
 
-then_answered : (request : Request) (line mid after : List Fixture) (heard : List ℕ) → SoFar request line mid → Answered request mid heard after → Answered request line heard after
-then_answered request line mid after heard (inl e) now = subst (λ (l : List Fixture). Answered request l heard after) e now
-then_answered request line mid after heard (inr (h, vain, inl k)) (inl k') =
-    let r = recount request mid heard after k'.0 k'.1 k.1 k'.2 in
-    inl (k.0, r.0, kept_kept request line mid h heard after k.0 k.1 r.0 vain k.2 r.1)
-then_answered request line mid after heard (inr (h, vain, inl k)) (inr l') = inl (k.0, k.1, kept_lost request line mid h heard after k.0 k.1 k.1 vain k.2 l' refl)
-then_answered request line mid after heard (inr (h, vain, inr l)) (inl k') = inl (k'.0, k'.1, lost_kept request line mid h heard after k'.0 k'.0 k'.1 l refl k'.2)
-then_answered request line mid after heard (inr (h, vain, inr l)) (inr l') = inr (lost_lost request line mid h heard after l l')
+pub nothing_asked : {P : Type 0} (hears : Relation P) (source : Uid) (most : ℕ) (a b : P) (IsSo : List Asking → Type 0) → b ≡ a → IsSo [] → HasAsked hears source most a b IsSo
+nothing_asked hears source most a b IsSo e so = record { askings = []; sent = e; few = omega arith; is_so = so }
 
-counted : (request : Request) (line : List Fixture) (heard : List ℕ) (after : List Fixture) (n n' : ℕ) → IsKept request line heard after n n' ⊎ IsLost request line heard after → Answered request line heard after
-counted request line heard after n n' (inl k) = inl (n, n', k)
-counted request line heard after n n' (inr l) = inr l
+-- One after another.
+pub has_asked_then : {P : Type 0} (hears : Relation P) (source again : Uid) (m n both : ℕ) (a b c : P) (IsSo Then All : List Asking → Type 0) → HasAsked hears source m a b IsSo → again ≡ source → HasAsked hears again n b c Then
+    → m + n ≤ both → ((xs ys : List Asking) → IsSo xs → Then ys → All (xs ++ ys)) → HasAsked hears source both a c All
+has_asked_then {P} hears source again m n both a b c IsSo Then All first e later le so = record {
+  askings = first.askings ++ later.askings;
+  sent = asked_then hears source first.askings later.askings a b c first.sent (subst (λ (s : Uid). AreAsked hears s b later.askings c) e later.sent);
+  few = omega (arith, length-append first.askings later.askings, first.few, later.few, le);
+  is_so = so first.askings later.askings first.is_so later.is_so;
+}
 
-once_lossy : {P : Type 0} (hears : P → List ℕ → Option (List ℕ) → P → Type 0) (fixtures : P → List Fixture) → IsLossyLineOf hears fixtures → (request : Request) (source : Uid) (tn : ℕ) → IsRequest request
-    → (before after : P) (heard : List ℕ) → IsHeardOnce hears before after (frame_text (request_frame source tn request)) heard → Answered request (fixtures before) heard (fixtures after)
-once_lossy hears fixtures line request source tn fits before after heard once =
-    subst (λ (h : List ℕ). Answered request (fixtures before) h (fixtures after)) (sym once.2)
-    (counted request (fixtures before) (unwrap_or once.0 []) (fixtures after) (line.altered before) (line.altered after) (line.kept_or_lost before after request source tn once.0 fits once.1))
+-- The same, of what is called otherwise.
+pub has_asked_as : {P : Type 0} (hears : Relation P) (source other : Uid) (m n : ℕ) (a b c : P) (IsSo Other : List Asking → Type 0) → HasAsked hears other m a b IsSo → other ≡ source → c ≡ b → m ≤ n
+    → ((xs : List Asking) → IsSo xs → Other xs) → HasAsked hears source n a c Other
+has_asked_as {P} hears source other m n a b c IsSo Other asked e e' le so = record {
+  askings = asked.askings;
+  sent =
+      subst (λ (p : P). AreAsked hears source a asked.askings p) (sym e') (subst (λ (s : Uid). AreAsked hears s a asked.askings b) e asked.sent);
+  few = omega (arith, asked.few, le);
+  is_so = so asked.askings asked.is_so;
+}
 
-vain_lossy : {P : Type 0} (hears : P → List ℕ → Option (List ℕ) → P → Type 0) (fixtures : P → List Fixture) → IsLossyLineOf hears fixtures → (request : Request) (source : Uid) (tn : ℕ) → IsRequest request
-    → (n : ℕ) (before after : P) → IsUnanswered hears (request_frame source tn request) n before after → SoFar request (fixtures before) (fixtures after)
-vain_lossy hears fixtures line request source tn fits zero before after vain = inl (ap fixtures vain)
-vain_lossy hears fixtures line request source tn fits (suc n) before after vain =
-    inr (
-      vain.1,
-      unanswered request source tn vain.1 vain.4,
-      then_answered request (fixtures before) (fixtures vain.0) (fixtures after) vain.1
-          (vain_lossy hears fixtures line request source tn fits n before vain.0 vain.2)
-          (once_lossy hears fixtures line request source tn fits vain.0 after vain.1 vain.3),
-    )
+-- ---- a frame that was asked until it was answered
 
-pub answered_of : {P : Type 0} (hears : P → List ℕ → Option (List ℕ) → P → Type 0) (fixtures : P → List Fixture) (retries : ℕ) → IsLossyLineOf hears fixtures → (request : Request) (source : Uid) (tn : ℕ) → IsRequest request
-    → (before after : P) (heard : List ℕ) → IsAskedAgain hears retries before after (request_frame source tn request) heard → Answered request (fixtures before) heard (fixtures after)
-answered_of hears fixtures retries line request source tn fits before after heard again =
-    then_answered request (fixtures before) (fixtures again.mid) (fixtures after) heard
-    (vain_lossy hears fixtures line request source tn fits again.times before again.mid again.in_vain)
-    (once_lossy hears fixtures line request source tn fits again.mid after heard again.last)
+-- the bytes that were heard before the last, and of what
+record AreRepeated {P : Type 0} (hears : Relation P) (source : Uid) (most : ℕ) (before after : P) (request : Request) (tn : ℕ) (heard : List ℕ) : Type 0 where
+  others : List (List ℕ)
+  vain : AllVain (request_frame source tn request) others
+  few : length others ≤ most
+  all : is_answered (request_frame source tn request) heard ≡ false → length others ≡ most
+  sent : AreAsked hears source before (map (asking request tn) (others ++ heard ∷ [])) after
 
--- ---- the same where no more askings in a row are lost than so many
+vain_then : (frame : Frame) (others : List (List ℕ)) (heard : List ℕ) → AllVain frame others → is_answered frame heard ≡ false → AllVain frame (others ++ heard ∷ [])
+vain_then frame [] heard vain none = (none, tt)
+vain_then frame (h ∷ others) heard vain none = (vain.0, vain_then frame others heard vain.1 none)
 
--- one asking came to this
-abbrev IsStep : Request → List Fixture → List ℕ → List Fixture → ℕ → ℕ → ℕ → ℕ → Type 0
-IsStep request line heard after lost lost' m m' = (IsKept request line heard after m m' × (lost' ≡ 0)) ⊎ (IsLost request line heard after × (lost' ≡ suc lost) × (m' ≡ m))
+sent_once : {P : Type 0} (hears : Relation P) (source : Uid) (request : Request) (tn : ℕ) (others : List (List ℕ)) (heard : List ℕ) (a b c : P) → IsAsking source (asking request tn heard) → AreAsked hears source a (map (asking request tn) others) b
+    → IsHeardOnce hears b c (frame_text (request_frame source tn request)) heard → AreAsked hears source a (map (asking request tn) (others ++ heard ∷ [])) c
+sent_once hears source request tn others heard a b c fits first once =
+    subst (λ (xs : List Asking). AreAsked hears source a xs c) (sym (map-append (asking request tn) others (heard ∷ [])))
+    (asked_then hears source (map (asking request tn) others) (asking request tn heard ∷ []) a b c first (c, fits, once, refl))
 
--- nothing has happened yet, or all is as if it had been asked once, or it was lost each time
-abbrev InVain : Request → List Fixture → List Fixture → ℕ → ℕ → ℕ → ℕ → Type 0
-InVain request line after n lost a m = ((n ≡ 0) × (after ≡ line) × (m ≡ a)) ⊎ ((heard : List ℕ) × IsVain request heard × Asked request line heard after n lost a m)
+-- what was asked in vain
+record AreVain {P : Type 0} (hears : Relation P) (source : Uid) (n : ℕ) (before after : P) (request : Request) (tn : ℕ) : Type 0 where
+  others : List (List ℕ)
+  vain : AllVain (request_frame source tn request) others
+  size : length others ≡ n
+  sent : AreAsked hears source before (map (asking request tn) others) after
 
-first_step : (request : Request) (line : List Fixture) (heard : List ℕ) (after : List Fixture) (n lost lost' a m m' : ℕ) → n ≡ 0 → m ≡ a → IsStep request line heard after lost lost' m m' → Asked request line heard after (n + 1) lost' a m'
-first_step request line heard after n lost lost' a m m' none e (inl k) = inl (subst (λ (i : ℕ). IsKept request line heard after i m') e k.0)
-first_step request line heard after n lost lost' a m m' none e (inr l) = inr (l.0, omega (arith, none, l.1), l.2 ∙ e)
+are_vain : {P : Type 0} (hears : Relation P) (source : Uid) (n : ℕ) (before after : P) (request : Request) (tn : ℕ) → ((heard : List ℕ) → IsAsking source (asking request tn heard)) → IsUnanswered hears (request_frame source tn request) n before after → AreVain hears source n before after request tn
+are_vain hears source zero before after request tn fits vain = record { others = []; vain = tt; size = refl; sent = vain }
+are_vain hears source (suc n) before after request tn fits vain =
+    let first = are_vain hears source n before vain.0 request tn fits vain.2 in
+    record {
+      others = first.others ++ vain.1 ∷ [];
+      vain = vain_then (request_frame source tn request) first.others vain.1 first.vain vain.4;
+      size = omega (arith, length-append first.others (vain.1 ∷ []), first.size);
+      sent = sent_once hears source request tn first.others vain.1 before vain.0 after (fits vain.1) first.sent vain.3;
+    }
 
-then_step : (request : Request) (line mid after : List Fixture) (heard : List ℕ) (n lost lost' a m m' : ℕ) → InVain request line mid n lost a m → IsStep request mid heard after lost lost' m m' → Asked request line heard after (n + 1) lost' a m'
-then_step request line mid after heard n lost lost' a m m' (inl e) step =
-    first_step request line heard after n lost lost' a m m' e.0 e.2 (subst (λ (l : List Fixture). IsStep request l heard after lost lost' m m') e.1 step)
-then_step request line mid after heard n lost lost' a m m' (inr (h, vain, asked)) step = once_more request line mid h heard after n (n + 1) lost lost' a m m' (omega arith) vain asked step
+are_repeated : {P : Type 0} (hears : Relation P) (source : Uid) (most : ℕ) (before after : P) (request : Request) (tn : ℕ) (heard : List ℕ) → ((h : List ℕ) → IsAsking source (asking request tn h)) → IsAskedAgain hears most before after (request_frame source tn request) heard → AreRepeated hears source most before after request tn heard
+are_repeated hears source most before after request tn heard fits again =
+    let first = are_vain hears source again.times before again.mid request tn fits again.in_vain in
+    record {
+      others = first.others;
+      vain = first.vain;
+      few = omega (arith, first.size, again.within);
+      all = λ none. first.size ∙ again.all_in_vain none;
+      sent = sent_once hears source request tn first.others heard before again.mid after (fits heard) first.sent again.last;
+    }
 
-then_kept : (request : Request) (line mid after : List Fixture) (heard : List ℕ) (n lost a m m' : ℕ) → InVain request line mid n lost a m → IsKept request mid heard after m m' → IsKept request line heard after a m'
-then_kept request line mid after heard n lost a m m' (inl e) now =
-    subst (λ (l : List Fixture). IsKept request l heard after a m') e.1 (subst (λ (i : ℕ). IsKept request mid heard after i m') e.2 now)
-then_kept request line mid after heard n lost a m m' (inr (h, vain, inl k)) now = kept_kept request line mid h heard after a m m' vain k now
-then_kept request line mid after heard n lost a m m' (inr (h, vain, inr l)) now = lost_kept request line mid h heard after a m m' l.0 l.2 now
-
--- what may come of one asking, if no more in a row are lost than so many
-abbrev MayCome : Request → List Fixture → List ℕ → List Fixture → ℕ → ℕ → ℕ → ℕ → ℕ → Type 0
-MayCome request line heard after most lost lost' m m' =
-    (IsKept request line heard after m m' × (lost' ≡ 0)) ⊎ (IsLost request line heard after × (lost' ≡ suc lost) × (lost' ≤ most) × (m' ≡ m))
-
-step_of : (request : Request) (line : List Fixture) (heard : List ℕ) (after : List Fixture) (most lost lost' m m' : ℕ) → MayCome request line heard after most lost lost' m m' → IsStep request line heard after lost lost' m m'
-step_of request line heard after most lost lost' m m' (inl k) = inl k
-step_of request line heard after most lost lost' m m' (inr l) = inr (l.0, l.1, l.3)
-
-once_so : {P : Type 0} (hears : P → List ℕ → Option (List ℕ) → P → Type 0) (fixtures : P → List Fixture) (most : ℕ) (line : IsLineOf hears fixtures most) (request : Request) (source : Uid) (tn : ℕ) → IsRequest request
-    → (before after : P) (heard : List ℕ) → IsHeardOnce hears before after (frame_text (request_frame source tn request)) heard
-    → MayCome request (fixtures before) heard (fixtures after) most (line.lost before) (line.lost after) (line.altered before) (line.altered after)
-once_so hears fixtures most line request source tn fits before after heard once =
-    subst (λ (h : List ℕ). MayCome request (fixtures before) h (fixtures after) most (line.lost before) (line.lost after) (line.altered before) (line.altered after)) (sym once.2)
-    (line.kept_or_lost before after request source tn once.0 fits once.1)
-
-vain_so : {P : Type 0} (hears : P → List ℕ → Option (List ℕ) → P → Type 0) (fixtures : P → List Fixture) (most : ℕ) (line : IsLineOf hears fixtures most) (request : Request) (source : Uid) (tn : ℕ) → IsRequest request
-    → (n : ℕ) (before after : P) → IsUnanswered hears (request_frame source tn request) n before after → InVain request (fixtures before) (fixtures after) n (line.lost after) (line.altered before) (line.altered after)
-vain_so hears fixtures most line request source tn fits zero before after vain = inl (refl, ap fixtures vain, ap line.altered vain)
-vain_so hears fixtures most line request source tn fits (suc n) before after vain =
-    inr (
-      vain.1,
-      unanswered request source tn vain.1 vain.4,
-      subst (λ k. Asked request (fixtures before) vain.1 (fixtures after) k (line.lost after) (line.altered before) (line.altered after)) (add-one n)
-          (then_step request (fixtures before) (fixtures vain.0) (fixtures after) vain.1 n (line.lost vain.0) (line.lost after) (line.altered before) (line.altered vain.0) (line.altered after)
-          (vain_so hears fixtures most line request source tn fits n before vain.0 vain.2)
-          (step_of request (fixtures vain.0) vain.1 (fixtures after) most (line.lost vain.0) (line.lost after) (line.altered vain.0) (line.altered after)
-          (once_so hears fixtures most line request source tn fits vain.0 after vain.1 vain.3))),
-    )
-
--- it wasn't lost each time
-not_all_lost : (request : Request) (line : List Fixture) (heard : List ℕ) (after : List Fixture) (n most lost a m : ℕ) → n ≡ most → lost ≤ most → Asked request line heard after (n + 1) lost a m → IsKept request line heard after a m
-not_all_lost request line heard after n most lost a m all within (inl k) = k
-not_all_lost request line heard after n most lost a m all within (inr l) = absurd (omega (arith, all, within, l.1))
-
-last_step : (request : Request) (source : Uid) (tn : ℕ) (line mid after : List Fixture) (heard : List ℕ) (n most lost lost' a m m' : ℕ) → (is_answered (request_frame source tn request) heard ≡ false → n ≡ most)
-    → InVain request line mid n lost a m → MayCome request mid heard after most lost lost' m m' → IsKept request line heard after a m'
-last_step request source tn line mid after heard n most lost lost' a m m' all vain (inl k) = then_kept request line mid after heard n lost a m m' vain k.0
-last_step request source tn line mid after heard n most lost lost' a m m' all vain (inr l) =
-    not_all_lost request line heard after n most lost' a m' (all (void_is request source tn mid heard l.0.0)) l.2
-    (then_step request line mid after heard n lost lost' a m m' vain (step_of request mid heard after most lost lost' m m' (inr l)))
-
-pub kept_of : {P : Type 0} (hears : P → List ℕ → Option (List ℕ) → P → Type 0) (fixtures : P → List Fixture) (most : ℕ) (line : IsLineOf hears fixtures most) (request : Request) (source : Uid) (tn : ℕ) → IsRequest request
-    → (before after : P) (heard : List ℕ) → IsAskedAgain hears most before after (request_frame source tn request) heard → IsKept request (fixtures before) heard (fixtures after) (line.altered before) (line.altered after)
-kept_of hears fixtures most line request source tn fits before after heard again =
-    last_step request source tn (fixtures before) (fixtures again.mid) (fixtures after) heard again.times most (line.lost again.mid) (line.lost after) (line.altered before) (line.altered again.mid) (line.altered after) again.all_in_vain
-    (vain_so hears fixtures most line request source tn fits again.times before again.mid again.in_vain)
-    (once_so hears fixtures most line request source tn fits again.mid after heard again.last)
+-- It is one transaction of a search, of which this is so.
+has_asked : {P : Type 0} (hears : Relation P) (source : Uid) (most : ℕ) (before after : P) (request : Request) (tn : ℕ) (heard : List ℕ) (IsSo : List Asking → Type 0) → AreRepeated hears source most before after request tn heard
+    → ((others : List (List ℕ)) → AllVain (request_frame source tn request) others → (is_answered (request_frame source tn request) heard ≡ false → length others ≡ most) → IsSo (map (asking request tn) (others ++ heard ∷ [])))
+    → HasAsked hears source (most + 1) before after IsSo
+has_asked hears source most before after request tn heard IsSo r so = record {
+  askings = map (asking request tn) (r.others ++ heard ∷ []);
+  sent = r.sent;
+  few = omega (arith, length-map (r.others ++ heard ∷ []) (asking request tn), length-append r.others (heard ∷ []), r.few);
+  is_so = so r.others r.vain r.all;
+}
 
 -- ---- the search goes on
 
@@ -154,15 +126,18 @@ pub ends : (source : Uid) (tn left : ℕ) (stage : Stage) (found : List Uid) (li
 ends source tn left stage found line e stands = ended stage found line (next_none source tn (request_of stage) left e) stands
 
 -- it makes one transaction, and has that much less before it
-pub goes_on : {P : Type 0} (hears : P → List ℕ → Option (List ℕ) → P → Type 0) (fixtures : P → List Fixture) (most : ℕ) (before after : P) (source : Uid) (tn left : ℕ) (stage next : Stage) (found more : List Uid) (frame : Frame) (heard : List ℕ)
-    → (line : IsLineOf hears fixtures most) → IsStage stage → Same (Ok (Some frame)) (next_of source tn (request_of stage) left) → IsAskedAgain hears most before after frame heard
-    → Hears stage found heard next more → Stands stage found (fixtures before) → Comes stage (fixtures before) next more (fixtures after) (line.altered before) (line.altered after)
-goes_on hears fixtures most before after source tn left stage next found more frame heard line valid e again leads stands =
+pub goes_on : {P : Type 0} (hears : Relation P) (most : ℕ) (before after : P) (source : Uid) (tn left : ℕ) (stage next : Stage) (found more : List Uid) (frame : Frame) (heard : List ℕ)
+    → IsStage stage → IsFrame frame → Same (Ok (Some frame)) (next_of source tn (request_of stage) left) → IsAskedAgain hears most before after frame heard
+    → Hears stage found heard next more → HasAsked hears source (most + 1) before after (GoesOn most stage found next more)
+goes_on hears most before after source tn left stage next found more frame heard valid frame_fits e again leads =
     let n = next_frame source tn (request_of stage) left frame e in
     let again_so : IsAskedAgain hears most before after (request_frame source tn n.0) heard = subst (λ f. IsAskedAgain hears most before after f heard) n.2 again in
-    let kept = kept_of hears fixtures most line n.0 source tn (request_fits stage n.0 valid n.1) before after heard again_so in
-    let comes = answer_leads stage next found more n.0 (fixtures before) heard (line.altered before) (line.altered after) (leads n.0 (fixtures before) n.1 stands) kept.0 in
-    subst (λ (l : List Fixture). Comes stage (fixtures before) next more l (line.altered before) (line.altered after)) (sym kept.1) comes
+    has_asked hears source most before after n.0 tn heard (GoesOn most stage found next more)
+    (are_repeated hears source most before after n.0 tn heard (λ h. (request_fits stage n.0 valid n.1, subst IsFrame n.2 frame_fits)) again_so)
+    (λ others vain all s s' stands h. (
+    let kept = kept_of most n.0 source tn others heard s s' vain all h in
+    let comes = answer_leads stage next found more n.0 s.fixtures heard s.altered s'.altered (leads n.0 s.fixtures n.1 stands) kept.0 in
+    subst (λ (l : List Fixture). Comes stage s.fixtures next more l s.altered s'.altered) (sym kept.1) comes))
 
 -- it may make none, though it isn't at its end
 pub stops : (source : Uid) (tn left : ℕ) (stage : Stage) (found : List Uid) (line : List Fixture) (fault : SearchError) → IsStage stage → Same (Err fault) (next_of source tn (request_of stage) left) → Stands stage found line
@@ -172,15 +147,40 @@ stops source tn left stage found line fault valid e stands =
     let least = costs stage found line n.0 valid n.1 stands in
     omega (arith, n.2, least)
 
+within : (retries left : ℕ) → 0 < left → (Q : ℕ → Type 0) → Q (retries + 1) → Q (askings_of retries left)
+within retries left some Q q = subst Q (sym (cond-false (eqb left 0) 0 (retries + 1) (ne_eqb left 0 (λ e. omega (arith, e, some))))) q
+
 -- and what it found is on the line
-pub finds_real : {P : Type 0} (hears : P → List ℕ → Option (List ℕ) → P → Type 0) (fixtures : P → List Fixture) (retries : ℕ) (before after : P) (source : Uid) (tn left : ℕ) (stage : Stage) (found more : List Found) (frame : Frame) (heard : List ℕ)
-    → IsLossyLineOf hears fixtures → IsStage stage → Same (Ok (Some frame)) (next_of source tn (request_of stage) left) → IsAskedAgain hears retries before after frame heard
-    → more ≡ found_after stage found heard → IsReal (found_uids found) (fixtures before) → IsReal (found_uids more) (fixtures after)
-finds_real hears fixtures retries before after source tn left stage found more frame heard line valid e again noted real =
+pub finds_real : {P : Type 0} (hears : Relation P) (retries : ℕ) (before after : P) (source : Uid) (tn left : ℕ) (stage : Stage) (found more : List Found) (frame : Frame) (heard : List ℕ)
+    → IsStage stage → IsFrame frame → Same (Ok (Some frame)) (next_of source tn (request_of stage) left) → IsAskedAgain hears retries before after frame heard
+    → more ≡ found_after stage found heard → HasAsked hears source (askings_of retries left) before after (FindsReal (IsReal (found_uids found)) (found_uids more))
+finds_real hears retries before after source tn left stage found more frame heard valid frame_fits e again noted =
     let n = next_frame source tn (request_of stage) left frame e in
     let again_so : IsAskedAgain hears retries before after (request_frame source tn n.0) heard = subst (λ f. IsAskedAgain hears retries before after f heard) n.2 again in
-    stays_real stage found more (fixtures before) heard (fixtures after) n.0 n.1 noted real
-    (answered_of hears fixtures retries line n.0 source tn (request_fits stage n.0 valid n.1) before after heard again_so)
+    within retries left n.3 (λ (m : ℕ). HasAsked hears source m before after (FindsReal (IsReal (found_uids found)) (found_uids more)))
+    (has_asked hears source retries before after n.0 tn heard (FindsReal (IsReal (found_uids found)) (found_uids more))
+    (are_repeated hears source retries before after n.0 tn heard (λ h. (request_fits stage n.0 valid n.1, subst IsFrame n.2 frame_fits)) again_so)
+    (λ others vain all most s s' real h.
+    stays_real stage found more s.fixtures heard s'.fixtures n.0 n.1 noted real (answered_of most n.0 source tn others heard s s' vain h)))
+
+-- or nothing more was found, for want of memory
+pub keeps_found : {P : Type 0} (hears : Relation P) (retries : ℕ) (before after : P) (source : Uid) (tn left : ℕ) (stage : Stage) (found more : List Found) (frame : Frame) (heard : List ℕ)
+    → IsStage stage → IsFrame frame → Same (Ok (Some frame)) (next_of source tn (request_of stage) left) → IsAskedAgain hears retries before after frame heard
+    → more ≡ found → HasAsked hears source (askings_of retries left) before after (FindsReal (IsReal (found_uids found)) (found_uids more))
+keeps_found hears retries before after source tn left stage found more frame heard valid frame_fits e again same =
+    let n = next_frame source tn (request_of stage) left frame e in
+    let again_so : IsAskedAgain hears retries before after (request_frame source tn n.0) heard = subst (λ f. IsAskedAgain hears retries before after f heard) n.2 again in
+    within retries left n.3 (λ (m : ℕ). HasAsked hears source m before after (FindsReal (IsReal (found_uids found)) (found_uids more)))
+    (has_asked hears source retries before after n.0 tn heard (FindsReal (IsReal (found_uids found)) (found_uids more))
+    (are_repeated hears source retries before after n.0 tn heard (λ h. (request_fits stage n.0 valid n.1, subst IsFrame n.2 frame_fits)) again_so)
+    (λ others vain all most s s' real h.
+    subst (λ (xs : List Found). IsReal (found_uids xs) s'.fixtures) (sym same)
+    (keeps_real found s.fixtures heard s'.fixtures n.0 real (answered_of most n.0 source tn others heard s s' vain h))))
+
+-- it asked nothing, and found nothing more
+pub real_still : (found more : List Found) → more ≡ found → FindsReal (IsReal (found_uids found)) (found_uids more) []
+real_still found more e most s s' real h =
+    subst (λ (t : Situation). IsReal (found_uids more) t.fixtures) (sym h) (subst (λ (xs : List Found). IsReal (found_uids xs) s.fixtures) (sym e) real)
 
 -- ---- asking again
 
@@ -232,34 +232,101 @@ failed_said hears source before known found e = (before, nothing_said (IsExchang
 
 -- ---- one transaction after another
 
+-- On every line it has come nearer to its end by as many transactions as it has made.
+abbrev pub Nears : ℕ → Stage → List Uid → ℕ → Stage → List Uid → ℕ → List Asking → Type 0
+Nears most stage found left stage' found' left' askings =
+    (before after : Situation) → Stands stage found before.fixtures → AreHeardOf most before askings after
+    → Stands stage' found' after.fixtures
+    × (price stage' after.fixtures + 2 * left + 3 * before.altered ≤ price stage before.fixtures + 2 * left' + 3 * after.altered)
+
 -- what a search has come to through a port
-pub record Through {P : Type 0} (hears : P → List ℕ → Option (List ℕ) → P → Type 0) (most : ℕ) (source : Uid) (stage : Stage) (left : ℕ) (found : List Found) (port : P) (source' : Uid) (stage' : Stage) (left' : ℕ) (found' : List Found) (port' : P) : Type 0 where
-  pub stands : (fixtures : P → List Fixture) (line : IsLineOf hears fixtures most) → Stands stage (found_uids found) (fixtures port)
-      → Stands stage' (found_uids found') (fixtures port')
-      × (price stage' (fixtures port') + 2 * left + 3 * line.altered port ≤ price stage (fixtures port) + 2 * left' + 3 * line.altered port')
-  pub real : (fixtures : P → List Fixture) → IsLossyLineOf hears fixtures → IsReal (found_uids found) (fixtures port) → IsReal (found_uids found') (fixtures port')
+pub record Through {P : Type 0} (hears : Relation P) (most : ℕ) (source : Uid) (stage : Stage) (left : ℕ) (found : List Found) (port : P) (source' : Uid) (stage' : Stage) (left' : ℕ) (found' : List Found) (port' : P) : Type 0 where
+  pub took : ℕ
+  pub stands : HasAsked hears source took port port' (Nears most stage (found_uids found) left stage' (found_uids found') left')
+  pub real : HasAsked hears source took port port' (FindsReal (IsReal (found_uids found)) (found_uids found'))
+  pub paid : took + (most + 1) * left' ≤ (most + 1) * left
   pub kept : (more : List Found) × (found' ≡ found ++ more)
   pub said : HasHeard (IsExchange hears) source port port' found found'
   pub same_source : source' ≡ source
 
--- and one transaction more
-pub through_next : {P : Type 0} (hears : P → List ℕ → Option (List ℕ) → P → Type 0) (most : ℕ) (u u' u'' : Uid) (s s' s'' : Stage) (n n' n'' : ℕ) (f f' f'' : List Found) (p p' p'' : P) → Through hears most u s n f p u' s' n' f' p'
-    → ((fixtures : P → List Fixture) (line : IsLineOf hears fixtures most) → Stands s' (found_uids f') (fixtures p') → Comes s' (fixtures p') s'' (found_uids f'') (fixtures p'') (line.altered p') (line.altered p''))
-    → ((fixtures : P → List Fixture) → IsLossyLineOf hears fixtures → IsReal (found_uids f') (fixtures p') → IsReal (found_uids f'') (fixtures p''))
-    → (more : List Found) × (f'' ≡ f' ++ more) → n'' + 1 ≡ n' → HasHeard (IsExchange hears) u' p' p'' f' f'' → u'' ≡ u' → Through hears most u s n f p u'' s'' n'' f'' p''
-through_next hears most u u' u'' s s' s'' n n' n'' f f' f'' p p' p'' so comes real more left said same = record {
-  stands = λ fixtures line stands. (
-      let before = so.stands fixtures line stands in let now = comes fixtures line before.0 in
-      (now.0, omega (arith, before.1, now.1, left)));
-  real = λ fixtures line is. real fixtures line (so.real fixtures line is);
-  kept = (so.kept.0 ++ more.0, more.1 ∙ ap (λ (xs : List Found). xs ++ more.0) so.kept.1 ∙ append_assoc f so.kept.0 more.0);
-  said = heard_then (IsExchange hears) u u' p p' p'' f f' f'' so.said so.same_source said;
-  same_source = same ∙ so.same_source;
+nears_then : (most : ℕ) (s s' s'' : Stage) (n n' n'' : ℕ) (f f' f'' : List Uid) (xs ys : List Asking) → n'' + 1 ≡ n' → Nears most s f n s' f' n' xs → GoesOn most s' f' s'' f'' ys → Nears most s f n s'' f'' n'' (xs ++ ys)
+nears_then most s s' s'' n n' n'' f f' f'' xs ys less first then a c stands h =
+    let parts = heard_apart most xs ys a c h in
+    let before = first a parts.0 stands parts.1 in
+    let now = then parts.0 c before.0 parts.2 in
+    (now.0, omega (arith, before.1, now.1, less))
+
+real_then : (AreSuch : List Fixture → Type 0) (f' f'' : List Uid) (xs ys : List Asking) → FindsReal AreSuch f' xs → FindsReal (IsReal f') f'' ys → FindsReal AreSuch f'' (xs ++ ys)
+real_then AreSuch f' f'' xs ys first then most a c such h =
+    let parts = heard_apart most xs ys a c h in
+    then most parts.0 c (first most a parts.0 such parts.1) parts.2
+
+-- what a step takes is paid
+paid_by : (most took n n' : ℕ) → took + (most + 1) * n' ≤ (most + 1) * n → took + askings_of most n' ≤ (most + 1) * n
+paid_by most took n n' paid =
+    elim (cases_eq n' 0) [
+      | inl none ↦
+          let e : askings_of most n' ≡ 0 = cond-true (eqb n' 0) 0 (most + 1) (eq-eqb n' 0 none) in
+          omega (arith, paid, e)
+      | inr some ↦
+          let e : askings_of most n' ≡ most + 1 = cond-false (eqb n' 0) 0 (most + 1) (ne_eqb n' 0 some) in
+          let one = one_paid (most + 1) n' (omega (arith, some)) in
+          omega (arith, paid, e, one)
+    ]
+
+nears_none : (most : ℕ) (s : Stage) (n : ℕ) (f : List Uid) → Nears most s f n s f n []
+nears_none most s n f a c stands h = subst (λ (t : Situation). Stands s f t.fixtures × (price s t.fixtures + 2 * n + 3 * a.altered ≤ price s a.fixtures + 2 * n + 3 * t.altered)) (sym h) (stands, omega arith)
+
+pub through_none : {P : Type 0} (hears : Relation P) (most : ℕ) (u : Uid) (s : Stage) (n : ℕ) (f : List Found) (p : P) → Through hears most u s n f p u s n f p
+through_none hears most u s n f p = record {
+  took = 0;
+  stands = nothing_asked hears u 0 p p (Nears most s (found_uids f) n s (found_uids f) n) refl (nears_none most s n (found_uids f));
+  real = nothing_asked hears u 0 p p (FindsReal (IsReal (found_uids f)) (found_uids f)) refl (real_still f f refl);
+  paid = omega arith;
+  kept = ([], sym (append-nil f));
+  said = nothing_said (IsExchange hears) u [] p p f f refl refl;
+  same_source = refl;
 }
+
+-- what one transaction more may have found
+pub real_to_end : {P : Type 0} (hears : Relation P) (most : ℕ) (u u' : Uid) (s s' : Stage) (n n' : ℕ) (f f' f'' : List Found) (p p' last : P) → Through hears most u s n f p u' s' n' f' p'
+    → HasAsked hears u' (askings_of most n') p' last (FindsReal (IsReal (found_uids f')) (found_uids f'')) → HasAsked hears u ((most + 1) * n) p last (FindsReal (IsReal (found_uids f)) (found_uids f''))
+real_to_end hears most u u' s s' n n' f f' f'' p p' last so real =
+    has_asked_then hears u u' so.took (askings_of most n') ((most + 1) * n) p p' last (FindsReal (IsReal (found_uids f)) (found_uids f')) (FindsReal (IsReal (found_uids f')) (found_uids f'')) (FindsReal (IsReal (found_uids f)) (found_uids f''))
+    so.real so.same_source real (paid_by most so.took n n' so.paid) (real_then (IsReal (found_uids f)) (found_uids f') (found_uids f''))
+
+-- where its port didn't fail
+pub real_here : {P : Type 0} (hears : Relation P) (most : ℕ) (u : Uid) (n : ℕ) (f f' : List Found) (p p' last : P) → HasAsked hears u (askings_of most n) p last (FindsReal (IsReal (found_uids f)) (found_uids f')) → p' ≡ last → HasAsked hears u (askings_of most n) p p' (FindsReal (IsReal (found_uids f)) (found_uids f'))
+real_here hears most u n f f' p p' last real e =
+    has_asked_as hears u u (askings_of most n) (askings_of most n) p last p' (FindsReal (IsReal (found_uids f)) (found_uids f')) (FindsReal (IsReal (found_uids f)) (found_uids f')) real refl e (omega arith) (λ xs so. so)
+
+-- and one transaction more
+pub through_next : {P : Type 0} (hears : Relation P) (most : ℕ) (u u' u'' : Uid) (s s' s'' : Stage) (n n' n'' : ℕ) (f f' f'' : List Found) (p p' p'' : P) → Through hears most u s n f p u' s' n' f' p'
+    → HasAsked hears u' (most + 1) p' p'' (GoesOn most s' (found_uids f') s'' (found_uids f''))
+    → HasAsked hears u' (askings_of most n') p' p'' (FindsReal (IsReal (found_uids f')) (found_uids f''))
+    → (more : List Found) × (f'' ≡ f' ++ more) → n'' + 1 ≡ n' → HasHeard (IsExchange hears) u' p' p'' f' f'' → u'' ≡ u' → Through hears most u s n f p u'' s'' n'' f'' p''
+through_next hears most u u' u'' s s' s'' n n' n'' f f' f'' p p' p'' so on real more left said same =
+    let some : askings_of most n' ≡ most + 1 = cond-false (eqb n' 0) 0 (most + 1) (ne_eqb n' 0 (λ e. omega (arith, e, left))) in
+    let one = one_paid (most + 1) n' (omega (arith, left)) in
+    let less : n' - 1 ≡ n'' = omega (arith, left) in
+    let paid : (most + 1) * n'' + (most + 1) ≡ (most + 1) * n' = subst (λ (k : ℕ). (most + 1) * k + (most + 1) ≡ (most + 1) * n') less one in
+    record {
+      took = so.took + (most + 1);
+      stands =
+          has_asked_then hears u u' so.took (most + 1) (so.took + (most + 1)) p p' p'' (Nears most s (found_uids f) n s' (found_uids f') n') (GoesOn most s' (found_uids f') s'' (found_uids f'')) (Nears most s (found_uids f) n s'' (found_uids f'') n'')
+          so.stands so.same_source on (omega arith) (λ xs ys. nears_then most s s' s'' n n' n'' (found_uids f) (found_uids f') (found_uids f'') xs ys left);
+      real =
+          has_asked_then hears u u' so.took (askings_of most n') (so.took + (most + 1)) p p' p'' (FindsReal (IsReal (found_uids f)) (found_uids f')) (FindsReal (IsReal (found_uids f')) (found_uids f'')) (FindsReal (IsReal (found_uids f)) (found_uids f''))
+          so.real so.same_source real (omega (arith, some)) (real_then (IsReal (found_uids f)) (found_uids f') (found_uids f''));
+      paid = omega (arith, so.paid, paid);
+      kept = (so.kept.0 ++ more.0, more.1 ∙ ap (λ (xs : List Found). xs ++ more.0) so.kept.1 ∙ append_assoc f so.kept.0 more.0);
+      said = heard_then (IsExchange hears) u u' p p' p'' f f' f'' so.said so.same_source said;
+      same_source = same ∙ so.same_source;
+    }
 
 -- what was found stays, and more stands behind it
 pub noted_more : (stage : Stage) (found : List Found) (heard : List ℕ) → (more : List Found) × (found_after stage found heard ≡ found ++ more)
 noted_more Start found heard = ([], sym (append-nil found))
-noted_more (Asking r) found heard = ([], sym (append-nil found))
+noted_more (AskingStage r) found heard = ([], sym (append-nil found))
 noted_more (Muting r u) found heard = (option_to_list (newcomer found u heard), refl)
 noted_more Ended found heard = ([], sym (append-nil found))

@@ -15,7 +15,7 @@ use Rattle.rdm_interface.specs.declared.wanted.Wanted.{Wanted}
 use Rattle.rdm_interface.specs.declared.wanted.Wanted.TheVariants.{Labelled, Branch, Response}
 use Rattle.rdm_interface.specs.Answers.{is_branch, wanted_for, wanted_by, label_for, request_message, belongs, has_end, heard_in}
 use Rattle.rdm_interface.specs.Exchanges.{IsNext, IsAsked, IsEnded}
-use Rattle.rdm_interface.specs.Sessions.{EndComes, IsInTime, Exchange, IsSession, requests_of, heard_of, inputs_of, IsReplyTo, AreRepliesTo, RepliesAreHeard, CameToEnd, AnsweredIsInTime}
+use Rattle.rdm_interface.specs.Sessions.{EndComes, IsInTime, Exchange, IsSession, requests_of, heard_of, inputs_of, IsReplyTo, AreRepliesTo, RepliesAreHeard, CameToEnd, end_read, AnsweredIsInTime}
 use Rattle.rdm_interface.proofs.Nexts.{next_more}
 
 -- ---- the message at the front, if it belongs, is the next one
@@ -215,30 +215,31 @@ replies_are_heard xs replies kept unread later are session e =
 
 end_came : {C : Type 0} (tells : C → ℕ → C → Type 0) (limit : ℕ) (before after : C) (unread left : Option (List ℕ)) (held kept : List ℕ) (t : Bool)
     → (ended : IsEnded tells limit before after unread left held kept t) → CameToEnd tells limit before after unread left held kept t ended
-    → (input : List ℕ) × Consumes unread left input × EndComes t (held ++ input) kept
+    → Consumes unread left (end_read tells limit before after unread left held kept t ended) × EndComes t (held ++ end_read tells limit before after unread left held kept t ended) kept
 end_came tells limit before after unread left held kept false ended came =
-    ([], subst (λ l. Consumes unread l []) (sym ended.1) (Consumes-nil unread), append-nil held ∙ sym ended.2)
-end_came tells limit before after unread left held kept true (Some end, awaited) came = (awaited.read.input, awaited.read.read, (end, awaited.read.next))
+    (subst (λ l. Consumes unread l []) (sym ended.1) (Consumes-nil unread), append-nil held ∙ sym ended.2)
+end_came tells limit before after unread left held kept true (Some end, awaited) came = (awaited.read.read, (end, awaited.read.next))
 end_came tells limit before after unread left held kept true (None, awaited) came = absurd (true≢false (sym came))
 
 in_time : {C : Type 0} (tells : C → ℕ → C → Type 0) (limit : ℕ) (before between after : C) (unread mid left old new : Option (List ℕ)) (held rest kept request : List ℕ) (heard : Option (List ℕ)) (answer : Option Message)
-    → IsAsked tells limit before between unread mid old new held rest (request_message request) (belongs (wanted_by request)) answer
+    → (asked : IsAsked tells limit before between unread mid old new held rest (request_message request) (belongs (wanted_by request)) answer)
     → (ended : IsEnded tells limit between after mid left rest kept (has_end (wanted_by request) answer)) → heard ≡ heard_in answer → IsSome answer
     → CameToEnd tells limit between after mid left rest kept (has_end (wanted_by request) answer) ended
-    → (input : List ℕ) × Consumes unread left input × IsInTime request (held ++ input) heard kept
+    → Consumes unread left (asked.awaited.read.input ++ end_read tells limit between after mid left rest kept (has_end (wanted_by request) answer) ended)
+    × IsInTime request (held ++ (asked.awaited.read.input ++ end_read tells limit between after mid left rest kept (has_end (wanted_by request) answer) ended)) heard kept
 in_time tells limit before between after unread mid left old new held rest kept request heard None asked ended is some came = absurd (true≢false (sym some))
 in_time tells limit before between after unread mid left old new held rest kept request heard (Some m) asked ended is some came =
     let end = end_came tells limit between after mid left rest kept (has_end (wanted_by request) (Some m)) ended came in
+    let more : List ℕ = end_read tells limit between after mid left rest kept (has_end (wanted_by request) (Some m)) ended in
     let read = asked.awaited.read in (
-      read.input ++ end.0,
-      Consumes-trans unread mid left read.input end.0 read.read end.1,
+      Consumes-trans unread mid left read.input more read.read end.0,
       record {
         answer = m;
-        behind = rest ++ end.0;
+        behind = rest ++ more;
         next =
-            subst (λ (l : List ℕ). IsNext (belongs (wanted_by request)) l (Some m) (rest ++ end.0)) (append_assoc held read.input end.0)
-            (next_more (belongs (wanted_by request)) (held ++ read.input) rest end.0 (Some m) read.next);
-        end = end.2;
+            subst (λ (l : List ℕ). IsNext (belongs (wanted_by request)) l (Some m) (rest ++ more)) (append_assoc held read.input more)
+            (next_more (belongs (wanted_by request)) (held ++ read.input) rest more (Some m) read.next);
+        end = end.1;
         heard_is = is;
       },
     )

@@ -2,3 +2,4 @@ pub mod Answers
 pub mod Exchanges
 pub mod Sessions
 pub mod Lines
+pub mod Askings

@@ -74,13 +74,23 @@ abbrev pub CameToEnd : {C : Type 0} (tells : C → ℕ → C → Type 0) (limit 
 CameToEnd tells limit before after unread left held kept false ended = Unit {0}
 CameToEnd tells limit before after unread left held kept true ended = IsSome ended.0
 
+-- the bytes that are read for the end
+abbrev pub end_read : {C : Type 0} (tells : C → ℕ → C → Type 0) (limit : ℕ) (before after : C) (unread left : Option (List ℕ)) (held kept : List ℕ) (has_end : Bool) → IsEnded tells limit before after unread left held kept has_end → List ℕ
+end_read tells limit before after unread left held kept false ended = []
+end_read tells limit before after unread left held kept true ended = ended.1.read.input
+
+-- the bytes that are read in an exchange
+abbrev pub read_in : {C : Type 0} {tells : C → ℕ → C → Type 0} {limit : ℕ} {before after : C} {unread left old new : Option (List ℕ)} {held kept request : List ℕ} {heard : Option (List ℕ)} → IsExchanged tells limit before after unread left old new held kept request heard → List ℕ
+read_in {C} {tells} {limit} {before} {after} {unread} {left} {old} {new} {held} {kept} {request} x =
+    x.asked.awaited.read.input ++ end_read tells limit x.between after x.mid left x.rest kept (has_end (wanted_by request) x.answer) x.ended
+
 -- An exchange in which the answer came, and its end, is one in time.
 abbrev pub AnsweredIsInTime : {C : Type 0} → (C → ℕ → C → Type 0) → Type 0
 AnsweredIsInTime {C} tells =
     (limit : ℕ) (before after : C) (unread left old new : Option (List ℕ)) (held kept request : List ℕ) (heard : Option (List ℕ))
     → (x : IsExchanged tells limit before after unread left old new held kept request heard) → IsSome x.answer
     → CameToEnd tells limit x.between after x.mid left x.rest kept (has_end (wanted_by request) x.answer) x.ended
-    → (input : List ℕ) × Consumes unread left input × IsInTime request (held ++ input) heard kept
+    → Consumes unread left (read_in x) × IsInTime request (held ++ read_in x) heard kept
 
 -- two requests that one response could answer
 pub record AreAlike (request other : Frame) : Type 0 where

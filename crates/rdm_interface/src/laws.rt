@@ -1,9 +1,11 @@
 //! Laws of what is heard, and of `==`. Each is the contract of a call that does nothing.
 
 ghost use Rattle.std.specs.Prelude.{◌≡◌, ◌↔◌, IsTrue};
+ghost use Rattle.rdm_interface.specs.Askings.{LinesAreHeard, LossyLinesAreHeard};
 ghost use Rattle.rdm_interface.specs.Sessions.{AnsweredIsInTime, LateAnswersArePassedOver, RepliesAreHeard};
 
 use crate::{Parameters, SearchFault};
+use rdm_collector::Port;
 use rdm_messages::Clock;
 
 /// Of requests that are answered in time, one after another, what came from the line for each is what is heard of it, and nothing
@@ -21,6 +23,13 @@ pub fn answered_is_in_time<C: Clock>()
 /// those that fetch a message, in their command class, sub-device or parameter (E1.20 section 6.2).
 pub fn late_answers_are_passed_over()
     ensures { LateAnswersArePassedOver }
+{}
+
+/// Where a port's own states tell of the line behind it, what the port hears of a search is what may be heard on that line. So what
+/// `discover_through` says of every line on which this run's askings may be heard, it says of that one.
+pub fn lines_are_heard<P: Port>()
+    ensures line { LinesAreHeard P.hears }
+    ensures lossy { LossyLinesAreHeard P.hears }
 {}
 
 /// The parameters of two interfaces are equal by `==` exactly when each field is.

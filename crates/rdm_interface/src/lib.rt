@@ -11,14 +11,15 @@ mod finding;
 mod interface;
 mod laws;
 mod parameters;
+mod ranges;
 mod searching;
 mod waiting;
 mod wanted;
 
 pub use interface::Interface;
 pub use laws::{
-    answered_is_in_time, late_answers_are_passed_over, parameters_are_equal_by_value,
-    replies_are_heard, search_faults_are_equal_by_value,
+    answered_is_in_time, late_answers_are_passed_over, lines_are_heard,
+    parameters_are_equal_by_value, replies_are_heard, search_faults_are_equal_by_value,
 };
 pub use parameters::Parameters;
 pub use rdm_messages::{Clock, RealClock};

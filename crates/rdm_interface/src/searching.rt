@@ -1,12 +1,15 @@
 //! A search of a line through a controller's port.
 
-ghost use Rattle.std.specs.Prelude.{◌≡◌, ◌+◌, ◌-◌, ◌*◌, ◌<◌, ◌≤◌, ◌++◌, [], List, length, Ok, Err, true, false, All, IfOk, OnOk};
+ghost use Rattle.std.specs.Prelude.{◌≡◌, ◌≢◌, ◌⊎◌, ◌+◌, ◌-◌, ◌*◌, ◌<◌, ◌++◌, [], List, length, Ok, Err, true, false, IfOk, OnOk};
+ghost use Rattle.rdm_frame.specs.FrameText.{IsFrame};
 ghost use Rattle.rdm_search.specs.Answers.{found_uids};
 ghost use Rattle.rdm_search.specs.Exchanges.{HasHeard};
-ghost use Rattle.rdm_search.specs.Line.{Fixture, IsDevice, IsFound};
+ghost use Rattle.rdm_search.specs.Line.{Fixture, IsFound};
 ghost use Rattle.rdm_search.specs.Stages.{IsReal, Stands, price};
-ghost use Rattle.rdm_interface.specs.Lines.{IsAskedAgain, IsExchange, IsHeardOnce, IsLineOf, IsLossyLineOf};
+ghost use Rattle.rdm_interface.specs.Askings.{AreDevices, AreHeardOf, FindsAll, FindsReal, GoesOn, HasAsked, Situation, TakesMore, askings_of};
+ghost use Rattle.rdm_interface.specs.Lines.{IsAskedAgain, IsExchange, IsHeardOnce};
 
+use crate::ranges::frame_fits;
 use rdm_collector::{Port, PortError};
 use rdm_frame::{Frame, Uid, Wire, encode};
 use rdm_search::{Found, Search, SearchError, is_answered};
@@ -29,7 +32,8 @@ pub enum SearchFault {
 /// sections 7.5 and 7.6). Each request is asked up to `retries` times again while no valid answer is heard. Memory is taken from `alloc`
 /// for what is found.
 ///
-/// A fixture may be missed where more than `retries` askings in a row are lost, or their answers are lost or altered.
+/// It sends requests of a search and nothing else. A fixture may be missed where more than `retries` askings in a row are lost, or their
+/// answers are lost or altered.
 pub fn discover_through<P: Port>(
     alloc: Global,
     port: &mut P,
@@ -37,18 +41,22 @@ pub fn discover_through<P: Port>(
     retries: u8,
     limit: u32,
 ) -> Result<Vec<Found>, SearchFault>
-    // On the line of any fixtures, where no more askings in a row are lost than are repeated, what is found is these, each once.
-    ensures found { IfOk result (λ found. (fixtures : P → List Fixture) → IsLineOf P.hears fixtures retries
-        → All (λ f. IsDevice f.uid) (fixtures port.old) → IsFound (found_uids found.items) (fixtures port.new)) }
+    // On every line where what was heard in this run may be heard, and no more askings in a row are lost than are repeated, what is found
+    // is its fixtures, each once.
+    ensures found { IfOk result (λ found. HasAsked P.hears source ((retries + 1) * limit) port.old port.new
+        (FindsAll retries AreDevices (found_uids found.items))) }
     // What is told of each is what its valid answer to DISC_MUTE said, heard in this run.
     ensures said { IfOk result (λ found. HasHeard (IsExchange P.hears) source port.old port.new [] found.items) }
-    // There the limit is reached only if it is less than all fixtures take, and the altered answers and noise.
-    ensures limit { result ≡ Err (SearchFault.Search SearchError.Limit) → (fixtures : P → List Fixture)
-        (line : IsLineOf P.hears fixtures retries) → All (λ f. IsDevice f.uid) (fixtures port.old)
-        → limit < 74 * length (fixtures port.old) + 2 + 2 * (line.altered port.new - line.altered port.old) }
+    // The limit is reached only if it is less than all fixtures of such a line take, and the altered answers and noise.
+    ensures limit { result ≡ Err (SearchFault.Search SearchError.Limit) → HasAsked P.hears source ((retries + 1) * limit) port.old port.new
+        (λ askings. (before after : Situation) → AreDevices before.fixtures → AreHeardOf retries before askings after
+        → limit < 74 * length before.fixtures + 2 + 2 * (after.altered - before.altered)) }
     // Whatever is lost or altered, what is found is on the line, each once.
-    ensures real { IfOk result (λ found. (fixtures : P → List Fixture) → IsLossyLineOf P.hears fixtures
-        → All (λ f. IsDevice f.uid) (fixtures port.old) → IsReal (found_uids found.items) (fixtures port.new)) }
+    ensures real { IfOk result (λ found. HasAsked P.hears source ((retries + 1) * limit) port.old port.new
+        (FindsReal AreDevices (found_uids found.items))) }
+    // Where it fails for another reason than its port's, it has sent requests of a search and nothing else, too.
+    ensures sent { (error : SearchError) → result ≡ Err (SearchFault.Search error)
+        → HasAsked P.hears source ((retries + 1) * limit) port.old port.new (λ askings. Unit {0}) }
 {
     let mut search = Search::new(alloc, source, limit);
     match run_through(&mut search, port, retries) {
@@ -63,15 +71,15 @@ pub fn run_through<P: Port>(
     port: &mut P,
     retries: u8,
 ) -> Result<(), SearchFault>
-    ensures found { OnOk result ((fixtures : P → List Fixture) → IsLineOf P.hears fixtures retries
-        → Stands search.old.stage (found_uids search.old.found.items) (fixtures port.old)
-        → IsFound (found_uids search.new.found.items) (fixtures port.new)) }
-    ensures limit { result ≡ Err (SearchFault.Search SearchError.Limit) → (fixtures : P → List Fixture)
-        (line : IsLineOf P.hears fixtures retries) → Stands search.old.stage (found_uids search.old.found.items) (fixtures port.old)
-        → 2 * search.old.left + 3 * line.altered port.old < price search.old.stage (fixtures port.old) + 3 * line.altered port.new }
-    ensures real { OnOk result ((fixtures : P → List Fixture) → IsLossyLineOf P.hears fixtures
-        → IsReal (found_uids search.old.found.items) (fixtures port.old)
-        → IsReal (found_uids search.new.found.items) (fixtures port.new)) }
+    ensures found { OnOk result (HasAsked P.hears search.old.source ((retries + 1) * search.old.left) port.old port.new
+        (FindsAll retries (Stands search.old.stage (found_uids search.old.found.items)) (found_uids search.new.found.items))) }
+    ensures limit { result ≡ Err (SearchFault.Search SearchError.Limit)
+        → HasAsked P.hears search.old.source ((retries + 1) * search.old.left) port.old port.new
+        (TakesMore retries search.old.stage (found_uids search.old.found.items) search.old.left) }
+    // Also where it fails, what was found is on the line, and only requests of a search were sent: all until then, where the port failed.
+    ensures real { (last : P) × HasAsked P.hears search.old.source ((retries + 1) * search.old.left) port.old last
+        (FindsReal (IsReal (found_uids search.old.found.items)) (found_uids search.new.found.items))
+        × (((error : PortError) → result ≢ Err (SearchFault.Port error)) → port.new ≡ last) }
     // Also where it fails, what was found stays, and what was found since is what was said until then.
     ensures said { (last : P) × HasHeard (IsExchange P.hears) search.old.source port.old last search.old.found.items search.new.found.items
         × OnOk result (port.new ≡ last) }
@@ -88,20 +96,17 @@ pub fn step_through<P: Port>(
     port: &mut P,
     retries: u8,
 ) -> Result<bool, SearchFault>
-    ensures ended { result ≡ Ok false → (fixtures : P → List Fixture) → IsLineOf P.hears fixtures retries
-        → Stands search.old.stage (found_uids search.old.found.items) (fixtures port.old)
-        → IsFound (found_uids search.new.found.items) (fixtures port.new) }
-    ensures stands { result ≡ Ok true → (fixtures : P → List Fixture) (line : IsLineOf P.hears fixtures retries)
-        → Stands search.old.stage (found_uids search.old.found.items) (fixtures port.old)
-        → Stands search.new.stage (found_uids search.new.found.items) (fixtures port.new)
-        × (price search.new.stage (fixtures port.new) + 2 + 3 * line.altered port.old
-        ≤ price search.old.stage (fixtures port.old) + 3 * line.altered port.new) }
-    ensures limit { result ≡ Err (SearchFault.Search SearchError.Limit) → (fixtures : P → List Fixture)
-        (line : IsLineOf P.hears fixtures retries) → Stands search.old.stage (found_uids search.old.found.items) (fixtures port.old)
-        → 2 * search.old.left + 3 * line.altered port.old < price search.old.stage (fixtures port.old) + 3 * line.altered port.new }
-    ensures real { OnOk result ((fixtures : P → List Fixture) → IsLossyLineOf P.hears fixtures
-        → IsReal (found_uids search.old.found.items) (fixtures port.old)
-        → IsReal (found_uids search.new.found.items) (fixtures port.new)) }
+    ensures ended { result ≡ Ok false → (line : List Fixture)
+        → Stands search.old.stage (found_uids search.old.found.items) line → IsFound (found_uids search.new.found.items) line }
+    ensures stands { result ≡ Ok true → HasAsked P.hears search.old.source (retries + 1) port.old port.new
+        (GoesOn retries search.old.stage (found_uids search.old.found.items) search.new.stage (found_uids search.new.found.items)) }
+    ensures limit { result ≡ Err (SearchFault.Search SearchError.Limit) → (line : List Fixture)
+        → Stands search.old.stage (found_uids search.old.found.items) line → 2 * search.old.left < price search.old.stage line }
+    // Where it makes none, it sends nothing.
+    ensures silent { (result ≡ Ok false) ⊎ (result ≡ Err (SearchFault.Search SearchError.Limit)) → port.new ≡ port.old }
+    ensures real { (last : P) × HasAsked P.hears search.old.source (askings_of retries search.old.left) port.old last
+        (FindsReal (IsReal (found_uids search.old.found.items)) (found_uids search.new.found.items))
+        × (((error : PortError) → result ≢ Err (SearchFault.Port error)) → port.new ≡ last) }
     ensures kept { (more : List Found) × (search.new.found.items ≡ search.old.found.items ++ more) }
     ensures said { (last : P) × HasHeard (IsExchange P.hears) search.old.source port.old last search.old.found.items search.new.found.items
         × OnOk result (port.new ≡ last) }
@@ -124,7 +129,9 @@ pub fn step_through<P: Port>(
 /// What is heard of a frame, which is sent up to `retries` times again while no valid answer is: no bytes if nothing is at last.
 fn heard_of<P: Port>(port: &mut P, frame: &Frame, retries: u8) -> Result<Wire, PortError>
     ensures heard { IfOk result (IsAskedAgain P.hears retries port.old port.new frame.now) }
+    ensures fits { IsFrame frame.now }
 {
+    frame_fits(&frame.view());
     let request = encode(frame);
     for _turn in 0..retries {
         match heard_once(port, &request) {

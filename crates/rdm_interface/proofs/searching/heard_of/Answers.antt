@@ -1,8 +1,7 @@
 use Rattle.std.proofs.Common.{◌≡◌, false, List, ℕ, sym, ◌∙◌, subst}
-use Rattle.rdm_frame.specs.FrameText.{frame_text}
 use Rattle.rdm_search.specs.Losses.{is_answered}
 use Rattle.rdm_interface.specs.Lines.{IsHeardOnce}
-use Rattle.rdm_interface.proofs.Searches.{asked_next, asked_at_last}
+use Rattle.rdm_interface.proofs.Searches.{asked_next}
 use Rattle.rdm_interface.proofs.searching.heard_of.Goals as goal
 
 pub loop-turn-preserved : goal.loop-turn-preserved

@@ -1,43 +1,85 @@
-use Rattle.std.proofs.Common.{ℕ, ◌+◌, ◌*◌, ◌<◌, List, [], Option, Ok, refl, sym, ◌∙◌, subst, arith}
+use Rattle.std.proofs.Common.{ℕ, List, [], Option, Ok, refl, sym, ◌∙◌, subst}
 use Rattle.rdm_frame.specs.declared.frame.Frame.{Frame}
 use Rattle.rdm_search.specs.Answers.{found_uids}
 use Rattle.rdm_search.specs.Searches.{next_of}
-use Rattle.rdm_search.specs.Stages.{request_of}
+use Rattle.rdm_search.specs.Stages.{IsReal, request_of}
 use Rattle.rdm_search.proofs.Exchanges.{nothing_said}
 use Rattle.rdm_search.proofs.Runs.{Same}
+use Rattle.rdm_interface.specs.Askings.{FindsReal, askings_of}
 use Rattle.rdm_interface.specs.Lines.{IsAskedAgain, IsExchange}
-use Rattle.rdm_interface.proofs.Searches.{ends, goes_on, stops, finds_real, noted_more, failed_said, transaction_said}
+use Rattle.rdm_interface.proofs.Searches.{ends, goes_on, stops, finds_real, keeps_found, nothing_asked, real_still, noted_more, failed_said, transaction_said}
 use Rattle.rdm_interface.proofs.searching.step_through.Goals as goal
 
 pub returns-in-Ok-None-clause-ended : goal.returns-in-Ok-None-clause-ended
-returns-in-Ok-None-clause-ended g c = λ e fixtures line stands.
+returns-in-Ok-None-clause-ended g c = λ e line stands.
     let old = c.args.search.now in
-    ends old.source old.tn old.left old.stage (found_uids old.found.items) (fixtures c.args.port.now)
+    ends old.source old.tn old.left old.stage (found_uids old.found.items) line
     (subst (λ (o : Option Frame). Same (Ok o) (next_of old.source old.tn (request_of old.stage) old.left)) c.in-Ok-None.field-0-is c.in-Ok-None.ensures) stands
 
 pub returns-in-Ok-hear-clause-stands : goal.returns-in-Ok-hear-clause-stands
-returns-in-Ok-hear-clause-stands g c = λ e fixtures line stands.
+returns-in-Ok-hear-clause-stands g c = λ e.
     let old = c.args.search.now in
-    goes_on g.P.Port.hears fixtures c.args.retries c.args.port.now c.heard_of.new.port old.source old.tn old.left old.stage c.hear.new.self.stage
-    (found_uids old.found.items) (found_uids c.hear.new.self.found.items) c.in-Ok-Some.frame c.as_slice.result.now line old.valid
+    goes_on g.P.Port.hears c.args.retries c.args.port.now c.heard_of.new.port old.source old.tn old.left old.stage c.hear.new.self.stage
+    (found_uids old.found.items) (found_uids c.hear.new.self.found.items) c.in-Ok-Some.frame c.as_slice.result.now old.valid c.heard_of.ensures.fits
     (subst (λ (o : Option Frame). Same (Ok o) (next_of old.source old.tn (request_of old.stage) old.left)) c.in-Ok-Some.field-0-is c.in-Ok-Some.ensures)
     (subst (λ (h : List ℕ). IsAskedAgain g.P.Port.hears c.args.retries c.args.port.now c.heard_of.new.port c.in-Ok-Some.frame h) (sym c.as_slice.ensures.value) c.in-Ok.ensures.heard)
-    c.in-Ok-hear.ensures.hears stands
+    c.in-Ok-hear.ensures.hears
+
+pub returns-in-Ok-None-clause-real : goal.returns-in-Ok-None-clause-real
+returns-in-Ok-None-clause-real g c =
+    let old = c.args.search.now in (
+      c.args.port.now,
+      nothing_asked g.P.Port.hears old.source (askings_of c.args.retries old.left) c.args.port.now c.args.port.now
+          (FindsReal (IsReal (found_uids old.found.items)) (found_uids old.found.items)) refl (real_still old.found.items old.found.items refl),
+      λ other. refl,
+    )
 
 pub returns-in-Ok-hear-clause-real : goal.returns-in-Ok-hear-clause-real
-returns-in-Ok-hear-clause-real g c = λ fixtures line real.
-    let old = c.args.search.now in
-    finds_real g.P.Port.hears fixtures c.args.retries c.args.port.now c.heard_of.new.port old.source old.tn old.left old.stage old.found.items c.hear.new.self.found.items
-    c.in-Ok-Some.frame c.as_slice.result.now line old.valid
-    (subst (λ (o : Option Frame). Same (Ok o) (next_of old.source old.tn (request_of old.stage) old.left)) c.in-Ok-Some.field-0-is c.in-Ok-Some.ensures)
-    (subst (λ (h : List ℕ). IsAskedAgain g.P.Port.hears c.args.retries c.args.port.now c.heard_of.new.port c.in-Ok-Some.frame h) (sym c.as_slice.ensures.value) c.in-Ok.ensures.heard)
-    c.in-Ok-hear.ensures.found real
+returns-in-Ok-hear-clause-real g c =
+    let old = c.args.search.now in (
+      c.heard_of.new.port,
+      finds_real g.P.Port.hears c.args.retries c.args.port.now c.heard_of.new.port old.source old.tn old.left old.stage old.found.items c.hear.new.self.found.items
+          c.in-Ok-Some.frame c.as_slice.result.now old.valid c.heard_of.ensures.fits
+          (subst (λ (o : Option Frame). Same (Ok o) (next_of old.source old.tn (request_of old.stage) old.left)) c.in-Ok-Some.field-0-is c.in-Ok-Some.ensures)
+          (subst (λ (h : List ℕ). IsAskedAgain g.P.Port.hears c.args.retries c.args.port.now c.heard_of.new.port c.in-Ok-Some.frame h) (sym c.as_slice.ensures.value) c.in-Ok.ensures.heard)
+          c.in-Ok-hear.ensures.found,
+      λ other. refl,
+    )
+
+pub returns-in-Err-hear-clause-real : goal.returns-in-Err-hear-clause-real
+returns-in-Err-hear-clause-real g c =
+    let old = c.args.search.now in (
+      c.heard_of.new.port,
+      keeps_found g.P.Port.hears c.args.retries c.args.port.now c.heard_of.new.port old.source old.tn old.left old.stage old.found.items c.hear.new.self.found.items
+          c.in-Ok-Some.frame c.as_slice.result.now old.valid c.heard_of.ensures.fits
+          (subst (λ (o : Option Frame). Same (Ok o) (next_of old.source old.tn (request_of old.stage) old.left)) c.in-Ok-Some.field-0-is c.in-Ok-Some.ensures)
+          (subst (λ (h : List ℕ). IsAskedAgain g.P.Port.hears c.args.retries c.args.port.now c.heard_of.new.port c.in-Ok-Some.frame h) (sym c.as_slice.ensures.value) c.in-Ok.ensures.heard)
+          c.in-Err-hear.ensures.same.1,
+      λ other. refl,
+    )
+
+pub returns-in-Err-heard_of-clause-real : goal.returns-in-Err-heard_of-clause-real
+returns-in-Err-heard_of-clause-real g c =
+    let old = c.args.search.now in (
+      c.args.port.now,
+      nothing_asked g.P.Port.hears old.source (askings_of c.args.retries old.left) c.args.port.now c.args.port.now
+          (FindsReal (IsReal (found_uids old.found.items)) (found_uids old.found.items)) refl (real_still old.found.items old.found.items refl),
+      λ other. absurd (other c.in-Err-heard_of.error refl),
+    )
+
+pub returns-in-Err-clause-real : goal.returns-in-Err-clause-real
+returns-in-Err-clause-real g c =
+    let old = c.args.search.now in (
+      c.args.port.now,
+      nothing_asked g.P.Port.hears old.source (askings_of c.args.retries old.left) c.args.port.now c.args.port.now
+          (FindsReal (IsReal (found_uids old.found.items)) (found_uids old.found.items)) refl (real_still old.found.items old.found.items refl),
+      λ other. refl,
+    )
 
 pub returns-in-Err-clause-limit : goal.returns-in-Err-clause-limit
-returns-in-Err-clause-limit g c = λ e fixtures line stands.
+returns-in-Err-clause-limit g c = λ e line stands.
     let old = c.args.search.now in
-    let short = stops old.source old.tn old.left old.stage (found_uids old.found.items) (fixtures c.args.port.now) c.in-Err.error old.valid c.in-Err.ensures stands in
-    omega (arith, short)
+    stops old.source old.tn old.left old.stage (found_uids old.found.items) line c.in-Err.error old.valid c.in-Err.ensures stands
 
 pub returns-in-Ok-hear-clause-kept : goal.returns-in-Ok-hear-clause-kept
 returns-in-Ok-hear-clause-kept g c =

@@ -1,0 +1,50 @@
+//! What the types say of the numbers of a frame, where a proof needs it said. Each call does nothing.
+
+ghost use Rattle.std.specs.Prelude.{◌<◌, ◌≤◌, ℕ, length, slice_index};
+ghost use Rattle.rdm_frame.specs.FrameText.{IsUid, IsFrame};
+
+use rdm_frame::{FrameView, Uid};
+
+/// A byte is below 256.
+fn byte_fits(n: u8)
+    ensures { n < 256 }
+{}
+
+/// A number of 16 bits is below 65,536.
+fn word_fits(n: u16)
+    ensures { n < 65536 }
+{}
+
+/// A number of 32 bits is below 4,294,967,296.
+fn long_fits(n: u32)
+    ensures { n < 4294967296 }
+{}
+
+/// The numbers of a UID have 16 and 32 bits.
+fn uid_fits(uid: Uid)
+    ensures { IsUid uid }
+{
+    word_fits(uid.maker);
+    long_fits(uid.device);
+}
+
+/// Each slot of bytes is a byte.
+fn bytes_fit(slots: &[u8])
+    ensures { (i : ℕ) → slice_index slots.now i < 256 }
+{}
+
+/// The numbers of a frame fit its slots.
+pub(crate) fn frame_fits(frame: &FrameView<'_>)
+    requires { length frame.now.body ≤ 231 }
+    ensures { IsFrame frame.now }
+{
+    uid_fits(frame.dst);
+    uid_fits(frame.src);
+    word_fits(frame.sub);
+    word_fits(frame.pid);
+    byte_fits(frame.tn);
+    byte_fits(frame.port);
+    byte_fits(frame.count);
+    byte_fits(frame.class);
+    bytes_fit(frame.body);
+}
