@@ -1,9 +1,9 @@
 -- The messages that a list makes up, when one more is collected.
-use Rattle.std.proofs.Common.{◌≡◌, Bool, true, false, cond, List, [], ◌∷◌, ◌++◌, Option, Some, None, refl, sym, ap, subst, ◌∙◌}
+use Rattle.std.proofs.Common.{◌≡◌, ℕ, suc, ◌+◌, take, drop, Bool, true, false, cond, List, [], ◌∷◌, ◌++◌, Option, Some, None, refl, sym, ap, subst, ◌∙◌, arith}
 use Rattle.std.proofs.lemmas.Bool.{cond-true, cond-false}
 use Rattle.rdm_collector.specs.declared.any_device.collected.Collected.{Collected}
-use Rattle.rdm_collector.specs.AnyDevice.Parts.{goes_on}
-use Rattle.rdm_console.specs.Mailboxes.{but_last, go_on, last_of, last_or, messages_in, with_front}
+use Rattle.rdm_collector.specs.AnyDevice.Parts.{goes_on, run_behind}
+use Rattle.rdm_console.specs.Mailboxes.{MessagesAreTakenOff, but_last, go_on, last_of, last_or, messages_in, with_front}
 
 -- ---- the last of some messages
 
@@ -110,3 +110,18 @@ ends_behind b x y ms some e =
 pub last_ends : (x : Collected) (xs : List Collected) → last_of (last_or [] (messages_in (x ∷ xs))) ≡ Some (last_or x xs)
 last_ends x [] = refl
 last_ends x (y ∷ ys) = ends_behind (goes_on x y) x (last_or y ys) (messages_in (y ∷ ys)) (some_messages y ys) (last_ends y ys)
+
+-- ---- the first of them
+
+taken_at : (b : Bool) (c d : Collected) (ds : List Collected) (n : ℕ) → messages_in (d ∷ ds) ≡ take (1 + n) (d ∷ ds) ∷ messages_in (drop (1 + n) (d ∷ ds))
+    → cond b (with_front c (messages_in (d ∷ ds))) ((c ∷ []) ∷ messages_in (d ∷ ds))
+    ≡ take (1 + cond b (1 + n) 0) (c ∷ d ∷ ds) ∷ messages_in (drop (1 + cond b (1 + n) 0) (c ∷ d ∷ ds))
+taken_at true c d ds n e =
+    let F : ℕ → List (List Collected) = λ k. take k (c ∷ d ∷ ds) ∷ messages_in (drop k (c ∷ d ∷ ds)) in
+    let more : 1 + (1 + n) ≡ suc (1 + n) = omega arith in
+    ap (with_front c) e ∙ sym (ap F more)
+taken_at false c d ds n e = refl
+
+pub taken_off : MessagesAreTakenOff
+taken_off c [] = refl
+taken_off c (d ∷ ds) = taken_at (goes_on c d) c d ds (run_behind d ds) (taken_off d ds)

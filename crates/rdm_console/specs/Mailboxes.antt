@@ -1,6 +1,6 @@
 -- The messages that a console makes of what it collected from a device, and which of them it hands on. E1.20 sections 6.3.2, 10.3.1
 -- and 10.3.2.
-use Rattle.std.specs.Prelude.{◌≡◌, ◌↔◌, ℕ, Bool, true, false, not, ◌&&◌, ◌||◌, ◌==◌, if◌then◌else◌, List, [], ◌∷◌, ◌++◌, length, Option, Some, None}
+use Rattle.std.specs.Prelude.{◌≡◌, ◌↔◌, ℕ, Bool, true, false, not, ◌&&◌, ◌||◌, ◌==◌, if◌then◌else◌, List, [], ◌∷◌, ◌++◌, length, take, drop, Option, Some, None}
 use Rattle.std.specs.Option.{option_map, option_map_or}
 use Rattle.rdm_frame.specs.declared.uid.Uid.{Uid}
 use Rattle.rdm_collector.specs.declared.want.Want.{Want}
@@ -9,7 +9,7 @@ use Rattle.rdm_collector.specs.declared.any_device.heard.DeviceHeard.{DeviceHear
 use Rattle.rdm_collector.specs.declared.any_device.heard.DeviceHeard.TheVariants as heard
 use Rattle.rdm_collector.specs.AnyDevice.Collecting.{DeviceState, heard_in, after_hearing, after_over, new_device_collector}
 use Rattle.rdm_collector.specs.AnyDevice.Items.{Item, same_item}
-use Rattle.rdm_collector.specs.AnyDevice.Parts.{goes_on, is_part, is_repeat, is_sure, joined_data}
+use Rattle.rdm_collector.specs.AnyDevice.Parts.{first_run, goes_on, is_part, is_repeat, is_sure, joined_data}
 use Rattle.rdm_console.specs.declared.parcel.End.{End}
 use Rattle.rdm_console.specs.declared.mailbox.Sorted.{Sorted}
 use Rattle.rdm_console.specs.declared.mailbox.Sorted.TheVariants as sorted
@@ -33,6 +33,12 @@ with_front c (m ∷ ms) = (c ∷ m) ∷ ms
 abbrev pub messages_in : List Collected → List (List Collected)
 messages_in [] = []
 messages_in (c ∷ cs) = if go_on c cs then with_front c (messages_in cs) else (c ∷ []) ∷ messages_in cs
+
+-- The first of them is the first message of the collector, and the others are those of what is behind it.
+abbrev pub MessagesAreTakenOff : Type 0
+MessagesAreTakenOff =
+    (c : Collected) (cs : List Collected)
+    → messages_in (c ∷ cs) ≡ take (first_run (c ∷ cs)) (c ∷ cs) ∷ messages_in (drop (first_run (c ∷ cs)) (c ∷ cs))
 
 -- ---- a message
 

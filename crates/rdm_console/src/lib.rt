@@ -19,7 +19,10 @@ mod sameness;
 
 pub use awaiting::{Awaiting, Verdict};
 pub use belonging::belongs;
-pub use laws::verdicts_are_equal_by_value;
+pub use laws::{
+    cames_are_equal_by_value, messages_are_taken_off, sorteds_are_equal_by_value,
+    verdicts_are_equal_by_value,
+};
 pub use letter::Letter;
 pub use mailbox::{Came, Mailbox, Sorted};
 pub use message::MessageView;

@@ -169,7 +169,7 @@ impl Mailbox {
         }
     }
 
-    /// Hears what came after a request, or that nothing did, and ends its transaction. Says what it is.
+    /// Hears what came after a request, or that nothing did, ends its transaction, and says what it is.
     pub fn hear(&mut self, heard: &Option<Wire>) -> Came
         // What is collected is sorted as the whole list of what was collected says.
         ensures sorted { (all : List Item) (item : Item) → Keeps self.old all → collected_of self.old.collector heard.now ≡ Some item
@@ -258,7 +258,7 @@ fn repeats_last(last: &Option<Collected>, item: &Collected) -> bool
     }
 }
 
-/// Puts what was collected to its message, or begins another with it.
+/// Adds what was collected to the message that it goes on with, or begins another with it.
 fn put(message: &mut Parcel, before: &mut Parcel, last: &Option<Collected>, item: &Collected)
     requires room { vec_len message.old.body + 231 ≤ vec_capacity message.old.body }
     requires room_before { 231 ≤ vec_capacity before.old.body }
@@ -274,7 +274,7 @@ fn put(message: &mut Parcel, before: &mut Parcel, last: &Option<Collected>, item
     }
 }
 
-/// What was collected is, behind the message before it and with the one that it was put to.
+/// What was collected last is for a console, by its message and the one before that.
 fn sort_of(is_part: bool, repeats: bool, before: &Parcel, message: &Parcel) -> Sorted
     ensures { result ≡ said_with is_part repeats (post_in (draft_in before.now)) (post_in (draft_in message.now)) }
 {
