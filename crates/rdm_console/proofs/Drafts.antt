@@ -7,7 +7,7 @@ use Rattle.rdm_collector.specs.declared.any_device.collected.Collected.{Collecte
 use Rattle.rdm_collector.specs.AnyDevice.Items.{item_of, same_item, type_code}
 use Rattle.rdm_collector.specs.AnyDevice.Parts.{is_part, is_repeat, is_unsure, is_unsure_behind, data_behind}
 use Rattle.rdm_console.specs.declared.parcel.End.{End}
-use Rattle.rdm_console.specs.Mailboxes.{Draft, draft_of, end_in, end_of, last_of, last_or}
+use Rattle.rdm_console.specs.Mailboxes.{Draft, draft_of, end_in, end_of, last_or}
 use Rattle.rdm_console.specs.Sorting.{draft_with, end_before}
 
 -- ---- the end

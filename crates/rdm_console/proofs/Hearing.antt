@@ -1,5 +1,5 @@
 -- What a collector that has recorded nothing records in one transaction answers a poll.
-use Rattle.std.proofs.Common.{◌≡◌, ℕ, Bool, true, false, List, [], ◌∷◌, Option, Some, None, IsSome, IsTrue, refl, sym, ◌∙◌, true≢false, inl, inr}
+use Rattle.std.proofs.Common.{◌≡◌, ℕ, List, [], ◌∷◌, Option, Some, None, IsSome, IsTrue, refl, sym, ◌∙◌, true≢false, inl, inr}
 use Rattle.std.proofs.lemmas.Bool.{cases_Bool}
 use Rattle.rdm_collector.specs.declared.any_device.collected.Collected.{Collected}
 use Rattle.rdm_collector.specs.Answers.{is_poll}

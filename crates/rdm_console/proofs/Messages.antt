@@ -1,5 +1,5 @@
 -- The messages that a list makes up, when one more is collected.
-use Rattle.std.proofs.Common.{◌≡◌, ℕ, suc, ◌+◌, take, drop, Bool, true, false, cond, List, [], ◌∷◌, ◌++◌, Option, Some, None, refl, sym, ap, subst, ◌∙◌, arith}
+use Rattle.std.proofs.Common.{◌≡◌, ℕ, suc, ◌+◌, take, drop, Bool, true, false, cond, List, [], ◌∷◌, ◌++◌, Some, refl, sym, ap, subst, ◌∙◌, arith}
 use Rattle.std.proofs.lemmas.Bool.{cond-true, cond-false}
 use Rattle.rdm_collector.specs.declared.any_device.collected.Collected.{Collected}
 use Rattle.rdm_collector.specs.AnyDevice.Parts.{goes_on, run_behind}

@@ -1,5 +1,5 @@
 -- The letters of what was collected, when one more is.
-use Rattle.std.proofs.Common.{◌≡◌, ◌↔◌, ℕ, ◌==◌, ◌&&◌, ◌||◌, not, Bool, true, false, cond, List, [], ◌∷◌, ◌++◌, Option, Some, None, refl, sym, ap, subst, ◌∙◌, inl, inr, append_assoc}
+use Rattle.std.proofs.Common.{◌≡◌, ◌↔◌, ℕ, ◌&&◌, ◌||◌, not, Bool, true, false, cond, List, [], ◌∷◌, ◌++◌, Option, Some, None, refl, sym, ap, subst, ◌∙◌, inl, inr, append_assoc}
 use Rattle.std.specs.Option.{is_some, option_map, option_or, option_to_list, unwrap_or}
 use Rattle.std.proofs.lemmas.Bool.{cases_Bool, cond-true, cond-false}
 use Rattle.std.proofs.lemmas.List.{append-nil}
@@ -9,7 +9,7 @@ use Rattle.rdm_console.specs.declared.parcel.End.{End}
 use Rattle.rdm_console.specs.declared.mailbox.Sorted.{Sorted}
 use Rattle.rdm_console.specs.declared.mailbox.Sorted.TheVariants as sorted
 use Rattle.rdm_console.specs.Mailboxes.{Draft, IsSorted, Keeps, Mail, Post, but_last, draft_of, end_in, handed, last_of, last_or, messages_in, news_after, post_in, post_of, posts_behind, posts_in, repeats_last, says_nothing}
-use Rattle.rdm_console.specs.Sorting.{draft_with, end_before, goes_on_last, is_ended, put_before, put_message, said_by, said_with}
+use Rattle.rdm_console.specs.Sorting.{draft_with, end_before, is_ended, put_before, put_message, said_by, said_with}
 use Rattle.rdm_console.proofs.Drafts.{draft_push, draft_repeated, repeat_alike}
 use Rattle.rdm_console.proofs.Messages.{IsSomeOf, begun, but_last_push, but_last_to_last, joined, last_ends, last_push, last_to_last, some_messages, some_to_last, to_last}
 

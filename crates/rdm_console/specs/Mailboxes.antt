@@ -1,6 +1,6 @@
 -- The messages that a console makes of what it collected from a device, and which of them it hands on. E1.20 sections 6.3.2, 10.3.1
 -- and 10.3.2.
-use Rattle.std.specs.Prelude.{◌≡◌, ◌↔◌, ℕ, Bool, true, false, not, ◌&&◌, ◌||◌, ◌==◌, if◌then◌else◌, List, [], ◌∷◌, ◌++◌, length, take, drop, Option, Some, None}
+use Rattle.std.specs.Prelude.{◌≡◌, ◌↔◌, ℕ, Bool, true, false, ◌&&◌, ◌||◌, ◌==◌, if◌then◌else◌, List, [], ◌∷◌, ◌++◌, length, take, drop, Option, Some, None}
 use Rattle.std.specs.Option.{option_map, option_map_or}
 use Rattle.rdm_frame.specs.declared.uid.Uid.{Uid}
 use Rattle.rdm_collector.specs.declared.want.Want.{Want}

@@ -1,7 +1,7 @@
 -- How a mailbox goes on with what is collected: what its private functions do. What this comes to, over all that was collected, is in
 -- `Mailboxes`.
-use Rattle.std.specs.Prelude.{ℕ, Bool, true, false, not, ◌&&◌, if◌then◌else◌, List, [], ◌∷◌, ◌++◌, Option, Some, None}
-use Rattle.std.specs.Option.{option_map_or, option_or}
+use Rattle.std.specs.Prelude.{Bool, false, not, ◌&&◌, if◌then◌else◌, List, [], ◌∷◌, ◌++◌, Option, Some, None}
+use Rattle.std.specs.Option.{option_or}
 use Rattle.rdm_collector.specs.declared.any_device.collected.Collected.{Collected}
 use Rattle.rdm_collector.specs.AnyDevice.Collecting.{DeviceState}
 use Rattle.rdm_collector.specs.AnyDevice.Parts.{goes_on, is_part, is_repeat, is_unsure}
@@ -9,7 +9,7 @@ use Rattle.rdm_console.specs.declared.parcel.End.{End}
 use Rattle.rdm_console.specs.declared.parcel.Parcel.{Parcel}
 use Rattle.rdm_console.specs.declared.mailbox.Sorted.{Sorted}
 use Rattle.rdm_console.specs.declared.mailbox.Sorted.TheVariants as sorted
-use Rattle.rdm_console.specs.Mailboxes.{Draft, Mail, Post, draft_of, end_in, news_after, post_in, repeats_last}
+use Rattle.rdm_console.specs.Mailboxes.{Draft, Post, draft_of, end_in, news_after}
 
 abbrev pub draft_in : Parcel → Draft
 draft_in p = record { end = p.end; body = p.body.items; sure = p.is_sure; in_parts = p.in_parts }

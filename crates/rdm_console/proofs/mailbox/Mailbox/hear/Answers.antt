@@ -1,4 +1,4 @@
-use Rattle.std.proofs.Common.{◌≡◌, ◌∙◌, Some, None, refl, sym, ap, true≢false, rules}
+use Rattle.std.proofs.Common.{◌∙◌, Some, refl, sym, ap, true≢false}
 use Rattle.std.specs.Option.{is_some}
 use Rattle.rdm_collector.specs.Answers.{is_poll}
 use Rattle.rdm_collector.specs.AnyDevice.Collecting.{DeviceState}
