@@ -9,7 +9,6 @@ pub mod fault;
 mod finding;
 mod knowledge;
 mod log;
-mod mailbox;
 mod playing;
 mod recorder;
 pub mod telling;

@@ -5,7 +5,7 @@ use Rattle.rdm_collector.specs.declared.command.Action.{Action}
 use Rattle.rdm_collector.specs.declared.command.Action.TheVariants.{Disc, Get, Set}
 use Rattle.rdm_collector.specs.declared.command.Command.{Command}
 use Rattle.rdm_collector.specs.declared.reply.Response.{Response}
-use Rattle.rdm_collector.specs.declared.reply.Response.TheVariants.{Ack, AckTimer, Nack, AckOverflow}
+use Rattle.rdm_collector.specs.declared.reply.Response.TheVariants.{Ack, AckOverflow}
 use Rattle.rdm_collector.specs.Requests.{class_of}
 
 -- A message that a device sent, whole: its response type, command class, sub-device and parameter, and the data of all its parts.

@@ -1,5 +1,5 @@
 -- How a command ends that was answered by ACK_TIMER. E1.20 sections 6.3.3, 6.3.4, 10.3.1 and 10.3.2.
-use Rattle.std.specs.Prelude.{ℕ, zero, suc, ◌+◌, ◌*◌, ◌/◌, Bool, true, false, not, ◌&&◌, ◌||◌, ◌==◌, if◌then◌else◌, List, length, slice_index, Option, Some, None}
+use Rattle.std.specs.Prelude.{ℕ, zero, suc, ◌+◌, ◌*◌, ◌/◌, Bool, true, false, ◌&&◌, ◌||◌, ◌==◌, if◌then◌else◌, List, length, slice_index, Option, Some, None}
 use Rattle.std.specs.Option.{option_map_or, option_and_then, option_or}
 use Rattle.rdm_frame.specs.Reading.{word_at}
 use Rattle.rdm_params.specs.declared.jobs.status.Entry.{Entry}
@@ -7,7 +7,7 @@ use Rattle.rdm_params.specs.declared.jobs.status.Severity.{Severity}
 use Rattle.rdm_params.specs.declared.jobs.status.Severity.TheVariants.{Advisory, Warning, Error}
 use Rattle.rdm_params.specs.Jobs.Severities.{severity_in}
 use Rattle.rdm_collector.specs.declared.command.Action.{Action}
-use Rattle.rdm_collector.specs.declared.command.Action.TheVariants.{Disc, Get, Set}
+use Rattle.rdm_collector.specs.declared.command.Action.TheVariants.{Set}
 use Rattle.rdm_collector.specs.declared.command.Command.{Command}
 use Rattle.rdm_collector.specs.declared.reply.Response.{Response}
 use Rattle.rdm_collector.specs.declared.reply.Response.TheVariants.{Ack, AckTimer, Nack, AckOverflow}

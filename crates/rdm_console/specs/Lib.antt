@@ -1,2 +1,4 @@
 pub mod Belonging
 pub mod Endings
+pub mod Mailboxes
+pub mod Sorting

@@ -2,4 +2,6 @@
 #![tactic(auto)]
 
 #[cfg(test)]
+mod mailboxes;
+#[cfg(test)]
 mod tests;

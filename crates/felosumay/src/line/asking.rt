@@ -3,11 +3,11 @@
 use super::collecting::Fetched;
 use super::console::Console;
 use super::fault::LineFault;
-use super::mailbox::Mailbox;
+use super::telling::CONSOLE;
 use crate::fault::Fault;
 use crate::host::Host;
 use rdm_collector::{Action, Command, Port, Response, Want};
-use rdm_console::{Awaiting, Entry, Verdict};
+use rdm_console::{Awaiting, Entry, Mailbox, Verdict};
 use rdm_frame::Uid;
 use rdm_words::put_cause;
 use std::io::Write;
@@ -38,7 +38,7 @@ impl<'a, H: Host, P: Port, F: Write> Console<'a, H, P, F> {
     /// answered (E1.20 section 6.2.4).
     pub fn ask(&mut self, command: &Command) -> Result<(), Fault<'a>> {
         let alloc = self.teller.rt().alloc();
-        let mut mailbox = Mailbox::new(alloc, command.dst, Want::Advisory);
+        let mut mailbox = Mailbox::new(alloc, CONSOLE, command.dst, Want::Advisory);
         self.ask_from(&mut mailbox, command)
     }
 
@@ -125,10 +125,10 @@ fn ended<'a>(command: &Command, response: Response) -> Result<(), Fault<'a>> {
 
 /// What there is to do after the message that came last.
 fn heard_by(mailbox: &Mailbox, awaiting: &mut Awaiting<'_>) -> Next {
-    let Some(letter) = mailbox.last() else {
+    let Some(letter) = mailbox.letter() else {
         return Next::Poll;
     };
-    match awaiting.hear(&letter.view()) {
+    match awaiting.hear(&letter.message) {
         Verdict::Waits => Next::Poll,
         Verdict::Done => Next::Done(Response::Ack),
         Verdict::Rejected { reason } => Next::Done(Response::Nack { reason }),

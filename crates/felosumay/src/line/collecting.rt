@@ -2,10 +2,11 @@
 
 use super::console::{Console, MOST_PARTS, TRIES};
 use super::fault::LineFault;
-use super::mailbox::{Mailbox, Sorted};
+use super::telling::CONSOLE;
 use crate::fault::Fault;
 use crate::host::Host;
-use rdm_collector::{DeviceHeard, Port, Uid, Want, Wire};
+use rdm_collector::{Port, Uid, Want, Wire};
+use rdm_console::{Came, Mailbox, Sorted};
 use std::io::Write;
 
 /// How many messages are fetched at most. A device has no more that wait, but may say for ever that one does.
@@ -44,7 +45,8 @@ enum Polled {
 impl<'a, H: Host, P: Port, F: Write> Console<'a, H, P, F> {
     /// Fetches all messages that wait in a device, and tells each.
     pub fn collect(&mut self, uid: Uid) -> Result<(), Fault<'a>> {
-        let mut mailbox = Mailbox::new(self.teller.rt().alloc(), uid, Want::Advisory);
+        let alloc = self.teller.rt().alloc();
+        let mut mailbox = Mailbox::new(alloc, CONSOLE, uid, Want::Advisory);
         self.fetch_all(&mut mailbox)
     }
 
@@ -88,11 +90,11 @@ impl<'a, H: Host, P: Port, F: Write> Console<'a, H, P, F> {
         let request = mailbox.poll()?;
         let heard = self.port.exchange(&request)?;
         match mailbox.hear(&heard) {
-            DeviceHeard::Message | DeviceHeard::Part => self.tell_sorted(mailbox, &heard),
-            DeviceHeard::Unsupported => Ok(Polled::Fetched(Fetched::NoQueue)),
-            DeviceHeard::Refused { reason } => Ok(Polled::Fetched(Fetched::Refused(reason))),
-            DeviceHeard::NotYet { tenths } => Ok(Polled::Fetched(Fetched::NotYet(tenths))),
-            DeviceHeard::Reply | DeviceHeard::Ignored => Ok(Polled::Nothing),
+            Came::Message(sorted) => self.tell_sorted(mailbox, sorted, &heard),
+            Came::NoQueue => Ok(Polled::Fetched(Fetched::NoQueue)),
+            Came::Refused { reason } => Ok(Polled::Fetched(Fetched::Refused(reason))),
+            Came::NotYet { tenths } => Ok(Polled::Fetched(Fetched::NotYet(tenths))),
+            Came::Reply | Came::Ignored => Ok(Polled::Nothing),
         }
     }
 
@@ -100,9 +102,10 @@ impl<'a, H: Host, P: Port, F: Write> Console<'a, H, P, F> {
     fn tell_sorted(
         &mut self,
         mailbox: &mut Mailbox,
+        sorted: Sorted,
         heard: &Option<Wire>,
     ) -> Result<Polled, Fault<'a>> {
-        let is_whole = match mailbox.sort()? {
+        let is_whole = match sorted {
             Sorted::Nothing => return Ok(Polled::Fetched(Fetched::Nothing)),
             Sorted::Repeat => return Ok(Polled::Fetched(Fetched::Repeat)),
             Sorted::Letter => true,
@@ -120,11 +123,11 @@ impl<'a, H: Host, P: Port, F: Write> Console<'a, H, P, F> {
 
     /// Tells of the message that came last what its reply doesn't say.
     fn tell_more(&mut self, mailbox: &Mailbox) -> Result<(), Fault<'a>> {
-        let Some(letter) = mailbox.last() else {
+        let Some(letter) = mailbox.letter() else {
             return Ok(());
         };
-        if let Some(joined) = &letter.joined {
-            self.teller.tell_joined(joined.as_slice())?;
+        if letter.in_parts {
+            self.teller.tell_joined(letter.message.body)?;
         }
         if !letter.is_whole {
             self.teller.tell(

@@ -1,12 +1,12 @@
 //! A console: it sends commands through a port, and tells what is answered.
 
 use super::fault::LineFault;
-use super::mailbox::Mailbox;
 use super::recorder::Recorder;
 use super::telling::Teller;
 use crate::fault::Fault;
 use crate::host::Host;
-use rdm_collector::{Action, Command, DeviceHeard, Port, Response, Wire, read_reply};
+use rdm_collector::{Action, Command, Port, Response, Wire, read_reply};
+use rdm_console::{Came, Mailbox};
 use rdm_words::Question;
 use std::io::Write;
 
@@ -48,7 +48,7 @@ impl<'a, H: Host, P: Port, F: Write> Console<'a, H, P, F> {
         let request = mailbox.ask(command)?;
         let heard = self.port.exchange(&request)?;
         match mailbox.hear(&heard) {
-            DeviceHeard::Reply => Ok(heard),
+            Came::Reply => Ok(heard),
             _ => Ok(None),
         }
     }

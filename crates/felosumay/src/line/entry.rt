@@ -2,10 +2,11 @@
 
 use super::console::Console;
 use super::fault::LineFault;
-use super::mailbox::Mailbox;
+use super::telling::CONSOLE;
 use crate::fault::Fault;
 use crate::host::Host;
 use rdm_collector::{Action, Command, Load, Port, Response, Want, read_reply};
+use rdm_console::Mailbox;
 use rdm_entry::{
     Complaint, Field, data_in, fields_described, fields_of, nearest_parameter, parameter_named,
 };
@@ -140,7 +141,7 @@ impl<'a, H: Host, P: Port, F: Write> Console<'a, H, P, F> {
     /// The fields of the parameter of a command, as its device describes them.
     fn description_of(&mut self, command: &Command) -> Result<Option<Vec<Field>>, Fault<'a>> {
         let alloc = self.teller.rt().alloc();
-        let mut mailbox = Mailbox::new(alloc, command.dst, Want::Advisory);
+        let mut mailbox = Mailbox::new(alloc, CONSOLE, command.dst, Want::Advisory);
         let reply = self.answer(&mut mailbox, &question(command))?;
         match read_reply(reply.as_slice()) {
             Some(said) if said.response == Response::Ack => {

@@ -2,7 +2,7 @@
 
 use crate::fault::{BAD_USAGE, Fault};
 use crate::name::Name;
-use rdm_collector::PortError;
+use rdm_collector::{AskError, PollError, PortError};
 use rdm_entry::Complaint;
 use rdm_frame::Uid;
 use rdm_frame::standard::MOST_DATA;
@@ -33,6 +33,8 @@ pub enum LineFault<'a> {
     Reserved,
     /// The command has more data than a frame can carry.
     TooLong,
+    /// Another request waits for its answer.
+    Busy,
     /// This isn't a port, so nothing was written to it.
     NoPort(&'a str),
     /// Another program has locked this port.
@@ -82,7 +84,8 @@ impl LineFault<'_> {
             | LineFault::Taken(_)
             | LineFault::NoInterface(_)
             | LineFault::Closed(_)
-            | LineFault::Port(_) => 4,
+            | LineFault::Port(_)
+            | LineFault::Busy => 4,
             LineFault::NoDevice
             | LineFault::Unsearched
             | LineFault::Silent(_)
@@ -100,6 +103,25 @@ impl LineFault<'_> {
 impl From<PortError> for Fault<'_> {
     fn from(error: PortError) -> Self {
         Fault::Line(LineFault::Port(error))
+    }
+}
+
+impl From<AskError> for Fault<'_> {
+    fn from(error: AskError) -> Self {
+        match error {
+            AskError::Reserved => Fault::Line(LineFault::Reserved),
+            AskError::TooLong => Fault::Line(LineFault::TooLong),
+            AskError::Busy => Fault::Line(LineFault::Busy),
+        }
+    }
+}
+
+impl From<PollError> for Fault<'_> {
+    fn from(error: PollError) -> Self {
+        match error {
+            PollError::OutOfMemory => Fault::Memory,
+            PollError::Busy => Fault::Line(LineFault::Busy),
+        }
     }
 }
 
@@ -147,7 +169,8 @@ impl fmt::Display for LineFault<'_> {
             | LineFault::Taken(_)
             | LineFault::NoInterface(_)
             | LineFault::Closed(_)
-            | LineFault::Port(_) => { write_no_port(f, self) }
+            | LineFault::Port(_)
+            | LineFault::Busy => { write_no_port(f, self) }
             _ => write_unanswered(f, self),
         }
     }
@@ -193,6 +216,7 @@ fn write_no_port<W: fmt::Write>(f: &mut fmt::Formatter<W>, fault: &LineFault<'_>
             Name(path)
         ),
         LineFault::Port(error) => write!(f, "{error}"),
+        LineFault::Busy => f.write_str("another request waits for its answer"),
         _ => Ok(()),
     }
 }

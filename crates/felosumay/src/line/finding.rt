@@ -2,12 +2,12 @@
 
 use super::console::Console;
 use super::fault::LineFault;
-use super::mailbox::Mailbox;
 use super::telling::CONSOLE;
 use crate::fault::Fault;
 use crate::host::Host;
 use crate::usage::MOST_FIXTURES;
 use rdm_collector::{Action, Command, Load, Port, Response, Want, read_reply};
+use rdm_console::Mailbox;
 use rdm_frame::Uid;
 use rdm_interface::step_through;
 use rdm_params::Kind;
@@ -113,7 +113,7 @@ impl<'a, H: Host, P: Port, F: Write> Console<'a, H, P, F> {
     /// Tells the UID of a device, its model and its label.
     fn tell_found(&mut self, uid: Uid) -> Result<(), Fault<'a>> {
         let alloc = self.teller.rt().alloc();
-        let mut mailbox = Mailbox::new(alloc, uid, Want::Advisory);
+        let mut mailbox = Mailbox::new(alloc, CONSOLE, uid, Want::Advisory);
         let mut line = String::new(alloc);
         self.put_found(&mut mailbox, &mut line)?;
         self.teller.tell(line.as_bytes())

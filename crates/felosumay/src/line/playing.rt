@@ -3,7 +3,7 @@
 use super::console::Console;
 use super::errand::device_in;
 use super::log::Printed;
-use super::mailbox::Mailbox;
+use super::telling::CONSOLE;
 use crate::fault::Fault;
 use crate::host::Host;
 use crate::source::{Source, without_mark};
@@ -11,8 +11,8 @@ use crate::usage;
 use clap::ArgMatches;
 use rdm_bus::Fault as BusFault;
 use rdm_collector::{
-    Action, Command, DeviceHeard, Heard, MOST_DATA, Port, Response, Uid, Wire, is_reserved,
-    read_reply,
+    Action, Command, DeviceCollector, DeviceHeard, Heard, MOST_DATA, Port, Response, Uid, Wire,
+    is_reserved, read_reply,
 };
 use rdm_crew::{CrewStep, RunError};
 use rdm_frame::standard::DISC_MUTE;
@@ -92,7 +92,8 @@ fn has_search(script: &Script) -> bool {
 /// A script that is being played.
 #[derive(Drop)]
 struct Playing {
-    mailbox: Mailbox,
+    uid: Uid,
+    collector: DeviceCollector,
     /// Whether it is told who is found.
     tells_finds: bool,
     /// The times that the device has estimated since the last settle, one behind the other, in tenths of a second.
@@ -110,8 +111,10 @@ impl<'a, H: Host, P: Port, F: Write> Console<'a, H, P, F> {
             printed,
         } = play;
         self.port.log().print_as(*printed);
+        let alloc = self.teller.rt().alloc();
         let mut playing = Playing {
-            mailbox: Mailbox::new(self.teller.rt().alloc(), *uid, script.setup.want),
+            uid: *uid,
+            collector: DeviceCollector::new(alloc, CONSOLE, *uid, script.setup.want),
             tells_finds: has_search(script),
             tenths: 0,
         };
@@ -123,7 +126,7 @@ impl<'a, H: Host, P: Port, F: Write> Console<'a, H, P, F> {
         for step in &script.steps {
             self.play_step(playing, step)?;
         }
-        for item in playing.mailbox.collected() {
+        for item in playing.collector.recorded() {
             self.port.keep(Line::Message(item.message.copy()))?;
         }
         Ok(self.port.keep(Line::End)?)
@@ -134,12 +137,12 @@ impl<'a, H: Host, P: Port, F: Write> Console<'a, H, P, F> {
         match step {
             CrewStep::Ask(command, fault) => self.play_command(playing, command, *fault),
             CrewStep::Collect(fault) => {
-                let request = playing.mailbox.poll()?;
+                let request = playing.collector.poll()?;
                 self.carry(playing, &request, *fault)?;
                 Ok(())
             }
             CrewStep::Settle(_empties) => {
-                self.teller.wait(playing.mailbox.uid(), playing.tenths);
+                self.teller.wait(playing.uid, playing.tenths);
                 playing.tenths = 0;
                 Ok(())
             }
@@ -154,7 +157,7 @@ impl<'a, H: Host, P: Port, F: Write> Console<'a, H, P, F> {
         command: &Command,
         fault: BusFault,
     ) -> Result<(), Fault<'a>> {
-        let request = playing.mailbox.ask(command)?;
+        let request = playing.collector.ask(command)?;
         match self.carry(playing, &request, fault)? {
             Some(Response::AckTimer { tenths }) => {
                 playing.tenths = playing.tenths.saturating_add(tenths);
@@ -175,7 +178,7 @@ impl<'a, H: Host, P: Port, F: Write> Console<'a, H, P, F> {
         fault: BusFault,
     ) -> Result<Option<Response>, Fault<'a>> {
         let heard = self.port.carry(request, fault)?;
-        let taken = playing.mailbox.hear(&heard);
+        let taken = taken_for(&mut playing.collector, &heard);
         let Some(bytes) = heard else {
             self.port.keep(Line::Heard(None))?;
             return Ok(None);
@@ -189,6 +192,16 @@ impl<'a, H: Host, P: Port, F: Write> Console<'a, H, P, F> {
             None => Ok(None),
         }
     }
+}
+
+/// What a collector takes what came for. Its transaction is over then.
+fn taken_for(collector: &mut DeviceCollector, heard: &Option<Wire>) -> DeviceHeard {
+    let taken = match heard {
+        Some(bytes) => collector.hear(bytes.as_slice()),
+        None => DeviceHeard::Ignored,
+    };
+    collector.over();
+    taken
 }
 
 /// As what the trace tells that a reply was heard. What answers a poll and is no message is a reply.

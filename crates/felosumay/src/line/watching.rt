@@ -3,10 +3,11 @@
 use super::collecting::Fetched;
 use super::console::Console;
 use super::fault::Reason;
-use super::mailbox::Mailbox;
+use super::telling::CONSOLE;
 use crate::fault::Fault;
 use crate::host::Host;
 use rdm_collector::{Port, Uid, Want};
+use rdm_console::Mailbox;
 use std::io::Write;
 use std::thread;
 use std::time::Duration;
@@ -49,7 +50,7 @@ impl<'a, H: Host, P: Port, F: Write> Console<'a, H, P, F> {
         for uid in uids {
             self.tell_of(*uid, "is watched")?;
             watched.push(Watched {
-                mailbox: Mailbox::new(alloc, *uid, Want::Advisory),
+                mailbox: Mailbox::new(alloc, CONSOLE, *uid, Want::Advisory),
                 state: State::Answers,
             })?;
         }

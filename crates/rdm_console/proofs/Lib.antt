@@ -1,0 +1,4 @@
+pub mod Drafts
+pub mod Hearing
+pub mod Messages
+pub mod Posts
