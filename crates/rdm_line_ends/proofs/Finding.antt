@@ -1,5 +1,5 @@
 -- A search finds the rig at the other end of the line.
-use Rattle.std.proofs.Common.{◌≡◌, ◌≢◌, ℕ, zero, suc, ◌≤◌, Bool, true, ◌||◌, ◌==◌, cond, List, [], ◌∷◌, ◌++◌, map, Option, Some, None, refl, sym, ap, subst, ◌∙◌, inl, inr, arith}
+use Rattle.std.proofs.Common.{◌≡◌, ◌≢◌, ℕ, zero, suc, Bool, true, ◌||◌, ◌==◌, List, [], ◌∷◌, map, Option, Some, None, refl, sym, ap, subst, ◌∙◌, inl, inr, arith}
 use Rattle.std.specs.Prelude.{All, AllPairs, unwrap_or}
 use Rattle.std.proofs.lemmas.Bool.{cond-true}
 use Rattle.std.proofs.lemmas.List.Elements.{All-nil, All-cons, All-head, All-tail}
@@ -11,9 +11,7 @@ use Rattle.rdm_responder.specs.History.{History, Arrived}
 use Rattle.rdm_responder.specs.Rules.{Account, account_of, is_muted}
 use Rattle.rdm_responder.specs.Runs.{outbox_of}
 use Rattle.rdm_responder.proofs.Accounts.{account_of-then}
-use Rattle.rdm_search.specs.declared.request.Request.{Request}
 use Rattle.rdm_search.specs.Line.{Fixture, IsDevice, IsHeard, after_request}
-use Rattle.rdm_search.specs.Losses.{IsKept}
 use Rattle.rdm_search.specs.Requests.{request_frame}
 use Rattle.rdm_line.specs.declared.collision.Collision.{Collision}
 use Rattle.rdm_line.specs.Collisions.{on_wire}
@@ -29,7 +27,7 @@ use Rattle.rdm_widget.specs.Rigs.{Rig, after_line, from_wire, histories, rig_hea
 use Rattle.rdm_widget.proofs.Rigs.{ready_uids}
 use Rattle.rdm_interface.specs.Answers.{request_message}
 use Rattle.rdm_interface.specs.Askings.{AreDevices, AreHeardOf, Asking, IsAsking, IsHeardOf, Situation}
-use Rattle.rdm_line_ends.specs.Ends.{heard_in, requests_in}
+use Rattle.rdm_line_ends.specs.Ends.{requests_in}
 use Rattle.rdm_line_ends.specs.Searches.{HasUids, RigIsFound, standing}
 use Rattle.rdm_line_ends.proofs.Asking.{all_sent}
 use Rattle.rdm_line_ends.proofs.Fixtures.{line_uids, rig_is_heard}

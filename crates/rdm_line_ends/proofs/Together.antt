@@ -1,7 +1,6 @@
 -- What is replied at one end is heard at the other.
 use Rattle.std.proofs.Common.{◌≡◌, ℕ, true, inl, inr, ◌&&◌, ◌||◌, ◌==◌, List, [], ◌∷◌, ◌++◌, map, Option, Some, None, refl, sym, ap, subst, ◌∙◌, arith}
 use Rattle.std.specs.List.{AllByRecursion, list_all}
-use Rattle.std.specs.Io.KnownBytes.{Consumes}
 use Rattle.std.proofs.lemmas.Bool.{cases_Bool}
 use Rattle.std.proofs.lemmas.List.Elements.{All-from_recursion}
 use Rattle.rdm_frame.specs.declared.frame.Frame.{Frame}
@@ -12,7 +11,7 @@ use Rattle.rdm_messages.specs.Serving.{answers, answers_with, is_request, messag
 use Rattle.rdm_messages.proofs.Pieces.{one_list, read_back}
 use Rattle.rdm_widget.proofs.Requests.{answered_with}
 use Rattle.rdm_interface.specs.Answers.{is_branch, label_for, request_message, wanted_for}
-use Rattle.rdm_interface.specs.Sessions.{AreRepliesTo, IsSession, inputs_of, requests_of}
+use Rattle.rdm_interface.specs.Sessions.{AreRepliesTo, IsSession, requests_of}
 use Rattle.rdm_interface.proofs.Sessions.{replies_are_heard}
 use Rattle.rdm_line_ends.specs.Ends.{requests_in, read_for, IsHeard}
 use Rattle.rdm_line_ends.specs.Replies.{AreBytes}

@@ -1,5 +1,5 @@
 -- A host at one end of a line, and fixtures at the other: what the contracts of both ends come to together.
-use Rattle.std.specs.Prelude.{◌≡◌, ◌≢◌, ℕ, ◌≤◌, List, [], ◌∷◌, ◌++◌, length, map, Option, Some, IsSome, AllPairs}
+use Rattle.std.specs.Prelude.{◌≡◌, ◌≢◌, ℕ, ◌≤◌, List, [], ◌∷◌, ◌++◌, length, map, Option, IsSome, AllPairs}
 use Rattle.std.specs.Io.KnownBytes.{Appends, Consumes}
 use Rattle.rdm_line.specs.Line.{uids_of}
 use Rattle.rdm_responder.specs.Rules.{reply_of}
