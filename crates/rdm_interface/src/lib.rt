@@ -2,7 +2,8 @@
 //! through it, and hears what is answered.
 //!
 //! An `Interface` is a `Port` of `rdm_collector`, over any reader, writer and clock. `specs/Answers.antt` says which message
-//! answers a request, and `specs/Exchanges.antt` what one exchange comes to. `discover_through` searches a line through any port.
+//! answers a request, and `specs/Exchanges.antt` what one exchange comes to. `discover_through` searches a line through any port, and
+//! `specs/Askings.antt` says what that tells of the line.
 #![tactic(auto)]
 
 mod answer;

@@ -1,14 +1,14 @@
 -- Requests that are sent one after another, as a session.
-use Rattle.std.proofs.Common.{◌≡◌, ℕ, List, [], ◌∷◌, map, Option, Some, None, refl, sym, ap, subst, append-nil}
+use Rattle.std.proofs.Common.{◌≡◌, ℕ, List, [], ◌∷◌, ◌++◌, map, Option, Some, None, refl, sym, ap, subst, append-nil}
 use Rattle.std.specs.List.{AllByRecursion}
 use Rattle.std.specs.Io.KnownBytes.{Appends, Consumes}
 use Rattle.std.proofs.KnownBytes.{Consumes-nil, Consumes-trans}
 use Rattle.rdm_messages.specs.Framing.{bytes_of, message_bytes}
 use Rattle.rdm_interface.specs.Answers.{request_message}
-use Rattle.rdm_interface.specs.Sessions.{Exchange, IsSession, requests_of, heard_of, inputs_of}
+use Rattle.rdm_interface.specs.Sessions.{Exchange, IsInTime, IsSession, read_in, requests_of, heard_of, inputs_of}
 use Rattle.rdm_interface.proofs.Sessions.{answered_is_in_time}
 use Rattle.rdm_widget.proofs.Turns.{appends_then}
-use Rattle.rdm_line_ends.specs.Ends.{Host, Asked, requests_in, heard_in, AreAnswered, RequestsAreWritten}
+use Rattle.rdm_line_ends.specs.Ends.{Host, Asked, requests_in, heard_in, IsAnswered, AreAnswered, AnswersAreRead, read_for, RequestsAreWritten}
 use Rattle.rdm_line_ends.proofs.Streams.{CanBeSent}
 
 -- ---- what is written
@@ -26,38 +26,41 @@ requests_are_written {C} tells limit before after (x ∷ xs) is =
 -- ---- what is read
 
 -- what requests that were answered are, as exchanges in time
-pub record AreExchanged {C : Type 0} (before after : Host C) (xs : List Asked) : Type 0 where
+pub record AreExchanged {C : Type 0} (before after : Host C) (xs : List Asked) (read : List ℕ) : Type 0 where
   pub exchanges : List Exchange
   pub requests : requests_of exchanges ≡ requests_in xs
   pub heard : heard_of exchanges ≡ heard_in xs
-  pub read : Consumes before.unread after.unread (inputs_of exchanges)
+  pub inputs : inputs_of exchanges ≡ read
   pub session : IsSession before.held exchanges after.held
 
 abbrev exchange : List ℕ → List ℕ → Option (List ℕ) → Exchange
 exchange request input heard = record { request = request; input = input; heard = heard }
 
-pub exchanged : {C : Type 0} (tells : C → ℕ → C → Type 0) (limit : ℕ) (before after : Host C) (xs : List Asked) → AreAnswered tells limit before xs after → AreExchanged before after xs
-exchanged {C} tells limit before after [] is = record {
-  exchanges = [];
-  requests = refl;
-  heard = refl;
-  read = subst (λ (h : Host C). Consumes before.unread h.unread []) (sym is) (Consumes-nil before.unread);
-  session = ap (λ (h : Host C). h.held) (sym is);
-}
+in_time : {C : Type 0} (tells : C → ℕ → C → Type 0) (limit : ℕ) (before after : Host C) (x : Asked) → (one : IsAnswered tells limit before after x)
+    → Consumes before.unread after.unread (read_in one.exchanged) × IsInTime x.request (before.held ++ read_in one.exchanged) x.heard after.held
+in_time tells limit before after x one =
+    answered_is_in_time tells limit before.clock after.clock before.unread after.unread before.written after.written before.held after.held x.request x.heard
+    one.exchanged one.came one.ended
+
+pub exchanged : {C : Type 0} (tells : C → ℕ → C → Type 0) (limit : ℕ) (before after : Host C) (xs : List Asked) → (asked : AreAnswered tells limit before xs after) → AreExchanged before after xs (read_for tells limit before xs after asked)
+exchanged {C} tells limit before after [] is = record { exchanges = []; requests = refl; heard = refl; inputs = refl; session = ap (λ (h : Host C). h.held) (sym is) }
 exchanged {C} tells limit before after (x ∷ xs) is =
     let mid : Host C = is.0 in
-    let one = is.1 in
-    let first =
-    answered_is_in_time tells limit before.clock mid.clock before.unread mid.unread before.written mid.written before.held mid.held x.request x.heard
-    one.exchanged one.came one.ended in
+    let input : List ℕ = read_in is.1.exchanged in
     let others = exchanged tells limit mid after xs is.2 in
     record {
-      exchanges = exchange x.request first.0 x.heard ∷ others.exchanges;
+      exchanges = exchange x.request input x.heard ∷ others.exchanges;
       requests = ap (λ (l : List (List ℕ)). x.request ∷ l) others.requests;
       heard = ap (λ (l : List (Option (List ℕ))). x.heard ∷ l) others.heard;
-      read = Consumes-trans before.unread mid.unread after.unread first.0 (inputs_of others.exchanges) first.1 others.read;
-      session = (mid.held, first.2, others.session);
+      inputs = ap (λ (l : List ℕ). input ++ l) others.inputs;
+      session = (mid.held, (in_time tells limit before mid x is.1).1, others.session);
     }
+
+pub answers_are_read : {C : Type 0} (tells : C → ℕ → C → Type 0) → AnswersAreRead tells
+answers_are_read {C} tells limit before after [] is = subst (λ (h : Host C). Consumes before.unread h.unread []) (sym is) (Consumes-nil before.unread)
+answers_are_read {C} tells limit before after (x ∷ xs) is =
+    Consumes-trans before.unread is.0.unread after.unread (read_in is.1.exchanged) (read_for tells limit is.0 xs after is.2)
+    (in_time tells limit before is.0 x is.1).0 (answers_are_read tells limit is.0 after xs is.2)
 
 pub all_sent : {C : Type 0} (tells : C → ℕ → C → Type 0) (limit : ℕ) (before after : Host C) (xs : List Asked) → AreAnswered tells limit before xs after → AllByRecursion CanBeSent (requests_in xs)
 all_sent tells limit before after [] is = tt

@@ -1,5 +1,5 @@
 -- Fixtures and rigs reply with what belongs to the request.
-use Rattle.std.proofs.Common.{◌≡◌, ◌≢◌, ℕ, List, [], ◌∷◌, append-nil, map, Option, Some, refl, sym, ap, subst, ◌∙◌}
+use Rattle.std.proofs.Common.{◌≡◌, ◌≢◌, ℕ, List, [], ◌∷◌, ◌++◌, append-nil, map, Option, Some, refl, sym, ap, subst, ◌∙◌}
 use Rattle.std.specs.Prelude.{AllPairs}
 use Rattle.rdm_frame.specs.declared.uid.Uid.{Uid}
 use Rattle.rdm_responder.specs.History.{History}
@@ -14,7 +14,7 @@ use Rattle.rdm_line.proofs.Unheard.{uid_stays}
 use Rattle.rdm_messages.specs.Framing.{Message, bytes_of, message_bytes}
 use Rattle.rdm_messages.specs.Serving.{Turn, Tells, messages_in, replies_in, times_of}
 use Rattle.rdm_interface.specs.Answers.{request_message}
-use Rattle.rdm_interface.specs.Sessions.{IsReplyTo}
+use Rattle.rdm_interface.specs.Sessions.{IsReplyTo, read_in}
 use Rattle.rdm_widget.specs.LiveFixtures.{Situation, fixture_hearing, ready}
 use Rattle.rdm_widget.specs.Rigs.{Rig, after_line, from_wire, histories, rig_hearing}
 use Rattle.rdm_widget.proofs.Rigs.{ready_uids}
@@ -57,13 +57,14 @@ one_turn {E} times start end s (turn ∷ []) request x messages told replies =
     )
 
 pub one_is_heard : {C E : Type 0} (tells : C → ℕ → C → Type 0) (times : E → ℕ → E → Type 0) → OneIsHeard tells times
-one_is_heard tells times limit before after x asked held start end unread left old new s d served read later bytes stream =
+one_is_heard tells times limit before after x asked held start end unread left old new s d served read rest later bytes stream =
     let xs : List Asked = x ∷ [] in
     let all : AreAnswered tells limit before xs after = (after, asked, refl) in
     let whole : served.input ≡ bytes_of (map request_message (requests_in xs)) = read ∙ sym (append-nil (message_bytes (request_message x.request))) in
     let turns = turns_are (requests_in xs) served.input (messages_in served.turns) (all_sent tells limit before after xs all) served.holds whole in
     one_turn times start end s served.turns x.request x.heard turns served.times
-    (fixture_is_heard tells times limit before after xs all held start end unread left old new s d served tt whole later bytes stream).heard
+    (fixture_is_heard tells times limit before after xs all held start end unread left old new s d served tt whole rest later bytes
+    (ap (λ (l : List ℕ). l ++ rest) (append-nil (read_in asked.exchanged)) ∙ stream)).heard
 
 -- ---- a rig
 
@@ -88,7 +89,7 @@ wire_belongs hs rule request bytes (Collided, xs) apart asked are wire e =
     on_the_wire hs rule request [] bytes Collided apart asked are collision_is_something (wire ∙ ap (λ (l : List ℕ). (Collided, l)) (is_some xs bytes e))
 
 -- what a fixture hears leaves its UID
-line_uids : (request : List ℕ) (ss : List Situation) → uids_of (histories (map (after_line request) ss)) ≡ uids_of (histories ss)
+pub line_uids : (request : List ℕ) (ss : List Situation) → uids_of (histories (map (after_line request) ss)) ≡ uids_of (histories ss)
 line_uids request [] = refl
 line_uids request (s ∷ ss) =
     ap (λ (u : Uid). u ∷ uids_of (histories (map (after_line request) ss))) (uid_stays s.history request (hears s.history.setup.uid request) refl)

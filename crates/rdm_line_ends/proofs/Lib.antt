@@ -8,3 +8,4 @@ pub mod Streams
 pub mod Asking
 pub mod Together
 pub mod Fixtures
+pub mod Finding

@@ -54,13 +54,13 @@ stays_such line IsSuch fair now s request false such = such
 pub message_is : (m n : Message) (ms ns : List Message) → m ∷ ms ≡ n ∷ ns → m ≡ n
 message_is m n ms ns e = cc
 
-messages_are : (m n : Message) (ms ns : List Message) → m ∷ ms ≡ n ∷ ns → ms ≡ ns
+pub messages_are : (m n : Message) (ms ns : List Message) → m ∷ ms ≡ n ∷ ns → ms ≡ ns
 messages_are m n ms ns e = cc
 
-no_messages : (m : Message) (ms : List Message) → [] ≡ m ∷ ms → ⊥
+pub no_messages : (m : Message) (ms : List Message) → [] ≡ m ∷ ms → ⊥
 no_messages m ms e = cc
 
-some_messages : (m : Message) (ms : List Message) → m ∷ ms ≡ [] → ⊥
+pub some_messages : (m : Message) (ms : List Message) → m ∷ ms ≡ [] → ⊥
 some_messages m ms e = cc
 
 pub are_replies : {D S : Type 0} (line : Hearing D S) (IsSuch : S → Type 0) → IsFair line IsSuch → (s : S) (turns : List Turn) (requests : List (List ℕ)) → IsSuch s → AllByRecursion CanBeSent requests

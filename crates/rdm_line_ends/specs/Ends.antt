@@ -1,6 +1,6 @@
 -- A host at one end of a line, and fixtures at the other: what the contracts of both ends come to together.
-use Rattle.std.specs.Prelude.{◌≡◌, ◌≢◌, ℕ, ◌≤◌, List, [], ◌∷◌, ◌++◌, length, map, Option, Some, IsSome, AllPairs}
-use Rattle.std.specs.Io.KnownBytes.{Appends}
+use Rattle.std.specs.Prelude.{◌≡◌, ◌≢◌, ℕ, ◌≤◌, List, [], ◌∷◌, ◌++◌, length, map, Option, IsSome, AllPairs}
+use Rattle.std.specs.Io.KnownBytes.{Appends, Consumes}
 use Rattle.rdm_line.specs.Line.{uids_of}
 use Rattle.rdm_responder.specs.Rules.{reply_of}
 use Rattle.rdm_messages.specs.Framing.{bytes_of, message_bytes}
@@ -11,7 +11,7 @@ use Rattle.rdm_widget.specs.LiveFixtures.{Situation, fixture_hearing, ready}
 use Rattle.rdm_widget.specs.Rigs.{histories, rig_hearing}
 use Rattle.rdm_interface.specs.Answers.{has_end, request_message, wanted_by}
 use Rattle.rdm_interface.specs.Exchanges.{IsExchanged}
-use Rattle.rdm_interface.specs.Sessions.{CameToEnd}
+use Rattle.rdm_interface.specs.Sessions.{CameToEnd, read_in}
 use Rattle.rdm_line_ends.specs.Replies.{AreBytes}
 
 -- ---- the host
@@ -48,6 +48,17 @@ abbrev pub AreAnswered : {C : Type 0} → (C → ℕ → C → Type 0) → ℕ �
 AreAnswered tells limit before [] after = after ≡ before
 AreAnswered {C} tells limit before (x ∷ xs) after = (mid : Host C) × IsAnswered tells limit before mid x × AreAnswered tells limit mid xs after
 
+-- the bytes that the host read for them
+abbrev pub read_for : {C : Type 0} (tells : C → ℕ → C → Type 0) (limit : ℕ) (before : Host C) (xs : List Asked) (after : Host C) → AreAnswered tells limit before xs after → List ℕ
+read_for tells limit before [] after is = []
+read_for tells limit before (x ∷ xs) after is = read_in is.1.exchanged ++ read_for tells limit is.0 xs after is.2
+
+-- They are a front of what there was to read, where that is known.
+abbrev pub AnswersAreRead : {C : Type 0} → (C → ℕ → C → Type 0) → Type 0
+AnswersAreRead {C} tells =
+    (limit : ℕ) (before after : Host C) (xs : List Asked) (asked : AreAnswered tells limit before xs after)
+    → Consumes before.unread after.unread (read_for tells limit before xs after asked)
+
 -- Just the messages of the requests are written.
 abbrev pub RequestsAreWritten : {C : Type 0} → (C → ℕ → C → Type 0) → Type 0
 RequestsAreWritten {C} tells =
@@ -56,22 +67,22 @@ RequestsAreWritten {C} tells =
 
 -- ---- both ends
 
--- What is heard of each request is what came from the line for it, and what comes later is all that is left over.
-pub record AreHeard {C D S : Type 0} (line : Hearing D S) (after : Host C) (xs : List Asked) (s : S) (turns : List Turn) (later : List ℕ) : Type 0 where
+-- What is heard of each request is what came from the line for it, and what comes later is all that is left over: what the host holds,
+-- and what it hasn't read.
+pub record AreHeard {C D S : Type 0} (line : Hearing D S) (after : Host C) (xs : List Asked) (s : S) (turns : List Turn) (rest later : List ℕ) : Type 0 where
   pub heard : heard_in xs ≡ replies_in line s turns
-  pub rest : List ℕ
-  pub unread : after.unread ≡ Some rest
   pub left : after.held ++ rest ≡ later
 
--- At the other end, on a line in such a situation, `serve` reads the messages of these requests alone, and what the host has to
--- read are the bytes that it writes for them, and then later ones. Then they are heard so.
+-- At the other end, on a line in such a situation, `serve` reads the messages of these requests alone. What the host read, and the rest
+-- that it hasn't read, are the bytes that `serve` writes for them, and then later ones. Then they are heard so.
 abbrev pub IsHeard : {C E D S : Type 0} → (C → ℕ → C → Type 0) → (E → ℕ → E → Type 0) → Hearing D S → (S → Type 0) → Type 0
 IsHeard {C} {E} {D} {S} tells times line IsSuch =
-    (limit : ℕ) (before after : Host C) (xs : List Asked) → AreAnswered tells limit before xs after → before.held ≡ []
+    (limit : ℕ) (before after : Host C) (xs : List Asked) (asked : AreAnswered tells limit before xs after) → before.held ≡ []
     → (start end : E) (unread left old new : Option (List ℕ)) (s : S) (d : D) (served : IsServed times line start end unread left old new s d)
     → IsSuch s → served.input ≡ bytes_of (map request_message (requests_in xs))
-    → (later : List ℕ) → AreBytes (answers line s served.turns) → before.unread ≡ Some (answers line s served.turns ++ later)
-    → AreHeard line after xs s served.turns later
+    → (rest later : List ℕ) → AreBytes (answers line s served.turns)
+    → read_for tells limit before xs after asked ++ rest ≡ answers line s served.turns ++ later
+    → AreHeard line after xs s served.turns rest later
 
 -- of a fixture, in any situation
 abbrev pub FixtureIsHeard : {C E : Type 0} → (C → ℕ → C → Type 0) → (E → ℕ → E → Type 0) → Type 0
@@ -85,8 +96,9 @@ RigIsHeard tells times = IsHeard tells times rig_hearing (λ rig. AllPairs (λ u
 -- reports of the jobs that have ended by the time that the clock tells for it.
 abbrev pub OneIsHeard : {C E : Type 0} → (C → ℕ → C → Type 0) → (E → ℕ → E → Type 0) → Type 0
 OneIsHeard {C} {E} tells times =
-    (limit : ℕ) (before after : Host C) (x : Asked) → IsAnswered tells limit before after x → before.held ≡ []
+    (limit : ℕ) (before after : Host C) (x : Asked) (asked : IsAnswered tells limit before after x) → before.held ≡ []
     → (start end : E) (unread left old new : Option (List ℕ)) (s : Situation) (d : LiveFixture) (served : IsServed times fixture_hearing start end unread left old new s d)
     → served.input ≡ message_bytes (request_message x.request)
-    → (later : List ℕ) → AreBytes (answers fixture_hearing s served.turns) → before.unread ≡ Some (answers fixture_hearing s served.turns ++ later)
+    → (rest later : List ℕ) → AreBytes (answers fixture_hearing s served.turns)
+    → read_in asked.exchanged ++ rest ≡ answers fixture_hearing s served.turns ++ later
     → (now : ℕ) × times start now end × (x.heard ≡ reply_of (ready now s).history x.request)

@@ -1,6 +1,7 @@
 //! Laws of replies and of both ends of a line. Each is the contract of a call that does nothing.
 
-ghost use Rattle.rdm_line_ends.specs.Ends.{FixtureIsHeard, OneIsHeard, RequestsAreWritten, RigIsHeard};
+ghost use Rattle.rdm_line_ends.specs.Ends.{AnswersAreRead, FixtureIsHeard, OneIsHeard, RequestsAreWritten, RigIsHeard};
+ghost use Rattle.rdm_line_ends.specs.Searches.{RigIsFound};
 ghost use Rattle.rdm_line_ends.specs.Replies.{BranchesAreAnswered, RepliesAreResponses, RepliesBelong, WhatIsOnTheWireBelongs};
 
 use rdm_messages::Clock;
@@ -25,7 +26,15 @@ pub fn replies_belong_to_their_requests()
 /// and what is heard is what all of them make, each after its own history. Whatever is asked.
 pub fn what_is_replied_is_heard<H: Clock, F: Clock>()
     ensures written { RequestsAreWritten H.tells }
+    ensures read { AnswersAreRead H.tells }
     ensures fixture { FixtureIsHeard H.tells F.tells }
     ensures one { OneIsHeard H.tells F.tells }
     ensures rig { RigIsHeard H.tells F.tells }
+{}
+
+/// A search finds the rig at the other end of the line: where a host sends the askings of a search as above, and `serve` serves a rig
+/// there, what is heard may be heard of that rig's fixtures. So what `discover_through` of rdm_interface says of every line of which this
+/// may be heard, it says of the rig: what is found is its fixtures, each once.
+pub fn searches_find_the_rig<H: Clock, F: Clock>()
+    ensures { RigIsFound H.tells F.tells }
 {}
