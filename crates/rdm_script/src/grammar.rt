@@ -11,6 +11,6 @@ mod told;
 mod words;
 mod wrong;
 
-pub use parsing::{MOST_BYTES, ScriptError, parse, parse_as, parse_for};
+pub use parsing::{MOST_BYTES, ScriptError, parse, parse_as};
 pub use telling::refusal_at;
 pub(crate) use told::finds_of;

@@ -96,29 +96,7 @@ pub fn parse(alloc: Global, text: &[u8]) -> Result<Script, ScriptError>
     ensures lines { IfOk result (λ script. script.lines.items ≡ step_lines (strict demo_device) text.now) }
     ensures setup_line { IfOk result (λ script. script.setup_line ≡ setup_line (strict demo_device) text.now) }
 {
-    parse_for(alloc, DEMO_DEVICE, text)
-}
-
-/// The script that the bytes are, played on a device of this UID: `dev` is this device, and `maker` every device of its
-/// manufacturer.
-///
-/// Memory for the steps is taken first, so that whether the bytes are a script hangs on nothing else.
-pub fn parse_for(alloc: Global, device: Uid, text: &[u8]) -> Result<Script, ScriptError>
-    // What is read is a script of this setup and these steps.
-    ensures ok { IfOk result (λ script. IsScript (strict device) text.now script.setup script.steps.items) }
-    // A script is read, unless memory is refused.
-    ensures only { (setup : TheSetup) (steps : List TheStep) → IsScript (strict device) text.now setup steps →
-        MatchResult result (λ script. (script.setup ≡ setup) × (script.steps.items ≡ steps)) (λ e. e ≡ OutOfMemory) }
-    // Each refusal comes for its cause: a line is named only where it is the first faulty one.
-    ensures err { IfErr result (λ e. Refuses (strict device) e text.now) }
-    ensures too_long { 65536 < length text.now → result ≡ Err ScriptError.TooLong }
-    // What goes wrong at a step alters something.
-    ensures faults { IfOk result (λ script. HaveFaults script.steps.items) }
-    // The script knows the line of each step, and that of its setup.
-    ensures lines { IfOk result (λ script. script.lines.items ≡ step_lines (strict device) text.now) }
-    ensures setup_line { IfOk result (λ script. script.setup_line ≡ setup_line (strict device) text.now) }
-{
-    parse_as(alloc, &Dialect::of(device, Spelling::Strict), text)
+    parse_as(alloc, &Dialect::of(DEMO_DEVICE, Spelling::Strict), text)
 }
 
 /// The script that the bytes are in a dialect.
