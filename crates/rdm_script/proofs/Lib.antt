@@ -18,7 +18,6 @@ pub mod Rooms
 pub mod ScriptSpellings
 pub mod Stopping
 pub mod Tests
-pub mod Told
 pub mod Widening
 pub mod WordSpellings
 pub mod Words

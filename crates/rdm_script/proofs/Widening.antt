@@ -49,13 +49,6 @@ pub record IsWider (s t : Scene) : Type 0 where
 moved : (P : Uid → Profile → Type 0) (s t : Scene) → IsWider s t → P s.device s.profile → P t.device t.profile
 moved P s t w h = subst (P t.device) w.profile (subst (λ (d : Uid). P d s.profile) w.device h)
 
--- the lines are those of the device's workers
-retraced : (s t : Scene) → IsWider s t → (finds : Spelling → Finds) (events : List Event) (P : List Line → Type 0)
-    → P (trace_lines s.profile.workers (finds s.spelling) events (recorded events)) → P (trace_lines t.profile.workers (finds t.spelling) events (recorded events))
-retraced s t w finds events P h =
-    subst (λ (p : Profile). P (trace_lines p.workers (finds t.spelling) events (recorded events))) w.profile
-    (subst (λ (k : Spelling). P (trace_lines s.profile.workers (finds k) events (recorded events))) w.spelling h)
-
 -- what hangs on the dialect alone
 retold : (P : Dialect → Type 0) (s t : Scene) → IsWider s t → P (spoken_at s) → P (spoken_at t)
 retold P s t w h =
@@ -63,6 +56,13 @@ retold P s t w h =
     let at_device = subst (λ (d : Uid). P (record { device = d; spelling = s.spelling; own = own })) w.device h in
     let at_spelling = subst (λ (k : Spelling). P (record { device = t.device; spelling = k; own = own })) w.spelling at_device in
     subst (λ (p : Profile). P (record { device = t.device; spelling = t.spelling; own = p.particulars.own })) w.profile at_spelling
+
+-- the lines are those of the device's workers
+retraced : (s t : Scene) → IsWider s t → (finds : Dialect → Finds) (events : List Event) (P : List Line → Type 0)
+    → P (trace_lines s.profile.workers (finds (spoken_at s)) events (recorded events)) → P (trace_lines t.profile.workers (finds (spoken_at t)) events (recorded events))
+retraced s t w finds events P h =
+    subst (λ (p : Profile). P (trace_lines p.workers (finds (spoken_at t)) events (recorded events))) w.profile
+    (retold (λ (d : Dialect). P (trace_lines s.profile.workers (finds d) events (recorded events))) s t w h)
 
 answers_wider : (f g : Job → Outcome → Type 0) → ((j : Job) (o : Outcome) → f j o → g j o) → (js : List Job) (rs : List Report) → Answers f js rs → Answers g js rs
 answers_wider f g wider js [] h = tt
@@ -98,7 +98,7 @@ trace_wider s t w input text h = record {
   spelled = retold (λ (d : Dialect). IsScript d input h.setup h.steps) s t w h.spelled;
   good = good_wider s t h.setup w h.good;
   run = run_wider s t h.setup h.steps h.events w h.run;
-  written = retraced s t w (λ k. finds_of k input) h.events (λ (ls : List Line). text ≡ lines_text ls) h.written;
+  written = retraced s t w (λ d. finds_of d input) h.events (λ (ls : List Line). text ≡ lines_text ls) h.written;
 }
 
 play_wider : (s t : Scene) → IsWider s t → (text : List ℕ) (lines : List Line) → IsPlayOf s text lines → IsPlayOf t text lines
@@ -109,7 +109,7 @@ play_wider s t w text lines h = record {
   spelled = retold (λ (d : Dialect). IsScript d text h.setup h.steps) s t w h.spelled;
   good = good_wider s t h.setup w h.good;
   run = run_wider s t h.setup h.steps h.events w h.run;
-  told = retraced s t w (λ k. finds_of k text) h.events (λ (ls : List Line). lines ≡ ls) h.told;
+  told = retraced s t w (λ d. finds_of d text) h.events (λ (ls : List Line). lines ≡ ls) h.told;
 }
 
 stops_wider : (s t : Scene) (e : RunError) (setup : ScriptSetup) (steps : List CrewStep) → IsWider s t → Stops s e setup steps → Stops t e setup steps

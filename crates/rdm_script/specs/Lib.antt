@@ -13,5 +13,4 @@ pub mod Search
 pub mod Spelling
 pub mod StepLines
 pub mod Told
-pub mod TraceText
 pub mod WrongWords

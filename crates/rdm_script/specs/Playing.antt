@@ -36,7 +36,7 @@ pub record IsPlayOf (scene : Scene) (text : List ℕ) (lines : List Line) : Type
   pub spelled : IsScript (spoken_at scene) text setup steps
   pub good : IsGood scene setup
   pub run : IsScriptRun scene setup steps events
-  pub told : lines ≡ trace_lines scene.profile.workers (finds_of scene.spelling text) events (recorded events)
+  pub told : lines ≡ trace_lines scene.profile.workers (finds_of (spoken_at scene) text) events (recorded events)
 
 -- Why there are no such lines. Want of memory is told as such, and never as a fault of the script or of the run.
 abbrev pub IsUnplayed : Scene → List ℕ → Unplayed → Type 0

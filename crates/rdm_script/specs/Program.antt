@@ -29,7 +29,7 @@ pub record IsTraceOf (scene : Scene) (input output : List ℕ) : Type 0 where
   pub spelled : IsScript (spoken_at scene) input setup steps
   pub good : IsGood scene setup
   pub run : IsScriptRun scene setup steps events
-  pub written : output ≡ lines_text (trace_lines scene.profile.workers (finds_of scene.spelling input) events (recorded events))
+  pub written : output ≡ lines_text (trace_lines scene.profile.workers (finds_of (spoken_at scene) input) events (recorded events))
 
 -- The input is a script that isn't played to its end, and this is the reason.
 pub record IsStopped (scene : Scene) (input : List ℕ) (e : RunError) : Type 0 where

@@ -7,10 +7,8 @@ pub(crate) mod line;
 pub(crate) mod parsing;
 mod search;
 mod telling;
-mod told;
 mod words;
 mod wrong;
 
-pub use parsing::{MOST_BYTES, ScriptError, parse, parse_as, parse_for};
+pub use parsing::{MOST_BYTES, ScriptError, parse, parse_as};
 pub use telling::refusal_at;
-pub(crate) use told::finds_of;

@@ -5,7 +5,7 @@
 //! other, and `run_program` ends a program with what came of it. `play_script` plays a text, and gives the lines of its trace, or the
 //! line at which it stops. `parse_as` reads strict scripts and friendly ones. The language stands in `specs/Spelling.antt`, what
 //! `find` spells in `specs/Search.antt`, how a run is set up and why it stops in `specs/Running.antt`, the demonstration in
-//! `specs/DemoParts.antt`, and the text in `specs/TraceText.antt`. What a run is, rdm_crew says.
+//! `specs/DemoParts.antt`. What a run is, rdm_crew says, and rdm_trace has the lines of its trace.
 #![tactic(auto)]
 
 mod demo;
@@ -23,12 +23,11 @@ mod running;
 mod script;
 mod stage;
 mod streams;
-mod trace;
 
 pub use demo::DemoPanel;
 pub use dialect::{Dialect, Spelling};
 pub use exit::{report, run_program};
-pub use grammar::{MOST_BYTES, ScriptError, parse, parse_as, parse_for, refusal_at};
+pub use grammar::{MOST_BYTES, ScriptError, parse, parse_as, refusal_at};
 pub use laws::{
     line_says_what_its_words_spell, program_errors_are_equal_by_value, refusals_are_equal_by_value,
     script_errors_are_equal_by_value, script_is_never_refused, setups_are_equal_by_value,
@@ -37,9 +36,8 @@ pub use laws::{
 };
 pub use parties::{CONTROLLER, DEMO_DEVICE};
 pub use playing::{Unplayed, play_demonstration, play_script};
-pub use program::{ProgramError, run_script, run_script_as, run_script_on};
+pub use program::{ProgramError, run_script, run_script_on};
 pub use refusal::{Excerpt, Reason, Refusal, Wanted};
 pub use rules::{RuledPart, ruled_parts_fit};
 pub use script::{Script, ScriptSetup};
 pub use stage::Stage;
-pub use trace::trace_text;

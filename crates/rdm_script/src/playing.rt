@@ -11,7 +11,7 @@ ghost use Rattle.rdm_script.specs.declared.playing.Unplayed.TheVariants.{OutOfMe
 
 use crate::demo::demo_stage;
 use crate::dialect::{Dialect, Spelling};
-use crate::grammar::{ScriptError, finds_of, parse_as};
+use crate::grammar::{ScriptError, parse_as};
 use crate::rules::ruled_parts_fit;
 use crate::running::play_steps;
 use crate::script::Script;
@@ -104,7 +104,7 @@ where
         own: stage.profile.particulars.own(),
     };
     let script = parse_as(alloc, &dialect, text)?;
-    let finds = finds_of(stage.spelling, text);
+    let finds = script.finds;
     let workers = stage.profile.workers;
     match play_steps(rt, alloc, script.setup, &script.steps, stage) {
         Ok(trace) => Ok(trace_lines(alloc, &workers, finds, trace.events(), trace.recorded())?),

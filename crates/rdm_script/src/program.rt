@@ -3,7 +3,7 @@
 ghost use Rattle.std.specs.Prelude.{◌≡◌, ◌≢◌, ℕ, List, take, OnOk, IfOk, IfErr, IfSome};
 ghost use Rattle.std.specs.Io.KnownBytes.{Keeps, Appends, IsAtEnd};
 ghost use Rattle.rdm_crew.specs.RunTrace.{FitsFor};
-ghost use Rattle.rdm_script.specs.DemoParts.{demo_scene, demo_scene_in};
+ghost use Rattle.rdm_script.specs.DemoParts.{demo_scene};
 ghost use Rattle.rdm_script.specs.Scene.{scene_of};
 ghost use Rattle.rdm_script.specs.Playing.{fault_of_play};
 ghost use Rattle.rdm_script.specs.Program.{IsTraceOf, IsFailure, status_of, fault_of_script, fault_of_run};
@@ -155,33 +155,10 @@ where
     // Each failure has its cause in the input.
     ensures err { IfErr result (λ e. IfSome (R.remaining reader.old) (IsFailure demo_scene e)) }
 {
-    run_script_as(rt, alloc, Spelling::Strict, reader, writer)
-}
-
-/// Reads a script to its end, whose words are spelled so, plays it on the fixture of the demonstration, and then writes the
-/// text of its trace, as `run_script` does.
-pub fn run_script_as<T, R: Read, W: Write>(
-    rt: T,
-    alloc: Global,
-    spelling: Spelling,
-    reader: &mut R,
-    writer: &mut W,
-) -> Result<(), ProgramError>
-where
-    T: Threads + Wait + Copy + Send + 'static,
-    ensures ok { OnOk result (IfSome (R.remaining reader.old) (λ input. (text : List ℕ) ×
-        IsTraceOf (demo_scene_in spelling) input text × Appends (W.contents writer.old) (W.contents writer.new) text)) }
-    ensures whole { OnOk result (IsAtEnd (R.remaining reader.new)) }
-    ensures silent { IfErr result (λ e. e ≢ WriteFault → Keeps (W.contents writer.old) (W.contents writer.new)) }
-    ensures front { result ≡ Err WriteFault → IfSome (R.remaining reader.old) (λ input. (text : List ℕ) × (count : ℕ) ×
-        IsTraceOf (demo_scene_in spelling) input text ×
-        Appends (W.contents writer.old) (W.contents writer.new) (take count text)) }
-    ensures err { IfErr result (λ e. IfSome (R.remaining reader.old) (IsFailure (demo_scene_in spelling) e)) }
-{
     // What the parts give fits their jobs, and is what the jobs of the demonstration come to.
     ruled_parts_fit();
     demo_rules_end_jobs();
-    run_script_on(rt, alloc, reader, writer, demo_stage(spelling))
+    run_script_on(rt, alloc, reader, writer, demo_stage(Spelling::Strict))
 }
 
 /// Reads a script to its end, plays it on any fixture, and then writes the text of its trace, as `run_script` does.

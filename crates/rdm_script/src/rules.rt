@@ -1,10 +1,13 @@
 //! Parts whose jobs end by rules.
 
-ghost use Rattle.std.specs.Prelude.{◌≡◌};
+ghost use Rattle.std.specs.Prelude.{◌≡◌, ◌↔◌, List, [], ◌∷◌, ◌++◌};
 ghost use Rattle.rdm_crew.specs.RunTrace.{FitsFor};
-ghost use Rattle.rdm_outcomes.specs.Outcomes.{CanEnd};
+ghost use Rattle.rdm_outbox.specs.declared.job.Job.{Job as TheJob};
+ghost use Rattle.rdm_outcomes.specs.declared.rule.Rule.{Rule as TheRule};
+ghost use Rattle.rdm_outcomes.specs.Outcomes.{CanEnd, outcome_of};
+ghost use Rattle.rdm_params.specs.declared.jobs.outcome.Outcome.{Outcome as TheOutcome};
 ghost use Rattle.rdm_params.specs.Jobs.Work.{Choice};
-ghost use Rattle.rdm_script.specs.Rules.{rules_of};
+ghost use Rattle.rdm_script.specs.Rules.{rules_of, HasDone};
 ghost use Rattle.rdm_script.specs.declared.rules.RuledPart.{RuledPart as ThePart};
 
 use arrayvec::ArrayVec;
@@ -22,7 +25,8 @@ pub struct RuledPart {
 impl RuledPart {
     /// A part of these rules that has done no job yet.
     pub fn new(rules: &ArrayVec<Rule, MOST_RULES>) -> RuledPart
-        ensures { rules_of result ≡ rules.now.items }
+        ensures rules { rules_of result ≡ rules.now.items }
+        ensures none { HasDone result rules.now.items [] }
     {
         RuledPart {
             planned: Planned::new(rules),
@@ -36,7 +40,13 @@ impl Part for RuledPart {
 
     ghost gives = { λ part job outcome. CanEnd (rules_of part) job outcome };
 
-    fn work(&mut self, job: &Job) -> Outcome {
+    // Besides, each job counts: its outcome is the one that the rules give after the jobs that the part has done before.
+    fn work(&mut self, job: &Job) -> Outcome
+        ensures gives { CanEnd (rules_of self.old) job.now result }
+        ensures same { (j : TheJob) (o : TheOutcome) → CanEnd (rules_of self.new) j o ↔ CanEnd (rules_of self.old) j o }
+        ensures counts { (rules : List TheRule) (before : List TheJob) → HasDone self.old rules before →
+            (result ≡ outcome_of rules before job.now) × HasDone self.new rules (before ++ job.now ∷ []) }
+    {
         self.planned.end(job)
     }
 }

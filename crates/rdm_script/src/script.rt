@@ -2,6 +2,7 @@
 
 use rdm_bus::Want;
 use rdm_crew::CrewStep;
+use rdm_trace::Finds;
 
 /// How the device and the controller of a script are set up.
 #[derive(Clone, Copy, Debug, PartialEq, Eq)]
@@ -34,4 +35,6 @@ pub struct Script {
     pub lines: Vec<usize>,
     /// The line of the setup, counted from 1, if the script says one.
     pub setup_line: Option<usize>,
+    /// Whether its trace tells which fixtures are found: if a line says a search.
+    pub finds: Finds,
 }

@@ -19,7 +19,7 @@ mod streams;
 mod traces;
 mod working;
 
-use rdm_script::{ProgramError, Spelling, run_script, run_script_as};
+use rdm_script::{ProgramError, run_script};
 use std::alloc::{AllocError, Global};
 use std::sync::Wait;
 use std::thread::Threads;
@@ -42,22 +42,6 @@ where
     let mut reader = script;
     let mut written = Vec::new(alloc);
     let outcome = run_script(rt, alloc, &mut reader, &mut written);
-    (outcome, written)
-}
-
-/// The same of a script whose words are spelled so.
-fn played_as<T>(
-    rt: T,
-    alloc: Global,
-    spelling: Spelling,
-    script: &[u8],
-) -> (Result<(), ProgramError>, Vec<u8>)
-where
-    T: Threads + Wait + Copy + Send + 'static,
-{
-    let mut reader = script;
-    let mut written = Vec::new(alloc);
-    let outcome = run_script_as(rt, alloc, spelling, &mut reader, &mut written);
     (outcome, written)
 }
 

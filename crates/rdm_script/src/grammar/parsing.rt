@@ -11,6 +11,8 @@ ghost use Rattle.rdm_script.specs.Grammar.{words_of, line_at, begun_after, said_
 ghost use Rattle.rdm_script.specs.Search.{most_steps, search_of};
 ghost use Rattle.rdm_script.specs.Spelling.{IsScript};
 ghost use Rattle.rdm_script.specs.StepLines.{step_line, set_line, step_lines, setup_line};
+ghost use Rattle.rdm_script.specs.Told.{finds_of, finds_after};
+ghost use Rattle.rdm_trace.specs.declared.found.Finds.TheVariants.{Untold};
 ghost use Rattle.rdm_script.specs.declared.grammar.parsing.ScriptError.TheVariants.{OutOfMemory, Line as LineError};
 ghost use Rattle.rdm_script.specs.declared.grammar.line.Line.TheVariants.{Faulty};
 
@@ -23,6 +25,7 @@ use crate::script::{Script, ScriptSetup};
 use rdm_crew::CrewStep;
 use rdm_frame::Uid;
 use rdm_streams::{line_end, without_return};
+use rdm_trace::Finds;
 use std::alloc::{AllocError, Global};
 use std::error::Error;
 use std::fmt;
@@ -95,30 +98,10 @@ pub fn parse(alloc: Global, text: &[u8]) -> Result<Script, ScriptError>
     // The script knows the line of each step, and that of its setup.
     ensures lines { IfOk result (λ script. script.lines.items ≡ step_lines (strict demo_device) text.now) }
     ensures setup_line { IfOk result (λ script. script.setup_line ≡ setup_line (strict demo_device) text.now) }
+    // It knows whether a line says a search.
+    ensures finds { IfOk result (λ script. script.finds ≡ finds_of (strict demo_device) text.now) }
 {
-    parse_for(alloc, DEMO_DEVICE, text)
-}
-
-/// The script that the bytes are, played on a device of this UID: `dev` is this device, and `maker` every device of its
-/// manufacturer.
-///
-/// Memory for the steps is taken first, so that whether the bytes are a script hangs on nothing else.
-pub fn parse_for(alloc: Global, device: Uid, text: &[u8]) -> Result<Script, ScriptError>
-    // What is read is a script of this setup and these steps.
-    ensures ok { IfOk result (λ script. IsScript (strict device) text.now script.setup script.steps.items) }
-    // A script is read, unless memory is refused.
-    ensures only { (setup : TheSetup) (steps : List TheStep) → IsScript (strict device) text.now setup steps →
-        MatchResult result (λ script. (script.setup ≡ setup) × (script.steps.items ≡ steps)) (λ e. e ≡ OutOfMemory) }
-    // Each refusal comes for its cause: a line is named only where it is the first faulty one.
-    ensures err { IfErr result (λ e. Refuses (strict device) e text.now) }
-    ensures too_long { 65536 < length text.now → result ≡ Err ScriptError.TooLong }
-    // What goes wrong at a step alters something.
-    ensures faults { IfOk result (λ script. HaveFaults script.steps.items) }
-    // The script knows the line of each step, and that of its setup.
-    ensures lines { IfOk result (λ script. script.lines.items ≡ step_lines (strict device) text.now) }
-    ensures setup_line { IfOk result (λ script. script.setup_line ≡ setup_line (strict device) text.now) }
-{
-    parse_as(alloc, &Dialect::of(device, Spelling::Strict), text)
+    parse_as(alloc, &Dialect::of(DEMO_DEVICE, Spelling::Strict), text)
 }
 
 /// The script that the bytes are in a dialect.
@@ -138,6 +121,8 @@ pub fn parse_as(alloc: Global, dialect: &Dialect<'_>, text: &[u8]) -> Result<Scr
     // The script knows the line of each step, and that of its setup.
     ensures lines { IfOk result (λ script. script.lines.items ≡ step_lines dialect.now text.now) }
     ensures setup_line { IfOk result (λ script. script.setup_line ≡ setup_line dialect.now text.now) }
+    // It knows whether a line says a search.
+    ensures finds { IfOk result (λ script. script.finds ≡ finds_of dialect.now text.now) }
 {
     read_script(alloc, dialect, text)
 }
@@ -151,6 +136,7 @@ fn read_script(alloc: Global, dialect: &Dialect<'_>, text: &[u8]) -> Result<Scri
     ensures too_long { 65536 < length text.now → result ≡ Err ScriptError.TooLong }
     ensures lines { IfOk result (λ script. script.lines.items ≡ step_lines dialect.now text.now) }
     ensures setup_line { IfOk result (λ script. script.setup_line ≡ setup_line dialect.now text.now) }
+    ensures finds { IfOk result (λ script. script.finds ≡ finds_of dialect.now text.now) }
 {
     if text.len() > MOST_BYTES {
         return Err(ScriptError::TooLong);
@@ -161,6 +147,7 @@ fn read_script(alloc: Global, dialect: &Dialect<'_>, text: &[u8]) -> Result<Scri
         steps: Vec::with_capacity(alloc, room)?,
         lines: Vec::with_capacity(alloc, room)?,
         setup_line: None,
+        finds: Finds::Untold,
     };
     read_lines(dialect, text, &mut script)?;
     Ok(script)
@@ -201,11 +188,13 @@ fn read_lines(dialect: &Dialect<'_>, text: &[u8], script: &mut Script) -> Result
     requires none { script.old.steps.items ≡ [] }
     requires no_lines { script.old.lines.items ≡ [] }
     requires no_setup { script.old.setup_line ≡ None }
+    requires no_finds { script.old.finds ≡ Untold }
     requires room { length (lines_of text.now) * most_steps dialect.now.spelling ≤ vec_capacity script.old.steps }
     requires lines_room { length (lines_of text.now) * most_steps dialect.now.spelling ≤ vec_capacity script.old.lines }
     ensures ok { OnOk result (AreSaid (said_by dialect.now (lines_of text.now)) script.new.setup script.new.steps.items) }
     ensures lines { OnOk result (script.new.lines.items ≡ step_lines dialect.now text.now) }
     ensures setup_line { OnOk result (script.new.setup_line ≡ setup_line dialect.now text.now) }
+    ensures finds { OnOk result (script.new.finds ≡ finds_of dialect.now text.now) }
     ensures err { IfErr result (λ fault. IsFirstFaulty (said_by dialect.now (lines_of text.now)) fault.0) }
 {
     let mut rest = text;
@@ -242,6 +231,7 @@ fn read_line(
     ensures lines_len { vec_len script.new.lines ≤ vec_len script.old.lines + most_steps dialect.now.spelling }
     ensures lines_capacity { vec_capacity script.new.lines ≡ vec_capacity script.old.lines }
     ensures setup_line { OnOk result (script.new.setup_line ≡ option_or script.old.setup_line (set_line (index + 1) (line_at dialect.now begun (words_of dialect.now.spelling line.now)))) }
+    ensures finds { OnOk result (script.new.finds ≡ finds_after script.old.finds (line_at dialect.now begun (words_of dialect.now.spelling line.now))) }
     ensures err { IfErr result (λ fault. (fault.0 ≡ index + 1) × (line_at dialect.now begun (words_of dialect.now.spelling line.now) ≡ Faulty)) }
 {
     match line_of(dialect, line, begun) {
@@ -257,6 +247,7 @@ fn read_line(
         }
         Line::Finds(device) => {
             put_search(script, device, index + 1);
+            script.finds = Finds::Told;
             Ok(true)
         }
         Line::Faulty => Err(FaultyLine(index + 1)),
@@ -275,6 +266,7 @@ fn put_search(script: &mut Script, device: Uid, number: usize)
     ensures lines_len { vec_len script.new.lines ≡ vec_len script.old.lines + 4 }
     ensures lines_capacity { vec_capacity script.new.lines ≡ vec_capacity script.old.lines }
     ensures setup_line { script.new.setup_line ≡ script.old.setup_line }
+    ensures finds { script.new.finds ≡ script.old.finds }
 {
     let [un_mute, branch, mute, again] = search_of(device);
     put_step(script, un_mute, number);
@@ -295,6 +287,7 @@ fn put_step(script: &mut Script, step: CrewStep, number: usize)
     ensures lines_len { vec_len script.new.lines ≡ vec_len script.old.lines + 1 }
     ensures lines_capacity { vec_capacity script.new.lines ≡ vec_capacity script.old.lines }
     ensures setup_line { script.new.setup_line ≡ script.old.setup_line }
+    ensures finds { script.new.finds ≡ script.old.finds }
 {
     script.steps.push_reserved(step);
     script.lines.push_reserved(number);

@@ -2,10 +2,9 @@
 
 ghost use Rattle.std.specs.Prelude.{◌≡◌, ◌++◌, ◌+◌, ◌≤◌, [], ◌∷◌, length, map};
 ghost use Rattle.rdm_frame.specs.FrameText.{uid_slots};
-ghost use Rattle.rdm_script.specs.Grammar.{is_find, words_of};
+ghost use Rattle.rdm_script.specs.Grammar.{is_find};
 ghost use Rattle.rdm_script.specs.Search.{discovery, whole_branch, search_of};
 
-use super::words::words_of;
 use crate::dialect::Spelling;
 use rdm_bus::{Action, Command, Fault};
 use rdm_crew::CrewStep;
@@ -36,13 +35,6 @@ pub(crate) fn is_find_name(spelling: Spelling, word: &[u8]) -> bool
     ensures { result ≡ is_find spelling (word.now ∷ []) }
 {
     is_find(spelling, &[word])
-}
-
-/// Whether a line says a search.
-pub(crate) fn is_find_line(spelling: Spelling, line: &[u8]) -> bool
-    ensures { result ≡ is_find spelling (words_of spelling line.now) }
-{
-    is_find(spelling, words_of(spelling, line).as_slice())
 }
 
 /// The steps of a search that finds this device and no other (E1.20 sections 7.5 and 7.6): those that rdm_search sends.

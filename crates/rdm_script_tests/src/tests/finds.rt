@@ -1,12 +1,12 @@
 //! A search of the line, as a friendly script says it.
 
-use super::played_as;
+use super::played;
 use rdm_frame::{Uid, encode};
 use rdm_script::{
     Dialect, ProgramError, ScriptError, Spelling, parse, parse_as, play_demonstration,
 };
 use rdm_search::Search;
-use rdm_trace::Line;
+use rdm_trace::{Line, text_of};
 use std::process::Abort;
 
 const DEVICE: Uid = Uid {
@@ -108,9 +108,10 @@ end
 #[test]
 fn finds_are_told(rt: HostRuntime) {
     for (script, trace) in TRACES {
-        let (outcome, written) = played_as(rt, rt.alloc(), Spelling::Friendly, script.as_bytes());
-        let told = (outcome, written.as_slice());
-        assert_eq!(rt; told, (Ok(()), trace.as_bytes()), "{script:?}");
+        let lines = play_demonstration(rt, rt.alloc(), Spelling::Friendly, script.as_bytes());
+        let lines = lines.expect(&rt, "a run");
+        let text = text_of(rt.alloc(), lines.as_slice()).expect(&rt, "memory");
+        assert_eq!(rt; text.as_slice(), trace.as_bytes(), "{script:?}");
     }
 }
 
@@ -118,7 +119,7 @@ fn finds_are_told(rt: HostRuntime) {
 #[test]
 fn strict_scripts_find_nobody(rt: HostRuntime) {
     for (script, line) in [("find", 1), ("draw\n# find\nfind\n", 3)] {
-        let (outcome, written) = played_as(rt, rt.alloc(), Spelling::Strict, script.as_bytes());
+        let (outcome, written) = played(rt, rt.alloc(), script.as_bytes());
         let faulty = ProgramError::Script(ScriptError::Line(line));
         assert_eq!(rt; (outcome, written.len()), (Err(faulty), 0), "{script:?}");
         assert!(rt; parse(rt.alloc(), script.as_bytes()).is_err(), "{script:?}");

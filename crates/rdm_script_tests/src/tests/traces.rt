@@ -5,7 +5,7 @@ use rdm_frame::Body;
 use rdm_outbox::Job;
 use rdm_params::{Message, Outcome, Severity, Verb, Work, Worker, Workers};
 use rdm_responder::Report;
-use rdm_script::trace_text;
+use rdm_trace::{Finds, text_of, trace_lines};
 use std::alloc::Global;
 use std::process::Abort;
 
@@ -93,7 +93,8 @@ fn prints_as(
     messages: &[Message],
     trace: &str,
 ) {
-    let text = trace_text(alloc, workers, events, messages).expect(rt, "memory");
+    let lines = trace_lines(alloc, workers, Finds::Untold, events, messages).expect(rt, "memory");
+    let text = text_of(alloc, lines.as_slice()).expect(rt, "memory");
     assert_eq!(rt; text.as_slice(), trace.as_bytes());
 }
 

@@ -13,7 +13,7 @@ use Rattle.rdm_script.specs.declared.dialect.Spelling.{Spelling}
 use Rattle.rdm_script.specs.Dialects.{Dialect}
 use Rattle.rdm_script.specs.Playing.{IsPlayOf, IsUnplayed, NamesStopLine}
 use Rattle.rdm_script.specs.Running.{IsScriptRun, Stops}
-use Rattle.rdm_script.specs.Scene.{scene_of}
+use Rattle.rdm_script.specs.Scene.{scene_of, spoken_at}
 use Rattle.rdm_script.specs.Spelling.{IsScript}
 use Rattle.rdm_script.specs.StepLines.{step_lines, setup_line}
 use Rattle.rdm_script.specs.Told.{finds_of}
@@ -30,6 +30,7 @@ returns-in-Ok-clause-ok g c =
     let ws = c.args.stage.profile.workers in
     let events : List Event = c.in-Ok.trace.events in
     let spelled = subst (λ (ds : List ParameterDef). IsScript (with_own c.args.stage.device c.args.stage.spelling ds) c.args.text.now script.setup script.steps.items) c.own.ensures.value c.in_ok-script.ensures.ok in
+    let finds = c.in_ok-script.ensures.finds ∙ ap (λ (ds : List ParameterDef). finds_of (with_own c.args.stage.device c.args.stage.spelling ds) c.args.text.now) c.own.ensures.value in
     let run = subst (λ (ss : List CrewStep). IsScriptRun scene script.setup ss events) c.deref.ensures.value c.in-Ok.ensures.trace in
     record {
       setup = script.setup;
@@ -40,9 +41,9 @@ returns-in-Ok-clause-ok g c =
       run = run;
       told =
           c.in_ok-trace_lines-in-Ok.ensures
-          ∙ ap (λ (f : Finds). trace_lines ws f c.events.result.now c.recorded.result.now) c.finds_of-finds.ensures
-          ∙ ap (λ (es : List Event). trace_lines ws (finds_of c.args.stage.spelling c.args.text.now) es c.recorded.result.now) c.events.ensures
-          ∙ ap (λ (ms : List Message). trace_lines ws (finds_of c.args.stage.spelling c.args.text.now) events ms) (c.recorded.ensures ∙ c.in-Ok.ensures.recorded);
+          ∙ ap (λ (f : Finds). trace_lines ws f c.events.result.now c.recorded.result.now) finds
+          ∙ ap (λ (es : List Event). trace_lines ws (finds_of (spoken_at scene) c.args.text.now) es c.recorded.result.now) c.events.ensures
+          ∙ ap (λ (ms : List Message). trace_lines ws (finds_of (spoken_at scene) c.args.text.now) events ms) (c.recorded.ensures ∙ c.in-Ok.ensures.recorded);
     }
 
 pub returns-in-Ok-clause-trace : goal.returns-in-Ok-clause-trace

@@ -4,7 +4,7 @@ use Rattle.std.proofs.lemmas.Result.{err_from_is_err_and}
 use Rattle.rdm_script.specs.Grammar.{said_by, lines_of}
 use Rattle.rdm_script.proofs.Lines.{said_count, at_line, at_last, passes, fails, last_passes}
 use Rattle.rdm_script.proofs.Rooms.{room_here, room_taken}
-use Rattle.rdm_script.proofs.LinesRead.{steps_more, steps_last, set_more, set_last}
+use Rattle.rdm_script.proofs.LinesRead.{steps_more, steps_last, set_more, set_last, finds_more, finds_last}
 use Rattle.rdm_script.proofs.grammar.parsing.read_lines.Goals as goal
 
 pub read_line-requires-clause-room : goal.read_line-requires-clause-room
@@ -41,6 +41,7 @@ loop-end-preserved c =
       lines = rw c.in_ok-begun.ensures.lines (steps_more _ _ _ _ _ _ here c.loop-end.invariant.lines);
       lines_len = room_taken c.args.dialect.now.spelling _ _ _ c.in_ok-begun.ensures.lines_len c.loop-end.invariant.lines_len;
       lines_room = omega (arith, c.in_ok-begun.ensures.lines_capacity, c.loop-end.invariant.lines_room);
+      finds = rw c.in_ok-begun.ensures.finds (finds_more _ _ _ _ _ _ here c.loop-end.invariant.finds);
       setup_line = rw c.in_ok-begun.ensures.setup_line (set_more _ _ _ _ _ _ here c.loop-end.invariant.setup_line);
     }
 
@@ -80,3 +81,9 @@ returns-clause-setup_line c =
     let text = c.args.text.now in
     let here = at_last c.args.dialect.now (said_by c.args.dialect.now (lines_of text)) c.loop-end.begun c.loop-end.rest.now c.loop-end.index (sym c.in_default.ensures.end) c.loop-end.invariant.rest in
     rw c.in_ok-read_line.ensures.setup_line (set_last _ _ _ _ _ here c.loop-end.invariant.setup_line)
+
+pub returns-clause-finds : goal.returns-clause-finds
+returns-clause-finds c =
+    let text = c.args.text.now in
+    let here = at_last c.args.dialect.now (said_by c.args.dialect.now (lines_of text)) c.loop-end.begun c.loop-end.rest.now c.loop-end.index (sym c.in_default.ensures.end) c.loop-end.invariant.rest in
+    rw c.in_ok-read_line.ensures.finds (finds_last _ _ _ _ _ here c.loop-end.invariant.finds)

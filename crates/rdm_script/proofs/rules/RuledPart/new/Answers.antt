@@ -9,5 +9,8 @@ same_rules : (rules : List Rule) → map (λ (c : Counted). c.rule) (map (counte
 same_rules [] = refl
 same_rules (rule ∷ more) = ap (λ (rs : List Rule). rule ∷ rs) (same_rules more)
 
-pub returns : goal.returns
-returns c = ap (map (λ (d : Counted). d.rule)) c.new.ensures ∙ same_rules c.args.rules.now.items
+pub returns-clause-rules : goal.returns-clause-rules
+returns-clause-rules c = ap (map (λ (d : Counted). d.rule)) c.new.ensures ∙ same_rules c.args.rules.now.items
+
+pub returns-clause-none : goal.returns-clause-none
+returns-clause-none c = c.new.ensures
