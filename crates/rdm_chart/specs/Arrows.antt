@@ -1,38 +1,60 @@
--- How many arrows a chart has.
-use Rattle.std.specs.Prelude.{ℕ, List, [], ◌∷◌, length, Some, None}
-use Rattle.std.specs.List.{flat_map}
+-- The arrows of a trace: one for each message, in the order of its lines.
+use Rattle.std.specs.Prelude.{List, [], ◌∷◌, ◌++◌, Some, None, if◌then◌else◌}
+use Rattle.rdm_bus.specs.declared.fault.Fault.{Fault}
+use Rattle.rdm_bus.specs.declared.fault.Fault.TheVariants as fault
 use Rattle.rdm_trace.specs.declared.line.Line.{Line}
 use Rattle.rdm_trace.specs.declared.line.Line.TheVariants.{Send, Reply, Job, Heard, Found, Arrive, Panel, Message, Time, End}
-use Rattle.rdm_trace.specs.declared.text.TraceError.{TraceError}
-use Rattle.rdm_trace.specs.declared.text.TraceError.TheVariants as trace
-use Rattle.rdm_chart.specs.declared.charting.ChartError.{ChartError}
-use Rattle.rdm_chart.specs.declared.charting.ChartError.TheVariants as chart
-use Rattle.rdm_chart.specs.Pictures.{HasArrowCount}
+use Rattle.rdm_chart.specs.declared.arrow.Kind.{Kind}
+use Rattle.rdm_chart.specs.declared.arrow.Kind.TheVariants.{Whole, Altered, Lost}
 
--- An arrow is drawn of each request, also of one that is lost; of each reply that is sent; of the start of each job and of its
--- report; and of each change at the panel, also of one that is refused.
-abbrev pub arrows_of : Line → List Line
-arrows_of (Send bytes fault) = Send bytes fault ∷ []
-arrows_of (Reply (Some bytes)) = Reply (Some bytes) ∷ []
-arrows_of (Reply None) = []
-arrows_of (Job job) = Job job ∷ []
-arrows_of (Heard heard) = []
-arrows_of (Found uid) = []
-arrows_of (Arrive job outcome) = Arrive job outcome ∷ []
-arrows_of (Panel change refused) = Panel change refused ∷ []
-arrows_of (Message message) = []
-arrows_of (Time millis) = []
-arrows_of End = []
+-- the arrow of a request, by what goes wrong with its transaction
+abbrev pub request_kind : Fault → Kind
+request_kind fault.None = Whole
+request_kind fault.LostRequest = Lost
+request_kind fault.LostReply = Whole
+request_kind (fault.BadRequest slot raise) = Altered
+request_kind (fault.BadReply slot raise) = Whole
 
--- the lines of which an arrow is drawn
-abbrev pub with_arrow : List Line → List Line
-with_arrow lines = flat_map arrows_of lines
+-- the arrow of a reply
+abbrev pub reply_kind : Fault → Kind
+reply_kind fault.None = Whole
+reply_kind fault.LostRequest = Whole
+reply_kind fault.LostReply = Lost
+reply_kind (fault.BadRequest slot raise) = Whole
+reply_kind (fault.BadReply slot raise) = Altered
 
--- The text is that of a painting with one arrow for each of them.
-abbrev pub HasArrows : List Line → List ℕ → Type 0
-HasArrows lines text = HasArrowCount (length (with_arrow lines)) text
+-- The arrow of a line, by what goes wrong with the transaction that is under way: of each request, of each reply that is sent, of the
+-- start of each job and of its report, and of each change at the panel. Nothing else has one.
+abbrev pub kinds_of : Fault → Line → List Kind
+kinds_of fault (Send bytes own) = request_kind own ∷ []
+kinds_of fault (Reply (Some bytes)) = reply_kind fault ∷ []
+kinds_of fault (Reply None) = []
+kinds_of fault (Job job) = Whole ∷ []
+kinds_of fault (Heard heard) = []
+kinds_of fault (Found uid) = []
+kinds_of fault (Arrive job outcome) = Whole ∷ []
+kinds_of fault (Panel change refused) = (if refused then Lost else Whole) ∷ []
+kinds_of fault (Message message) = []
+kinds_of fault (Time millis) = []
+kinds_of fault End = []
 
--- a line that is none of a trace is told by its number
-abbrev pub chart_error : TraceError → ChartError
-chart_error trace.OutOfMemory = chart.OutOfMemory
-chart_error (trace.Line number) = chart.Line number
+-- what goes wrong with the transaction that is under way behind a line: that of the last request
+abbrev pub fault_behind : Line → Fault → Fault
+fault_behind (Send bytes own) before = own
+fault_behind (Reply reply) before = before
+fault_behind (Job job) before = before
+fault_behind (Heard heard) before = before
+fault_behind (Found uid) before = before
+fault_behind (Arrive job outcome) before = before
+fault_behind (Panel change refused) before = before
+fault_behind (Message message) before = before
+fault_behind (Time millis) before = before
+fault_behind End before = before
+
+abbrev pub kinds_behind : Fault → List Line → List Kind
+kinds_behind fault [] = []
+kinds_behind fault (line ∷ lines) = kinds_of fault line ++ kinds_behind (fault_behind line fault) lines
+
+-- the arrows of a trace, before whose first request nothing goes wrong
+abbrev pub kinds_said : List Line → List Kind
+kinds_said lines = kinds_behind fault.None lines

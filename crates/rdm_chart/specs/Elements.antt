@@ -1,6 +1,8 @@
 -- The text of the elements of a picture (XML 1.0, fifth edition, section 3.1).
-use Rattle.std.specs.Prelude.{ℕ, List, ◌++◌, length, ◌==◌, if◌then◌else◌, chars, codes, string_bytes}
-use Rattle.std.specs.List.{flat_map}
+use Rattle.std.specs.Prelude.{ℕ, ◌≡◌, Bool, true, not, List, [], ◌∷◌, ◌++◌, length, map, ◌==◌, ◌||◌, ◌&&◌, if◌then◌else◌, chars, codes, string_bytes}
+use Rattle.std.specs.List.{flat_map, list_any, AllByRecursion}
+use Rattle.std.specs.Str.{bytes_eq}
+use Rattle.rdm_frame.specs.Digits.{within}
 use Rattle.rdm_chart.specs.declared.element.Tag.{Tag}
 use Rattle.rdm_chart.specs.declared.element.Tag.TheVariants as tag
 use Rattle.rdm_chart.specs.declared.element.Key.{Key}
@@ -32,6 +34,22 @@ key_name key.Width = codes "width"
 key_name key.Height = codes "height"
 key_name key.Radius = codes "rx"
 key_name key.Way = codes "d"
+
+-- no name stands twice
+abbrev pub is_once : List (List ℕ) → Bool
+is_once [] = true
+is_once (name ∷ names) = not (list_any (bytes_eq name) names) && is_once names
+
+-- No attribute stands twice in a tag ("Unique Att Spec").
+abbrev pub are_once : List Attribute → Bool
+are_once attributes = is_once (map (λ a. key_name a.key) attributes)
+
+-- letters, spaces and hyphens alone, which stand in markup as they are
+abbrev pub is_letter : ℕ → Bool
+is_letter b = within 0x61 b 0x7A || (b == 0x20) || (b == 0x2D)
+
+abbrev pub IsName : List ℕ → Type 0
+IsName name = AllByRecursion (λ b. is_letter b ≡ true) name
 
 -- a text as it stands in markup: each character as it is, or as a reference
 abbrev pub escaped : List ℕ → List ℕ

@@ -1,5 +1,8 @@
 pub mod Arrows
+pub mod Drawings
 pub mod Elements
+pub mod Errors
 pub mod Markup
 pub mod Pictures
+pub mod Reading
 pub mod Requests

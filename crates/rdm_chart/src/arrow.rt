@@ -1,7 +1,9 @@
 //! Arrows between lifelines.
 
-ghost use Rattle.std.specs.Prelude.{OnOk};
-ghost use Rattle.rdm_chart.specs.Pictures.{IsOneMore};
+ghost use Rattle.std.specs.Prelude.{◌≡◌, ◌++◌, ◌∷◌, [], OnOk};
+ghost use Rattle.rdm_chart.specs.Reading.{kind_named};
+ghost use Rattle.rdm_chart.specs.Elements.{IsName};
+ghost use Rattle.rdm_chart.specs.Drawings.{kind_of_passage, kinds_of_shafts};
 
 use crate::layout::{ABOVE_ARROW, ABOVE_CROSS, PADDING, Px, TIP_LENGTH};
 use crate::style::Class;
@@ -19,6 +21,40 @@ pub(crate) enum Passage {
     Lost,
     /// It arrives, and nothing is done.
     Refused,
+}
+
+/// How an arrow looks.
+#[derive(Clone, Copy)]
+pub(crate) enum Kind {
+    /// The message arrives as it was sent.
+    Whole,
+    /// It arrives with a slot altered.
+    Altered,
+    /// It doesn't arrive, or nothing is done.
+    Lost,
+}
+
+impl Kind {
+    /// The class of its shaft in the style sheet.
+    pub(crate) fn name(self) -> &'static str
+        ensures kind { kind_named result.now ≡ self ∷ [] }
+        ensures letters { IsName result.now }
+    {
+        match self {
+            Kind::Whole => "arrow",
+            Kind::Altered => "arrow altered",
+            Kind::Lost => "arrow lost",
+        }
+    }
+}
+
+/// The shaft of an arrow, which goes from left to right or back.
+#[derive(Clone, Copy)]
+pub(crate) struct Shaft {
+    pub(crate) kind: Kind,
+    pub(crate) from: Px,
+    pub(crate) to: Px,
+    pub(crate) y: Px,
 }
 
 /// A message on its way from one lifeline to another.
@@ -44,11 +80,22 @@ impl Arrow {
     }
 
     /// Draws the arrow at this height: its shaft, and what stands at its end.
-    pub(crate) fn draw(&self, shafts: &mut Svg, ends: &mut Svg, y: Px) -> Result<(), AllocError>
-        ensures { OnOk result (IsOneMore shafts.old shafts.new) }
+    pub(crate) fn draw(
+        &self,
+        shafts: &mut Vec<Shaft>,
+        ends: &mut Svg,
+        y: Px,
+    ) -> Result<(), AllocError>
+        ensures { OnOk result (kinds_of_shafts shafts.new.items
+            ≡ kinds_of_shafts shafts.old.items ++ kind_of_passage self.now.passage ∷ []) }
     {
-        let (end, looks) = self.shaft();
-        shafts.across(looks, self.from, end, y)?;
+        let end = self.shaft_end();
+        shafts.push(Shaft {
+            kind: self.kind(),
+            from: self.from,
+            to: end,
+            y,
+        })?;
         match self.passage {
             Passage::Whole => ends.tip(Class::Tip, self.to, y, self.goes_right()),
             Passage::Altered => ends.tip(Class::AlteredTip, self.to, y, self.goes_right()),
@@ -56,18 +103,25 @@ impl Arrow {
         }
     }
 
-    /// Where the shaft ends, and how it looks.
-    fn shaft(&self) -> (Px, Class) {
+    /// How the shaft looks.
+    fn kind(&self) -> Kind
+        ensures { result ≡ kind_of_passage self.now.passage }
+    {
+        match self.passage {
+            Passage::Whole => Kind::Whole,
+            Passage::Altered => Kind::Altered,
+            Passage::Lost | Passage::Refused => Kind::Lost,
+        }
+    }
+
+    /// Where the shaft ends.
+    fn shaft_end(&self) -> Px {
         match self.passage {
             // within the tip
-            Passage::Whole => (self.before_end(TIP_LENGTH), Class::Arrow),
-            Passage::Altered => (self.before_end(TIP_LENGTH), Class::Altered),
+            Passage::Whole | Passage::Altered => self.before_end(TIP_LENGTH),
             // after three fifths of the way
-            Passage::Lost => (
-                self.before_end(self.from.abs_diff(self.to) / 5 * 2),
-                Class::Lost,
-            ),
-            Passage::Refused => (self.before_end(PADDING), Class::Lost),
+            Passage::Lost => self.before_end(self.from.abs_diff(self.to) / 5 * 2),
+            Passage::Refused => self.before_end(PADDING),
         }
     }
 

@@ -1,10 +1,13 @@
 //! A trace as a picture.
 
-ghost use Rattle.std.specs.Prelude.{◌≡◌, ◌<◌, ◌≤◌, ℕ, length, IfOk};
+ghost use Rattle.std.specs.Prelude.{◌≡◌, ◌<◌, ◌≤◌, ℕ, IfOk};
 ghost use Rattle.rdm_trace.specs.Traces.{pieces_of, lines_said, AreWhole, IsFirstUnread};
 ghost use Rattle.rdm_chart.specs.Requests.{request_count};
-ghost use Rattle.rdm_chart.specs.Pictures.{IsDocument, HasArrowCount};
-ghost use Rattle.rdm_chart.specs.Arrows.{with_arrow, HasArrows, chart_error};
+ghost use Rattle.rdm_chart.specs.Pictures.{IsDocument};
+ghost use Rattle.rdm_chart.specs.Reading.{arrows_in};
+ghost use Rattle.rdm_chart.specs.Arrows.{kinds_said};
+ghost use Rattle.rdm_chart.specs.Drawings.{kinds_drawn};
+ghost use Rattle.rdm_chart.specs.Errors.{chart_error};
 ghost use Rattle.rdm_chart.specs.declared.charting.ChartError.TheVariants.{OutOfMemory, TooMany};
 
 use crate::cast::Cast;
@@ -40,7 +43,7 @@ pub const MOST_TRANSACTIONS: usize = 2000;
 /// comes after the last end of a line: if that isn't a line, but may begin one, it was cut off, and is left out.
 pub fn chart(alloc: Global, trace: &[u8], known: &Known<'_>) -> Result<Vec<u8>, ChartError>
     ensures document { IfOk result (λ svg. IsDocument svg.items) }
-    ensures arrows { IfOk result (λ svg. HasArrows (lines_said (pieces_of trace.now)) svg.items) }
+    ensures arrows { IfOk result (λ svg. arrows_in svg.items ≡ kinds_said (lines_said (pieces_of trace.now))) }
     ensures whole { IfOk result (λ _. AreWhole (pieces_of trace.now)) }
     ensures line { (number : ℕ) → result ≡ Err (ChartError.Line number) → IsFirstUnread (pieces_of trace.now) number }
     ensures few { IfOk result (λ _. request_count (pieces_of trace.now) ≤ 2000) }
@@ -59,7 +62,7 @@ pub fn chart(alloc: Global, trace: &[u8], known: &Known<'_>) -> Result<Vec<u8>, 
 /// The lines of a trace as a sequence chart: a document of SVG 1.1, in UTF-8. Fails only if memory is refused.
 pub fn chart_of(alloc: Global, lines: &[Line], known: &Known<'_>) -> Result<Vec<u8>, AllocError>
     ensures document { IfOk result (λ svg. IsDocument svg.items) }
-    ensures arrows { IfOk result (λ svg. HasArrows lines.now svg.items) }
+    ensures arrows { IfOk result (λ svg. arrows_in svg.items ≡ kinds_said lines.now) }
 {
     let drawing = drawn(alloc, lines, known)?;
     page_of(alloc, drawing)
@@ -68,7 +71,7 @@ pub fn chart_of(alloc: Global, lines: &[Line], known: &Known<'_>) -> Result<Vec<
 /// The document of what is drawn.
 fn page_of(alloc: Global, drawing: Drawing) -> Result<Vec<u8>, AllocError>
     ensures document { IfOk result (λ svg. IsDocument svg.items) }
-    ensures arrows { IfOk result (λ svg. HasArrowCount (length drawing.arrows.shapes.items) svg.items) }
+    ensures arrows { IfOk result (λ svg. arrows_in svg.items ≡ kinds_drawn drawing) }
 {
     let picture = Picture::of(alloc, drawing)?;
     Ok(picture.text(alloc)?.into_bytes())
@@ -76,7 +79,7 @@ fn page_of(alloc: Global, drawing: Drawing) -> Result<Vec<u8>, AllocError>
 
 /// What is drawn of lines.
 fn drawn(alloc: Global, lines: &[Line], known: &Known<'_>) -> Result<Drawing, AllocError>
-    ensures { IfOk result (λ drawing. length drawing.arrows.shapes.items ≡ length (with_arrow lines.now)) }
+    ensures { IfOk result (λ drawing. kinds_drawn drawing ≡ kinds_said lines.now) }
 {
     let cast = Cast::of(alloc, lines)?;
     let mut drawing = Drawing::new(alloc, cast)?;

@@ -1,10 +1,11 @@
 //! A chart that is being drawn, from the top downwards.
 
-ghost use Rattle.std.specs.Prelude.{◌≡◌, ◌+◌, [], length, OnOk, IfOk};
-ghost use Rattle.rdm_chart.specs.Arrows.{arrows_of};
-ghost use Rattle.rdm_chart.specs.Pictures.{IsOneMore};
+ghost use Rattle.std.specs.Prelude.{◌≡◌, ◌++◌, [], OnOk, IfOk};
+ghost use Rattle.rdm_bus.specs.declared.fault.Fault.TheVariants.{None as NoFault};
+ghost use Rattle.rdm_chart.specs.Arrows.{kinds_of, fault_behind};
+ghost use Rattle.rdm_chart.specs.Drawings.{kinds_drawn, kind_of_passage, IsStill, IsOneMore};
 
-use crate::arrow::Arrow;
+use crate::arrow::{Arrow, Shaft};
 use crate::cast::Cast;
 use crate::heads::draw_heads;
 use crate::layout::{
@@ -33,7 +34,7 @@ pub(crate) struct Drawing {
     /// What lies before them.
     pub(crate) front: Svg,
     /// The arrows, each without what stands at its end: that lies before the lifelines too.
-    pub(crate) arrows: Svg,
+    pub(crate) arrows: Vec<Shaft>,
     /// How far the chart reaches.
     pub(crate) y: Px,
     /// How far the lifelines reach, once they have ended.
@@ -63,7 +64,8 @@ pub(crate) struct Label<'a> {
 impl Drawing {
     /// The heads of those who take part.
     pub(crate) fn new(alloc: Global, cast: Cast) -> Result<Self, AllocError>
-        ensures { IfOk result (λ drawing. drawing.arrows.shapes.items ≡ []) }
+        ensures arrows { IfOk result (λ drawing. kinds_drawn drawing ≡ []) }
+        ensures fault { IfOk result (λ drawing. drawing.fault ≡ NoFault) }
     {
         let mut front = Svg::new(alloc);
         draw_heads(alloc, &mut front, &cast, TOP)?;
@@ -71,7 +73,7 @@ impl Drawing {
             cast,
             back: Svg::new(alloc),
             front,
-            arrows: Svg::new(alloc),
+            arrows: Vec::new(alloc),
             y: TOP + HEAD_HEIGHT + GAP,
             lives_to: None,
             transactions: 0,
@@ -91,8 +93,8 @@ impl Drawing {
         line: &Line,
         known: &Known<'_>,
     ) -> Result<(), AllocError>
-        ensures { OnOk result (length self.new.arrows.shapes.items
-            ≡ length self.old.arrows.shapes.items + length (arrows_of line.now)) }
+        ensures arrows { OnOk result (kinds_drawn self.new ≡ kinds_drawn self.old ++ kinds_of self.old.fault line.now) }
+        ensures fault { OnOk result (self.new.fault ≡ fault_behind line.now self.old.fault) }
     {
         match line {
             Line::Send { bytes, fault } => {
@@ -124,7 +126,7 @@ impl Drawing {
 
     /// Goes down by so much.
     pub(crate) fn skip(&mut self, height: Px)
-        ensures { self.new.arrows ≡ self.old.arrows }
+        ensures { IsStill self.old self.new }
     {
         self.y = self.y.saturating_add(height);
     }
@@ -136,7 +138,7 @@ impl Drawing {
         arrow: Arrow,
         label: Label<'_>,
     ) -> Result<(), AllocError>
-        ensures { OnOk result (IsOneMore self.old.arrows self.new.arrows) }
+        ensures { OnOk result (IsOneMore (kind_of_passage arrow.passage) self.old self.new) }
     {
         let left = arrow.left();
         let x = left.saturating_add(PADDING);
@@ -160,7 +162,7 @@ impl Drawing {
         x: Px,
         lines: &[String],
     ) -> Result<(), AllocError>
-        ensures { OnOk result (self.new.arrows ≡ self.old.arrows) }
+        ensures { OnOk result (IsStill self.old self.new) }
     {
         for line in lines {
             self.draw_text(class, x, line.as_str())?;
@@ -170,7 +172,7 @@ impl Drawing {
 
     /// Draws a line of text below what is drawn.
     pub(crate) fn draw_text(&mut self, class: Class, x: Px, words: &str) -> Result<(), AllocError>
-        ensures { OnOk result (self.new.arrows ≡ self.old.arrows) }
+        ensures { OnOk result (IsStill self.old self.new) }
     {
         self.front
             .text(class, x, self.y.saturating_add(BASE), words)?;

@@ -70,7 +70,11 @@ pub(crate) struct Element {
 
 impl Element {
     /// An element without attributes and text.
-    pub(crate) fn new(alloc: Global, tag: Tag) -> Self {
+    pub(crate) fn new(alloc: Global, tag: Tag) -> Self
+        ensures tag { result.tag ≡ tag }
+        ensures attributes { result.attributes.items ≡ [] }
+        ensures words { string_bytes result.words ≡ [] }
+    {
         Element {
             tag,
             attributes: Vec::new(alloc),
@@ -79,7 +83,11 @@ impl Element {
     }
 
     /// Adds an attribute.
-    pub(crate) fn say(&mut self, key: Key, value: String) -> Result<(), AllocError> {
+    pub(crate) fn say(&mut self, key: Key, value: String) -> Result<(), AllocError>
+        ensures tag { self.new.tag ≡ self.old.tag }
+        ensures attributes { OnOk result (self.new.attributes.items ≡ self.old.attributes.items ++ record { key = key; value = value } ∷ []) }
+        ensures words { self.new.words ≡ self.old.words }
+    {
         Ok(self.attributes.push(Attribute { key, value })?)
     }
 }

@@ -1,13 +1,17 @@
 //! The page around a chart.
 
-ghost use Rattle.std.specs.Prelude.{◌≡◌, IfOk, OnOk, length, string_bytes};
-ghost use Rattle.rdm_chart.specs.Pictures.{IsContentOf, HasArrowCount};
+ghost use Rattle.std.specs.Prelude.{◌≡◌, IfOk, OnOk, true, string_bytes};
+ghost use Rattle.rdm_chart.specs.Drawings.{kinds_of_shafts};
+ghost use Rattle.rdm_chart.specs.Elements.{are_once};
+ghost use Rattle.rdm_chart.specs.Pictures.{AreDrawn, IsDocument};
+ghost use Rattle.rdm_chart.specs.Reading.{arrows_in};
 
+use crate::arrow::Shaft;
 use crate::cast::Cast;
 use crate::drawing::Drawing;
 use crate::element::{Attribute, Element, Key, Tag, put_end_tag, put_tag_front};
 use crate::layout::{GAP, HEAD_HEIGHT, HEAD_WIDTH, MARGIN, Px, TITLE_Y, TOP};
-use crate::shape::{Area, Shape, TITLE_ID, put_shapes};
+use crate::shape::{Area, Shape, TITLE_ID, put_shafts, put_shapes};
 use crate::style::Class;
 use crate::svg::Svg;
 use std::alloc::{AllocError, Global};
@@ -21,7 +25,7 @@ pub(crate) struct Picture {
     /// What lies behind the lifelines.
     pub(crate) back: Svg,
     pub(crate) lives: Svg,
-    pub(crate) arrows: Svg,
+    pub(crate) arrows: Vec<Shaft>,
     /// What lies before the lifelines.
     pub(crate) front: Svg,
 }
@@ -29,7 +33,8 @@ pub(crate) struct Picture {
 impl Picture {
     /// The page of a chart.
     pub(crate) fn of(alloc: Global, drawing: Drawing) -> Result<Picture, AllocError>
-        ensures { IfOk result (λ picture. picture.arrows ≡ drawing.arrows) }
+        ensures arrows { IfOk result (λ picture. picture.arrows ≡ drawing.arrows) }
+        ensures once { IfOk result (λ picture. are_once picture.attributes.items ≡ true) }
     {
         let width = width_of(&drawing.cast);
         let height = drawing.y.saturating_add(MARGIN);
@@ -48,7 +53,8 @@ impl Picture {
 
     /// The document of the picture.
     pub(crate) fn text(&self, alloc: Global) -> Result<String, AllocError>
-        ensures { IfOk result (λ text. HasArrowCount (length self.now.arrows.shapes.items) (string_bytes text)) }
+        ensures document { are_once self.now.attributes.items ≡ true → IfOk result (λ text. IsDocument (string_bytes text)) }
+        ensures arrows { IfOk result (λ text. arrows_in (string_bytes text) ≡ kinds_of_shafts self.now.arrows.items) }
     {
         let mut text = String::new(alloc);
         put_tag_front(&mut text, Tag::Svg, self.attributes.as_slice())?;
@@ -61,12 +67,12 @@ impl Picture {
 
     /// Puts the elements of the picture.
     fn put_content(&self, text: &mut String, alloc: Global) -> Result<(), AllocError>
-        ensures { OnOk result (IsContentOf self.now (string_bytes text.old) (string_bytes text.new)) }
+        ensures { OnOk result (AreDrawn (kinds_of_shafts self.now.arrows.items) (string_bytes text.old) (string_bytes text.new)) }
     {
         put_shapes(text, alloc, self.ground.shapes.as_slice())?;
         put_shapes(text, alloc, self.back.shapes.as_slice())?;
         put_shapes(text, alloc, self.lives.shapes.as_slice())?;
-        put_shapes(text, alloc, self.arrows.shapes.as_slice())?;
+        put_shafts(text, alloc, self.arrows.as_slice())?;
         put_shapes(text, alloc, self.front.shapes.as_slice())?;
         Ok(())
     }
@@ -78,7 +84,9 @@ pub(crate) fn width_of(cast: &Cast) -> Px {
 }
 
 /// The attributes of the document.
-fn attributes_of(alloc: Global, width: Px, height: Px) -> Result<Vec<Attribute>, AllocError> {
+fn attributes_of(alloc: Global, width: Px, height: Px) -> Result<Vec<Attribute>, AllocError>
+    ensures { IfOk result (λ attributes. are_once attributes.items ≡ true) }
+{
     let mut svg = Element::new(alloc, Tag::Svg);
     let namespace = String::from_str(alloc, "http://www.w3.org/2000/svg")?;
     svg.say(Key::Namespace, namespace)?;

@@ -1,6 +1,7 @@
 //! The list of the messages that the controller recorded.
 
-ghost use Rattle.std.specs.Prelude.{◌≡◌, OnOk};
+ghost use Rattle.std.specs.Prelude.{OnOk};
+ghost use Rattle.rdm_chart.specs.Drawings.{IsStill};
 
 use crate::drawing::Drawing;
 use crate::layout::{BASE, GAP, MARGIN};
@@ -15,7 +16,7 @@ pub(crate) fn draw_message(
     alloc: Global,
     words: &str,
 ) -> Result<(), AllocError>
-    ensures { OnOk result (drawing.new.arrows ≡ drawing.old.arrows) }
+    ensures { OnOk result (IsStill drawing.old drawing.new) }
 {
     end_lives(drawing)?;
     drawing.listed = drawing.listed.saturating_add(1);
@@ -34,7 +35,7 @@ pub(crate) fn draw_message(
 
 /// Ends the lifelines, and writes what comes below them.
 fn end_lives(drawing: &mut Drawing) -> Result<(), AllocError>
-    ensures { OnOk result (drawing.new.arrows ≡ drawing.old.arrows) }
+    ensures { OnOk result (IsStill drawing.old drawing.new) }
 {
     if drawing.lives_to.is_some() {
         return Ok(());

@@ -1,9 +1,13 @@
 //! What is drawn, kept small: a trace has some ten shapes for each transaction. Each becomes an element only when the page is
 //! written.
 
-ghost use Rattle.std.specs.Prelude.{OnOk, string_bytes};
-ghost use Rattle.rdm_chart.specs.Pictures.{AreDrawn};
+ghost use Rattle.std.specs.Prelude.{[], ◌∷◌, IfOk, OnOk, string_bytes};
+ghost use Rattle.rdm_chart.specs.Elements.{IsName};
+ghost use Rattle.rdm_chart.specs.Reading.{kind_named};
+ghost use Rattle.rdm_chart.specs.Drawings.{kinds_of_shafts};
+ghost use Rattle.rdm_chart.specs.Pictures.{AreDrawn, IsDrawnAs};
 
+use crate::arrow::Shaft;
 use crate::element::{Element, Key, Tag, put_element};
 use crate::layout::{Px, TIP_LENGTH};
 use crate::style::{Class, STYLE};
@@ -67,7 +71,7 @@ pub(crate) fn put_shapes(
     alloc: Global,
     shapes: &[Shape],
 ) -> Result<(), AllocError>
-    ensures { OnOk result (AreDrawn shapes.now (string_bytes markup.old) (string_bytes markup.new)) }
+    ensures { OnOk result (AreDrawn [] (string_bytes markup.old) (string_bytes markup.new)) }
 {
     for shape in shapes {
         let element = shape.element(alloc)?;
@@ -76,9 +80,34 @@ pub(crate) fn put_shapes(
     Ok(())
 }
 
+/// Puts the shafts of arrows at the end of markup, in the same way.
+pub(crate) fn put_shafts(
+    markup: &mut String,
+    alloc: Global,
+    shafts: &[Shaft],
+) -> Result<(), AllocError>
+    ensures { OnOk result (AreDrawn (kinds_of_shafts shafts.now) (string_bytes markup.old) (string_bytes markup.new)) }
+{
+    for shaft in shafts {
+        put_shaft(markup, alloc, shaft)?;
+    }
+    Ok(())
+}
+
+fn put_shaft(markup: &mut String, alloc: Global, shaft: &Shaft) -> Result<(), AllocError>
+    ensures { OnOk result (AreDrawn (shaft.now.kind ∷ []) (string_bytes markup.old) (string_bytes markup.new)) }
+{
+    let Shaft { kind, from, to, y } = *shaft;
+    let element = path_of(alloc, kind.name(), Way::Across { from, to, y })?;
+    put_element(markup, &element)?;
+    Ok(())
+}
+
 impl Shape {
     /// Its element.
-    fn element(&self, alloc: Global) -> Result<Element, AllocError> {
+    fn element(&self, alloc: Global) -> Result<Element, AllocError>
+        ensures { IfOk result (λ element. IsDrawnAs [] element) }
+    {
         match self {
             Shape::Title(words) => title_of(alloc, words.as_str()),
             Shape::Style => style(alloc),
@@ -88,63 +117,66 @@ impl Shape {
                 area,
                 radius,
             } => rect_of(alloc, *class, *area, *radius),
-            Shape::Path { class, way } => path_of(alloc, *class, *way),
+            Shape::Path { class, way } => path_of(alloc, class.name(), *way),
         }
     }
 }
 
-fn title_of(alloc: Global, words: &str) -> Result<Element, AllocError> {
+fn title_of(alloc: Global, words: &str) -> Result<Element, AllocError>
+    ensures { IfOk result (λ element. IsDrawnAs [] element) }
+{
     let mut title = Element::new(alloc, Tag::Title);
     title.say(Key::Id, String::from_str(alloc, TITLE_ID)?)?;
     title.words.push_str(words)?;
     Ok(title)
 }
 
-fn style(alloc: Global) -> Result<Element, AllocError> {
+fn style(alloc: Global) -> Result<Element, AllocError>
+    ensures { IfOk result (λ element. IsDrawnAs [] element) }
+{
     let mut style = Element::new(alloc, Tag::Style);
     style.words.push_str(STYLE)?;
     Ok(style)
 }
 
-fn text_of(alloc: Global, class: Class, x: Px, y: Px, words: &str) -> Result<Element, AllocError> {
-    let mut text = element_of(alloc, Tag::Text, class)?;
+fn text_of(alloc: Global, class: Class, x: Px, y: Px, words: &str) -> Result<Element, AllocError>
+    ensures { IfOk result (λ element. IsDrawnAs [] element) }
+{
+    let mut text = Element::new(alloc, Tag::Text);
+    text.say(Key::Class, String::from_str(alloc, class.name())?)?;
     text.say(Key::X, format!(in alloc; "{x}")?)?;
     text.say(Key::Y, format!(in alloc; "{y}")?)?;
     text.words.push_str(words)?;
     Ok(text)
 }
 
-fn rect_of(alloc: Global, class: Class, area: Area, radius: Px) -> Result<Element, AllocError> {
-    let mut rect = element_of(alloc, Tag::Rect, class)?;
+fn rect_of(alloc: Global, class: Class, area: Area, radius: Px) -> Result<Element, AllocError>
+    ensures { IfOk result (λ element. IsDrawnAs [] element) }
+{
+    let mut rect = Element::new(alloc, Tag::Rect);
+    rect.say(Key::Class, String::from_str(alloc, class.name())?)?;
     let Area {
         x,
         y,
         width,
         height,
     } = area;
-    for (key, length) in [
-        (Key::X, x),
-        (Key::Y, y),
-        (Key::Width, width),
-        (Key::Height, height),
-        (Key::Radius, radius),
-    ] {
-        rect.say(key, format!(in alloc; "{length}")?)?;
-    }
+    rect.say(Key::X, format!(in alloc; "{x}")?)?;
+    rect.say(Key::Y, format!(in alloc; "{y}")?)?;
+    rect.say(Key::Width, format!(in alloc; "{width}")?)?;
+    rect.say(Key::Height, format!(in alloc; "{height}")?)?;
+    rect.say(Key::Radius, format!(in alloc; "{radius}")?)?;
     Ok(rect)
 }
 
-fn path_of(alloc: Global, class: Class, way: Way) -> Result<Element, AllocError> {
-    let mut path = element_of(alloc, Tag::Path, class)?;
+/// A line that goes this way, with this class.
+fn path_of(alloc: Global, class: &str, way: Way) -> Result<Element, AllocError>
+    ensures { IsName class.now → IfOk result (λ element. IsDrawnAs (kind_named class.now) element) }
+{
+    let mut path = Element::new(alloc, Tag::Path);
+    path.say(Key::Class, String::from_str(alloc, class)?)?;
     path.say(Key::Way, way.text(alloc)?)?;
     Ok(path)
-}
-
-/// An element that looks so.
-fn element_of(alloc: Global, tag: Tag, class: Class) -> Result<Element, AllocError> {
-    let mut element = Element::new(alloc, tag);
-    element.say(Key::Class, String::from_str(alloc, class.name())?)?;
-    Ok(element)
 }
 
 impl Way {

@@ -1,6 +1,10 @@
 //! The looks that things have, as classes of the style sheet.
 
-/// How an element looks.
+ghost use Rattle.std.specs.Prelude.{◌≡◌, []};
+ghost use Rattle.rdm_chart.specs.Reading.{kind_named};
+ghost use Rattle.rdm_chart.specs.Elements.{IsName};
+
+/// How an element looks that isn't an arrow.
 #[derive(Clone, Copy)]
 pub(crate) enum Class {
     /// The page itself.
@@ -28,14 +32,11 @@ pub(crate) enum Class {
     /// A remark, and one that ends where it is put.
     Note,
     NoteBefore,
-    /// An arrow, and its tip.
-    Arrow,
+    /// The tip of an arrow.
     Tip,
-    /// The arrow of what is altered on the way, and its tip.
-    Altered,
+    /// The tip of the arrow of what is altered on the way.
     AlteredTip,
-    /// The arrow of what is lost on the way, and the cross at its end.
-    Lost,
+    /// The cross at the end of the arrow of what is lost on the way.
     Cross,
     /// The tag of a recorded message, and the words in it.
     Tag,
@@ -44,7 +45,10 @@ pub(crate) enum Class {
 
 impl Class {
     /// Its name in the style sheet.
-    pub(crate) fn name(self) -> &'static str {
+    pub(crate) fn name(self) -> &'static str
+        ensures no_arrow { kind_named result.now ≡ [] }
+        ensures letters { IsName result.now }
+    {
         match self {
             Class::Page => "page",
             Class::Title => "title",
@@ -59,11 +63,8 @@ impl Class {
             Class::Words => "words",
             Class::Note => "note",
             Class::NoteBefore => "note before",
-            Class::Arrow => "arrow",
             Class::Tip => "tip",
-            Class::Altered => "arrow altered",
             Class::AlteredTip => "tip altered-tip",
-            Class::Lost => "arrow lost",
             Class::Cross => "cross",
             Class::Tag => "tag",
             Class::TagName => "tag-name",

@@ -1,8 +1,5 @@
 //! What is drawn, shape by shape.
 
-ghost use Rattle.std.specs.Prelude.{◌≡◌, [], OnOk};
-ghost use Rattle.rdm_chart.specs.Pictures.{IsOneMore};
-
 use crate::layout::Px;
 use crate::shape::{Area, Shape, Way};
 use crate::style::Class;
@@ -16,9 +13,7 @@ pub(crate) struct Svg {
 
 impl Svg {
     /// Nothing.
-    pub(crate) fn new(alloc: Global) -> Self
-        ensures { result.shapes.items ≡ [] }
-    {
+    pub(crate) fn new(alloc: Global) -> Self {
         Svg {
             shapes: Vec::new(alloc),
         }
@@ -52,9 +47,13 @@ impl Svg {
     }
 
     /// A line from left to right or back.
-    pub(crate) fn across(&mut self, class: Class, from: Px, to: Px, y: Px) -> Result<(), AllocError>
-        ensures { OnOk result (IsOneMore self.old self.new) }
-    {
+    pub(crate) fn across(
+        &mut self,
+        class: Class,
+        from: Px,
+        to: Px,
+        y: Px,
+    ) -> Result<(), AllocError> {
         self.path(class, Way::Across { from, to, y })
     }
 
@@ -80,9 +79,7 @@ impl Svg {
     }
 
     /// A line that goes this way.
-    fn path(&mut self, class: Class, way: Way) -> Result<(), AllocError>
-        ensures { OnOk result (IsOneMore self.old self.new) }
-    {
+    fn path(&mut self, class: Class, way: Way) -> Result<(), AllocError> {
         Ok(self.shapes.push(Shape::Path { class, way })?)
     }
 }

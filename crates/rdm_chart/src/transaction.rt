@@ -1,9 +1,9 @@
 //! Transactions on the bus: a request, its reply, and what the controller took this for.
 
-ghost use Rattle.std.specs.Prelude.{◌≡◌, ◌+◌, length, OnOk};
+ghost use Rattle.std.specs.Prelude.{◌≡◌, ◌++◌, ◌∷◌, [], OnOk};
 ghost use Rattle.rdm_trace.specs.declared.line.Line.TheVariants.{Reply};
-ghost use Rattle.rdm_chart.specs.Arrows.{arrows_of};
-ghost use Rattle.rdm_chart.specs.Pictures.{IsOneMore};
+ghost use Rattle.rdm_chart.specs.Arrows.{request_kind, kinds_of};
+ghost use Rattle.rdm_chart.specs.Drawings.{kinds_drawn, kind_of_passage, IsStill, IsOneMore};
 
 use crate::arrow::{Arrow, Passage};
 use crate::drawing::{Drawing, Label};
@@ -29,7 +29,8 @@ pub(crate) fn draw_request(
     fault: Fault,
     known: &Known<'_>,
 ) -> Result<(), AllocError>
-    ensures { OnOk result (IsOneMore drawing.old.arrows drawing.new.arrows) }
+    ensures arrows { OnOk result (kinds_drawn drawing.new ≡ kinds_drawn drawing.old ++ request_kind fault ∷ []) }
+    ensures fault { OnOk result (drawing.new.fault ≡ fault) }
 {
     begin_transaction(drawing, alloc)?;
     drawing.fault = fault;
@@ -55,7 +56,7 @@ fn draw_frame(
     class: Class,
     words: &str,
 ) -> Result<(), AllocError>
-    ensures { OnOk result (IsOneMore drawing.old.arrows drawing.new.arrows) }
+    ensures { OnOk result (IsOneMore (kind_of_passage arrow.passage) drawing.old drawing.new) }
 {
     let note = note_of(alloc, drawing.fault, arrow.passage)?;
     let note = note.as_str();
@@ -64,7 +65,7 @@ fn draw_frame(
 
 /// Draws a line above a transaction, and its number, counted from 0 as transaction numbers are.
 fn begin_transaction(drawing: &mut Drawing, alloc: Global) -> Result<(), AllocError>
-    ensures { OnOk result (drawing.new.arrows ≡ drawing.old.arrows) }
+    ensures { OnOk result (IsStill drawing.old drawing.new) }
 {
     let number = drawing.transactions;
     if number > 0 && number.is_multiple_of(HEADS_EVERY) {
@@ -86,7 +87,7 @@ fn begin_transaction(drawing: &mut Drawing, alloc: Global) -> Result<(), AllocEr
 
 /// Draws when a transaction happened, beside its number, if that is told.
 fn draw_time(drawing: &mut Drawing, alloc: Global, base: Px) -> Result<(), AllocError>
-    ensures { OnOk result (drawing.new.arrows ≡ drawing.old.arrows) }
+    ensures { OnOk result (IsStill drawing.old drawing.new) }
 {
     let Some(millis) = drawing.time else {
         return Ok(());
@@ -118,7 +119,8 @@ pub(crate) fn draw_reply(
     reply: &Option<Wire>,
     known: &Known<'_>,
 ) -> Result<(), AllocError>
-    ensures { OnOk result (length drawing.new.arrows.shapes.items ≡ length drawing.old.arrows.shapes.items + length (arrows_of (Reply reply.now))) }
+    ensures arrows { OnOk result (kinds_drawn drawing.new ≡ kinds_drawn drawing.old ++ kinds_of drawing.old.fault (Reply reply.now)) }
+    ensures fault { OnOk result (drawing.new.fault ≡ drawing.old.fault) }
 {
     let Some(bytes) = reply else {
         return draw_silence(drawing);
@@ -141,7 +143,7 @@ pub(crate) fn draw_reply(
 
 /// A remark that a device which heard the request doesn't reply.
 fn draw_silence(drawing: &mut Drawing) -> Result<(), AllocError>
-    ensures { OnOk result (drawing.new.arrows ≡ drawing.old.arrows) }
+    ensures { OnOk result (IsStill drawing.old drawing.new) }
 {
     drawing.has_room_beside = false;
     if drawing.fault == Fault::LostRequest {
@@ -160,7 +162,7 @@ pub(crate) fn draw_heard(
     before: &Before,
     heard: Option<Heard>,
 ) -> Result<(), AllocError>
-    ensures { OnOk result (drawing.new.arrows ≡ drawing.old.arrows) }
+    ensures { OnOk result (IsStill drawing.old drawing.new) }
 {
     match heard {
         Some(Heard::Message) => draw_recorded(drawing, alloc),
@@ -178,7 +180,7 @@ pub(crate) fn draw_heard(
 
 /// Draws a tag that says which message is recorded.
 fn draw_recorded(drawing: &mut Drawing, alloc: Global) -> Result<(), AllocError>
-    ensures { OnOk result (drawing.new.arrows ≡ drawing.old.arrows) }
+    ensures { OnOk result (IsStill drawing.old drawing.new) }
 {
     drawing.recorded = drawing.recorded.saturating_add(1);
     let number = drawing.recorded;
@@ -188,7 +190,7 @@ fn draw_recorded(drawing: &mut Drawing, alloc: Global) -> Result<(), AllocError>
 
 /// Draws which fixture the controller finds, at its side.
 pub(crate) fn draw_found(drawing: &mut Drawing, alloc: Global, uid: Uid) -> Result<(), AllocError>
-    ensures { OnOk result (drawing.new.arrows ≡ drawing.old.arrows) }
+    ensures { OnOk result (IsStill drawing.old drawing.new) }
 {
     draw_tag(drawing, "found")?;
     drawing.skip(GAP / 2);
@@ -198,7 +200,7 @@ pub(crate) fn draw_found(drawing: &mut Drawing, alloc: Global, uid: Uid) -> Resu
 
 /// Draws a tag with this name, beside what the controller hears.
 fn draw_tag(drawing: &mut Drawing, name: &str) -> Result<(), AllocError>
-    ensures { OnOk result (drawing.new.arrows ≡ drawing.old.arrows) }
+    ensures { OnOk result (IsStill drawing.old drawing.new) }
 {
     let area = Area {
         x: CONTROLLER_X - GAP - TAG_WIDTH,

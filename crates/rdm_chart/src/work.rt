@@ -1,7 +1,8 @@
 //! What happens between the responder and the rest of the fixture: jobs, their reports, and changes at its panel.
 
-ghost use Rattle.std.specs.Prelude.{OnOk};
-ghost use Rattle.rdm_chart.specs.Pictures.{IsOneMore};
+ghost use Rattle.std.specs.Prelude.{OnOk, if◌then◌else◌};
+ghost use Rattle.rdm_chart.specs.declared.arrow.Kind.TheVariants as kind;
+ghost use Rattle.rdm_chart.specs.Drawings.{kind_of_passage, IsOneMore};
 
 use crate::arrow::{Arrow, Passage};
 use crate::cast::Party;
@@ -13,7 +14,7 @@ use std::alloc::{AllocError, Global};
 
 /// Draws the start of a job, beside the reply to the command that starts it.
 pub(crate) fn draw_job(drawing: &mut Drawing, alloc: Global, job: JobName) -> Result<(), AllocError>
-    ensures { OnOk result (IsOneMore drawing.old.arrows drawing.new.arrows) }
+    ensures { OnOk result (IsOneMore kind.Whole drawing.old drawing.new) }
 {
     if drawing.has_room_beside {
         let height = GAP + LINE_HEIGHT + ABOVE_ARROW + BELOW_ARROW;
@@ -36,7 +37,7 @@ pub(crate) fn draw_report(
     job: JobName,
     words: &str,
 ) -> Result<(), AllocError>
-    ensures { OnOk result (IsOneMore drawing.old.arrows drawing.new.arrows) }
+    ensures { OnOk result (IsOneMore kind.Whole drawing.old drawing.new) }
 {
     let arrow = Arrow {
         from: drawing.cast.x_of(Party::Worker(job.worker)),
@@ -53,7 +54,7 @@ pub(crate) fn draw_change(
     refused: bool,
     words: &str,
 ) -> Result<(), AllocError>
-    ensures { OnOk result (IsOneMore drawing.old.arrows drawing.new.arrows) }
+    ensures { OnOk result (IsOneMore (if refused then kind.Lost else kind.Whole) drawing.old drawing.new) }
 {
     let passage = if refused {
         Passage::Refused
@@ -74,7 +75,7 @@ fn draw_words(
     arrow: Arrow,
     words: &str,
 ) -> Result<(), AllocError>
-    ensures { OnOk result (IsOneMore drawing.old.arrows drawing.new.arrows) }
+    ensures { OnOk result (IsOneMore (kind_of_passage arrow.passage) drawing.old drawing.new) }
 {
     let label = Label {
         class: Class::Words,

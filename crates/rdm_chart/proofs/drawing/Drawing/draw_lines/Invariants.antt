@@ -1,5 +1,5 @@
-use Rattle.std.proofs.Common.{◌≡◌}
+use Rattle.rdm_chart.specs.Drawings.{IsStill}
 use Rattle.rdm_chart.proofs.drawing.Drawing.draw_lines.Given as goal
 
 abbrev pub invariant-loop-line : goal.invariant-loop-line
-invariant-loop-line l = l.self.arrows ≡ l.fn.self.arrows
+invariant-loop-line l = IsStill l.fn.self l.self
