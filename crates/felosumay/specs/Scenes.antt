@@ -1,7 +1,5 @@
 -- On what a script is played.
-use Rattle.std.specs.Prelude.{◌≡◌, ℕ, List, Bool, Option, Some, None, codes, is_some}
-use Rattle.clap.specs.declared.parser.matches.ArgMatches.{ArgMatches}
-use Rattle.clap.specs.Matches.{found_of, first_value}
+use Rattle.std.specs.Prelude.{◌≡◌, ℕ, List, Option, Some, None}
 use Rattle.rdm_fixture.specs.declared.fixture.Fixture.{Fixture}
 use Rattle.rdm_fixture.specs.Describes.{Describes}
 use Rattle.rdm_outcomes.specs.Outcomes.{CanEnd}
@@ -24,10 +22,6 @@ scene_on fixture = record {
   second = λ job outcome. CanEnd fixture.outcomes.items job outcome;
   offers = λ number change. panel_change number ≡ Some change;
 }
-
--- whether the command line asks for the fixture of a file
-abbrev pub asks_for_fixture : ArgMatches → Bool
-asks_for_fixture asked = is_some (first_value (found_of asked) (codes "fixture"))
 
 -- The lines are those of a script that was played on the fixture that this file describes, or without a file on that of the
 -- demonstration.

@@ -1,8 +1,8 @@
 //! Fixtures: `felosumay fixture`, and the fixture that other subcommands are asked for.
 
-ghost use Rattle.std.specs.Prelude.{◌≡◌, IfOk, is_some};
+ghost use Rattle.std.specs.Prelude.{IfOk};
 ghost use Rattle.rdm_fixture.specs.Describes.{Describes};
-ghost use Rattle.felosumay.specs.Scenes.{asks_for_fixture};
+ghost use Rattle.felosumay.specs.Sources.{path_of, IsAskedFor};
 
 use crate::fault::Fault;
 use crate::host::Host;
@@ -86,7 +86,7 @@ impl<'a> FixtureFile<'a> {
         rt: H,
         asked: &ArgMatches<'a>,
     ) -> Result<Option<FixtureFile<'a>>, Fault<'a>>
-        ensures asked { IfOk result (λ file. is_some file ≡ asks_for_fixture asked.now) }
+        ensures asked { IfOk result (IsAskedFor (H.reads rt) asked.now) }
     {
         match asked.get_str(usage::FIXTURE) {
             Some(path) => Ok(Some(FixtureFile::read(rt, Source::named(Some(path)))?)),
@@ -100,7 +100,9 @@ impl<'a> FixtureFile<'a> {
     }
 
     /// Reads a file.
-    pub fn read<H: Host>(rt: H, source: Source<'a>) -> Result<FixtureFile<'a>, Fault<'a>> {
+    pub fn read<H: Host>(rt: H, source: Source<'a>) -> Result<FixtureFile<'a>, Fault<'a>>
+        ensures read { IfOk result (λ file. H.reads rt (path_of source.entry) file.bytes.items) }
+    {
         Ok(FixtureFile {
             name: source.name(),
             bytes: source.read(rt, MOST_BYTES)?,

@@ -1,11 +1,12 @@
 //! `felosumay play`: a script is played, and its trace printed, or its words, and drawn.
 
-ghost use Rattle.std.specs.Prelude.{◌≡◌, ℕ, List, IfOk, IfErr, OnOk, is_some};
+ghost use Rattle.std.specs.Prelude.{◌≡◌, ℕ, List, IfOk, IfErr, OnOk};
 ghost use Rattle.std.specs.Io.KnownBytes.{Appends};
 ghost use Rattle.rdm_script.specs.Playing.{IsPlayOf, NamesStopLine};
 ghost use Rattle.rdm_script.specs.Rules.{rules_of};
 ghost use Rattle.rdm_script.specs.declared.dialect.Spelling.TheVariants.{Friendly};
-ghost use Rattle.felosumay.specs.Scenes.{scene_on, asks_for_fixture, ArePlayed, IsPlayed};
+ghost use Rattle.felosumay.specs.Scenes.{scene_on, ArePlayed, IsPlayed};
+ghost use Rattle.felosumay.specs.Sources.{IsAskedFor};
 
 use crate::chart::draw;
 use crate::fault::Fault;
@@ -90,7 +91,7 @@ struct Setting<'a> {
 impl<'a> Setting<'a> {
     /// What the words of the command line ask for.
     fn asked_for<H: Host>(rt: H, asked: &ArgMatches<'a>) -> Result<Setting<'a>, Fault<'a>>
-        ensures file { IfOk result (λ setting. is_some setting.file ≡ asks_for_fixture asked.now) }
+        ensures file { IfOk result (λ setting. IsAskedFor (H.reads rt) asked.now setting.file) }
     {
         let file = FixtureFile::asked_for(rt, asked)?;
         let fixture = match &file {

@@ -1,11 +1,14 @@
 //! Where text comes from, and where it goes.
 
+ghost use Rattle.std.specs.Prelude.{◌≡◌, IfOk};
+ghost use Rattle.std.specs.Option.{option_map};
+ghost use Rattle.felosumay.specs.Sources.{path_of, path_named};
+
 use crate::fault::Fault;
 use crate::host::{Host, Speaker};
 use crate::usage;
 use clap::ArgMatches;
-use std::alloc::Global;
-use std::io::{Read, Write};
+use std::io::Write;
 use std::{fs, io};
 
 /// By what name messages tell of standard input.
@@ -24,7 +27,9 @@ pub enum Source<'a> {
 
 impl<'a> Source<'a> {
     /// What a word of the command line names: `-` and no word at all name standard input.
-    pub fn named(word: Option<&'a str>) -> Source<'a> {
+    pub fn named(word: Option<&'a str>) -> Source<'a>
+        ensures path { path_of result ≡ path_named (option_map (λ word. word.now) word.entry) }
+    {
         match word {
             None | Some("-") => Source::Input,
             Some(path) => Source::File(path),
@@ -40,22 +45,18 @@ impl<'a> Source<'a> {
     }
 
     /// All of its bytes. More of them than `most` are rejected.
-    pub fn read<H: Host>(self, rt: H, most: u64) -> Result<Vec<u8>, Fault<'a>> {
-        let mut bytes = Vec::new(rt.alloc());
+    pub fn read<H: Host>(self, rt: H, most: u64) -> Result<Vec<u8>, Fault<'a>>
+        ensures read { IfOk result (λ bytes. H.reads rt (path_of self.entry) bytes.items) }
+    {
         // One byte more is read, which shows that there are too many.
-        let limit = most.saturating_add(1);
-        let read = match self {
-            Source::Input => rt.reader().take(limit).read_to_end(&mut bytes),
-            Source::File(path) => match fs::open(&rt, path) {
-                Ok(file) => file.take(limit).read_to_end(&mut bytes),
-                Err(error) => Err(error),
-            },
+        let bytes = match rt.read_front(self, most.saturating_add(1)) {
+            Ok(bytes) => bytes,
+            Err(error) => return Err(Fault::Io(self.name(), error)),
         };
-        match read {
-            Ok(_) if bytes.len() as u64 > most => Err(Fault::TooLong(self.name(), most)),
-            Ok(_) => Ok(bytes),
-            Err(error) => Err(Fault::Io(self.name(), error)),
+        if bytes.len() as u64 > most {
+            return Err(Fault::TooLong(self.name(), most));
         }
+        Ok(bytes)
     }
 }
 
