@@ -3,6 +3,7 @@ pub mod FixtureWords
 pub mod Last
 pub mod Learning
 pub mod Lines
+pub mod Naming
 pub mod Plainness
 pub mod Says
 pub mod Telling

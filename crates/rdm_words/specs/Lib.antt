@@ -3,6 +3,7 @@ pub mod Fixed
 pub mod FixtureWords
 pub mod Known
 pub mod Learned
+pub mod Naming
 pub mod Plain
 pub mod Said
 pub mod Unescaping

@@ -1,5 +1,8 @@
 //! The words of a frame's header (E1.20 section 6.2).
 
+ghost use Rattle.std.specs.Prelude.{OnOk, string_bytes};
+ghost use Rattle.rdm_words.specs.Naming.{AddsNames, party_facts};
+
 use crate::data::known::Facts;
 use crate::data::own::put_parameter;
 use crate::data::times::put_tenths;
@@ -45,7 +48,9 @@ pub(crate) fn put_response(
 }
 
 /// From whom a frame is, and for whom: a device, or all of them (section 6.2.4).
-fn put_parties(text: &mut String, verb: &str, frame: &FrameView<'_>) -> Result<(), AllocError> {
+fn put_parties(text: &mut String, verb: &str, frame: &FrameView<'_>) -> Result<(), AllocError>
+    ensures { OnOk result (AddsNames (party_facts frame.now.src frame.now.dst) (string_bytes text.old) (string_bytes text.new)) }
+{
     let (source, uid) = (frame.src, frame.dst);
     write!(text, "{source} {verb} ")?;
     if uid == Uid::ALL {
