@@ -9,7 +9,7 @@ mod menu;
 mod queues;
 mod rows;
 
-use hand::hands;
+use hand::Hands;
 use menu::Menu;
 use rdm_bus::{Action, Command, Event, Fault, Want};
 use rdm_crew::{CrewStep, RunError, Setup, Trace, run};
@@ -77,7 +77,7 @@ struct Row {
 
 #[test]
 fn runs_end_with_these_traces(rt: HostRuntime) -> Result<(), Fail> {
-    for (row, told) in &TRACES {
+    for (row, told) in TRACES {
         ends_with(rt, rt.alloc(), row, *told)?;
     }
     Ok(())
@@ -94,7 +94,7 @@ where
 
 #[test]
 fn runs_end_with_these_refusals(rt: HostRuntime) -> Result<(), Fail> {
-    for (row, refusal) in &REFUSALS {
+    for (row, refusal) in REFUSALS {
         let ended = run_of(rt, rt.alloc(), row)?;
         assert_eq!(rt; ended.err(), Some(*refusal), "{}", row.name);
     }
@@ -114,12 +114,20 @@ fn a_thousand_runs_come_to_an_end(rt: HostRuntime) -> Result<(), Fail> {
 #[test]
 fn a_report_is_drawn_before_the_poll(rt: HostRuntime) -> Result<(), Fail> {
     for _ in 0..1_000 {
-        let trace = run_of(rt, rt.alloc(), &DRAWN_AND_POLLED)??;
-        if was_fetched(&trace) {
+        if is_drawn_first(rt, rt.alloc())? {
             return Ok(());
         }
     }
     Err(Fail::new("each poll came before its report"))
+}
+
+/// Whether the report is there in one run.
+fn is_drawn_first<R>(rt: R, alloc: Global) -> Result<bool, Fail>
+where
+    R: Threads + Wait + Copy + Send + 'static,
+{
+    let trace = run_of(rt, alloc, &DRAWN_AND_POLLED)??;
+    Ok(was_fetched(&trace))
 }
 
 /// The run of a row. Nobody is at the fixture's menu.
@@ -128,9 +136,25 @@ where
     R: Threads + Wait + Copy + Send + 'static,
 {
     let steps = steps_of(alloc, row.acts)?;
-    let (first, second) = hands(alloc, row.gate)?;
-    let panel = Menu { changes: 0 };
-    Ok(run(rt, alloc, setup_of(row), &steps, first, second, panel))
+    let hands = Hands::new(alloc, row.gate)?;
+    Ok(play(rt, alloc, setup_of(row), &steps, hands, 0))
+}
+
+/// Plays steps with these parts, while so many changes are made at the fixture's menu.
+fn play<R>(
+    rt: R,
+    alloc: Global,
+    setup: Setup,
+    steps: &[CrewStep],
+    hands: Hands,
+    changes: u32,
+) -> Result<Trace, RunError>
+where
+    R: Threads + Wait + Copy + Send + 'static,
+    requires { HaveFaults steps.now }
+{
+    let Hands { first, second } = hands;
+    run(rt, alloc, setup, steps, first, second, Menu { changes })
 }
 
 /// The setup of a row.
@@ -188,11 +212,9 @@ fn command(action: Action, pid: u16, data: &[u8]) -> Result<Command, Fail> {
 
 /// The trace of a row tells this.
 fn tells(rt: &impl Abort, alloc: Global, row: &Row, trace: &Trace, told: Told) -> Result<(), Fail> {
-    let name = row.name;
-    assert_eq!(rt; trace.events().len(), told.events, "{name}");
     are_reported(rt, alloc, row, trace, 0, told.first)?;
     are_reported(rt, alloc, row, trace, 1, told.second)?;
-    were_handed_over(rt, trace, told);
+    were_handed_over(rt, row, trace, told);
     are_collected(rt, trace, told.collected);
     Ok(())
 }
@@ -229,26 +251,27 @@ fn arrived(
     Ok(reports)
 }
 
-/// Over the report lane came these reports of each worker, and the mark with which it closed.
-fn were_handed_over(rt: &impl Abort, trace: &Trace, told: Told) {
+/// So many events there are, and over the report lane came these reports of each worker, and the mark with which it closed.
+fn were_handed_over(rt: &impl Abort, row: &Row, trace: &Trace, told: Told) {
     let reports = trace.reports();
-    assert_eq!(rt; reports.posted(0).len(), told.first.len());
-    assert_eq!(rt; reports.posted(1).len(), told.second.len());
-    assert_eq!(rt;
-        reports.taken().len(),
-        told.first.len() + told.second.len() + 2
-    );
+    let (first, second) = (reports.posted(0).len(), reports.posted(1).len());
+    let counts = (trace.events().len(), first, second, reports.taken().len());
+    let (first, second) = (told.first.len(), told.second.len());
+    let expected = (told.events, first, second, first + second + 2);
+    assert_eq!(rt; counts, expected, "{}", row.name);
 }
 
 /// The messages of these classes and PIDs were collected, of the root and without data.
 fn are_collected(rt: &impl Abort, trace: &Trace, collected: &[(u8, u16)]) {
     assert_eq!(rt; trace.recorded().len(), collected.len());
     for (message, (class, pid)) in trace.recorded().iter().zip(collected) {
-        assert_eq!(rt;
-            (message.class, message.pid, message.sub),
-            (*class, *pid, 0)
+        let told = (
+            message.class,
+            message.pid,
+            message.sub,
+            message.body.as_slice().len(),
         );
-        assert!(rt; message.body.as_slice().is_empty());
+        assert_eq!(rt; told, (*class, *pid, 0, 0));
     }
 }
 

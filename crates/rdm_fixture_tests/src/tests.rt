@@ -33,12 +33,26 @@ fn told(alloc: Global, text: &str) -> Result<String, Fail> {
     }
 }
 
-/// Reads the rows: keys before the least, tables after it, and what is told.
-fn try_rows(rt: &(impl Abort + AllocGlobal), rows: &[(&str, &str, &str)]) -> Result<(), Fail> {
+/// Keys before the least, tables after it, and what is told.
+type Row = (&'static str, &'static str, &'static str);
+
+/// Reads the rows.
+fn try_rows(rt: &(impl Abort + AllocGlobal), rows: &[Row]) -> Result<(), Fail> {
     for (before, after, expected) in rows {
-        let text = format!(in rt.alloc(); "{before}\n{LEAST}{after}")?;
-        let told = told(rt.alloc(), text.as_str())?;
-        assert!(rt; told.as_str() == *expected, "{before} {after}: {told}");
+        try_row(rt, before, after, expected)?;
     }
+    Ok(())
+}
+
+/// This is told of a text with keys before the least and tables after it.
+fn try_row(
+    rt: &(impl Abort + AllocGlobal),
+    before: &str,
+    after: &str,
+    expected: &str,
+) -> Result<(), Fail> {
+    let text = format!(in rt.alloc(); "{before}\n{LEAST}{after}")?;
+    let told = told(rt.alloc(), text.as_str())?;
+    assert!(rt; told.as_str() == expected, "{before} {after}: {told}");
     Ok(())
 }

@@ -30,7 +30,7 @@ enum Act {
 }
 
 /// A lamp is switched on, the reply to the first poll for its message is lost, and the second gives it. Then two statuses.
-const TURNS: [Turn; 6] = [
+const TURNS: &[Turn] = &[
     Turn {
         step: Act::Lamp,
         sent: &[0, 1, 0, 0, 0, 0x30, 0x04, 0x03, 1, 1, 0x04, 0x01],
@@ -73,13 +73,13 @@ pub(crate) fn play(alloc: Global) -> Result<Tally, Fault> {
 
 /// All turns are played.
 fn plays_all(system: &mut System, tally: &mut Tally) -> Result<(), Fault> {
-    for turn in &TURNS {
+    for turn in TURNS {
         check(is_reserved(system), "a command for QUEUED_MESSAGE")?;
         plays_turn(system, turn, tally)?;
         check(has_happened(system, turn), "other bytes")?;
     }
-    check(system.trace().len() == TURNS.len(), "other events")?;
-    check(system.recorded().len() == 3, "other messages")
+    let told = (system.trace().len(), system.recorded().len());
+    check(told == (TURNS.len(), 3), "other events or messages")
 }
 
 /// Whether a command for QUEUED_MESSAGE is told as reserved.

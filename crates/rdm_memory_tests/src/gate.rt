@@ -24,15 +24,17 @@ impl Gate {
     pub(crate) fn pair(alloc: Global) -> Result<(Gate, Gate), AllocError> {
         let first = Arc::new(alloc, AtomicBool::new(false))?;
         let second = Arc::new(alloc, AtomicBool::new(false))?;
-        let front = Gate {
-            mine: Arc::try_clone(&first)?,
-            other: Arc::try_clone(&second)?,
-        };
-        let back = Gate {
-            mine: second,
-            other: first,
-        };
-        Ok((front, back))
+        Ok((Gate::new(&first, &second)?, Gate::new(&second, &first)?))
+    }
+
+    fn new(
+        mine: &Arc<AtomicBool, Global>,
+        other: &Arc<AtomicBool, Global>,
+    ) -> Result<Gate, AllocError> {
+        Ok(Gate {
+            mine: Arc::try_clone(mine)?,
+            other: Arc::try_clone(other)?,
+        })
     }
 
     /// Says that this part is there, and waits for the other, for a time.

@@ -159,7 +159,7 @@ fn no_responder(alloc: Global, uid: Uid, subs: u16, queue_size: u16) -> Option<N
 }
 
 /// Requests for QUEUED_MESSAGE, each with its sub-device and data, and the replies from the transaction number on.
-const QUEUED: [(u16, &[u8], &[u8]); 4] = [
+const QUEUED: &[(u16, &[u8], &[u8])] = &[
     // No such status type.
     (
         0,
@@ -181,7 +181,7 @@ const QUEUED: [(u16, &[u8], &[u8]); 4] = [
 /// The responder answers each of them so.
 fn answers(responder: &mut Responder) -> Result<(), Fault> {
     let mut tn = 0_u8;
-    for (sub, data, expected) in &QUEUED {
+    for (sub, data, expected) in QUEUED {
         let body = Body::from_slice(data).ok_or(OTHER)?;
         let holds = answers_one(responder, tn, *sub, body, expected);
         check(holds, "another reply")?;

@@ -92,7 +92,7 @@ impl Write for Sheet {
 }
 
 /// Scripts, how each ends, and what is written of it.
-const SCRIPTS: [(&str, Result<(), ProgramError>, &str); 5] = [
+const SCRIPTS: &[(&str, Result<(), ProgramError>, &str)] = &[
     (LAMP, Ok(()), TRACE),
     ("", Ok(()), "end\n"),
     (
@@ -114,7 +114,7 @@ where
     T: Threads + Wait + Copy + Send + 'static,
 {
     let mut tally = Tally::NONE;
-    for (script, end, written) in &SCRIPTS {
+    for (script, end, written) in SCRIPTS {
         plays_one(
             rt,
             alloc,

@@ -56,20 +56,34 @@ fn passes<R: Wait>(rt: &R, alloc: Global) -> Result<Met, Fault> {
 
 /// Items go through a lane of one post, one by one, and then its mark. The lists of both ends have them all.
 fn one_post<R: Wait>(rt: &R, alloc: Global, met: &mut Met) -> Result<(), Fault> {
-    let mut closed = room_for_two(alloc, met)?;
     let (mut take, mut post) = lane_of_one(alloc, met)?;
     all_pass(rt, &mut take, &mut post, met)?;
-    puts(rt, &mut post, 9, Err(Spent(9)), met)?;
-    closed.push_reserved(closes(rt, post)?);
+    let post = closes(rt, post)?;
     gives(rt, &mut take, &[Mark { producer: 0 }, Closed], met)?;
-    let Ok(settled) = settle_up(rt, take, closed) else {
-        return Err(OTHER);
-    };
-    check(settled.posted(0) == ITEMS.as_slice(), "other items")?;
-    check(settled.taken().len() == 10, "other entries")
+    settles_one(rt, alloc, take, post, met)
 }
 
-/// Each item is put and taken.
+/// The lists of both ends have each item once, and the mark.
+fn settles_one<R: Wait>(
+    rt: &R,
+    alloc: Global,
+    take: Take<u32>,
+    post: ClosedPost<u32>,
+    met: &mut Met,
+) -> Result<(), Fault>
+    requires lane { post.lane ≡ take.lane }
+    requires posts { (take.posts ≡ 1) × (post.producer ≡ 0) }
+{
+    let mut posts = room_for_two(alloc, met)?;
+    posts.push_reserved(post);
+    let Ok(settled) = settle_up(rt, take, posts) else {
+        return Err(OTHER);
+    };
+    let told = (settled.posted(0), settled.taken().len());
+    check(told == (ITEMS.as_slice(), 10), "other items or entries")
+}
+
+/// Each item is put and taken, and then no further one can be put.
 fn all_pass<R: Wait>(
     rt: &R,
     take: &mut Take<u32>,
@@ -88,7 +102,7 @@ fn all_pass<R: Wait>(
         };
         gives(rt, take, &[taken], met)?;
     }
-    Ok(())
+    puts(rt, post, 9, Err(Spent(9)), met)
 }
 
 /// What the taking end of the lane of two posts gives, until it is closed.
@@ -115,16 +129,31 @@ const TURNS: [Taken<u32>; 5] = [
 /// Two posts fill a lane with room for two, which then takes no further item and no mark. Post 1 closes first, and post 0 puts
 /// its second item after that.
 fn two_posts<R: Wait>(rt: &R, alloc: Global, met: &mut Met) -> Result<(), Fault> {
-    let room = room_for_two(alloc, met)?;
     let (mut take, mut zero, mut one) = lane_of_two(alloc, met)?;
     fill(rt, &mut zero, &mut one, met)?;
     let one = stays_open(rt, one)?;
     gives(rt, &mut take, &TURNS[..1], met)?;
     let one = closes(rt, one)?;
+    one_is_closed(rt, alloc, take, zero, one, met)
+}
+
+/// Post 1 is closed. Post 0 puts its last item, and closes.
+fn one_is_closed<R: Wait>(
+    rt: &R,
+    alloc: Global,
+    take: Take<u32>,
+    zero: Post<u32>,
+    one: ClosedPost<u32>,
+    met: &mut Met,
+) -> Result<(), Fault>
+    requires lanes { (zero.lane ≡ take.lane) × (one.lane ≡ take.lane) }
+    requires posts { (take.posts ≡ 2) × (zero.producer ≡ 0) × (one.producer ≡ 1) }
+{
+    let (mut take, mut zero) = (take, zero);
     goes_on(rt, &mut take, &mut zero, met)?;
     let zero = closes(rt, zero)?;
     ends(rt, &mut take, met)?;
-    settles(rt, room, take, zero, one)
+    settles(rt, alloc, take, zero, one, met)
 }
 
 /// Both posts fill the lane.
@@ -142,7 +171,7 @@ fn fill<R: Wait>(
     puts(rt, zero, Y, Err(Full(Y)), met)
 }
 
-/// Post 1 is closed, and post 0 puts its last item.
+/// The first item of post 1 is taken, post 0 puts its last, and all are taken.
 fn goes_on<R: Wait>(
     rt: &R,
     take: &mut Take<u32>,
@@ -170,24 +199,24 @@ fn ends<R: Wait>(rt: &R, take: &mut Take<u32>, met: &mut Met) -> Result<(), Faul
 /// The lists of both ends have each item and each mark once.
 fn settles<R: Wait>(
     rt: &R,
-    room: Vec<ClosedPost<u32>>,
+    alloc: Global,
     take: Take<u32>,
     zero: ClosedPost<u32>,
     one: ClosedPost<u32>,
+    met: &mut Met,
 ) -> Result<(), Fault>
-    requires room { (room.items ≡ []) × (2 ≤ vec_capacity room) }
     requires lanes { (zero.lane ≡ take.lane) × (one.lane ≡ take.lane) }
     requires posts { (take.posts ≡ 2) × (zero.producer ≡ 0) × (one.producer ≡ 1) }
 {
-    let mut posts = room;
+    let mut posts = room_for_two(alloc, met)?;
     posts.push_reserved(zero);
     posts.push_reserved(one);
     let Ok(settled) = settle_up(rt, take, posts) else {
         return Err(OTHER);
     };
-    check(settled.taken() == TURNS.as_slice(), "other entries")?;
-    check(settled.posted(0) == [X, Y].as_slice(), "items of post 0")?;
-    check(settled.posted(1) == [Z].as_slice(), "items of post 1")
+    let told = (settled.taken(), settled.posted(0), settled.posted(1));
+    let expected = (TURNS.as_slice(), [X, Y].as_slice(), [Z].as_slice());
+    check(told == expected, "other items or entries")
 }
 
 /// Room for two closed posts.

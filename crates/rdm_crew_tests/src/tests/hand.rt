@@ -75,6 +75,18 @@ pub(super) struct Gate {
 }
 
 impl Gate {
+    fn new(
+        mine: &Arc<AtomicBool, Global>,
+        other: &Arc<AtomicBool, Global>,
+        turns: u32,
+    ) -> Result<Gate, AllocError> {
+        Ok(Gate {
+            mine: Arc::try_clone(mine)?,
+            other: Arc::try_clone(other)?,
+            turns,
+        })
+    }
+
     /// Says that it is there, and fails.
     fn comes(&self) -> Outcome
         ensures { ends Verb.Get result ≡ true }
@@ -98,22 +110,46 @@ impl Gate {
     }
 }
 
-/// The parts of both workers. They wait for each other where turns are given, so many of them.
-pub(super) fn hands(alloc: Global, turns: Option<u32>) -> Result<(Hand, Hand), AllocError> {
-    let Some(turns) = turns else {
-        return Ok((Hand::Quick, Hand::Quick));
-    };
-    let first = Arc::new(alloc, AtomicBool::new(false))?;
-    let second = Arc::new(alloc, AtomicBool::new(false))?;
-    let front = Gate {
-        mine: Arc::try_clone(&first)?,
-        other: Arc::try_clone(&second)?,
-        turns,
-    };
-    let back = Gate {
-        mine: second,
-        other: first,
-        turns,
-    };
-    Ok((Hand::Gate(front), Hand::Gate(back)))
+/// The parts of both workers.
+#[derive(Drop)]
+pub(super) struct Hands {
+    pub(super) first: Hand,
+    pub(super) second: Hand,
+}
+
+impl Hands {
+    /// They wait for each other where turns are given, so many of them.
+    pub(super) fn new(alloc: Global, turns: Option<u32>) -> Result<Hands, AllocError> {
+        match turns {
+            Some(turns) => {
+                let first = Arc::new(alloc, AtomicBool::new(false))?;
+                let second = Arc::new(alloc, AtomicBool::new(false))?;
+                Hands::gates(&first, &second, turns)
+            }
+            None => Ok(Hands {
+                first: Hand::Quick,
+                second: Hand::Quick,
+            }),
+        }
+    }
+
+    /// They say that they are there by these, each by its own.
+    fn gates(
+        first: &Arc<AtomicBool, Global>,
+        second: &Arc<AtomicBool, Global>,
+        turns: u32,
+    ) -> Result<Hands, AllocError> {
+        Ok(Hands {
+            first: Hand::Gate(Gate::new(first, second, turns)?),
+            second: Hand::Gate(Gate::new(second, first, turns)?),
+        })
+    }
+
+    /// Both count their jobs there.
+    pub(super) fn counting(count: &Arc<AtomicU32, Global>) -> Result<Hands, AllocError> {
+        Ok(Hands {
+            first: Hand::Counts(Arc::try_clone(count)?),
+            second: Hand::Counts(Arc::try_clone(count)?),
+        })
+    }
 }

@@ -1,11 +1,10 @@
 //! Each accepted job is done once, and a run that was refused has ended its threads: no contract sees a thread.
 
-use super::hand::Hand;
-use super::menu::Menu;
+use super::hand::Hands;
 use super::rows::{LAMP_ON, PLAIN, QUEUED_MESSAGE};
-use super::{Act, Row, setup_of, steps_of};
+use super::{Act, Row, play, setup_of, steps_of};
 use rdm_bus::Action;
-use rdm_crew::{RunError, run};
+use rdm_crew::RunError;
 use std::alloc::Global;
 use std::sync::atomic::{AtomicU32, Ordering};
 use std::sync::{Arc, Wait};
@@ -18,7 +17,7 @@ const SELFTEST: Act = Act::Ask(Action::Set, 0x1020, &[1]);
 const RESERVED: Act = Act::Ask(Action::Get, QUEUED_MESSAGE, &[]);
 
 /// Runs, how each is refused, and how many jobs were accepted before.
-const REFUSED: [(Row, Option<RunError>, u32); 6] = [
+const REFUSED: &[(Row, Option<RunError>, u32)] = &[
     // Every job is done once, also where it failed.
     (
         Row {
@@ -81,15 +80,26 @@ const REFUSED: [(Row, Option<RunError>, u32); 6] = [
 
 #[test]
 fn jobs_are_done_once_and_threads_are_joined(rt: HostRuntime) -> Result<(), Fail> {
-    for (row, refusal, jobs) in &REFUSED {
-        let count: Arc<AtomicU32, Global> = Arc::new(rt.alloc(), AtomicU32::new(0))?;
-        let ended = refusal_of(rt, rt.alloc(), row, &count)?;
-        assert_eq!(rt; ended, *refusal, "{jobs}");
-        assert_eq!(rt; count.load(Ordering::SeqCst), *jobs);
-        // Both parts are gone.
-        assert_eq!(rt; Arc::strong_count(&count), 1, "{jobs}");
+    for (row, refusal, jobs) in REFUSED {
+        let (ended, count, owners) = end_of(rt, rt.alloc(), row)?;
+        // Both parts are gone: the test alone has the count.
+        assert_eq!(rt; (ended, count, owners), (*refusal, *jobs, 1), "{jobs}");
     }
     Ok(())
+}
+
+/// How a run is refused, if it is, how many jobs its parts have done, and how many have the count of them.
+fn end_of<R>(rt: R, alloc: Global, row: &Row) -> Result<(Option<RunError>, u32, usize), Fail>
+where
+    R: Threads + Wait + Copy + Send + 'static,
+{
+    let count: Arc<AtomicU32, Global> = Arc::new(alloc, AtomicU32::new(0))?;
+    let ended = refusal_of(rt, alloc, row, &count)?;
+    Ok((
+        ended,
+        count.load(Ordering::SeqCst),
+        Arc::strong_count(&count),
+    ))
 }
 
 /// How a run is refused, if it is. Both parts count their jobs.
@@ -102,9 +112,7 @@ fn refusal_of<R>(
 where
     R: Threads + Wait + Copy + Send + 'static,
 {
-    let first = Hand::Counts(Arc::try_clone(count)?);
-    let second = Hand::Counts(Arc::try_clone(count)?);
     let steps = steps_of(alloc, row.acts)?;
-    let panel = Menu { changes: 1 };
-    Ok(run(rt, alloc, setup_of(row), &steps, first, second, panel).err())
+    let hands = Hands::counting(count)?;
+    Ok(play(rt, alloc, setup_of(row), &steps, hands, 1).err())
 }

@@ -4,10 +4,10 @@ ghost use Rattle.std.specs.Prelude.{◌≡◌, ◌+◌, ◌%◌, IfOk};
 ghost use Rattle.rdm_params.specs.declared.panel.Change.TheVariants.{Start};
 ghost use Rattle.rdm_crew.specs.RunTrace.{HaveFaults};
 
-use super::hand::hands;
-use super::{CONTROLLER, DEVICE};
+use super::hand::Hands;
+use super::{CONTROLLER, DEVICE, play};
 use rdm_bus::{Event, Fault, Want};
-use rdm_crew::{CrewStep, Panel, RunError, Setup, Trace, run};
+use rdm_crew::{CrewStep, Panel, RunError, Setup, Trace};
 use rdm_params::{Change, Profile};
 use std::alloc::{AllocError, Global};
 use std::process::Abort;
@@ -47,7 +47,7 @@ fn change_of(number: u32) -> Change
 /// is played alone, and how many happen.
 type Row = (u32, u16, u32, u32, u32);
 
-const ROWS: [Row; 6] = [
+const ROWS: &[Row] = &[
     // Nobody changes anything.
     (0, 8, 0, 2, 0),
     // As many changes as may be offered, and one more, at which the panel's lane is closed.
@@ -62,17 +62,22 @@ const ROWS: [Row; 6] = [
 
 #[test]
 fn changes_happen_in_order(rt: HostRuntime) -> Result<(), Fail> {
-    for row in &ROWS {
+    for row in ROWS {
         let (changes, _, polled, _, happen) = *row;
-        let trace = run_of(rt, rt.alloc(), *row)??;
-        assert_eq!(rt; happened(&rt, &trace), happen, "{changes}");
-        assert_eq!(rt;
-            trace.events().len(),
-            happen.saturating_add(polled) as usize,
-            "{changes}"
-        );
+        let told = counts_of(rt, rt.alloc(), *row)?;
+        let events = happen.saturating_add(polled) as usize;
+        assert_eq!(rt; told, (happen, events), "{changes}");
     }
     Ok(())
+}
+
+/// How many changes happen in the run of a row, and how many events there are.
+fn counts_of<R>(rt: R, alloc: Global, row: Row) -> Result<(u32, usize), Fail>
+where
+    R: Threads + Wait + Abort + Copy + Send + 'static,
+{
+    let trace = run_of(rt, alloc, row)??;
+    Ok((happened(&rt, &trace), trace.events().len()))
 }
 
 /// The run of a row.
@@ -82,13 +87,12 @@ where
 {
     let (changes, queue_size, polled, alone, _) = row;
     let steps = steps_of(alloc, polled, alone)?;
-    let (first, second) = hands(alloc, None)?;
-    let (setup, menu) = (setup_with(queue_size), Menu { changes });
-    Ok(run(rt, alloc, setup, &steps, first, second, menu))
+    let hands = Hands::new(alloc, None)?;
+    Ok(play(rt, alloc, setup_with(queue_size), &steps, hands, changes))
 }
 
 /// A device of the demo fixture with so much room.
-fn setup_with(queue_size: u16) -> Setup {
+pub(super) fn setup_with(queue_size: u16) -> Setup {
     Setup {
         device: DEVICE,
         controller: CONTROLLER,
@@ -118,8 +122,7 @@ fn happened(rt: &impl Abort, trace: &Trace) -> u32 {
     let mut number = 0_u32;
     for event in trace.events() {
         if let Event::Changed { change, message } = event {
-            assert_eq!(rt; *change, change_of(number));
-            assert!(rt; message.is_some());
+            assert_eq!(rt; (*change, message.is_some()), (change_of(number), true));
             number = number.saturating_add(1);
         }
     }

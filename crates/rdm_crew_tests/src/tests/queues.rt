@@ -3,12 +3,12 @@
 ghost use Rattle.std.specs.Prelude.{IfOk};
 ghost use Rattle.rdm_crew.specs.RunTrace.{HaveFaults};
 
-use super::hand::hands;
-use super::menu::Menu;
-use super::{CONTROLLER, DEVICE, arrived, command};
-use rdm_bus::{Action, Fault, Want};
-use rdm_crew::{CrewStep, RunError, Setup, Trace, run};
-use rdm_params::{Outcome, Profile, Workers};
+use super::hand::Hands;
+use super::menu::setup_with;
+use super::{arrived, command, play};
+use rdm_bus::{Action, Fault};
+use rdm_crew::{CrewStep, RunError, Trace};
+use rdm_params::{Outcome, Workers};
 use std::alloc::Global;
 use std::sync::Wait;
 use std::test::Fail;
@@ -37,10 +37,10 @@ fn steps_of(alloc: Global) -> Result<Vec<CrewStep>, Fail>
 #[test]
 fn a_thousand_jobs_are_outstanding(rt: HostRuntime) -> Result<(), Fail> {
     let trace = longest_run(rt, rt.alloc())??;
-    assert_eq!(rt; trace.events().len(), 2 * usize::from(LONGEST));
     let reports = arrived(rt.alloc(), &trace, &Workers::usual(), 0)?;
-    assert_eq!(rt; reports.len(), usize::from(LONGEST));
-    assert_eq!(rt; reports.last(), Some(&(1_023, Outcome::Done)));
+    let told = (trace.events().len(), reports.len(), reports.last());
+    let last = Some(&(1_023, Outcome::Done));
+    assert_eq!(rt; told, (2_048, 1_024, last));
     Ok(())
 }
 
@@ -50,14 +50,6 @@ where
     R: Threads + Wait + Copy + Send + 'static,
 {
     let steps = steps_of(alloc)?;
-    let (first, second) = hands(alloc, None)?;
-    let setup = Setup {
-        device: DEVICE,
-        controller: CONTROLLER,
-        want: Want::Advisory,
-        profile: Profile::demo(0),
-        queue_size: LONGEST,
-    };
-    let menu = Menu { changes: 0 };
-    Ok(run(rt, alloc, setup, &steps, first, second, menu))
+    let hands = Hands::new(alloc, None)?;
+    Ok(play(rt, alloc, setup_with(LONGEST), &steps, hands, 0))
 }

@@ -97,7 +97,7 @@ pub(super) const DRAWN_AND_POLLED: Row = Row {
 };
 
 /// Runs that end with a trace.
-pub(super) const TRACES: [(Row, Told); 8] = [
+pub(super) const TRACES: &[(Row, Told)] = &[
     (PLAIN, NOTHING),
     // The same commands with other workers: both have other jobs than usual, and one has all.
     (
@@ -236,7 +236,7 @@ const BAD_SETUP: Row = Row {
 };
 
 /// Runs that end with a refusal.
-pub(super) const REFUSALS: [(Row, RunError); 14] = [
+pub(super) const REFUSALS: &[(Row, RunError)] = &[
     // A settle gives up, while the worker waits for the other.
     (
         Row {

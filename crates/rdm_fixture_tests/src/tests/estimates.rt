@@ -1,13 +1,13 @@
 //! The times of slow commands, and sensors that are answered at once.
 
-use super::{LEAST, try_rows};
+use super::{LEAST, Row, try_rows};
 use rdm_device::Estimates;
 use rdm_fixture::Fixture;
 use std::process::Abort;
 use std::test::Fail;
 
 /// What is told of a table of times, and of a sensor.
-const ROWS: [(&str, &str, &str); 8] = [
+const ROWS: &[Row] = &[
     ("", "[estimates]", ""),
     ("estimates = {}", "", ""),
     ("estimates = 5", "", "line 1: `estimates` isn't a table"),
@@ -32,8 +32,22 @@ const ROWS: [(&str, &str, &str); 8] = [
 
 #[test]
 fn what_is_told_of_times(rt: HostRuntime) -> Result<(), Fail> {
-    try_rows(&rt, &ROWS)
+    try_rows(&rt, ROWS)
 }
+
+/// Tables of times, and the times of the lamp, the power state, self tests and sensors.
+const TIMES: &[(&str, (u16, u16, u16, u16))] = &[
+    ("", (50, 20, 100, 5)),
+    ("[estimates]\n", (50, 20, 100, 5)),
+    (
+        "[estimates]\nlamp_state = 0\nperform_selftest = 600\n",
+        (0, 20, 600, 5),
+    ),
+    (
+        "[estimates]\npower_state = 1\nsensor_value = 65535\n",
+        (50, 1, 100, 65535),
+    ),
+];
 
 /// The estimates of a text.
 fn estimates_of(
@@ -56,11 +70,8 @@ fn estimates_of(
 
 #[test]
 fn times_that_are_not_said_are_usual(rt: HostRuntime) -> Result<(), Fail> {
-    assert_eq!(rt; estimates_of(&rt, "")?, (50, 20, 100, 5));
-    assert_eq!(rt; estimates_of(&rt, "[estimates]\n")?, (50, 20, 100, 5));
-    let some = "[estimates]\nlamp_state = 0\nperform_selftest = 600\n";
-    assert_eq!(rt; estimates_of(&rt, some)?, (0, 20, 600, 5));
-    let others = "[estimates]\npower_state = 1\nsensor_value = 65535\n";
-    assert_eq!(rt; estimates_of(&rt, others)?, (50, 1, 100, 65535));
+    for (text, times) in TIMES {
+        assert_eq!(rt; estimates_of(&rt, text)?, *times, "{text}");
+    }
     Ok(())
 }

@@ -1,6 +1,6 @@
 //! Orders, counts that a SET sets back, scenes, lock states and PINs, and which parameters a lock state keeps from being set.
 
-use super::{LEAST, told, try_rows};
+use super::{LEAST, Row, told, try_row, try_rows};
 use rdm_device::{Lock, ParameterDef, Particular, Particulars, Rights, Shape};
 use rdm_fixture::{Fixture, WriteError};
 use std::process::Abort;
@@ -25,10 +25,14 @@ fn check(
     start: &[u8],
     limits: (i64, i64),
 ) {
-    assert!(rt; def.rights == rights);
-    assert!(rt; def.shape == shape);
-    assert!(rt; def.start.as_slice() == start);
-    assert!(rt; (def.low, def.high) == limits);
+    let told = (
+        def.rights,
+        def.shape,
+        def.start.as_slice(),
+        def.low,
+        def.high,
+    );
+    assert!(rt; told == (rights, shape, start, limits.0, limits.1));
 }
 
 /// An order is SET alone, and COMMS_STATUS has a SET that sets its counts back.
@@ -121,137 +125,143 @@ fn what_is_locked(rt: HostRuntime) -> Result<(), Fail> {
     Ok(())
 }
 
+const NAMED: &str =
+    "isn't a list of names of parameters and of PIDs, such as \"DMX_START_ADDRESS\" and 0x8001";
+
+/// Locks that no file has: the tables, where it is told, and what.
+const REFUSED_LOCKS: &[(&str, &str, &str)] = &[
+    ("[[lock]]\n", "line 6: in lock 1, ", "missing key `state`"),
+    (
+        "[[lock]]\nstate = 0\n",
+        "line 7: in lock 1, ",
+        "`state` isn't an integer from 1 to 255",
+    ),
+    (
+        "[[lock]]\nstate = 256\n",
+        "line 7: in lock 1, ",
+        "`state` isn't an integer from 1 to 255",
+    ),
+    (
+        "[[lock]]\nstate = 1\n",
+        "line 6: in lock 1, ",
+        "missing key `parameters`",
+    ),
+    (
+        "[[lock]]\nstate = 1\nparameters = []\n",
+        "line 8: in lock 1, ",
+        "`parameters` isn't a list of 1 to 64 entries",
+    ),
+    (
+        "[[lock]]\nstate = 1\nparameters = \"CURVE\"\n",
+        "line 8: in lock 1, ",
+        "`parameters` isn't a list of 1 to 64 entries",
+    ),
+    (
+        "[[lock]]\nstate = 1\nparameters = [\"CURVE\", \"curve\"]\n",
+        "line 8: in lock 1, `parameters` ",
+        NAMED,
+    ),
+    (
+        "[[lock]]\nstate = 1\nparameters = [65536]\n",
+        "line 8: in lock 1, `parameters` ",
+        NAMED,
+    ),
+    (
+        "[[lock]]\nstate = 1\nparameters = [-1]\n",
+        "line 8: in lock 1, `parameters` ",
+        NAMED,
+    ),
+    (
+        "[[lock]]\nstate = 1\nparameters = [true]\n",
+        "line 8: in lock 1, `parameters` ",
+        NAMED,
+    ),
+    (
+        "[[lock]]\nstate = 1\nparameters = [1]\npid = 1\n",
+        "line 9: in lock 1, ",
+        "unknown key `pid`",
+    ),
+    (
+        "[[lock]]\nstate = 1\nparameters = [1]\n[[lock]]\nstates = 1\n",
+        "line 10: in lock 2, ",
+        "unknown key `states`",
+    ),
+];
+
 #[test]
 fn refused_locks(rt: HostRuntime) -> Result<(), Fail> {
-    let named =
-        "isn't a list of names of parameters and of PIDs, such as \"DMX_START_ADDRESS\" and 0x8001";
-    let rows: [(&str, &str, &str); 12] = [
-        ("[[lock]]\n", "line 6: in lock 1, ", "missing key `state`"),
-        (
-            "[[lock]]\nstate = 0\n",
-            "line 7: in lock 1, ",
-            "`state` isn't an integer from 1 to 255",
-        ),
-        (
-            "[[lock]]\nstate = 256\n",
-            "line 7: in lock 1, ",
-            "`state` isn't an integer from 1 to 255",
-        ),
-        (
-            "[[lock]]\nstate = 1\n",
-            "line 6: in lock 1, ",
-            "missing key `parameters`",
-        ),
-        (
-            "[[lock]]\nstate = 1\nparameters = []\n",
-            "line 8: in lock 1, ",
-            "`parameters` isn't a list of 1 to 64 entries",
-        ),
-        (
-            "[[lock]]\nstate = 1\nparameters = \"CURVE\"\n",
-            "line 8: in lock 1, ",
-            "`parameters` isn't a list of 1 to 64 entries",
-        ),
-        (
-            "[[lock]]\nstate = 1\nparameters = [\"CURVE\", \"curve\"]\n",
-            "line 8: in lock 1, `parameters` ",
-            named,
-        ),
-        (
-            "[[lock]]\nstate = 1\nparameters = [65536]\n",
-            "line 8: in lock 1, `parameters` ",
-            named,
-        ),
-        (
-            "[[lock]]\nstate = 1\nparameters = [-1]\n",
-            "line 8: in lock 1, `parameters` ",
-            named,
-        ),
-        (
-            "[[lock]]\nstate = 1\nparameters = [true]\n",
-            "line 8: in lock 1, `parameters` ",
-            named,
-        ),
-        (
-            "[[lock]]\nstate = 1\nparameters = [1]\npid = 1\n",
-            "line 9: in lock 1, ",
-            "unknown key `pid`",
-        ),
-        (
-            "[[lock]]\nstate = 1\nparameters = [1]\n[[lock]]\nstates = 1\n",
-            "line 10: in lock 2, ",
-            "unknown key `states`",
-        ),
-    ];
-    for (after, place, words) in rows {
+    for (after, place, words) in REFUSED_LOCKS {
         let expected = format!(in rt.alloc(); "{place}{words}")?;
-        try_rows(&rt, &[("", after, expected.as_str())])?;
-    }
-    try_rows(
-        &rt,
-        &[(
-            "lock = 1",
-            "",
-            "line 1: `lock` isn't a list of 0 to 64 entries",
-        )],
-    )
-}
-
-/// LOCK_STATE can be read, and has LOCK_PIN beside it; and a lock holds what the root can be set at once, and not LOCK_STATE.
-#[test]
-fn locks_that_cannot_work(rt: HostRuntime) -> Result<(), Fail> {
-    const OPENED: &str =
-        "line 6: `parameter` has LOCK_STATE, but it can't be read, or there is no LOCK_PIN beside it";
-    const HELD: &str =
-        "`lock` names LOCK_STATE, or a parameter that the root can't be set at once: one that it lacks, that has no SET, or that is slow";
-    const STATE: &str =
-        "[[parameter]]\npid = 0x0641\ncommand_class = \"get_set\"\ndata_type = \"lock\"\nmaximum_valid_value = 1\ndefault_value = 0\n[[parameter]]\npid = 0x0642\ncommand_class = \"get\"\ndata_type = \"names\"\ndefault_value = \"\"\n[[choice]]\npid = 0x0642\nnumber = 1\n";
-    try_rows(&rt, &[("", STATE, OPENED)])?;
-    for (before, parameters, is_held) in [
-        ("", "\"DMX_START_ADDRESS\"", true),
-        ("", "\"LOCK_PIN\"", true),
-        ("", "\"LOCK_STATE\"", false),
-        ("", "\"LAMP_STATE\"", false),
-        ("", "\"POWER_STATE\"", false),
-        ("", "\"PERFORM_SELFTEST\"", false),
-        ("", "\"DEVICE_INFO\"", false),
-        ("", "0x8001", false),
-        ("without = [\"DEVICE_LABEL\"]", "\"DEVICE_LABEL\"", false),
-    ] {
-        let keys = format!(in rt.alloc();
-            "{LOCKABLE}[[lock]]\nstate = 1\nparameters = [{parameters}]\n"
-        )?;
-        let line = if is_held {
-            String::new(rt.alloc())
-        } else {
-            format!(in rt.alloc(); "line 35: {HELD}")?
-        };
-        try_rows(&rt, &[(before, keys.as_str(), line.as_str())])?;
+        try_row(&rt, "", after, expected.as_str())?;
     }
     Ok(())
 }
 
-/// A state that LOCK_STATE hasn't locks nothing, and without it none does.
+/// LOCK_STATE of one state, with no LOCK_PIN beside it.
+const STATE: &str =
+    "[[parameter]]\npid = 0x0641\ncommand_class = \"get_set\"\ndata_type = \"lock\"\nmaximum_valid_value = 1\ndefault_value = 0\n[[parameter]]\npid = 0x0642\ncommand_class = \"get\"\ndata_type = \"names\"\ndefault_value = \"\"\n[[choice]]\npid = 0x0642\nnumber = 1\n";
+
+/// Locks that can't work, whatever holds them.
+const NO_LOCKS: &[Row] = &[
+    (
+        "",
+        STATE,
+        "line 6: `parameter` has LOCK_STATE, but it can't be read, or there is no LOCK_PIN beside it",
+    ),
+    (
+        "lock = 1",
+        "",
+        "line 1: `lock` isn't a list of 0 to 64 entries",
+    ),
+    (
+        "",
+        "[[lock]]\nstate = 1\nparameters = [1]\n",
+        "line 6: `lock` tells of a state that LOCK_STATE hasn't",
+    ),
+];
+
+#[test]
+fn locks_that_cannot_work(rt: HostRuntime) -> Result<(), Fail> {
+    try_rows(&rt, NO_LOCKS)
+}
+
+/// Keys before the least, what state 1 locks, and whether it can: what the root can be set at once, and not LOCK_STATE.
+const HELD: &[(&str, &str, bool)] = &[
+    ("", "\"DMX_START_ADDRESS\"", true),
+    ("", "\"LOCK_PIN\"", true),
+    ("", "\"LOCK_STATE\"", false),
+    ("", "\"LAMP_STATE\"", false),
+    ("", "\"POWER_STATE\"", false),
+    ("", "\"PERFORM_SELFTEST\"", false),
+    ("", "\"DEVICE_INFO\"", false),
+    ("", "0x8001", false),
+    ("without = [\"DEVICE_LABEL\"]", "\"DEVICE_LABEL\"", false),
+];
+
+#[test]
+fn what_locks_can_hold(rt: HostRuntime) -> Result<(), Fail> {
+    for (before, parameters, is_held) in HELD {
+        let tables = format!(in rt.alloc();
+            "{LOCKABLE}[[lock]]\nstate = 1\nparameters = [{parameters}]\n"
+        )?;
+        let told = if *is_held {
+            ""
+        } else {
+            "line 35: `lock` names LOCK_STATE, or a parameter that the root can't be set at once: one that it lacks, that has no SET, or that is slow"
+        };
+        try_row(&rt, before, tables.as_str(), told)?;
+    }
+    Ok(())
+}
+
+/// A state that LOCK_STATE hasn't locks nothing.
 #[test]
 fn states_that_are_not_there(rt: HostRuntime) -> Result<(), Fail> {
-    let two = format!(in rt.alloc();
+    let tables = format!(in rt.alloc();
         "{LOCKABLE}[[lock]]\nstate = 2\nparameters = [1]\n[[lock]]\nstate = 3\nparameters = [1]\n"
     )?;
-    try_rows(
-        &rt,
-        &[
-            (
-                "",
-                two.as_str(),
-                "line 35: `lock` tells of a state that LOCK_STATE hasn't",
-            ),
-            (
-                "",
-                "[[lock]]\nstate = 1\nparameters = [1]\n",
-                "line 6: `lock` tells of a state that LOCK_STATE hasn't",
-            ),
-        ],
-    )
+    let told = "line 35: `lock` tells of a state that LOCK_STATE hasn't";
+    try_row(&rt, "", tables.as_str(), told)
 }
 
 /// DMX_BLOCK_ADDRESS has no data of its own.
@@ -291,80 +301,90 @@ fn locking(rt: &(impl Abort + AllocGlobal), count: usize) -> Result<String, Fail
 #[test]
 fn how_many_are_locked(rt: HostRuntime) -> Result<(), Fail> {
     let most = locking(&rt, 64)?;
-    let text = format!(in rt.alloc(); "{LOCKABLE}{most}")?;
-    let fixture = read(&rt, text.as_str())?;
-    assert!(rt; fixture.profile.particulars.locks().len() == 64);
+    locks_64(&rt, most.as_str(), "")?;
     let half = locking(&rt, 32)?;
-    let both = format!(in rt.alloc(); "{LOCKABLE}{half}{half}")?;
-    let fixture = read(&rt, both.as_str())?;
-    assert!(rt; fixture.profile.particulars.locks().len() == 64);
-    let one = locking(&rt, 1)?;
-    let many = format!(in rt.alloc(); "{LEAST}{both}{one}")?;
-    assert_eq!(rt;
-        told(rt.alloc(), many.as_str())?.as_str(),
-        "line 34: `lock` names parameters more than 64 times in all"
-    );
+    locks_64(&rt, half.as_str(), half.as_str())
+}
+
+/// Both together lock 64 parameters.
+fn locks_64(rt: &(impl Abort + AllocGlobal), some: &str, more: &str) -> Result<(), Fail> {
+    let text = format!(in rt.alloc(); "{LOCKABLE}{some}{more}")?;
+    let fixture = read(rt, text.as_str())?;
+    assert_eq!(rt; fixture.profile.particulars.locks().len(), 64);
+    Ok(())
+}
+
+/// Neither 65 of one state, nor as many of several.
+#[test]
+fn how_many_are_too_many(rt: HostRuntime) -> Result<(), Fail> {
     let more = locking(&rt, 65)?;
-    try_rows(
+    try_row(
         &rt,
-        &[(
-            "",
-            more.as_str(),
-            "line 8: in lock 1, `parameters` isn't a list of 1 to 64 entries",
-        )],
+        "",
+        more.as_str(),
+        "line 8: in lock 1, `parameters` isn't a list of 1 to 64 entries",
+    )?;
+    let half = locking(&rt, 32)?;
+    let one = locking(&rt, 1)?;
+    let many = format!(in rt.alloc(); "{LOCKABLE}{half}{half}{one}")?;
+    try_row(
+        &rt,
+        "",
+        many.as_str(),
+        "line 35: `lock` names parameters more than 64 times in all",
     )
 }
 
+const OTHER: &str =
+    "line 7: in parameter 1, `pid` is that of a parameter of E1.20 or E1.37-1 with other commands or other data than docs/PARAMETERS.md has";
+
 /// PINs, lock states and commands that a standard hasn't.
+const REFUSED: &[Row] = &[
+    (
+        "",
+        "[[parameter]]\npid = 0x0640\ncommand_class = \"get_set\"\ndata_type = \"pin\"\ndefault_value = 10000",
+        "line 10: in parameter 1, `default_value` isn't an integer from 0 to 9999",
+    ),
+    (
+        "",
+        "[[parameter]]\npid = 0x0640\ncommand_class = \"get_set\"\ndata_type = \"pin\"\nmaximum_valid_value = 99\ndefault_value = 0",
+        OTHER,
+    ),
+    (
+        "",
+        "[[parameter]]\npid = 0x0641\ncommand_class = \"get_set\"\ndata_type = \"lock\"\nmaximum_valid_value = 1\ndefault_value = 2",
+        "line 11: in parameter 1, `default_value` isn't an integer from 0 to 1",
+    ),
+    (
+        "",
+        "[[parameter]]\npid = 0x1042\ncommand_class = \"get_set\"\ndata_type = \"scenes\"\nmaximum_valid_value = 256\ndefault_value = \"\"",
+        "line 10: in parameter 1, `maximum_valid_value` isn't an integer from 0 to 255",
+    ),
+    (
+        "",
+        "[[parameter]]\npid = 0x1042\ncommand_class = \"get_set\"\ndata_type = \"scenes\"\ndefault_value = \"00\"",
+        "line 10: in parameter 1, `default_value` isn't what the other keys say of the data",
+    ),
+    (
+        "",
+        "[[parameter]]\npid = 0x1001\ncommand_class = \"get_set\"\ndata_type = \"unsigned_byte\"\ndefault_value = 1",
+        OTHER,
+    ),
+    (
+        "",
+        "[[parameter]]\npid = 0x8001\ncommand_class = \"get_clear\"\ndata_type = \"unsigned_byte\"\ndefault_value = 1",
+        OTHER,
+    ),
+    (
+        "",
+        "[[parameter]]\npid = 0x8001\ncommand_class = \"get_set\"\ndata_type = \"pin\"\ndefault_value = 1",
+        OTHER,
+    ),
+];
+
 #[test]
 fn refused_parameters(rt: HostRuntime) -> Result<(), Fail> {
-    let other =
-        "line 7: in parameter 1, `pid` is that of a parameter of E1.20 or E1.37-1 with other commands or other data than docs/PARAMETERS.md has";
-    try_rows(
-        &rt,
-        &[
-            (
-                "",
-                "[[parameter]]\npid = 0x0640\ncommand_class = \"get_set\"\ndata_type = \"pin\"\ndefault_value = 10000",
-                "line 10: in parameter 1, `default_value` isn't an integer from 0 to 9999",
-            ),
-            (
-                "",
-                "[[parameter]]\npid = 0x0640\ncommand_class = \"get_set\"\ndata_type = \"pin\"\nmaximum_valid_value = 99\ndefault_value = 0",
-                other,
-            ),
-            (
-                "",
-                "[[parameter]]\npid = 0x0641\ncommand_class = \"get_set\"\ndata_type = \"lock\"\nmaximum_valid_value = 1\ndefault_value = 2",
-                "line 11: in parameter 1, `default_value` isn't an integer from 0 to 1",
-            ),
-            (
-                "",
-                "[[parameter]]\npid = 0x1042\ncommand_class = \"get_set\"\ndata_type = \"scenes\"\nmaximum_valid_value = 256\ndefault_value = \"\"",
-                "line 10: in parameter 1, `maximum_valid_value` isn't an integer from 0 to 255",
-            ),
-            (
-                "",
-                "[[parameter]]\npid = 0x1042\ncommand_class = \"get_set\"\ndata_type = \"scenes\"\ndefault_value = \"00\"",
-                "line 10: in parameter 1, `default_value` isn't what the other keys say of the data",
-            ),
-            (
-                "",
-                "[[parameter]]\npid = 0x1001\ncommand_class = \"get_set\"\ndata_type = \"unsigned_byte\"\ndefault_value = 1",
-                other,
-            ),
-            (
-                "",
-                "[[parameter]]\npid = 0x8001\ncommand_class = \"get_clear\"\ndata_type = \"unsigned_byte\"\ndefault_value = 1",
-                other,
-            ),
-            (
-                "",
-                "[[parameter]]\npid = 0x8001\ncommand_class = \"get_set\"\ndata_type = \"pin\"\ndefault_value = 1",
-                other,
-            ),
-        ],
-    )
+    try_rows(&rt, REFUSED)
 }
 
 /// What a state locks that LOCK_STATE hasn't isn't written.

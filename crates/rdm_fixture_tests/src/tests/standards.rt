@@ -1,7 +1,7 @@
 //! The parameters of E1.20 and of E1.37-1 that a fixture has beside those of the table: numbers in slots, choices, and the names of what
 //! is chosen.
 
-use super::{LEAST, try_rows};
+use super::{LEAST, try_row};
 use rdm_device::{ChoiceName, Field, Shape, Width};
 use rdm_fixture::Fixture;
 use rdm_frame::Text;
@@ -102,115 +102,132 @@ macro_rules! slots {
     };
 }
 
-/// What is told of numbers in slots, and of parameters that aren't as their standard says.
+const SHAPE: &str =
+    "doesn't take all slots of the data, or has a limit that its slots can't say or that is out of order";
+
+const LISTED: &str =
+    "isn't a list of at most 8 numbers, such as { slots = 2, maximum_valid_value = 100 }";
+
+const OTHER: &str =
+    "is that of a parameter of E1.20 or E1.37-1 with other commands or other data than docs/PARAMETERS.md has";
+
+/// Numbers in slots that can't be, and parameters that aren't as their standard says: the keys, where it is told, and what.
+const REFUSED_NUMBERS: &[(&str, &str, &str)] = &[
+    (
+        slots!("0x8001" "fields = 3\ndefault_value = \"00\""),
+        "line 10: in parameter 1, `fields` ",
+        LISTED,
+    ),
+    (
+        slots!("0x8001" "fields = [{ slots = 3 }]\ndefault_value = \"000000\""),
+        "line 10: in parameter 1, `fields` ",
+        LISTED,
+    ),
+    (
+        slots!("0x8001" "fields = [{ slots = 1, least = 3 }]\ndefault_value = \"00\""),
+        "line 10: in parameter 1, `fields` ",
+        LISTED,
+    ),
+    (
+        slots!("0x8001" "fields = [{ minimum_valid_value = 1 }]\ndefault_value = \"00\""),
+        "line 10: in parameter 1, `fields` ",
+        LISTED,
+    ),
+    (
+        slots!("0x8001" "fields = [{ slots = 1 }]\ndefault_value = \"0000\""),
+        "line 10: in parameter 1, `fields` ",
+        SHAPE,
+    ),
+    (
+        slots!("0x8001" "fields = [{ slots = 1, maximum_valid_value = 256 }]\ndefault_value = \"00\""),
+        "line 10: in parameter 1, `fields` ",
+        SHAPE,
+    ),
+    (
+        slots!("0x8001" "fields = [{ slots = 1, minimum_valid_value = 3, maximum_valid_value = 2 }]\ndefault_value = \"03\""),
+        "line 10: in parameter 1, `fields` ",
+        SHAPE,
+    ),
+    (
+        slots!("0x8001" "fields = [{ slots = 1, maximum_valid_value = 2 }]\ndefault_value = \"03\""),
+        "line 11: in parameter 1, `default_value` ",
+        "isn't what the other keys say of the data",
+    ),
+    (
+        slots!("0x0341" "fields = [{ slots = 1 }, { slots = 2 }, { slots = 2 }]\ndefault_value = \"0000000000\""),
+        "line 7: in parameter 1, `pid` ",
+        OTHER,
+    ),
+    (
+        slots!("0x0340" "default_value = \"0000000000000000000000\""),
+        "line 7: in parameter 1, `pid` ",
+        OTHER,
+    ),
+    (
+        slots!("0x0343" "default_value = \"00\""),
+        "line 7: in parameter 1, `pid` ",
+        OTHER,
+    ),
+    (
+        "[[parameter]]\npid = 0x8001\ncommand_class = \"get\"\ndata_type = \"names\"\ndefault_value = \"\"",
+        "line 7: in parameter 1, `pid` ",
+        OTHER,
+    ),
+];
+
 #[test]
 fn refused_numbers(rt: HostRuntime) -> Result<(), Fail> {
-    let shape =
-        "doesn't take all slots of the data, or has a limit that its slots can't say or that is out of order";
-    let listed =
-        "isn't a list of at most 8 numbers, such as { slots = 2, maximum_valid_value = 100 }";
-    let other =
-        "is that of a parameter of E1.20 or E1.37-1 with other commands or other data than docs/PARAMETERS.md has";
-    let rows: [(&str, &str, &str); 12] = [
-        (
-            slots!("0x8001" "fields = 3\ndefault_value = \"00\""),
-            "line 10: in parameter 1, `fields` ",
-            listed,
-        ),
-        (
-            slots!("0x8001" "fields = [{ slots = 3 }]\ndefault_value = \"000000\""),
-            "line 10: in parameter 1, `fields` ",
-            listed,
-        ),
-        (
-            slots!("0x8001" "fields = [{ slots = 1, least = 3 }]\ndefault_value = \"00\""),
-            "line 10: in parameter 1, `fields` ",
-            listed,
-        ),
-        (
-            slots!("0x8001" "fields = [{ minimum_valid_value = 1 }]\ndefault_value = \"00\""),
-            "line 10: in parameter 1, `fields` ",
-            listed,
-        ),
-        (
-            slots!("0x8001" "fields = [{ slots = 1 }]\ndefault_value = \"0000\""),
-            "line 10: in parameter 1, `fields` ",
-            shape,
-        ),
-        (
-            slots!("0x8001" "fields = [{ slots = 1, maximum_valid_value = 256 }]\ndefault_value = \"00\""),
-            "line 10: in parameter 1, `fields` ",
-            shape,
-        ),
-        (
-            slots!("0x8001" "fields = [{ slots = 1, minimum_valid_value = 3, maximum_valid_value = 2 }]\ndefault_value = \"03\""),
-            "line 10: in parameter 1, `fields` ",
-            shape,
-        ),
-        (
-            slots!("0x8001" "fields = [{ slots = 1, maximum_valid_value = 2 }]\ndefault_value = \"03\""),
-            "line 11: in parameter 1, `default_value` ",
-            "isn't what the other keys say of the data",
-        ),
-        (
-            slots!("0x0341" "fields = [{ slots = 1 }, { slots = 2 }, { slots = 2 }]\ndefault_value = \"0000000000\""),
-            "line 7: in parameter 1, `pid` ",
-            other,
-        ),
-        (
-            slots!("0x0340" "default_value = \"0000000000000000000000\""),
-            "line 7: in parameter 1, `pid` ",
-            other,
-        ),
-        (
-            slots!("0x0343" "default_value = \"00\""),
-            "line 7: in parameter 1, `pid` ",
-            other,
-        ),
-        (
-            "[[parameter]]\npid = 0x8001\ncommand_class = \"get\"\ndata_type = \"names\"\ndefault_value = \"\"",
-            "line 7: in parameter 1, `pid` ",
-            other,
-        ),
-    ];
-    for (after, place, words) in rows {
+    for (after, place, words) in REFUSED_NUMBERS {
         let expected = format!(in rt.alloc(); "{place}{words}")?;
-        try_rows(&rt, &[("", after, expected.as_str())])?;
+        try_row(&rt, "", after, expected.as_str())?;
     }
     Ok(())
 }
 
-/// What is told of names of choices.
+const UNNAMED: &str =
+    "isn't a list with one name for each thing of which a parameter lets choose, in the order of their PIDs and numbers";
+
+/// Names of choices that don't fit both curves, where it is told, and what.
+const REFUSED_NAMES: &[(&str, &str, &str)] = &[
+    ("", "line 17: `choice` ", UNNAMED),
+    (
+        "[[choice]]\npid = 0x0344\nnumber = 1",
+        "line 18: `choice` ",
+        UNNAMED,
+    ),
+    (
+        "[[choice]]\npid = 0x0344\nnumber = 2\n[[choice]]\npid = 0x0344\nnumber = 1",
+        "line 18: `choice` ",
+        UNNAMED,
+    ),
+    (
+        "[[choice]]\npid = 0x0344\nnumber = 1\n[[choice]]\npid = 0x0344\nnumber = 1",
+        "line 18: `choice` ",
+        UNNAMED,
+    ),
+    (
+        "[[choice]]\npid = 0x0344\nnumber = 1\n[[choice]]\npid = 0x0344\nnumber = 2\n[[choice]]\npid = 0x0344\nnumber = 3",
+        "line 18: `choice` ",
+        UNNAMED,
+    ),
+    (
+        "[[choice]]\npid = 0x0346\nnumber = 1",
+        "line 18: `choice` ",
+        UNNAMED,
+    ),
+    (
+        "[[choice]]\npid = 0x0344\nnumber = 0",
+        "line 20: in choice 1, ",
+        "`number` isn't an integer from 1 to 255",
+    ),
+];
+
 #[test]
 fn refused_names(rt: HostRuntime) -> Result<(), Fail> {
-    let wrong =
-        "isn't a list with one name for each thing of which a parameter lets choose, in the order of their PIDs and numbers";
-    let rows: [(&str, &str); 7] = [
-        ("", "line 17: `choice` "),
-        ("[[choice]]\npid = 0x0344\nnumber = 1", "line 18: `choice` "),
-        (
-            "[[choice]]\npid = 0x0344\nnumber = 2\n[[choice]]\npid = 0x0344\nnumber = 1",
-            "line 18: `choice` ",
-        ),
-        (
-            "[[choice]]\npid = 0x0344\nnumber = 1\n[[choice]]\npid = 0x0344\nnumber = 1",
-            "line 18: `choice` ",
-        ),
-        (
-            "[[choice]]\npid = 0x0344\nnumber = 1\n[[choice]]\npid = 0x0344\nnumber = 2\n[[choice]]\npid = 0x0344\nnumber = 3",
-            "line 18: `choice` ",
-        ),
-        ("[[choice]]\npid = 0x0346\nnumber = 1", "line 18: `choice` "),
-        (
-            "[[choice]]\npid = 0x0344\nnumber = 0",
-            "line 20: in choice 1, `number` isn't an integer from 1 to 255",
-        ),
-    ];
-    for (names, place) in rows {
+    for (names, place, words) in REFUSED_NAMES {
         let after = format!(in rt.alloc(); "{CURVES}{names}")?;
-        let words = if place.ends_with("255") { "" } else { wrong };
         let expected = format!(in rt.alloc(); "{place}{words}")?;
-        try_rows(&rt, &[("", after.as_str(), expected.as_str())])?;
+        try_row(&rt, "", after.as_str(), expected.as_str())?;
     }
     Ok(())
 }

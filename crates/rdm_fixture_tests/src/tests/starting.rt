@@ -1,6 +1,6 @@
 //! What a fixture starts with.
 
-use super::{LEAST, told, try_rows};
+use super::{LEAST, Row, told, try_rows};
 use rdm_fixture::{Fixture, Starting, WriteError, shown_at_start};
 use std::test::Fail;
 
@@ -60,43 +60,45 @@ fn shown(rt: HostRuntime) -> Result<(), Fail> {
     Ok(())
 }
 
-/// Nothing is said of what the fixture lacks.
+const STARTED: &str =
+    "line 1: `without` leaves out a parameter that the file gives a value to start with";
+
+const SENSORS: &str =
+    "line 1: `without` leaves out SENSOR_DEFINITION, but the file describes sensors";
+
+const NO_SENSORS: &str = "without = [\"SENSOR_DEFINITION\", \"SENSOR_VALUE\", \"RECORD_SENSORS\"]";
+
+const NO_VALUE: &str = "without = [\"SENSOR_VALUE\"]";
+
+/// What is told of a fixture that lacks a parameter, and is to start with something of it.
+const LACKED: &[Row] = &[
+    ("without = [\"LAMP_HOURS\"]\ndevice_hours = 1", "", ""),
+    ("without = [\"LAMP_HOURS\"]\nlamp_hours = 0", "", ""),
+    ("without = [\"LAMP_HOURS\"]\nlamp_hours = 1", "", STARTED),
+    (
+        "without = [\"DEVICE_HOURS\"]\ndevice_hours = 1",
+        "",
+        STARTED,
+    ),
+    (
+        "without = [\"LAMP_STRIKES\"]\nlamp_strikes = 1",
+        "",
+        STARTED,
+    ),
+    (
+        "without = [\"DEVICE_POWER_CYCLES\"]\ndevice_power_cycles = 1",
+        "",
+        STARTED,
+    ),
+    (NO_VALUE, "[[sensor]]\ntype = 0", ""),
+    (NO_VALUE, "[[sensor]]\ntype = 0\npresent = 0", STARTED),
+    (NO_SENSORS, "", ""),
+    (NO_SENSORS, "[[sensor]]\ntype = 0", SENSORS),
+];
+
 #[test]
 fn lacked(rt: HostRuntime) -> Result<(), Fail> {
-    const STARTED: &str =
-        "line 1: `without` leaves out a parameter that the file gives a value to start with";
-    const SENSORS: &str =
-        "line 1: `without` leaves out SENSOR_DEFINITION, but the file describes sensors";
-    const NO_SENSORS: &str =
-        "without = [\"SENSOR_DEFINITION\", \"SENSOR_VALUE\", \"RECORD_SENSORS\"]";
-    const NO_VALUE: &str = "without = [\"SENSOR_VALUE\"]";
-    try_rows(
-        &rt,
-        &[
-            ("without = [\"LAMP_HOURS\"]\ndevice_hours = 1", "", ""),
-            ("without = [\"LAMP_HOURS\"]\nlamp_hours = 0", "", ""),
-            ("without = [\"LAMP_HOURS\"]\nlamp_hours = 1", "", STARTED),
-            (
-                "without = [\"DEVICE_HOURS\"]\ndevice_hours = 1",
-                "",
-                STARTED,
-            ),
-            (
-                "without = [\"LAMP_STRIKES\"]\nlamp_strikes = 1",
-                "",
-                STARTED,
-            ),
-            (
-                "without = [\"DEVICE_POWER_CYCLES\"]\ndevice_power_cycles = 1",
-                "",
-                STARTED,
-            ),
-            (NO_VALUE, "[[sensor]]\ntype = 0", ""),
-            (NO_VALUE, "[[sensor]]\ntype = 0\npresent = 0", STARTED),
-            (NO_SENSORS, "", ""),
-            (NO_SENSORS, "[[sensor]]\ntype = 0", SENSORS),
-        ],
-    )?;
+    try_rows(&rt, LACKED)?;
     assert_eq!(rt; told(rt.alloc(), LEAST)?.as_str(), "");
     Ok(())
 }

@@ -5,7 +5,7 @@ use std::process::Abort;
 use std::test::Fail;
 
 /// A key that holds an integer: what stands before it in its table, nothing for the table at the top, and its range.
-const NUMBERS: [(&str, &str, i64, i64); 40] = [
+const NUMBERS: &[(&str, &str, i64, i64)] = &[
     ("", "product_category", 0, 0xFFFF),
     ("", "software_version_id", 0, 0xFFFF_FFFF),
     ("", "boot_software_version_id", 0, 0xFFFF_FFFF),
@@ -104,7 +104,7 @@ const NUMBERS: [(&str, &str, i64, i64); 40] = [
 ];
 
 /// A key that holds a text.
-const TEXTS: [(&str, &str); 10] = [
+const TEXTS: &[(&str, &str)] = &[
     ("", "device_model_description"),
     ("", "manufacturer_label"),
     ("", "device_label"),
@@ -152,6 +152,21 @@ fn try_others(
     try_value(rt, table, slip.as_str(), "1", expected.as_str())
 }
 
+/// The end of what is told of an integer at a key.
+fn try_integer(
+    rt: &(impl Abort + AllocGlobal),
+    table: &str,
+    key: &str,
+    number: i64,
+    expected: &str,
+) -> Result<(), Fail> {
+    let value = format!(in rt.alloc(); "{number}")?;
+    try_value(rt, table, key, value.as_str(), expected)
+}
+
+/// What no key of a number holds.
+const NO_NUMBERS: &[&str] = &["\"1\"", "1.0", "true", "[1]", "{}"];
+
 fn try_number(
     rt: &(impl Abort + AllocGlobal),
     table: &str,
@@ -165,27 +180,32 @@ fn try_number(
         ""
     };
     let wanted = format!(in rt.alloc(); "`{key}` isn't an integer from {least} to {most}{behind}")?;
-    for (number, expected) in [
-        (least, ""),
-        (most, ""),
-        (least.saturating_sub(1), wanted.as_str()),
-        (most.saturating_add(1), wanted.as_str()),
-    ] {
-        let value = format!(in rt.alloc(); "{number}")?;
-        try_value(rt, table, key, value.as_str(), expected)?;
-    }
-    try_others(
-        rt,
-        table,
-        key,
-        &["\"1\"", "1.0", "true", "[1]", "{}"],
-        wanted.as_str(),
-    )
+    try_integer(rt, table, key, least, "")?;
+    try_integer(rt, table, key, most, "")?;
+    try_integer(rt, table, key, least.saturating_sub(1), wanted.as_str())?;
+    try_integer(rt, table, key, most.saturating_add(1), wanted.as_str())?;
+    try_others(rt, table, key, NO_NUMBERS, wanted.as_str())
+}
+
+/// What no key of a text holds.
+const NO_TEXTS: &[&str] = &[
+    "\"an ASCII text of only 33 letters.\"",
+    "\"\\u007F\"",
+    "1",
+    "[\"a\"]",
+];
+
+fn try_text(rt: &(impl Abort + AllocGlobal), table: &str, key: &str) -> Result<(), Fail> {
+    try_value(rt, table, key, "\"an ASCII text of just 32 letters\"", "")?;
+    let wanted = format!(in rt.alloc();
+        "`{key}` isn't a string of at most 32 printable ASCII characters"
+    )?;
+    try_others(rt, table, key, NO_TEXTS, wanted.as_str())
 }
 
 #[test]
 fn numbers(rt: HostRuntime) -> Result<(), Fail> {
-    for (table, key, least, most) in &NUMBERS {
+    for (table, key, least, most) in NUMBERS {
         try_number(&rt, table, key, *least, *most)?;
     }
     Ok(())
@@ -193,18 +213,8 @@ fn numbers(rt: HostRuntime) -> Result<(), Fail> {
 
 #[test]
 fn texts(rt: HostRuntime) -> Result<(), Fail> {
-    for (table, key) in &TEXTS {
-        try_value(&rt, table, key, "\"an ASCII text of just 32 letters\"", "")?;
-        let wanted = format!(in rt.alloc();
-            "`{key}` isn't a string of at most 32 printable ASCII characters"
-        )?;
-        let others = [
-            "\"an ASCII text of only 33 letters.\"",
-            "\"\\u007F\"",
-            "1",
-            "[\"a\"]",
-        ];
-        try_others(&rt, table, key, &others, wanted.as_str())?;
+    for (table, key) in TEXTS {
+        try_text(&rt, table, key)?;
     }
     Ok(())
 }

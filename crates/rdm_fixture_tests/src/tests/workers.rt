@@ -1,13 +1,13 @@
 //! The workers of slow commands.
 
-use super::{LEAST, try_rows};
+use super::{LEAST, Row, try_rows};
 use rdm_device::Workers;
 use rdm_fixture::Fixture;
 use std::process::Abort;
 use std::test::Fail;
 
 /// What is told of a table of workers.
-const ROWS: [(&str, &str, &str); 7] = [
+const ROWS: &[Row] = &[
     ("", "[workers]", ""),
     ("workers = {}", "", ""),
     ("workers = 1", "", "line 1: `workers` isn't a table"),
@@ -31,8 +31,22 @@ const ROWS: [(&str, &str, &str); 7] = [
 
 #[test]
 fn what_is_told_of_workers(rt: HostRuntime) -> Result<(), Fail> {
-    try_rows(&rt, &ROWS)
+    try_rows(&rt, ROWS)
 }
+
+/// Tables of workers, and the numbers of those of the lamp, the power state, self tests and sensors.
+const CHOSEN: &[(&str, (u8, u8, u8, u8))] = &[
+    ("", (0, 0, 1, 1)),
+    ("[workers]\n", (0, 0, 1, 1)),
+    (
+        "[workers]\nlamp_state = 1\nperform_selftest = 0\n",
+        (1, 0, 0, 1),
+    ),
+    (
+        "[workers]\npower_state = 1\nsensor_value = 0\n",
+        (0, 1, 1, 0),
+    ),
+];
 
 /// The numbers of the workers of a text: of the lamp, the power state, self tests and sensors.
 fn workers_of(rt: &(impl Abort + AllocGlobal), workers: &str) -> Result<(u8, u8, u8, u8), Fail> {
@@ -57,11 +71,8 @@ fn workers_of(rt: &(impl Abort + AllocGlobal), workers: &str) -> Result<(u8, u8,
 
 #[test]
 fn workers_that_are_not_said_are_usual(rt: HostRuntime) -> Result<(), Fail> {
-    assert_eq!(rt; workers_of(&rt, "")?, (0, 0, 1, 1));
-    assert_eq!(rt; workers_of(&rt, "[workers]\n")?, (0, 0, 1, 1));
-    let some = "[workers]\nlamp_state = 1\nperform_selftest = 0\n";
-    assert_eq!(rt; workers_of(&rt, some)?, (1, 0, 0, 1));
-    let others = "[workers]\npower_state = 1\nsensor_value = 0\n";
-    assert_eq!(rt; workers_of(&rt, others)?, (0, 1, 1, 0));
+    for (text, workers) in CHOSEN {
+        assert_eq!(rt; workers_of(&rt, text)?, *workers, "{text}");
+    }
     Ok(())
 }
