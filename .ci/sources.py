@@ -222,10 +222,12 @@ def defining_file(crate, parts, path):
 
 
 def is_seen(f, everything):
-    """Whether an `impl` of a trait is one for callers: it converts from no private type of the crate."""
+    """Whether an `impl` of a trait is one for callers: the trait is no private one of the crate, and it converts from no private type."""
     source = re.search(r"<(\w+)>", f.block)
-    hidden = rf"(?m)^(?:pub\(\w+\) )?(?:struct|enum) {source[1]}\b" if source else "$^"
-    return not any(re.search(hidden, file.read_text()) for file in {g.file for g in everything})
+    hidden = [rf"(?m)^(?:pub\(\w+\) )?trait {f.of_trait}\b"]
+    if source:
+        hidden.append(rf"(?m)^(?:pub\(\w+\) )?(?:struct|enum) {source[1]}\b")
+    return not any(re.search(pattern, file.read_text()) for file in {g.file for g in everything} for pattern in hidden)
 
 
 def public_calls(crate):

@@ -149,7 +149,7 @@ enum {
     FELOSUMAY_CC_GET = 0x01,
     FELOSUMAY_CC_SET = 0x02, /* an order: `step` reports each as a change, and `own_value` reads its data */
     FELOSUMAY_CC_GET_SET = 0x03,
-    FELOSUMAY_CC_GET_CLEAR = 0xF0 /* none of table A-16: a SET has no data, and sets it back to its start (COMMS_STATUS) */
+    FELOSUMAY_CC_GET_CLEAR = 0xF0 /* none of table A-16: a SET has no data, and clears it to zero (COMMS_STATUS) */
 };
 
 /* One of the numbers in the slots of a parameter, one after another, the most significant byte first. */
@@ -691,17 +691,6 @@ static inline uint8_t felosumay_profile_fault(const felosumay_profile *profile) 
                                            profile->choice_count);
 }
 
-felosumay_result felosumay_responder_new_nonnull(felosumay_responder *responder, uint16_t maker, uint32_t device,
-                                                 const felosumay_profile *profile, const felosumay_parameter *parameters,
-                                                 size_t parameter_count, const uint16_t *without, size_t without_count,
-                                                 const felosumay_choice *choices, size_t choice_count, uint16_t queue_size);
-static inline felosumay_result felosumay_responder_new(felosumay_responder *responder, uint16_t maker, uint32_t device,
-                                                       const felosumay_profile *profile, uint16_t queue_size) {
-    return felosumay_responder_new_nonnull(responder, maker, device, profile, felosumay_parameters_of(profile), profile->parameter_count,
-                                           felosumay_without_of(profile), profile->without_count, felosumay_choices_of(profile),
-                                           profile->choice_count, queue_size);
-}
-
 felosumay_result felosumay_responder_new_with_nonnull(felosumay_responder *responder, uint16_t maker, uint32_t device,
                                                       const felosumay_profile *profile, const felosumay_parameter *parameters,
                                                       size_t parameter_count, const uint16_t *without, size_t without_count,
@@ -713,6 +702,11 @@ static inline felosumay_result felosumay_responder_new_with(felosumay_responder 
     return felosumay_responder_new_with_nonnull(responder, maker, device, profile, felosumay_parameters_of(profile),
                                                 profile->parameter_count, felosumay_without_of(profile), profile->without_count,
                                                 felosumay_choices_of(profile), profile->choice_count, queue_size, entries, first_job);
+}
+
+static inline felosumay_result felosumay_responder_new(felosumay_responder *responder, uint16_t maker, uint32_t device,
+                                                       const felosumay_profile *profile, uint16_t queue_size) {
+    return felosumay_responder_new_with(responder, maker, device, profile, queue_size, 1024, 0);
 }
 
 felosumay_result felosumay_responder_step_nonnull(felosumay_responder *responder, const uint8_t *bytes, size_t length,

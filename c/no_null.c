@@ -32,14 +32,6 @@ uint8_t felosumay_profile_fault_nonnull(const felosumay_profile *profile, const 
     return look_at_lists(parameters, parameter_count, without, without_count, choices, choice_count);
 }
 
-felosumay_result felosumay_responder_new_nonnull(felosumay_responder *responder, uint16_t maker, uint32_t device,
-                                                 const felosumay_profile *profile, const felosumay_parameter *parameters,
-                                                 size_t parameter_count, const uint16_t *without, size_t without_count,
-                                                 const felosumay_choice *choices, size_t choice_count, uint16_t queue_size) {
-    (void)responder, (void)maker, (void)device, (void)profile, (void)queue_size;
-    return look_at_lists(parameters, parameter_count, without, without_count, choices, choice_count);
-}
-
 felosumay_result felosumay_responder_new_with_nonnull(felosumay_responder *responder, uint16_t maker, uint32_t device,
                                                       const felosumay_profile *profile, const felosumay_parameter *parameters,
                                                       size_t parameter_count, const uint16_t *without, size_t without_count,

@@ -1,7 +1,7 @@
 -- What a script is played on is the scene of the fixture.
 use Rattle.std.proofs.Common.{◌≡◌, ℕ, List, Option, Some, None, Result, Ok, IfOk, sym, subst}
 use Rattle.rdm_frame.specs.declared.uid.Uid.{Uid}
-use Rattle.rdm_device.specs.declared.profile.Profile.{Profile}
+use Rattle.rdm_profile.specs.declared.profile.Profile.{Profile}
 use Rattle.rdm_fixture.specs.declared.fixture.Fixture.{Fixture}
 use Rattle.rdm_fixture.specs.Describes.{Describes}
 use Rattle.rdm_outcomes.specs.declared.rule.Rule.{Rule}

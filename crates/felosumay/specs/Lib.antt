@@ -1,2 +1,3 @@
+pub mod Recorders
 pub mod Scenes
 pub mod Sources

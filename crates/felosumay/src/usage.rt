@@ -1,8 +1,10 @@
 //! The command line: its subcommands and what each takes.
 
+mod argument;
 mod line;
 
-use clap::{Arg, ArgAction, ArgMatches, Command, Error, value_parser};
+use argument::{Argument, Form, with_subcommands};
+use clap::{ArgMatches, Command, Error};
 use rdm_frame::standard::MOST_SUB_DEVICES;
 use std::alloc::Global;
 
@@ -51,22 +53,168 @@ pub const SPEED: &str = "speed";
 pub const MOST_FIXTURES: u16 = 512;
 
 /// What can be on the line if several fixtures answer at once.
-const COLLISIONS: [&str; 3] = [ALL_BITS, FIRST, RUBBISH];
+const COLLISIONS: &[&str] = &[ALL_BITS, FIRST, RUBBISH];
+
+const SCRIPT: Argument = Argument {
+    id: INPUT,
+    form: Form::Place,
+    value: "SCRIPT",
+    help: "The script; standard input if omitted or -",
+};
+
+const TRACE_TEXT: Argument = Argument {
+    id: INPUT,
+    form: Form::Place,
+    value: "TRACE",
+    help: "The trace; standard input if omitted or -",
+};
+
+const FIXTURE_FOR_WORDS: Argument = Argument {
+    id: FIXTURE,
+    form: Form::Option,
+    value: "FILE",
+    help: "The fixture for sensor units and status texts;\nstandard input if -, none if omitted",
+};
+
+const IN_WORDS: Argument = Argument {
+    id: WORDS,
+    form: Form::Flag,
+    value: "",
+    help: "Print the trace in words",
+};
+
+/// What `felosumay play` takes.
+const OF_PLAY: &[Argument] = &[
+    SCRIPT,
+    Argument {
+        id: FIXTURE,
+        form: Form::Option,
+        value: "FILE",
+        help: "The fixture to play it on; standard input if -,\nthe demonstration fixture if omitted",
+    },
+    IN_WORDS,
+    Argument {
+        id: CHART,
+        form: Form::Option,
+        value: "FILE.svg",
+        help: "Also write a chart of the trace to this file;\nif -, print the chart instead of the trace",
+    },
+];
+
+/// What `felosumay words` takes.
+const OF_WORDS: &[Argument] = &[TRACE_TEXT, FIXTURE_FOR_WORDS];
+
+/// What `felosumay chart` takes.
+const OF_CHART: &[Argument] = &[
+    TRACE_TEXT,
+    Argument {
+        id: OUTPUT,
+        form: Form::Letter('o'),
+        value: "FILE.svg",
+        help: "The file to write the chart to; standard output\nif omitted or -",
+    },
+    FIXTURE_FOR_WORDS,
+];
+
+/// What `felosumay fixture` takes.
+const OF_FIXTURE: &[Argument] = &[Argument {
+    id: INPUT,
+    form: Form::RequiredPlace,
+    value: "FILE",
+    help: "The fixture file; standard input if -",
+}];
+
+/// What `felosumay parameters` takes.
+const OF_PARAMETERS: &[Argument] = &[
+    Argument {
+        id: PARAMETER,
+        form: Form::Place,
+        value: "NAME",
+        help: "A parameter, by name or PID; all of them if omitted",
+    },
+    Argument {
+        id: FIXTURE,
+        form: Form::Option,
+        value: "FILE",
+        help: "The fixture; standard input if -,\nthe demonstration fixture if omitted",
+    },
+];
+
+/// What `felosumay widget` takes.
+const OF_WIDGET: &[Argument] = &[
+    Argument {
+        id: FIXTURE,
+        form: Form::Each,
+        value: "FILE",
+        help: "A fixture on the line, given once for each;\nthe demonstration fixture if omitted",
+    },
+    Argument {
+        id: COUNT,
+        form: Form::Number16(1, MOST_FIXTURES),
+        value: "N",
+        help: "The number of each fixture, with device IDs counted\nup; 1 if omitted",
+    },
+    Argument {
+        id: COLLISION,
+        form: Form::OneOf(COLLISIONS),
+        value: "RULE",
+        help: "What is on the line if several answer at once;\nall-bits if omitted\n",
+    },
+    Argument {
+        id: SUBS,
+        form: Form::Number16(0, MOST_SUB_DEVICES),
+        value: "N",
+        help: "The number of sub-devices; if omitted, all of the\nfile's, or none without a file",
+    },
+    Argument {
+        id: SPEED,
+        form: Form::Number32(1, 1000000),
+        value: "N",
+        help: "Run slow commands N times faster; 1 if omitted",
+    },
+    Argument {
+        id: SAVED,
+        form: Form::Option,
+        value: "FILE",
+        help: "Keep the fixture's values in this file, over restarts",
+    },
+];
+
+/// The subcommands but `line`: the name of each, what it does, and what it takes.
+const SUBCOMMANDS: &[(&str, &str, &[Argument])] = &[
+    (
+        "play",
+        "Play a script on a fixture and print the trace",
+        OF_PLAY,
+    ),
+    (
+        "words",
+        "Decode a trace, or frames in hexadecimal digits, into words",
+        OF_WORDS,
+    ),
+    ("chart", "Draw a trace as a sequence chart in SVG", OF_CHART),
+    (
+        "fixture",
+        "Check a fixture file and print what a controller will find",
+        OF_FIXTURE,
+    ),
+    (
+        "parameters",
+        "List a fixture's parameters and the data that they take",
+        OF_PARAMETERS,
+    ),
+    (
+        "widget",
+        "Run virtual fixtures as an ENTTEC DMX USB Pro on stdin and stdout",
+        OF_WIDGET,
+    ),
+];
 
 /// What the arguments ask for, the program's name first.
 pub fn matches<'a>(alloc: Global, words: &'a [String]) -> Result<ArgMatches<'a>, Error> {
-    command(alloc)?.try_get_matches_from(words)
-}
-
-/// The whole command line.
-fn command<'a>(alloc: Global) -> Result<Command<'a>, Error> {
-    let command = with(program(alloc)?, play(alloc))?;
-    let command = with(command, words(alloc))?;
-    let command = with(command, chart(alloc))?;
-    let command = with(command, fixture(alloc))?;
-    let command = with(command, parameters(alloc))?;
-    let command = with(command, widget(alloc))?;
-    with(command, line::command(alloc))
+    let command = with_subcommands(alloc, program(alloc)?, SUBCOMMANDS)?;
+    let line = line::command(alloc)?;
+    command.subcommand(line)?.try_get_matches_from(words)
 }
 
 /// The program, without its subcommands.
@@ -81,194 +229,4 @@ fn program<'a>(alloc: Global) -> Result<Command<'a>, Error> {
             "Exit status: 0 on success, 1 for invalid input, 2 if out of memory,\n3 if a run stops early, 4 if reading or writing fails, 64 for a usage error.",
         );
     Ok(command.bin_name("felosumay")?)
-}
-
-/// A command with one more subcommand, if that could be made.
-fn with<'a>(
-    command: Command<'a>,
-    subcommand: Result<Command<'a>, Error>,
-) -> Result<Command<'a>, Error> {
-    match subcommand {
-        Ok(subcommand) => Ok(command.subcommand(subcommand)?),
-        Err(error) => Err(error),
-    }
-}
-
-/// `felosumay play`.
-fn play<'a>(alloc: Global) -> Result<Command<'a>, Error> {
-    Ok(
-        Command::new(alloc, "play")
-            .about("Play a script on a fixture and print the trace")
-            .arg(input(
-                alloc,
-                "SCRIPT",
-                "The script; standard input if omitted or -",
-            ))?
-            .arg(fixture_file(
-                alloc,
-                "The fixture to play it on; standard input if -,\nthe demonstration fixture if omitted",
-            ))?
-            .arg(in_words(alloc))?
-            .arg(option(
-                alloc,
-                CHART,
-                "FILE.svg",
-                "Also write a chart of the trace to this file;\nif -, print the chart instead of the trace",
-            ))?,
-    )
-}
-
-/// `felosumay words`.
-fn words<'a>(alloc: Global) -> Result<Command<'a>, Error> {
-    Ok(
-        Command::new(alloc, "words")
-            .about("Decode a trace, or frames in hexadecimal digits, into words")
-            .arg(input(alloc, "TRACE", "The trace; standard input if omitted or -"))?
-            .arg(fixture_file(
-                alloc,
-                "The fixture for sensor units and status texts;\nstandard input if -, none if omitted",
-            ))?,
-    )
-}
-
-/// `felosumay chart`.
-fn chart<'a>(alloc: Global) -> Result<Command<'a>, Error> {
-    Ok(
-        Command::new(alloc, "chart")
-            .about("Draw a trace as a sequence chart in SVG")
-            .arg(input(alloc, "TRACE", "The trace; standard input if omitted or -"))?
-            .arg(output(alloc))?
-            .arg(fixture_file(
-                alloc,
-                "The fixture for sensor units and status texts;\nstandard input if -, none if omitted",
-            ))?,
-    )
-}
-
-/// `felosumay fixture`.
-fn fixture<'a>(alloc: Global) -> Result<Command<'a>, Error> {
-    Ok(
-        Command::new(alloc, "fixture")
-            .about("Check a fixture file and print what a controller will find")
-            .arg(input(alloc, "FILE", "The fixture file; standard input if -").required(true))?,
-    )
-}
-
-/// `felosumay parameters`.
-fn parameters<'a>(alloc: Global) -> Result<Command<'a>, Error> {
-    Ok(
-        Command::new(alloc, "parameters")
-            .about("List a fixture's parameters and the data that they take")
-            .arg(argument(
-                alloc,
-                PARAMETER,
-                "NAME",
-                "A parameter, by name or PID; all of them if omitted",
-            ))?
-            .arg(fixture_file(
-                alloc,
-                "The fixture; standard input if -,\nthe demonstration fixture if omitted",
-            ))?,
-    )
-}
-
-/// `felosumay widget`.
-fn widget<'a>(alloc: Global) -> Result<Command<'a>, Error> {
-    Ok(
-        Command::new(alloc, "widget")
-            .about("Run virtual fixtures as an ENTTEC DMX USB Pro on stdin and stdout")
-            .arg(fixture_file(
-                alloc,
-                "A fixture on the line, given once for each;\nthe demonstration fixture if omitted",
-            )
-            .action(ArgAction::Append))?
-            .arg(count(alloc))?
-            .arg(collision(alloc))?
-            .arg(subs(alloc))?
-            .arg(speed(alloc))?
-            .arg(option(
-                alloc,
-                SAVED,
-                "FILE",
-                "Keep the fixture's values in this file, over restarts",
-            ))?,
-    )
-}
-
-/// The option for words in place of the trace.
-fn in_words<'a>(alloc: Global) -> Arg<'a> {
-    Arg::new(alloc, WORDS)
-        .long(WORDS)
-        .action(ArgAction::SetTrue)
-        .help("Print the trace in words")
-}
-
-/// An argument by its place.
-fn argument<'a>(alloc: Global, id: &'a str, name: &'a str, help: &'a str) -> Arg<'a> {
-    Arg::new(alloc, id)
-        .value_name(name)
-        .action(ArgAction::Set)
-        .help(help)
-}
-
-/// An option with a value, by its name.
-fn option<'a>(alloc: Global, id: &'a str, name: &'a str, help: &'a str) -> Arg<'a> {
-    argument(alloc, id, name, help).long(id)
-}
-
-/// The option for how many sub-devices there are.
-fn subs<'a>(alloc: Global) -> Arg<'a> {
-    Arg::new(alloc, SUBS)
-        .long(SUBS)
-        .value_name("N")
-        .value_parser(value_parser!(u16).range(0..=i64::from(MOST_SUB_DEVICES)))
-        .help("The number of sub-devices; if omitted, all of the\nfile's, or none without a file")
-}
-
-/// The option for how fast time passes.
-fn speed<'a>(alloc: Global) -> Arg<'a> {
-    Arg::new(alloc, SPEED)
-        .long(SPEED)
-        .value_name("N")
-        .value_parser(value_parser!(u32).range(1..=1000000))
-        .help("Run slow commands N times faster; 1 if omitted")
-}
-
-/// The option that names the file of a chart.
-fn output<'a>(alloc: Global) -> Arg<'a> {
-    option(
-        alloc,
-        OUTPUT,
-        "FILE.svg",
-        "The file to write the chart to; standard output\nif omitted or -",
-    )
-    .short('o')
-}
-
-/// The option for how many of each fixture there are.
-fn count<'a>(alloc: Global) -> Arg<'a> {
-    Arg::new(alloc, COUNT)
-        .long(COUNT)
-        .value_name("N")
-        .value_parser(value_parser!(u16).range(1..=i64::from(MOST_FIXTURES)))
-        .help("The number of each fixture, with device IDs counted\nup; 1 if omitted")
-}
-
-/// The option for what is on the line if several fixtures answer at once.
-fn collision<'a>(alloc: Global) -> Arg<'a> {
-    Arg::new(alloc, COLLISION)
-        .long(COLLISION)
-        .value_name("RULE")
-        .value_parser(COLLISIONS.as_slice())
-        .help("What is on the line if several answer at once;\nall-bits if omitted\n")
-}
-
-/// A text that is read, by its place.
-fn input<'a>(alloc: Global, name: &'a str, help: &'a str) -> Arg<'a> {
-    argument(alloc, INPUT, name, help)
-}
-
-/// The option of a fixture file.
-fn fixture_file<'a>(alloc: Global, help: &'a str) -> Arg<'a> {
-    option(alloc, FIXTURE, "FILE", help)
 }

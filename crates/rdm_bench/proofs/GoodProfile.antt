@@ -1,15 +1,15 @@
 -- A device can be made with the profile.
 use Rattle.std.proofs.Common.{◌≢◌, ℕ, ◌<◌, ◌≤◌, Bool, true, false, [], refl, IsTrue, arith, lit<, lit≤}
 use Rattle.std.proofs.lemmas.List.Elements.{All-from_recursion}
-use Rattle.rdm_device.specs.declared.profile.own.ParameterDef.{ParameterDef}
-use Rattle.rdm_device.specs.Device.Choices.{agrees}
-use Rattle.rdm_device.specs.Device.Demo.{demo}
-use Rattle.rdm_device.specs.declared.profile.locks.Lock.{Lock}
-use Rattle.rdm_device.specs.Device.Locks.{can_hold, can_open, has_state}
-use Rattle.rdm_device.specs.Device.OwnParameters.{is_addable, has_limits, can_start, has_good_fields}
-use Rattle.rdm_device.specs.Device.Standards.{follows}
-use Rattle.rdm_device.specs.Device.Profiles.{AreGoodParameters, CanBeMade}
-use Rattle.rdm_device.proofs.DemoLemmas.{demo_can_be_made, none_good, two_differ}
+use Rattle.rdm_profile.specs.declared.profile.own.ParameterDef.{ParameterDef}
+use Rattle.rdm_profile.specs.Choices.{agrees}
+use Rattle.rdm_profile.specs.Demo.{demo}
+use Rattle.rdm_profile.specs.declared.profile.locks.Lock.{Lock}
+use Rattle.rdm_profile.specs.Locks.{can_hold, can_open, has_state}
+use Rattle.rdm_profile.specs.OwnParameters.{is_addable, has_limits, can_start, has_good_fields}
+use Rattle.rdm_profile.specs.Standards.{follows}
+use Rattle.rdm_profile.specs.Profiles.{AreGoodParameters, CanBeMade}
+use Rattle.rdm_profile.proofs.DemoLemmas.{demo_can_be_made, none_good, two_differ}
 use Rattle.rdm_bench.specs.Device.{own_numbers, bench_profile}
 
 numbers_good : AreGoodParameters own_numbers []

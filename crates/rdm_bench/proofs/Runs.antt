@@ -7,7 +7,7 @@ use Rattle.std.proofs.lemmas.List.{append-nil, get_or-map, length-map, take_all}
 use Rattle.std.proofs.lemmas.List.Elements.{filter_map-append}
 use Rattle.std.proofs.lemmas.Grind.{flat_map-append}
 use Rattle.rdm_outbox.specs.declared.job.Job.{Job}
-use Rattle.rdm_params.specs.declared.jobs.outcome.Outcome.{Outcome}
+use Rattle.rdm_commands.specs.declared.jobs.outcome.Outcome.{Outcome}
 use Rattle.rdm_responder.specs.declared.report.Arrival.{Arrival}
 use Rattle.rdm_responder.specs.declared.report.Astray.{Astray}
 use Rattle.rdm_responder.specs.declared.report.Report.{Report}

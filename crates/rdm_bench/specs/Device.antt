@@ -1,12 +1,12 @@
 -- The device that hears frames.
 use Rattle.std.specs.Prelude.{ℕ, ℤ, pos, Bool, true, List, [], ◌∷◌, if◌then◌else◌}
-use Rattle.rdm_device.specs.declared.profile.Profile.{Profile}
-use Rattle.rdm_device.specs.declared.profile.own.ParameterDef.{ParameterDef}
-use Rattle.rdm_device.specs.declared.profile.own.Rights.TheVariants.{Both}
-use Rattle.rdm_device.specs.declared.profile.own.Shape.{Shape}
-use Rattle.rdm_device.specs.declared.profile.own.Shape.TheVariants.{Byte, Word}
-use Rattle.rdm_device.specs.Device.Demo.{demo}
-use Rattle.rdm_device.specs.Device.Particulars.{usual_particular}
+use Rattle.rdm_profile.specs.declared.profile.Profile.{Profile}
+use Rattle.rdm_profile.specs.declared.profile.own.ParameterDef.{ParameterDef}
+use Rattle.rdm_profile.specs.declared.profile.own.Rights.TheVariants.{Both}
+use Rattle.rdm_profile.specs.declared.profile.own.Shape.{Shape}
+use Rattle.rdm_profile.specs.declared.profile.own.Shape.TheVariants.{Byte, Word}
+use Rattle.rdm_profile.specs.Demo.{demo}
+use Rattle.rdm_profile.specs.Particulars.{usual_particular}
 
 -- a number from 0 on, with GET and SET
 abbrev pub own_number : ℕ → Shape → ℤ → List ℕ → ParameterDef

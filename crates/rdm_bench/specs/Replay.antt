@@ -1,7 +1,7 @@
 -- Frames that a responder hears, the jobs that they start, and the bytes of its replies.
 use Rattle.std.specs.Prelude.{◌≡◌, ℕ, zero, suc, Bool, List, [], ◌++◌, Option, Some, None, filter_map, flat_map, unwrap_or}
 use Rattle.rdm_outbox.specs.declared.job.Job.{Job}
-use Rattle.rdm_outbox.specs.State.{most_entries}
+use Rattle.rdm_outbox.specs.Settings.{most_entries}
 use Rattle.rdm_responder.specs.declared.report.Report.{Report}
 use Rattle.rdm_responder.specs.declared.run.Input.{Input}
 use Rattle.rdm_responder.specs.declared.run.Input.TheVariants as input

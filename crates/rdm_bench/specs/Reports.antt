@@ -1,11 +1,11 @@
 -- The reports of jobs.
 use Rattle.std.specs.Prelude.{ℕ, pos, ◌==◌, if◌then◌else◌, List, Option, Some, None, option_map, filter_map}
-use Rattle.rdm_params.specs.declared.kind.Verb.{Verb}
-use Rattle.rdm_params.specs.declared.kind.Verb.TheVariants.{Get, Set}
-use Rattle.rdm_params.specs.declared.jobs.outcome.Outcome.{Outcome}
-use Rattle.rdm_params.specs.declared.jobs.outcome.Outcome.TheVariants as outcome
-use Rattle.rdm_params.specs.declared.jobs.status.Severity.{Severity}
-use Rattle.rdm_params.specs.declared.jobs.status.Severity.TheVariants as severity
+use Rattle.rdm_frame.specs.declared.status.Severity.{Severity}
+use Rattle.rdm_frame.specs.declared.status.Severity.TheVariants as severity
+use Rattle.rdm_table.specs.declared.kind.Verb.{Verb}
+use Rattle.rdm_table.specs.declared.kind.Verb.TheVariants.{Get, Set}
+use Rattle.rdm_commands.specs.declared.jobs.outcome.Outcome.{Outcome}
+use Rattle.rdm_commands.specs.declared.jobs.outcome.Outcome.TheVariants as outcome
 use Rattle.rdm_outbox.specs.declared.job.Job.{Job}
 use Rattle.rdm_responder.specs.declared.report.Report.{Report}
 use Rattle.rdm_bench.specs.declared.reports.Reports.{Reports}

@@ -1,9 +1,8 @@
 //! What C calls.
 
 ghost use Rattle.std.specs.Prelude.{◌≡◌, ◌≢◌, ◌↔◌, ◌<◌, ◌≤◌, ◌++◌, ℕ, List, IfOk};
-ghost use Rattle.rdm_outbox.specs.State.{IsListSize};
+ghost use Rattle.rdm_outbox.specs.Settings.{IsListSize, IsQueueSize};
 ghost use Rattle.rdm_responder.specs.History.{History, empty_history};
-ghost use Rattle.rdm_responder.specs.StandsFor.{IsQueueSize};
 ghost use Rattle.rdm_bench.specs.Packed.{packed, ArePackable};
 ghost use Rattle.rdm_bench.specs.Replay.{repeated, bench_setup, IsReplay, AnswersReplay};
 
@@ -13,7 +12,7 @@ use crate::replay::Replay;
 use crate::{Fault, Reports, Tally};
 use rdm_frame::standard::MOST_SUB_DEVICES;
 use rdm_params::Profile;
-use rdm_responder::{NewError, Responder};
+use rdm_responder::{Responder, Settings};
 use std::alloc::{AllocError, Global};
 
 /// Makes a responder with that many sub-devices, and with two parameters of its maker's own if `own` says so, lets it hear the
@@ -60,11 +59,23 @@ pub extern "C" fn rdm_bench_make(alloc: Global, queue_size: u16, entries: u16) -
     ensures codes { result ≤ 2 }
     ensures bad_size { (result ≡ 2) ↔ (¬ (IsQueueSize queue_size × IsListSize entries)) }
 {
-    match Responder::with_entries(alloc, DEVICE, Profile::demo(0), queue_size, entries) {
+    let settings = Settings {
+        uid: DEVICE,
+        queue_size,
+        entries,
+        first_job: 0,
+    };
+    // The UID addresses one device, so that it is a size that is refused.
+    if settings.refusal().is_some() {
+        return 2;
+    }
+    let Ok(profile) = Box::new(alloc, Profile::demo(0)) else {
+        return 1;
+    };
+    // The profile is such as a responder takes.
+    match Responder::with_settings(alloc, &settings, profile) {
         Ok(_) => 0,
-        Err(NewError::BadSize) => 2,
-        // The UID addresses one device, and the profile is such as a responder takes.
-        Err(NewError::OutOfMemory | NewError::BadProfile | NewError::BadUid) => 1,
+        Err(_) => 1,
     }
 }
 

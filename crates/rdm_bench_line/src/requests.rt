@@ -5,7 +5,7 @@ use rdm_frame::standard::{FIRST_PORT, GET_COMMAND, ROOT_DEVICE};
 use rdm_frame::{Body, Frame, Uid, Wire, encode};
 use rdm_line::{Collision, Line, OnWire};
 use rdm_params::Profile;
-use rdm_responder::Responder;
+use rdm_responder::{Responder, Settings};
 use std::alloc::{AllocError, Global};
 
 /// IDENTIFY_DEVICE (E1.20 section 10.11).
@@ -101,7 +101,16 @@ fn scattered(number: u64) -> Uid {
 
 /// The responder of the device with this UID.
 fn responder(alloc: Global, uid: Uid) -> Result<Responder, Fault> {
-    let responder = Responder::with_entries(alloc, uid, Profile::demo(0), 1, 1)?;
+    let settings = Settings {
+        uid,
+        queue_size: 1,
+        entries: 1,
+        first_job: 0,
+    };
+    let Ok(profile) = Box::new(alloc, Profile::demo(0)) else {
+        return Err(Fault::OutOfMemory(AllocError));
+    };
+    let responder = Responder::with_settings(alloc, &settings, profile)?;
     Ok(responder)
 }
 

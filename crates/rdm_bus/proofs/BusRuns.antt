@@ -9,11 +9,15 @@ use Rattle.std.proofs.lemmas.List.Sums.{fold-append}
 use Rattle.rdm_frame.specs.declared.frame.Frame.{Frame}
 use Rattle.rdm_frame.specs.FrameText.{frame_text, IsFrame}
 use Rattle.rdm_frame.specs.Reading.{frame_in}
-use Rattle.rdm_params.specs.declared.jobs.ask.Ask.{Ask}
-use Rattle.rdm_params.specs.declared.jobs.ask.Ask.TheVariants as asks
-use Rattle.rdm_params.specs.declared.panel.Change.{Change}
-use Rattle.rdm_params.specs.declared.jobs.message.Message.{Message}
-use Rattle.rdm_params.specs.declared.verdict.Verdict.TheVariants.{Queue}
+use Rattle.rdm_frame.specs.declared.message.Message.{Message}
+use Rattle.rdm_frame.specs.declared.fault.Fault.{Fault}
+use Rattle.rdm_frame.specs.declared.fault.Fault.TheVariants as fault
+use Rattle.rdm_frame.specs.Faults.{request_heard, altered, IsFault}
+use Rattle.rdm_frame.proofs.Alterations.{altered_is_no_frame}
+use Rattle.rdm_commands.specs.declared.jobs.ask.Ask.{Ask}
+use Rattle.rdm_commands.specs.declared.jobs.ask.Ask.TheVariants as asks
+use Rattle.rdm_commands.specs.declared.panel.Change.{Change}
+use Rattle.rdm_commands.specs.declared.verdict.Verdict.TheVariants.{Queue}
 use Rattle.rdm_params.specs.Commands.Commands.{got}
 use Rattle.rdm_params.specs.Device.Parameters.{Parameters}
 use Rattle.rdm_params.specs.Jobs.Laws.{GetQueues, GetStatuses, SetFetchesNothing}
@@ -31,20 +35,16 @@ use Rattle.rdm_bus.specs.declared.event.Event.{Event}
 use Rattle.rdm_bus.specs.declared.event.Event.TheVariants.{Bus, Arrived, Changed}
 use Rattle.rdm_bus.specs.declared.event.Step.{Step}
 use Rattle.rdm_bus.specs.declared.event.Step.TheVariants.{Ask as ask_step, Collect, Arrive, Change as change_step}
-use Rattle.rdm_bus.specs.declared.fault.Fault.{Fault}
-use Rattle.rdm_bus.specs.declared.fault.Fault.TheVariants as fault
 use Rattle.rdm_collector.specs.declared.want.Want.{Want}
 use Rattle.rdm_collector.specs.declared.want.Want.TheVariants.{Advisory, Warning, Error}
 use Rattle.rdm_collector.specs.Collecting.{State, refusal_of, command_request, after_ask, poll_request, poll_type, after_poll, heard_in}
-use Rattle.rdm_bus.specs.Faults.{request_heard, altered}
 use Rattle.rdm_collector.specs.Requests.{is_reserved, type_of}
-use Rattle.rdm_bus.specs.BusRun.{Start, controller_at, replied, came, transaction, IsFault, IsPlayed, is_message_heard, after, after_all, IsBusRun}
+use Rattle.rdm_bus.specs.BusRun.{Start, controller_at, replied, came, transaction, IsPlayed, is_message_heard, after, after_all, IsBusRun}
 use Rattle.rdm_bus.specs.BusLaws.{message_in, dispensed, dispensed_by, recorded, recorded_by, recorded_if, carried, queue_of, BusLaws, BusLawsHold}
 use Rattle.rdm_collector.specs.Recording.{NoLossLaw}
 use Rattle.rdm_collector.specs.Polling as polling
 use Rattle.rdm_collector.specs.Polling.{IsReply, IsRun, given_between}
 use Rattle.rdm_collector.specs.Polling.Event.{Arrived as Enters, Polled}
-use Rattle.rdm_bus.proofs.Alterations.{altered_is_no_frame}
 use Rattle.rdm_collector.proofs.PollingRuns.{laws_hold}
 use Rattle.rdm_bus.proofs.Queues.{queue_at, queue_still, command_still, within, heard_nothing, heard_frame, report_arrived, Changing, Says, Stays, value_changed, got_last, got_advisory, got_warning, got_error, polled, Poll, Unanswered, Answered, poll_becomes}
 use Rattle.rdm_bus.proofs.ReadBack.{message_read}

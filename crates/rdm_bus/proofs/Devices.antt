@@ -1,7 +1,7 @@
 -- Two wrong devices break the prefix law, each in a run of two or three polls.
 use Rattle.std.proofs.Common.{◌≡◌, Bool, true, false, not, [], ◌∷◌, Option, Some, None, refl, sym, ap, subst}
 use Rattle.std.specs.Prelude.{slice_get, unwrap_or, IfSome}
-use Rattle.rdm_params.specs.declared.jobs.message.Message.{Message}
+use Rattle.rdm_frame.specs.declared.message.Message.{Message}
 use Rattle.rdm_outbox.specs.Statuses.{status_message}
 use Rattle.rdm_bus.specs.Devices.{after_next, dequeues_again, forgets_empty_status, RightDeviceIsPolled, BreaksPrefixLaw}
 use Rattle.rdm_collector.specs.Polling.{IsRun, after}

@@ -3,6 +3,8 @@ use Rattle.std.proofs.Common.{◌≡◌, ℕ, zero, suc, ◌+◌, ◌%◌, ◌<�
 use Rattle.std.specs.Option.{option_map, option_and_then}
 use Rattle.rdm_frame.specs.declared.uid.Uid.{Uid}
 use Rattle.rdm_frame.specs.FrameText.{frame_text}
+use Rattle.rdm_frame.specs.declared.fault.Fault.{Fault}
+use Rattle.rdm_frame.specs.Faults.{request_heard}
 use Rattle.rdm_outbox.specs.declared.job.Job.{Job}
 use Rattle.rdm_responder.specs.History.{History}
 use Rattle.rdm_responder.specs.Rules.{job_of}
@@ -11,11 +13,9 @@ use Rattle.rdm_bus.specs.declared.event.Event.{Event}
 use Rattle.rdm_bus.specs.declared.event.Event.TheVariants.{Bus, Arrived, Changed}
 use Rattle.rdm_bus.specs.declared.event.Step.{Step}
 use Rattle.rdm_bus.specs.declared.event.Step.TheVariants as step
-use Rattle.rdm_bus.specs.declared.fault.Fault.{Fault}
 use Rattle.rdm_collector.specs.declared.transaction.Heard.{Heard}
 use Rattle.rdm_bus.specs.BusRun.{Start, controller_at, replied, came, transaction, IsTransaction, IsPlayed, after, after_all, IsBusRun}
 use Rattle.rdm_collector.specs.Collecting.{State, after_ask, after_poll, command_request, heard_in}
-use Rattle.rdm_bus.specs.Faults.{request_heard}
 use Rattle.rdm_collector.specs.Hearing.{IsHeardAs}
 use Rattle.rdm_bus.specs.Hearing.{number_after, CommandSendingHolds, HearingHolds}
 use Rattle.rdm_bus.specs.Numbering.{requests_in}

@@ -1,5 +1,4 @@
 pub mod Accounts
-pub mod Alterations
 pub mod BusRuns
 pub mod Devices
 pub mod Headlines

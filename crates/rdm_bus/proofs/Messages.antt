@@ -7,8 +7,9 @@ use Rattle.std.proofs.lemmas.Bool.{ltb-true, ltb-false}
 use Rattle.std.proofs.lemmas.List.{drop-map, drop-append-le, length-map}
 use Rattle.rdm_frame.specs.declared.frame.Frame.{Frame}
 use Rattle.rdm_frame.specs.FrameText.{frame_text}
-use Rattle.rdm_params.specs.declared.panel.Change.{Change}
-use Rattle.rdm_params.specs.declared.jobs.message.Message.{Message}
+use Rattle.rdm_frame.specs.declared.message.Message.{Message}
+use Rattle.rdm_frame.specs.declared.fault.Fault.{Fault}
+use Rattle.rdm_commands.specs.declared.panel.Change.{Change}
 use Rattle.rdm_params.specs.Jobs.Laws.{GetQueues, GetStatuses, SetFetchesNothing}
 use Rattle.rdm_responder.specs.declared.report.Report.{Report}
 use Rattle.rdm_responder.specs.History.{History}
@@ -17,7 +18,6 @@ use Rattle.rdm_bus.specs.declared.event.Event.{Event}
 use Rattle.rdm_bus.specs.declared.event.Event.TheVariants.{Bus, Arrived, Changed}
 use Rattle.rdm_bus.specs.declared.event.Step.{Step}
 use Rattle.rdm_bus.specs.declared.event.Step.TheVariants as step
-use Rattle.rdm_bus.specs.declared.fault.Fault.{Fault}
 use Rattle.rdm_collector.specs.Collecting.{State, command_request, poll_request, after_ask, after_poll}
 use Rattle.rdm_bus.specs.BusRun.{Start, controller_at, replied, transaction, IsPlayed, after, after_all}
 use Rattle.rdm_bus.specs.BusLaws.{carried, message_in, dispensed_by, queue_of}

@@ -12,7 +12,11 @@ use Rattle.rdm_frame.specs.Addressing.{is_broadcast}
 use Rattle.rdm_frame.specs.Discovery.{branch_reply}
 use Rattle.rdm_frame.specs.FrameText.{head_slots, frame_text, IsFrame}
 use Rattle.rdm_frame.specs.Reading.{frame_in}
-use Rattle.rdm_params.specs.declared.jobs.message.Message.{Message}
+use Rattle.rdm_frame.specs.declared.message.Message.{Message}
+use Rattle.rdm_frame.specs.declared.fault.Fault.{Fault}
+use Rattle.rdm_frame.specs.declared.fault.Fault.TheVariants as fault
+use Rattle.rdm_frame.specs.Faults.{altered, request_heard, IsFault}
+use Rattle.rdm_frame.proofs.Alterations.{none_in, text_length, raised_is_no_frame, altered_is_no_frame}
 use Rattle.rdm_outbox.specs.declared.job.Job.{Job}
 use Rattle.rdm_responder.specs.History.{History}
 use Rattle.rdm_responder.specs.Lawful.{IsLawful}
@@ -21,19 +25,15 @@ use Rattle.rdm_responder.specs.Rules.{Account, Response, account_of, answer_to, 
 use Rattle.rdm_bus.specs.declared.event.Event.{Event}
 use Rattle.rdm_bus.specs.declared.event.Event.TheVariants.{Bus}
 use Rattle.rdm_bus.specs.declared.event.Step.{Step}
-use Rattle.rdm_bus.specs.declared.fault.Fault.{Fault}
-use Rattle.rdm_bus.specs.declared.fault.Fault.TheVariants as fault
 use Rattle.rdm_collector.specs.declared.transaction.Heard.{Heard}
 use Rattle.rdm_collector.specs.declared.transaction.Heard.TheVariants as heard
 use Rattle.rdm_collector.specs.Answers.{message_of}
 use Rattle.rdm_collector.specs.Collecting.{State, after_poll, heard_as, heard_in, without_transaction, after_frame, after_hearing}
-use Rattle.rdm_bus.specs.Faults.{altered, request_heard}
-use Rattle.rdm_bus.specs.BusRun.{Start, controller_at, replied, came, transaction, IsFault, IsPlayed, reply_in, after_reply, is_message_heard, after, after_all, IsBusRun, IsAlteredInVain}
+use Rattle.rdm_bus.specs.BusRun.{Start, controller_at, replied, came, transaction, IsPlayed, reply_in, after_reply, is_message_heard, after, after_all, IsBusRun, IsAlteredInVain}
 use Rattle.rdm_bus.specs.BusLaws.{dispensed_by, recorded, recorded_by, recorded_if}
 use Rattle.rdm_bus.specs.Happened.{reported_in}
 use Rattle.rdm_bus.specs.Headline.{Headline, HeadlineHolds, unclosed}
 use Rattle.rdm_bus.specs.Systems.{Played, Stands, IsTrace}
-use Rattle.rdm_bus.proofs.Alterations.{none_in, text_length, raised_is_no_frame, altered_is_no_frame}
 use Rattle.rdm_bus.proofs.BusRuns.{reply_is}
 
 -- ---- what is altered

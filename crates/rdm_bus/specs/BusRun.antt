@@ -6,6 +6,9 @@ use Rattle.std.specs.Option.{option_map, option_map_or, option_and_then}
 use Rattle.rdm_frame.specs.declared.uid.Uid.{Uid}
 use Rattle.rdm_frame.specs.declared.frame.Frame.{Frame}
 use Rattle.rdm_frame.specs.FrameText.{frame_text, IsFrame}
+use Rattle.rdm_frame.specs.declared.fault.Fault.{Fault}
+use Rattle.rdm_frame.specs.declared.fault.Fault.TheVariants as fault
+use Rattle.rdm_frame.specs.Faults.{IsFault, request_heard, reply_heard}
 use Rattle.rdm_responder.specs.History as history
 use Rattle.rdm_responder.specs.History.{History, then_event}
 use Rattle.rdm_responder.specs.Rules.{reply_of, job_of}
@@ -14,13 +17,10 @@ use Rattle.rdm_bus.specs.declared.event.Event.{Event}
 use Rattle.rdm_bus.specs.declared.event.Event.TheVariants.{Bus, Arrived, Changed}
 use Rattle.rdm_bus.specs.declared.event.Step.{Step}
 use Rattle.rdm_bus.specs.declared.event.Step.TheVariants.{Ask, Collect, Arrive, Change}
-use Rattle.rdm_bus.specs.declared.fault.Fault.{Fault}
-use Rattle.rdm_bus.specs.declared.fault.Fault.TheVariants as fault
 use Rattle.rdm_collector.specs.declared.transaction.Heard.{Heard}
 use Rattle.rdm_collector.specs.declared.transaction.Heard.TheVariants as heard
 use Rattle.rdm_collector.specs.declared.want.Want.{Want}
 use Rattle.rdm_collector.specs.Collecting.{State, refusal_of, command_request, after_ask, poll_request, after_poll, heard_in, after_hearing, without_transaction}
-use Rattle.rdm_bus.specs.Faults.{request_heard, reply_heard}
 
 -- Where a bus stands between two transactions: what has happened to the device; the UIDs of the controller and of the
 -- device that it polls, and what it wants; the number of the next transaction; and whether the last poll has no answer.
@@ -52,18 +52,6 @@ abbrev pub transaction : History → State → Bool → Fault → List ℕ → E
 transaction h waiting poll fault sent =
     Bus sent poll fault (replied h fault sent) (option_and_then (job_of h) (request_heard fault sent))
     (option_map (heard_in waiting) (came fault (replied h fault sent)))
-
--- by how much a fault raises a slot
-abbrev pub raise_of : Fault → Option ℕ
-raise_of fault.None = None
-raise_of fault.LostRequest = None
-raise_of fault.LostReply = None
-raise_of (fault.BadRequest k x) = Some x
-raise_of (fault.BadReply k x) = Some x
-
--- it raises one, if it does, by 1 to 255
-abbrev pub IsFault : Fault → Type 0
-IsFault fault = IfSome (raise_of fault) (λ x. (0 < x) × (x < 256))
 
 -- This frame is sent, and this is what comes of it.
 pub record IsTransaction (h : History) (waiting : State) (poll : Bool) (request : Frame) (fault : Fault) (event : Event) : Type 0 where

@@ -1,6 +1,6 @@
 -- Devices that a collector polls: the one of E1.20 section 10.3.1, and two that are wrong.
 use Rattle.std.specs.Prelude.{◌≡◌, ◌+◌, min, Bool, true, false, not, List, [], ◌∷◌, length, fold, slice_get, unwrap_or, nat_lt, if◌then◌else◌, Some, None}
-use Rattle.rdm_params.specs.declared.jobs.message.Message.{Message}
+use Rattle.rdm_frame.specs.declared.message.Message.{Message}
 use Rattle.rdm_outbox.specs.Statuses.{status_message}
 use Rattle.rdm_collector.specs.Polling.{Queue, Event, IsRun, after, unanswered_after, dispensed, recorded}
 use Rattle.rdm_collector.specs.Polling.Event.{Arrived, Polled}

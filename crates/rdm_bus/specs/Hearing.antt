@@ -2,13 +2,13 @@
 -- keeps. E1.20 sections 6.2 and 6.3.1.
 use Rattle.std.specs.Prelude.{◌≡◌, ◌↔◌, ℕ, ◌+◌, ◌%◌, Bool, false, List, ◌∷◌, ◌++◌, length, take, slice_get, Option, Some}
 use Rattle.rdm_frame.specs.FrameText.{frame_text}
+use Rattle.rdm_frame.specs.declared.fault.Fault.{Fault}
 use Rattle.rdm_outbox.specs.declared.job.Job.{Job}
 use Rattle.rdm_collector.specs.declared.command.Command.{Command}
 use Rattle.rdm_bus.specs.declared.event.Event.{Event}
 use Rattle.rdm_bus.specs.declared.event.Event.TheVariants.{Bus}
 use Rattle.rdm_bus.specs.declared.event.Step.{Step}
 use Rattle.rdm_bus.specs.declared.event.Step.TheVariants.{Ask}
-use Rattle.rdm_bus.specs.declared.fault.Fault.{Fault}
 use Rattle.rdm_collector.specs.declared.transaction.Heard.{Heard}
 use Rattle.rdm_collector.specs.Hearing.{IsHeardAs}
 use Rattle.rdm_bus.specs.BusRun.{Start, came, IsBusRun}

@@ -1,4 +1,3 @@
-pub mod Faults
 pub mod Devices
 pub mod BusRun
 pub mod BusLaws

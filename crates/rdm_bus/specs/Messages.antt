@@ -2,7 +2,7 @@
 -- once, in order of arrival. E1.20 section 10.3.1.
 use Rattle.std.specs.Prelude.{◌≡◌, Bool, if◌then◌else◌, List, [], ◌∷◌, ◌++◌, map, nat_lt, Some, None}
 use Rattle.std.specs.List.{flat_map}
-use Rattle.rdm_params.specs.declared.jobs.message.Message.{Message}
+use Rattle.rdm_frame.specs.declared.message.Message.{Message}
 use Rattle.rdm_outbox.specs.Jobs.{waiting_of}
 use Rattle.rdm_responder.specs.Runs.{outbox_of}
 use Rattle.rdm_bus.specs.declared.event.Event.{Event}

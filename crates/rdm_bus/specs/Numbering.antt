@@ -4,6 +4,7 @@ use Rattle.std.specs.Prelude.{◌≡◌, ℕ, ◌+◌, ◌%◌, Bool, true, fals
 use Rattle.std.specs.List.{flat_map}
 use Rattle.rdm_frame.specs.declared.frame.Frame.{Frame}
 use Rattle.rdm_frame.specs.FrameText.{frame_text, IsFrame}
+use Rattle.rdm_frame.specs.declared.fault.Fault.{Fault}
 use Rattle.rdm_outbox.specs.declared.job.Job.{Job}
 use Rattle.rdm_outbox.specs.Jobs.{jobs_of, number_after}
 use Rattle.rdm_responder.specs.History.{History}
@@ -11,7 +12,6 @@ use Rattle.rdm_responder.specs.Runs.{outbox_of}
 use Rattle.rdm_bus.specs.declared.event.Event.{Event}
 use Rattle.rdm_bus.specs.declared.event.Event.TheVariants.{Bus, Arrived, Changed}
 use Rattle.rdm_bus.specs.declared.event.Step.{Step}
-use Rattle.rdm_bus.specs.declared.fault.Fault.{Fault}
 use Rattle.rdm_collector.specs.declared.transaction.Heard.{Heard}
 use Rattle.rdm_collector.specs.Requests.{type_of, request_of, queued_message}
 use Rattle.rdm_bus.specs.BusRun.{Start, is_message_heard, IsBusRun}

@@ -1,8 +1,8 @@
 -- When a system is what a run of the bus comes to.
 use Rattle.std.specs.Prelude.{◌≡◌, List, nat_lt, length, Option, Some, None, if◌then◌else◌}
 use Rattle.std.specs.List.{AllByRecursion}
+use Rattle.rdm_frame.specs.declared.message.Message.{Message}
 use Rattle.rdm_responder.specs.History.{History}
-use Rattle.rdm_params.specs.declared.jobs.message.Message.{Message}
 use Rattle.rdm_responder.specs.Lawful.{MayArrive, MayChange}
 use Rattle.rdm_responder.specs.Rules.{account_of}
 use Rattle.rdm_responder.specs.StandsFor as responder

@@ -3,9 +3,8 @@
 ghost use Rattle.std.specs.Prelude.{◌≡◌};
 ghost use Rattle.rdm_bus.specs.BusRun.{fault_of};
 
-use crate::fault::Fault;
 use rdm_collector::{Command, Heard};
-use rdm_frame::Wire;
+use rdm_frame::{Fault, Wire};
 use rdm_outbox::Job;
 use rdm_params::{Change, Message};
 use rdm_responder::Report;

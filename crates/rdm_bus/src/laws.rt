@@ -2,21 +2,14 @@
 
 ghost use Rattle.std.specs.Prelude.{◌≡◌, ◌↔◌, IsTrue};
 ghost use Rattle.rdm_bus.specs.Devices.{dequeues_again, forgets_empty_status, BreaksPrefixLaw, RightDeviceIsPolled};
-ghost use Rattle.rdm_bus.specs.Faults.{AlteredIsNoFrame};
 ghost use Rattle.rdm_bus.specs.BusLaws.{BusLawsHold};
 ghost use Rattle.rdm_bus.specs.Headline.{HeadlineHolds, TwiceIsRuledOut, LaterFirstIsRuledOut, AnsweringTheUnheardIsRuledOut, AfterTheCloseIsRuledOut, SkippingIsRuledOut, RecordingNothingIsRuledOut, RecordingTwiceIsRuledOut, DroppingAnEqualOneIsRuledOut, BookingNoPollIsRuledOut, AnotherMessageIsRuledOut};
 ghost use Rattle.rdm_bus.specs.Hearing.{CommandSendingHolds, HearingHolds};
 ghost use Rattle.rdm_bus.specs.Messages.{KeepingHolds};
 ghost use Rattle.rdm_bus.specs.Numbering.{NumberingHolds, PollingInTurnHolds, JobsAreNumbered, NumbersDiffer};
 
-use crate::{Fault, PlayError};
+use crate::PlayError;
 use rdm_params::two_commands_fetch;
-
-/// A frame with one slot raised by 1 to 255 isn't a valid frame: nobody on the bus takes it for one.
-#[tactic(auto, using(crate::proofs::Alterations::altered_is_no_frame))]
-pub fn altered_frame_is_no_frame()
-    ensures { AlteredIsNoFrame }
-{}
 
 /// Both recording laws hold of every run of the bus, from every history of the device: whichever commands, polls, arrivals and
 /// changes at its menu there are, whichever requests and replies are lost or altered, and however many in a row.
@@ -102,11 +95,6 @@ pub fn wrong_devices_break_the_prefix_law()
     ensures dequeues_again { BreaksPrefixLaw dequeues_again }
     ensures forgets_empty_status { BreaksPrefixLaw forgets_empty_status }
     ensures right { RightDeviceIsPolled }
-{}
-
-/// Two faults are equal by `==` exactly when they are the same, slot and raise included.
-pub fn faults_are_equal_by_value()
-    ensures { (a b : Fault) → IsTrue (⟦<Fault as PartialEq>⟧.eq a b) ↔ (a ≡ b) }
 {}
 
 /// Two refusals of a step are equal by `==` exactly when they are the same.

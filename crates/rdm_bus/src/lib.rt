@@ -11,18 +11,14 @@
 #![tactic(auto)]
 
 mod event;
-mod fault;
 mod laws;
-mod ranges;
 mod system;
 
 pub use event::{Event, Step};
-pub use fault::Fault;
 pub use laws::{
-    altered_frame_is_no_frame, answers_are_heard, bus_recording_laws_hold, commands_are_sent,
-    faults_are_equal_by_value, headline_holds, headline_rules_out, jobs_are_numbered,
-    messages_are_kept, play_errors_are_equal_by_value, polls_ask_in_turn,
-    transactions_are_numbered, wrong_devices_break_the_prefix_law,
+    answers_are_heard, bus_recording_laws_hold, commands_are_sent, headline_holds,
+    headline_rules_out, jobs_are_numbered, messages_are_kept, play_errors_are_equal_by_value,
+    polls_ask_in_turn, transactions_are_numbered, wrong_devices_break_the_prefix_law,
 };
 pub use rdm_collector::{
     Action, AskError, Collector, Command, Heard, PollError, Want, actions_are_equal_by_value,
@@ -30,4 +26,5 @@ pub use rdm_collector::{
     joining_goes_from_the_front, poll_errors_are_equal_by_value, recording_laws_hold,
     recording_laws_rule_out, wants_are_equal_by_value,
 };
+pub use rdm_frame::{Fault, altered_frame_is_no_frame, faults_are_equal_by_value};
 pub use system::{PlayError, System};

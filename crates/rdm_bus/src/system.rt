@@ -2,27 +2,26 @@
 
 ghost use Rattle.std.specs.Prelude.{◌≡◌, ◌≢◌, ◌↔◌, ◌<◌, ◌++◌, ◌∷◌, [], ℕ, List, Some, None, length, IfOk, OnOk, OnErr, IfSome, IfErr, IsErrOf, slice_index};
 ghost use Rattle.std.specs.Option.{option_and_then, option_map, option_map_or, option_to_list};
-ghost use Rattle.rdm_params.specs.declared.jobs.message.Message.{Message};
+ghost use Rattle.rdm_frame.specs.declared.message.Message.{Message};
+ghost use Rattle.rdm_frame.specs.Faults.{reply_heard, raise_of, IsFault};
 ghost use Rattle.rdm_responder.specs.History.{History, Heard as HeardBytes, then_event};
 ghost use Rattle.rdm_responder.specs.Lawful.{IsLawful, MayArrive};
 ghost use Rattle.rdm_responder.specs.Rules.{account_of, reply_of, job_of};
 ghost use Rattle.rdm_responder.specs.StandsFor.{StandsFor};
 ghost use Rattle.rdm_responder.specs.Started.{job_in, IsAsInProfile, IsForItsWorker};
 ghost use Rattle.rdm_collector.specs.Collecting.{heard_in, after_hearing};
-ghost use Rattle.rdm_bus.specs.Faults.{reply_heard};
 ghost use Rattle.rdm_bus.specs.BusLaws.{BusLaws, recorded_by};
-ghost use Rattle.rdm_bus.specs.BusRun.{Start, after, after_all, after_reply, history_after, reply_in, transaction, raise_of, fault_of, IsFault, IsPlayed, IsAlteredInVain};
+ghost use Rattle.rdm_bus.specs.BusRun.{Start, after, after_all, after_reply, history_after, reply_in, transaction, fault_of, IsPlayed, IsAlteredInVain};
 ghost use Rattle.rdm_bus.specs.Happened.{reported_in, started_in};
 ghost use Rattle.rdm_bus.specs.Headline.{Headline, unclosed};
 ghost use Rattle.rdm_bus.specs.Systems.{Stands, IsTrace, IsAstray, HasNoRoom, refusal_in, start_of};
 
 use crate::event::{Event, Step};
-use crate::fault::Fault;
 use crate::laws::{bus_recording_laws_hold, headline_holds};
-use crate::ranges::bytes_fit;
 use rdm_collector::{Collector, Heard, PollError, is_reserved};
-use rdm_frame::Wire;
+use rdm_frame::ranges::bytes_fit;
 use rdm_frame::standard::MOST_DATA;
+use rdm_frame::{Fault, Wire};
 use rdm_outbox::Job;
 use rdm_params::Message;
 use rdm_responder::{Responder, Started};

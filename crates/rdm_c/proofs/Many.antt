@@ -1,18 +1,18 @@
 -- The rules of a profile, judged in parts: without parameters of the maker's own, these alone, and what the things of choices are called.
 use Rattle.std.proofs.Common.{◌≡◌, sym, ℕ, ◌≤◌, ◌<◌, List, [], Option, Some, None, IfSome, IsTrue, length, subst, arith}
-use Rattle.rdm_device.specs.declared.profile.Profile.{Profile}
-use Rattle.rdm_device.specs.declared.profile.choices.ChoiceName.{ChoiceName}
-use Rattle.rdm_device.specs.declared.profile.locks.Lock.{Lock}
-use Rattle.rdm_device.specs.declared.profile.own.ParameterDef.{ParameterDef}
-use Rattle.rdm_device.specs.declared.profile.particulars.Particular.{Particular}
-use Rattle.rdm_device.specs.declared.profile.faults.ProfileFault.{ProfileFault}
-use Rattle.rdm_device.specs.declared.profile.faults.ProfileFault.TheVariants.{SubDevices, Presets, Personalities, Start, RootFootprint, SubFootprint, Languages, TestNumber, TwinTests, TwinStatusTexts, LeftOut, LeftOutNeeded, ParameterCount, ParameterPid, ParameterLimits, ParameterStart, ParameterOrder, ParameterFields, ParameterStandard, ParameterNames, ParameterLocks, ParameterLockState, ParameterLocked}
-use Rattle.rdm_device.specs.Device.Faults.{Keeps, KeepsBefore, KeepsLeftOut, KeepsOwn, IsFirstBroken, with_parameters}
-use Rattle.rdm_device.specs.Device.Profiles.{Agree, AreGoodLocks, AreGoodParameters, CanBeMade, CanHold, CanOpen, HaveStates}
+use Rattle.rdm_profile.specs.declared.profile.Profile.{Profile}
+use Rattle.rdm_profile.specs.declared.profile.choices.ChoiceName.{ChoiceName}
+use Rattle.rdm_profile.specs.declared.profile.locks.Lock.{Lock}
+use Rattle.rdm_profile.specs.declared.profile.own.ParameterDef.{ParameterDef}
+use Rattle.rdm_profile.specs.declared.profile.particulars.Particular.{Particular}
+use Rattle.rdm_profile_rules.specs.declared.faults.ProfileFault.{ProfileFault}
+use Rattle.rdm_profile_rules.specs.declared.faults.ProfileFault.TheVariants.{SubDevices, Presets, Personalities, Start, RootFootprint, SubFootprint, Languages, TestNumber, TwinTests, TwinStatusTexts, LeftOut, LeftOutNeeded, ParameterCount, ParameterPid, ParameterLimits, ParameterStart, ParameterOrder, ParameterFields, ParameterStandard, ParameterNames, ParameterLocks, ParameterLockState, ParameterLocked}
+use Rattle.rdm_profile_rules.specs.Faults.{Keeps, KeepsBefore, KeepsLeftOut, KeepsOwn, IsFirstBroken, with_parameters}
+use Rattle.rdm_profile.specs.Profiles.{Agree, AreGoodLocks, AreGoodParameters, CanBeMade, CanHold, CanOpen, HaveStates}
 use Rattle.std.proofs.lemmas.List.Elements.{All-from_recursion}
-use Rattle.rdm_device.specs.Device.Locks.{can_hold}
-use Rattle.rdm_device.proofs.DemoLemmas.{none_good, none_locked}
-use Rattle.rdm_device.proofs.Faults.{keeps_others, made}
+use Rattle.rdm_profile.specs.Locks.{can_hold}
+use Rattle.rdm_profile.proofs.DemoLemmas.{none_good, none_locked}
+use Rattle.rdm_profile_rules.proofs.FirstFaults.{keeps_others, made}
 use Rattle.rdm_c.specs.Parameters.{HasOwn}
 
 -- no lock is one that can't hold

@@ -1,7 +1,7 @@
 -- What a request changed, as the numbers that C has of it.
 use Rattle.std.specs.Prelude.{◌≡◌, ℕ, ◌==◌, if◌then◌else◌, Option, Some, None}
-use Rattle.rdm_params.specs.declared.changed.Changed.{Changed}
-use Rattle.rdm_params.specs.declared.changed.Changed.TheVariants.{Value, Several}
+use Rattle.rdm_commands.specs.declared.changed.Changed.{Changed}
+use Rattle.rdm_commands.specs.declared.changed.Changed.TheVariants.{Value, Several}
 use Rattle.rdm_c.specs.declared.job.SteppedNumbers.{SteppedNumbers}
 
 -- nothing changed, the values of one parameter at one device, or those of several

@@ -1,13 +1,12 @@
 -- What stands behind a handle, and what C is told of a responder.
 use Rattle.std.specs.Prelude.{◌≡◌, ◌≢◌, ℕ, ◌==◌, ◌++◌, if◌then◌else◌, Bool, true, false, List, drop, take, length, nat_lt, Option, Some, None}
-use Rattle.rdm_device.specs.declared.profile.Profile.{Profile}
-use Rattle.rdm_params.specs.declared.panel.Change.{Change}
-use Rattle.rdm_params.specs.declared.jobs.message.Message.{Message}
-use Rattle.rdm_params.specs.declared.verdict.Verdict.{Verdict}
-use Rattle.rdm_params.specs.declared.verdict.Verdict.TheVariants.{Reply, Refuse}
-use Rattle.rdm_params.specs.Commands.Nacks.{nack_code}
+use Rattle.rdm_frame.specs.declared.message.Message.{Message}
+use Rattle.rdm_frame.specs.Nacks.{nack_code}
+use Rattle.rdm_commands.specs.declared.panel.Change.{Change}
+use Rattle.rdm_commands.specs.declared.verdict.Verdict.{Verdict}
+use Rattle.rdm_commands.specs.declared.verdict.Verdict.TheVariants.{Reply, Refuse}
 use Rattle.rdm_params.specs.Commands.Panel.{change_message}
-use Rattle.rdm_responder.specs.History.{History, Setup, Event, Arrived, then_event}
+use Rattle.rdm_responder.specs.History.{History, Event, Arrived, then_event}
 use Rattle.rdm_responder.specs.Lawful.{IsLawful}
 use Rattle.rdm_responder.specs.declared.report.Report.{Report}
 use Rattle.rdm_responder.specs.Laws.{values_of}
@@ -101,17 +100,6 @@ held_search (Some endpoint) = search_of endpoint
 abbrev pub found : Bool → Status
 found true = status.Done
 found false = status.Absent
-
--- what a responder is set up with: its UID, its profile, the size of its queue, how many status entries can wait, and the number
--- of each worker's first job
-abbrev pub setup_of : ℕ → ℕ → Profile → ℕ → ℕ → ℕ → Setup
-setup_of maker device profile queue_size entries first_job = record {
-  uid = record { maker = maker; device = device };
-  profile = profile;
-  queue_size = queue_size;
-  entries = entries;
-  first_job = first_job;
-}
 
 -- what C is told of whether something is so: 1 or 0
 abbrev pub flag : Bool → ℕ

@@ -1,7 +1,7 @@
 -- Which rule of profiles is broken, as the header numbers the rules.
 use Rattle.std.specs.Prelude.{ℕ, ◌==◌, if◌then◌else◌, Option, Some, None}
-use Rattle.rdm_device.specs.declared.profile.faults.ProfileFault.{ProfileFault}
-use Rattle.rdm_device.specs.declared.profile.faults.ProfileFault.TheVariants.{SubDevices, Presets, Personalities, Start, RootFootprint, SubFootprint, Languages, TestNumber, TwinTests, TwinStatusTexts, LeftOut, LeftOutNeeded, ParameterCount, ParameterPid, ParameterLimits, ParameterStart, ParameterOrder, ParameterFields, ParameterStandard, ParameterNames, ParameterLocks, ParameterLockState, ParameterLocked}
+use Rattle.rdm_profile_rules.specs.declared.faults.ProfileFault.{ProfileFault}
+use Rattle.rdm_profile_rules.specs.declared.faults.ProfileFault.TheVariants.{SubDevices, Presets, Personalities, Start, RootFootprint, SubFootprint, Languages, TestNumber, TwinTests, TwinStatusTexts, LeftOut, LeftOutNeeded, ParameterCount, ParameterPid, ParameterLimits, ParameterStart, ParameterOrder, ParameterFields, ParameterStandard, ParameterNames, ParameterLocks, ParameterLockState, ParameterLocked}
 
 -- the rule of a number; 0 stands for none
 abbrev pub fault_in : ℕ → Option ProfileFault

@@ -3,6 +3,7 @@ pub mod Places
 pub mod Statuses
 pub mod Changes
 pub mod Jobs
+pub mod Making
 pub mod Outcomes
 pub mod Texts
 pub mod Parameters
@@ -16,5 +17,7 @@ pub mod SearchStates
 pub mod Searches
 pub mod Names
 pub mod Replies
+pub mod Requests
 pub mod Faults
 pub mod Frames
+pub mod Steps

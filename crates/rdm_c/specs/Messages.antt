@@ -1,7 +1,7 @@
 -- What a collector takes and gives, as the numbers that C has of it.
 use Rattle.std.specs.Prelude.{ℕ, List, take, ◌==◌, if◌then◌else◌, Option, Some, None}
 use Rattle.std.specs.Option.{option_map}
-use Rattle.rdm_params.specs.declared.jobs.message.Message.{Message}
+use Rattle.rdm_frame.specs.declared.message.Message.{Message}
 use Rattle.rdm_collector.specs.declared.command.Action.{Action}
 use Rattle.rdm_collector.specs.declared.command.Action.TheVariants.{Disc, Get, Set}
 use Rattle.rdm_collector.specs.declared.command.Command.{Command}

@@ -1,6 +1,6 @@
 -- The names that C is told: each with a NUL behind it, as C wants a text.
 use Rattle.std.specs.Prelude.{ℕ, List, [], ◌∷◌, Option, Some, None, codes}
-use Rattle.rdm_params.specs.Table.Kinds.{for_c}
+use Rattle.rdm_frame.specs.Names.{for_c}
 
 -- every result of a call, as the header names it behind FELOSUMAY_
 abbrev pub results : List (ℕ × List ℕ)

@@ -1,11 +1,11 @@
 -- Outcomes, reports and status entries as the numbers that C has of them.
 use Rattle.std.specs.Prelude.{ℕ, ◌==◌, if◌then◌else◌, Option, Some, None}
 use Rattle.std.specs.Option.{option_map}
-use Rattle.rdm_params.specs.declared.jobs.outcome.Outcome.{Outcome}
-use Rattle.rdm_params.specs.declared.jobs.outcome.Outcome.TheVariants.{Done, Reading, Failed}
-use Rattle.rdm_params.specs.declared.jobs.status.Entry.{Entry as StatusEntry}
-use Rattle.rdm_params.specs.declared.jobs.status.Severity.{Severity}
-use Rattle.rdm_params.specs.Jobs.Severities.{severity_in}
+use Rattle.rdm_frame.specs.declared.status.Entry.{Entry as StatusEntry}
+use Rattle.rdm_frame.specs.declared.status.Severity.{Severity}
+use Rattle.rdm_frame.specs.Severities.{severity_in}
+use Rattle.rdm_commands.specs.declared.jobs.outcome.Outcome.{Outcome}
+use Rattle.rdm_commands.specs.declared.jobs.outcome.Outcome.TheVariants.{Done, Reading, Failed}
 use Rattle.rdm_outbox.specs.declared.job.Job.{Job}
 use Rattle.rdm_responder.specs.declared.report.Report.{Report}
 use Rattle.rdm_c.specs.declared.job.JobNumbers.{JobNumbers}

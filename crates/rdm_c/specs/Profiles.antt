@@ -1,21 +1,21 @@
 -- The profile that a plain struct of C's stands for, and three lists that lie outside of it: the parameters of the maker's own, the PIDs
 -- of those that are left out, and the names of choices. A count that is greater than its array stands for the whole array.
 use Rattle.std.specs.Prelude.{ℕ, List, [], ◌==◌, not, map, take, if◌then◌else◌}
-use Rattle.rdm_device.specs.declared.profile.Personality.{Personality}
-use Rattle.rdm_device.specs.declared.profile.Profile.{Profile}
-use Rattle.rdm_device.specs.declared.profile.SelfTest.{SelfTest}
-use Rattle.rdm_device.specs.declared.profile.SensorDef.{SensorDef}
-use Rattle.rdm_device.specs.declared.profile.Slot.{Slot}
-use Rattle.rdm_device.specs.declared.profile.StatusText.{StatusText}
-use Rattle.rdm_device.specs.declared.profile.Unit.{Unit as DeviceUnit}
-use Rattle.rdm_device.specs.declared.profile.estimates.Estimates.{Estimates}
-use Rattle.rdm_device.specs.declared.profile.particulars.Particular.{Particular}
-use Rattle.rdm_device.specs.declared.profile.workers.Worker.{Worker}
-use Rattle.rdm_device.specs.declared.profile.workers.Worker.TheVariants.{First, Second}
-use Rattle.rdm_device.specs.declared.profile.workers.Workers.{Workers}
-use Rattle.rdm_device.specs.Device.Estimates.{usual}
-use Rattle.rdm_device.specs.Device.Particulars.{usual_particular}
-use Rattle.rdm_device.specs.Device.Workers.{usual_workers}
+use Rattle.rdm_profile.specs.declared.profile.Personality.{Personality}
+use Rattle.rdm_profile.specs.declared.profile.Profile.{Profile}
+use Rattle.rdm_profile.specs.declared.profile.SelfTest.{SelfTest}
+use Rattle.rdm_profile.specs.declared.profile.SensorDef.{SensorDef}
+use Rattle.rdm_profile.specs.declared.profile.Slot.{Slot}
+use Rattle.rdm_profile.specs.declared.profile.StatusText.{StatusText}
+use Rattle.rdm_profile.specs.declared.profile.Unit.{Unit as DeviceUnit}
+use Rattle.rdm_profile.specs.declared.profile.estimates.Estimates.{Estimates}
+use Rattle.rdm_profile.specs.declared.profile.particulars.Particular.{Particular}
+use Rattle.rdm_profile.specs.declared.profile.workers.Worker.{Worker}
+use Rattle.rdm_profile.specs.declared.profile.workers.Worker.TheVariants.{First, Second}
+use Rattle.rdm_profile.specs.declared.profile.workers.Workers.{Workers}
+use Rattle.rdm_profile.specs.Estimates.{usual}
+use Rattle.rdm_profile.specs.Particulars.{usual_particular}
+use Rattle.rdm_profile.specs.Workers.{usual_workers}
 use Rattle.rdm_c.specs.declared.profile.PersonalityNumbers.{PersonalityNumbers}
 use Rattle.rdm_c.specs.declared.profile.SlotNumbers.{SlotNumbers}
 use Rattle.rdm_c.specs.declared.profile.SensorNumbers.{SensorNumbers}

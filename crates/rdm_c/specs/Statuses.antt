@@ -2,8 +2,8 @@
 use Rattle.std.specs.Prelude.{ℕ, Option, Some, None}
 use Rattle.rdm_collector.specs.declared.collector.AskError.{AskError}
 use Rattle.rdm_collector.specs.declared.collector.AskError.TheVariants as ask
-use Rattle.rdm_params.specs.declared.placing.PlaceError.{PlaceError}
-use Rattle.rdm_params.specs.declared.placing.PlaceError.TheVariants as place
+use Rattle.rdm_commands.specs.declared.placing.PlaceError.{PlaceError}
+use Rattle.rdm_commands.specs.declared.placing.PlaceError.TheVariants as place
 use Rattle.rdm_saved.specs.declared.errors.RestoreError.{RestoreError}
 use Rattle.rdm_saved.specs.declared.errors.RestoreError.TheVariants as restore
 use Rattle.rdm_c.specs.declared.status.Status.{Status}

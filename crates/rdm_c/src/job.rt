@@ -2,7 +2,7 @@
 
 ghost use Rattle.std.specs.Prelude.{◌≡◌, ◌↔◌, IsTrue, None, Some, IfSome, is_some};
 ghost use Rattle.std.specs.Option.{option_map};
-ghost use Rattle.rdm_device.specs.declared.profile.Profile.{Profile};
+ghost use Rattle.rdm_profile.specs.declared.profile.Profile.{Profile};
 ghost use Rattle.rdm_responder.specs.Started.{job_in as the_job_in, IsAsInProfile};
 ghost use Rattle.rdm_c.specs.Changes.{with_change};
 ghost use Rattle.rdm_c.specs.Jobs.{IsAsTold, job_in, numbers_of, class_of, verb_in, started_in};

@@ -60,8 +60,7 @@ pub use exports::reading::{
 pub use exports::reply::felosumay_reply_read_nonnull;
 pub use exports::responder::{
     felosumay_responder_arrive, felosumay_responder_demo, felosumay_responder_free,
-    felosumay_responder_new_nonnull, felosumay_responder_new_with_nonnull,
-    felosumay_responder_step_nonnull,
+    felosumay_responder_new_with_nonnull, felosumay_responder_step_nonnull,
 };
 pub use exports::saving::{
     felosumay_responder_restore_nonnull, felosumay_responder_save, felosumay_responder_saved_size,

@@ -1,8 +1,7 @@
 //! Names as C has them: with a NUL behind each.
 
 ghost use Rattle.std.specs.Prelude.{◌≡◌, None, IfSome, option_map};
-ghost use Rattle.rdm_params.specs.Table.Kinds.{for_c};
-ghost use Rattle.rdm_params.specs.Table.Names.{name_in};
+ghost use Rattle.rdm_frame.specs.Names.{for_c, name_in};
 ghost use Rattle.rdm_c.specs.Names.{results, named};
 
 /// A name that lasts as long as the program. The header calls it `felosumay_name`.

@@ -9,6 +9,7 @@ ghost use Rattle.std.specs.Prelude.{◌≡◌, ◌≤◌, length, take};
 ghost use Rattle.rdm_c.specs.Profiles.{personality_in, slot_in, sensor_in, test_in, status_text_in, unit_in, plain_profile_in};
 ghost use Rattle.rdm_c.specs.Texts.{text_in};
 
+use crate::profile::lists::Numbers;
 use crate::profile::parameters::{ChoiceNumbers, LockNumbers, ParameterNumbers};
 use crate::profile::slow::{EstimatesNumbers, WorkersNumbers};
 use rdm_frame::Text;
@@ -190,11 +191,10 @@ impl TextNumbers {
     }
 }
 
-impl PersonalityNumbers {
-    /// The personality.
-    pub(crate) fn personality(&self) -> Personality
-        ensures { result ≡ personality_in self.now }
-    {
+impl Numbers<Personality> for PersonalityNumbers {
+    ghost stands_for = { personality_in };
+
+    fn entry(&self) -> Personality {
         Personality {
             footprint: self.footprint,
             name: self.name.text(),
@@ -202,11 +202,10 @@ impl PersonalityNumbers {
     }
 }
 
-impl SlotNumbers {
-    /// The slot.
-    pub(crate) fn slot(&self) -> Slot
-        ensures { result ≡ slot_in self.now }
-    {
+impl Numbers<Slot> for SlotNumbers {
+    ghost stands_for = { slot_in };
+
+    fn entry(&self) -> Slot {
         Slot {
             kind: self.kind,
             label: self.label,
@@ -216,11 +215,10 @@ impl SlotNumbers {
     }
 }
 
-impl SensorNumbers {
-    /// The sensor.
-    pub(crate) fn sensor(&self) -> SensorDef
-        ensures { result ≡ sensor_in self.now }
-    {
+impl Numbers<SensorDef> for SensorNumbers {
+    ghost stands_for = { sensor_in };
+
+    fn entry(&self) -> SensorDef {
         SensorDef {
             kind: self.kind,
             unit: self.unit,
@@ -236,11 +234,10 @@ impl SensorNumbers {
     }
 }
 
-impl SelfTestNumbers {
-    /// The self test.
-    pub(crate) fn test(&self) -> SelfTest
-        ensures { result ≡ test_in self.now }
-    {
+impl Numbers<SelfTest> for SelfTestNumbers {
+    ghost stands_for = { test_in };
+
+    fn entry(&self) -> SelfTest {
         SelfTest {
             number: self.number,
             name: self.name.text(),
@@ -248,11 +245,10 @@ impl SelfTestNumbers {
     }
 }
 
-impl StatusTextNumbers {
-    /// The status ID and its meaning.
-    pub(crate) fn status_text(&self) -> StatusText
-        ensures { result ≡ status_text_in self.now }
-    {
+impl Numbers<StatusText> for StatusTextNumbers {
+    ghost stands_for = { status_text_in };
+
+    fn entry(&self) -> StatusText {
         StatusText {
             id: self.id,
             text: self.text.text(),
@@ -273,7 +269,7 @@ impl UnitNumbers {
         unit.label = self.label.text();
         unit.software_text = self.software_text.text();
         let count = usize::from(self.personality_count).min(8);
-        lists::personalities(&self.personalities[..count], &mut unit.personalities);
+        lists::fill(&self.personalities[..count], &mut unit.personalities);
         unit.start = self.start;
     }
 }
@@ -314,13 +310,13 @@ impl ProfileNumbers {
         let count = usize::from(self.language_count).min(8);
         lists::languages(&self.languages[..count], &mut profile.languages);
         let count = usize::from(self.slot_count).min(46);
-        lists::slots(&self.slots[..count], &mut profile.slots);
+        lists::fill(&self.slots[..count], &mut profile.slots);
         let count = usize::from(self.sensor_count).min(8);
-        lists::sensors(&self.sensors[..count], &mut profile.sensors);
+        lists::fill(&self.sensors[..count], &mut profile.sensors);
         let count = usize::from(self.test_count).min(8);
-        lists::tests(&self.tests[..count], &mut profile.tests);
+        lists::fill(&self.tests[..count], &mut profile.tests);
         let count = usize::from(self.status_text_count).min(8);
-        lists::status_texts(&self.status_texts[..count], &mut profile.status_texts);
+        lists::fill(&self.status_texts[..count], &mut profile.status_texts);
     }
 }
 

@@ -1,7 +1,7 @@
 -- The arrows of the lines of a trace, one after the other.
 use Rattle.std.proofs.Common.{◌≡◌, ℕ, ◌<◌, ◌≤◌, ◌+◌, List, ◌∷◌, ◌++◌, length, get_or, drop, sym, ap, ◌∙◌, append_assoc}
 use Rattle.std.proofs.lemmas.List.{append-nil, drop_all, at_drop_more}
-use Rattle.rdm_bus.specs.declared.fault.Fault.{Fault}
+use Rattle.rdm_frame.specs.declared.fault.Fault.{Fault}
 use Rattle.rdm_trace.specs.declared.line.Line.{Line}
 use Rattle.rdm_chart.specs.declared.arrow.Kind.{Kind}
 use Rattle.rdm_chart.specs.Arrows.{kinds_of, fault_behind, kinds_behind}

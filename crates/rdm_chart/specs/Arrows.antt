@@ -1,7 +1,7 @@
 -- The arrows of a trace: one for each message, in the order of its lines.
 use Rattle.std.specs.Prelude.{List, [], ◌∷◌, ◌++◌, Some, None, if◌then◌else◌}
-use Rattle.rdm_bus.specs.declared.fault.Fault.{Fault}
-use Rattle.rdm_bus.specs.declared.fault.Fault.TheVariants as fault
+use Rattle.rdm_frame.specs.declared.fault.Fault.{Fault}
+use Rattle.rdm_frame.specs.declared.fault.Fault.TheVariants as fault
 use Rattle.rdm_trace.specs.declared.line.Line.{Line}
 use Rattle.rdm_trace.specs.declared.line.Line.TheVariants.{Send, Reply, Job, Heard, Found, Arrive, Panel, Message, Time, End}
 use Rattle.rdm_chart.specs.declared.arrow.Kind.{Kind}

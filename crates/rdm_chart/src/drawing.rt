@@ -1,7 +1,7 @@
 //! A chart that is being drawn, from the top downwards.
 
 ghost use Rattle.std.specs.Prelude.{◌≡◌, ◌++◌, [], OnOk, IfOk};
-ghost use Rattle.rdm_bus.specs.declared.fault.Fault.TheVariants.{None as NoFault};
+ghost use Rattle.rdm_frame.specs.declared.fault.Fault.TheVariants.{None as NoFault};
 ghost use Rattle.rdm_chart.specs.Arrows.{kinds_of, fault_behind};
 ghost use Rattle.rdm_chart.specs.Drawings.{kinds_drawn, kind_of_passage, IsStill, IsOneMore};
 
@@ -19,7 +19,7 @@ use crate::svg::Svg;
 use crate::transaction::{draw_found, draw_heard, draw_reply, draw_request};
 use crate::wording::line_words;
 use crate::work::{draw_change, draw_job, draw_report};
-use rdm_bus::Fault;
+use rdm_frame::Fault;
 use rdm_trace::Line;
 use rdm_words::{Before, Known};
 use std::alloc::{AllocError, Global};

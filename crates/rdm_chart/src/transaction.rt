@@ -16,8 +16,8 @@ use crate::page::width_of;
 use crate::shape::Area;
 use crate::style::Class;
 use crate::wording::{reply_words, request_words};
-use rdm_bus::{Fault, Heard};
-use rdm_frame::{Uid, Wire};
+use rdm_collector::Heard;
+use rdm_frame::{Fault, Uid, Wire};
 use rdm_words::{Before, Known};
 use std::alloc::{AllocError, Global};
 

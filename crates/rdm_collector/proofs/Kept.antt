@@ -5,7 +5,7 @@
 use Rattle.std.proofs.Common.{◌≡◌, ◌≤◌, Bool, true, false, ◌⊎◌, List, [], ◌∷◌, ◌++◌, length, refl, sym, ap, ◌∙◌, arith, inl, inr}
 use Rattle.std.proofs.lemmas.Bool.{cases_Bool}
 use Rattle.std.proofs.lemmas.List.{append-nil}
-use Rattle.rdm_params.specs.declared.jobs.message.Message.{Message}
+use Rattle.rdm_frame.specs.declared.message.Message.{Message}
 use Rattle.rdm_collector.specs.Recording.{ends_with, and_then, join, but_last, IsSubsequence, PrefixLaw, NoLossLaw}
 use Rattle.rdm_collector.specs.Recording.IsSubsequence.{Nothing}
 use Rattle.rdm_collector.proofs.Joining.{and_then_old, and_then_new, and_then-and_then, join-nil, join-push, subsequence-then, subsequence-same, but_last-push, subsequence-but_last}

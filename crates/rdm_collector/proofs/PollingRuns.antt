@@ -5,7 +5,7 @@ use Rattle.std.specs.List.{fold}
 use Rattle.std.proofs.lemmas.Bool.{cases_lt}
 use Rattle.std.proofs.lemmas.List.{append-nil, drop_all, take_more, take_all, take-append-le, drop-append-le}
 use Rattle.std.proofs.lemmas.Option.{slice_get-get_or}
-use Rattle.rdm_params.specs.declared.jobs.message.Message.{Message}
+use Rattle.rdm_frame.specs.declared.message.Message.{Message}
 use Rattle.rdm_collector.specs.Polling.{Queue, Event, IsNext, IsReply, IsRun, after, unanswered_after, dispensed, dispensed_by, recorded, recorded_by, given_between, LawsHold}
 use Rattle.rdm_collector.specs.Polling.Event.{Arrived, Polled}
 use Rattle.rdm_collector.proofs.Kept.{Kept, Kept-before, Kept-unheard, Kept-again_unrecorded, Kept-again, Kept-status_unrecorded, Kept-status, Kept-given_unrecorded, Kept-given, Kept-prefix, Kept-no_loss}

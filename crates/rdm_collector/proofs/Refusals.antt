@@ -1,7 +1,7 @@
 -- What the prefix law rules out, by what joining makes of two or three messages.
 use Rattle.std.proofs.Common.{◌≡◌, false, List, [], ◌∷◌, ◌++◌, length, refl, sym, ap, ◌∙◌, arith}
 use Rattle.std.proofs.lemmas.Bool.{both_ways}
-use Rattle.rdm_params.specs.declared.jobs.message.Message.{Message}
+use Rattle.rdm_frame.specs.declared.message.Message.{Message}
 use Rattle.rdm_collector.specs.Recording.{same_message, join, SkippingIsRefused, RecordingNothingIsRefused, RepeatingAnOlderOneIsRefused}
 use Rattle.rdm_collector.proofs.Joining.{same-refl, same-symmetric, joins_from_the_front, join-nil, join-one}
 

@@ -1,7 +1,7 @@
 -- Which frames answer a request. E1.20 sections 6.2.6 to 6.2.10.
 use Rattle.std.specs.Prelude.{ℕ, ◌+◌, Bool, true, false, ◌&&◌, ◌||◌, ◌==◌, if◌then◌else◌, Option, Some, None}
 use Rattle.rdm_frame.specs.declared.frame.Frame.{Frame}
-use Rattle.rdm_params.specs.declared.jobs.message.Message.{Message}
+use Rattle.rdm_frame.specs.declared.message.Message.{Message}
 use Rattle.rdm_collector.specs.declared.transaction.Transaction.{Transaction}
 use Rattle.rdm_collector.specs.declared.transaction.Transaction.TheVariants.{Poll, Command}
 use Rattle.rdm_collector.specs.declared.transaction.Heard.{Heard}

@@ -5,7 +5,7 @@
 -- device's queue.
 use Rattle.std.specs.Prelude.{◌≡◌, ◌≤◌, Bool, true, false, ◌&&◌, ◌==◌, if◌then◌else◌, List, [], ◌∷◌, ◌++◌, length, fold}
 use Rattle.std.specs.Str.{bytes_eq}
-use Rattle.rdm_params.specs.declared.jobs.message.Message.{Message}
+use Rattle.rdm_frame.specs.declared.message.Message.{Message}
 
 -- the two say the same: class, parameter ID, sub-device and data
 unfoldable pub same_message : Message → Message → Bool

@@ -4,10 +4,12 @@ ghost use Rattle.std.specs.Prelude.{◌≡◌, ◌≤◌, length};
 ghost use Rattle.rdm_frame.specs.FrameText.{frame_text, IsFrame};
 ghost use Rattle.rdm_collector.specs.Requests.{class_of, is_reserved, queued_message, request_of};
 
-use crate::ranges::frame_fits;
-use rdm_frame::standard::{DISCOVERY_COMMAND, FIRST_PORT, GET_COMMAND, ROOT_DEVICE, SET_COMMAND};
+use rdm_frame::ranges::frame_fits;
+use rdm_frame::standard::{
+    DISCOVERY_COMMAND, FIRST_PORT, GET_COMMAND, QUEUED_MESSAGE, ROOT_DEVICE, SET_COMMAND,
+    STATUS_MESSAGES,
+};
 use rdm_frame::{FrameView, Load, Uid, Wire, encode_into};
-use rdm_params::Kind;
 
 /// What a command does (E1.20 table A-1).
 #[derive(Clone, Copy, Debug, PartialEq, Eq)]
@@ -66,7 +68,7 @@ pub(crate) fn class_of(action: Action) -> u8
 pub fn is_reserved(pid: u16) -> bool
     ensures { result ≡ is_reserved pid }
 {
-    pid == Kind::QueuedMessage.pid() || pid == Kind::StatusMessages.pid()
+    pid == QUEUED_MESSAGE || pid == STATUS_MESSAGES
 }
 
 /// QUEUED_MESSAGE with a status type, asked of the root of a device (E1.20 section 10.3.1).
@@ -79,7 +81,7 @@ pub(crate) fn queued_message(device: Uid, status_type: u8) -> Command
         dst: device,
         action: Action::Get,
         sub: ROOT_DEVICE,
-        pid: Kind::QueuedMessage.pid(),
+        pid: QUEUED_MESSAGE,
         load,
     }
 }

@@ -18,7 +18,6 @@ mod command;
 mod laws;
 mod message;
 mod port;
-mod ranges;
 mod reply;
 mod transaction;
 mod want;
@@ -38,8 +37,7 @@ pub use laws::{
 };
 pub use port::{Port, PortError};
 pub use rdm_frame::standard::MOST_DATA;
-pub use rdm_frame::{Body, Load, Uid, Wire};
-pub use rdm_params::Message;
+pub use rdm_frame::{Body, Load, Message, Uid, Wire};
 pub use reply::{Reply, Response, read_reply};
 pub use transaction::Heard;
 pub use want::Want;

@@ -2,10 +2,10 @@
 use Rattle.std.specs.Prelude.{ℕ, zero, suc, ◌+◌, ◌*◌, ◌/◌, Bool, true, false, ◌&&◌, ◌||◌, ◌==◌, if◌then◌else◌, List, length, slice_index, Option, Some, None}
 use Rattle.std.specs.Option.{option_map_or, option_and_then, option_or}
 use Rattle.rdm_frame.specs.Reading.{word_at}
-use Rattle.rdm_params.specs.declared.jobs.status.Entry.{Entry}
-use Rattle.rdm_params.specs.declared.jobs.status.Severity.{Severity}
-use Rattle.rdm_params.specs.declared.jobs.status.Severity.TheVariants.{Advisory, Warning, Error}
-use Rattle.rdm_params.specs.Jobs.Severities.{severity_in}
+use Rattle.rdm_frame.specs.declared.status.Entry.{Entry}
+use Rattle.rdm_frame.specs.declared.status.Severity.{Severity}
+use Rattle.rdm_frame.specs.declared.status.Severity.TheVariants.{Advisory, Warning, Error}
+use Rattle.rdm_frame.specs.Severities.{severity_in}
 use Rattle.rdm_collector.specs.declared.command.Action.{Action}
 use Rattle.rdm_collector.specs.declared.command.Action.TheVariants.{Set}
 use Rattle.rdm_collector.specs.declared.command.Command.{Command}

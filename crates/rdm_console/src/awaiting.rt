@@ -7,8 +7,8 @@ use crate::MessageView;
 use crate::belonging::{belongs, index_size, is_same_index};
 use crate::causes::{cause_in, is_ack};
 use rdm_collector::{Action, Command, Response};
+use rdm_frame::Entry;
 use rdm_frame::standard::GET_COMMAND_RESPONSE;
-use rdm_params::Entry;
 use std::marker::Model;
 
 /// What a message says of a command whose result is waited for.

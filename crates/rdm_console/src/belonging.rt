@@ -6,8 +6,9 @@ ghost use Rattle.rdm_console.specs.Belonging.{belongs, fits_index, has_value, in
 
 use crate::MessageView;
 use rdm_collector::{Action, Command, Response};
-use rdm_frame::standard::{DISCOVERY_COMMAND_RESPONSE, GET_COMMAND_RESPONSE, SET_COMMAND_RESPONSE};
-use rdm_params::Kind;
+use rdm_frame::standard::{
+    DISCOVERY_COMMAND_RESPONSE, GET_COMMAND_RESPONSE, SENSOR_VALUE, SET_COMMAND_RESPONSE,
+};
 
 /// Whether a message is the result of a command: it has the class of its response, its parameter and its sub-device; and if the data
 /// of the response begin with an index, as the number of a sensor, it is the one that the command asks for. A NACK or an ACK_TIMER
@@ -71,7 +72,7 @@ fn index_size_of(action: Action, pid: u16) -> usize
 {
     match action {
         Action::Get => index_size(pid),
-        Action::Set if pid == Kind::SensorValue.pid() => 1,
+        Action::Set if pid == SENSOR_VALUE => 1,
         Action::Set | Action::Disc => 0,
     }
 }

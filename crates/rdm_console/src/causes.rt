@@ -6,8 +6,8 @@ ghost use Rattle.rdm_console.specs.Endings.{cause_at, cause_in, is_ack, is_stand
 
 use crate::MessageView;
 use rdm_collector::Response;
-use rdm_frame::standard::GET_COMMAND_RESPONSE;
-use rdm_params::{Entry, Kind, Severity};
+use rdm_frame::standard::{GET_COMMAND_RESPONSE, STATUS_MESSAGES};
+use rdm_frame::{Entry, Severity};
 
 /// How many slots an entry of a status message has (E1.20 section 10.3.2).
 const ENTRY_SLOTS: usize = 9;
@@ -29,7 +29,7 @@ fn is_status(message: &MessageView<'_>) -> bool
 {
     is_ack(message.response)
         && message.class == GET_COMMAND_RESPONSE
-        && message.pid == Kind::StatusMessages.pid()
+        && message.pid == STATUS_MESSAGES
 }
 
 /// Whether it is an ACK.

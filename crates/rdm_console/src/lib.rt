@@ -27,4 +27,4 @@ pub use letter::Letter;
 pub use mailbox::{Came, Mailbox, Sorted};
 pub use message::MessageView;
 pub use rdm_collector::{Action, AskError, Command, PollError, Response, Uid, Want, Wire};
-pub use rdm_params::{Entry, Severity};
+pub use rdm_frame::{Entry, Severity};

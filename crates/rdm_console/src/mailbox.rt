@@ -17,7 +17,7 @@ use crate::{Letter, MessageView};
 use rdm_collector::{
     AskError, Collected, Command, DeviceCollector, DeviceHeard, PollError, Uid, Want, Wire,
 };
-use rdm_params::Kind;
+use rdm_frame::standard::STATUS_MESSAGES;
 use std::alloc::Global;
 use std::marker::Model;
 use std::mem;
@@ -294,8 +294,7 @@ fn sort_of(is_part: bool, repeats: bool, before: &Parcel, message: &Parcel) -> S
 fn says_nothing(before: &Parcel, message: &MessageView<'_>) -> bool
     ensures { result ≡ says_nothing (post_in (draft_in before.now)) message.now }
 {
-    message.pid == Kind::StatusMessages.pid()
-        && (message.body.len() == 0 || is_said_by(before, message))
+    message.pid == STATUS_MESSAGES && (message.body.len() == 0 || is_said_by(before, message))
 }
 
 /// Whether a message says what the one before it said.

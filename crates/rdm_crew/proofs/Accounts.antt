@@ -7,10 +7,11 @@ use Rattle.std.specs.Result.{result_ok}
 use Rattle.std.proofs.lemmas.Bool.{and_parts, ltb-true}
 use Rattle.rdm_frame.specs.FrameText.{frame_text}
 use Rattle.rdm_frame.specs.Reading.{frame_in}
-use Rattle.rdm_params.specs.declared.jobs.work.Work.{Work}
-use Rattle.rdm_params.specs.declared.verdict.Verdict.{Verdict}
-use Rattle.rdm_params.specs.declared.verdict.Verdict.TheVariants as verdict
-use Rattle.rdm_params.specs.Commands.Commands.{command_of}
+use Rattle.rdm_frame.specs.Faults.{request_heard}
+use Rattle.rdm_commands.specs.declared.jobs.work.Work.{Work}
+use Rattle.rdm_commands.specs.declared.verdict.Verdict.{Verdict}
+use Rattle.rdm_commands.specs.declared.verdict.Verdict.TheVariants as verdict
+use Rattle.rdm_params.specs.Table.Rows.{command_of}
 use Rattle.rdm_params.specs.Jobs.Laws.{GetStartsItsWork, SetStartsItsWork}
 use Rattle.rdm_params.specs.Jobs.Work.{Choice, worker_at}
 use Rattle.rdm_params.specs.Table.Uses.{is_slow}
@@ -27,7 +28,6 @@ use Rattle.rdm_bus.specs.declared.event.Event.TheVariants.{Bus, Arrived, Changed
 use Rattle.rdm_bus.specs.declared.event.Step.{Step}
 use Rattle.rdm_bus.specs.declared.event.Step.TheVariants as step
 use Rattle.rdm_collector.specs.Collecting.{command_request, poll_request}
-use Rattle.rdm_bus.specs.Faults.{request_heard}
 use Rattle.rdm_bus.specs.BusRun.{Start, controller_at, IsPlayed, after, after_all, IsBusRun}
 use Rattle.rdm_bus.specs.Happened.{started_in, jobs_in, reports_in, reports_of}
 use Rattle.rdm_bus.proofs.Accounts.{workers_of, run_grows, ended_count}

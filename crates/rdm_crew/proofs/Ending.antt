@@ -1,7 +1,7 @@
 -- What the lists of all lanes tell of the run, when the workers have ended.
 use Rattle.std.proofs.Common.{◌≡◌, ℕ, zero, suc, ◌<◌, ◌==◌, false, List, [], ◌∷◌, ◌++◌, length, drop, Some, refl, sym, ap, subst, ◌∙◌, arith, append_assoc, append-nil, length-drop}
 use Rattle.std.specs.Prelude.{slice_get, slice_index_or}
-use Rattle.rdm_params.specs.declared.jobs.outcome.Outcome.{Outcome}
+use Rattle.rdm_commands.specs.declared.jobs.outcome.Outcome.{Outcome}
 use Rattle.rdm_params.specs.Jobs.Laws.{GetStartsItsWork, SetStartsItsWork}
 use Rattle.rdm_params.specs.Jobs.Work.{Choice, worker_at}
 use Rattle.rdm_outbox.specs.declared.job.Job.{Job}

@@ -1,7 +1,7 @@
 -- The whole run: the pieces of the steps, and the last piece.
 use Rattle.std.proofs.Common.{◌≡◌, ℕ, List, [], ◌++◌, sym, ap, subst, ◌∙◌}
-use Rattle.rdm_params.specs.declared.panel.Change.{Change}
-use Rattle.rdm_params.specs.declared.jobs.outcome.Outcome.{Outcome}
+use Rattle.rdm_commands.specs.declared.panel.Change.{Change}
+use Rattle.rdm_commands.specs.declared.jobs.outcome.Outcome.{Outcome}
 use Rattle.rdm_outbox.specs.declared.job.Job.{Job}
 use Rattle.rdm_params.specs.Jobs.Work.{Choice}
 use Rattle.rdm_outbox.specs.Jobs.{outstanding_count}

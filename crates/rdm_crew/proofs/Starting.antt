@@ -1,7 +1,7 @@
 -- The start of a run: nothing has happened, and nothing was put into a lane or taken from one.
 use Rattle.std.proofs.Common.{◌≡◌, ◌↔◌, ℕ, List, [], ◌∷◌, refl, sym, ap, subst, ◌∙◌}
 use Rattle.std.specs.Prelude.{◌≢◌, Result, Ok, Err, IfErr, IsErrOf}
-use Rattle.rdm_params.specs.declared.panel.Change.{Change}
+use Rattle.rdm_commands.specs.declared.panel.Change.{Change}
 use Rattle.rdm_outbox.specs.declared.job.Job.{Job}
 use Rattle.rdm_params.specs.Jobs.Work.{Choice}
 use Rattle.rdm_outbox.specs.Jobs.{jobs_of}

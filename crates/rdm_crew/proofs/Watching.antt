@@ -1,7 +1,7 @@
 -- What a watcher puts is offered, one by one.
 use Rattle.std.proofs.Common.{◌≡◌, ℕ, suc, ◌+◌, List, [], ◌∷◌, ◌++◌, length, sym, ap, subst, ◌∙◌, arith}
 use Rattle.std.proofs.lemmas.List.{length-append}
-use Rattle.rdm_params.specs.declared.panel.Change.{Change}
+use Rattle.rdm_commands.specs.declared.panel.Change.{Change}
 use Rattle.rdm_lane.specs.declared.taken.Taken.{Taken}
 use Rattle.rdm_lane.specs.Ends.{PostState, TakeState, IsSamePost, IsSameTake, with_item}
 use Rattle.rdm_lane.specs.Lane.{items_from}

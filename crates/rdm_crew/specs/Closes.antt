@@ -1,6 +1,6 @@
 -- The headline of a run with workers: what they handed over the report lane, their closes among it.
 use Rattle.std.specs.Prelude.{◌≡◌, ℕ, List, [], ◌∷◌, ◌++◌}
-use Rattle.rdm_params.specs.declared.jobs.message.Message.{Message}
+use Rattle.rdm_frame.specs.declared.message.Message.{Message}
 use Rattle.rdm_responder.specs.declared.report.Report.{Report}
 use Rattle.std.specs.List.{flat_map}
 use Rattle.rdm_params.specs.Jobs.Work.{Choice, worker_at}

@@ -1,6 +1,6 @@
 -- The bus thread's ends of all three lanes, and what has happened on the bus.
 use Rattle.std.specs.Prelude.{◌≡◌, ℕ, List, [], ◌∷◌, ◌++◌, Some}
-use Rattle.rdm_params.specs.declared.panel.Change.{Change}
+use Rattle.rdm_commands.specs.declared.panel.Change.{Change}
 use Rattle.rdm_outbox.specs.declared.job.Job.{Job}
 use Rattle.rdm_outbox.specs.Jobs.{jobs_of}
 use Rattle.rdm_bus.specs.declared.event.Event.{Event}

@@ -1,7 +1,7 @@
 -- The law over the four lists of a worker: the jobs that were put, those that it took, its reports, and those reports that
 -- were drawn. What was taken is a prefix of what was put, and what was drawn a prefix of the reports.
 use Rattle.std.specs.Prelude.{◌≡◌, ℕ, ◌+◌, ◌≤◌, Bool, true, false, List, ◌∷◌, ◌++◌, length, Some, slice_get}
-use Rattle.rdm_params.specs.declared.jobs.outcome.Outcome.{Outcome}
+use Rattle.rdm_commands.specs.declared.jobs.outcome.Outcome.{Outcome}
 use Rattle.rdm_outbox.specs.declared.job.Job.{Job}
 use Rattle.rdm_responder.specs.declared.report.Report.{Report}
 use Rattle.rdm_lane.specs.Lane.{IsPrefix}

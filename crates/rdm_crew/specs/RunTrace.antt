@@ -2,9 +2,12 @@
 -- worker on its jobs.
 use Rattle.std.specs.Prelude.{◌≡◌, ◌≢◌, ℕ, ◌≤◌, List, [], ◌∷◌, ◌++◌, length, All, slice_get, true, Option, Some, None}
 use Rattle.std.specs.Option.{option_or}
-use Rattle.rdm_params.specs.declared.panel.Change.{Change}
-use Rattle.rdm_params.specs.declared.jobs.outcome.Outcome.{Outcome}
-use Rattle.rdm_params.specs.Commands.Commands.{command_of}
+use Rattle.rdm_frame.specs.declared.fault.Fault.{Fault}
+use Rattle.rdm_frame.specs.declared.fault.Fault.TheVariants as fault
+use Rattle.rdm_frame.specs.Faults.{raise_of}
+use Rattle.rdm_commands.specs.declared.panel.Change.{Change}
+use Rattle.rdm_commands.specs.declared.jobs.outcome.Outcome.{Outcome}
+use Rattle.rdm_params.specs.Table.Rows.{command_of}
 use Rattle.rdm_params.specs.Jobs.Outcome.{fits}
 use Rattle.rdm_params.specs.Jobs.Work.{Choice, worker_at}
 use Rattle.rdm_params.specs.Table.Uses.{is_slow}
@@ -14,10 +17,8 @@ use Rattle.rdm_responder.specs.declared.report.Report.{Report}
 use Rattle.rdm_responder.specs.Runs.{outbox_of}
 use Rattle.rdm_bus.specs.declared.event.Event.{Event}
 use Rattle.rdm_bus.specs.declared.event.Step.TheVariants as bus
-use Rattle.rdm_bus.specs.declared.fault.Fault.{Fault}
-use Rattle.rdm_bus.specs.declared.fault.Fault.TheVariants as fault
 use Rattle.rdm_bus.specs.declared.system.PlayError.{PlayError}
-use Rattle.rdm_bus.specs.BusRun.{Start, IsPlayed, after, after_all, raise_of}
+use Rattle.rdm_bus.specs.BusRun.{Start, IsPlayed, after, after_all}
 use Rattle.rdm_bus.specs.Happened.{jobs_in, reports_in, changes_in, reports_of}
 use Rattle.rdm_bus.specs.Systems.{refusal_in}
 use Rattle.rdm_crew.specs.declared.setup.Setup.{Setup}

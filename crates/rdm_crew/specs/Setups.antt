@@ -2,9 +2,9 @@
 use Rattle.std.specs.Prelude.{◌≡◌, ◌⊎◌, true, false}
 use Rattle.rdm_frame.specs.Addressing.{is_broadcast}
 use Rattle.rdm_params.specs.Device.Profiles.{CanBeMade}
-use Rattle.rdm_outbox.specs.State.{most_entries}
+use Rattle.rdm_outbox.specs.Settings.{IsQueueSize}
 use Rattle.rdm_responder.specs.History.{empty_history}
-use Rattle.rdm_responder.specs.StandsFor.{IsQueueSize}
+use Rattle.rdm_responder.specs.Settings.{setup_with, usual_settings}
 use Rattle.rdm_bus.specs.BusRun.{Start}
 use Rattle.rdm_crew.specs.declared.setup.Setup.{Setup}
 
@@ -12,7 +12,7 @@ use Rattle.rdm_crew.specs.declared.setup.Setup.{Setup}
 -- number 0, and no poll is unanswered.
 abbrev pub switched_on : Setup → Start
 switched_on s = record {
-  history = empty_history (record { uid = s.device; profile = s.profile; queue_size = s.queue_size; entries = most_entries; first_job = 0 });
+  history = empty_history (setup_with (usual_settings s.device s.queue_size) s.profile);
   uid = s.controller;
   target = s.device;
   want = s.want;

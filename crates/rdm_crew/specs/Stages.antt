@@ -1,7 +1,7 @@
 -- What a run is made of before any of its threads is started, and what it leaves.
 use Rattle.std.specs.Prelude.{◌≡◌, ℕ, List, []}
-use Rattle.rdm_params.specs.declared.jobs.outcome.Outcome.{Outcome}
-use Rattle.rdm_params.specs.declared.panel.Change.{Change}
+use Rattle.rdm_commands.specs.declared.jobs.outcome.Outcome.{Outcome}
+use Rattle.rdm_commands.specs.declared.panel.Change.{Change}
 use Rattle.rdm_outbox.specs.declared.job.Job.{Job}
 use Rattle.rdm_bus.specs.BusLaws.{recorded}
 use Rattle.rdm_lane.specs.Lane.{LaneLaw}

@@ -1,6 +1,6 @@
 -- What a caller sees of a trace.
 use Rattle.std.specs.Prelude.{List}
-use Rattle.rdm_params.specs.declared.jobs.message.Message.{Message}
+use Rattle.rdm_frame.specs.declared.message.Message.{Message}
 use Rattle.rdm_responder.specs.declared.report.Report.{Report}
 use Rattle.rdm_bus.specs.declared.event.Event.{Event}
 use Rattle.rdm_lane.specs.Settling.{SettledState}

@@ -1,6 +1,6 @@
 -- What a panel's watcher makes of the panel: the changes that it offers, one for each number, in order.
 use Rattle.std.specs.Prelude.{◌≡◌, ℕ, suc, List, [], ◌∷◌}
-use Rattle.rdm_params.specs.declared.panel.Change.{Change}
+use Rattle.rdm_commands.specs.declared.panel.Change.{Change}
 use Rattle.rdm_lane.specs.Ends.{PostState, IsSamePost}
 use Rattle.rdm_crew.specs.declared.threads.watcher.Watched.{Watched}
 

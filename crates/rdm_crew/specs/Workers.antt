@@ -1,6 +1,6 @@
 -- What a worker makes of its jobs: one report on each, in order.
 use Rattle.std.specs.Prelude.{◌≡◌, ◌≤◌, ◌+◌, ℕ, false, List, [], ◌∷◌, length}
-use Rattle.rdm_params.specs.declared.jobs.outcome.Outcome.{Outcome}
+use Rattle.rdm_commands.specs.declared.jobs.outcome.Outcome.{Outcome}
 use Rattle.rdm_outbox.specs.declared.job.Job.{Job}
 use Rattle.rdm_responder.specs.declared.report.Report.{Report}
 use Rattle.rdm_lane.specs.Ends.{PostState, TakeState, IsOver, IsSameTake, IsSamePost}

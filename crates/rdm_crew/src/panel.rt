@@ -1,7 +1,7 @@
 //! What a person changes at the fixture's own panel.
 
 ghost use Rattle.std.specs.Prelude.{◌↔◌, ℕ, IfSome};
-ghost use Rattle.rdm_params.specs.declared.panel.Change.{Change};
+ghost use Rattle.rdm_commands.specs.declared.panel.Change.{Change};
 
 use rdm_params::Change;
 

@@ -1,7 +1,7 @@
 //! What does the jobs of a worker.
 
 ghost use Rattle.std.specs.Prelude.{◌↔◌};
-ghost use Rattle.rdm_params.specs.declared.jobs.outcome.Outcome.{Outcome};
+ghost use Rattle.rdm_commands.specs.declared.jobs.outcome.Outcome.{Outcome};
 ghost use Rattle.rdm_outbox.specs.declared.job.Job.{Job};
 
 use rdm_outbox::Job;

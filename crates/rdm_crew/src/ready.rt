@@ -2,7 +2,7 @@
 
 ghost use Rattle.std.specs.Prelude.{◌≡◌, ◌↔◌, ◌⊎◌, [], true, IfOk, IfErr, OnOk, IsErrOf};
 ghost use Rattle.rdm_bus.specs.Systems.{IsTrace};
-ghost use Rattle.rdm_responder.specs.StandsFor.{IsQueueSize};
+ghost use Rattle.rdm_outbox.specs.Settings.{IsQueueSize};
 ghost use Rattle.rdm_crew.specs.Stages.{IsReady};
 ghost use Rattle.rdm_crew.specs.Setups.{switched_on, IsBadSetup};
 

@@ -8,14 +8,14 @@ use Rattle.std.proofs.Math.Nat.{min-eq_left}
 use Rattle.std.proofs.lemmas.Bool.{eq-eqb, eqb-true, leb-true}
 use Rattle.std.proofs.lemmas.List.Sums.{sum_by-cons}
 use Rattle.std.proofs.lemmas.Nat.{from_be_bytes-to_be_bytes_2}
-use Rattle.rdm_device.specs.declared.profile.Profile.{Profile}
-use Rattle.rdm_device.specs.declared.value.Value.TheVariants.{Word}
+use Rattle.rdm_profile.specs.declared.profile.Profile.{Profile}
+use Rattle.rdm_profile.specs.declared.value.Value.TheVariants.{Word}
 use Rattle.rdm_device.specs.Columns.Changes.{stored_at}
-use Rattle.rdm_device.specs.Columns.Forms.{word}
+use Rattle.rdm_profile.specs.Forms.{word}
 use Rattle.rdm_device.specs.Device.Blocks.{sub_devices, has_slots, total, start_in, follow, base_if, base_address, started, started_from, keeps_start, BlockIsTold}
-use Rattle.rdm_device.specs.Device.Map.{Entry, has_key, lookup, update}
-use Rattle.rdm_device.specs.Device.Spot.{Spot, sub_device, footprint}
-use Rattle.rdm_device.specs.Device.Values.{word_slots}
+use Rattle.rdm_added.specs.Map.{Entry, has_key, lookup, update}
+use Rattle.rdm_added.specs.Spot.{Spot, sub_device, footprint}
+use Rattle.rdm_profile.specs.Values.{word_slots}
 
 never : false ≡ true → ⊥
 never e = cc

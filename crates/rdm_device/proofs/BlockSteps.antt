@@ -5,16 +5,16 @@ use Rattle.std.proofs.Math.Nat.{min-eq_left}
 use Rattle.std.proofs.lemmas.Bool.{ne_eqb}
 use Rattle.std.proofs.lemmas.List.{at_drop_more, at_drop_all, get_or-map, get_or-set_same, length-map}
 use Rattle.std.proofs.lemmas.List.Sums.{sum_by-cons}
-use Rattle.rdm_device.specs.declared.device.state.CommonValues.{CommonValues}
-use Rattle.rdm_device.specs.declared.profile.Profile.{Profile}
-use Rattle.rdm_device.specs.declared.value.Value.TheVariants.{Word}
+use Rattle.rdm_added.specs.declared.state.CommonValues.{CommonValues}
+use Rattle.rdm_profile.specs.declared.profile.Profile.{Profile}
+use Rattle.rdm_profile.specs.declared.value.Value.TheVariants.{Word}
 use Rattle.rdm_device.specs.Columns.Changes.{stored_at}
-use Rattle.rdm_device.specs.Columns.Forms.{word}
+use Rattle.rdm_profile.specs.Forms.{word}
 use Rattle.rdm_device.specs.Device.Blocks.{sub_devices, total, started, started_from}
-use Rattle.rdm_device.specs.Device.Map.{Entry, update}
-use Rattle.rdm_device.specs.Device.Spot.{Spot, sub_device, footprint}
-use Rattle.rdm_device.specs.Views.State.{common_entries}
-use Rattle.rdm_device.proofs.Added.{set_own, not_either, either_false}
+use Rattle.rdm_added.specs.Map.{Entry, update}
+use Rattle.rdm_added.specs.Spot.{Spot, sub_device, footprint}
+use Rattle.rdm_added.specs.Views.State.{common_entries}
+use Rattle.rdm_added.proofs.KeptValues.{set_own, not_either, either_false}
 
 -- behind the last one those of all are counted
 pub counted_all : (profile : Profile) (subs : List CommonValues) (so_far all i : ℕ) → length subs ≤ i → so_far ≤ 65535 → min (so_far + total (sub_devices profile (map common_entries (drop i subs)))) 65535 ≡ all → so_far ≡ all

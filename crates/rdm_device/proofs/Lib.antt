@@ -1,16 +1,6 @@
-pub mod Added
 pub mod BlockLaws
 pub mod BlockSteps
-pub mod ChoiceSteps
-pub mod DemoLemmas
-pub mod Faults
-pub mod FieldSteps
 pub mod ListSteps
-pub mod Maps
-pub mod Numbers
-pub mod SceneSteps
 pub mod SensorReads
 pub mod Sensors
 pub mod Words
-pub mod Equality
-pub mod ValueEquality

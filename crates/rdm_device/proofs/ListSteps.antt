@@ -1,11 +1,11 @@
 -- Lists that are written element by element.
-use Rattle.std.proofs.Common.{◌≡◌, ℕ, zero, suc, ◌+◌, ◌<◌, List, [], ◌∷◌, ◌++◌, length, get_or, drop, replicate, refl, sym, ap, ◌∙◌, append_assoc, add-one}
+use Rattle.std.proofs.Common.{◌≡◌, ℕ, ◌+◌, ◌<◌, List, [], ◌∷◌, ◌++◌, length, get_or, drop, refl, sym, ap, ◌∙◌, append_assoc, add-one}
 use Rattle.std.specs.Prelude.{flat_map}
 use Rattle.std.proofs.lemmas.List.{at_drop_more}
 use Rattle.std.proofs.lemmas.List.Concat.{flat_map-cons}
-use Rattle.rdm_device.specs.declared.profile.Slot.{Slot}
+use Rattle.rdm_profile.specs.declared.profile.Slot.{Slot}
 use Rattle.rdm_device.specs.Columns.Replies.{slot_infos, slot_defaults}
-use Rattle.rdm_device.specs.Device.Values.{word_slots}
+use Rattle.rdm_profile.specs.Values.{word_slots}
 
 pub codes_step : (list : List ℕ) (i : ℕ) (codes : List ℕ) (total : List ℕ) → i < length codes → list ++ flat_map word_slots (drop i codes) ≡ total → (list ++ word_slots (get_or codes i 0)) ++ flat_map word_slots (drop (i + 1) codes) ≡ total
 codes_step list i codes total lt so_far =
@@ -29,10 +29,3 @@ defaults_step list i slots d total lt so_far =
     let rest : List ℕ = slot_defaults (i + 1) (drop (i + 1) slots) in
     let more : slot_defaults i (drop i slots) ≡ word_slots i ++ ((get_or slots i d).value ∷ [] ++ rest) = at_drop_more (slot_defaults i) slots i d lt ∙ rw (← add-one i) refl in
     regroup3 list (word_slots i) ((get_or slots i d).value ∷ []) rest ∙ ap (λ (xs : List ℕ). list ++ xs) (sym more) ∙ so_far
-
-replicate_last : {A : Type 0} (n : ℕ) (x : A) → replicate n x ++ x ∷ [] ≡ replicate (suc n) x
-replicate_last zero x = refl
-replicate_last (suc n) x = ap (λ xs. x ∷ xs) (replicate_last n x)
-
-pub replicate_push : {A : Type 0} (n : ℕ) (x : A) → replicate n x ++ x ∷ [] ≡ replicate (n + 1) x
-replicate_push n x = rw (add-one n) (replicate_last n x)

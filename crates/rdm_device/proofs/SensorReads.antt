@@ -8,13 +8,13 @@ use Rattle.std.proofs.lemmas.Bool.{eq-eqb, ne_eqb}
 use Rattle.std.proofs.lemmas.Int.{to_z-of_z}
 use Rattle.std.proofs.lemmas.List.{drop_all}
 use Rattle.std.proofs.lemmas.Nat.{from_be_bytes-to_be_bytes_2}
-use Rattle.rdm_device.proofs.Maps.{update_append}
-use Rattle.rdm_device.specs.declared.device.state.CommonValues.{CommonValues}
-use Rattle.rdm_device.specs.declared.device.state.Measured.{Measured}
-use Rattle.rdm_device.specs.Device.Map.{Entry, entry, update}
+use Rattle.rdm_added.proofs.Maps.{update_append}
+use Rattle.rdm_added.specs.declared.state.CommonValues.{CommonValues}
+use Rattle.rdm_added.specs.declared.state.Measured.{Measured}
+use Rattle.rdm_added.specs.Map.{Entry, entry, update}
 use Rattle.rdm_device.specs.Device.Measuring.{signed_in, measured, measured_by, at_sensor, placed_by}
-use Rattle.rdm_device.specs.Views.State.{common_entries, sensor_entries, measured_slots}
-use Rattle.rdm_device.specs.Device.Values.{signed_slots}
+use Rattle.rdm_added.specs.Views.State.{common_entries, sensor_entries, measured_slots}
+use Rattle.rdm_profile.specs.Values.{signed_slots}
 
 -- the signed number that is written is read back
 signed_again : (z : ℤ) → FitsSigned w16 z → signed_in (signed_slots z) ≡ z

@@ -1,16 +1,15 @@
 -- The entries of the sensors.
-use Rattle.std.proofs.Common.{◌≡◌, ℕ, zero, suc, ◌+◌, List, [], ◌∷◌, ◌++◌, length, get_or, take, replicate, pos, ◌<◌, Bool, true, false, Option, Some, None, refl, sym, ap, ◌∙◌, arith}
+use Rattle.std.proofs.Common.{◌≡◌, ℕ, zero, suc, ◌+◌, List, [], ◌∷◌, ◌++◌, length, get_or, take, ◌<◌, Bool, true, false, Option, Some, None, refl, sym, ap, ◌∙◌, arith}
 use Rattle.std.specs.Prelude.{slice_get}
 use Rattle.std.specs.Option.{option_map_or}
 use Rattle.std.proofs.lemmas.List.{take_more, length-take}
 use Rattle.std.proofs.lemmas.Bool.{eq-eqb, ne_eqb}
-use Rattle.rdm_device.specs.declared.device.state.Measured.{Measured}
-use Rattle.rdm_device.proofs.Maps.{update_append}
-use Rattle.rdm_device.specs.declared.profile.SensorDef.{SensorDef}
-use Rattle.rdm_device.specs.Device.Parameters.{sensors_at_start}
-use Rattle.rdm_device.specs.Device.Map.{Entry, entry, lookup, update}
+use Rattle.rdm_added.specs.declared.state.Measured.{Measured}
+use Rattle.rdm_added.proofs.Maps.{update_append}
+use Rattle.rdm_profile.specs.declared.profile.SensorDef.{SensorDef}
+use Rattle.rdm_added.specs.Map.{Entry, entry, lookup, update}
 use Rattle.rdm_device.specs.Device.Measuring.{records, keeps_extremes, or_zero, shown_slots}
-use Rattle.rdm_device.specs.Views.State.{sensor_entries, measured_slots}
+use Rattle.rdm_added.specs.Views.State.{sensor_entries, measured_slots}
 
 -- a change that leaves the bytes of every sensor leaves their entries
 pub sensors_stay : (f : Entry → List ℕ) (n : ℕ) (ms : List Measured) → ((i : ℕ) (bytes : List ℕ) → f (entry 0x0201 i bytes) ≡ bytes) → update f (sensor_entries n ms) ≡ sensor_entries n ms
@@ -35,18 +34,6 @@ sensor_is i ms m e = read_at i ms ∙ ap (λ (o : Option Measured). option_map_o
 
 pub sensor_is_not : (i : ℕ) (ms : List Measured) → slice_get ms i ≡ None → lookup (sensor_entries 0 ms) 0x0201 i ≡ []
 sensor_is_not i ms e = read_at i ms ∙ ap (λ (o : Option Measured). option_map_or measured_slots o []) e
-
--- a sensor that has measured nothing
-abbrev pub unmeasured : Measured
-unmeasured = record { present = pos 0; lowest = pos 0; highest = pos 0; recorded = pos 0 }
-
-start_from : (n : ℕ) (ds : List SensorDef) → sensor_entries n (replicate (length ds) unmeasured) ≡ sensors_at_start n ds
-start_from n [] = refl
-start_from n (d ∷ ds) = ap (λ (es : List Entry). entry 0x0201 n (replicate 8 0) ∷ es) (start_from (suc n) ds)
-
--- as many sensors as the profile has, which have measured nothing
-pub sensors_start : (k : ℕ) (ms : List Measured) (ds : List SensorDef) → ms ≡ replicate k unmeasured → k ≡ length ds → sensor_entries 0 ms ≡ sensors_at_start 0 ds
-sensors_start k ms ds e f = ap (sensor_entries 0) e ∙ ap (λ (n : ℕ). sensor_entries 0 (replicate n unmeasured)) f ∙ start_from 0 ds
 
 push_from : (n k : ℕ) (ms : List Measured) (m : Measured) → length ms ≡ k → sensor_entries n (ms ++ m ∷ []) ≡ sensor_entries n ms ++ entry 0x0201 (n + k) (measured_slots m) ∷ []
 push_from n k [] m e = ap (λ (i : ℕ). entry 0x0201 i (measured_slots m) ∷ []) (omega (arith, e))

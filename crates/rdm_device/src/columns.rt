@@ -1,8 +1,8 @@
 //! What the columns of the table name: the forms of data, their ranges, and what a command changes and replies.
 
-pub mod added;
 pub mod changes;
-pub mod forms;
 pub mod ranges;
 pub mod replies;
-pub mod writes;
+
+pub use rdm_added::added;
+pub use rdm_profile::{forms, writes};

@@ -10,9 +10,9 @@ use Rattle.std.proofs.lemmas.Bool.{leb-true, eqb-true}
 use Rattle.std.proofs.lemmas.Bool.Decides.{nat_tests}
 use Rattle.rdm_frame.specs.Digits.{within}
 use Rattle.rdm_frame.specs.DigitReading.{number_in}
-use Rattle.rdm_device.specs.declared.profile.fields.Width.{Width}
-use Rattle.rdm_device.specs.declared.profile.fields.Width.TheVariants.{One, Two, Four}
-use Rattle.rdm_device.specs.Device.Fields.{width_of, reach_of}
+use Rattle.rdm_profile.specs.declared.profile.fields.Width.{Width}
+use Rattle.rdm_profile.specs.declared.profile.fields.Width.TheVariants.{One, Two, Four}
+use Rattle.rdm_profile.specs.Fields.{width_of, reach_of}
 use Rattle.rdm_entry.specs.declared.field.Field.{Field}
 use Rattle.rdm_entry.specs.declared.field.Field.TheVariants as fields
 use Rattle.rdm_entry.specs.declared.error.Wrong.{Wrong}

@@ -6,9 +6,9 @@ use Rattle.std.specs.Str.Parse.{AllDigits, digits_value}
 use Rattle.std.proofs.lemmas.Fmt.{decimal_is_IsNumeral, length-decimal-le, first_decimal, decimal-digits_value}
 use Rattle.std.proofs.lemmas.Str.Parse.{numerals_by_value, tells_digits}
 use Rattle.std.proofs.lemmas.Bool.Decides.{nat_tests}
-use Rattle.rdm_device.specs.declared.profile.fields.Width.{Width}
-use Rattle.rdm_device.specs.declared.profile.fields.Width.TheVariants.{One, Two, Four}
-use Rattle.rdm_device.specs.Device.Fields.{reach_of}
+use Rattle.rdm_profile.specs.declared.profile.fields.Width.{Width}
+use Rattle.rdm_profile.specs.declared.profile.fields.Width.TheVariants.{One, Two, Four}
+use Rattle.rdm_profile.specs.Fields.{reach_of}
 use Rattle.rdm_words.specs.declared.tables.Table.{Table}
 use Rattle.rdm_entry.specs.declared.field.Field.TheVariants as fields
 use Rattle.rdm_entry.specs.declared.error.Wrong.TheVariants as wrong

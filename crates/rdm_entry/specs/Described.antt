@@ -1,8 +1,8 @@
 -- The fields of a parameter that a fixture describes. E1.20 section 10.4.2.
 use Rattle.std.specs.Prelude.{ℕ, ◌==◌, ◌/◌, ◌%◌, nat_lt, List, [], ◌∷◌, length, slice_index, Option, Some, None, replicate, if◌then◌else◌}
-use Rattle.rdm_device.specs.declared.profile.fields.Width.{Width}
-use Rattle.rdm_device.specs.declared.profile.fields.Width.TheVariants.{One, Two, Four}
-use Rattle.rdm_device.specs.Device.Fields.{width_of}
+use Rattle.rdm_profile.specs.declared.profile.fields.Width.{Width}
+use Rattle.rdm_profile.specs.declared.profile.fields.Width.TheVariants.{One, Two, Four}
+use Rattle.rdm_profile.specs.Fields.{width_of}
 use Rattle.rdm_entry.specs.declared.field.Field.{Field}
 use Rattle.rdm_entry.specs.declared.field.Field.TheVariants as fields
 

@@ -1,8 +1,8 @@
 -- How many slots the data have that words can say.
 use Rattle.std.specs.Prelude.{◌≡◌, ℕ, ◌+◌, ◌≤◌, true, List, [], ◌∷◌, length, Option, Some, IfSome, IsSome}
-use Rattle.rdm_device.specs.Columns.Forms.{has_length}
-use Rattle.rdm_device.specs.Device.Fields.{width_of}
-use Rattle.rdm_params.specs.declared.kind.Verb.{Verb}
+use Rattle.rdm_profile.specs.Forms.{has_length}
+use Rattle.rdm_profile.specs.Fields.{width_of}
+use Rattle.rdm_table.specs.declared.kind.Verb.{Verb}
 use Rattle.rdm_params.specs.Table.Rows.{Row, Command, command_in}
 use Rattle.rdm_entry.specs.declared.field.Field.{Field}
 use Rattle.rdm_entry.specs.declared.field.Field.TheVariants as fields

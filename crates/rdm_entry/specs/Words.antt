@@ -7,9 +7,9 @@ use Rattle.std.specs.Option.{option_map, option_map_or}
 use Rattle.std.specs.Str.{bytes_eq}
 use Rattle.rdm_frame.specs.Digits.{within}
 use Rattle.rdm_frame.specs.DigitReading.{number_in}
-use Rattle.rdm_device.specs.declared.profile.fields.Width.{Width}
-use Rattle.rdm_device.specs.declared.profile.fields.Width.TheVariants.{One, Two, Four}
-use Rattle.rdm_device.specs.Device.Fields.{reach_of}
+use Rattle.rdm_profile.specs.declared.profile.fields.Width.{Width}
+use Rattle.rdm_profile.specs.declared.profile.fields.Width.TheVariants.{One, Two, Four}
+use Rattle.rdm_profile.specs.Fields.{reach_of}
 use Rattle.rdm_words.specs.declared.tables.Table.{Table}
 use Rattle.rdm_entry.specs.declared.field.Field.{Field}
 use Rattle.rdm_entry.specs.declared.field.Field.TheVariants as fields

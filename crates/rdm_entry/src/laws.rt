@@ -3,7 +3,7 @@
 ghost use Rattle.std.specs.Prelude.{◌≡◌, ◌≢◌, ◌<◌, ◌≤◌, ℕ, List, Ok, Err, length, slice_index};
 ghost use Rattle.std.specs.Fmt.{decimal};
 ghost use Rattle.std.specs.Str.Parse.{AllDigits, digits_value};
-ghost use Rattle.rdm_device.specs.Device.Fields.{reach_of};
+ghost use Rattle.rdm_profile.specs.Fields.{reach_of};
 ghost use Rattle.rdm_entry.specs.declared.field.Field.{Field as TheField};
 ghost use Rattle.rdm_entry.specs.Entries.{data_in};
 ghost use Rattle.rdm_entry.specs.Slots.{CanHave};

@@ -1,7 +1,7 @@
 //! Numbers with a sign, in two's complement.
 
 ghost use Rattle.std.specs.Prelude.{◌≡◌, ◌≤◌, ◌^◌};
-ghost use Rattle.rdm_device.specs.Device.Fields.{reach_of};
+ghost use Rattle.rdm_profile.specs.Fields.{reach_of};
 ghost use Rattle.rdm_entry.specs.Words.{negative, positive, signed_said};
 
 use crate::error::Wrong;

@@ -42,7 +42,7 @@ fn other_fields(pid: u16, verb: Verb) -> Option<&'static [Field]> {
 }
 
 /// What a GET hands in of a parameter of the table.
-#[tactic(auto, unfolding(rdm_params::specs::Table::Rows::row_of, rdm_params::specs::Table::Rows::table))]
+#[tactic(auto, unfolding(rdm_table::specs::Table::Rows::row_of, rdm_table::specs::Table::Rows::table))]
 fn get_fields(kind: Kind) -> Option<&'static [Field]>
     ensures { Fit (row_of (pid_of kind)) Verb.Get (option_map (λ fields. fields.now) result) }
 {
@@ -59,7 +59,7 @@ fn get_fields(kind: Kind) -> Option<&'static [Field]>
 }
 
 /// What a SET hands in of a parameter of the table.
-#[tactic(auto, unfolding(rdm_params::specs::Table::Rows::row_of, rdm_params::specs::Table::Rows::table))]
+#[tactic(auto, unfolding(rdm_table::specs::Table::Rows::row_of, rdm_table::specs::Table::Rows::table))]
 fn set_fields(kind: Kind) -> Option<&'static [Field]>
     ensures { Fit (row_of (pid_of kind)) Verb.Set (option_map (λ fields. fields.now) result) }
 {

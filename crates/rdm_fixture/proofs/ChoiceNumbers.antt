@@ -2,9 +2,9 @@
 use Rattle.std.proofs.Common.{◌≡◌, ◌+◌, ◌==◌, ◌≤◌, nat_le, Bool, true, false, ◌&&◌, ◌||◌, List, [], ◌∷◌, get_or, All, IsTrue, refl}
 use Rattle.std.specs.List.{list_any}
 use Rattle.std.proofs.lemmas.Bool.{leb-true}
-use Rattle.rdm_device.specs.declared.profile.choices.ChoiceName.{ChoiceName}
-use Rattle.rdm_device.specs.declared.profile.own.ParameterDef.{ParameterDef}
-use Rattle.rdm_device.specs.Device.Choices.{greatest, has_names_behind, is_of_choice, is_needed}
+use Rattle.rdm_profile.specs.declared.profile.choices.ChoiceName.{ChoiceName}
+use Rattle.rdm_profile.specs.declared.profile.own.ParameterDef.{ParameterDef}
+use Rattle.rdm_profile.specs.Choices.{greatest, has_names_behind, is_of_choice, is_needed}
 
 pub one_of_two : (a b : Bool) (P : Type 0) → (a ≡ true → P) → (b ≡ true → P) → (a || b) ≡ true → P
 one_of_two true b P first second h = first h

@@ -7,7 +7,7 @@ use Rattle.std.proofs.lemmas.Bool.Decides.{Decides-and, Decides-like, Decides-eq
 use Rattle.std.proofs.lemmas.Slice.Eq.{slice_eq-Decides}
 use Rattle.arrayvec.specs.declared.array_vec.ArrayVec.{ArrayVec}
 use Rattle.rdm_frame.specs.contracts.uid.UidPartialEq.TheImpl as uids
-use Rattle.rdm_device.specs.contracts.profile.ProfilePartialEq.TheImpl as profiles
+use Rattle.rdm_profile.specs.contracts.profile.ProfilePartialEq.TheImpl as profiles
 use Rattle.rdm_outcomes.specs.declared.rule.Rule.{Rule}
 use Rattle.rdm_outcomes.specs.contracts.rule.RulePartialEq.TheImpl as rules
 use Rattle.rdm_fixture.specs.declared.fixture.Fixture.{Fixture}

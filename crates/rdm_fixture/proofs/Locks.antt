@@ -4,10 +4,10 @@ use Rattle.std.specs.List.{list_any}
 use Rattle.std.proofs.lemmas.Bool.{leb-true}
 use Rattle.std.proofs.lemmas.List.{take_more}
 use Rattle.toml.specs.Data.{Data, string, integer, float, boolean, datetime, array, table, Items, no_items, item}
-use Rattle.rdm_device.specs.declared.profile.locks.Lock.{Lock}
-use Rattle.rdm_device.specs.declared.profile.own.ParameterDef.{ParameterDef}
-use Rattle.rdm_device.specs.Device.Choices.{greatest}
-use Rattle.rdm_device.specs.Device.Locks.{is_state_of, has_state}
+use Rattle.rdm_profile.specs.declared.profile.locks.Lock.{Lock}
+use Rattle.rdm_profile.specs.declared.profile.own.ParameterDef.{ParameterDef}
+use Rattle.rdm_profile.specs.Choices.{greatest}
+use Rattle.rdm_profile.specs.Locks.{is_state_of, has_state}
 use Rattle.rdm_fixture.specs.declared.profile.locks.Locking.{Locking}
 use Rattle.rdm_fixture.specs.Format.{locks_of, all_locks, IsLocking}
 use Rattle.rdm_fixture.specs.Lists.{OfTable, EachIs, ListAt}

@@ -4,14 +4,14 @@ use Rattle.std.specs.Prelude.{unwrap_or}
 use Rattle.std.proofs.lemmas.Bool.{and_parts, leb-true}
 use Rattle.std.proofs.lemmas.Option.{same_Some}
 use Rattle.std.proofs.lemmas.List.Elements.{All-cons}
-use Rattle.rdm_device.specs.declared.profile.Personality.{Personality}
-use Rattle.rdm_device.specs.declared.profile.Profile.{Profile}
-use Rattle.rdm_device.specs.declared.profile.SelfTest.{SelfTest}
-use Rattle.rdm_device.specs.declared.profile.own.ParameterDef.{ParameterDef}
-use Rattle.rdm_device.specs.declared.profile.Unit.{Unit as DeviceUnit}
-use Rattle.rdm_device.specs.Device.OwnParameters.{is_addable, has_limits, can_start, has_good_fields}
-use Rattle.rdm_device.specs.Device.Standards.{follows}
-use Rattle.rdm_device.specs.Device.Profiles.{IsGoodUnit, CanOpen, CanHold, CanBeMade}
+use Rattle.rdm_profile.specs.declared.profile.Personality.{Personality}
+use Rattle.rdm_profile.specs.declared.profile.Profile.{Profile}
+use Rattle.rdm_profile.specs.declared.profile.SelfTest.{SelfTest}
+use Rattle.rdm_profile.specs.declared.profile.own.ParameterDef.{ParameterDef}
+use Rattle.rdm_profile.specs.declared.profile.Unit.{Unit as DeviceUnit}
+use Rattle.rdm_profile.specs.OwnParameters.{is_addable, has_limits, can_start, has_good_fields}
+use Rattle.rdm_profile.specs.Standards.{follows}
+use Rattle.rdm_profile.specs.Profiles.{IsGoodUnit, CanOpen, CanHold, CanBeMade}
 use Rattle.toml.specs.Data.{Data, string, integer, float, boolean, datetime, array, table, Items, no_items, item, Members, get_member}
 use Rattle.rdm_fixture_keys.specs.Values.{number}
 use Rattle.rdm_fixture_keys.specs.Keys.{may, must}

@@ -7,14 +7,14 @@ use Rattle.std.proofs.lemmas.Bool.{and_from, and_parts, eqb-true, cases_lt}
 use Rattle.std.proofs.lemmas.Int.{ints, to_z-of_z, to_z_pos}
 use Rattle.std.proofs.lemmas.Nat.{be_bytes_2, be_bytes_4}
 use Rattle.std.proofs.lemmas.Option.{same_Some}
-use Rattle.rdm_device.specs.declared.profile.fields.Field.{Field}
-use Rattle.rdm_device.specs.declared.profile.own.ParameterDef.{ParameterDef}
-use Rattle.rdm_device.specs.declared.profile.own.Shape.{Shape}
-use Rattle.rdm_device.specs.declared.profile.own.Shape.TheVariants as shapes
-use Rattle.rdm_device.specs.Columns.Forms.{has_length, value_in, value_of, has_form}
-use Rattle.rdm_device.specs.Device.Fields.{says}
-use Rattle.rdm_device.specs.Device.OwnParameters.{form_of, number_in, has_number, can_start}
-use Rattle.rdm_device.specs.Device.Values.{word_slots, long_slots}
+use Rattle.rdm_profile.specs.declared.profile.fields.Field.{Field}
+use Rattle.rdm_profile.specs.declared.profile.own.ParameterDef.{ParameterDef}
+use Rattle.rdm_profile.specs.declared.profile.own.Shape.{Shape}
+use Rattle.rdm_profile.specs.declared.profile.own.Shape.TheVariants as shapes
+use Rattle.rdm_profile.specs.Forms.{has_length, value_in, value_of, has_form}
+use Rattle.rdm_profile.specs.Fields.{says}
+use Rattle.rdm_profile.specs.OwnParameters.{form_of, number_in, has_number, can_start}
+use Rattle.rdm_profile.specs.Values.{word_slots, long_slots}
 use Rattle.toml.specs.Data.{Data, string, integer, float, boolean, datetime, array, table}
 use Rattle.rdm_fixture_keys.specs.Values.{integer_from}
 use Rattle.rdm_fixture.specs.Parameters.{least_of, greatest_of, number_slots}

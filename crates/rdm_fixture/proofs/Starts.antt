@@ -16,15 +16,15 @@ use Rattle.rdm_frame.specs.Digits.{digit, digits, upper}
 use Rattle.rdm_frame.specs.DigitReading.{bytes_in}
 use Rattle.rdm_frame.proofs.NumberSpellings.{long}
 use Rattle.rdm_frame.proofs.Spellings.{bytes_read, bytes_again}
-use Rattle.rdm_device.specs.declared.profile.fields.Field.{Field}
-use Rattle.rdm_device.specs.declared.profile.own.ParameterDef.{ParameterDef}
-use Rattle.rdm_device.specs.declared.profile.own.Rights.{Rights}
-use Rattle.rdm_device.specs.declared.profile.own.Rights.TheVariants as rights
-use Rattle.rdm_device.specs.declared.profile.own.Shape.{Shape}
-use Rattle.rdm_device.specs.declared.profile.own.Shape.TheVariants as shapes
-use Rattle.rdm_device.specs.Columns.Forms.{has_length, value_in, has_form}
-use Rattle.rdm_device.specs.Device.Fields.{says}
-use Rattle.rdm_device.specs.Device.OwnParameters.{form_of, number_in, can_start}
+use Rattle.rdm_profile.specs.declared.profile.fields.Field.{Field}
+use Rattle.rdm_profile.specs.declared.profile.own.ParameterDef.{ParameterDef}
+use Rattle.rdm_profile.specs.declared.profile.own.Rights.{Rights}
+use Rattle.rdm_profile.specs.declared.profile.own.Rights.TheVariants as rights
+use Rattle.rdm_profile.specs.declared.profile.own.Shape.{Shape}
+use Rattle.rdm_profile.specs.declared.profile.own.Shape.TheVariants as shapes
+use Rattle.rdm_profile.specs.Forms.{has_length, value_in, has_form}
+use Rattle.rdm_profile.specs.Fields.{says}
+use Rattle.rdm_profile.specs.OwnParameters.{form_of, number_in, can_start}
 use Rattle.toml.specs.Data.{Data, string, integer, float, boolean, datetime, array, table}
 use Rattle.rdm_fixture.specs.Describable.{are_printable, can_stand}
 use Rattle.rdm_fixture_keys.specs.Keys.{must}

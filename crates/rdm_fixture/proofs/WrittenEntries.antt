@@ -1,17 +1,17 @@
 -- What is written of the entries of lists.
 use Rattle.std.proofs.Common.{◌≡◌, false, ℕ, ◌≤◌, ◌<◌, ℤ, pos, neg_ℤ, List, [], ◌∷◌, Option, Some, None, refl, sym, ap, ◌∙◌, subst, arith, codes}
-use Rattle.rdm_device.specs.declared.profile.choices.ChoiceName.{ChoiceName}
-use Rattle.rdm_device.specs.declared.profile.estimates.Estimates.{Estimates}
-use Rattle.rdm_device.specs.declared.profile.locks.Lock.{Lock}
-use Rattle.rdm_device.specs.declared.profile.Personality.{Personality}
-use Rattle.rdm_device.specs.declared.profile.SelfTest.{SelfTest}
-use Rattle.rdm_device.specs.declared.profile.SensorDef.{SensorDef}
-use Rattle.rdm_device.specs.declared.profile.Slot.{Slot}
-use Rattle.rdm_device.specs.declared.profile.StatusText.{StatusText}
-use Rattle.rdm_device.specs.declared.profile.workers.Worker.{Worker}
-use Rattle.rdm_device.specs.declared.profile.workers.Worker.TheVariants.{First, Second}
-use Rattle.rdm_device.specs.declared.profile.workers.Workers.{Workers}
-use Rattle.rdm_device.specs.Device.Workers.{worker_number}
+use Rattle.rdm_profile.specs.declared.profile.choices.ChoiceName.{ChoiceName}
+use Rattle.rdm_profile.specs.declared.profile.estimates.Estimates.{Estimates}
+use Rattle.rdm_profile.specs.declared.profile.locks.Lock.{Lock}
+use Rattle.rdm_profile.specs.declared.profile.Personality.{Personality}
+use Rattle.rdm_profile.specs.declared.profile.SelfTest.{SelfTest}
+use Rattle.rdm_profile.specs.declared.profile.SensorDef.{SensorDef}
+use Rattle.rdm_profile.specs.declared.profile.Slot.{Slot}
+use Rattle.rdm_profile.specs.declared.profile.StatusText.{StatusText}
+use Rattle.rdm_profile.specs.declared.profile.workers.Worker.{Worker}
+use Rattle.rdm_profile.specs.declared.profile.workers.Worker.TheVariants.{First, Second}
+use Rattle.rdm_profile.specs.declared.profile.workers.Workers.{Workers}
+use Rattle.rdm_profile.specs.Workers.{worker_number}
 use Rattle.toml.specs.Data.{Data, integer, boolean, table, get_member}
 use Rattle.rdm_fixture_keys.specs.Entries.{IsPersonality, IsSlot, IsSensor, IsSelfTest, IsStatus, IsChoice, personality_keys, slot_keys, sensor_keys, self_test_keys, status_keys, choice_keys}
 use Rattle.rdm_fixture.specs.Format.{IsLocking, locked_pid, IsEstimates, IsWorkers, estimates_keys, workers_keys, locking_keys}

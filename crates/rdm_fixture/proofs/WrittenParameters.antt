@@ -3,17 +3,17 @@ use Rattle.std.proofs.Common.{◌≡◌, ℕ, ◌+◌, ◌<◌, ◌≤◌, pos, 
 use Rattle.std.specs.List.{list_any, list_all}
 use Rattle.std.proofs.lemmas.Bool.{and_parts, eqb-true}
 use Rattle.std.proofs.lemmas.List.{take_more}
-use Rattle.rdm_device.specs.declared.profile.fields.Field.{Field as Number}
-use Rattle.rdm_device.specs.declared.profile.fields.Width.{Width}
-use Rattle.rdm_device.specs.declared.profile.fields.Width.TheVariants as widths
-use Rattle.rdm_device.specs.declared.profile.own.ParameterDef.{ParameterDef}
-use Rattle.rdm_device.specs.Device.Fields.{width_of}
-use Rattle.rdm_device.specs.Device.LeftOut.{optional_pids, is_optional}
-use Rattle.rdm_device.specs.Device.OwnParameters.{is_addable, can_start, has_good_fields}
-use Rattle.rdm_device.specs.Device.Standards.{follows}
-use Rattle.rdm_params.specs.declared.kind.Kind.{Kind}
+use Rattle.rdm_profile.specs.declared.profile.fields.Field.{Field as Number}
+use Rattle.rdm_profile.specs.declared.profile.fields.Width.{Width}
+use Rattle.rdm_profile.specs.declared.profile.fields.Width.TheVariants as widths
+use Rattle.rdm_profile.specs.declared.profile.own.ParameterDef.{ParameterDef}
+use Rattle.rdm_profile.specs.Fields.{width_of}
+use Rattle.rdm_profile.specs.LeftOut.{optional_pids, is_optional}
+use Rattle.rdm_profile.specs.OwnParameters.{is_addable, can_start, has_good_fields}
+use Rattle.rdm_profile.specs.Standards.{follows}
+use Rattle.rdm_table.specs.declared.kind.Kind.{Kind}
 use Rattle.rdm_params.specs.Table.Kinds.{pid_of, name_of, kind_named, kind_with}
-use Rattle.rdm_params.proofs.KindNames.{named_is}
+use Rattle.rdm_table.proofs.KindNames.{named_is}
 use Rattle.toml.specs.Data.{Data, integer, string, boolean, table, get_member}
 use Rattle.toml.specs.View.{view, items_view}
 use Rattle.toml.specs.declared.value.Value.{Value}

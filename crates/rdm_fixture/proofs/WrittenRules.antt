@@ -1,12 +1,12 @@
 -- What is written of the rules by which jobs end.
 use Rattle.std.proofs.Common.{◌≡◌, ℕ, pos, true, List, [], ◌∷◌, Option, Some, None, IsTrue, refl, ap, ◌∙◌, arith, codes}
 use Rattle.std.proofs.lemmas.Bool.{and_parts}
+use Rattle.rdm_frame.specs.Severities.{severity_name}
+use Rattle.rdm_frame.specs.declared.status.Severity.{Severity}
+use Rattle.rdm_frame.specs.declared.status.Severity.TheVariants.{Advisory, Warning, Error, AdvisoryCleared, WarningCleared, ErrorCleared}
 use Rattle.rdm_params.specs.Table.Kinds.{name_of}
-use Rattle.rdm_params.specs.Jobs.Severities.{severity_name}
-use Rattle.rdm_params.specs.declared.jobs.outcome.Outcome.{Outcome}
-use Rattle.rdm_params.specs.declared.jobs.outcome.Outcome.TheVariants.{Done, Reading, Failed}
-use Rattle.rdm_params.specs.declared.jobs.status.Severity.{Severity}
-use Rattle.rdm_params.specs.declared.jobs.status.Severity.TheVariants.{Advisory, Warning, Error, AdvisoryCleared, WarningCleared, ErrorCleared}
+use Rattle.rdm_commands.specs.declared.jobs.outcome.Outcome.{Outcome}
+use Rattle.rdm_commands.specs.declared.jobs.outcome.Outcome.TheVariants.{Done, Reading, Failed}
 use Rattle.rdm_outcomes.specs.declared.rule.Rule.{Rule}
 use Rattle.rdm_outcomes.specs.declared.rule.Task.{Task}
 use Rattle.rdm_outcomes.specs.declared.rule.Task.TheVariants.{LampState, PowerState, PerformSelfTest, SensorValue}

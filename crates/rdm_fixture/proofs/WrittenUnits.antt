@@ -2,8 +2,8 @@
 use Rattle.std.proofs.Common.{◌≡◌, ℕ, ◌≤◌, pos, true, false, Bool, List, [], ◌∷◌, ◌++◌, ◌||◌, length, Option, Some, IsTrue, All, refl, ap, ◌∙◌, arith, codes}
 use Rattle.std.specs.List.{list_any}
 use Rattle.std.specs.Str.{bytes_eq}
-use Rattle.rdm_device.specs.declared.profile.Unit.{Unit as DeviceUnit}
-use Rattle.rdm_device.specs.Device.Profiles.{IsGoodUnit}
+use Rattle.rdm_profile.specs.declared.profile.Unit.{Unit as DeviceUnit}
+use Rattle.rdm_profile.specs.Profiles.{IsGoodUnit}
 use Rattle.toml.specs.Data.{Data, integer, table, Members, no_members, member, get_member}
 use Rattle.rdm_fixture.specs.Describable.{are_printable, HasPrintableUnit}
 use Rattle.rdm_fixture_keys.specs.Entries.{IsPersonality}

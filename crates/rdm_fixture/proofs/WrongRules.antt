@@ -1,8 +1,8 @@
 -- What is wrong with a table that is no rule.
 use Rattle.std.proofs.Common.{◌≡◌, ℕ, Bool, true, false, Option, Some, None, IsSome, IsTrue, option_map, pos, neg_ℤ, refl, ap, codes}
 use Rattle.toml.specs.Data.{Data, Members, get_member}
-use Rattle.rdm_params.specs.declared.jobs.outcome.Outcome.{Outcome}
-use Rattle.rdm_params.specs.declared.jobs.status.Severity.{Severity}
+use Rattle.rdm_frame.specs.declared.status.Severity.{Severity}
+use Rattle.rdm_commands.specs.declared.jobs.outcome.Outcome.{Outcome}
 use Rattle.rdm_outcomes.specs.declared.rule.Rule.{Rule}
 use Rattle.rdm_outcomes.specs.declared.rule.Task.{Task}
 use Rattle.rdm_outcomes.specs.Outcomes.{suits}

@@ -1,6 +1,6 @@
 -- A profile and a fixture that are read before there is memory for what takes memory in them.
-use Rattle.rdm_device.specs.declared.profile.Profile.{Profile}
-use Rattle.rdm_device.specs.declared.profile.particulars.Particular.{Particular}
+use Rattle.rdm_profile.specs.declared.profile.Profile.{Profile}
+use Rattle.rdm_profile.specs.declared.profile.particulars.Particular.{Particular}
 use Rattle.rdm_fixture.specs.declared.fixture.Fixture.{Fixture}
 use Rattle.rdm_fixture.specs.declared.profile.Apart.{Apart}
 

@@ -1,21 +1,21 @@
 -- What the tables of a fixture are looked at for, part by part, in the order in which it is done.
 use Rattle.std.specs.Prelude.{◌≡◌, ◌≢◌, ℕ, ◌+◌, ◌<◌, ◌≤◌, Bool, ℤ, pos, neg_ℤ, true, false, ◌⊎◌, IsTrue, List, [], ◌∷◌, ◌++◌, length, slice_index_or, Option, Some, None, IsSome, AllPairs, codes}
 use Rattle.toml.specs.Data.{Data, table, array, Members, get_member}
-use Rattle.rdm_device.specs.declared.profile.estimates.Estimates.{Estimates}
-use Rattle.rdm_device.specs.declared.profile.Unit.{Unit as DeviceUnit}
-use Rattle.rdm_device.specs.declared.profile.workers.Workers.{Workers}
-use Rattle.rdm_device.specs.declared.profile.choices.ChoiceName.{ChoiceName}
-use Rattle.rdm_device.specs.declared.profile.fields.Field.{Field}
-use Rattle.rdm_device.specs.declared.profile.locks.Lock.{Lock}
-use Rattle.rdm_device.specs.declared.profile.own.ParameterDef.{ParameterDef}
-use Rattle.rdm_device.specs.declared.profile.own.Shape.{Shape}
-use Rattle.rdm_device.specs.declared.profile.own.Shape.TheVariants as shapes
-use Rattle.rdm_device.specs.Device.LeftOut.{leave_no_need}
-use Rattle.rdm_device.specs.Device.OwnParameters.{can_start, has_good_fields}
-use Rattle.rdm_device.specs.Device.Profiles.{AreOptional, Agree, HaveStates}
-use Rattle.rdm_device.specs.Device.Standards.{follows}
-use Rattle.rdm_params.specs.declared.jobs.outcome.Outcome.{Outcome}
-use Rattle.rdm_params.specs.declared.jobs.outcome.Outcome.TheVariants.{Done, Reading, Failed}
+use Rattle.rdm_profile.specs.declared.profile.estimates.Estimates.{Estimates}
+use Rattle.rdm_profile.specs.declared.profile.Unit.{Unit as DeviceUnit}
+use Rattle.rdm_profile.specs.declared.profile.workers.Workers.{Workers}
+use Rattle.rdm_profile.specs.declared.profile.choices.ChoiceName.{ChoiceName}
+use Rattle.rdm_profile.specs.declared.profile.fields.Field.{Field}
+use Rattle.rdm_profile.specs.declared.profile.locks.Lock.{Lock}
+use Rattle.rdm_profile.specs.declared.profile.own.ParameterDef.{ParameterDef}
+use Rattle.rdm_profile.specs.declared.profile.own.Shape.{Shape}
+use Rattle.rdm_profile.specs.declared.profile.own.Shape.TheVariants as shapes
+use Rattle.rdm_profile.specs.LeftOut.{leave_no_need}
+use Rattle.rdm_profile.specs.OwnParameters.{can_start, has_good_fields}
+use Rattle.rdm_profile.specs.Profiles.{AreOptional, Agree, HaveStates}
+use Rattle.rdm_profile.specs.Standards.{follows}
+use Rattle.rdm_commands.specs.declared.jobs.outcome.Outcome.{Outcome}
+use Rattle.rdm_commands.specs.declared.jobs.outcome.Outcome.TheVariants.{Done, Reading, Failed}
 use Rattle.rdm_outcomes.specs.declared.rule.Task.{Task}
 use Rattle.rdm_outcomes.specs.Outcomes as rules
 use Rattle.rdm_fixture.specs.declared.fixture.Fixture.{Fixture}

@@ -2,15 +2,15 @@
 -- E1.20 that it sets, in small letters.
 use Rattle.std.specs.Prelude.{◌≡◌, ◌≢◌, ℕ, ◌+◌, ◌<◌, ◌≤◌, min, IsTrue, List, [], ◌∷◌, ◌++◌, length, Option, Some, None, option_map, unwrap_or, AllPairs, codes}
 use Rattle.toml.specs.Data.{Data, string, table, array, Members, get_member}
-use Rattle.rdm_device.specs.declared.profile.locks.Lock.{Lock}
-use Rattle.rdm_device.specs.declared.profile.Profile.{Profile}
-use Rattle.rdm_device.specs.declared.profile.Unit.{Unit as DeviceUnit}
-use Rattle.rdm_device.specs.declared.profile.estimates.Estimates.{Estimates}
-use Rattle.rdm_device.specs.declared.profile.workers.Worker.TheVariants.{First, Second}
-use Rattle.rdm_device.specs.declared.profile.workers.Workers.{Workers}
-use Rattle.rdm_device.specs.Device.Estimates.{usual}
-use Rattle.rdm_device.specs.Device.Profiles.{MayBeLeftOut, Agree, HaveStates}
-use Rattle.rdm_device.specs.Device.Workers.{usual_workers}
+use Rattle.rdm_profile.specs.declared.profile.locks.Lock.{Lock}
+use Rattle.rdm_profile.specs.declared.profile.Profile.{Profile}
+use Rattle.rdm_profile.specs.declared.profile.Unit.{Unit as DeviceUnit}
+use Rattle.rdm_profile.specs.declared.profile.estimates.Estimates.{Estimates}
+use Rattle.rdm_profile.specs.declared.profile.workers.Worker.TheVariants.{First, Second}
+use Rattle.rdm_profile.specs.declared.profile.workers.Workers.{Workers}
+use Rattle.rdm_profile.specs.Estimates.{usual}
+use Rattle.rdm_profile.specs.Profiles.{MayBeLeftOut, Agree, HaveStates}
+use Rattle.rdm_profile.specs.Workers.{usual_workers}
 use Rattle.rdm_params.specs.Table.Kinds.{pid_of, kind_named}
 use Rattle.rdm_params.specs.Table.Names.{pid_named}
 use Rattle.rdm_fixture.specs.declared.fixture.Fixture.{Fixture}

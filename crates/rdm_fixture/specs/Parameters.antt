@@ -5,18 +5,18 @@ use Rattle.std.specs.Int.{w64, cast_unsigned}
 use Rattle.std.specs.Str.{bytes_eq}
 use Rattle.toml.specs.Data.{Data, string, Members, get_member}
 use Rattle.rdm_frame.specs.DigitReading.{bytes_in}
-use Rattle.rdm_device.specs.declared.profile.fields.Field.{Field}
-use Rattle.rdm_device.specs.declared.profile.fields.Width.{Width}
-use Rattle.rdm_device.specs.declared.profile.fields.Width.TheVariants as widths
-use Rattle.rdm_device.specs.declared.profile.own.ParameterDef.{ParameterDef}
-use Rattle.rdm_device.specs.declared.profile.own.Rights.{Rights}
-use Rattle.rdm_device.specs.declared.profile.own.Rights.TheVariants as rights
-use Rattle.rdm_device.specs.declared.profile.own.Shape.{Shape}
-use Rattle.rdm_device.specs.declared.profile.own.Shape.TheVariants as shapes
-use Rattle.rdm_device.specs.Device.Fields.{reach_of}
-use Rattle.rdm_device.specs.Device.OwnParameters.{is_addable, can_start, has_good_fields}
-use Rattle.rdm_device.specs.Device.Standards.{follows}
-use Rattle.rdm_device.specs.Device.Values.{word_slots, long_slots}
+use Rattle.rdm_profile.specs.declared.profile.fields.Field.{Field}
+use Rattle.rdm_profile.specs.declared.profile.fields.Width.{Width}
+use Rattle.rdm_profile.specs.declared.profile.fields.Width.TheVariants as widths
+use Rattle.rdm_profile.specs.declared.profile.own.ParameterDef.{ParameterDef}
+use Rattle.rdm_profile.specs.declared.profile.own.Rights.{Rights}
+use Rattle.rdm_profile.specs.declared.profile.own.Rights.TheVariants as rights
+use Rattle.rdm_profile.specs.declared.profile.own.Shape.{Shape}
+use Rattle.rdm_profile.specs.declared.profile.own.Shape.TheVariants as shapes
+use Rattle.rdm_profile.specs.Fields.{reach_of}
+use Rattle.rdm_profile.specs.OwnParameters.{is_addable, can_start, has_good_fields}
+use Rattle.rdm_profile.specs.Standards.{follows}
+use Rattle.rdm_profile.specs.Values.{word_slots, long_slots}
 use Rattle.rdm_fixture_keys.specs.Keys.{must, may, Must, May, has_only}
 use Rattle.rdm_fixture.specs.Lists.{OfTable, Lists}
 use Rattle.rdm_fixture_keys.specs.Values.{number, integer_from, flag, text}

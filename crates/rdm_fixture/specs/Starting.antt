@@ -1,7 +1,7 @@
 -- With what a fixture is switched on beside its profile: what its counters and its sensors show.
 use Rattle.std.specs.Prelude.{ℕ, ◌/◌, ◌%◌, ◌==◌, ℤ, List, [], ◌∷◌, ◌++◌, map, Option, Some, None, option_map, if◌then◌else◌, codes}
-use Rattle.rdm_device.specs.declared.profile.SensorDef.{SensorDef}
-use Rattle.rdm_device.specs.Device.Values.{signed_slots}
+use Rattle.rdm_profile.specs.declared.profile.SensorDef.{SensorDef}
+use Rattle.rdm_profile.specs.Values.{signed_slots}
 use Rattle.toml.specs.Data.{Data, Members}
 use Rattle.rdm_fixture.specs.declared.starting.Starting.{Starting}
 use Rattle.rdm_fixture_keys.specs.Keys.{May}

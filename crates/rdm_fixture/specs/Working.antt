@@ -3,14 +3,14 @@
 use Rattle.std.specs.Prelude.{◌≡◌, ℕ, ◌+◌, ◌<◌, ◌==◌, Bool, true, false, ◌&&◌, ◌||◌, not, if◌then◌else◌, nat_le, ◌⊎◌, IsTrue, List, length, slice_get, slice_index_or, Option, ℤ, Some, None, is_some, codes}
 use Rattle.std.specs.List.{list_any, list_all}
 use Rattle.std.specs.Option.{option_map_or}
-use Rattle.rdm_device.specs.declared.profile.Profile.{Profile}
-use Rattle.rdm_device.specs.declared.profile.SelfTest.{SelfTest}
-use Rattle.rdm_device.specs.declared.profile.SensorDef.{SensorDef}
-use Rattle.rdm_device.specs.declared.profile.StatusText.{StatusText}
-use Rattle.rdm_device.specs.Device.LeftOut.{leaves_out}
-use Rattle.rdm_device.specs.Device.Profiles.{CanOpen, CanHold}
-use Rattle.rdm_params.specs.declared.jobs.outcome.Outcome.{Outcome}
-use Rattle.rdm_params.specs.declared.jobs.outcome.Outcome.TheVariants.{Failed}
+use Rattle.rdm_profile.specs.declared.profile.Profile.{Profile}
+use Rattle.rdm_profile.specs.declared.profile.SelfTest.{SelfTest}
+use Rattle.rdm_profile.specs.declared.profile.SensorDef.{SensorDef}
+use Rattle.rdm_profile.specs.declared.profile.StatusText.{StatusText}
+use Rattle.rdm_profile.specs.LeftOut.{leaves_out}
+use Rattle.rdm_profile.specs.Profiles.{CanOpen, CanHold}
+use Rattle.rdm_commands.specs.declared.jobs.outcome.Outcome.{Outcome}
+use Rattle.rdm_commands.specs.declared.jobs.outcome.Outcome.TheVariants.{Failed}
 use Rattle.rdm_outcomes.specs.declared.rule.Rule.{Rule}
 use Rattle.rdm_outcomes.specs.declared.rule.Task.{Task}
 use Rattle.rdm_outcomes.specs.declared.rule.Task.TheVariants.{LampState, PowerState, PerformSelfTest, SensorValue}

@@ -4,15 +4,15 @@ use Rattle.std.specs.Ordering.{nat_cmp, match_ordering}
 use Rattle.std.specs.Cmp.Lexicographic.{slice_cmp}
 use Rattle.std.specs.Str.Lossy.{utf8_lossy}
 use Rattle.rdm_frame.specs.Digits.{digits}
-use Rattle.rdm_device.specs.declared.profile.locks.Lock.{Lock}
-use Rattle.rdm_device.specs.declared.profile.own.Rights.{Rights}
-use Rattle.rdm_device.specs.declared.profile.own.Rights.TheVariants as rights
-use Rattle.rdm_device.specs.declared.profile.own.Shape.{Shape}
-use Rattle.rdm_device.specs.declared.profile.own.Shape.TheVariants as shapes
-use Rattle.rdm_params.specs.Jobs.Severities.{severity_name}
-use Rattle.rdm_params.specs.declared.jobs.outcome.Outcome.{Outcome}
-use Rattle.rdm_params.specs.declared.jobs.outcome.Outcome.TheVariants.{Done, Reading, Failed}
-use Rattle.rdm_device.specs.Device.Profiles.{IsGoodUnit}
+use Rattle.rdm_frame.specs.Severities.{severity_name}
+use Rattle.rdm_profile.specs.declared.profile.locks.Lock.{Lock}
+use Rattle.rdm_profile.specs.declared.profile.own.Rights.{Rights}
+use Rattle.rdm_profile.specs.declared.profile.own.Rights.TheVariants as rights
+use Rattle.rdm_profile.specs.declared.profile.own.Shape.{Shape}
+use Rattle.rdm_profile.specs.declared.profile.own.Shape.TheVariants as shapes
+use Rattle.rdm_commands.specs.declared.jobs.outcome.Outcome.{Outcome}
+use Rattle.rdm_commands.specs.declared.jobs.outcome.Outcome.TheVariants.{Done, Reading, Failed}
+use Rattle.rdm_profile.specs.Profiles.{IsGoodUnit}
 use Rattle.rdm_fixture.specs.declared.fixture.Fixture.{Fixture}
 use Rattle.rdm_fixture.specs.declared.profile.locks.Locking.{Locking}
 use Rattle.rdm_fixture.specs.Describable.{HasPrintableUnit}

@@ -4,7 +4,7 @@ ghost use Rattle.std.specs.Prelude.{◌≡◌, ◌≢◌, ◌↔◌, None, IfOk,
 ghost use Rattle.toml.specs.Errors.{IsMemory};
 ghost use Rattle.toml.specs.Parse.{parse_document};
 ghost use Rattle.toml.specs.View.{table_view};
-ghost use Rattle.rdm_device.specs.Device.Profiles.{CanBeMade};
+ghost use Rattle.rdm_profile.specs.Profiles.{CanBeMade};
 ghost use Rattle.rdm_fixture.specs.Describes.{Describes, DescribesNothing};
 ghost use Rattle.rdm_fixture.specs.Drafts.{particular_from, profile_with, fixture_with};
 ghost use Rattle.rdm_fixture.specs.Describable.{CanBeDescribed};

@@ -2,7 +2,7 @@
 
 ghost use Rattle.std.specs.Prelude.{◌≡◌, ◌↔◌, not, is_some, ◌==◌, ◌||◌, ℕ, [], Some, None, IfSome, IsTrue};
 ghost use Rattle.std.specs.List.{list_any, list_all};
-ghost use Rattle.rdm_device.specs.Device.LeftOut.{leaves_out};
+ghost use Rattle.rdm_profile.specs.LeftOut.{leaves_out};
 ghost use Rattle.rdm_fixture.specs.Drafts.{fixture_with};
 ghost use Rattle.rdm_fixture_keys.specs.Faults.{told};
 ghost use Rattle.rdm_fixture.specs.Working as spec;

@@ -1,12 +1,12 @@
 -- Which table is an entry of a list: a personality, a slot, a sensor, a self test, a status ID or the name of a choice.
 use Rattle.std.specs.Prelude.{ℕ, false, pos, neg_ℤ, IsTrue, List, [], ◌∷◌, codes}
 use Rattle.toml.specs.Data.{Members}
-use Rattle.rdm_device.specs.declared.profile.choices.ChoiceName.{ChoiceName}
-use Rattle.rdm_device.specs.declared.profile.Personality.{Personality}
-use Rattle.rdm_device.specs.declared.profile.SelfTest.{SelfTest}
-use Rattle.rdm_device.specs.declared.profile.SensorDef.{SensorDef}
-use Rattle.rdm_device.specs.declared.profile.Slot.{Slot}
-use Rattle.rdm_device.specs.declared.profile.StatusText.{StatusText}
+use Rattle.rdm_profile.specs.declared.profile.choices.ChoiceName.{ChoiceName}
+use Rattle.rdm_profile.specs.declared.profile.Personality.{Personality}
+use Rattle.rdm_profile.specs.declared.profile.SelfTest.{SelfTest}
+use Rattle.rdm_profile.specs.declared.profile.SensorDef.{SensorDef}
+use Rattle.rdm_profile.specs.declared.profile.Slot.{Slot}
+use Rattle.rdm_profile.specs.declared.profile.StatusText.{StatusText}
 use Rattle.rdm_fixture_keys.specs.declared.refusal.Wanted.TheVariants as wanted
 use Rattle.rdm_fixture_keys.specs.Keys.{Must, May, has_only}
 use Rattle.rdm_fixture_keys.specs.Values.{number, signed, text, flag}

@@ -2,8 +2,8 @@
 use Rattle.std.specs.Prelude.{ℕ, ◌+◌, ◌*◌, ◌==◌, ℤ, pos, neg_ℤ, Bool, ◌&&◌, if◌then◌else◌, nat_le, int_le, List, [], ◌∷◌, length, Option, Some, None, option_map, option_and_then}
 use Rattle.std.specs.List.{list_all}
 use Rattle.std.specs.Int.Signed.{le_z}
-use Rattle.rdm_device.specs.declared.profile.workers.Worker.{Worker}
-use Rattle.rdm_device.specs.declared.profile.workers.Worker.TheVariants.{First, Second}
+use Rattle.rdm_profile.specs.declared.profile.workers.Worker.{Worker}
+use Rattle.rdm_profile.specs.declared.profile.workers.Worker.TheVariants.{First, Second}
 use Rattle.rdm_frame.specs.declared.uid.Uid.{Uid}
 use Rattle.rdm_frame.specs.Addressing.{is_broadcast}
 use Rattle.rdm_frame.specs.DigitReading.{uid_in}

@@ -24,11 +24,12 @@ abbrev pub AllRight : List Part → Members → Type 0
 AllRight [] t = ⊤
 AllRight (p ∷ ps) t = p.Right t × AllRight ps t
 
--- a part that says something
+-- A part that is right where the table says a value as `P` has it, and of whose faults `W` tells.
 abbrev pub says_one : {A : Type 0} → (Members → A → Type 0) → (Members → Fault → Type 0) → Part
 says_one {A = A} P W = record { Right = λ t. (x : A) × P t x; Wrong = W }
 
--- a part of which what is right depends on what the table says elsewhere
+-- A part that depends on another value of the table: `says` reads that value, and `part` is the part that goes with it. Where the table
+-- doesn't say the value, the part is neither right nor wrong: a part before it is wrong then.
 abbrev pub given : {A : Type 0} → (Members → Option A) → (A → Part) → Part
 given {A = A} says part = record {
   Right = λ t. (x : A) × (says t ≡ Some x) × (part x).Right t;

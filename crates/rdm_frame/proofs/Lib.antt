@@ -1,3 +1,4 @@
+pub mod Alterations
 pub mod Texts
 pub mod Branches
 pub mod Sums

@@ -6,3 +6,7 @@ pub mod Addressing
 pub mod Digits
 pub mod UidText
 pub mod DigitReading
+pub mod Names
+pub mod Nacks
+pub mod Severities
+pub mod Faults

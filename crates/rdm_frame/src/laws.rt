@@ -6,10 +6,11 @@ ghost use Rattle.rdm_frame.specs.Digits.{SpellsBytes};
 ghost use Rattle.rdm_frame.specs.DigitReading.{bytes_in};
 ghost use Rattle.rdm_frame.specs.UidText.{uid_text, SpellsUid};
 ghost use Rattle.rdm_frame.specs.Discovery.{coded, uncoded, branch_reply};
+ghost use Rattle.rdm_frame.specs.Faults.{AlteredIsNoFrame};
 ghost use Rattle.rdm_frame.specs.FrameText.{frame_text, IsFrame, IsUid, HasSlots};
 ghost use Rattle.rdm_frame.specs.UidNumber.{uid_number};
 
-use crate::{Bytes, Frame, FrameError, Uid, UidError};
+use crate::{Bytes, Entry, Fault, Frame, FrameError, Message, Nack, Severity, Uid, UidError};
 
 /// No byte list is the text of two frames.
 #[tactic(auto, using(crate::proofs::Texts::one_frame))]
@@ -74,4 +75,35 @@ pub fn printed_bytes_are_read_back()
 #[tactic(auto, using(crate::proofs::NumberSpellings::uid_written))]
 pub fn written_uid_is_read_back()
     ensures { (u : Uid) → IsUid u → SpellsUid (uid_text u) u }
+{}
+
+/// A frame with one slot raised by 1 to 255 isn't a valid frame: nobody on the bus takes it for one.
+#[tactic(auto, using(crate::proofs::Alterations::altered_is_no_frame))]
+pub fn altered_frame_is_no_frame()
+    ensures { AlteredIsNoFrame }
+{}
+
+/// Two values of `Message` are equal by `==` exactly when they are the same.
+pub fn messages_are_equal_by_value()
+    ensures { (a b : Message) → IsTrue (⟦<Message as PartialEq>⟧.eq a b) ↔ (a ≡ b) }
+{}
+
+/// Two values of `Nack` are equal by `==` exactly when they are the same.
+pub fn nacks_are_equal_by_value()
+    ensures { (a b : Nack) → IsTrue (⟦<Nack as PartialEq>⟧.eq a b) ↔ (a ≡ b) }
+{}
+
+/// Two values of `Severity` are equal by `==` exactly when they are the same.
+pub fn severities_are_equal_by_value()
+    ensures { (a b : Severity) → IsTrue (⟦<Severity as PartialEq>⟧.eq a b) ↔ (a ≡ b) }
+{}
+
+/// Two values of `Entry` are equal by `==` exactly when they are the same.
+pub fn entries_are_equal_by_value()
+    ensures { (a b : Entry) → IsTrue (⟦<Entry as PartialEq>⟧.eq a b) ↔ (a ≡ b) }
+{}
+
+/// Two faults are equal by `==` exactly when they are the same, slot and raise included.
+pub fn faults_are_equal_by_value()
+    ensures { (a b : Fault) → IsTrue (⟦<Fault as PartialEq>⟧.eq a b) ↔ (a ≡ b) }
 {}

@@ -64,6 +64,15 @@ pub const PROXIED_DEVICES: u16 = 0x0010;
 /// The parameter ID of how many devices a proxy stands for (table A-3). No responder here has it.
 pub const PROXIED_DEVICE_COUNT: u16 = 0x0011;
 
+/// The parameter ID of the messages that wait for a controller (section 10.3.1).
+pub const QUEUED_MESSAGE: u16 = 0x0020;
+
+/// The parameter ID of the status entries of a device (section 10.3.2).
+pub const STATUS_MESSAGES: u16 = 0x0030;
+
+/// The parameter ID of what a sensor shows (section 10.7.2).
+pub const SENSOR_VALUE: u16 = 0x0201;
+
 /// The parameter ID of counts of faulty frames (table A-3). No responder here has it.
 pub const COMMS_STATUS: u16 = 0x0015;
 

@@ -1,9 +1,10 @@
 -- A search through a controller's port.
 use Rattle.std.proofs.Common.{◌≡◌, ℕ, zero, suc, ◌+◌, ◌-◌, ◌*◌, ◌<◌, ◌≤◌, false, eqb, List, [], ◌∷◌, ◌++◌, length, map, Option, Some, None, Result, Ok, Err, refl, sym, ap, ◌∙◌, subst, inl, inr, arith, add-one, append_assoc}
-use Rattle.std.specs.Prelude.{IfOk}
+use Rattle.std.specs.Prelude.{IfOk, IfErr}
 use Rattle.std.specs.Option.{option_to_list}
 use Rattle.std.proofs.lemmas.Bool.{cases_eq, eq-eqb, ne_eqb, cond-true, cond-false}
 use Rattle.std.proofs.lemmas.List.{append-nil, length-append, length-map, map-append}
+use Rattle.rdm_collector.specs.declared.port.PortError.{PortError}
 use Rattle.rdm_frame.specs.declared.uid.Uid.{Uid}
 use Rattle.rdm_frame.specs.declared.frame.Frame.{Frame}
 use Rattle.rdm_frame.specs.FrameText.{frame_text, IsFrame}
@@ -22,8 +23,8 @@ use Rattle.rdm_search.specs.Stages.{request_of, IsStage, IsReal, Stands, Hears, 
 use Rattle.rdm_search.proofs.Exchanges.{asked_said, heard_then, nothing_said, run_then, sends}
 use Rattle.rdm_search.proofs.Reals.{keeps_real, one_paid, stays_real}
 use Rattle.rdm_search.proofs.Runs.{Same, Comes, request_fits, answer_leads, ended, costs, next_frame, next_none, next_err}
-use Rattle.rdm_interface.specs.Askings.{Asking, IsAsking, AreAsked, HasAsked, Situation, AreHeardOf, FindsReal, GoesOn, askings_of}
-use Rattle.rdm_interface.specs.Lines.{IsHeardOnce, IsExchange, IsUnanswered, IsAskedAgain}
+use Rattle.rdm_interface.specs.Askings.{Asking, IsAsking, AreAsked, HasAsked, HasFailedAt, Situation, AreHeardOf, FindsReal, GoesOn, askings_of}
+use Rattle.rdm_interface.specs.Lines.{IsHeardOnce, IsExchange, IsUnanswered, IsAskedAgain, FailsAsking}
 use Rattle.rdm_interface.proofs.Repeats.{asking, AllVain, heard_apart, answered_of, kept_of}
 
 abbrev Relation : Type 0 → Type 1
@@ -58,6 +59,36 @@ has_asked_as {P} hears source other m n a b c IsSo Other asked e e' le so = reco
   few = omega (arith, asked.few, le);
   is_so = so asked.askings asked.is_so;
 }
+
+-- ---- what failed
+
+-- Some askings, and then some more, at the last of which the port failed.
+pub fails_then : {P : Type 0} (hears : Relation P) (fails : P → List ℕ → PortError → P → Type 0) (source again : Uid) (m n both : ℕ) (a b c : P) (error : PortError) (IsSo : List Asking → Type 0)
+    → HasAsked hears source m a b IsSo → again ≡ source → HasFailedAt hears fails again n b c error → m + n ≤ both → HasFailedAt hears fails source both a c error
+fails_then {P} hears fails source again m n both a b c error IsSo first e last le =
+    let later : HasFailedAt hears fails source n b c error = subst (λ (s : Uid). HasFailedAt hears fails s n b c error) e last in
+    record {
+      askings = first.askings ++ later.askings;
+      last = later.last;
+      sent = asked_then hears source first.askings later.askings a b later.last first.sent later.sent;
+      request = later.request;
+      tn = later.tn;
+      is_request = later.is_request;
+      failed = later.failed;
+      few = omega (arith, length-append first.askings later.askings, first.few, later.few, le);
+    }
+
+-- The same, of what is called otherwise.
+pub fails_as : {P : Type 0} (hears : Relation P) (fails : P → List ℕ → PortError → P → Type 0) (source other : Uid) (m n : ℕ) (a b : P) (error : PortError)
+    → HasFailedAt hears fails other m a b error → other ≡ source → m ≤ n → HasFailedAt hears fails source n a b error
+fails_as hears fails source other m n a b error failing e le =
+    fails_then hears fails source other 0 m n a a b error (λ (xs : List Asking). Unit {0}) (nothing_asked hears source 0 a a (λ (xs : List Asking). Unit {0}) refl tt) e failing (omega (arith, le))
+
+-- the last sending of a frame
+pub fails_at_last : {P A : Type 0} (hears : Relation P) (fails : P → List ℕ → PortError → P → Type 0) (retries times : ℕ) (before mid after : P) (frame : Frame) (r : Result A PortError)
+    → IsUnanswered hears frame times before mid → times ≤ retries → IfErr r (λ error. fails mid (frame_text frame) error after) → IfErr r (FailsAsking hears fails retries before after frame)
+fails_at_last hears fails retries times before mid after frame (Ok h) vain le failed = tt
+fails_at_last hears fails retries times before mid after frame (Err e) vain le failed = record { times = times; mid = mid; in_vain = vain; failed = failed; within = le }
 
 -- ---- a frame that was asked until it was answered
 
@@ -149,6 +180,27 @@ stops source tn left stage found line fault valid e stands =
 
 within : (retries left : ℕ) → 0 < left → (Q : ℕ → Type 0) → Q (retries + 1) → Q (askings_of retries left)
 within retries left some Q q = subst Q (sym (cond-false (eqb left 0) 0 (retries + 1) (ne_eqb left 0 (λ e. omega (arith, e, some))))) q
+
+-- the port may fail
+pub fails_at : {P : Type 0} (hears : Relation P) (fails : P → List ℕ → PortError → P → Type 0) (retries : ℕ) (before after : P) (source : Uid) (tn left : ℕ) (stage : Stage) (frame : Frame) (error : PortError)
+    → IsStage stage → IsFrame frame → Same (Ok (Some frame)) (next_of source tn (request_of stage) left) → FailsAsking hears fails retries before after frame error
+    → HasFailedAt hears fails source (askings_of retries left) before after error
+fails_at hears fails retries before after source tn left stage frame error valid frame_fits e failing =
+    let n = next_frame source tn (request_of stage) left frame e in
+    let fits : (heard : List ℕ) → IsAsking source (asking n.0 tn heard) = λ h. (request_fits stage n.0 valid n.1, subst IsFrame n.2 frame_fits) in
+    let so : FailsAsking hears fails retries before after (request_frame source tn n.0) error = subst (λ f. FailsAsking hears fails retries before after f error) n.2 failing in
+    let first = are_vain hears source so.times before so.mid n.0 tn fits so.in_vain in
+    within retries left n.3 (λ (m : ℕ). HasFailedAt hears fails source m before after error)
+    (record {
+      askings = map (asking n.0 tn) first.others;
+      last = so.mid;
+      sent = first.sent;
+      request = n.0;
+      tn = tn;
+      is_request = fits [];
+      failed = so.failed;
+      few = omega (arith, length-map first.others (asking n.0 tn), first.size, so.within);
+    })
 
 -- and what it found is on the line
 pub finds_real : {P : Type 0} (hears : Relation P) (retries : ℕ) (before after : P) (source : Uid) (tn left : ℕ) (stage : Stage) (found more : List Found) (frame : Frame) (heard : List ℕ)
@@ -262,7 +314,7 @@ real_then AreSuch f' f'' xs ys first then most a c such h =
     then most parts.0 c (first most a parts.0 such parts.1) parts.2
 
 -- what a step takes is paid
-paid_by : (most took n n' : ℕ) → took + (most + 1) * n' ≤ (most + 1) * n → took + askings_of most n' ≤ (most + 1) * n
+pub paid_by : (most took n n' : ℕ) → took + (most + 1) * n' ≤ (most + 1) * n → took + askings_of most n' ≤ (most + 1) * n
 paid_by most took n n' paid =
     elim (cases_eq n' 0) [
       | inl none ↦

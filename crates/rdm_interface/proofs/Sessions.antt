@@ -7,6 +7,7 @@ use Rattle.std.proofs.KnownBytes.{Consumes-nil, Consumes-trans}
 use Rattle.std.proofs.lemmas.List.{take_all}
 use Rattle.rdm_frame.specs.declared.frame.Frame.{Frame}
 use Rattle.rdm_frame.specs.Reading.{frame_in}
+use Rattle.rdm_messages.specs.Ends.{End}
 use Rattle.rdm_messages.specs.Framing.{Message, IsMessage, message_bytes, bytes_of, Piece, Rubbish, Said, stream_of, messages_of, AreCut}
 use Rattle.rdm_messages.specs.Protocol.{from_line, timeout, answer_of_line, answer_of_discovery}
 use Rattle.rdm_messages.specs.Serving.{answer_with, answers_with}
@@ -15,7 +16,7 @@ use Rattle.rdm_interface.specs.declared.wanted.Wanted.{Wanted}
 use Rattle.rdm_interface.specs.declared.wanted.Wanted.TheVariants.{Labelled, Branch, Response}
 use Rattle.rdm_interface.specs.Answers.{is_branch, wanted_for, wanted_by, label_for, request_message, belongs, has_end, heard_in}
 use Rattle.rdm_interface.specs.Exchanges.{IsNext, IsAsked, IsEnded}
-use Rattle.rdm_interface.specs.Sessions.{EndComes, IsInTime, Exchange, IsSession, requests_of, heard_of, inputs_of, IsReplyTo, AreRepliesTo, RepliesAreHeard, CameToEnd, end_read, AnsweredIsInTime}
+use Rattle.rdm_interface.specs.Sessions.{EndComes, IsInTime, Exchange, IsSession, requests_of, heard_of, inputs_of, IsReplyTo, AreRepliesTo, RepliesAreHeard, end_read, AnsweredIsInTime}
 use Rattle.rdm_interface.proofs.Nexts.{next_more}
 
 -- ---- the message at the front, if it belongs, is the next one
@@ -213,37 +214,39 @@ replies_are_heard xs replies kept unread later are session e =
 
 -- ---- an exchange in time
 
-end_came : {C : Type 0} (tells : C → ℕ → C → Type 0) (limit : ℕ) (before after : C) (unread left : Option (List ℕ)) (held kept : List ℕ) (t : Bool)
-    → (ended : IsEnded tells limit before after unread left held kept t) → CameToEnd tells limit before after unread left held kept t ended
-    → Consumes unread left (end_read tells limit before after unread left held kept t ended) × EndComes t (held ++ end_read tells limit before after unread left held kept t ended) kept
-end_came tells limit before after unread left held kept false ended came =
-    (subst (λ l. Consumes unread l []) (sym ended.1) (Consumes-nil unread), append-nil held ∙ sym ended.2)
-end_came tells limit before after unread left held kept true (Some end, awaited) came = (awaited.read.read, (end, awaited.read.next))
-end_came tells limit before after unread left held kept true (None, awaited) came = absurd (true≢false (sym came))
+end_came : {C : Type 0} (tells : C → ℕ → C → Type 0) (limit : ℕ) (before after : End C) (t : Bool) (end : Option Message)
+    → (ended : IsEnded tells limit before after t end) → (t ≡ true → IsSome end)
+    → Consumes before.unread after.unread (end_read tells limit before after t end ended) × EndComes t (before.held ++ end_read tells limit before after t end ended) after.held
+end_came {C} tells limit before after false end ended came = (
+  subst (λ (e : End C). Consumes before.unread e.unread []) (sym ended) (Consumes-nil before.unread),
+  append-nil before.held ∙ ap (λ (e : End C). e.held) (sym ended),
+)
+end_came tells limit before after true (Some end) ended came = (ended.0.read.read, (end, ended.0.read.next))
+end_came tells limit before after true None ended came = absurd (true≢false (sym (came refl)))
 
-in_time : {C : Type 0} (tells : C → ℕ → C → Type 0) (limit : ℕ) (before between after : C) (unread mid left old new : Option (List ℕ)) (held rest kept request : List ℕ) (heard : Option (List ℕ)) (answer : Option Message)
-    → (asked : IsAsked tells limit before between unread mid old new held rest (request_message request) (belongs (wanted_by request)) answer)
-    → (ended : IsEnded tells limit between after mid left rest kept (has_end (wanted_by request) answer)) → heard ≡ heard_in answer → IsSome answer
-    → CameToEnd tells limit between after mid left rest kept (has_end (wanted_by request) answer) ended
-    → Consumes unread left (asked.awaited.read.input ++ end_read tells limit between after mid left rest kept (has_end (wanted_by request) answer) ended)
-    × IsInTime request (held ++ (asked.awaited.read.input ++ end_read tells limit between after mid left rest kept (has_end (wanted_by request) answer) ended)) heard kept
-in_time tells limit before between after unread mid left old new held rest kept request heard None asked ended is some came = absurd (true≢false (sym some))
-in_time tells limit before between after unread mid left old new held rest kept request heard (Some m) asked ended is some came =
-    let end = end_came tells limit between after mid left rest kept (has_end (wanted_by request) (Some m)) ended came in
-    let more : List ℕ = end_read tells limit between after mid left rest kept (has_end (wanted_by request) (Some m)) ended in
+in_time : {C : Type 0} (tells : C → ℕ → C → Type 0) (limit : ℕ) (before between after : End C) (request : List ℕ) (heard : Option (List ℕ)) (answer end : Option Message)
+    → (asked : IsAsked tells limit before between (request_message request) (belongs (wanted_by request)) answer)
+    → (ended : IsEnded tells limit between after (has_end (wanted_by request) answer) end) → heard ≡ heard_in answer → IsSome answer
+    → (has_end (wanted_by request) answer ≡ true → IsSome end)
+    → Consumes before.unread after.unread (asked.awaited.read.input ++ end_read tells limit between after (has_end (wanted_by request) answer) end ended)
+    × IsInTime request (before.held ++ (asked.awaited.read.input ++ end_read tells limit between after (has_end (wanted_by request) answer) end ended)) heard after.held
+in_time tells limit before between after request heard None end asked ended is some came = absurd (true≢false (sym some))
+in_time tells limit before between after request heard (Some m) end asked ended is some came =
+    let last = end_came tells limit between after (has_end (wanted_by request) (Some m)) end ended came in
+    let more : List ℕ = end_read tells limit between after (has_end (wanted_by request) (Some m)) end ended in
     let read = asked.awaited.read in (
-      Consumes-trans unread mid left read.input more read.read end.0,
+      Consumes-trans before.unread between.unread after.unread read.input more read.read last.0,
       record {
         answer = m;
-        behind = rest ++ more;
+        behind = between.held ++ more;
         next =
-            subst (λ (l : List ℕ). IsNext (belongs (wanted_by request)) l (Some m) (rest ++ more)) (append_assoc held read.input more)
-            (next_more (belongs (wanted_by request)) (held ++ read.input) rest more (Some m) read.next);
-        end = end.1;
+            subst (λ (l : List ℕ). IsNext (belongs (wanted_by request)) l (Some m) (between.held ++ more)) (append_assoc before.held read.input more)
+            (next_more (belongs (wanted_by request)) (before.held ++ read.input) between.held more (Some m) read.next);
+        end = last.1;
         heard_is = is;
       },
     )
 
 pub answered_is_in_time : {C : Type 0} (tells : C → ℕ → C → Type 0) → AnsweredIsInTime tells
-answered_is_in_time tells limit before after unread left old new held kept request heard x some came =
-    in_time tells limit before x.between after unread x.mid left old new held x.rest kept request heard x.answer x.asked x.ended x.heard_is some came
+answered_is_in_time tells limit before after request heard x came =
+    in_time tells limit before x.between after request heard x.answer x.end x.asked x.ended x.heard_is came.answered came.ended

@@ -1,5 +1,6 @@
 -- What a search sends through a port and hears of it, and what it finds so of a line. E1.20 sections 7.5 and 7.6.
 use Rattle.std.specs.Prelude.{◌≡◌, ◌⊎◌, ℕ, suc, ◌+◌, ◌*◌, ◌<◌, ◌≤◌, ◌==◌, List, [], ◌∷◌, length, All, Option, if◌then◌else◌}
+use Rattle.rdm_collector.specs.declared.port.PortError.{PortError}
 use Rattle.rdm_frame.specs.declared.uid.Uid.{Uid}
 use Rattle.rdm_frame.specs.FrameText.{frame_text, IsFrame}
 use Rattle.rdm_search.specs.declared.request.Request.{Request}
@@ -35,6 +36,17 @@ pub record HasAsked {P : Type 0} (hears : P → List ℕ → Option (List ℕ) �
   pub sent : AreAsked hears source before askings after
   pub few : length askings ≤ most
   pub is_so : IsSo askings
+
+-- It sent so many requests of a search at most, and nothing else, and at the last of them the port failed so.
+pub record HasFailedAt {P : Type 0} (hears : P → List ℕ → Option (List ℕ) → P → Type 0) (fails : P → List ℕ → PortError → P → Type 0) (source : Uid) (most : ℕ) (before after : P) (error : PortError) : Type 0 where
+  pub askings : List Asking
+  pub last : P
+  pub sent : AreAsked hears source before askings last
+  pub request : Request
+  pub tn : ℕ
+  pub is_request : IsRequest request × IsFrame (request_frame source tn request)
+  pub failed : fails last (frame_text (request_frame source tn request)) error after
+  pub few : length askings < most
 
 -- how many askings a transaction takes at most: none where no transaction is left
 abbrev pub askings_of : ℕ → ℕ → ℕ

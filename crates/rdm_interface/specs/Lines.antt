@@ -1,5 +1,6 @@
 -- The line behind a controller's port, as a search sees it. E1.20 sections 7.5 and 7.6.
 use Rattle.std.specs.Prelude.{◌≡◌, ◌⊎◌, ℕ, zero, suc, ◌≤◌, false, List, [], Option, unwrap_or}
+use Rattle.rdm_collector.specs.declared.port.PortError.{PortError}
 use Rattle.rdm_frame.specs.declared.uid.Uid.{Uid}
 use Rattle.rdm_frame.specs.declared.frame.Frame.{Frame}
 use Rattle.rdm_frame.specs.FrameText.{frame_text}
@@ -33,6 +34,14 @@ pub record IsAskedAgain {P : Type 0} (hears : P → List ℕ → Option (List �
   pub last : IsHeardOnce hears mid after (frame_text frame) heard
   pub within : times ≤ retries
   pub all_in_vain : is_answered frame heard ≡ false → times ≡ retries
+
+-- A frame is sent again while what is heard doesn't answer it, up to N times, and at the last sending the port fails so.
+pub record FailsAsking {P : Type 0} (hears : P → List ℕ → Option (List ℕ) → P → Type 0) (fails : P → List ℕ → PortError → P → Type 0) (retries : ℕ) (before after : P) (frame : Frame) (error : PortError) : Type 0 where
+  pub times : ℕ
+  pub mid : P
+  pub in_vain : IsUnanswered hears frame times before mid
+  pub failed : fails mid (frame_text frame) error after
+  pub within : times ≤ retries
 
 -- ---- what is on the line
 

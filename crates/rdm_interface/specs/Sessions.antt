@@ -1,14 +1,15 @@
 -- Requests that are sent one after another, and an interface at the other end of the line that answers each in time.
-use Rattle.std.specs.Prelude.{◌≡◌, ℕ, ◌≤◌, Bool, true, false, List, [], ◌∷◌, ◌++◌, length, map, Option, Some, None, IsSome}
+use Rattle.std.specs.Prelude.{◌≡◌, ℕ, ◌≤◌, Bool, true, false, List, [], ◌∷◌, ◌++◌, length, map, Option, Some, None}
 use Rattle.std.specs.List.{flat_map}
 use Rattle.std.specs.Io.KnownBytes.{Consumes}
 use Rattle.rdm_frame.specs.declared.frame.Frame.{Frame}
+use Rattle.rdm_messages.specs.Ends.{End}
 use Rattle.rdm_messages.specs.Framing.{Message}
 use Rattle.rdm_messages.specs.Protocol.{from_line}
 use Rattle.rdm_messages.specs.Serving.{answers_with}
 use Rattle.rdm_interface.specs.declared.wanted.Wanted.TheVariants.{Labelled}
 use Rattle.rdm_interface.specs.Answers.{is_fetch, is_response, wanted_by, request_message, belongs, has_end, heard_in}
-use Rattle.rdm_interface.specs.Exchanges.{IsNext, IsEnded, IsExchanged}
+use Rattle.rdm_interface.specs.Exchanges.{IsNext, IsEnded, IsExchanged, CameInTime}
 
 -- ---- this end
 
@@ -69,28 +70,22 @@ RepliesAreHeard =
     → inputs_of xs ++ unread ≡ answers_with (map request_message (requests_of xs)) replies ++ later
     → (heard_of xs ≡ replies) × (kept ++ unread ≡ later)
 
--- the end that is waited for came
-abbrev pub CameToEnd : {C : Type 0} (tells : C → ℕ → C → Type 0) (limit : ℕ) (before after : C) (unread left : Option (List ℕ)) (held kept : List ℕ) (has_end : Bool) → IsEnded tells limit before after unread left held kept has_end → Type 0
-CameToEnd tells limit before after unread left held kept false ended = Unit {0}
-CameToEnd tells limit before after unread left held kept true ended = IsSome ended.0
-
 -- the bytes that are read for the end
-abbrev pub end_read : {C : Type 0} (tells : C → ℕ → C → Type 0) (limit : ℕ) (before after : C) (unread left : Option (List ℕ)) (held kept : List ℕ) (has_end : Bool) → IsEnded tells limit before after unread left held kept has_end → List ℕ
-end_read tells limit before after unread left held kept false ended = []
-end_read tells limit before after unread left held kept true ended = ended.1.read.input
+abbrev pub end_read : {C : Type 0} (tells : C → ℕ → C → Type 0) (limit : ℕ) (before after : End C) (has_end : Bool) (end : Option Message) → IsEnded tells limit before after has_end end → List ℕ
+end_read tells limit before after false end ended = []
+end_read tells limit before after true end ended = ended.0.read.input
 
 -- the bytes that are read in an exchange
-abbrev pub read_in : {C : Type 0} {tells : C → ℕ → C → Type 0} {limit : ℕ} {before after : C} {unread left old new : Option (List ℕ)} {held kept request : List ℕ} {heard : Option (List ℕ)} → IsExchanged tells limit before after unread left old new held kept request heard → List ℕ
-read_in {C} {tells} {limit} {before} {after} {unread} {left} {old} {new} {held} {kept} {request} x =
-    x.asked.awaited.read.input ++ end_read tells limit x.between after x.mid left x.rest kept (has_end (wanted_by request) x.answer) x.ended
+abbrev pub read_in : {C : Type 0} {tells : C → ℕ → C → Type 0} {limit : ℕ} {before after : End C} {request : List ℕ} {heard : Option (List ℕ)} → IsExchanged tells limit before after request heard → List ℕ
+read_in {C} {tells} {limit} {before} {after} {request} x =
+    x.asked.awaited.read.input ++ end_read tells limit x.between after (has_end (wanted_by request) x.answer) x.end x.ended
 
 -- An exchange in which the answer came, and its end, is one in time.
 abbrev pub AnsweredIsInTime : {C : Type 0} → (C → ℕ → C → Type 0) → Type 0
 AnsweredIsInTime {C} tells =
-    (limit : ℕ) (before after : C) (unread left old new : Option (List ℕ)) (held kept request : List ℕ) (heard : Option (List ℕ))
-    → (x : IsExchanged tells limit before after unread left old new held kept request heard) → IsSome x.answer
-    → CameToEnd tells limit x.between after x.mid left x.rest kept (has_end (wanted_by request) x.answer) x.ended
-    → Consumes unread left (read_in x) × IsInTime request (held ++ read_in x) heard kept
+    (limit : ℕ) (before after : End C) (request : List ℕ) (heard : Option (List ℕ))
+    → (x : IsExchanged tells limit before after request heard) → CameInTime x
+    → Consumes before.unread after.unread (read_in x) × IsInTime request (before.held ++ read_in x) heard after.held
 
 -- two requests that one response could answer
 pub record AreAlike (request other : Frame) : Type 0 where

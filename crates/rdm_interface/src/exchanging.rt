@@ -1,8 +1,9 @@
 //! What is asked of the interface, and what it answers.
 
-ghost use Rattle.std.specs.Prelude.{◌≡◌, ◌≢◌, ◌<◌, ◌≤◌, length, true, Some, None, IfOk, OnOk, OnErr};
+ghost use Rattle.std.specs.Prelude.{◌≡◌, ◌≢◌, ◌<◌, ◌≤◌, ℕ, List, length, true, Option, Some, None, IfOk, OnOk, OnErr};
 ghost use Rattle.std.specs.Io.KnownBytes.{Appends, IsAtEnd};
-ghost use Rattle.rdm_messages.specs.Framing.{message_bytes, message_in};
+ghost use Rattle.rdm_messages.specs.Ends.{end_at};
+ghost use Rattle.rdm_messages.specs.Framing.{Message, message_bytes, message_in};
 ghost use Rattle.rdm_interface.specs.Answers.{belongs, has_end, label_for, request_message, wanted_by};
 ghost use Rattle.rdm_interface.specs.Exchanges.{IsAsked, IsCutOff, IsEnded, IsExchanged, IsReadOn};
 
@@ -27,8 +28,9 @@ pub(crate) fn exchange<R: Read, W: Write, C: Clock>(
 ) -> Result<Option<Wire>, PortError>
     requires held { length held.old < 605 }
     requires fits { length request.now ≤ 600 }
-    ensures exchanged { IfOk result (IsExchanged C.tells span clock.old clock.new (R.remaining reader.old) (R.remaining reader.new)
-        (W.contents writer.old) (W.contents writer.new) held.old held.new request.now) }
+    ensures exchanged { IfOk result (IsExchanged C.tells span
+        (end_at clock.old (R.remaining reader.old) (W.contents writer.old) held.old)
+        (end_at clock.new (R.remaining reader.new) (W.contents writer.new) held.new) request.now) }
     ensures passed { OnErr result (label_for (wanted_by request.now) ≡ 7 → IsReadOn (belongs (wanted_by request.now))
         (R.remaining reader.old) (R.remaining reader.new) held.old held.new None) }
     ensures closed { result ≡ Err PortError.Closed → IsAtEnd (R.remaining reader.new) }
@@ -65,8 +67,9 @@ pub(crate) fn ask<R: Read, W: Write, C: Clock>(
 ) -> Result<Option<Answer>, PortError>
     requires held { length held.old < 605 }
     requires fits { length asked.now.body.now ≤ 600 }
-    ensures asked { IfOk result (IsAsked C.tells span clock.old clock.new (R.remaining reader.old) (R.remaining reader.new)
-        (W.contents writer.old) (W.contents writer.new) held.old held.new (message_in asked.now) (belongs wanted.now)) }
+    ensures asked { IfOk result (IsAsked C.tells span
+        (end_at clock.old (R.remaining reader.old) (W.contents writer.old) held.old)
+        (end_at clock.new (R.remaining reader.new) (W.contents writer.new) held.new) (message_in asked.now) (belongs wanted.now)) }
     ensures passed { OnErr result
         (IsReadOn (belongs wanted.now) (R.remaining reader.old) (R.remaining reader.new) held.old held.new None) }
     ensures closed { result ≡ Err PortError.Closed → IsAtEnd (R.remaining reader.new) }
@@ -93,8 +96,10 @@ fn await_end<R: Read, C: Clock>(
     answer: &Answer,
 ) -> Result<(), PortError>
     requires { length held.old < 605 }
-    ensures ended { OnOk result (IsEnded C.tells span clock.old clock.new (R.remaining reader.old) (R.remaining reader.new)
-        held.old held.new (has_end wanted.now (Some answer.now))) }
+    // Whatever was written stays.
+    ensures ended { OnOk result ((end : Option Message) × ((written : Option (List ℕ)) → IsEnded C.tells span
+        (end_at clock.old (R.remaining reader.old) written held.old)
+        (end_at clock.new (R.remaining reader.new) written held.new) (has_end wanted.now (Some answer.now)) end)) }
     ensures failed { OnErr result (has_end wanted.now (Some answer.now) ≡ true) }
     ensures closed { result ≡ Err PortError.Closed → IsAtEnd (R.remaining reader.new) }
     ensures read { result ≢ Err PortError.Write }

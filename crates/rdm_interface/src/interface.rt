@@ -1,12 +1,12 @@
 //! The interface, as its host sees it.
 
-ghost use Rattle.std.specs.Prelude.{◌≡◌, ◌≢◌, ◌<◌, ℕ, List, [], length, true, false, Option, None, IfOk, OnErr};
+ghost use Rattle.std.specs.Prelude.{◌≡◌, ◌≢◌, ◌<◌, ℕ, List, [], length, true, false, Option, IfOk, OnErr};
 ghost use Rattle.std.specs.Option.{option_and_then};
 ghost use Rattle.std.specs.Io.KnownBytes.{Appends, Consumes, IsAtEnd};
 ghost use Rattle.rdm_messages.specs.Framing.{Message, message_bytes};
 ghost use Rattle.rdm_interface.specs.declared.wanted.Wanted.TheVariants.{Labelled};
 ghost use Rattle.rdm_interface.specs.Answers.{ask_parameters, ask_serial_number, belongs, label_for, parameters_in, request_message, serial_number_in, wanted_by};
-ghost use Rattle.rdm_interface.specs.Exchanges.{IsAsked, IsCutOff, IsExchanged, IsOver, IsReadOn};
+ghost use Rattle.rdm_interface.specs.Exchanges.{IsAsked, IsCutOff, IsExchanged, IsOver, NonePassedOver};
 
 use crate::exchanging::{ask, exchange};
 use crate::parameters::{Parameters, parameters_in, serial_number_in};
@@ -43,6 +43,8 @@ pub struct Interface<R: Read, W: Write, C: Clock> {
 }
 
 impl<R: Read, W: Write, C: Clock> Interface<R, W, C> {
+    ghost use Rattle.rdm_interface.specs.Interfaces.{end_of};
+
     /// An interface on this line, which is waited for so many milliseconds. Nothing is read or written yet.
     pub fn new(reader: R, writer: W, clock: C, limit: u16) -> Interface<R, W, C>
         ensures reader { result.reader ≡ reader }
@@ -82,12 +84,11 @@ impl<R: Read, W: Write, C: Clock> Interface<R, W, C> {
     /// After a write that failed the line may hold the beginning of a message.
     pub fn send(&mut self, request: &Wire) -> Result<Option<Wire>, PortError>
         // The request is written, what doesn't belong to it is passed over, and the answer is heard.
-        ensures exchanged { IfOk result (IsExchanged C.tells self.old.span self.old.clock self.new.clock
-            (R.remaining self.old.reader) (R.remaining self.new.reader) (W.contents self.old.writer) (W.contents self.new.writer)
-            self.old.held self.new.held request.now) }
+        ensures exchanged { IfOk result (IsExchanged C.tells self.old.span
+            (end_of self.old) (end_of self.new) request.now) }
         // Where it fails, no response to the request was passed over.
-        ensures passed { OnErr result (label_for (wanted_by request.now) ≡ 7 → IsReadOn (belongs (wanted_by request.now))
-            (R.remaining self.old.reader) (R.remaining self.new.reader) self.old.held self.new.held None) }
+        ensures passed { OnErr result (label_for (wanted_by request.now) ≡ 7 → NonePassedOver (belongs (wanted_by request.now))
+            (end_of self.old) (end_of self.new)) }
         // A line that still gives bytes isn't closed.
         ensures closed { result ≡ Err PortError.Closed → IsAtEnd (R.remaining self.new.reader) }
         // The request is written, but where the writer failed, which took a front of it that isn't all.
@@ -125,13 +126,12 @@ impl<R: Read, W: Write, C: Clock> Interface<R, W, C> {
 
     /// Asks the interface for its parameters, with label 3: `None` if it doesn't answer within the limit, or not with all of them.
     pub fn parameters(&mut self) -> Result<Option<Parameters>, PortError>
-        ensures asked { IfOk result (λ parameters. (answer : Option Message) × IsAsked C.tells self.old.span self.old.clock self.new.clock
-            (R.remaining self.old.reader) (R.remaining self.new.reader) (W.contents self.old.writer) (W.contents self.new.writer)
-            self.old.held self.new.held ask_parameters (belongs (Labelled 3)) answer
+        ensures asked { IfOk result (λ parameters. (answer : Option Message) × IsAsked C.tells self.old.span
+            (end_of self.old) (end_of self.new) ask_parameters (belongs (Labelled 3)) answer
             × (parameters ≡ option_and_then parameters_in answer)) }
         // Where it fails, no answer to the question was passed over.
-        ensures passed { OnErr result (IsReadOn (belongs (Labelled 3))
-            (R.remaining self.old.reader) (R.remaining self.new.reader) self.old.held self.new.held None) }
+        ensures passed { OnErr result (NonePassedOver (belongs (Labelled 3))
+            (end_of self.old) (end_of self.new)) }
         ensures closed { result ≡ Err PortError.Closed → IsAtEnd (R.remaining self.new.reader) }
         // The question is written, but where the writer failed, which took a front of it that isn't all.
         ensures written { result ≢ Err PortError.Write
@@ -163,13 +163,12 @@ impl<R: Read, W: Write, C: Clock> Interface<R, W, C> {
     /// Asks the interface for its serial number, with label 10: `None` if it doesn't answer within the limit, or not with four
     /// bytes. Makers write it in decimal digits, each of which has four bits.
     pub fn serial_number(&mut self) -> Result<Option<u32>, PortError>
-        ensures asked { IfOk result (λ number. (answer : Option Message) × IsAsked C.tells self.old.span self.old.clock self.new.clock
-            (R.remaining self.old.reader) (R.remaining self.new.reader) (W.contents self.old.writer) (W.contents self.new.writer)
-            self.old.held self.new.held ask_serial_number (belongs (Labelled 10)) answer
+        ensures asked { IfOk result (λ number. (answer : Option Message) × IsAsked C.tells self.old.span
+            (end_of self.old) (end_of self.new) ask_serial_number (belongs (Labelled 10)) answer
             × (number ≡ option_and_then serial_number_in answer)) }
         // Where it fails, no answer to the question was passed over.
-        ensures passed { OnErr result (IsReadOn (belongs (Labelled 10))
-            (R.remaining self.old.reader) (R.remaining self.new.reader) self.old.held self.new.held None) }
+        ensures passed { OnErr result (NonePassedOver (belongs (Labelled 10))
+            (end_of self.old) (end_of self.new)) }
         ensures closed { result ≡ Err PortError.Closed → IsAtEnd (R.remaining self.new.reader) }
         // The question is written, but where the writer failed, which took a front of it that isn't all.
         ensures written { result ≢ Err PortError.Write
@@ -200,25 +199,14 @@ impl<R: Read, W: Write, C: Clock> Interface<R, W, C> {
 }
 
 impl<R: Read, W: Write, C: Clock> Port for Interface<R, W, C> {
-    // What is heard is what `send` says.
-    ghost hears = { λ before request heard after. IsExchanged C.tells before.span before.clock after.clock
-        (R.remaining before.reader) (R.remaining after.reader) (W.contents before.writer) (W.contents after.writer)
-        before.held after.held request heard };
+    ghost use Rattle.rdm_interface.specs.Interfaces.{fails_of, hears_of};
 
-    // Besides, it is told of a failure what `send` tells.
-    fn exchange(&mut self, request: &Wire) -> Result<Option<Wire>, PortError>
-        ensures heard { IfOk result (IsExchanged C.tells self.old.span self.old.clock self.new.clock
-            (R.remaining self.old.reader) (R.remaining self.new.reader) (W.contents self.old.writer) (W.contents self.new.writer)
-            self.old.held self.new.held request.now) }
-        ensures passed { OnErr result (label_for (wanted_by request.now) ≡ 7 → IsReadOn (belongs (wanted_by request.now))
-            (R.remaining self.old.reader) (R.remaining self.new.reader) self.old.held self.new.held None) }
-        ensures closed { result ≡ Err PortError.Closed → IsAtEnd (R.remaining self.new.reader) }
-        ensures written { result ≢ Err PortError.Write
-            → Appends (W.contents self.old.writer) (W.contents self.new.writer) (message_bytes (request_message request.now)) }
-        ensures cut { result ≡ Err PortError.Write
-            → IsCutOff (W.contents self.old.writer) (W.contents self.new.writer) (message_bytes (request_message request.now)) }
-        ensures limit { self.new.span ≡ self.old.span }
-    {
+    // What is heard is what `send` says, and it fails as `send` does. The limit stays.
+    ghost hears = { λ before request heard after. hears_of before request heard after };
+
+    ghost fails = { λ before request error after. fails_of before request error after };
+
+    fn exchange(&mut self, request: &Wire) -> Result<Option<Wire>, PortError> {
         self.send(request)
     }
 }

@@ -12,7 +12,6 @@ mod finding;
 mod interface;
 mod laws;
 mod parameters;
-mod ranges;
 mod searching;
 mod waiting;
 mod wanted;

@@ -1,16 +1,16 @@
 //! A search of a line through a controller's port.
 
-ghost use Rattle.std.specs.Prelude.{◌≡◌, ◌≢◌, ◌⊎◌, ◌+◌, ◌-◌, ◌*◌, ◌<◌, ◌++◌, [], List, length, Ok, Err, true, false, IfOk, OnOk};
+ghost use Rattle.std.specs.Prelude.{◌≡◌, ◌≢◌, ◌⊎◌, ◌+◌, ◌-◌, ◌*◌, ◌<◌, ◌++◌, [], List, length, Ok, Err, true, false, IfOk, IfErr, OnOk};
 ghost use Rattle.rdm_frame.specs.FrameText.{IsFrame};
 ghost use Rattle.rdm_search.specs.Answers.{found_uids};
 ghost use Rattle.rdm_search.specs.Exchanges.{HasHeard};
 ghost use Rattle.rdm_search.specs.Line.{Fixture, IsFound};
 ghost use Rattle.rdm_search.specs.Stages.{IsReal, Stands, price};
-ghost use Rattle.rdm_interface.specs.Askings.{AreDevices, AreHeardOf, FindsAll, FindsReal, GoesOn, HasAsked, Situation, TakesMore, askings_of};
-ghost use Rattle.rdm_interface.specs.Lines.{IsAskedAgain, IsExchange, IsHeardOnce};
+ghost use Rattle.rdm_interface.specs.Askings.{AreDevices, AreHeardOf, FindsAll, FindsReal, GoesOn, HasAsked, HasFailedAt, Situation, TakesMore, askings_of};
+ghost use Rattle.rdm_interface.specs.Lines.{FailsAsking, IsAskedAgain, IsExchange, IsHeardOnce};
 
-use crate::ranges::frame_fits;
 use rdm_collector::{Port, PortError};
+use rdm_frame::ranges::frame_fits;
 use rdm_frame::{Frame, Uid, Wire, encode};
 use rdm_search::{Found, Search, SearchError, is_answered};
 use std::alloc::Global;
@@ -57,6 +57,9 @@ pub fn discover_through<P: Port>(
     // Where it fails for another reason than its port's, it has sent requests of a search and nothing else, too.
     ensures sent { (error : SearchError) → result ≡ Err (SearchFault.Search error)
         → HasAsked P.hears source ((retries + 1) * limit) port.old port.new (λ askings. Unit {0}) }
+    // An error of the port is one that the port gave in this run, at the last of some requests of a search.
+    ensures failed { (error : PortError) → result ≡ Err (SearchFault.Port error)
+        → HasFailedAt P.hears P.fails source ((retries + 1) * limit) port.old port.new error }
 {
     let mut search = Search::new(alloc, source, limit);
     match run_through(&mut search, port, retries) {
@@ -84,6 +87,8 @@ pub fn run_through<P: Port>(
     ensures said { (last : P) × HasHeard (IsExchange P.hears) search.old.source port.old last search.old.found.items search.new.found.items
         × OnOk result (port.new ≡ last) }
     ensures kept { (more : List Found) × (search.new.found.items ≡ search.old.found.items ++ more) }
+    ensures failed { (error : PortError) → result ≡ Err (SearchFault.Port error)
+        → HasFailedAt P.hears P.fails search.old.source ((retries + 1) * search.old.left) port.old port.new error }
 {
     while step_through(search, port, retries)? {}
     Ok(())
@@ -110,6 +115,8 @@ pub fn step_through<P: Port>(
     ensures kept { (more : List Found) × (search.new.found.items ≡ search.old.found.items ++ more) }
     ensures said { (last : P) × HasHeard (IsExchange P.hears) search.old.source port.old last search.old.found.items search.new.found.items
         × OnOk result (port.new ≡ last) }
+    ensures failed { (error : PortError) → result ≡ Err (SearchFault.Port error)
+        → HasFailedAt P.hears P.fails search.old.source (askings_of retries search.old.left) port.old port.new error }
     ensures source { search.new.source ≡ search.old.source }
     ensures left { result ≡ Ok true → search.new.left + 1 ≡ search.old.left }
 {
@@ -129,6 +136,7 @@ pub fn step_through<P: Port>(
 /// What is heard of a frame, which is sent up to `retries` times again while no valid answer is: no bytes if nothing is at last.
 fn heard_of<P: Port>(port: &mut P, frame: &Frame, retries: u8) -> Result<Wire, PortError>
     ensures heard { IfOk result (IsAskedAgain P.hears retries port.old port.new frame.now) }
+    ensures failed { IfErr result (FailsAsking P.hears P.fails retries port.old port.new frame.now) }
     ensures fits { IsFrame frame.now }
 {
     frame_fits(&frame.view());
@@ -149,6 +157,7 @@ fn heard_of<P: Port>(port: &mut P, frame: &Frame, retries: u8) -> Result<Wire, P
 /// What is heard of a request that is sent once: no bytes if nothing is.
 fn heard_once<P: Port>(port: &mut P, request: &Wire) -> Result<Wire, PortError>
     ensures heard { IfOk result (IsHeardOnce P.hears port.old port.new request.now) }
+    ensures failed { IfErr result (λ error. P.fails port.old request.now error port.new) }
 {
     match port.exchange(request) {
         Ok(Some(wire)) => Ok(wire),

@@ -4,7 +4,7 @@ ghost use Rattle.std.specs.Prelude.{◌≡◌, ◌≢◌, ◌<◌, ◌++◌, ℕ
 ghost use Rattle.std.specs.Io.KnownBytes.{Consumes, IsAtEnd};
 ghost use Rattle.rdm_messages.specs.Framing.{IsUnfinished};
 ghost use Rattle.rdm_interface.specs.Answers.{belongs};
-ghost use Rattle.rdm_interface.specs.Exchanges.{IsAwaited, IsOver, IsPast, IsReadOn};
+ghost use Rattle.rdm_interface.specs.Exchanges.{IsOver, IsPast, IsReadOn};
 
 use crate::answer::Answer;
 use crate::finding::take_answer;
@@ -27,8 +27,10 @@ pub(crate) fn await_answer<R: Read, C: Clock>(
     span: u16,
 ) -> Result<Option<Answer>, PortError>
     requires { length held.old < 605 }
-    ensures awaited { IfOk result (IsAwaited C.tells span clock.old clock.new (R.remaining reader.old) (R.remaining reader.new)
-        held.old held.new (belongs wanted.now)) }
+    ensures next { IfOk result
+        (IsReadOn (belongs wanted.now) (R.remaining reader.old) (R.remaining reader.new) held.old held.new) }
+    ensures over { result ≡ Ok None → IsOver C.tells span clock.old clock.new }
+    ensures searched { result ≡ Ok None → IsUnfinished held.new }
     // Where it fails, nothing was passed over that is the one.
     ensures passed { OnErr result
         (IsReadOn (belongs wanted.now) (R.remaining reader.old) (R.remaining reader.new) held.old held.new None) }

@@ -8,12 +8,11 @@ ghost use Rattle.rdm_interface.specs.Answers.{asks_again, belongs, has_response,
 
 use rdm_frame::standard::{
     DISC_MUTE, DISC_UNIQUE_BRANCH, DISCOVERY_COMMAND, GET_COMMAND, GET_COMMAND_RESPONSE,
-    GET_LAST_MESSAGE, SET_COMMAND_RESPONSE,
+    GET_LAST_MESSAGE, QUEUED_MESSAGE, SET_COMMAND_RESPONSE, STATUS_MESSAGES,
 };
 use rdm_frame::{FrameView, decode_view};
 use rdm_messages::MessageView;
 use rdm_messages::labels::{DISCOVERY, FROM_LINE, REQUEST, TIMEOUT};
-use rdm_params::Kind;
 
 /// Which message is waited for.
 #[derive(Debug, Drop)]
@@ -156,8 +155,8 @@ fn is_fetch(request: &FrameView<'_>) -> bool
     ensures { result ≡ is_fetch request.now }
 {
     request.class == GET_COMMAND
-        && (request.pid == Kind::QueuedMessage.pid()
-            || request.pid == Kind::StatusMessages.pid() && asks_again(request.body))
+        && (request.pid == QUEUED_MESSAGE
+            || request.pid == STATUS_MESSAGES && asks_again(request.body))
 }
 
 /// Whether these data are the status type of the last message again (table A-4).

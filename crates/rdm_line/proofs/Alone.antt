@@ -2,10 +2,9 @@
 use Rattle.std.proofs.Common.{◌≡◌, ◌≢◌, ℕ, zero, suc, ◌<◌, Bool, false, List, [], ◌∷◌, ◌++◌, length, get_or, refl, sym, ap, subst, ◌∙◌, arith}
 use Rattle.std.specs.Prelude.{◌&&◌, ◌==◌, nat_le, Contains}
 use Rattle.std.specs.List.{AllByRecursion}
-use Rattle.std.proofs.lemmas.Bool.{and_left, and_right, or_from}
+use Rattle.std.proofs.lemmas.Bool.{and_left, and_right, or_from, false_from_ne_true}
 use Rattle.std.proofs.lemmas.Bool.Decides.{Decides-eqb, Decides-and, Decides-like}
 use Rattle.std.specs.Bool.{Decides}
-use Rattle.std.proofs.lemmas.Bool.{false_from_ne_true}
 use Rattle.rdm_frame.specs.declared.uid.Uid.{Uid}
 use Rattle.rdm_frame.specs.Addressing.{same_uid, is_broadcast, is_addressed}
 use Rattle.rdm_frame.specs.Reading.{uid_at}

@@ -14,7 +14,6 @@ mod laws;
 mod line;
 mod on_wire;
 mod port;
-mod ranges;
 mod responder;
 mod station;
 

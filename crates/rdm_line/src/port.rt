@@ -7,8 +7,8 @@ ghost use Rattle.rdm_search.specs.Line.{IsDevice, IsHeard, after_request};
 ghost use Rattle.rdm_search.specs.Requests.{request_frame, IsRequest};
 ghost use Rattle.rdm_line.specs.Searching.{fixtures_of, HasHistories, IsSent};
 
-use crate::ranges::frame_fits;
 use crate::{Device, Line};
+use rdm_frame::ranges::frame_fits;
 use rdm_frame::{Frame, Wire, encode};
 use rdm_search::Port;
 

@@ -164,9 +164,9 @@ are_devices (h ∷ hs) all =
     (are_devices hs (All-tail (λ (u : Uid). IsDevice u) h.setup.uid (uids_of hs) all))
 
 pub rig_is_found : {C E : Type 0} (tells : C → ℕ → C → Type 0) (times : E → ℕ → E → Type 0) → RigIsFound tells times
-rig_is_found tells times limit before after xs asked held start end unread left old new rig d served has read rest later bytes stream source askings are =
-    let both = rig_is_heard tells times limit before after xs asked held start end unread left old new rig d served has.differ read rest later bytes stream in
-    let turns = turns_are (requests_in xs) served.input (messages_in served.turns) (all_sent tells limit before after xs asked) served.holds read in
+rig_is_found tells times limit before after xs asked held start end rig d served has read rest later bytes stream source askings are =
+    let both = rig_is_heard tells times limit before after xs asked held start end rig d served has.differ read rest later bytes stream in
+    let turns = turns_are (requests_in xs) served.input (messages_in served.turns) (all_sent tells limit before after xs asked) (record { rest = end.held; begins = served.begins; unfinished = served.unfinished }) read in
     let heard =
     served_by source rig served.turns askings has are.each (turns ∙ ap (map request_message) are.requests)
     (ap (map or_none) (sym both.heard) ∙ are.heard) in (

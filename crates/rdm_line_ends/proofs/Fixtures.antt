@@ -57,13 +57,13 @@ one_turn {E} times start end s (turn ∷ []) request x messages told replies =
     )
 
 pub one_is_heard : {C E : Type 0} (tells : C → ℕ → C → Type 0) (times : E → ℕ → E → Type 0) → OneIsHeard tells times
-one_is_heard tells times limit before after x asked held start end unread left old new s d served read rest later bytes stream =
+one_is_heard tells times limit before after x asked held start end s d served read rest later bytes stream =
     let xs : List Asked = x ∷ [] in
     let all : AreAnswered tells limit before xs after = (after, asked, refl) in
     let whole : served.input ≡ bytes_of (map request_message (requests_in xs)) = read ∙ sym (append-nil (message_bytes (request_message x.request))) in
-    let turns = turns_are (requests_in xs) served.input (messages_in served.turns) (all_sent tells limit before after xs all) served.holds whole in
-    one_turn times start end s served.turns x.request x.heard turns served.times
-    (fixture_is_heard tells times limit before after xs all held start end unread left old new s d served tt whole rest later bytes
+    let turns = turns_are (requests_in xs) served.input (messages_in served.turns) (all_sent tells limit before after xs all) (record { rest = end.held; begins = served.begins; unfinished = served.unfinished }) whole in
+    one_turn times start.clock end.clock s served.turns x.request x.heard turns served.times
+    (fixture_is_heard tells times limit before after xs all held start end s d served tt whole rest later bytes
     (ap (λ (l : List ℕ). l ++ rest) (append-nil (read_in asked.exchanged)) ∙ stream)).heard
 
 -- ---- a rig

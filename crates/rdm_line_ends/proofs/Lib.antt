@@ -9,3 +9,5 @@ pub mod Asking
 pub mod Together
 pub mod Fixtures
 pub mod Finding
+pub mod Texts
+pub mod Through

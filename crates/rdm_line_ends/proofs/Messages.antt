@@ -3,15 +3,15 @@ use Rattle.std.proofs.Common.{◌≡◌, ℕ, zero, suc, ◌==◌, ◌||◌, Boo
 use Rattle.std.specs.Prelude.{fold, unwrap_or, nat_lt, length}
 use Rattle.std.specs.List.{AllByRecursion, slice_get}
 use Rattle.rdm_frame.specs.Reading.{frame_in}
-use Rattle.rdm_params.specs.declared.jobs.ask.Ask.{Ask}
-use Rattle.rdm_params.specs.declared.jobs.message.Message.{Message}
-use Rattle.rdm_params.specs.declared.jobs.outcome.Outcome.{Outcome}
-use Rattle.rdm_params.specs.declared.jobs.outcome.Outcome.TheVariants.{Done, Reading, Failed}
-use Rattle.rdm_params.specs.declared.jobs.status.Entry.{Entry as StatusEntry}
-use Rattle.rdm_params.specs.declared.jobs.work.Work.{Work}
-use Rattle.rdm_params.specs.declared.panel.Change.{Change}
-use Rattle.rdm_params.specs.declared.verdict.Verdict.{Verdict}
-use Rattle.rdm_params.specs.declared.verdict.Verdict.TheVariants as verdict
+use Rattle.rdm_frame.specs.declared.message.Message.{Message}
+use Rattle.rdm_frame.specs.declared.status.Entry.{Entry as StatusEntry}
+use Rattle.rdm_commands.specs.declared.jobs.ask.Ask.{Ask}
+use Rattle.rdm_commands.specs.declared.jobs.outcome.Outcome.{Outcome}
+use Rattle.rdm_commands.specs.declared.jobs.outcome.Outcome.TheVariants.{Done, Reading, Failed}
+use Rattle.rdm_commands.specs.declared.jobs.work.Work.{Work}
+use Rattle.rdm_commands.specs.declared.panel.Change.{Change}
+use Rattle.rdm_commands.specs.declared.verdict.Verdict.{Verdict}
+use Rattle.rdm_commands.specs.declared.verdict.Verdict.TheVariants as verdict
 use Rattle.rdm_params.specs.Commands.Commands.{got, answer_to_set}
 use Rattle.rdm_params.specs.Commands.Panel.{can_change, after_change, told, change_message}
 use Rattle.rdm_params.specs.Device.Parameters.{Parameters}

@@ -9,7 +9,7 @@ use Rattle.rdm_frame.specs.Addressing.{is_addressed, is_broadcast, same_uid}
 use Rattle.rdm_frame.specs.Discovery.{branch_reply}
 use Rattle.rdm_frame.specs.FrameText.{frame_text, IsFrame, IsUid}
 use Rattle.rdm_frame.specs.Reading.{frame_in}
-use Rattle.rdm_params.specs.declared.verdict.Verdict.{Verdict}
+use Rattle.rdm_commands.specs.declared.verdict.Verdict.{Verdict}
 use Rattle.rdm_params.specs.Commands.Commands.{got, answer_to_set}
 use Rattle.rdm_responder.specs.History.{History, Setup}
 use Rattle.rdm_responder.specs.Requests.{Request, Ignored, Branch, Muting, Get, Set, discovery_of, get_of, request_of, request_in}

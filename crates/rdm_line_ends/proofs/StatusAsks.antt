@@ -1,18 +1,18 @@
 -- Who asks for status entries asks the root, and with one byte.
 use Rattle.std.proofs.Common.{◌≡◌, ◌≢◌, ℕ, ◌==◌, Bool, true, false, cond, List, [], ◌∷◌, length, Option, None, Result, Ok, Err, refl, sym, subst, ap, ◌∙◌, arith}
 use Rattle.std.proofs.lemmas.Bool.{eqb-true, ne_eqb}
-use Rattle.rdm_params.specs.declared.kind.Verb.TheVariants.{Get}
-use Rattle.rdm_params.specs.declared.nack.Nack.{Nack}
-use Rattle.rdm_params.specs.declared.nack.Nack.TheVariants.{FormatError, SubDeviceOutOfRange}
-use Rattle.rdm_params.specs.declared.jobs.ask.Ask.{Ask}
-use Rattle.rdm_params.specs.declared.verdict.Verdict.{Verdict}
-use Rattle.rdm_params.specs.declared.verdict.Verdict.TheVariants.{Status}
-use Rattle.rdm_device.specs.declared.profile.Profile.{Profile}
-use Rattle.rdm_device.specs.declared.value.Value.{Value}
-use Rattle.rdm_device.specs.declared.value.Value.TheVariants.{Byte}
-use Rattle.rdm_device.specs.Columns.Forms.{byte}
-use Rattle.rdm_device.specs.Device.Parameters.{Parameters}
-use Rattle.rdm_device.specs.Device.Values.{byte_or_0}
+use Rattle.rdm_frame.specs.declared.nack.Nack.{Nack}
+use Rattle.rdm_frame.specs.declared.nack.Nack.TheVariants.{FormatError, SubDeviceOutOfRange}
+use Rattle.rdm_table.specs.declared.kind.Verb.TheVariants.{Get}
+use Rattle.rdm_commands.specs.declared.jobs.ask.Ask.{Ask}
+use Rattle.rdm_commands.specs.declared.verdict.Verdict.{Verdict}
+use Rattle.rdm_commands.specs.declared.verdict.Verdict.TheVariants.{Status}
+use Rattle.rdm_profile.specs.declared.profile.Profile.{Profile}
+use Rattle.rdm_profile.specs.declared.value.Value.{Value}
+use Rattle.rdm_profile.specs.declared.value.Value.TheVariants.{Byte}
+use Rattle.rdm_profile.specs.Forms.{byte}
+use Rattle.rdm_added.specs.Parameters.{Parameters}
+use Rattle.rdm_profile.specs.Values.{byte_or_0}
 use Rattle.rdm_params.specs.Commands.Commands.{command_at, accepted, addressed, verdict, known, suits, check, is_some_device, got, got_by_row, ◌>>=◌}
 use Rattle.rdm_params.specs.Jobs.Asks.{ask_of}
 use Rattle.rdm_params.specs.Table.Rows.{Row, table, row_of, row_at, is_left_out, command_in}

@@ -48,10 +48,10 @@ turns_are requests input messages can holds read =
     (subst (λ (l : List ℕ). Holds l ms) (sym read) (read_back ms (All-from_recursion IsMessage ms (are_messages requests can))))
 
 pub heard : {C E D S : Type 0} (tells : C → ℕ → C → Type 0) (times : E → ℕ → E → Type 0) (line : Hearing D S) (IsSuch : S → Type 0) → IsFair line IsSuch → IsHeard tells times line IsSuch
-heard tells times line IsSuch fair limit before after xs asked held start end unread left old new s d served such read rest later bytes stream =
+heard tells times line IsSuch fair limit before after xs asked held start end s d served such read rest later bytes stream =
     let ms : List Message = map request_message (requests_in xs) in
     let can : AllByRecursion CanBeSent (requests_in xs) = all_sent tells limit before after xs asked in
-    let turns : messages_in served.turns ≡ ms = turns_are (requests_in xs) served.input (messages_in served.turns) can served.holds read in
+    let turns : messages_in served.turns ≡ ms = turns_are (requests_in xs) served.input (messages_in served.turns) can (record { rest = end.held; begins = served.begins; unfinished = served.unfinished }) read in
     let replies : List (Option (List ℕ)) = replies_in line s served.turns in
     let written : answers line s served.turns ≡ answers_with (messages_in served.turns) replies =
     answered_with line s served.turns (ap (list_all is_request) turns ∙ all_requests (requests_in xs)) in

@@ -1,18 +1,19 @@
 -- A search at one end of a line, and a rig at the other: what is found is the rig. E1.20 sections 7.5 and 7.6.
-use Rattle.std.specs.Prelude.{◌≡◌, ◌≢◌, ℕ, List, [], ◌++◌, map, Option, All, AllPairs, unwrap_or}
+use Rattle.std.specs.Prelude.{◌≡◌, ◌≢◌, ℕ, List, [], ◌++◌, map, All, AllPairs, unwrap_or}
 use Rattle.rdm_frame.specs.declared.uid.Uid.{Uid}
 use Rattle.rdm_frame.specs.FrameText.{frame_text}
 use Rattle.rdm_search.specs.Line.{IsDevice, IsFound}
 use Rattle.rdm_search.specs.Requests.{request_frame}
 use Rattle.rdm_line.specs.Line.{State, uids_of}
 use Rattle.rdm_line.specs.Searching.{fixture_of}
+use Rattle.rdm_messages.specs.Ends.{End}
 use Rattle.rdm_messages.specs.Framing.{bytes_of}
 use Rattle.rdm_messages.specs.Serving.{IsServed, after_turns, answers}
 use Rattle.rdm_widget.specs.declared.live_fixture.LiveFixture.{LiveFixture}
 use Rattle.rdm_widget.specs.Rigs.{Rig, histories, rig_hearing}
 use Rattle.rdm_interface.specs.Answers.{request_message}
 use Rattle.rdm_interface.specs.Askings.{AreDevices, AreHeardOf, Asking, FindsAll, IsAsking, Situation}
-use Rattle.rdm_line_ends.specs.Ends.{Asked, AreAnswered, Host, heard_in, read_for, requests_in}
+use Rattle.rdm_line_ends.specs.Ends.{Asked, AreAnswered, heard_in, read_for, requests_in}
 use Rattle.rdm_line_ends.specs.Replies.{AreBytes}
 
 -- The askings of a search are these requests, and what was heard of them.
@@ -35,8 +36,8 @@ pub record HasUids (rig : Rig) : Type 0 where
 -- `discover_through` does, it finds the fixtures of the rig, each once.
 abbrev pub RigIsFound : {C E : Type 0} → (C → ℕ → C → Type 0) → (E → ℕ → E → Type 0) → Type 0
 RigIsFound {C} {E} tells times =
-    (limit : ℕ) (before after : Host C) (xs : List Asked) (asked : AreAnswered tells limit before xs after) → before.held ≡ []
-    → (start end : E) (unread left old new : Option (List ℕ)) (rig : Rig) (d : State LiveFixture) (served : IsServed times rig_hearing start end unread left old new rig d)
+    (limit : ℕ) (before after : End C) (xs : List Asked) (asked : AreAnswered tells limit before xs after) → before.held ≡ []
+    → (start end : End E) (rig : Rig) (d : State LiveFixture) (served : IsServed times rig_hearing start end rig d)
     → HasUids rig → served.input ≡ bytes_of (map request_message (requests_in xs))
     → (rest later : List ℕ) → AreBytes (answers rig_hearing rig served.turns)
     → read_for tells limit before xs after asked ++ rest ≡ answers rig_hearing rig served.turns ++ later

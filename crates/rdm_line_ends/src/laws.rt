@@ -1,10 +1,15 @@
 //! Laws of replies and of both ends of a line. Each is the contract of a call that does nothing.
 
+ghost use Rattle.rdm_interface.specs.Interfaces.{end_of};
 ghost use Rattle.rdm_line_ends.specs.Ends.{AnswersAreRead, FixtureIsHeard, OneIsHeard, RequestsAreWritten, RigIsHeard};
 ghost use Rattle.rdm_line_ends.specs.Searches.{RigIsFound};
+ghost use Rattle.rdm_line_ends.specs.Through.{IsEnd, RigIsFoundThrough, RunsAreAsked};
 ghost use Rattle.rdm_line_ends.specs.Replies.{BranchesAreAnswered, RepliesAreResponses, RepliesBelong, WhatIsOnTheWireBelongs};
 
+use rdm_collector::Port;
+use rdm_interface::Interface;
 use rdm_messages::Clock;
+use std::io::{Read, Write};
 
 /// Each reply belongs to its request, after any history of the fixture: it is a response to it (E1.20 section 6.2), and one to
 /// DISC_UNIQUE_BRANCH is the UID, coded (section 7.5). What is on the wire of a line of fixtures belongs to the request, too.
@@ -37,4 +42,18 @@ pub fn what_is_replied_is_heard<H: Clock, F: Clock>()
 /// may be heard, it says of the rig: what is found is its fixtures, each once.
 pub fn searches_find_the_rig<H: Clock, F: Clock>()
     ensures { RigIsFound H.tells F.tells }
+{}
+
+/// `discover_through` finds the rig at the other end of the line, through an `Interface` or any port that passes all on to one. It is
+/// called where nothing is held, its clause `found` says what it asked in this run, and each answer comes before the limit is over; at the
+/// other end `serve` serves a rig. Then what it found is the fixtures of the rig, each once.
+pub fn searches_through_a_port_find_the_rig<P: Port, H: Clock, F: Clock>()
+    ensures asked { RunsAreAsked P.hears H.tells }
+    ensures found { RigIsFoundThrough P.hears H.tells F.tells }
+{}
+
+/// An interface is an end of its line, as `searches_through_a_port_find_the_rig` wants it: its clock, what there is to read at its reader,
+/// what was written at its writer, and what it holds; and its limit stays.
+pub fn interfaces_are_ends_of_lines<R: Read, W: Write, H: Clock>()
+    ensures { IsEnd ⟦<Interface<R, W, H> as Port>⟧.hears H.tells (λ i. end_of i) (λ i. i.span) }
 {}

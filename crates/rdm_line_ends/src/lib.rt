@@ -6,4 +6,7 @@
 
 mod laws;
 
-pub use laws::{replies_belong_to_their_requests, searches_find_the_rig, what_is_replied_is_heard};
+pub use laws::{
+    interfaces_are_ends_of_lines, replies_belong_to_their_requests, searches_find_the_rig,
+    searches_through_a_port_find_the_rig, what_is_replied_is_heard,
+};

@@ -12,8 +12,10 @@ use Rattle.rdm_frame.specs.declared.frame.Frame.{Frame}
 use Rattle.rdm_frame.specs.Addressing.{is_broadcast}
 use Rattle.rdm_frame.specs.FrameText.{frame_text, IsFrame}
 use Rattle.rdm_frame.specs.Reading.{uid_at}
-use Rattle.rdm_params.specs.declared.jobs.message.Message.{Message}
-use Rattle.rdm_params.specs.declared.panel.Change.{Change}
+use Rattle.rdm_frame.specs.declared.message.Message.{Message}
+use Rattle.rdm_frame.specs.declared.fault.Fault.{Fault}
+use Rattle.rdm_frame.specs.Faults.{request_heard}
+use Rattle.rdm_commands.specs.declared.panel.Change.{Change}
 use Rattle.rdm_params.specs.Jobs.Laws.{GetQueues, GetStatuses, SetFetchesNothing}
 use Rattle.rdm_responder.specs.declared.report.Report.{Report}
 use Rattle.rdm_responder.specs.History as history
@@ -31,8 +33,6 @@ use Rattle.rdm_bus.specs.declared.event.Event.{Event}
 use Rattle.rdm_bus.specs.declared.event.Event.TheVariants.{Bus, Arrived, Changed}
 use Rattle.rdm_bus.specs.declared.event.Step.{Step}
 use Rattle.rdm_bus.specs.declared.event.Step.TheVariants.{Ask, Collect, Arrive, Change as change_step}
-use Rattle.rdm_bus.specs.declared.fault.Fault.{Fault}
-use Rattle.rdm_bus.specs.Faults.{request_heard}
 use Rattle.rdm_bus.specs.BusRun.{Start, controller_at, came, replied, transaction}
 use Rattle.rdm_bus.specs.BusLaws.{message_in, dispensed_by, recorded, recorded_by, recorded_if, carried, queue_of}
 use Rattle.rdm_bus.proofs.BusRuns.{Reaches, Whole, Lost, Spoilt, reaches, history_with, command_leaves, hears, reply_is, IsPolledBy, poll_reaches, not_reserved, allowed}

@@ -6,11 +6,11 @@ use Rattle.std.specs.Option.{option_map_or}
 use Rattle.std.proofs.lemmas.Bool.{cases_order}
 use Rattle.rdm_frame.specs.declared.uid.Uid.{Uid}
 use Rattle.rdm_frame.specs.Addressing.{is_broadcast}
+use Rattle.rdm_frame.specs.Faults.{request_heard}
 use Rattle.rdm_responder.specs.History.{History}
 use Rattle.rdm_bus.specs.declared.event.Event.{Event}
 use Rattle.rdm_bus.specs.declared.event.Event.TheVariants.{Bus, Arrived, Changed}
 use Rattle.rdm_bus.specs.BusRun.{Start}
-use Rattle.rdm_bus.specs.Faults.{request_heard}
 use Rattle.rdm_line.specs.Hearing.{hears, heard_by}
 use Rattle.rdm_line.specs.Line.{uids_of}
 use Rattle.rdm_line.proofs.Unheard.{uid_stays}

@@ -2,7 +2,7 @@
 use Rattle.std.specs.Prelude.{◌≡◌, ℕ, true, false, List, [], ◌++◌, ◌∷◌, Some}
 use Rattle.std.specs.List.{slice_get}
 use Rattle.std.specs.Option.{option_map_or, option_and_then, option_to_list}
-use Rattle.rdm_params.specs.declared.jobs.message.Message.{Message}
+use Rattle.rdm_frame.specs.declared.message.Message.{Message}
 use Rattle.rdm_responder.specs.History.{History}
 use Rattle.rdm_collector.specs.Polling.{given_between}
 use Rattle.rdm_collector.specs.Recording.{PrefixLaw, NoLossLaw}

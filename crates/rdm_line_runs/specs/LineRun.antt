@@ -8,6 +8,8 @@ use Rattle.std.specs.Option.{option_map, option_map_or, option_and_then}
 use Rattle.rdm_frame.specs.declared.frame.Frame.{Frame}
 use Rattle.rdm_frame.specs.Addressing.{is_broadcast}
 use Rattle.rdm_frame.specs.FrameText.{frame_text, IsFrame}
+use Rattle.rdm_frame.specs.declared.fault.Fault.{Fault}
+use Rattle.rdm_frame.specs.Faults.{request_heard, IsFault}
 use Rattle.rdm_responder.specs.History.{History}
 use Rattle.rdm_responder.specs.Rules.{job_of}
 use Rattle.rdm_collector.specs.Collecting.{State, refusal_of, command_request, after_ask, poll_request, after_poll, heard_in}
@@ -15,9 +17,7 @@ use Rattle.rdm_bus.specs.declared.event.Event.{Event}
 use Rattle.rdm_bus.specs.declared.event.Event.TheVariants.{Bus, Arrived, Changed}
 use Rattle.rdm_bus.specs.declared.event.Step.{Step}
 use Rattle.rdm_bus.specs.declared.event.Step.TheVariants.{Ask, Collect, Arrive, Change}
-use Rattle.rdm_bus.specs.declared.fault.Fault.{Fault}
-use Rattle.rdm_bus.specs.Faults.{request_heard}
-use Rattle.rdm_bus.specs.BusRun.{Start, controller_at, came, IsFault, IsPlayed, history_after, tn_after, unanswered_after}
+use Rattle.rdm_bus.specs.BusRun.{Start, controller_at, came, IsPlayed, history_after, tn_after, unanswered_after}
 use Rattle.rdm_line.specs.declared.on_wire.OnWire.{OnWire}
 use Rattle.rdm_line.specs.declared.on_wire.OnWire.TheVariants.{Nothing, Reply, Collision as Collided}
 use Rattle.rdm_line.specs.declared.collision.Collision.{Collision}

@@ -9,7 +9,7 @@ use rdm_frame::standard::{FIRST_PORT, ROOT_DEVICE};
 use rdm_frame::{Body, Frame, Uid, Wire, encode};
 use rdm_line::{Collision, Line};
 use rdm_params::Profile;
-use rdm_responder::Responder;
+use rdm_responder::{Responder, Settings};
 use std::alloc::Global;
 use std::test::Fail;
 
@@ -23,7 +23,14 @@ pub const CONSOLE: Uid = Uid {
 pub fn device(alloc: Global, uid: Uid) -> Result<Responder, Fail>
     ensures { IfOk result (λ d. (h : History) × StandsFor d h) }
 {
-    let device = Responder::with_entries(alloc, uid, Profile::demo(0), 1, 1)?;
+    let settings = Settings {
+        uid,
+        queue_size: 1,
+        entries: 1,
+        first_job: 0,
+    };
+    let profile = Box::new(alloc, Profile::demo(0))?;
+    let device = Responder::with_settings(alloc, &settings, profile)?;
     Ok(device)
 }
 

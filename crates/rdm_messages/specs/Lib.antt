@@ -1,3 +1,4 @@
+pub mod Ends
 pub mod Framing
 pub mod Hearing
 pub mod Protocol

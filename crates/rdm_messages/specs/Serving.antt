@@ -1,7 +1,8 @@
 -- What serving a stream comes to.
 use Rattle.std.specs.Prelude.{◌≡◌, ◌<◌, ℕ, Bool, ◌==◌, ◌||◌, List, [], ◌∷◌, ◌++◌, length, map, take, Option, if◌then◌else◌}
 use Rattle.std.specs.Io.KnownBytes.{Consumes, Appends}
-use Rattle.rdm_messages.specs.Framing.{Message, IsUnfinished, Begins, Holds, bytes_of}
+use Rattle.rdm_messages.specs.Ends.{End}
+use Rattle.rdm_messages.specs.Framing.{Message, IsUnfinished, Begins, bytes_of}
 use Rattle.rdm_messages.specs.Hearing.{Hearing}
 use Rattle.rdm_messages.specs.Protocol.{answer_to, answer_of_line, answer_of_discovery, after_message}
 
@@ -58,14 +59,17 @@ abbrev pub Tells : {C : Type 0} → (C → ℕ → C → Type 0) → C → List 
 Tells tells before [] after = after ≡ before
 Tells {C} tells before (time ∷ times) after = (mid : C) × (tells before time mid × Tells tells mid times after)
 
--- All messages of what was read are answered, each by the clock. What was written before stays.
-pub record IsServed {C D S : Type 0} (tells : C → ℕ → C → Type 0) (line : Hearing D S) (before after : C) (unread left old new : Option (List ℕ)) (s : S) (d : D) : Type 0 where
+-- It begins with nothing held. All messages of what was read are answered, each by the clock, and held is what is left, the beginning
+-- of a message. What was written before stays.
+pub record IsServed {C D S : Type 0} (tells : C → ℕ → C → Type 0) (line : Hearing D S) (before after : End C) (s : S) (d : D) : Type 0 where
+  pub none_held : before.held ≡ []
   pub input : List ℕ
   pub turns : List Turn
-  pub read : Consumes unread left input
-  pub holds : Holds input (messages_in turns)
-  pub times : Tells tells before (times_of turns) after
-  pub written : Appends old new (answers line s turns)
+  pub read : Consumes before.unread after.unread input
+  pub begins : Begins input (messages_in turns) after.held
+  pub unfinished : IsUnfinished after.held
+  pub times : Tells tells before.clock (times_of turns) after.clock
+  pub written : Appends before.written after.written (answers line s turns)
   pub situation : line.is_in d (after_turns line s turns)
 
 -- Of these bytes all but the rest are done with, each message of them in its turn, and so much was written.
@@ -90,18 +94,18 @@ pub record LastCutShort {D S : Type 0} (line : Hearing D S) (old new : Option (L
   pub lacks : count < length (answer_in line (after_turns line s before) last)
   pub written : Appends old new (answers line s before ++ take count (answer_in line (after_turns line s before) last))
 
--- One read: what it gave stands behind what was held. All messages that are whole then are answered, each by the clock, and
--- held is what is left, the beginning of a message.
-pub record IsServedOnce {C D S : Type 0} (tells : C → ℕ → C → Type 0) (line : Hearing D S) (before after : C) (unread left old new : Option (List ℕ)) (held kept : List ℕ) (count : ℕ) (s : S) (d : D) : Type 0 where
+-- One read, which gave so many bytes: they stand behind what was held. All messages that are whole then are answered, each by the
+-- clock, and held is what is left, the beginning of a message.
+pub record IsServedOnce {C D S : Type 0} (tells : C → ℕ → C → Type 0) (line : Hearing D S) (before after : End C) (count : ℕ) (s : S) (d : D) : Type 0 where
   pub input : List ℕ
   pub size : length input ≡ count
-  pub read : Consumes unread left input
-  pub done : AreDone tells line before after (held ++ input) kept s d (AllWritten line old new)
-  pub unfinished : IsUnfinished kept
+  pub read : Consumes before.unread after.unread input
+  pub done : AreDone tells line before.clock after.clock (before.held ++ input) after.held s d (AllWritten line before.written after.written)
+  pub unfinished : IsUnfinished after.held
 
--- The writer failed in the last turn. What was read after its message isn't answered.
-pub record IsCutShort {C D S : Type 0} (tells : C → ℕ → C → Type 0) (line : Hearing D S) (before after : C) (unread left old new : Option (List ℕ)) (held : List ℕ) (s : S) (d : D) : Type 0 where
+-- The writer failed in the last turn. What was read after its message isn't answered. What is held then isn't told.
+pub record IsCutShort {C D S : Type 0} (tells : C → ℕ → C → Type 0) (line : Hearing D S) (before after : End C) (s : S) (d : D) : Type 0 where
   pub input : List ℕ
   pub rest : List ℕ
-  pub read : Consumes unread left input
-  pub done : AreDone tells line before after (held ++ input) rest s d (LastCutShort line old new)
+  pub read : Consumes before.unread after.unread input
+  pub done : AreDone tells line before.clock after.clock (before.held ++ input) rest s d (LastCutShort line before.written after.written)

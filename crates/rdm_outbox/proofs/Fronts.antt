@@ -4,8 +4,8 @@ use Rattle.std.specs.Prelude.{flat_map, nat_lt, unwrap_or}
 use Rattle.std.specs.List.{position, position_or_len}
 use Rattle.std.proofs.lemmas.List.{take-append-drop}
 use Rattle.std.proofs.lemmas.List.Sums.{prefix_len-le-length}
-use Rattle.rdm_params.specs.declared.jobs.ask.Ask.{Ask}
-use Rattle.rdm_params.specs.declared.jobs.status.Entry.{Entry}
+use Rattle.rdm_frame.specs.declared.status.Entry.{Entry}
+use Rattle.rdm_commands.specs.declared.jobs.ask.Ask.{Ask}
 use Rattle.rdm_outbox.specs.Statuses.{asks_for, entry_slots, first_asked, others}
 
 place_is : (i n : ℕ) (b : Bool) → i ≤ n → nat_lt i n ≡ b → unwrap_or (cond b (Some i) None) n ≡ i

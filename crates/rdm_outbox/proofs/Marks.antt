@@ -1,8 +1,8 @@
 -- What a status message marks is what it sends.
 use Rattle.std.proofs.Common.{◌≡◌, ℕ, zero, suc, ◌+◌, ◌≤◌, Bool, true, false, cond, List, [], ◌∷◌, ◌++◌, refl, sym, ap, arith}
 use Rattle.std.specs.Prelude.{map, not, ◌&&◌}
-use Rattle.rdm_params.specs.declared.jobs.ask.Ask.{Ask}
-use Rattle.rdm_params.specs.declared.jobs.status.Entry.{Entry}
+use Rattle.rdm_frame.specs.declared.status.Entry.{Entry}
+use Rattle.rdm_commands.specs.declared.jobs.ask.Ask.{Ask}
 use Rattle.rdm_outbox.specs.Account.{Noted}
 use Rattle.rdm_outbox.specs.Laws.{newly_shown, OnlyMarks, ShowMarksTheFirst, ShowOnlyMarks, SendsWhatItMarks, StatusEvent, Note, Send, Clear, noted_after, is_marked_at, is_sent_at, times_sent, NoneIsSentTwice}
 use Rattle.rdm_outbox.specs.Statuses.{asks_for, cleared, first_asked, most_shown, show, status_message, unshown}

@@ -6,9 +6,9 @@ use Rattle.std.proofs.lemmas.Bool.{lt-ltb, le-ltb, eqb-true}
 use Rattle.std.proofs.lemmas.Option.{slice_get_past, slice_get_within, get_or_from_slice_get, unwrap_or-slice_get}
 use Rattle.std.proofs.lemmas.List.{get_or-drop, length-drop, drop-drop, drop-append-le}
 use Rattle.std.proofs.lemmas.List.Sums.{sum_by-append}
-use Rattle.rdm_params.specs.declared.jobs.message.Message.{Message}
-use Rattle.rdm_params.specs.declared.jobs.ask.Ask.{Ask}
-use Rattle.rdm_params.specs.declared.jobs.status.Entry.{Entry}
+use Rattle.rdm_frame.specs.declared.message.Message.{Message}
+use Rattle.rdm_frame.specs.declared.status.Entry.{Entry}
+use Rattle.rdm_commands.specs.declared.jobs.ask.Ask.{Ask}
 use Rattle.rdm_outbox.specs.Account.{Account}
 use Rattle.rdm_outbox.specs.declared.job.Job.{Job}
 use Rattle.rdm_outbox.specs.Jobs.{jobs_of, ended_of, after_arrive}

@@ -1,9 +1,10 @@
 -- What has happened to an outbox since it was made: lists that only grow, and a count. E1.20 sections 10.3.1 and 10.3.2.
 use Rattle.std.specs.Prelude.{ℕ, Bool, List, []}
-use Rattle.rdm_params.specs.declared.jobs.message.Message.{Message}
-use Rattle.rdm_params.specs.declared.jobs.status.Entry.{Entry}
+use Rattle.rdm_frame.specs.declared.message.Message.{Message}
+use Rattle.rdm_frame.specs.declared.status.Entry.{Entry}
 use Rattle.rdm_params.specs.Jobs.Work.{Choice}
 use Rattle.rdm_outbox.specs.declared.job.Job.{Job}
+use Rattle.rdm_outbox.specs.declared.settings.Settings.{Settings}
 
 -- A status entry that was noted, and whether it counts as shown: a status message has shown it, or CLEAR_STATUS_ID came
 -- after it.
@@ -28,14 +29,14 @@ pub record Account : Type 0 where
   pub noted : List Noted
   pub answers : List Message
 
--- the account of an outbox that was just made
-abbrev pub account_before : ℕ → ℕ → ℕ → ℕ → Choice → Account
-account_before q jobs entries first_job workers = record {
-  q = q;
-  jobs = jobs;
-  entries = entries;
-  first_job = first_job;
-  workers = workers;
+-- the account of an outbox that was just made with these settings
+abbrev pub account_before : Settings → Account
+account_before settings = record {
+  q = settings.q;
+  jobs = settings.jobs;
+  entries = settings.entries;
+  first_job = settings.first_job;
+  workers = settings.workers;
   accepted = [];
   ended = [];
   arrived = [];

@@ -1,7 +1,7 @@
 -- Jobs that are outstanding, messages that wait, and the room for a further job.
 use Rattle.std.specs.Prelude.{ℕ, ◌+◌, ◌%◌, ◌^◌, ◌==◌, ◌&&◌, Bool, List, [], ◌∷◌, ◌++◌, length, drop, filter, count_by, nat_lt, Result, Ok, Err, if◌then◌else◌}
-use Rattle.rdm_params.specs.declared.jobs.message.Message.{Message}
-use Rattle.rdm_params.specs.declared.jobs.work.Work.{Work}
+use Rattle.rdm_frame.specs.declared.message.Message.{Message}
+use Rattle.rdm_commands.specs.declared.jobs.work.Work.{Work}
 use Rattle.rdm_params.specs.Jobs.Work.{Choice, worker_at}
 use Rattle.rdm_outbox.specs.declared.job.Job.{Job}
 use Rattle.rdm_outbox.specs.declared.job.Full.{Full}

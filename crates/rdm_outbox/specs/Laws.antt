@@ -1,7 +1,7 @@
 -- What STATUS_MESSAGES sends and what it marks as shown. E1.20 section 10.3.2.
 use Rattle.std.specs.Prelude.{◌≡◌, ℕ, zero, suc, ◌+◌, ◌≤◌, ◌&&◌, Bool, true, false, not, List, [], ◌∷◌, ◌++◌, map, if◌then◌else◌}
-use Rattle.rdm_params.specs.declared.jobs.ask.Ask.{Ask}
-use Rattle.rdm_params.specs.declared.jobs.status.Entry.{Entry}
+use Rattle.rdm_frame.specs.declared.status.Entry.{Entry}
+use Rattle.rdm_commands.specs.declared.jobs.ask.Ask.{Ask}
 use Rattle.rdm_outbox.specs.Account.{Account, Noted}
 use Rattle.rdm_outbox.specs.Statuses.{cleared, first_asked, most_shown, show, status_message, status_now, after_status_now, unshown}
 

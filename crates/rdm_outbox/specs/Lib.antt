@@ -3,6 +3,7 @@ pub mod Jobs
 pub mod Laws
 pub mod Memory
 pub mod Messages
+pub mod Settings
 pub mod Shows
 pub mod State
 pub mod Statuses

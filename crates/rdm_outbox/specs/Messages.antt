@@ -2,9 +2,9 @@
 -- 10.3.2.
 use Rattle.std.specs.Prelude.{◌+◌, Bool, true, false, List, [], ◌∷◌, ◌++◌, length, nat_lt, unwrap_or, if◌then◌else◌}
 use Rattle.std.specs.List.{slice_get}
-use Rattle.rdm_params.specs.declared.jobs.ask.Ask.{Ask}
-use Rattle.rdm_params.specs.declared.jobs.ask.Ask.TheVariants.{None, Last, Advisory, Warning, Error}
-use Rattle.rdm_params.specs.declared.jobs.message.Message.{Message}
+use Rattle.rdm_frame.specs.declared.message.Message.{Message}
+use Rattle.rdm_commands.specs.declared.jobs.ask.Ask.{Ask}
+use Rattle.rdm_commands.specs.declared.jobs.ask.Ask.TheVariants.{None, Last, Advisory, Warning, Error}
 use Rattle.rdm_outbox.specs.Account.{Account}
 use Rattle.rdm_outbox.specs.Statuses.{status_message, status_now, after_status_now}
 

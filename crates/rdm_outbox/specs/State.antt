@@ -1,8 +1,9 @@
 -- What a contract sees of an outbox.
 use Rattle.std.specs.Prelude.{ℕ, ◌+◌, ◌≤◌, ◌==◌, Bool, List, [], length, nat_lt, if◌then◌else◌}
-use Rattle.rdm_params.specs.declared.jobs.message.Message.{Message}
-use Rattle.rdm_params.specs.declared.jobs.status.Entry.{Entry}
+use Rattle.rdm_frame.specs.declared.message.Message.{Message}
+use Rattle.rdm_frame.specs.declared.status.Entry.{Entry}
 use Rattle.rdm_params.specs.Jobs.Work.{Choice}
+use Rattle.rdm_outbox.specs.Settings.{most_waiting}
 use Rattle.rdm_outbox.specs.declared.job.Job.{Job}
 
 -- Its three bounds; the number of each worker's first job; which worker carries out which work; of the first and the second
@@ -30,14 +31,6 @@ jobs_at s worker = if worker == 0 then s.first else (if worker == 1 then s.secon
 abbrev pub place_in : State → Bool
 place_in s = nat_lt (length s.first + length s.second + length s.queue) s.q
 
--- the greatest number of jobs and messages together that an outbox may have room for
-abbrev pub most_waiting : ℕ
-most_waiting = 1024
-
--- the greatest number of status entries that an outbox may have room for
-abbrev pub most_entries : ℕ
-most_entries = 1024
-
 -- How far the lists and counts of an outbox go: for each outstanding job there is room for its message.
 pub record HasRoom (s : State) : Type 0 where
   pub most : s.q ≤ most_waiting
@@ -45,11 +38,3 @@ pub record HasRoom (s : State) : Type 0 where
   pub first_given : s.first_given ≤ s.jobs
   pub second_given : s.second_given ≤ s.jobs
   pub unshown : length s.unshown ≤ s.entries
-
--- how many jobs and messages there may be room for, and jobs for each worker
-abbrev pub IsOutboxSize : ℕ → ℕ → Type 0
-IsOutboxSize q jobs = (1 ≤ q) × (q ≤ most_waiting) × (1 ≤ jobs)
-
--- how many status entries there may be room for
-abbrev pub IsListSize : ℕ → Type 0
-IsListSize entries = (1 ≤ entries) × (entries ≤ most_entries)

@@ -1,10 +1,10 @@
 -- Status entries, and the status message that shows them. E1.20 section 10.3.2.
 use Rattle.std.specs.Prelude.{ℕ, zero, suc, ◌&&◌, Bool, true, false, not, List, [], ◌∷◌, ◌++◌, length, take, map, filter, flat_map, nat_lt, nat_le, if◌then◌else◌}
-use Rattle.rdm_params.specs.declared.jobs.ask.Ask.{Ask}
-use Rattle.rdm_params.specs.declared.jobs.ask.Ask.TheVariants.{None, Last, Advisory, Warning, Error}
-use Rattle.rdm_params.specs.declared.jobs.message.Message.{Message}
-use Rattle.rdm_params.specs.declared.jobs.status.Entry.{Entry}
-use Rattle.rdm_params.specs.Jobs.Severities.{rank_of, severity_code}
+use Rattle.rdm_frame.specs.declared.message.Message.{Message}
+use Rattle.rdm_frame.specs.declared.status.Entry.{Entry}
+use Rattle.rdm_frame.specs.Severities.{rank_of, severity_code}
+use Rattle.rdm_commands.specs.declared.jobs.ask.Ask.{Ask}
+use Rattle.rdm_commands.specs.declared.jobs.ask.Ask.TheVariants.{None, Last, Advisory, Warning, Error}
 use Rattle.rdm_params.specs.Device.Values.{word_slots}
 use Rattle.rdm_outbox.specs.Account.{Account, Noted}
 

@@ -19,7 +19,7 @@ pub(crate) struct KeptEntry {
 
 impl Model for KeptEntry {
     ghost use Rattle.std.specs.Int.{w16, from_be_bytes};
-    ghost use Rattle.rdm_params.specs.declared.jobs.status.Entry.{Entry as TheEntry};
+    ghost use Rattle.rdm_frame.specs.declared.status.Entry.{Entry as TheEntry};
 
     ghost Value = { TheEntry };
 

@@ -13,6 +13,7 @@ mod kept;
 mod laws;
 mod outbox;
 mod ring;
+mod settings;
 mod showing;
 
 pub use dispensed::Dispensed;
@@ -22,4 +23,5 @@ pub use laws::{
     dispensed_are_equal_by_value, jobs_are_equal_by_value, new_errors_are_equal_by_value,
     refusals_are_equal_by_value, status_messages_mark_what_they_send,
 };
-pub use outbox::{MOST_ENTRIES, MOST_WAITING, Outbox};
+pub use outbox::Outbox;
+pub use settings::{MOST_ENTRIES, MOST_WAITING, Settings};

@@ -6,8 +6,8 @@ ghost use Rattle.rdm_outbox.specs.Account.{Account, account_before};
 ghost use Rattle.rdm_outbox.specs.Jobs.{outstanding_of, outstanding_count, waiting_of, has_place, reserved, after_reserve, after_arrive};
 ghost use Rattle.rdm_outbox.specs.Messages.{is_last, last_of, next_of, after_next, after_post, dispensed, after_dispense, status_dispensed, after_status};
 ghost use Rattle.rdm_outbox.specs.Shows.{Shows};
-ghost use Rattle.rdm_outbox.specs.State.{IsListSize, IsOutboxSize, jobs_at, most_entries, place_in};
-ghost use Rattle.rdm_params.specs.Device.Workers.{usual_workers};
+ghost use Rattle.rdm_outbox.specs.Settings.{IsGood, usual_settings};
+ghost use Rattle.rdm_outbox.specs.State.{jobs_at, place_in};
 ghost use Rattle.rdm_params.specs.Jobs.Work.{worker_at};
 ghost use Rattle.rdm_outbox.specs.Statuses.{after_clear, can_note, after_note, status_now, after_status_now};
 
@@ -15,17 +15,11 @@ use crate::giving::give;
 use crate::kept::{KeptEntry, keep};
 use crate::ring::{drop_first, put};
 use crate::showing::{empty_status, is_last, show_status};
-use crate::{Dispensed, Full, Job, NewError};
+use crate::{Dispensed, Full, Job, NewError, Settings};
 use circular_buffer::HeapCircularBuffer;
 use rdm_params::{Ask, Entry, Message, Work, Workers, worker_at};
 use std::alloc::Global;
 use std::marker::Model;
-
-/// The greatest number of jobs and messages together that an outbox may have room for.
-pub const MOST_WAITING: u16 = 1024;
-
-/// The greatest number of status entries that an outbox may have room for.
-pub const MOST_ENTRIES: u16 = 1024;
 
 /// What waits for a controller: the jobs of two workers, the messages that tell of their ends, and status entries.
 #[derive(Debug, Drop)]
@@ -64,74 +58,41 @@ impl Outbox {
     /// A `q` that isn't 1 to 1,024, or a `jobs` of 0, is rejected first, then comes out of memory. No later call takes
     /// memory.
     pub fn new(alloc: Global, q: u16, jobs: u32) -> Result<Self, NewError>
-        ensures shows { IfOk result (λ outbox. Shows outbox (account_before q jobs most_entries 0 usual_workers)) }
-        ensures bad_size { (result ≡ Err NewError.BadSize) ↔ (¬ IsOutboxSize q jobs) }
+        ensures shows { IfOk result (λ outbox. Shows outbox (account_before (usual_settings q jobs))) }
+        ensures bad_size { (result ≡ Err NewError.BadSize) ↔ (¬ IsGood (usual_settings q jobs)) }
     {
-        Outbox::with_entries(alloc, q, jobs, MOST_ENTRIES)
+        Outbox::with_settings(alloc, &Settings::usual(q, jobs))
     }
 
-    /// An outbox as of `new`, with room for that many status entries that weren't shown (E1.20 section 10.3.2). Each takes
-    /// 9 bytes.
+    /// An empty outbox with these settings.
     ///
-    /// A `q` that isn't 1 to 1,024, a `jobs` of 0, or an `entries` that isn't 1 to 1,024 is rejected first, then comes out of
-    /// memory. No later call takes memory.
-    pub fn with_entries(alloc: Global, q: u16, jobs: u32, entries: u16) -> Result<Self, NewError>
-        ensures shows { IfOk result (λ outbox. Shows outbox (account_before q jobs entries 0 usual_workers)) }
-        ensures bad_size { (result ≡ Err NewError.BadSize) ↔ (¬ (IsOutboxSize q jobs × IsListSize entries)) }
+    /// Sizes that an outbox can't have are rejected first, then comes out of memory. No later call takes memory.
+    pub fn with_settings(alloc: Global, settings: &Settings) -> Result<Self, NewError>
+        ensures shows { IfOk result (λ outbox. Shows outbox (account_before settings.now)) }
+        ensures bad_size { (result ≡ Err NewError.BadSize) ↔ (¬ IsGood settings.now) }
     {
-        Outbox::new_numbered(alloc, q, jobs, entries, 0)
-    }
-
-    /// An outbox as of `with_entries`, in which the first job of each worker has the number `first_job`: so that the jobs of
-    /// one outbox have other numbers than those of one before it. Those of `new` and `with_entries` begin at 0.
-    ///
-    /// It is rejected as `with_entries` says, whatever the number. No later call takes memory.
-    pub fn new_numbered(
-        alloc: Global,
-        q: u16,
-        jobs: u32,
-        entries: u16,
-        first_job: u32,
-    ) -> Result<Self, NewError>
-        ensures shows { IfOk result (λ outbox. Shows outbox (account_before q jobs entries first_job usual_workers)) }
-        ensures bad_size { (result ≡ Err NewError.BadSize) ↔ (¬ (IsOutboxSize q jobs × IsListSize entries)) }
-    {
-        Outbox::new_for(alloc, q, jobs, entries, first_job, Workers::usual())
-    }
-
-    /// An outbox as of `new_numbered`, whose jobs have these workers. That of `new_numbered` has the usual ones.
-    pub fn new_for(
-        alloc: Global,
-        q: u16,
-        jobs: u32,
-        entries: u16,
-        first_job: u32,
-        workers: Workers,
-    ) -> Result<Self, NewError>
-        ensures shows { IfOk result (λ outbox. Shows outbox (account_before q jobs entries first_job workers)) }
-        ensures bad_size { (result ≡ Err NewError.BadSize) ↔ (¬ (IsOutboxSize q jobs × IsListSize entries)) }
-    {
-        if q == 0 || q > MOST_WAITING || jobs == 0 || entries == 0 || entries > MOST_ENTRIES {
+        if !settings.is_good() {
             return Err(NewError::BadSize);
         }
-        let Ok(first) = HeapCircularBuffer::with_capacity(alloc, usize::from(q)) else {
+        let places = usize::from(settings.q);
+        let Ok(first) = HeapCircularBuffer::with_capacity(alloc, places) else {
             return Err(NewError::OutOfMemory);
         };
-        let Ok(second) = HeapCircularBuffer::with_capacity(alloc, usize::from(q)) else {
+        let Ok(second) = HeapCircularBuffer::with_capacity(alloc, places) else {
             return Err(NewError::OutOfMemory);
         };
-        let Ok(queue) = HeapCircularBuffer::with_capacity(alloc, usize::from(q)) else {
+        let Ok(queue) = HeapCircularBuffer::with_capacity(alloc, places) else {
             return Err(NewError::OutOfMemory);
         };
-        let Ok(unshown) = Vec::with_capacity(alloc, usize::from(entries)) else {
+        let Ok(unshown) = Vec::with_capacity(alloc, usize::from(settings.entries)) else {
             return Err(NewError::OutOfMemory);
         };
         Ok(Outbox {
-            q,
-            jobs,
-            entries,
-            first_job,
-            workers,
+            q: settings.q,
+            jobs: settings.jobs,
+            entries: settings.entries,
+            first_job: settings.first_job,
+            workers: settings.workers,
             first,
             second,
             first_given: 0,

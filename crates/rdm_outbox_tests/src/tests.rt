@@ -94,15 +94,23 @@ fn sizes_and_numbers(rt: HostRuntime) -> Result<(), Fail> {
         (0, 1, 2),
         (1, 0, 2),
     ] {
-        let refused = Outbox::with_entries(rt.alloc(), q, jobs, entries);
+        let settings = Settings {
+            entries,
+            ..Settings::usual(q, jobs)
+        };
+        let refused = Outbox::with_settings(rt.alloc(), &settings);
         assert!(rt;
             matches!(&refused, Err(NewError::BadSize)),
             "{q} {jobs} {entries}"
         );
     }
     for entries in [1, 2, 64, 1023, MOST_ENTRIES] {
+        let settings = Settings {
+            entries,
+            ..Settings::usual(1, 1)
+        };
         assert!(rt;
-            Outbox::with_entries(rt.alloc(), 1, 1, entries).is_ok(),
+            Outbox::with_settings(rt.alloc(), &settings).is_ok(),
             "{entries}"
         );
     }
@@ -125,7 +133,12 @@ fn numbers_begin_where_they_are_told_to(rt: HostRuntime) -> Result<(), Fail> {
         (0xFFFF_FFFE, [0xFFFF_FFFE, 0xFFFF_FFFF, 0]),
         (0xFFFF_FFFF, [0xFFFF_FFFF, 0, 1]),
     ] {
-        let mut outbox = Outbox::new_numbered(rt.alloc(), 8, 3, 1, first)
+        let settings = Settings {
+            entries: 1,
+            first_job: first,
+            ..Settings::usual(8, 3)
+        };
+        let mut outbox = Outbox::with_settings(rt.alloc(), &settings)
             .ok()
             .ok_or("a good size")?;
         for expected in numbers {
@@ -160,7 +173,14 @@ const TURNED: Workers = Workers {
 
 #[test]
 fn jobs_have_the_workers_of_the_choice(rt: HostRuntime) -> Result<(), Fail> {
-    let mut outbox = Outbox::new_for(rt.alloc(), 8, 3, 1, 5, TURNED)
+    let settings = Settings {
+        q: 8,
+        entries: 1,
+        jobs: 3,
+        first_job: 5,
+        workers: TURNED,
+    };
+    let mut outbox = Outbox::with_settings(rt.alloc(), &settings)
         .ok()
         .ok_or("a good size")?;
     assert_eq!(rt; number(&mut outbox, LAMP), Some(5));
@@ -332,7 +352,11 @@ fn at_most_1024_entries_are_kept(rt: HostRuntime) -> Result<(), Fail> {
 
 #[test]
 fn a_list_of_2_entries_drops_the_third(rt: HostRuntime) -> Result<(), Fail> {
-    let mut outbox = Outbox::with_entries(rt.alloc(), 1, 1, 2)
+    let settings = Settings {
+        entries: 2,
+        ..Settings::usual(1, 1)
+    };
+    let mut outbox = Outbox::with_settings(rt.alloc(), &settings)
         .ok()
         .ok_or("a good size")?;
     assert!(rt; outbox.note(entry(Severity::Error, 7)));

@@ -1,9 +1,9 @@
 -- What the rules of the demonstration give.
 use Rattle.std.proofs.Common.{◌≡◌, ℕ, ◌==◌, ◌&&◌, Bool, true, false, cond, List, [], ◌∷◌, map, Some, None, refl, sym, ap₂, ◌∙◌}
 use Rattle.std.specs.Prelude.{◌↔◌}
-use Rattle.rdm_params.specs.declared.jobs.outcome.Outcome.{Outcome}
-use Rattle.rdm_params.specs.declared.jobs.outcome.Outcome.TheVariants.{Failed}
-use Rattle.rdm_params.specs.declared.jobs.status.Severity.TheVariants.{Warning, Error}
+use Rattle.rdm_frame.specs.declared.status.Severity.TheVariants.{Warning, Error}
+use Rattle.rdm_commands.specs.declared.jobs.outcome.Outcome.{Outcome}
+use Rattle.rdm_commands.specs.declared.jobs.outcome.Outcome.TheVariants.{Failed}
 use Rattle.rdm_outbox.specs.declared.job.Job.{Job}
 use Rattle.rdm_outcomes.specs.declared.planned.Counted.{Counted}
 use Rattle.rdm_outcomes.specs.declared.rule.Rule.{Rule}

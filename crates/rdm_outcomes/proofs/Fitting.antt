@@ -3,15 +3,14 @@ use Rattle.std.proofs.Common.{◌≡◌, ℕ, ℤ, pos, ◌+◌, ◌==◌, ◌&&
 use Rattle.std.specs.List.{AllByRecursion}
 use Rattle.std.specs.Prelude.{find}
 use Rattle.std.proofs.lemmas.Bool.{and_parts, eqb-true}
-use Rattle.rdm_params.specs.declared.kind.Verb.{Verb}
-use Rattle.rdm_params.specs.declared.kind.Verb.TheVariants.{Get, Set}
-use Rattle.rdm_params.specs.declared.jobs.outcome.Outcome.{Outcome}
-use Rattle.rdm_params.specs.declared.jobs.outcome.Outcome.TheVariants.{Done, Reading, Failed}
-use Rattle.rdm_params.specs.Commands.Commands.{command_of}
+use Rattle.rdm_table.specs.declared.kind.Verb.{Verb}
+use Rattle.rdm_table.specs.declared.kind.Verb.TheVariants.{Get, Set}
+use Rattle.rdm_commands.specs.declared.jobs.outcome.Outcome.{Outcome}
+use Rattle.rdm_commands.specs.declared.jobs.outcome.Outcome.TheVariants.{Done, Reading, Failed}
+use Rattle.rdm_params.specs.Table.Rows.{command_of, Command, Row, table, row_of, row_in, command_in}
 use Rattle.rdm_params.specs.Jobs.Outcome.{ends, fits}
-use Rattle.rdm_params.specs.Table.Rows.{Command, Row, table, row_of, row_in, command_in}
 use Rattle.rdm_params.specs.Table.Uses.{is_slow}
-use Rattle.rdm_params.proofs.Rows.{found}
+use Rattle.rdm_table.proofs.Rows.{found}
 use Rattle.rdm_outbox.specs.declared.job.Job.{Job}
 use Rattle.rdm_outcomes.specs.declared.planned.Counted.{Counted}
 use Rattle.rdm_outcomes.specs.declared.rule.Rule.{Rule}

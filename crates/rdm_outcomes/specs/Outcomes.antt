@@ -1,10 +1,10 @@
 -- How jobs end by rules. E1.20 section 6.3.3 lets a responder take its time; what a job comes to is its device's to say.
 use Rattle.std.specs.Prelude.{◌≡◌, ℕ, suc, ◌+◌, ◌==◌, ◌&&◌, Bool, true, false, pos, List, map, find, count_by, nat_le, Option, Some, None, if◌then◌else◌}
 use Rattle.rdm_params.specs.Table.Kinds.{pid_of}
-use Rattle.rdm_params.specs.declared.kind.Kind.{Kind}
-use Rattle.rdm_params.specs.declared.kind.Kind.TheVariants as kinds
-use Rattle.rdm_params.specs.declared.jobs.outcome.Outcome.{Outcome}
-use Rattle.rdm_params.specs.declared.jobs.outcome.Outcome.TheVariants.{Done, Reading, Failed}
+use Rattle.rdm_table.specs.declared.kind.Kind.{Kind}
+use Rattle.rdm_table.specs.declared.kind.Kind.TheVariants as kinds
+use Rattle.rdm_commands.specs.declared.jobs.outcome.Outcome.{Outcome}
+use Rattle.rdm_commands.specs.declared.jobs.outcome.Outcome.TheVariants.{Done, Reading, Failed}
 use Rattle.rdm_outbox.specs.declared.job.Job.{Job}
 use Rattle.rdm_outcomes.specs.declared.rule.Rule.{Rule}
 use Rattle.rdm_outcomes.specs.declared.rule.Task.{Task}
@@ -71,7 +71,8 @@ counted_in before rule = record { rule = rule; seen = seen_in before rule }
 abbrev pub outcome_of : List Rule → List Job → Job → Outcome
 outcome_of rules before job = outcome_at (map (counted_in before) rules) job
 
--- How a job may end by rules, whatever was before.
+-- How a job may end by rules, however many jobs each rule has counted before: as the first one says that speaks of it then, and as usual
+-- if none does.
 abbrev pub CanEnd : List Rule → Job → Outcome → Type 0
 CanEnd rules job outcome = (counted : List Counted) × (map (λ c. c.rule) counted ≡ rules) × (outcome ≡ outcome_at counted job)
 

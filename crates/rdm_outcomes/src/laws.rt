@@ -1,8 +1,8 @@
 //! Laws of rules. Each is the contract of a call that does nothing.
 
 ghost use Rattle.std.specs.Prelude.{◌≡◌, ◌↔◌, List, true, IsTrue};
-ghost use Rattle.rdm_params.specs.declared.jobs.outcome.Outcome.{Outcome as TheOutcome};
-ghost use Rattle.rdm_params.specs.Commands.Commands.{command_of};
+ghost use Rattle.rdm_commands.specs.declared.jobs.outcome.Outcome.{Outcome as TheOutcome};
+ghost use Rattle.rdm_params.specs.Table.Rows.{command_of};
 ghost use Rattle.rdm_params.specs.Jobs.Outcome.{fits};
 ghost use Rattle.rdm_params.specs.Table.Uses.{is_slow};
 ghost use Rattle.rdm_outbox.specs.declared.job.Job.{Job as TheJob};

@@ -4,14 +4,12 @@ use Rattle.std.specs.Prelude.{filter, nat_le}
 use Rattle.std.specs.List.{list_any, list_all}
 use Rattle.std.specs.List.Sorted.{IsStrictlyIncreasing}
 use Rattle.std.proofs.lemmas.Bool.{le-leb, lt-leb, leb-true, cases_lt}
-use Rattle.rdm_device.specs.declared.profile.own.ParameterDef.{ParameterDef}
-use Rattle.rdm_device.specs.declared.profile.Profile.{Profile}
-use Rattle.rdm_device.specs.Columns.Added.{has_makers_pid}
-use Rattle.rdm_device.specs.Device.OwnParameters.{is_addable}
-use Rattle.rdm_device.specs.Device.Profiles.{IsGoodProfile}
-use Rattle.rdm_params.specs.Table.Rows.{added_rows, is_left_out, supported_pids, table_pids, with_pid, with_pids}
-use Rattle.rdm_params.proofs.Bools.{both_true}
-use Rattle.rdm_params.proofs.Supported.{with_first}
+use Rattle.rdm_profile.specs.declared.profile.own.ParameterDef.{ParameterDef}
+use Rattle.rdm_profile.specs.declared.profile.Profile.{Profile}
+use Rattle.rdm_profile.specs.OwnParameters.{is_addable}
+use Rattle.rdm_profile.specs.Profiles.{IsGoodProfile}
+use Rattle.rdm_table.specs.Table.Rows.{is_left_out, supported_pids, table_pids, with_pid, with_pids}
+use Rattle.rdm_table.proofs.Bools.{both_true}
 
 -- ---- lists that ascend
 
@@ -121,20 +119,13 @@ put_all (n ∷ ns) xs h differ apart =
 abbrev pid_of : ParameterDef → ℕ
 pid_of d = d.pid
 
--- PARAMETER_DESCRIPTION's PID, or one that a parameter of the maker's own can have: none of the table
-abbrev is_new : ℕ → Bool
-is_new pid = (pid == 0x0051) || is_addable pid
-
-or_right : (a b : Bool) → b ≡ true → (a || b) ≡ true
-or_right true b e = refl
-or_right false b e = e
-
 table_rises : (is_root : Bool) → RisesFrom 0 (table_pids is_root)
 unfolding table_pids
 table_rises true = by_test 0 (table_pids true) refl
 table_rises false = by_test 0 (table_pids false) refl
 
-none_new : list_all (λ pid. not (is_new pid)) (table_pids true) ≡ true
+-- the table has none of the PIDs that a parameter of the maker's own can have
+none_new : list_all (λ pid. not (is_addable pid)) (table_pids true) ≡ true
 unfolding table_pids
 none_new = refl
 
@@ -153,37 +144,15 @@ own_apart : (ds : List ParameterDef) (p : ℕ → Bool) → All (λ d. IsTrue (i
 own_apart [] p all = tt
 own_apart (d ∷ ds) p all =
     let free : is_addable d.pid ≡ true = all 0 d (omega arith) in
-    (some_apart p d.pid (table_pids true) (apart_by is_new (table_pids true) d.pid none_new (or_right (d.pid == 0x0051) (is_addable d.pid) free)), own_apart ds p (λ k e within. all (suc k) e (omega arith)))
-
-not_free : (pid : ℕ) → is_addable pid ≡ true → 0x0051 ≢ pid
-not_free pid free e = let wrong : is_addable 0x0051 ≡ true = ap is_addable e ∙ free in absurd cc
-
-description_apart : (ds : List ParameterDef) → All (λ d. IsTrue (is_addable d.pid)) ds → Apart 0x0051 (map pid_of ds)
-description_apart [] all = tt
-description_apart (d ∷ ds) all =
-    let free : is_addable d.pid ≡ true = all 0 d (omega arith) in
-    (not_free d.pid free, description_apart ds (λ k e within. all (suc k) e (omega arith)))
+    (some_apart p d.pid (table_pids true) (apart_by is_addable (table_pids true) d.pid none_new free), own_apart ds p (λ k e within. all (suc k) e (omega arith)))
 
 -- ---- the whole
 
-mid_rises : (makers : Bool) (old : List ℕ) → RisesFrom 0 old → Apart 0x0051 old → RisesFrom 0 (cond makers (with_pid 0x0051 old) old)
-mid_rises true old h apart = put 0 0x0051 old h (omega arith) apart
-mid_rises false old h apart = h
-
-mid_apart : (makers : Bool) (ns old : List ℕ) → Apart 0x0051 ns → AllApart ns old → AllApart ns (cond makers (with_pid 0x0051 old) old)
-mid_apart true ns old differ apart = put_all_apart ns 0x0051 old differ apart
-mid_apart false ns old differ apart = apart
-
 pub ascend : (p : Profile) (is_root : Bool) → IsGoodProfile p → IsStrictlyIncreasing (supported_pids p is_root)
-unfolding supported_pids added_rows
+unfolding supported_pids
 ascend p true good =
     let stays : ℕ → Bool = λ pid. not (is_left_out p pid) in
-    let makers : Bool = list_any has_makers_pid p.particulars.own in
-    let old : List ℕ = filter stays (table_pids true) in
-    let own = good.own in
-    let rise : RisesFrom 0 old = some_rise stays 0 (table_pids true) (table_rises true) in
-    let free : Apart 0x0051 old = some_apart stays 0x0051 (table_pids true) (apart_by is_new (table_pids true) 0x0051 none_new refl) in
-    let mid : List ℕ = cond makers (with_pid 0x0051 old) old in
-    let apart = mid_apart makers (map pid_of p.particulars.own) old (description_apart p.particulars.own own.pids.0) (own_apart p.particulars.own stays own.pids.0) in
-    subst IsStrictlyIncreasing (sym (with_first makers p.particulars.own old)) (increasing 0 (with_pids (map pid_of p.particulars.own) mid) (put_all (map pid_of p.particulars.own) mid (mid_rises makers old rise free) (own_differ p.particulars.own own.ascending) apart))
+    let own : List ParameterDef = p.particulars.own in
+    let rise : RisesFrom 0 (filter stays (table_pids true)) = some_rise stays 0 (table_pids true) (table_rises true) in
+    increasing 0 (supported_pids p true) (put_all (map pid_of own) (filter stays (table_pids true)) rise (own_differ own good.own.ascending) (own_apart own stays good.own.pids.0))
 ascend p false good = increasing 0 (supported_pids p false) (some_rise (λ pid. not (is_left_out p pid)) 0 (table_pids false) (table_rises false))

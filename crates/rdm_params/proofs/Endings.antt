@@ -3,30 +3,30 @@ use Rattle.std.proofs.Common.{◌≡◌, ◌≢◌, ℕ, ℤ, ◌==◌, ◌&&◌
 use Rattle.std.specs.Prelude.{not, ◌||◌}
 use Rattle.std.specs.List.{list_all, list_any, AllByRecursion}
 use Rattle.std.proofs.lemmas.Bool.{eqb-true, ne_eqb}
-use Rattle.rdm_params.specs.declared.kind.Verb.{Verb}
-use Rattle.rdm_params.specs.declared.kind.Verb.TheVariants.{Get, Set}
-use Rattle.rdm_params.specs.declared.panel.Change.{Change}
-use Rattle.rdm_params.specs.declared.panel.Change.TheVariants as changes
-use Rattle.rdm_params.specs.declared.jobs.outcome.Outcome.{Outcome}
-use Rattle.rdm_params.specs.declared.jobs.outcome.Outcome.TheVariants.{Done, Reading, Failed}
-use Rattle.rdm_params.specs.declared.jobs.work.Work.{Work}
-use Rattle.rdm_device.specs.declared.profile.Profile.{Profile}
-use Rattle.rdm_device.specs.declared.value.Value.{Value}
-use Rattle.rdm_device.specs.declared.value.Value.TheVariants.{Byte}
-use Rattle.rdm_params.specs.Commands.Commands.{command_of, carried_out, is_all_call}
-use Rattle.rdm_params.specs.Commands.Panel.{after_change, can_change, changed_pid, changed_value}
+use Rattle.rdm_table.specs.declared.kind.Verb.{Verb}
+use Rattle.rdm_table.specs.declared.kind.Verb.TheVariants.{Get, Set}
+use Rattle.rdm_commands.specs.declared.panel.Change.{Change}
+use Rattle.rdm_commands.specs.declared.panel.Change.TheVariants as changes
+use Rattle.rdm_commands.specs.declared.jobs.outcome.Outcome.{Outcome}
+use Rattle.rdm_commands.specs.declared.jobs.outcome.Outcome.TheVariants.{Done, Reading, Failed}
+use Rattle.rdm_commands.specs.declared.jobs.work.Work.{Work}
+use Rattle.rdm_profile.specs.declared.profile.Profile.{Profile}
+use Rattle.rdm_profile.specs.declared.value.Value.{Value}
+use Rattle.rdm_profile.specs.declared.value.Value.TheVariants.{Byte}
+use Rattle.rdm_table.specs.Table.Rows.{command_of, Row, table, row_of, row_in, command_in}
+use Rattle.rdm_commands.specs.Commands.Commands.{carried_out, is_all_call}
+use Rattle.rdm_commands.specs.Commands.Panel.{after_change, can_change, changed_pid, changed_value}
 use Rattle.rdm_params.specs.Laws.{keys_of_row, keys_committed, SameAt, IsSameBut, CommitChangesItsKey, CommitChangesItsKeys, ReadingChangesItsSensor, CommitLeavesTheRest, FailedChangesNothing, PanelChangesItsKey, PanelLeavesTheRest}
-use Rattle.rdm_params.specs.Jobs.Commit.{after_commit}
-use Rattle.rdm_params.specs.Jobs.Outcome.{ends}
-use Rattle.rdm_device.specs.Device.Map.{Entry, lookup, update}
+use Rattle.rdm_commands.specs.Jobs.Commit.{after_commit}
+use Rattle.rdm_commands.specs.Jobs.Outcome.{ends}
+use Rattle.rdm_added.specs.Map.{Entry, lookup, update}
 use Rattle.rdm_device.specs.Device.Measuring.{measured, measured_by}
-use Rattle.rdm_device.specs.Device.Parameters.{Parameters}
-use Rattle.rdm_params.specs.Table.Rows.{Row, table, row_of, row_in, command_in}
-use Rattle.rdm_params.specs.Table.Uses.{is_slow}
-use Rattle.rdm_params.proofs.Bools.{both_true, is_not}
+use Rattle.rdm_added.specs.Parameters.{Parameters}
+use Rattle.rdm_table.specs.Table.Uses.{is_slow}
+use Rattle.rdm_table.proofs.Bools.{both_true, is_not, not_either}
 use Rattle.rdm_params.proofs.OtherDevices.{unchanged, carried}
-use Rattle.rdm_params.proofs.OwnKeys.{Keeps, IsApart, lookup-update, not_either, carried_keeps, of_table, apart_test}
-use Rattle.rdm_params.proofs.Rows.{found}
+use Rattle.rdm_params.proofs.OwnKeys.{Keeps, IsApart, lookup-update, carried_keeps, of_table, apart_test}
+use Rattle.rdm_table.proofs.Rows.{found}
 
 same : (p : Parameters) (key index : ℕ) → SameAt key index p p
 same p key index = record { root = refl; added = refl; subs = λ k. refl }

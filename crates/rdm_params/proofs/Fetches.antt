@@ -3,30 +3,30 @@ use Rattle.std.proofs.Common.{◌≡◌, ◌≢◌, ℕ, zero, suc, ◌==◌, �
 use Rattle.std.specs.Prelude.{nat_le}
 use Rattle.std.specs.List.{list_all}
 use Rattle.std.proofs.lemmas.Bool.{ne_eqb}
-use Rattle.rdm_params.specs.declared.kind.Verb.{Verb}
-use Rattle.rdm_params.specs.declared.kind.Verb.TheVariants.{Get, Set}
-use Rattle.rdm_params.specs.declared.nack.Nack.{Nack}
-use Rattle.rdm_params.specs.declared.nack.Nack.TheVariants.{FormatError, DataOutOfRange, SubDeviceOutOfRange}
-use Rattle.rdm_params.specs.declared.jobs.ask.Ask.{Ask}
-use Rattle.rdm_params.specs.declared.jobs.ask.Ask.TheVariants as asks
-use Rattle.rdm_params.specs.declared.jobs.way.Way.{Way}
-use Rattle.rdm_params.specs.declared.jobs.way.Way.TheVariants.{AtOnce, ByJob, FromQueue, FromStatus, Clears}
-use Rattle.rdm_params.specs.declared.jobs.work.Work.{Work}
-use Rattle.rdm_device.specs.declared.profile.Profile.{Profile}
-use Rattle.rdm_device.specs.declared.value.Value.{Value}
-use Rattle.rdm_device.specs.declared.value.Value.TheVariants.{Byte}
-use Rattle.rdm_params.specs.declared.verdict.Verdict.{Verdict}
-use Rattle.rdm_params.specs.declared.verdict.Verdict.TheVariants.{Start, Queue, Status, Clear}
-use Rattle.rdm_params.specs.Commands.Commands.{command_at, accepted, addressed, answered, verdict, work, known, unprotected, suits, check, is_some_device, is_block, block_told, block_taken, block_answer, got, got_by_row, answer_to_set, answer_by_row, after_by_row, reply_at, ◌>>=◌}
-use Rattle.rdm_device.specs.Columns.Forms.{byte}
-use Rattle.rdm_device.specs.Device.Parameters.{Parameters}
+use Rattle.rdm_frame.specs.declared.nack.Nack.{Nack}
+use Rattle.rdm_frame.specs.declared.nack.Nack.TheVariants.{FormatError, DataOutOfRange, SubDeviceOutOfRange}
+use Rattle.rdm_table.specs.declared.kind.Verb.{Verb}
+use Rattle.rdm_table.specs.declared.kind.Verb.TheVariants.{Get, Set}
+use Rattle.rdm_commands.specs.declared.jobs.ask.Ask.{Ask}
+use Rattle.rdm_commands.specs.declared.jobs.ask.Ask.TheVariants as asks
+use Rattle.rdm_table.specs.declared.way.Way.{Way}
+use Rattle.rdm_table.specs.declared.way.Way.TheVariants.{AtOnce, ByJob, FromQueue, FromStatus, Clears}
+use Rattle.rdm_commands.specs.declared.jobs.work.Work.{Work}
+use Rattle.rdm_profile.specs.declared.profile.Profile.{Profile}
+use Rattle.rdm_profile.specs.declared.value.Value.{Value}
+use Rattle.rdm_profile.specs.declared.value.Value.TheVariants.{Byte}
+use Rattle.rdm_commands.specs.declared.verdict.Verdict.{Verdict}
+use Rattle.rdm_commands.specs.declared.verdict.Verdict.TheVariants.{Start, Queue, Status, Clear}
+use Rattle.rdm_commands.specs.Commands.Commands.{command_at, accepted, addressed, answered, verdict, work, known, unprotected, suits, check, is_some_device, is_block, block_told, block_taken, block_answer, got, got_by_row, answer_to_set, answer_by_row, after_by_row, reply_at, ◌>>=◌}
+use Rattle.rdm_profile.specs.Forms.{byte}
+use Rattle.rdm_added.specs.Parameters.{Parameters}
 use Rattle.rdm_device.specs.Columns.Ranges.{a_message_type}
-use Rattle.rdm_params.specs.Jobs.Asks.{ask_of}
+use Rattle.rdm_commands.specs.Jobs.Asks.{ask_of}
 use Rattle.rdm_params.specs.Jobs.Laws.{IsWorkOf, GetStartsItsWork, SetStartsItsWork, GetQueues, GetStatuses, SetFetchesNothing, SetClears, GetClearsNothing}
-use Rattle.rdm_device.specs.Device.Spot.{Spot}
-use Rattle.rdm_params.specs.Table.Rows.{Command, Row, row_at}
-use Rattle.rdm_params.specs.Table.Uses.{read_as, read, way_of, way_at, way_here, needs_no_job, is_by_job, is_slow, in_range_of}
-use Rattle.rdm_device.specs.Device.Values.{byte_or_0}
+use Rattle.rdm_added.specs.Spot.{Spot}
+use Rattle.rdm_table.specs.Table.Rows.{Command, Row, row_at}
+use Rattle.rdm_table.specs.Table.Uses.{read_as, read, way_of, way_at, way_here, needs_no_job, is_by_job, is_slow, in_range_of}
+use Rattle.rdm_profile.specs.Values.{byte_or_0}
 use Rattle.rdm_params.proofs.RowFacts.{FactsOfWay, Facts, facts_at, slow_at}
 
 -- ---- what an answer says of the way

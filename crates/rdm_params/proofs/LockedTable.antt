@@ -1,7 +1,7 @@
 -- The parameters of the table that a lock can hold.
 use Rattle.std.proofs.Common.{refl}
 use Rattle.rdm_params.specs.Laws.{LocksKnowTheTable}
-use Rattle.rdm_params.specs.Table.Rows.{table}
+use Rattle.rdm_table.specs.Table.Rows.{table}
 
 pub locks_know_the_table : LocksKnowTheTable
 unfolding table

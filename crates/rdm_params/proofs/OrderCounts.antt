@@ -3,24 +3,24 @@ use Rattle.std.proofs.Common.{◌≡◌, ℕ, ◌==◌, not, Bool, true, false, 
 use Rattle.std.specs.Prelude.{is_some}
 use Rattle.std.specs.List.{list_any}
 use Rattle.std.specs.Option.{option_map_or}
-use Rattle.rdm_params.specs.declared.kind.Verb.TheVariants.{Set}
-use Rattle.rdm_params.specs.declared.nack.Nack.{Nack}
-use Rattle.rdm_params.specs.declared.jobs.outcome.Outcome.TheVariants.{Done, Reading, Failed}
-use Rattle.rdm_device.specs.declared.profile.own.ParameterDef.{ParameterDef}
-use Rattle.rdm_device.specs.declared.value.Value.{Value}
-use Rattle.rdm_device.specs.declared.value.Value.TheVariants.{Byte}
-use Rattle.rdm_device.specs.Columns.Added.{placed_form, placed_stored}
-use Rattle.rdm_device.specs.Columns.Forms.{value_of}
-use Rattle.rdm_device.specs.Device.Map.{has_key, update}
+use Rattle.rdm_frame.specs.declared.nack.Nack.{Nack}
+use Rattle.rdm_table.specs.declared.kind.Verb.TheVariants.{Set}
+use Rattle.rdm_commands.specs.declared.jobs.outcome.Outcome.TheVariants.{Done, Reading, Failed}
+use Rattle.rdm_profile.specs.declared.profile.own.ParameterDef.{ParameterDef}
+use Rattle.rdm_profile.specs.declared.value.Value.{Value}
+use Rattle.rdm_profile.specs.declared.value.Value.TheVariants.{Byte}
+use Rattle.rdm_added.specs.Added.{placed_form, placed_stored}
+use Rattle.rdm_profile.specs.Forms.{value_of}
+use Rattle.rdm_added.specs.Map.{has_key, update}
 use Rattle.rdm_device.specs.Device.Measuring.{placed_by}
-use Rattle.rdm_device.specs.Device.Parameters.{Parameters}
-use Rattle.rdm_params.specs.Commands.Commands.{command_of, carried_out, is_all_call, root_spot}
-use Rattle.rdm_params.specs.Commands.Panel.{changed_pid, changed_value, can_change, after_change}
-use Rattle.rdm_params.specs.Commands.Placing.{place_refusal, after_value, after_place, has_set, own_at, own_placed}
-use Rattle.rdm_params.specs.Jobs.Commit.{after_commit}
+use Rattle.rdm_added.specs.Parameters.{Parameters}
+use Rattle.rdm_table.specs.Table.Rows.{command_of, Command}
+use Rattle.rdm_commands.specs.Commands.Commands.{carried_out, is_all_call, root_spot}
+use Rattle.rdm_commands.specs.Commands.Panel.{changed_pid, changed_value, can_change, after_change}
+use Rattle.rdm_commands.specs.Commands.Placing.{place_refusal, after_value, after_place, has_set, own_at, own_placed}
+use Rattle.rdm_commands.specs.Jobs.Commit.{after_commit}
 use Rattle.rdm_params.specs.Laws.{is_counted, CountsStayPlaced, CountsStayCommitted, CountsStayChanged}
-use Rattle.rdm_params.specs.Table.Rows.{Command}
-use Rattle.rdm_params.specs.Table.Uses.{read, keeps}
+use Rattle.rdm_table.specs.Table.Uses.{read, keeps}
 use Rattle.rdm_params.proofs.Orders.{update_counts, stays_at}
 
 carried_counts : (p : Parameters) (sub order : ℕ) (command : Option Command) (v : Value) → is_counted (carried_out p sub command v) order ≡ is_counted p order

@@ -6,26 +6,25 @@ use Rattle.std.proofs.Math.Nat.{mod-lt, mod-eq_of_lt}
 use Rattle.std.proofs.lemmas.Bool.{cases_lt, eq-eqb, eqb-true, ne_eqb}
 use Rattle.std.proofs.lemmas.List.Elements.{All-from_recursion}
 use Rattle.std.proofs.lemmas.List.Folds.{list_any-append}
-use Rattle.rdm_params.specs.declared.kind.Verb.TheVariants.{Set}
-use Rattle.rdm_params.specs.declared.nack.Nack.{Nack}
-use Rattle.rdm_params.specs.declared.verdict.Verdict.TheVariants.{Reply}
-use Rattle.rdm_device.specs.declared.profile.own.ParameterDef.{ParameterDef}
-use Rattle.rdm_device.specs.declared.profile.own.Rights.{Rights}
-use Rattle.rdm_device.specs.declared.profile.own.Rights.TheVariants as rights
-use Rattle.rdm_device.specs.declared.value.Value.{Value}
-use Rattle.rdm_device.specs.Columns.Added.{counted, bytes_ordered, order_stored, set_form, set_range, stored_by}
-use Rattle.rdm_device.specs.Columns.Scenes.{scenes_by}
-use Rattle.rdm_device.specs.Device.Map.{Entry, entry, has_key, lookup, update}
-use Rattle.rdm_device.specs.Device.OwnParameters.{has_set, is_order}
-use Rattle.rdm_device.specs.Device.Parameters.{Parameters, kept_at_start, added_at_start, parameters_of}
-use Rattle.rdm_device.specs.Device.Spot.{Spot}
-use Rattle.rdm_params.specs.Commands.Commands.{command_at, accepted, after_by_row, after_accepted, answer_by_row, is_block, carried_out, is_all_call, root_spot, sub_spot, verdict, written, added_written}
+use Rattle.rdm_frame.specs.declared.nack.Nack.{Nack}
+use Rattle.rdm_table.specs.declared.kind.Verb.TheVariants.{Set}
+use Rattle.rdm_commands.specs.declared.verdict.Verdict.TheVariants.{Reply}
+use Rattle.rdm_profile.specs.declared.profile.own.ParameterDef.{ParameterDef}
+use Rattle.rdm_profile.specs.declared.profile.own.Rights.{Rights}
+use Rattle.rdm_profile.specs.declared.profile.own.Rights.TheVariants as rights
+use Rattle.rdm_profile.specs.declared.value.Value.{Value}
+use Rattle.rdm_added.specs.Added.{counted, bytes_ordered, order_stored, set_form, set_range, stored_by}
+use Rattle.rdm_added.specs.Scenes.{scenes_by}
+use Rattle.rdm_added.specs.Map.{Entry, entry, has_key, lookup, update}
+use Rattle.rdm_profile.specs.OwnParameters.{has_set, is_order}
+use Rattle.rdm_added.specs.Parameters.{Parameters, kept_at_start, added_at_start, parameters_of}
+use Rattle.rdm_added.specs.Spot.{Spot}
+use Rattle.rdm_commands.specs.Commands.Commands.{command_at, accepted, after_by_row, after_accepted, answer_by_row, is_block, carried_out, is_all_call, root_spot, sub_spot, verdict}
+use Rattle.rdm_table.specs.Table.Uses.{written, added_written, added_change, is_slow}
 use Rattle.rdm_params.specs.Laws.{is_counted, OrdersAreTold, OrdersAreCounted, CountsStay}
-use Rattle.rdm_params.specs.Table.Rows.{Command, Row, row_at, added_row, takes_added, command_in}
-use Rattle.rdm_params.specs.Table.Uses.{added_change, is_slow}
-use Rattle.rdm_device.specs.Device.Standards.{may_have, is_shown, is_only_standards, is_of_standards, follows_at, follows}
-use Rattle.rdm_device.specs.Device.Standards.{is_block as is_block_shape}
-use Rattle.rdm_params.proofs.BlockRows.{row_after, row_answer, after_either}
+use Rattle.rdm_table.specs.Table.Rows.{Command, Row, row_at, added_row, takes_added, command_in}
+use Rattle.rdm_profile.specs.Standards.{may_have, is_shown, is_only_standards, is_of_standards, follows_at, follows, is_block as is_block_shape}
+use Rattle.rdm_commands.proofs.BlockRows.{row_after, row_answer, after_either}
 
 -- ---- the next count is another
 

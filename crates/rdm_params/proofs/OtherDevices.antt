@@ -3,16 +3,16 @@ use Rattle.std.proofs.Common.{◌≡◌, ◌≢◌, ℕ, zero, suc, ◌-◌, ◌
 use Rattle.std.specs.Prelude.{slice_index_or, slice_set}
 use Rattle.std.proofs.lemmas.Bool.{eqb-true, eqb-false}
 use Rattle.std.proofs.lemmas.List.{length-map}
-use Rattle.rdm_params.specs.declared.kind.Verb.TheVariants.{Set}
-use Rattle.rdm_params.specs.declared.nack.Nack.{Nack}
-use Rattle.rdm_device.specs.declared.value.Value.{Value}
-use Rattle.rdm_params.specs.Commands.Commands.{command_at, accepted, after_set, after_by_row, after_accepted, is_block, block_taken, block_moved, carried_out, written, added_written, root_spot, sub_spot}
+use Rattle.rdm_frame.specs.declared.nack.Nack.{Nack}
+use Rattle.rdm_table.specs.declared.kind.Verb.TheVariants.{Set}
+use Rattle.rdm_profile.specs.declared.value.Value.{Value}
+use Rattle.rdm_commands.specs.Commands.Commands.{command_at, accepted, after_set, after_by_row, after_accepted, is_block, block_taken, block_moved, carried_out, root_spot, sub_spot}
+use Rattle.rdm_table.specs.Table.Uses.{written, added_written, is_slow}
 use Rattle.rdm_params.specs.Laws.{IsSameBut, LeavesTheRest}
-use Rattle.rdm_device.specs.Device.Map.{Entry}
-use Rattle.rdm_device.specs.Device.Parameters.{Parameters}
-use Rattle.rdm_params.specs.Table.Rows.{Command}
-use Rattle.rdm_params.specs.Table.Uses.{is_slow}
-use Rattle.rdm_params.proofs.BlockRows.{as_many}
+use Rattle.rdm_added.specs.Map.{Entry}
+use Rattle.rdm_added.specs.Parameters.{Parameters}
+use Rattle.rdm_table.specs.Table.Rows.{Command}
+use Rattle.rdm_commands.proofs.BlockRows.{as_many}
 
 as_many_set : (subs : List (List Entry)) (i : ℕ) (new : List Entry) → length (slice_set subs i new) ≡ length subs
 as_many_set [] i new = refl

@@ -4,33 +4,34 @@ use Rattle.std.specs.Prelude.{filter, find, slice_index_or, slice_set}
 use Rattle.std.specs.Option.{option_map_or}
 use Rattle.std.specs.List.{list_any, AllByRecursion}
 use Rattle.std.proofs.lemmas.Bool.{eqb-true, eqb-false, ne_eqb}
-use Rattle.rdm_params.specs.declared.kind.Verb.TheVariants.{Set}
-use Rattle.rdm_params.specs.declared.nack.Nack.{Nack}
-use Rattle.rdm_device.specs.declared.value.Value.{Value}
+use Rattle.rdm_frame.specs.declared.nack.Nack.{Nack}
+use Rattle.rdm_table.specs.declared.kind.Verb.TheVariants.{Set}
+use Rattle.rdm_profile.specs.declared.value.Value.{Value}
 use Rattle.rdm_device.specs.Columns.Changes.{stored_at, set_back, sensor_change, reset, record_present}
-use Rattle.rdm_params.specs.Commands.Commands.{command_of, command_at, accepted, after_by_row, after_accepted, is_block, carried_out, written, added_written, root_spot, sub_spot, is_all_call}
-use Rattle.rdm_params.specs.Commands.Added.{row_here}
-use Rattle.rdm_device.specs.Columns.Forms.{Form, byte, word, long, preset, label, has_form}
+use Rattle.rdm_table.specs.Table.Rows.{command_of, Command, Row, table, row_of, row_in, is_left_out, added_rows, takes_added, command_in}
+use Rattle.rdm_commands.specs.Commands.Commands.{command_at, accepted, after_by_row, after_accepted, is_block, carried_out, root_spot, sub_spot, is_all_call}
+use Rattle.rdm_table.specs.Table.Uses.{written, added_written, is_slow, change, added_change}
+use Rattle.rdm_commands.specs.Commands.Added.{row_here}
+use Rattle.rdm_profile.specs.Forms.{Form, byte, word, long, preset, label, has_form}
 use Rattle.rdm_params.specs.Laws.{keys_written, keys_of_row, SameAt, ChangesItsKeys}
-use Rattle.rdm_device.specs.Device.Map.{Entry, has_key, lookup, update}
-use Rattle.rdm_device.specs.Device.Parameters.{Parameters}
+use Rattle.rdm_added.specs.Locking.{locks_in, lock_state}
+use Rattle.rdm_added.specs.Map.{Entry, has_key, lookup, update}
+use Rattle.rdm_added.specs.Parameters.{Parameters}
 use Rattle.rdm_device.specs.Columns.Replies.{factory_pids, reset_pids}
 use Rattle.rdm_device.specs.Device.Blocks.{started_from}
-use Rattle.rdm_device.specs.Device.Spot.{Spot, footprint}
-use Rattle.rdm_device.specs.declared.value.Value.TheVariants.{Word}
-use Rattle.rdm_params.specs.Table.Rows.{Command, Row, table, row_of, row_in, is_left_out, added_rows, takes_added, command_in}
-use Rattle.rdm_params.specs.Table.Uses.{is_slow, change, added_change}
-use Rattle.rdm_device.specs.Device.Values.{bytes_of, byte_or_0}
-use Rattle.rdm_device.specs.declared.profile.own.ParameterDef.{ParameterDef}
-use Rattle.rdm_device.specs.declared.profile.Profile.{Profile}
-use Rattle.rdm_device.specs.Columns.Added.{counted, index_kept, bytes_kept, bytes_ordered, set_form, set_range, stored_by, own_stored, added_set_back, start_in}
-use Rattle.rdm_device.specs.declared.profile.own.Rights.{Rights}
-use Rattle.rdm_device.specs.declared.profile.own.Rights.TheVariants as rights
-use Rattle.rdm_device.specs.Device.OwnParameters.{has_set}
-use Rattle.rdm_params.proofs.AddedRows.{row_has, added_have, here_is}
-use Rattle.rdm_params.proofs.BlockRows.{after_either}
-use Rattle.rdm_params.proofs.Bools.{both_true}
-use Rattle.rdm_params.proofs.Rows.{found}
+use Rattle.rdm_added.specs.Spot.{Spot, footprint}
+use Rattle.rdm_profile.specs.declared.value.Value.TheVariants.{Word}
+use Rattle.rdm_profile.specs.Values.{bytes_of, byte_or_0}
+use Rattle.rdm_profile.specs.declared.profile.own.ParameterDef.{ParameterDef}
+use Rattle.rdm_profile.specs.declared.profile.Profile.{Profile}
+use Rattle.rdm_added.specs.Added.{counted, no_counts, index_kept, bytes_kept, bytes_ordered, set_form, set_range, stored_by, own_stored, added_set_back, start_in}
+use Rattle.rdm_profile.specs.declared.profile.own.Rights.{Rights}
+use Rattle.rdm_profile.specs.declared.profile.own.Rights.TheVariants as rights
+use Rattle.rdm_profile.specs.OwnParameters.{has_set}
+use Rattle.rdm_commands.proofs.AddedRows.{row_has, added_have, here_is}
+use Rattle.rdm_commands.proofs.BlockRows.{after_either}
+use Rattle.rdm_table.proofs.Bools.{both_true, not_either}
+use Rattle.rdm_table.proofs.Rows.{found}
 
 -- ---- changes and lookups
 
@@ -58,10 +59,6 @@ OnlyItsKeys r = (spot : Spot) (v : Value) (key : ℕ) → IsApart spot.profile r
 either_not : (a b : Bool) → a ≡ false → b ≡ false → (a || b) ≡ false
 either_not true b e f = e
 either_not false b e f = f
-
-pub not_either : (a b : Bool) → (a || b) ≡ false → (a ≡ false) × (b ≡ false)
-not_either true b h = absurd cc
-not_either false b h = (refl, h)
 
 -- a key that isn't this PID
 pub apart_test : (pid key n : ℕ) → (pid == key) ≡ false → n ≡ key → (n == pid) ≡ false
@@ -121,9 +118,17 @@ either_is : (here : Bool) (x y : List ℕ) → x ≡ y → cond here x y ≡ y
 either_is true x y e = e
 either_is false x y e = refl
 
+either_stays : (locked : Bool) (x y : List ℕ) → y ≡ x → cond locked x y ≡ x
+either_stays true x y e = refl
+either_stays false x y e = e
+
 added_back : (spot : Spot) (v : Value) (key : ℕ) → list_any (λ k. k == key) (factory_pids ++ reset_pids spot.profile.particulars.own) ≡ false → Keeps key (added_set_back spot v)
 added_back spot v key apart e at =
+    let back : List ℕ = cond (e.index == 0) (start_in spot.profile.particulars.own e.pid e.bytes) e.bytes in
+    let stays : back ≡ e.bytes =
     either_is (e.index == 0) (start_in spot.profile.particulars.own e.pid e.bytes) e.bytes (ap (λ (found : Option ParameterDef). option_map_or (λ (d : ParameterDef). d.start) found e.bytes) (none_reset spot.profile.particulars.own key e.pid (none_either key factory_pids (reset_pids spot.profile.particulars.own) apart).1 at))
+    in
+    either_stays (locks_in spot.profile.particulars.locks (lock_state spot.added) e.pid) e.bytes back stays
 
 idle : (pid : ℕ) (spot : Spot) (v : Value) (key : ℕ) → IsApart spot.profile pid key → Keeps key (λ e. e.bytes)
 idle pid spot v key apart e at = refl
@@ -206,7 +211,7 @@ one_stored rights.Set d spot v key apart e at =
     no_store (e.pid == d.pid) (e.index == 0) (bytes_ordered d.shape v) (cond (has_key d.pid 1 e) (counted (lookup spot.added d.pid 1)) e.bytes) (apart_test d.pid key e.pid apart at)
     ∙ no_store (e.pid == d.pid) (e.index == 1) (counted (lookup spot.added d.pid 1)) e.bytes (apart_test d.pid key e.pid apart at)
 one_stored rights.Both d spot v key apart e at = no_store (e.pid == d.pid) (e.index == index_kept d.shape v) (bytes_kept d.shape v) e.bytes (apart_test d.pid key e.pid apart at)
-one_stored rights.Clear d spot v key apart e at = no_store (e.pid == d.pid) (e.index == 0) d.start e.bytes (apart_test d.pid key e.pid apart at)
+one_stored rights.Clear d spot v key apart e at = no_store (e.pid == d.pid) (e.index == 0) no_counts e.bytes (apart_test d.pid key e.pid apart at)
 
 one_added : (d : ParameterDef) (set : Bool) (spot : Spot) (v : Value) (key : ℕ) → (d.pid == key) ≡ false → Keeps key (added_change (cond set (takes_added (set_form d) (set_range d) (own_stored d) d.pid) None) spot v)
 one_added d true spot v key apart e at = one_stored d.rights d spot v key apart e at

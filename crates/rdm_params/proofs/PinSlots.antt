@@ -8,30 +8,31 @@ use Rattle.std.proofs.lemmas.Bool.{eqb-true, ne_eqb, eq-eqb}
 use Rattle.std.proofs.lemmas.List.{length-take-le}
 use Rattle.std.proofs.lemmas.List.Elements.{recursion_from_All}
 use Rattle.std.proofs.lemmas.List.Folds.{list_any-append}
-use Rattle.rdm_device.specs.declared.profile.own.ParameterDef.{ParameterDef}
-use Rattle.rdm_device.specs.declared.profile.own.Rights.{Rights}
-use Rattle.rdm_device.specs.declared.profile.own.Rights.TheVariants as rights
-use Rattle.rdm_device.specs.declared.profile.own.Shape.{Shape}
-use Rattle.rdm_device.specs.declared.profile.own.Shape.TheVariants as shapes
-use Rattle.rdm_device.specs.declared.profile.Profile.{Profile}
-use Rattle.rdm_device.specs.declared.value.Value.{Value}
-use Rattle.rdm_device.specs.declared.value.Value.TheVariants.{Word, Label}
-use Rattle.rdm_device.specs.Columns.Added.{start_in, set_back_in, added_set_back}
-use Rattle.rdm_device.specs.Columns.Forms.{word, has_length, value_of, value_in}
-use Rattle.rdm_device.specs.Columns.Scenes.{scenes_to, scenes_by, scene_at_start}
-use Rattle.rdm_device.specs.Device.Choices.{greatest}
-use Rattle.rdm_device.specs.Device.Locks.{has_pin}
-use Rattle.rdm_device.specs.Device.Map.{Entry, entry, has_key, lookup, update}
-use Rattle.rdm_device.specs.Device.OwnParameters.{is_order, can_start, form_of, is_within}
-use Rattle.rdm_device.specs.Device.Parameters.{no_orders, kept_at_start, added_at_start}
-use Rattle.rdm_device.specs.Device.Profiles.{AreGoodParameters}
-use Rattle.rdm_device.specs.Device.Spot.{Spot}
-use Rattle.rdm_device.specs.Device.Standards.{is_pin, pin, may_have, follows, follows_at, is_only_standards, is_of_standards}
-use Rattle.rdm_params.specs.declared.kind.Verb.TheVariants.{Set}
-use Rattle.rdm_params.specs.Commands.Commands.{command_of}
-use Rattle.rdm_params.specs.Table.Uses.{added_change}
-use Rattle.rdm_params.proofs.AddedRows.{left_by_others, set_back_by_factory}
-use Rattle.rdm_params.proofs.Bools.{both_true}
+use Rattle.rdm_profile.specs.declared.profile.own.ParameterDef.{ParameterDef}
+use Rattle.rdm_profile.specs.declared.profile.own.Rights.{Rights}
+use Rattle.rdm_profile.specs.declared.profile.own.Rights.TheVariants as rights
+use Rattle.rdm_profile.specs.declared.profile.own.Shape.{Shape}
+use Rattle.rdm_profile.specs.declared.profile.own.Shape.TheVariants as shapes
+use Rattle.rdm_profile.specs.declared.profile.Profile.{Profile}
+use Rattle.rdm_profile.specs.declared.value.Value.{Value}
+use Rattle.rdm_profile.specs.declared.value.Value.TheVariants.{Word, Label}
+use Rattle.rdm_added.specs.Added.{start_in, set_back_in, added_set_back}
+use Rattle.rdm_profile.specs.Forms.{word, has_length, value_of, value_in}
+use Rattle.rdm_added.specs.Scenes.{scenes_to, scenes_by, scene_at_start}
+use Rattle.rdm_profile.specs.Choices.{greatest}
+use Rattle.rdm_profile.specs.Locks.{has_pin}
+use Rattle.rdm_added.specs.Locking.{locks_in, lock_state}
+use Rattle.rdm_added.specs.Map.{Entry, entry, has_key, lookup, update}
+use Rattle.rdm_profile.specs.OwnParameters.{is_order, can_start, form_of, is_within}
+use Rattle.rdm_added.specs.Parameters.{no_orders, kept_at_start, added_at_start}
+use Rattle.rdm_profile.specs.Profiles.{AreGoodParameters}
+use Rattle.rdm_added.specs.Spot.{Spot}
+use Rattle.rdm_profile.specs.Standards.{is_pin, pin, may_have, follows, follows_at, is_only_standards, is_of_standards}
+use Rattle.rdm_table.specs.declared.kind.Verb.TheVariants.{Set}
+use Rattle.rdm_table.specs.Table.Rows.{command_of}
+use Rattle.rdm_table.specs.Table.Uses.{added_change}
+use Rattle.rdm_table.proofs.FactoryRows.{left_by_others, set_back_by_factory}
+use Rattle.rdm_table.proofs.Bools.{both_true}
 use Rattle.rdm_params.proofs.OwnKeys.{Keeps}
 
 never : false ≡ true → ⊥
@@ -214,11 +215,18 @@ back_two [] bytes pins two = two
 back_two (d ∷ ds) bytes pins two =
     start_of d (find (λ x. x.resets && (x.pid == 0x0640)) ds) bytes d.resets (d.pid == 0x0640) refl pins.0 (back_two ds bytes pins.1 two)
 
+either_two : (locked : Bool) (kept back : List ℕ) → length kept ≡ 2 → length back ≡ 2 → length (cond locked kept back) ≡ 2
+either_two true kept back two also = two
+either_two false kept back two also = also
+
 set_back_two : (spot : Spot) (v : Value) → AllByRecursion IfPin spot.profile.particulars.own → LeavesTwo (added_set_back spot v)
 set_back_two spot v pins e here two =
     let own : List ParameterDef = spot.profile.particulars.own in
     let at = both_true (e.pid == 0x0640) (e.index == 0) here in
+    let back : length (cond (e.index == 0) (start_in own e.pid e.bytes) e.bytes) ≡ 2 =
     ap (λ (b : Bool). length (cond b (start_in own e.pid e.bytes) e.bytes)) at.1 ∙ ap (λ (n : ℕ). length (start_in own n e.bytes)) (eqb-true e.pid 0x0640 at.0) ∙ back_two own e.bytes pins two
+    in
+    either_two (locks_in spot.profile.particulars.locks (lock_state spot.added) e.pid) e.bytes (cond (e.index == 0) (start_in own e.pid e.bytes) e.bytes) two back
 
 table_at : (pid : ℕ) (spot : Spot) (v : Value) (es : List Entry) (factory : Bool) → (pid == 0x0090) ≡ factory → AllByRecursion IfPin spot.profile.particulars.own → Fits es → Fits (update (added_change (command_of pid Set) spot v) es)
 table_at pid spot v es true is pins fits =

@@ -7,43 +7,44 @@ use Rattle.std.specs.Ordering.{int_eq}
 use Rattle.std.proofs.lemmas.Bool.{eqb-true, eq-eqb}
 use Rattle.std.proofs.lemmas.List.{length-take-le}
 use Rattle.std.proofs.lemmas.List.Elements.{recursion_from_All}
-use Rattle.rdm_device.specs.declared.profile.locks.Lock.{Lock}
-use Rattle.rdm_device.specs.declared.profile.own.ParameterDef.{ParameterDef}
-use Rattle.rdm_device.specs.declared.profile.own.Rights.{Rights}
-use Rattle.rdm_device.specs.declared.profile.own.Rights.TheVariants as rights
-use Rattle.rdm_device.specs.declared.profile.own.Shape.{Shape}
-use Rattle.rdm_device.specs.declared.profile.own.Shape.TheVariants as shapes
-use Rattle.rdm_device.specs.declared.profile.Profile.{Profile}
-use Rattle.rdm_device.specs.declared.value.Value.{Value}
-use Rattle.rdm_device.specs.declared.value.Value.TheVariants.{Byte, Word, Label}
-use Rattle.rdm_device.specs.Columns.Added.{set_form, form_by, form_taken, set_range, takes, taken_by, taken_as, slots_in, stored_by, order_stored, kept_stored, bytes_kept, bytes_ordered, bytes_placed, index_kept, counted, placed_form, placed_stored, is_pid_of}
-use Rattle.rdm_device.specs.Columns.Forms.{Form, sized, word, has_length, value_of, value_in}
-use Rattle.rdm_device.specs.Device.Locks.{has_pin, can_open, can_hold, sets_of_table, sets_of_own, is_lock_of, is_locked, is_no_pin, lock_state, knows_pin, state_of, new_pin, pin_kept}
-use Rattle.rdm_device.specs.Device.Map.{Entry, entry, has_key, lookup, update}
-use Rattle.rdm_device.specs.Device.OwnParameters.{has_get, has_set, is_within}
-use Rattle.rdm_device.specs.Device.Parameters.{Parameters, parameters_of}
-use Rattle.rdm_device.specs.Device.Profiles.{IsGoodProfile}
-use Rattle.rdm_device.specs.Device.Spot.{Spot}
-use Rattle.rdm_device.specs.Device.Standards.{is_lock, lock, may_have, follows, follows_at, is_only_standards, is_of_standards}
-use Rattle.rdm_device.specs.Device.Values.{word_slots}
-use Rattle.rdm_params.specs.declared.kind.Verb.TheVariants.{Set}
-use Rattle.rdm_params.specs.declared.nack.Nack.{Nack}
-use Rattle.rdm_params.specs.declared.nack.Nack.TheVariants.{UnknownPid, FormatError}
-use Rattle.rdm_params.specs.declared.jobs.outcome.Outcome.TheVariants.{Done, Reading, Failed}
-use Rattle.rdm_params.specs.declared.verdict.Verdict.TheVariants.{Reply}
-use Rattle.rdm_params.specs.Commands.Added.{row_here, handed_here}
-use Rattle.rdm_params.specs.Commands.Commands.{command_of, command_at, root_spot, sub_spot, written, added_written, carried_out, is_all_call, accepted, unprotected, is_block, is_read_only, after_accepted, after_by_row, after_set, answer_by_row, answer_to_set, verdict}
-use Rattle.rdm_params.specs.Commands.Panel.{changed_pid, changed_value, can_change, after_change}
-use Rattle.rdm_params.specs.Commands.Placing.{place_refusal, has_set as sets, own_at, own_placed, after_value, after_place}
-use Rattle.rdm_params.specs.Commands.Saving.{powered_on}
-use Rattle.rdm_params.specs.Jobs.Commit.{after_commit}
+use Rattle.rdm_frame.specs.declared.nack.Nack.{Nack}
+use Rattle.rdm_frame.specs.declared.nack.Nack.TheVariants.{UnknownPid, FormatError}
+use Rattle.rdm_profile.specs.declared.profile.locks.Lock.{Lock}
+use Rattle.rdm_profile.specs.declared.profile.own.ParameterDef.{ParameterDef}
+use Rattle.rdm_profile.specs.declared.profile.own.Rights.{Rights}
+use Rattle.rdm_profile.specs.declared.profile.own.Rights.TheVariants as rights
+use Rattle.rdm_profile.specs.declared.profile.own.Shape.{Shape}
+use Rattle.rdm_profile.specs.declared.profile.own.Shape.TheVariants as shapes
+use Rattle.rdm_profile.specs.declared.profile.Profile.{Profile}
+use Rattle.rdm_profile.specs.declared.value.Value.{Value}
+use Rattle.rdm_profile.specs.declared.value.Value.TheVariants.{Byte, Word, Label}
+use Rattle.rdm_added.specs.Added.{set_form, form_by, form_taken, set_range, takes, taken_by, taken_as, slots_in, stored_by, order_stored, kept_stored, bytes_kept, bytes_ordered, bytes_placed, index_kept, counted, placed_form, placed_stored, is_pid_of}
+use Rattle.rdm_profile.specs.Forms.{Form, sized, word, has_length, value_of, value_in}
+use Rattle.rdm_profile.specs.Locks.{has_pin, can_open, can_hold, sets_of_table, sets_of_own}
+use Rattle.rdm_added.specs.Locking.{is_set_locked, is_lock_of, is_locked, is_no_pin, lock_state, knows_pin, state_of, new_pin, pin_kept}
+use Rattle.rdm_added.specs.Map.{Entry, entry, has_key, lookup, update}
+use Rattle.rdm_profile.specs.OwnParameters.{has_get, has_set, is_within}
+use Rattle.rdm_added.specs.Parameters.{Parameters, parameters_of}
+use Rattle.rdm_profile.specs.Profiles.{IsGoodProfile}
+use Rattle.rdm_added.specs.Spot.{Spot}
+use Rattle.rdm_profile.specs.Standards.{is_lock, lock, may_have, follows, follows_at, is_only_standards, is_of_standards}
+use Rattle.rdm_profile.specs.Values.{word_slots}
+use Rattle.rdm_table.specs.declared.kind.Verb.TheVariants.{Set}
+use Rattle.rdm_commands.specs.declared.jobs.outcome.Outcome.TheVariants.{Done, Reading, Failed}
+use Rattle.rdm_commands.specs.declared.verdict.Verdict.TheVariants.{Reply}
+use Rattle.rdm_commands.specs.Commands.Added.{row_here, handed_here}
+use Rattle.rdm_table.specs.Table.Rows.{command_of, Command, Row, table, row_of, row_at, is_left_out, added_row, takes_added, command_in}
+use Rattle.rdm_commands.specs.Commands.Commands.{command_at, root_spot, sub_spot, carried_out, is_all_call, accepted, unprotected, is_block, is_read_only, after_accepted, after_by_row, after_set, answer_by_row, answer_to_set, verdict}
+use Rattle.rdm_table.specs.Table.Uses.{written, added_written, access, read, read_as, added_change, is_slow, keeps}
+use Rattle.rdm_commands.specs.Commands.Panel.{changed_pid, changed_value, can_change, after_change}
+use Rattle.rdm_commands.specs.Commands.Placing.{place_refusal, has_set as sets, own_at, own_placed, after_value, after_place}
+use Rattle.rdm_commands.specs.Commands.Saving.{powered_on}
+use Rattle.rdm_commands.specs.Jobs.Commit.{after_commit}
 use Rattle.rdm_params.specs.Pins.{Step, set, place, commit, change, power, after_step, values_after, KeptPinOpens, NewPinIsKept}
-use Rattle.rdm_params.specs.Table.Rows.{Command, Row, table, row_of, row_at, is_left_out, added_row, takes_added, command_in}
-use Rattle.rdm_params.specs.Table.Uses.{access, read, read_as, added_change, is_slow, keeps}
-use Rattle.rdm_params.proofs.AddedCommands.{at_here, handed_is, set_hands, set_here_replies}
-use Rattle.rdm_params.proofs.AddedRows.{row_has, parameter_here}
-use Rattle.rdm_params.proofs.BlockRows.{after_either, row_after, row_answer}
-use Rattle.rdm_params.proofs.Bools.{both_true, is_not}
+use Rattle.rdm_commands.proofs.AddedCommands.{at_here, handed_is, set_hands, set_here_replies}
+use Rattle.rdm_commands.proofs.AddedRows.{row_has, parameter_here}
+use Rattle.rdm_commands.proofs.BlockRows.{after_either, row_after, row_answer}
+use Rattle.rdm_table.proofs.Bools.{both_true, is_not}
 use Rattle.rdm_params.proofs.OwnKeys.{apart_test, of_added}
 use Rattle.rdm_params.proofs.PinSlots.{Fits, LeavesTwo, updated, two_slots, keeps_two, IsPinDef, IfPin, HasPin, pins_of, fits_at_start, table_fits}
 use Rattle.rdm_params.proofs.PlacesAsSet.{says_behind}
@@ -395,13 +396,17 @@ needs_pin d ds can at =
     let here : (not (d.pid == 0x0641) || (has_get d.rights && has_pin ds)) ≡ (has_get d.rights && has_pin ds) = ap (λ (b : Bool). not b || (has_get d.rights && has_pin ds)) (eq-eqb d.pid 0x0641 at) in
     (both_true (has_get d.rights) (has_pin ds) (sym here ∙ can)).1
 
-replies_by_row : (p : Parameters) (d : ParameterDef) (state : ℕ) → find (is_pid_of 0x0641) p.profile.particulars.own ≡ some_def d → IsLockDef d → has_set d.rights ≡ true → is_within d (Byte state) ≡ true → length (pin_kept p.added) ≡ 2 → is_locked p.profile.particulars.locks p.added 0x0641 ≡ false → answer_by_row p 0 0x0641 (pin_kept p.added ++ state ∷ []) ≡ Reply []
+neither : (b : Bool) → b ≡ false → (b || b) ≡ false
+neither true e = absurd (never (sym e))
+neither false e = refl
+
+replies_by_row : (p : Parameters) (d : ParameterDef) (state : ℕ) → find (is_pid_of 0x0641) p.profile.particulars.own ≡ some_def d → IsLockDef d → has_set d.rights ≡ true → is_within d (Byte state) ≡ true → length (pin_kept p.added) ≡ 2 → is_set_locked p.profile.particulars.locks p.added 0x0641 ≡ false → answer_by_row p 0 0x0641 (pin_kept p.added ++ state ∷ []) ≡ Reply []
 replies_by_row p d state found_state is can within two unlocked =
     let bytes : List ℕ = pin_kept p.added ++ state ∷ [] in
     let new = unknown_state p.profile in
     let here : row_here p.profile 0x0641 ≡ Some (added_row d) = parameter_here p.profile 0x0641 d refl (sym found_state) in
     let opening = opens d (pin_kept p.added) state two is within in
-    let protected : Bool = is_read_only p.profile.particulars.own 0x0641 bytes || is_locked p.profile.particulars.locks p.added 0x0641 in
+    let protected : Bool = is_read_only p.profile.particulars.own 0x0641 bytes || is_set_locked p.profile.particulars.locks p.added 0x0641 in
     let handed = set_hands d protected (is_no_pin 0x0641 bytes) (root_spot p) bytes (Label bytes) can unlocked refl opening.reads opening.taken in
     let taken_here : handed_here (root_spot p) 0x0641 (Some (added_row d)) Set bytes ≡ ok (Label bytes) = sym (handed_is p 0x0641 bytes d protected (is_no_pin 0x0641 bytes) (refl, refl)) ∙ handed in
     sym (set_here_replies p 0x0641 bytes new.0 new.1 (ap (λ (row : Option Row). is_ok (handed_here (root_spot p) 0x0641 row Set bytes)) here ∙ ap is_ok taken_here))
@@ -417,4 +422,4 @@ kept_pin_opens profile steps d state good found_state can within =
     let locks = recursion_from_All (λ (l : Lock). IsTrue (can_hold profile.particulars.without.items own l)) profile.particulars.locks good.locks.held in
     let unlocked : is_locked p.profile.particulars.locks p.added 0x0641 ≡ false = ap (λ (x : Profile). is_locked x.particulars.locks p.added 0x0641) held.same ∙ free profile.particulars.without.items own profile.particulars.locks (lock_state p.added) locks in
     row_answer p 0 0x0641 (pin_kept p.added ++ state ∷ []) refl
-    ∙ replies_by_row p d state (ap (λ (x : Profile). find (is_pid_of 0x0641) x.particulars.own) held.same ∙ found_state) (lock_is d line.0 line.1) can within (two_slots p.added held.fits) unlocked
+    ∙ replies_by_row p d state (ap (λ (x : Profile). find (is_pid_of 0x0641) x.particulars.own) held.same ∙ found_state) (lock_is d line.0 line.1) can within (two_slots p.added held.fits) (neither (is_locked p.profile.particulars.locks p.added 0x0641) unlocked)

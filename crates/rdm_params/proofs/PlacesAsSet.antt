@@ -4,26 +4,26 @@ use Rattle.std.specs.Prelude.{slice_get, option_to_list, is_some, is_ok}
 use Rattle.std.specs.List.{list_all}
 use Rattle.std.specs.Option.{option_map_or}
 use Rattle.std.proofs.lemmas.Bool.{ne_eqb, and_from}
-use Rattle.rdm_params.specs.declared.kind.Verb.TheVariants.{Get, Set}
-use Rattle.rdm_params.specs.declared.nack.Nack.{Nack}
-use Rattle.rdm_params.specs.declared.nack.Nack.TheVariants.{DataOutOfRange, SubDeviceOutOfRange}
-use Rattle.rdm_params.specs.declared.placing.PlaceError.{PlaceError}
-use Rattle.rdm_params.specs.declared.placing.PlaceError.TheVariants.{NoDevice, OutOfRange}
-use Rattle.rdm_params.specs.declared.jobs.ask.Ask.{Ask}
-use Rattle.rdm_params.specs.declared.jobs.way.Way.{Way}
-use Rattle.rdm_params.specs.declared.jobs.way.Way.TheVariants.{AtOnce, ByJob, FromQueue, FromStatus, Clears}
-use Rattle.rdm_params.specs.declared.jobs.work.Work.{Work}
-use Rattle.rdm_params.specs.declared.verdict.Verdict.TheVariants.{Reply}
-use Rattle.rdm_device.specs.declared.value.Value.{Value}
-use Rattle.rdm_params.specs.Commands.Commands.{command_of, command_at, accepted, is_block, after_by_row, answer_by_row, answered, verdict, carried_out, addressed, is_some_device, is_all_call, root_spot, sub_spot, known, unprotected, taken, after_accepted, check, ◌>>=◌}
-use Rattle.rdm_params.specs.Commands.Placing.{device, has_set, value_refusal, place_refusal, after_value, after_place}
-use Rattle.rdm_device.specs.Device.Parameters.{Parameters}
-use Rattle.rdm_device.specs.Device.Spot.{Spot}
+use Rattle.rdm_frame.specs.declared.nack.Nack.{Nack}
+use Rattle.rdm_frame.specs.declared.nack.Nack.TheVariants.{DataOutOfRange, SubDeviceOutOfRange}
+use Rattle.rdm_table.specs.declared.kind.Verb.TheVariants.{Get, Set}
+use Rattle.rdm_commands.specs.declared.placing.PlaceError.{PlaceError}
+use Rattle.rdm_commands.specs.declared.placing.PlaceError.TheVariants.{NoDevice, OutOfRange}
+use Rattle.rdm_commands.specs.declared.jobs.ask.Ask.{Ask}
+use Rattle.rdm_table.specs.declared.way.Way.{Way}
+use Rattle.rdm_table.specs.declared.way.Way.TheVariants.{AtOnce, ByJob, FromQueue, FromStatus, Clears}
+use Rattle.rdm_commands.specs.declared.jobs.work.Work.{Work}
+use Rattle.rdm_commands.specs.declared.verdict.Verdict.TheVariants.{Reply}
+use Rattle.rdm_profile.specs.declared.value.Value.{Value}
+use Rattle.rdm_table.specs.Table.Rows.{command_of, Command, Row, table, row_of, row_in, row_or, row_at, is_left_out, added_rows, command_in}
+use Rattle.rdm_commands.specs.Commands.Commands.{command_at, accepted, is_block, after_by_row, answer_by_row, answered, verdict, carried_out, addressed, is_some_device, is_all_call, root_spot, sub_spot, known, unprotected, taken, after_accepted, check, ◌>>=◌}
+use Rattle.rdm_commands.specs.Commands.Placing.{device, has_set, value_refusal, place_refusal, after_value, after_place}
+use Rattle.rdm_added.specs.Parameters.{Parameters}
+use Rattle.rdm_added.specs.Spot.{Spot}
 use Rattle.rdm_params.specs.Laws.{PlacesAsSet}
-use Rattle.rdm_params.specs.Table.Rows.{Command, Row, table, row_of, row_in, row_or, row_at, is_left_out, added_rows, command_in}
-use Rattle.rdm_params.specs.Table.Uses.{access, read, is_by_job, is_slow, way_of, in_range_of, told_beside, can_tell, keeps}
-use Rattle.rdm_params.proofs.BlockRows.{row_after, row_answer}
-use Rattle.rdm_params.proofs.Bools.{both_true}
+use Rattle.rdm_table.specs.Table.Uses.{access, read, is_by_job, is_slow, way_of, in_range_of, told_beside, can_tell, keeps}
+use Rattle.rdm_commands.proofs.BlockRows.{row_after, row_answer}
+use Rattle.rdm_table.proofs.Bools.{both_true}
 
 -- ---- what an accepted SET says
 

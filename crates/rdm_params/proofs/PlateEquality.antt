@@ -6,10 +6,10 @@ use Rattle.std.proofs.lemmas.Bool.{and_parts, and_from}
 use Rattle.std.proofs.lemmas.Bool.Decides.{Decides-eqb}
 use Rattle.std.proofs.lemmas.Slice.Eq.{slice_eq-Decides}
 use Rattle.std.proofs.Math.Seq.{take-append_seam}
-use Rattle.rdm_params.specs.declared.panel.Change.{Change}
-use Rattle.rdm_params.specs.declared.panel.Change.TheVariants.{Start, Personality, Label}
-use Rattle.rdm_params.specs.contracts.panel.ChangePartialEq.TheImpl as compared
-use Rattle.rdm_params.specs.Views.Plates.{padded}
+use Rattle.rdm_commands.specs.declared.panel.Change.{Change}
+use Rattle.rdm_commands.specs.declared.panel.Change.TheVariants.{Start, Personality, Label}
+use Rattle.rdm_commands.specs.contracts.panel.ChangePartialEq.TheImpl as compared
+use Rattle.rdm_commands.specs.Views.Plates.{padded}
 use lib.Pointwise.{pointwise}
 
 abbrev same_text : List ℕ → List ℕ → Bool

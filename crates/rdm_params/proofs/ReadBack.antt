@@ -3,14 +3,13 @@ use Rattle.std.proofs.Common.{◌≡◌, ℕ, Option, Some, None, Ok, length, re
 use Rattle.std.specs.Prelude.{IsTrue}
 use Rattle.std.proofs.lemmas.Bool.{le-leb}
 use Rattle.std.proofs.lemmas.Nat.{from_be_bytes-to_be_bytes_2, from_be_bytes-to_be_bytes_4}
-use Rattle.rdm_device.specs.declared.value.Value.{Value}
-use Rattle.rdm_device.specs.declared.value.Value.TheVariants.{Nothing, Byte, Word, Long, Preset, Label}
-use Rattle.rdm_params.specs.Commands.Commands.{command_of}
-use Rattle.rdm_device.specs.Columns.Forms.{Form, nothing, byte, word, long, preset, label, sized, has_form}
+use Rattle.rdm_profile.specs.declared.value.Value.{Value}
+use Rattle.rdm_profile.specs.declared.value.Value.TheVariants.{Nothing, Byte, Word, Long, Preset, Label}
+use Rattle.rdm_table.specs.Table.Rows.{command_of, Command}
+use Rattle.rdm_profile.specs.Forms.{Form, nothing, byte, word, long, preset, label, sized, has_form}
 use Rattle.rdm_params.specs.Laws.{FitsSlots, HasFormOf, ReadsBack}
-use Rattle.rdm_params.specs.Table.Rows.{Command}
-use Rattle.rdm_params.specs.Table.Uses.{read_as, read}
-use Rattle.rdm_device.specs.Device.Values.{bytes_of}
+use Rattle.rdm_table.specs.Table.Uses.{read_as, read}
+use Rattle.rdm_profile.specs.Values.{bytes_of}
 
 form_again : (form : Form) (v : Value) → IsTrue (has_form form v) → FitsSlots v → read_as form (bytes_of v) ≡ Ok v
 form_again nothing Nothing h fits = refl

@@ -1,30 +1,30 @@
 -- What the rows say of commands that aren't answered at once.
 use Rattle.std.proofs.Common.{◌≡◌, ℕ, Bool, true, false, cond, Option, Some, None, refl, sym, ap, ◌∙◌, subst}
 use Rattle.std.specs.List.{AllByRecursion}
-use Rattle.rdm_params.specs.declared.kind.Verb.{Verb}
-use Rattle.rdm_params.specs.declared.kind.Verb.TheVariants.{Get, Set}
-use Rattle.rdm_params.specs.declared.jobs.way.Way.{Way}
-use Rattle.rdm_params.specs.declared.jobs.way.Way.TheVariants.{AtOnce, ByJob, FromQueue, FromStatus, Clears}
-use Rattle.rdm_device.specs.declared.value.Value.{Value}
-use Rattle.rdm_params.specs.Commands.Commands.{command_of, command_at}
-use Rattle.rdm_params.specs.Commands.Added.{row_here}
-use Rattle.rdm_device.specs.Columns.Forms.{byte}
+use Rattle.rdm_table.specs.declared.kind.Verb.{Verb}
+use Rattle.rdm_table.specs.declared.kind.Verb.TheVariants.{Get, Set}
+use Rattle.rdm_table.specs.declared.way.Way.{Way}
+use Rattle.rdm_table.specs.declared.way.Way.TheVariants.{AtOnce, ByJob, FromQueue, FromStatus, Clears}
+use Rattle.rdm_profile.specs.declared.value.Value.{Value}
+use Rattle.rdm_table.specs.Table.Rows.{command_of, Command, Row, table, row_of, row_in, is_left_out, added_rows, added_row, gets_added, takes_added, command_in}
+use Rattle.rdm_commands.specs.Commands.Commands.{command_at}
+use Rattle.rdm_commands.specs.Commands.Added.{row_here}
+use Rattle.rdm_profile.specs.Forms.{byte}
 use Rattle.rdm_device.specs.Columns.Ranges.{a_message_type}
-use Rattle.rdm_device.specs.declared.profile.own.ParameterDef.{ParameterDef}
-use Rattle.rdm_device.specs.declared.profile.own.Shape.{Shape}
-use Rattle.rdm_device.specs.declared.profile.own.Shape.TheVariants as shapes
-use Rattle.rdm_device.specs.declared.profile.Profile.{Profile}
-use Rattle.rdm_device.specs.Columns.Added.{set_form, set_range, own_stored}
-use Rattle.rdm_device.specs.Device.OwnParameters.{has_get, has_set}
-use Rattle.rdm_device.specs.Device.Parameters.{Parameters}
-use Rattle.rdm_device.specs.Device.Spot.{Spot}
-use Rattle.rdm_params.specs.Table.Rows.{Command, Row, table, row_of, row_in, is_left_out, added_rows, added_row, gets_added, takes_added, command_in}
-use Rattle.rdm_params.specs.Table.Uses.{way_of, is_by_job, is_slow, estimate_for, worker_for}
+use Rattle.rdm_profile.specs.declared.profile.own.ParameterDef.{ParameterDef}
+use Rattle.rdm_profile.specs.declared.profile.own.Shape.{Shape}
+use Rattle.rdm_profile.specs.declared.profile.own.Shape.TheVariants as shapes
+use Rattle.rdm_profile.specs.declared.profile.Profile.{Profile}
+use Rattle.rdm_added.specs.Added.{set_form, set_range, own_stored}
+use Rattle.rdm_profile.specs.OwnParameters.{has_get, has_set}
+use Rattle.rdm_added.specs.Parameters.{Parameters}
+use Rattle.rdm_added.specs.Spot.{Spot}
+use Rattle.rdm_table.specs.Table.Uses.{way_of, is_by_job, is_slow, estimate_for, worker_for}
 use Rattle.rdm_params.specs.Jobs.Laws.{table_estimate, table_worker}
-use Rattle.rdm_device.specs.Device.Estimates.{usual}
-use Rattle.rdm_device.specs.Device.Workers.{usual_workers}
-use Rattle.rdm_params.proofs.AddedRows.{row_has, added_have, here_is}
-use Rattle.rdm_params.proofs.Rows.{found}
+use Rattle.rdm_profile.specs.Estimates.{usual}
+use Rattle.rdm_profile.specs.Workers.{usual_workers}
+use Rattle.rdm_commands.proofs.AddedRows.{row_has, added_have, here_is}
+use Rattle.rdm_table.proofs.Rows.{found}
 
 -- the range of a command looks at the profile alone
 abbrev pub ByProfile : Command → Type 0

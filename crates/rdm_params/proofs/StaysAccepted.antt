@@ -4,30 +4,30 @@ use Rattle.std.specs.Prelude.{slice_get, slice_set, slice_index_or, option_to_li
 use Rattle.std.specs.List.{list_all}
 use Rattle.std.specs.Option.{option_map_or}
 use Rattle.std.proofs.lemmas.List.{length-map, length-set}
-use Rattle.rdm_params.specs.declared.kind.Verb.{Verb}
-use Rattle.rdm_params.specs.declared.kind.Verb.TheVariants.{Get, Set}
-use Rattle.rdm_params.specs.declared.nack.Nack.{Nack}
-use Rattle.rdm_params.specs.declared.nack.Nack.TheVariants.{DataOutOfRange, SubDeviceOutOfRange}
-use Rattle.rdm_device.specs.declared.profile.Profile.{Profile}
-use Rattle.rdm_params.specs.declared.jobs.outcome.Outcome.TheVariants.{Done, Reading, Failed}
-use Rattle.rdm_params.specs.declared.jobs.way.Way.{Way}
-use Rattle.rdm_params.specs.declared.jobs.way.Way.TheVariants.{AtOnce, ByJob, FromQueue, FromStatus, Clears}
-use Rattle.rdm_device.specs.declared.value.Value.{Value}
-use Rattle.rdm_device.specs.declared.value.Value.TheVariants.{Byte}
-use Rattle.rdm_params.specs.Commands.Commands.{command_of, command_at, accepted, read_data, after_by_row, after_accepted, carried_out, written, added_written, addressed, root_spot, sub_spot, is_all_call, is_some_device, known, is_read_only, is_lockable, open_to, unprotected, suits, check, ◌>>=◌}
-use Rattle.rdm_device.specs.Device.Locks.{is_locked, is_no_pin}
-use Rattle.rdm_params.specs.Commands.Panel.{changed_pid, changed_value, can_change, after_change}
-use Rattle.rdm_params.specs.Commands.Placing.{place_refusal, after_value, after_place, has_set, own_at, own_placed}
-use Rattle.rdm_device.specs.declared.profile.own.ParameterDef.{ParameterDef}
-use Rattle.rdm_device.specs.Device.Map.{Entry, update}
+use Rattle.rdm_frame.specs.declared.nack.Nack.{Nack}
+use Rattle.rdm_frame.specs.declared.nack.Nack.TheVariants.{DataOutOfRange, SubDeviceOutOfRange}
+use Rattle.rdm_table.specs.declared.kind.Verb.{Verb}
+use Rattle.rdm_table.specs.declared.kind.Verb.TheVariants.{Get, Set}
+use Rattle.rdm_profile.specs.declared.profile.Profile.{Profile}
+use Rattle.rdm_commands.specs.declared.jobs.outcome.Outcome.TheVariants.{Done, Reading, Failed}
+use Rattle.rdm_table.specs.declared.way.Way.{Way}
+use Rattle.rdm_table.specs.declared.way.Way.TheVariants.{AtOnce, ByJob, FromQueue, FromStatus, Clears}
+use Rattle.rdm_profile.specs.declared.value.Value.{Value}
+use Rattle.rdm_profile.specs.declared.value.Value.TheVariants.{Byte}
+use Rattle.rdm_table.specs.Table.Rows.{command_of, Command, Row, row_of, row_in, row_or, row_at, is_left_out, added_rows, command_in}
+use Rattle.rdm_commands.specs.Commands.Commands.{command_at, accepted, read_data, after_by_row, after_accepted, carried_out, addressed, root_spot, sub_spot, is_all_call, is_some_device, known, is_read_only, is_lockable, open_to, unprotected, suits, check, ◌>>=◌}
+use Rattle.rdm_table.specs.Table.Uses.{written, added_written, access, read, is_by_job, is_slow, in_range_of, keeps}
+use Rattle.rdm_added.specs.Locking.{is_set_locked, is_no_pin}
+use Rattle.rdm_commands.specs.Commands.Panel.{changed_pid, changed_value, can_change, after_change}
+use Rattle.rdm_commands.specs.Commands.Placing.{place_refusal, after_value, after_place, has_set, own_at, own_placed}
+use Rattle.rdm_profile.specs.declared.profile.own.ParameterDef.{ParameterDef}
+use Rattle.rdm_added.specs.Map.{Entry, update}
 use Rattle.rdm_device.specs.Device.Measuring.{placed_by}
-use Rattle.rdm_device.specs.Device.Parameters.{Parameters}
-use Rattle.rdm_params.specs.Jobs.Commit.{after_commit}
+use Rattle.rdm_added.specs.Parameters.{Parameters}
+use Rattle.rdm_commands.specs.Jobs.Commit.{after_commit}
 use Rattle.rdm_params.specs.Jobs.Laws.{SameDevices, StaysAccepted, SetKeepsDevices, CommitKeepsDevices, PanelKeepsDevices, PlaceKeepsDevices}
-use Rattle.rdm_device.specs.Device.Spot.{Spot}
-use Rattle.rdm_params.specs.Table.Rows.{Command, Row, row_of, row_in, row_or, row_at, is_left_out, added_rows, command_in}
-use Rattle.rdm_params.specs.Table.Uses.{access, read, is_by_job, is_slow, in_range_of, keeps}
-use Rattle.rdm_params.proofs.BlockRows.{after_either, as_many}
+use Rattle.rdm_added.specs.Spot.{Spot}
+use Rattle.rdm_commands.proofs.BlockRows.{after_either, as_many}
 use Rattle.rdm_params.proofs.RowFacts.{FactsOfWay, Facts, ByProfile, facts_of}
 
 -- ---- ranges that look at the profile alone
@@ -133,7 +133,7 @@ never_locked false false lockable no_pin e = refl
 slow_free : (profile : Profile) (xs ys : List Entry) (pid : ℕ) (command : Option Command) (verb : Verb) (bytes : List ℕ) → is_lockable command ≡ false → unprotected profile xs pid command verb bytes ≡ unprotected profile ys pid command verb bytes
 slow_free profile xs ys pid command Get bytes e = refl
 slow_free profile xs ys pid command Set bytes e =
-    never_locked (is_read_only profile.particulars.own pid bytes) (is_locked profile.particulars.locks xs pid) (is_lockable command) (is_no_pin pid bytes) e ∙ sym (never_locked (is_read_only profile.particulars.own pid bytes) (is_locked profile.particulars.locks ys pid) (is_lockable command) (is_no_pin pid bytes) e)
+    never_locked (is_read_only profile.particulars.own pid bytes) (is_set_locked profile.particulars.locks xs pid) (is_lockable command) (is_no_pin pid bytes) e ∙ sym (never_locked (is_read_only profile.particulars.own pid bytes) (is_set_locked profile.particulars.locks ys pid) (is_lockable command) (is_no_pin pid bytes) e)
 
 abbrev accepted_by : Parameters → Profile → ℕ → ℕ → Verb → List ℕ → Result Value Nack
 accepted_by p profile sub pid verb bytes =

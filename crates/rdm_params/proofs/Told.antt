@@ -2,13 +2,14 @@
 use Rattle.std.proofs.Common.{◌≡◌, ◌≢◌, ℕ, ◌==◌, ◌||◌, Bool, true, false, cond, List, [], ◌∷◌, ◌++◌, refl, sym, ap, subst, ◌∙◌}
 use Rattle.std.specs.List.{list_any}
 use Rattle.std.proofs.lemmas.Bool.{eqb-false, ne_eqb}
-use Rattle.rdm_params.specs.declared.changed.Changed.TheVariants.{Value, Several}
-use Rattle.rdm_params.specs.Commands.Changed.{change_of, pid_written}
+use Rattle.rdm_commands.specs.declared.changed.Changed.TheVariants.{Value, Several}
+use Rattle.rdm_commands.specs.Commands.Changed.{change_of, pid_written}
 use Rattle.rdm_params.specs.Laws.{keys_of_row, ChangesWhatItTells, LeavesWhatItDoesNotTell, IsSameBut}
-use Rattle.rdm_params.specs.Commands.Commands.{after_set, is_block}
+use Rattle.rdm_commands.specs.Commands.Commands.{after_set, is_block}
 use Rattle.rdm_device.specs.Columns.Replies.{factory_pids, reset_pids}
 use Rattle.rdm_params.proofs.OtherDevices.{leaves_the_rest}
-use Rattle.rdm_params.proofs.OwnKeys.{changes_its_keys, not_either}
+use Rattle.rdm_params.proofs.OwnKeys.{changes_its_keys}
+use Rattle.rdm_table.proofs.Bools.{not_either}
 
 value_is : (a b x y : ℕ) → Value a b ≡ Value x y → (a ≡ x) × (b ≡ y)
 value_is a b x y e = (cc, cc)

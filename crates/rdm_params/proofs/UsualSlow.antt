@@ -4,33 +4,33 @@ use Rattle.std.specs.Prelude.{nat_lt, slice_get}
 use Rattle.std.specs.Option.{option_map_or}
 use Rattle.std.proofs.lemmas.Bool.{lt-ltb}
 use Rattle.std.proofs.lemmas.Option.{slice_get_within}
-use Rattle.rdm_params.specs.declared.kind.Verb.{Verb}
-use Rattle.rdm_params.specs.declared.kind.Verb.TheVariants.{Get, Set}
-use Rattle.rdm_params.specs.declared.nack.Nack.TheVariants.{DataOutOfRange, SubDeviceOutOfRange}
-use Rattle.rdm_params.specs.declared.verdict.Verdict.{Verdict}
-use Rattle.rdm_params.specs.declared.jobs.slow.Slow.TheVariants.{Lamp, Power, SelfTest, Sensor}
-use Rattle.rdm_params.specs.declared.jobs.way.Way.{Way}
-use Rattle.rdm_params.specs.declared.jobs.way.Way.TheVariants.{AtOnce, ByJob, FromQueue, FromStatus, Clears}
-use Rattle.rdm_device.specs.declared.profile.estimates.Estimates.{Estimates}
-use Rattle.rdm_device.specs.declared.profile.Profile.{Profile}
-use Rattle.rdm_device.specs.declared.profile.SensorDef.{SensorDef}
-use Rattle.rdm_device.specs.declared.value.Value.TheVariants.{Byte}
+use Rattle.rdm_frame.specs.declared.nack.Nack.TheVariants.{DataOutOfRange, SubDeviceOutOfRange}
+use Rattle.rdm_table.specs.declared.kind.Verb.{Verb}
+use Rattle.rdm_table.specs.declared.kind.Verb.TheVariants.{Get, Set}
+use Rattle.rdm_commands.specs.declared.verdict.Verdict.{Verdict}
+use Rattle.rdm_table.specs.declared.slow.Slow.TheVariants.{Lamp, Power, SelfTest, Sensor}
+use Rattle.rdm_table.specs.declared.way.Way.{Way}
+use Rattle.rdm_table.specs.declared.way.Way.TheVariants.{AtOnce, ByJob, FromQueue, FromStatus, Clears}
+use Rattle.rdm_profile.specs.declared.profile.estimates.Estimates.{Estimates}
+use Rattle.rdm_profile.specs.declared.profile.Profile.{Profile}
+use Rattle.rdm_profile.specs.declared.profile.SensorDef.{SensorDef}
+use Rattle.rdm_profile.specs.declared.value.Value.TheVariants.{Byte}
 use Rattle.rdm_device.specs.Columns.Changes.{unchanged, sensors_reset}
-use Rattle.rdm_device.specs.Columns.Forms.{byte}
+use Rattle.rdm_profile.specs.Forms.{byte}
 use Rattle.rdm_device.specs.Columns.Ranges.{a_sensor, sensors}
 use Rattle.rdm_device.specs.Columns.Replies.{sensor_measured}
-use Rattle.rdm_device.specs.Device.Estimates.{usual}
-use Rattle.rdm_device.specs.Device.Workers.{usual_workers}
-use Rattle.rdm_device.specs.declared.profile.workers.Workers.{Workers}
-use Rattle.rdm_device.specs.Device.Values.{byte_or_0}
-use Rattle.rdm_device.specs.Device.Parameters.{Parameters}
-use Rattle.rdm_params.specs.Commands.Commands.{command_of, root_spot, got, got_by_row, accepted, known, read_data, check, ◌>>=◌, verdict, answered, work}
-use Rattle.rdm_params.specs.Jobs.Asks.{ask_of}
+use Rattle.rdm_profile.specs.Estimates.{usual}
+use Rattle.rdm_profile.specs.Workers.{usual_workers}
+use Rattle.rdm_profile.specs.declared.profile.workers.Workers.{Workers}
+use Rattle.rdm_profile.specs.Values.{byte_or_0}
+use Rattle.rdm_added.specs.Parameters.{Parameters}
+use Rattle.rdm_table.specs.Table.Rows.{command_of, Command, Row, row, root, measures, sets, table, row_of, row_at, command_in}
+use Rattle.rdm_commands.specs.Commands.Commands.{root_spot, got, got_by_row, accepted, known, read_data, check, ◌>>=◌, verdict, answered, work}
+use Rattle.rdm_commands.specs.Jobs.Asks.{ask_of}
 use Rattle.rdm_params.specs.Jobs.Laws.{table_estimate, table_worker, UsualTakesTheTablesTime, UsualHasTheTablesWorkers, UsualIsAnsweredByTheTable, SensorIsAnsweredAtOnce}
-use Rattle.rdm_params.specs.Jobs.Work.{estimate_in, worker_in}
-use Rattle.rdm_params.specs.Table.Rows.{Command, Row, row, root, measures, sets, table, row_of, row_at, command_in}
-use Rattle.rdm_params.specs.Table.Uses.{access, way_of, way_here, needs_no_job, is_at_once, is_by_job, is_slow}
-use Rattle.rdm_params.proofs.AddedCommands.{tabled}
+use Rattle.rdm_commands.specs.Jobs.Work.{estimate_in, worker_in}
+use Rattle.rdm_table.specs.Table.Uses.{access, way_of, way_here, needs_no_job, is_at_once, is_by_job, is_slow}
+use Rattle.rdm_commands.proofs.AddedCommands.{tabled}
 use Rattle.rdm_params.proofs.RowFacts.{FactsOfWay, Facts, facts_of}
 
 -- ---- the time

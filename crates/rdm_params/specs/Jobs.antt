@@ -1,8 +1,7 @@
-pub mod Asks
-pub mod Commit
+pub use Rattle.rdm_commands.specs.Jobs.Asks
+pub use Rattle.rdm_commands.specs.Jobs.Commit
+pub use Rattle.rdm_commands.specs.Jobs.Outcome
+pub use Rattle.rdm_commands.specs.Jobs.Thresholds
+pub use Rattle.rdm_commands.specs.Jobs.Usual
+pub use Rattle.rdm_commands.specs.Jobs.Work
 pub mod Laws
-pub mod Outcome
-pub mod Severities
-pub mod Thresholds
-pub mod Usual
-pub mod Work

@@ -1,38 +1,40 @@
 -- Laws of the table, for every value, command and device.
-use Rattle.std.specs.Prelude.{◌≡◌, ◌≢◌, ℕ, ℤ, suc, ◌^◌, ◌<◌, ◌≤◌, ◌==◌, false, List, [], ◌∷◌, ◌++◌, length, Option, Some, None, Ok, IsTrue, All, Bool, true, map, filter, slice_index_or, if◌then◌else◌}
+use Rattle.std.specs.Prelude.{◌≡◌, ◌≢◌, ◌↔◌, ℕ, ℤ, suc, ◌^◌, ◌<◌, ◌≤◌, ◌==◌, false, List, [], ◌∷◌, ◌++◌, length, Option, Some, None, Ok, Err, IsTrue, All, Contains, Bool, true, map, filter, slice_index_or, if◌then◌else◌}
 use Rattle.std.specs.List.{list_any}
 use Rattle.std.specs.List.Sorted.{IsStrictlyIncreasing}
-use Rattle.rdm_params.specs.declared.kind.Verb.{Verb}
-use Rattle.rdm_params.specs.declared.kind.Verb.TheVariants.{Set}
-use Rattle.rdm_params.specs.declared.verdict.Verdict.TheVariants.{Reply, Refuse}
-use Rattle.rdm_params.specs.declared.nack.Nack.{Nack}
-use Rattle.rdm_device.specs.declared.value.Value.{Value}
-use Rattle.rdm_device.specs.declared.value.Value.TheVariants.{Byte, Word, Long, Preset, Label}
-use Rattle.rdm_params.specs.declared.changed.Changed.TheVariants as told
-use Rattle.rdm_params.specs.declared.panel.Change.{Change}
-use Rattle.rdm_params.specs.declared.jobs.outcome.Outcome.{Outcome}
-use Rattle.rdm_params.specs.declared.jobs.outcome.Outcome.TheVariants.{Done, Reading, Failed}
-use Rattle.rdm_params.specs.declared.jobs.status.Severity.{Severity}
-use Rattle.rdm_params.specs.declared.jobs.work.Work.{Work}
-use Rattle.rdm_params.specs.Commands.Changed.{change_of}
-use Rattle.rdm_params.specs.Commands.Commands.{command_of, command_at, is_block, is_lockable, answer_to_set, after_set}
-use Rattle.rdm_params.specs.Commands.Panel.{changed_pid, after_change}
-use Rattle.rdm_params.specs.Commands.Placing.{place_refusal, after_place}
-use Rattle.rdm_params.specs.Jobs.Commit.{after_commit}
-use Rattle.rdm_params.specs.Jobs.Outcome.{fits}
-use Rattle.rdm_device.specs.Columns.Forms.{has_form}
-use Rattle.rdm_device.specs.Device.Locks.{is_locked, quick_pids}
-use Rattle.rdm_device.specs.Device.Map.{has_key, lookup}
-use Rattle.rdm_device.specs.declared.profile.own.ParameterDef.{ParameterDef}
-use Rattle.rdm_device.specs.Device.OwnParameters.{is_order}
-use Rattle.rdm_device.specs.declared.profile.Profile.{Profile}
-use Rattle.rdm_device.specs.Device.Parameters.{Parameters, parameters_of}
-use Rattle.rdm_device.specs.Device.Profiles.{IsGoodProfile}
-use Rattle.rdm_device.specs.Device.Standards.{follows}
+use Rattle.rdm_frame.specs.declared.nack.Nack.{Nack}
+use Rattle.rdm_frame.specs.declared.nack.Nack.TheVariants.{UnknownPid}
+use Rattle.rdm_frame.specs.declared.status.Severity.{Severity}
+use Rattle.rdm_table.specs.declared.kind.Verb.{Verb}
+use Rattle.rdm_table.specs.declared.kind.Verb.TheVariants.{Set}
+use Rattle.rdm_commands.specs.declared.verdict.Verdict.TheVariants.{Reply, Refuse}
+use Rattle.rdm_profile.specs.declared.value.Value.{Value}
+use Rattle.rdm_profile.specs.declared.value.Value.TheVariants.{Byte, Word, Long, Preset, Label}
+use Rattle.rdm_commands.specs.declared.changed.Changed.TheVariants as told
+use Rattle.rdm_commands.specs.declared.panel.Change.{Change}
+use Rattle.rdm_commands.specs.declared.jobs.outcome.Outcome.{Outcome}
+use Rattle.rdm_commands.specs.declared.jobs.outcome.Outcome.TheVariants.{Done, Reading, Failed}
+use Rattle.rdm_commands.specs.declared.jobs.work.Work.{Work}
+use Rattle.rdm_commands.specs.Commands.Changed.{change_of}
+use Rattle.rdm_table.specs.Table.Rows.{command_of, Command, table, row_of, row_at, added_row, is_required, supported_pids}
+use Rattle.rdm_commands.specs.Commands.Commands.{command_at, is_block, is_lockable, answer_to_set, after_set}
+use Rattle.rdm_commands.specs.Commands.Panel.{changed_pid, after_change}
+use Rattle.rdm_commands.specs.Commands.Placing.{place_refusal, after_place}
+use Rattle.rdm_commands.specs.Jobs.Commit.{after_commit}
+use Rattle.rdm_commands.specs.Jobs.Outcome.{fits}
+use Rattle.rdm_profile.specs.Forms.{has_form}
+use Rattle.rdm_added.specs.Locking.{is_locked, is_set_locked}
+use Rattle.rdm_profile.specs.Locks.{quick_pids}
+use Rattle.rdm_added.specs.Map.{has_key, lookup}
+use Rattle.rdm_profile.specs.declared.profile.own.ParameterDef.{ParameterDef}
+use Rattle.rdm_profile.specs.OwnParameters.{is_order}
+use Rattle.rdm_profile.specs.declared.profile.Profile.{Profile}
+use Rattle.rdm_added.specs.Parameters.{Parameters, parameters_of}
+use Rattle.rdm_profile.specs.Profiles.{IsGoodProfile}
+use Rattle.rdm_profile.specs.Standards.{follows}
 use Rattle.rdm_device.specs.Columns.Replies.{factory_pids, reset_pids}
-use Rattle.rdm_params.specs.Table.Rows.{Command, table, row_of, row_at, added_row, supported_pids}
-use Rattle.rdm_params.specs.Table.Uses.{read, is_slow, keeps}
-use Rattle.rdm_device.specs.Device.Values.{bytes_of}
+use Rattle.rdm_table.specs.Table.Uses.{access, read, is_slow, keeps}
+use Rattle.rdm_profile.specs.Values.{bytes_of}
 
 -- the numbers of a value that a command can hand in fit their slots
 abbrev pub FitsSlots : Value → Type 0
@@ -61,6 +63,13 @@ TheTableAlone = (p : Profile) (pid : ℕ) → p.particulars.own ≡ [] → p.par
 -- SUPPORTED_PARAMETERS lists PIDs in ascending order, and so none twice, at the root and at a sub-device. Section 10.4.1.
 abbrev pub SupportedAscend : Type 0
 SupportedAscend = (p : Profile) (is_root : Bool) → IsGoodProfile p → IsStrictlyIncreasing (supported_pids p is_root)
+
+-- It lists exactly what devices that can be made have beside what they must: each PID of which a GET, or a SET, isn't refused as
+-- UNKNOWN_PID, and that isn't required. Section 10.4.1.
+abbrev pub SupportedExact : Type 0
+SupportedExact =
+    (p : Profile) (is_root : Bool) (pid : ℕ) (verb : Verb) → IsGoodProfile p
+    → Contains (supported_pids p is_root) pid ↔ ((access (row_at p pid) is_root verb ≢ Err UnknownPid) × (is_required pid ≡ false))
 
 -- The PIDs of the keys that a SET of a parameter may write by its row: its own, but for FACTORY_DEFAULTS, which sets ten
 -- parameters back and those of the maker's own that say so, and RECORD_SENSORS, which writes the sensors' values.
@@ -132,17 +141,24 @@ CountsStayCommitted = (p : Parameters) (w : Work) (outcome : Outcome) (order : �
 abbrev pub CountsStayChanged : Type 0
 CountsStayChanged = (p : Parameters) (change : Change) (order : ℕ) → is_counted (after_change p change) order ≡ is_counted p order
 
--- A SET of what the lock state locks is refused, and changes nothing, unless a job carries it out. E1.37-1, LOCK_STATE.
+-- A SET of what the lock state locks is refused, unless a job carries it out, and changes nothing. So is one that would write what it
+-- locks: RECORD_SENSORS the values of sensors, and DMX_BLOCK_ADDRESS start addresses. E1.37-1, LOCK_STATE.
 abbrev pub LockRefuses : Type 0
 LockRefuses =
     (p : Parameters) (sub pid : ℕ) (bytes : List ℕ)
-    → is_locked p.profile.particulars.locks p.added pid ≡ true → is_slow (command_at p pid Set) ≡ false
+    → is_set_locked p.profile.particulars.locks p.added pid ≡ true → is_slow (command_at p pid Set) ≡ false
     → (nack : Nack) × (answer_to_set p sub pid bytes ≡ Refuse nack)
 
 abbrev pub LockKeeps : Type 0
 LockKeeps =
     (p : Parameters) (sub pid : ℕ) (bytes : List ℕ)
-    → is_locked p.profile.particulars.locks p.added pid ≡ true → is_slow (command_at p pid Set) ≡ false → after_set p sub pid bytes ≡ p
+    → is_set_locked p.profile.particulars.locks p.added pid ≡ true → after_set p sub pid bytes ≡ p
+
+-- The values of each parameter that the lock state locks stay, at every device, whichever parameter is set, also by FACTORY_DEFAULTS.
+abbrev pub LockedValuesStay : Type 0
+LockedValuesStay =
+    (p : Parameters) (sub pid : ℕ) (bytes : List ℕ) (key index : ℕ)
+    → is_locked p.profile.particulars.locks p.added key ≡ true → SameAt key index p (after_set p sub pid bytes)
 
 -- A profile can lock these of the table: the parameters of its rows that have a SET which no job carries out.
 abbrev pub LocksKnowTheTable : Type 0

@@ -1,8 +1,8 @@
 pub use Rattle.rdm_device.specs.Columns
 pub use Rattle.rdm_device.specs.Device
-pub mod Commands
+pub use Rattle.rdm_table.specs.Table
+pub use Rattle.rdm_commands.specs.Commands
+pub use Rattle.rdm_commands.specs.Views
 pub mod Laws
 pub mod Jobs
 pub mod Pins
-pub mod Table
-pub mod Views

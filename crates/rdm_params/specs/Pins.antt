@@ -1,22 +1,23 @@
 -- The PIN of a fixture after whatever becomes of its values: it opens. E1.37-1, LOCK_STATE and LOCK_PIN.
 use Rattle.std.specs.Prelude.{◌≡◌, ℕ, true, List, [], ◌∷◌, ◌++◌, fold, find, Some}
-use Rattle.rdm_params.specs.declared.panel.Change.{Change}
-use Rattle.rdm_params.specs.declared.jobs.outcome.Outcome.{Outcome}
-use Rattle.rdm_params.specs.declared.jobs.work.Work.{Work}
-use Rattle.rdm_params.specs.declared.verdict.Verdict.TheVariants.{Reply}
-use Rattle.rdm_device.specs.declared.profile.own.ParameterDef.{ParameterDef}
-use Rattle.rdm_device.specs.declared.profile.Profile.{Profile}
-use Rattle.rdm_device.specs.declared.value.Value.TheVariants.{Byte}
-use Rattle.rdm_device.specs.Columns.Added.{is_pid_of}
-use Rattle.rdm_device.specs.Device.Locks.{has_pin, new_pin, pin_kept}
-use Rattle.rdm_device.specs.Device.OwnParameters.{has_set, is_within}
-use Rattle.rdm_device.specs.Device.Parameters.{Parameters, parameters_of}
-use Rattle.rdm_device.specs.Device.Profiles.{IsGoodProfile}
-use Rattle.rdm_params.specs.Commands.Commands.{answer_to_set, after_set}
-use Rattle.rdm_params.specs.Commands.Panel.{after_change}
-use Rattle.rdm_params.specs.Commands.Placing.{after_place}
-use Rattle.rdm_params.specs.Commands.Saving.{powered_on}
-use Rattle.rdm_params.specs.Jobs.Commit.{after_commit}
+use Rattle.rdm_commands.specs.declared.panel.Change.{Change}
+use Rattle.rdm_commands.specs.declared.jobs.outcome.Outcome.{Outcome}
+use Rattle.rdm_commands.specs.declared.jobs.work.Work.{Work}
+use Rattle.rdm_commands.specs.declared.verdict.Verdict.TheVariants.{Reply}
+use Rattle.rdm_profile.specs.declared.profile.own.ParameterDef.{ParameterDef}
+use Rattle.rdm_profile.specs.declared.profile.Profile.{Profile}
+use Rattle.rdm_profile.specs.declared.value.Value.TheVariants.{Byte}
+use Rattle.rdm_added.specs.Added.{is_pid_of}
+use Rattle.rdm_profile.specs.Locks.{has_pin}
+use Rattle.rdm_added.specs.Locking.{new_pin, pin_kept}
+use Rattle.rdm_profile.specs.OwnParameters.{has_set, is_within}
+use Rattle.rdm_added.specs.Parameters.{Parameters, parameters_of}
+use Rattle.rdm_profile.specs.Profiles.{IsGoodProfile}
+use Rattle.rdm_commands.specs.Commands.Commands.{answer_to_set, after_set}
+use Rattle.rdm_commands.specs.Commands.Panel.{after_change}
+use Rattle.rdm_commands.specs.Commands.Placing.{after_place}
+use Rattle.rdm_commands.specs.Commands.Saving.{powered_on}
+use Rattle.rdm_commands.specs.Jobs.Commit.{after_commit}
 
 -- One thing that becomes of the values of devices: a SET; data that the firmware places; the end of a job; a change at the menu; or that
 -- the fixture is switched on again, with the values that it had.

@@ -1,16 +1,11 @@
 //! Laws of the table, over every value, command and device. Each is the contract of a call that does nothing.
 
 ghost use Rattle.std.specs.Prelude.{◌≡◌, ◌↔◌, ℕ, List, IsTrue};
-ghost use Rattle.rdm_params.specs.Laws.{ReadsBack, ChangesItsKeys, LeavesTheRest, PanelChangesItsKey, PanelLeavesTheRest, PlacesAsSet};
-ghost use Rattle.rdm_params.specs.Laws.{OrdersAreTold, OrdersAreCounted, CountsStay, CountsStayPlaced, CountsStayCommitted, CountsStayChanged, LockRefuses, LockKeeps, LocksKnowTheTable};
+ghost use Rattle.rdm_params.specs.Laws.{ReadsBack, ChangesItsKeys, LeavesTheRest, PanelChangesItsKey, PanelLeavesTheRest, PlacesAsSet, OrdersAreTold, OrdersAreCounted, CountsStay, CountsStayPlaced, CountsStayCommitted, CountsStayChanged, LockRefuses, LockKeeps, LockedValuesStay, LocksKnowTheTable, ChangesWhatItTells, LeavesWhatItDoesNotTell, CommitChangesItsKey, CommitChangesItsKeys, ReadingChangesItsSensor, CommitLeavesTheRest, FailedChangesNothing, TheTableAlone, SupportedAscend, SupportedExact};
 ghost use Rattle.rdm_params.specs.Pins.{KeptPinOpens, NewPinIsKept};
-ghost use Rattle.rdm_params.specs.Laws.{ChangesWhatItTells, LeavesWhatItDoesNotTell};
-ghost use Rattle.rdm_params.specs.Laws.{CommitChangesItsKey, CommitChangesItsKeys, ReadingChangesItsSensor};
-ghost use Rattle.rdm_params.specs.Laws.{CommitLeavesTheRest, FailedChangesNothing, TheTableAlone, SupportedAscend};
 
 use crate::{
-    Answer, Ask, Change, Changed, Entry, Kind, Message, Nack, NewError, Outcome, PlaceError, Plate,
-    Severity, Verb, Verdict, Work,
+    Answer, Ask, Change, Changed, Kind, NewError, Outcome, PlaceError, Plate, Verb, Verdict, Work,
 };
 
 /// What `write_value` writes of a value that has the form of a command, `read_value` reads back for that command.
@@ -26,6 +21,12 @@ pub fn plain_profile_has_the_table()
 /// What SUPPORTED_PARAMETERS lists at devices that can be made is in the order of the PIDs, and none is there twice.
 pub fn supported_parameters_ascend()
     ensures { SupportedAscend }
+{}
+
+/// What it lists is exactly what these devices have, beside what each must: no PID of a parameter that they have is missing, and none is
+/// there that they would refuse as unknown.
+pub fn supported_parameters_are_exact()
+    ensures { SupportedExact }
 {}
 
 /// A SET changes no value but those at the keys of its parameter, at the devices that it addresses.
@@ -45,10 +46,18 @@ pub fn orders_are_told()
     ensures changed { CountsStayChanged }
 {}
 
-/// What the lock state locks is not set, at any device, unless a job carries it out.
+/// A SET of what the lock state locks, or one that would write its values, is refused, at any device, unless a job carries it out; and it
+/// changes nothing.
 pub fn locked_parameters_stay()
     ensures refused { LockRefuses }
     ensures kept { LockKeeps }
+{}
+
+/// No SET changes a value of a parameter that the lock state locks, at any device, whichever parameter it is of: FACTORY_DEFAULTS passes
+/// over what is locked, and RECORD_SENSORS and DMX_BLOCK_ADDRESS are refused. What isn't a SET may: the firmware, the menu, the end of a job
+/// and a measurement.
+pub fn locked_values_stay()
+    ensures { LockedValuesStay }
 {}
 
 /// The parameters of the table that a profile can lock are those that have a SET which no job carries out.
@@ -97,24 +106,9 @@ pub fn works_are_equal_by_value()
     ensures { (a b : Work) → IsTrue (⟦<Work as PartialEq>⟧.eq a b) ↔ (a ≡ b) }
 {}
 
-/// Two values of `Entry` are equal by `==` exactly when they are the same.
-pub fn entries_are_equal_by_value()
-    ensures { (a b : Entry) → IsTrue (⟦<Entry as PartialEq>⟧.eq a b) ↔ (a ≡ b) }
-{}
-
-/// Two values of `Message` are equal by `==` exactly when they are the same.
-pub fn messages_are_equal_by_value()
-    ensures { (a b : Message) → IsTrue (⟦<Message as PartialEq>⟧.eq a b) ↔ (a ≡ b) }
-{}
-
 /// Two values of `Outcome` are equal by `==` exactly when they are the same.
 pub fn outcomes_are_equal_by_value()
     ensures { (a b : Outcome) → IsTrue (⟦<Outcome as PartialEq>⟧.eq a b) ↔ (a ≡ b) }
-{}
-
-/// Two values of `Nack` are equal by `==` exactly when they are the same.
-pub fn nacks_are_equal_by_value()
-    ensures { (a b : Nack) → IsTrue (⟦<Nack as PartialEq>⟧.eq a b) ↔ (a ≡ b) }
 {}
 
 /// Two values of `Verb` are equal by `==` exactly when they are the same.
@@ -125,11 +119,6 @@ pub fn verbs_are_equal_by_value()
 /// Two values of `Kind` are equal by `==` exactly when they are the same.
 pub fn kinds_are_equal_by_value()
     ensures { (a b : Kind) → IsTrue (⟦<Kind as PartialEq>⟧.eq a b) ↔ (a ≡ b) }
-{}
-
-/// Two values of `Severity` are equal by `==` exactly when they are the same.
-pub fn severities_are_equal_by_value()
-    ensures { (a b : Severity) → IsTrue (⟦<Severity as PartialEq>⟧.eq a b) ↔ (a ≡ b) }
 {}
 
 /// Two values of `Ask` are equal by `==` exactly when they are the same.

@@ -3,13 +3,13 @@
 use Rattle.std.proofs.Common.{◌≡◌, ℕ, List, Option, None, Result, Ok, Err, refl, sym, ap, subst, ◌∙◌}
 use Rattle.std.specs.Prelude.{IsOk, OnOk, OnErr}
 use Rattle.std.specs.Result.{result_err}
-use Rattle.rdm_params.specs.declared.panel.Change.{Change}
-use Rattle.rdm_params.specs.declared.jobs.message.Message.{Message}
+use Rattle.rdm_frame.specs.declared.message.Message.{Message}
+use Rattle.rdm_frame.specs.declared.status.Entry.{Entry as StatusEntry}
+use Rattle.rdm_commands.specs.declared.panel.Change.{Change}
 use Rattle.rdm_params.specs.Commands.Panel.{after_change, change_message}
 use Rattle.rdm_params.specs.Commands.Placing.{after_place}
 use Rattle.rdm_params.specs.Commands.Saving.{powered_on}
 use Rattle.rdm_saved.specs.Restoring.{restored}
-use Rattle.rdm_params.specs.declared.jobs.status.Entry.{Entry as StatusEntry}
 use Rattle.rdm_params.specs.Device.Parameters.{Parameters}
 use Rattle.rdm_outbox.specs.Shows as outbox_state
 use Rattle.rdm_outbox.specs.State as state

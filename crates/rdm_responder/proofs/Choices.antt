@@ -1,10 +1,10 @@
 -- The choice of workers stays that of the devices' profile, whatever is set, placed, changed and restored, and whatever jobs end.
 use Rattle.std.proofs.Common.{◌≡◌, ℕ, List, Result, Ok, Err, refl, sym, ap, ◌∙◌}
 use Rattle.std.specs.Prelude.{OnOk, OnErr}
-use Rattle.rdm_device.specs.declared.profile.Profile.{Profile}
-use Rattle.rdm_params.specs.declared.jobs.outcome.Outcome.{Outcome}
-use Rattle.rdm_params.specs.declared.jobs.work.Work.{Work}
-use Rattle.rdm_params.specs.declared.panel.Change.{Change}
+use Rattle.rdm_profile.specs.declared.profile.Profile.{Profile}
+use Rattle.rdm_commands.specs.declared.jobs.outcome.Outcome.{Outcome}
+use Rattle.rdm_commands.specs.declared.jobs.work.Work.{Work}
+use Rattle.rdm_commands.specs.declared.panel.Change.{Change}
 use Rattle.rdm_params.specs.Commands.Commands.{after_set}
 use Rattle.rdm_params.specs.Commands.Panel.{after_change}
 use Rattle.rdm_params.specs.Commands.Placing.{after_place}

@@ -4,20 +4,20 @@ use Rattle.std.specs.Prelude.{nat_lt}
 use Rattle.std.specs.List.{fold}
 use Rattle.std.proofs.lemmas.Bool.{and_parts, eqb-true, ltb-true}
 use Rattle.rdm_frame.specs.Reading.{frame_in}
-use Rattle.rdm_params.specs.declared.jobs.ask.Ask.{Ask}
-use Rattle.rdm_params.specs.declared.jobs.message.Message.{Message}
-use Rattle.rdm_params.specs.declared.jobs.outcome.Outcome.{Outcome}
-use Rattle.rdm_params.specs.declared.jobs.outcome.Outcome.TheVariants.{Done, Reading, Failed}
-use Rattle.rdm_params.specs.declared.jobs.status.Entry.{Entry, Entry as StatusEntry}
-use Rattle.rdm_params.specs.declared.jobs.work.Work.{Work}
-use Rattle.rdm_params.specs.declared.verdict.Verdict.{Verdict}
-use Rattle.rdm_params.specs.declared.verdict.Verdict.TheVariants.{Reply, Start, Queue, Status, Clear, Refuse}
+use Rattle.rdm_frame.specs.declared.message.Message.{Message}
+use Rattle.rdm_frame.specs.declared.status.Entry.{Entry, Entry as StatusEntry}
+use Rattle.rdm_commands.specs.declared.jobs.ask.Ask.{Ask}
+use Rattle.rdm_commands.specs.declared.jobs.outcome.Outcome.{Outcome}
+use Rattle.rdm_commands.specs.declared.jobs.outcome.Outcome.TheVariants.{Done, Reading, Failed}
+use Rattle.rdm_commands.specs.declared.jobs.work.Work.{Work}
+use Rattle.rdm_commands.specs.declared.verdict.Verdict.{Verdict}
+use Rattle.rdm_commands.specs.declared.verdict.Verdict.TheVariants.{Reply, Start, Queue, Status, Clear, Refuse}
 use Rattle.rdm_params.specs.Commands.Commands.{got, answer_to_set}
 use Rattle.rdm_params.specs.Commands.Panel.{change_message}
 use Rattle.rdm_params.specs.Device.Parameters.{Parameters}
 use Rattle.rdm_params.specs.Jobs.Commit.{committed}
 use Rattle.rdm_params.specs.Jobs.Work.{Choice, worker_at}
-use Rattle.rdm_params.proofs.TwoWorkers.{there_are_two_workers}
+use Rattle.rdm_commands.proofs.TwoWorkers.{there_are_two_workers}
 use Rattle.rdm_outbox.specs.Account as outbox
 use Rattle.rdm_outbox.specs.Account.{Noted}
 use Rattle.rdm_outbox.specs.declared.job.Job.{Job}
@@ -26,7 +26,8 @@ use Rattle.rdm_outbox.specs.Laws.{OnlyMarks}
 use Rattle.rdm_outbox.specs.Messages.{is_last, after_next}
 use Rattle.rdm_outbox.specs.Shows as outbox_shows
 use Rattle.rdm_outbox.specs.State as outbox_state
-use Rattle.rdm_outbox.specs.State.{HasRoom, most_waiting}
+use Rattle.rdm_outbox.specs.Settings.{most_waiting}
+use Rattle.rdm_outbox.specs.State.{HasRoom}
 use Rattle.rdm_outbox.specs.Statuses.{can_note, most_shown, show, unshown, after_status_now}
 use Rattle.rdm_outbox.proofs.Entries.{unshown_after_clear}
 use Rattle.rdm_outbox.proofs.Marks.{show_only_marks}

@@ -1,7 +1,7 @@
 -- How the code makes a response: its heading apart from its data.
 use Rattle.std.specs.Prelude.{ℕ, ◌+◌, List}
 use Rattle.rdm_frame.specs.declared.frame.Frame.{Frame}
-use Rattle.rdm_params.specs.declared.jobs.message.Message.{Message}
+use Rattle.rdm_frame.specs.declared.message.Message.{Message}
 use Rattle.rdm_responder.specs.declared.reply.Heading.{Heading}
 use Rattle.rdm_responder.specs.Rules.{Response}
 

@@ -1,9 +1,9 @@
 -- What happens to a responder, from the moment that it is switched on.
 use Rattle.std.specs.Prelude.{ℕ, List, [], ◌∷◌, ◌++◌}
 use Rattle.rdm_frame.specs.declared.uid.Uid.{Uid}
-use Rattle.rdm_params.specs.declared.panel.Change.{Change}
-use Rattle.rdm_params.specs.declared.jobs.status.Entry.{Entry as StatusEntry}
-use Rattle.rdm_device.specs.declared.profile.Profile.{Profile}
+use Rattle.rdm_frame.specs.declared.status.Entry.{Entry as StatusEntry}
+use Rattle.rdm_commands.specs.declared.panel.Change.{Change}
+use Rattle.rdm_profile.specs.declared.profile.Profile.{Profile}
 use Rattle.rdm_responder.specs.declared.report.Report.{Report}
 
 -- What a responder is set up with: its UID, what it is, how many results of slow commands it has room for, how many status

@@ -11,7 +11,8 @@ use Rattle.rdm_responder.specs.History.{History, Restored, then_event}
 use Rattle.rdm_responder.specs.Lawful.{IsLawful, MayRestore}
 use Rattle.rdm_responder.specs.Rules.{account_of}
 use Rattle.rdm_responder.specs.Runs.{outbox_of}
-use Rattle.rdm_responder.specs.StandsFor.{State, StandsFor, IsQueueSize}
+use Rattle.rdm_outbox.specs.Settings.{IsQueueSize}
+use Rattle.rdm_responder.specs.StandsFor.{State, StandsFor}
 
 -- What `StandsFor` asks of jobs and messages beside equations: no worker has ended more jobs than it was given, and no more
 -- messages were given than arrived.

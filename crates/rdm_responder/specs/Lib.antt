@@ -3,6 +3,7 @@ pub mod Requests
 pub mod Rules
 pub mod Headings
 pub mod Lawful
+pub mod Settings
 pub mod StandsFor
 pub mod Runs
 pub mod Laws

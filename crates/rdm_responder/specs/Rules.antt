@@ -9,19 +9,19 @@ use Rattle.rdm_frame.specs.FrameText.{frame_text}
 use Rattle.rdm_frame.specs.UidNumber.{uid_number}
 use Rattle.rdm_frame.specs.Reading.{frame_in}
 use Rattle.rdm_frame.specs.Discovery.{branch_reply}
-use Rattle.rdm_device.specs.declared.profile.Profile.{Profile}
-use Rattle.rdm_params.specs.declared.nack.Nack.{Nack}
-use Rattle.rdm_params.specs.declared.nack.Nack.TheVariants.{BufferFull}
-use Rattle.rdm_params.specs.declared.panel.Change.{Change}
-use Rattle.rdm_params.specs.declared.jobs.message.Message.{Message}
-use Rattle.rdm_params.specs.declared.jobs.status.Entry.{Entry as StatusEntry}
-use Rattle.rdm_params.specs.declared.jobs.outcome.Outcome.{Outcome}
-use Rattle.rdm_params.specs.declared.jobs.outcome.Outcome.TheVariants.{Failed}
-use Rattle.rdm_params.specs.declared.jobs.work.Work.{Work}
-use Rattle.rdm_params.specs.declared.verdict.Verdict.{Verdict}
-use Rattle.rdm_params.specs.declared.verdict.Verdict.TheVariants.{Reply, Start, Queue, Status, Clear, Refuse}
+use Rattle.rdm_frame.specs.declared.nack.Nack.{Nack}
+use Rattle.rdm_frame.specs.declared.nack.Nack.TheVariants.{BufferFull}
+use Rattle.rdm_frame.specs.declared.message.Message.{Message}
+use Rattle.rdm_frame.specs.declared.status.Entry.{Entry as StatusEntry}
+use Rattle.rdm_frame.specs.Nacks.{nack_code}
+use Rattle.rdm_profile.specs.declared.profile.Profile.{Profile}
+use Rattle.rdm_commands.specs.declared.panel.Change.{Change}
+use Rattle.rdm_commands.specs.declared.jobs.outcome.Outcome.{Outcome}
+use Rattle.rdm_commands.specs.declared.jobs.outcome.Outcome.TheVariants.{Failed}
+use Rattle.rdm_commands.specs.declared.jobs.work.Work.{Work}
+use Rattle.rdm_commands.specs.declared.verdict.Verdict.{Verdict}
+use Rattle.rdm_commands.specs.declared.verdict.Verdict.TheVariants.{Reply, Start, Queue, Status, Clear, Refuse}
 use Rattle.rdm_params.specs.Commands.Commands.{got, answer_to_set, after_set}
-use Rattle.rdm_params.specs.Commands.Nacks.{nack_code}
 use Rattle.rdm_params.specs.Commands.Panel.{after_change, change_message}
 use Rattle.rdm_params.specs.Commands.Placing.{after_place}
 use Rattle.rdm_params.specs.Commands.Saving.{powered_on}
@@ -212,7 +212,18 @@ abbrev pub most_jobs : ℕ
 most_jobs = 4294967295
 
 abbrev pub account_before : Setup → Account
-account_before setup = record { setup = setup; parameters = parameters_of setup.profile; mutings = []; outbox = outbox.account_before setup.queue_size most_jobs setup.entries setup.first_job setup.profile.workers }
+account_before setup = record {
+  setup = setup;
+  parameters = parameters_of setup.profile;
+  mutings = [];
+  outbox = outbox.account_before (record {
+    q = setup.queue_size;
+    entries = setup.entries;
+    jobs = most_jobs;
+    first_job = setup.first_job;
+    workers = setup.profile.workers;
+  });
+}
 
 unfoldable pub account_of : History → Account
 account_of h = fold account_after (account_before h.setup) h.events

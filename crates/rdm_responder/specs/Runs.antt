@@ -1,8 +1,8 @@
 -- Whole runs: byte strings that are heard, reports that are handed in and changes at the fixture's own menu, one after
 -- another.
 use Rattle.std.specs.Prelude.{◌≡◌, List, [], ◌∷◌, ◌++◌, length, Option, nat_lt}
-use Rattle.rdm_params.specs.declared.panel.Change.{Change}
-use Rattle.rdm_params.specs.declared.jobs.message.Message.{Message}
+use Rattle.rdm_frame.specs.declared.message.Message.{Message}
+use Rattle.rdm_commands.specs.declared.panel.Change.{Change}
 use Rattle.rdm_params.specs.Commands.Panel.{change_message}
 use Rattle.rdm_outbox.specs.Account as outbox
 use Rattle.rdm_responder.specs.declared.report.Arrival.{Arrival}

@@ -4,7 +4,6 @@ use Rattle.rdm_frame.specs.declared.uid.Uid.{Uid}
 use Rattle.rdm_params.specs.Device.Parameters.{Parameters}
 use Rattle.rdm_outbox.specs.Shows as outbox
 use Rattle.rdm_outbox.specs.State as outbox_state
-use Rattle.rdm_outbox.specs.State.{most_waiting}
 use Rattle.rdm_responder.specs.History.{History}
 use Rattle.rdm_responder.specs.Rules.{Account, account_of, is_muted}
 
@@ -26,7 +25,3 @@ pub record Shows (state : State) (account : Account) : Type 0 where
 -- The responder is in the state that this history leads to.
 abbrev pub StandsFor : State → History → Type 0
 StandsFor state h = Shows state (account_of h)
-
--- how many results of slow commands there may be room for
-abbrev pub IsQueueSize : ℕ → Type 0
-IsQueueSize n = (1 ≤ n) × (n ≤ most_waiting)

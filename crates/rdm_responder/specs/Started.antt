@@ -1,6 +1,6 @@
 -- A job that started, as it is handed on.
 use Rattle.std.specs.Prelude.{◌≡◌, Option, option_map}
-use Rattle.rdm_device.specs.declared.profile.Profile.{Profile}
+use Rattle.rdm_profile.specs.declared.profile.Profile.{Profile}
 use Rattle.rdm_params.specs.Jobs.Work.{Choice, worker_at, estimate_of}
 use Rattle.rdm_outbox.specs.declared.job.Job.{Job}
 use Rattle.rdm_responder.specs.declared.stepped.Started.{Started}

@@ -14,6 +14,7 @@ mod reply;
 mod report;
 mod responder;
 mod run;
+mod settings;
 mod stepped;
 
 pub use laws::{
@@ -30,6 +31,7 @@ pub use rdm_params::{
     Verdict, Work,
 };
 pub use report::{Arrival, Astray, NoRoom, Report};
-pub use responder::{NewError, Responder};
+pub use responder::Responder;
 pub use run::{Input, Output};
+pub use settings::{NewError, Settings};
 pub use stepped::{Started, Stepped};

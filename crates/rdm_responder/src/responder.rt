@@ -5,19 +5,19 @@ ghost use Rattle.std.specs.Bool.{OnFalse};
 ghost use Rattle.rdm_outbox.specs.Account.{Account as OutboxAccount};
 ghost use Rattle.rdm_outbox.specs.Jobs.{outstanding_count, outstanding_of, waiting_of};
 ghost use Rattle.rdm_outbox.specs.Shows.{Shows as OutboxShows};
-ghost use Rattle.rdm_outbox.specs.State.{IsListSize, jobs_at, most_entries};
+ghost use Rattle.rdm_outbox.specs.State.{jobs_at};
 ghost use Rattle.rdm_frame.specs.Reading.{frame_in};
 ghost use Rattle.rdm_params.specs.Commands.Changed.{change_of};
-ghost use Rattle.rdm_device.specs.declared.profile.Profile.{Profile};
-ghost use Rattle.rdm_device.specs.Device.Parameters.{parameters_of};
-ghost use Rattle.rdm_params.specs.Device.Profiles.{CanBeMade};
+ghost use Rattle.rdm_profile.specs.declared.profile.Profile.{Profile};
+ghost use Rattle.rdm_added.specs.Parameters.{parameters_of};
 ghost use Rattle.rdm_params.specs.Jobs.Outcome.{fits};
 ghost use Rattle.rdm_params.specs.Jobs.Work.{worker_at};
 ghost use Rattle.rdm_responder.specs.History.{History, Heard, Arrived, empty_history, then_event};
 ghost use Rattle.rdm_responder.specs.Lawful.{IsLawful, MayArrive};
 ghost use Rattle.rdm_responder.specs.Rules.{Account, account_of, after_outcome, answered, reply_of, job_of};
 ghost use Rattle.rdm_responder.specs.Runs.{IsArrival, outbox_of};
-ghost use Rattle.rdm_responder.specs.StandsFor.{Shows, StandsFor, IsQueueSize};
+ghost use Rattle.rdm_responder.specs.Settings.{HasBadProfile, HasBadSize, HasBadUid, setup_with, usual_settings};
+ghost use Rattle.rdm_responder.specs.StandsFor.{Shows, StandsFor};
 ghost use Rattle.rdm_responder.specs.Started.{job_in, IsAsInProfile, IsForItsWorker};
 
 mod firmware;
@@ -27,33 +27,13 @@ mod saving;
 
 use crate::report::{Arrival, Astray, Report};
 use crate::responder::firmware::note_entry;
+use crate::settings::{NewError, Settings};
 use crate::stepped::Stepped;
 use rdm_frame::{Body, Uid, Wire, decode_view};
-use rdm_outbox::{Job, MOST_ENTRIES, MOST_WAITING, Outbox};
+use rdm_outbox::{Job, Outbox};
 use rdm_params::{Devices, Entry, Message, Outcome, Profile, Work, fitting_worker};
 use std::alloc::Global;
 use std::marker::Model;
-use thiserror::Error;
-
-/// How many jobs each worker can be given: their numbers have 32 bits, so that no two are alike.
-const MOST_JOBS: u32 = u32::MAX;
-
-/// Why a responder can't be made, tested from the last to the first.
-#[derive(Clone, Copy, Debug, PartialEq, Eq, Error)]
-pub enum NewError {
-    /// Out of memory.
-    #[error("out of memory")]
-    OutOfMemory,
-    /// The profile breaks a rule, or has too many sub-devices.
-    #[error("bad profile")]
-    BadProfile,
-    /// The size of the queue, or the number of status entries, isn't 1 to 1,024.
-    #[error("bad queue size")]
-    BadSize,
-    /// The UID addresses more than one device.
-    #[error("bad UID")]
-    BadUid,
-}
 
 /// A responder: one device on the bus, from the moment that it is switched on.
 #[derive(Debug, Drop)]
@@ -85,64 +65,13 @@ impl Responder {
     /// A UID that addresses more than one device is rejected first, then a size that isn't 1 to 1,024, then a profile
     /// that breaks a rule or has too many sub-devices, and last comes out of memory.
     pub fn new(alloc: Global, uid: Uid, profile: Profile, queue_size: u16) -> Result<Self, NewError>
-        ensures stands { IfOk result (λ r.
-            StandsFor r (empty_history (record { uid = uid; profile = profile; queue_size = queue_size; entries = most_entries; first_job = 0 }))) }
-        ensures bad_uid { IsErrOf result NewError.BadUid ↔ (uid.device ≡ 0xFFFFFFFF) }
-        ensures bad_size { IsErrOf result NewError.BadSize ↔ ((uid.device ≢ 0xFFFFFFFF) × ¬ IsQueueSize queue_size) }
-        ensures bad_profile { IsErrOf result NewError.BadProfile
-            ↔ ((uid.device ≢ 0xFFFFFFFF) × IsQueueSize queue_size × ¬ CanBeMade profile) }
+        ensures stands { IfOk result (λ r. StandsFor r (empty_history (setup_with (usual_settings uid queue_size) profile))) }
+        ensures bad_uid { IsErrOf result NewError.BadUid ↔ HasBadUid (usual_settings uid queue_size) }
+        ensures bad_size { IsErrOf result NewError.BadSize ↔ HasBadSize (usual_settings uid queue_size) }
+        ensures bad_profile { IsErrOf result NewError.BadProfile ↔ HasBadProfile (usual_settings uid queue_size) profile }
     {
-        Responder::with_entries(alloc, uid, profile, queue_size, MOST_ENTRIES)
-    }
-
-    /// A responder as of `new`, with room for `entries` status entries that weren't shown (E1.20 section 10.3.2): for a
-    /// controller with little memory. Each takes 9 bytes. While that many wait, a further one is dropped.
-    ///
-    /// The order of the refusals is that of `new`; a number of entries that isn't 1 to 1,024 is a bad size too.
-    // Inlined, since a call would have a copy of the profile on the stack.
-    #[inline(always)]
-    pub fn with_entries(
-        alloc: Global,
-        uid: Uid,
-        profile: Profile,
-        queue_size: u16,
-        entries: u16,
-    ) -> Result<Self, NewError>
-        ensures stands { IfOk result (λ r.
-            StandsFor r (empty_history (record { uid = uid; profile = profile; queue_size = queue_size; entries = entries; first_job = 0 }))) }
-        ensures bad_uid { IsErrOf result NewError.BadUid ↔ (uid.device ≡ 0xFFFFFFFF) }
-        ensures bad_size { IsErrOf result NewError.BadSize
-            ↔ ((uid.device ≢ 0xFFFFFFFF) × ¬ (IsQueueSize queue_size × IsListSize entries)) }
-        ensures bad_profile { IsErrOf result NewError.BadProfile
-            ↔ ((uid.device ≢ 0xFFFFFFFF) × (IsQueueSize queue_size × IsListSize entries) × ¬ CanBeMade profile) }
-    {
-        Responder::new_numbered(alloc, uid, profile, queue_size, entries, 0)
-    }
-
-    /// A responder as of `with_entries`, in which the first job of each worker has the number `first_job`, and each later one
-    /// the next; after 4,294,967,295 comes 0. A report is known by its job: if the first number is greater than that of each
-    /// job of the responder before, each report of such a job is astray. Those of `new` and `with_entries` begin at 0.
-    ///
-    /// The order of the refusals is that of `with_entries`, and no number is refused.
-    // Inlined, as `with_entries`.
-    #[inline(always)]
-    pub fn new_numbered(
-        alloc: Global,
-        uid: Uid,
-        profile: Profile,
-        queue_size: u16,
-        entries: u16,
-        first_job: u32,
-    ) -> Result<Self, NewError>
-        ensures stands { IfOk result (λ r.
-            StandsFor r (empty_history (record { uid = uid; profile = profile; queue_size = queue_size; entries = entries; first_job = first_job }))) }
-        ensures bad_uid { IsErrOf result NewError.BadUid ↔ (uid.device ≡ 0xFFFFFFFF) }
-        ensures bad_size { IsErrOf result NewError.BadSize
-            ↔ ((uid.device ≢ 0xFFFFFFFF) × ¬ (IsQueueSize queue_size × IsListSize entries)) }
-        ensures bad_profile { IsErrOf result NewError.BadProfile
-            ↔ ((uid.device ≢ 0xFFFFFFFF) × (IsQueueSize queue_size × IsListSize entries) × ¬ CanBeMade profile) }
-    {
-        if let Some(refusal) = refusal_of(uid, queue_size, entries) {
+        let settings = Settings::usual(uid, queue_size);
+        if let Some(refusal) = settings.refusal() {
             return Err(refusal);
         }
         // Here, since a call that turned the error into this one would hand on a copy of the devices.
@@ -153,28 +82,25 @@ impl Responder {
                 return Err(NewError::BadProfile);
             }
         };
-        Responder::with_devices(alloc, uid, devices, queue_size, entries, first_job)
+        Responder::with_devices(alloc, &settings, devices)
     }
 
-    /// A responder as of `new_numbered`, of a profile that has its place already: for a caller with little stack, since a profile
-    /// has 4,688 bytes.
-    pub fn new_boxed(
+    /// A responder with these settings, whose parameters have the initial values of the profile. The profile has its place
+    /// already, for a caller with little stack, since it has 4,688 bytes.
+    ///
+    /// The order of the refusals is that of `new`: a number of entries that isn't 1 to 1,024 is a bad size too, and no number of
+    /// the first job is refused.
+    pub fn with_settings(
         alloc: Global,
-        uid: Uid,
+        settings: &Settings,
         profile: Box<Profile>,
-        queue_size: u16,
-        entries: u16,
-        first_job: u32,
     ) -> Result<Self, NewError>
-        ensures stands { IfOk result (λ r. StandsFor r (empty_history
-            (record { uid = uid; profile = profile.value; queue_size = queue_size; entries = entries; first_job = first_job }))) }
-        ensures bad_uid { IsErrOf result NewError.BadUid ↔ (uid.device ≡ 0xFFFFFFFF) }
-        ensures bad_size { IsErrOf result NewError.BadSize
-            ↔ ((uid.device ≢ 0xFFFFFFFF) × ¬ (IsQueueSize queue_size × IsListSize entries)) }
-        ensures bad_profile { IsErrOf result NewError.BadProfile
-            ↔ ((uid.device ≢ 0xFFFFFFFF) × (IsQueueSize queue_size × IsListSize entries) × ¬ CanBeMade profile.value) }
+        ensures stands { IfOk result (λ r. StandsFor r (empty_history (setup_with settings.now profile.value))) }
+        ensures bad_uid { IsErrOf result NewError.BadUid ↔ HasBadUid settings.now }
+        ensures bad_size { IsErrOf result NewError.BadSize ↔ HasBadSize settings.now }
+        ensures bad_profile { IsErrOf result NewError.BadProfile ↔ HasBadProfile settings.now profile.value }
     {
-        if let Some(refusal) = refusal_of(uid, queue_size, entries) {
+        if let Some(refusal) = settings.refusal() {
             return Err(refusal);
         }
         let devices = match Devices::new_boxed(alloc, profile) {
@@ -184,31 +110,24 @@ impl Responder {
                 return Err(NewError::BadProfile);
             }
         };
-        Responder::with_devices(alloc, uid, devices, queue_size, entries, first_job)
+        Responder::with_devices(alloc, settings, devices)
     }
 
     /// A responder with these devices, to which nothing has happened, if there is memory for its lists.
-    // Inlined, as `with_entries`.
+    // Inlined, since a call would have a copy of the devices on the stack.
     #[inline(always)]
-    fn with_devices(
-        alloc: Global,
-        uid: Uid,
-        devices: Devices,
-        queue_size: u16,
-        entries: u16,
-        first_job: u32,
-    ) -> Result<Self, NewError>
-        ensures stands { IfOk result (λ r. (profile : Profile) → devices ≡ parameters_of profile → StandsFor r (empty_history
-            (record { uid = uid; profile = profile; queue_size = queue_size; entries = entries; first_job = first_job }))) }
+    fn with_devices(alloc: Global, settings: &Settings, devices: Devices) -> Result<Self, NewError>
+        ensures stands { IfOk result (λ r. (profile : Profile) → devices ≡ parameters_of profile →
+            StandsFor r (empty_history (setup_with settings.now profile))) }
         ensures err { IfErr result (λ e. e ≡ NewError.OutOfMemory) }
     {
         let workers = devices.workers();
-        let Ok(outbox) = Outbox::new_for(alloc, queue_size, MOST_JOBS, entries, first_job, workers)
-        else {
+        let kept = settings.outbox(workers);
+        let Ok(outbox) = Outbox::with_settings(alloc, &kept) else {
             return Err(NewError::OutOfMemory);
         };
         Ok(Responder {
-            uid,
+            uid: settings.uid,
             devices,
             muted: false,
             outbox,
@@ -369,20 +288,4 @@ fn note_failure(devices: &Devices, outbox: &mut Outbox, work: &Work, outcome: Ou
         }
         Outcome::Done | Outcome::Reading(_) => false,
     }
-}
-
-/// Why no responder has this UID and these sizes, if so.
-fn refusal_of(uid: Uid, queue_size: u16, entries: u16) -> Option<NewError>
-    ensures bad_uid { (result ≡ Some NewError.BadUid) ↔ (uid.device ≡ 0xFFFFFFFF) }
-    ensures bad_size { (result ≡ Some NewError.BadSize)
-        ↔ ((uid.device ≢ 0xFFFFFFFF) × ¬ (IsQueueSize queue_size × IsListSize entries)) }
-    ensures others { (result ≢ Some NewError.BadProfile) × (result ≢ Some NewError.OutOfMemory) }
-{
-    if uid.is_broadcast() {
-        return Some(NewError::BadUid);
-    }
-    if queue_size == 0 || queue_size > MOST_WAITING || entries == 0 || entries > MOST_ENTRIES {
-        return Some(NewError::BadSize);
-    }
-    None
 }

@@ -3,8 +3,8 @@ use Rattle.std.proofs.Common.{◌≡◌, ℕ, ◌+◌, ◌-◌, ◌*◌, ◌≤�
 use Rattle.std.specs.Prelude.{slice_index, flat_map, if◌then◌else◌}
 use Rattle.std.proofs.Math.Seq.{drop-append_seam, take-append_seam}
 use Rattle.std.proofs.lemmas.List.{take_at}
-use Rattle.rdm_device.specs.Device.Map.{Entry, entry}
-use Rattle.rdm_device.specs.Device.Parameters.{Parameters}
+use Rattle.rdm_added.specs.Map.{Entry, entry}
+use Rattle.rdm_added.specs.Parameters.{Parameters}
 use Rattle.rdm_saved.specs.SavedText.{is_of_the_moment, label_text, lasting, device_text, added_text, profile_text, values_text, sum_text, saved_text}
 use Rattle.rdm_saved.specs.Restoring.{size, device_size, devices_size, restored_value, restored_device, restored_kept, restored_added, restored_devices, restored, added_size, profile_size, saved_len}
 use Rattle.rdm_saved.specs.Laws.{IsWhole, AreTexts, AreWhole, HaveSamePids, AllHaveSamePids, AreOfOneMake, taken_value, taken_device, taken_added, taken_devices, taken}

@@ -3,12 +3,12 @@ use Rattle.std.proofs.Common.{◌≡◌, ℕ, List, ◌++◌, map, refl, sym, ap
 use Rattle.std.specs.Prelude.{flat_map}
 use Rattle.std.proofs.lemmas.Grind.{flat_map-append}
 use Rattle.std.proofs.lemmas.List.Folds.{flat_map-map}
-use Rattle.rdm_device.specs.declared.profile.Profile.{Profile}
-use Rattle.rdm_device.specs.declared.device.state.CommonValues.{CommonValues}
-use Rattle.rdm_device.specs.declared.device.state.Kept.{Kept}
-use Rattle.rdm_device.specs.declared.device.state.RootValues.{RootValues}
-use Rattle.rdm_device.specs.Device.Map.{Entry}
-use Rattle.rdm_device.specs.Views.State.{common_entries, own_entries, sensor_entries, kept_entry, added_entries}
+use Rattle.rdm_profile.specs.declared.profile.Profile.{Profile}
+use Rattle.rdm_added.specs.declared.state.CommonValues.{CommonValues}
+use Rattle.rdm_added.specs.declared.state.Kept.{Kept}
+use Rattle.rdm_added.specs.declared.state.RootValues.{RootValues}
+use Rattle.rdm_added.specs.Map.{Entry}
+use Rattle.rdm_added.specs.Views.State.{common_entries, own_entries, sensor_entries, kept_entry, added_entries}
 use Rattle.rdm_saved.specs.SavedText.{lasting, label_text, device_text, added_text, profile_text, values_text, kept}
 
 root_text : (d : CommonValues) (o : RootValues) (own : List ℕ) → device_text (own_entries o) ≡ own ++ device_text (sensor_entries 0 o.sensors.items) → device_text (common_entries d ++ own_entries o) ≡ device_text (common_entries d) ++ (own ++ device_text (sensor_entries 0 o.sensors.items))

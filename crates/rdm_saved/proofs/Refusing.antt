@@ -9,7 +9,7 @@ use Rattle.std.proofs.Math.Seq.{take-set-lt}
 use Rattle.std.proofs.lemmas.List.Sums.{sum_by-set}
 use Rattle.std.proofs.lemmas.Nat.{from_be_bytes-to_be_bytes_4}
 use Rattle.std.proofs.lemmas.Slice.Eq.{bytes_eq-Decides}
-use Rattle.rdm_device.specs.Device.Parameters.{Parameters}
+use Rattle.rdm_added.specs.Parameters.{Parameters}
 use Rattle.rdm_saved.specs.declared.errors.RestoreError.{RestoreError}
 use Rattle.rdm_saved.specs.declared.errors.RestoreError.TheVariants.{Length, Altered, OfAnother}
 use Rattle.rdm_saved.specs.SavedText.{device_text, added_text, profile_text, values_text, sum_text, saved_text}

@@ -1,19 +1,18 @@
 -- What is restored from the parts of an image.
 use Rattle.std.proofs.Common.{◌≡◌, ◌==◌, false, Some, ℕ, suc, ◌+◌, ◌*◌, ◌<◌, List, [], ◌∷◌, ◌++◌, length, take, drop, get_or, map, set, refl, sym, ap, ◌∙◌, arith}
-use Rattle.std.proofs.lemmas.List.{drop-take}
+use Rattle.std.proofs.lemmas.List.{drop-take, take-append-drop, take_more, take_more_set, drop-set-lt, map-append, get_or-drop, length-take, length-map}
 use Rattle.std.proofs.Math.Seq.{drop-append_seam, take-append_seam}
-use Rattle.std.proofs.lemmas.List.{take-append-drop, take_more, take_more_set, drop-set-lt, map-append, get_or-drop, length-take, length-map}
 use Rattle.rdm_saved.proofs.Lists.{drop_drop, take_take, items_from, items_from-take, items_all}
 use Rattle.rdm_saved.proofs.Sizes.{len_is, size_append, common_size, own_size, subs_size, sensors_size}
-use Rattle.rdm_device.specs.declared.profile.Profile.{Profile}
-use Rattle.rdm_device.specs.Device.Parameters.{Parameters}
+use Rattle.rdm_profile.specs.declared.profile.Profile.{Profile}
+use Rattle.rdm_added.specs.Parameters.{Parameters}
 use Rattle.rdm_saved.specs.SavedText.{kept}
-use Rattle.rdm_device.specs.declared.device.state.CommonValues.{CommonValues}
-use Rattle.rdm_device.specs.declared.device.state.RootValues.{RootValues}
-use Rattle.rdm_device.specs.declared.device.state.Kept.{Kept}
-use Rattle.rdm_device.specs.declared.device.state.Measured.{Measured}
-use Rattle.rdm_device.specs.Device.Map.{Entry, entry}
-use Rattle.rdm_device.specs.Views.State.{common_entries, own_entries, sensor_entries, measured_slots, kept_entry, added_entries}
+use Rattle.rdm_added.specs.declared.state.CommonValues.{CommonValues}
+use Rattle.rdm_added.specs.declared.state.RootValues.{RootValues}
+use Rattle.rdm_added.specs.declared.state.Kept.{Kept}
+use Rattle.rdm_added.specs.declared.state.Measured.{Measured}
+use Rattle.rdm_added.specs.Map.{Entry, entry}
+use Rattle.rdm_added.specs.Views.State.{common_entries, own_entries, sensor_entries, measured_slots, kept_entry, added_entries}
 use Rattle.rdm_saved.specs.Restoring.{size, device_size, devices_size, restored_value, restored_device, restored_kept, restored_added, restored_devices, restored, added_size, profile_size, saved_len, restore_refusal}
 use Rattle.rdm_saved.specs.declared.errors.RestoreError.TheVariants.{Length}
 

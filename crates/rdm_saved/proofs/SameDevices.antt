@@ -1,11 +1,11 @@
 -- Values of the same devices have the same keys.
 use Rattle.std.proofs.Common.{◌≡◌, ℕ, suc, List, [], ◌∷◌, ◌++◌, length, map, refl, arith}
-use Rattle.rdm_device.specs.declared.profile.Profile.{Profile}
-use Rattle.rdm_device.specs.declared.device.state.CommonValues.{CommonValues}
-use Rattle.rdm_device.specs.declared.device.state.RootValues.{RootValues}
-use Rattle.rdm_device.specs.declared.device.state.Measured.{Measured}
-use Rattle.rdm_device.specs.Device.Map.{Entry}
-use Rattle.rdm_device.specs.Views.State.{common_entries, own_entries, sensor_entries, added_entries}
+use Rattle.rdm_profile.specs.declared.profile.Profile.{Profile}
+use Rattle.rdm_added.specs.declared.state.CommonValues.{CommonValues}
+use Rattle.rdm_added.specs.declared.state.RootValues.{RootValues}
+use Rattle.rdm_added.specs.declared.state.Measured.{Measured}
+use Rattle.rdm_added.specs.Map.{Entry}
+use Rattle.rdm_added.specs.Views.State.{common_entries, own_entries, sensor_entries, added_entries}
 use Rattle.rdm_saved.specs.SavedText.{kept}
 use Rattle.rdm_saved.specs.Laws.{HaveSamePids, AllHaveSamePids, AreOfOneMake}
 

@@ -1,12 +1,12 @@
 -- How many bytes an image has.
 use Rattle.std.proofs.Common.{◌≡◌, ℕ, suc, ◌+◌, ◌*◌, List, [], ◌∷◌, ◌++◌, length, map, refl, arith}
 use Rattle.std.proofs.lemmas.List.{length-map}
-use Rattle.rdm_device.specs.declared.profile.Profile.{Profile}
-use Rattle.rdm_device.specs.declared.device.state.CommonValues.{CommonValues}
-use Rattle.rdm_device.specs.declared.device.state.RootValues.{RootValues}
-use Rattle.rdm_device.specs.declared.device.state.Measured.{Measured}
-use Rattle.rdm_device.specs.Device.Map.{Entry}
-use Rattle.rdm_device.specs.Views.State.{common_entries, own_entries, sensor_entries, kept_entry, added_entries}
+use Rattle.rdm_profile.specs.declared.profile.Profile.{Profile}
+use Rattle.rdm_added.specs.declared.state.CommonValues.{CommonValues}
+use Rattle.rdm_added.specs.declared.state.RootValues.{RootValues}
+use Rattle.rdm_added.specs.declared.state.Measured.{Measured}
+use Rattle.rdm_added.specs.Map.{Entry}
+use Rattle.rdm_added.specs.Views.State.{common_entries, own_entries, sensor_entries, kept_entry, added_entries}
 use Rattle.rdm_saved.specs.Restoring.{device_size, devices_size}
 
 pub size_append : (xs ys : List Entry) → device_size (xs ++ ys) ≡ device_size xs + device_size ys

@@ -1,12 +1,12 @@
 -- What is saved of each value has the size of its PID.
 use Rattle.std.proofs.Common.{◌≡◌, ℕ, suc, ◌+◌, ◌-◌, ◌≤◌, ◌<◌, List, [], ◌∷◌, ◌++◌, length, length-append, take, get_or, map, replicate, refl, sym, ap, subst, ◌∙◌, arith}
 use Rattle.std.proofs.lemmas.List.{take_more, map-append, length-replicate}
-use Rattle.rdm_device.specs.declared.device.state.CommonValues.{CommonValues}
-use Rattle.rdm_device.specs.declared.device.state.RootValues.{RootValues}
-use Rattle.rdm_device.specs.declared.device.state.Kept.{Kept}
-use Rattle.rdm_device.specs.declared.device.state.Measured.{Measured}
-use Rattle.rdm_device.specs.Device.Map.{Entry}
-use Rattle.rdm_device.specs.Views.State.{common_entries, own_entries, sensor_entries, kept_entry, added_entries}
+use Rattle.rdm_added.specs.declared.state.CommonValues.{CommonValues}
+use Rattle.rdm_added.specs.declared.state.RootValues.{RootValues}
+use Rattle.rdm_added.specs.declared.state.Kept.{Kept}
+use Rattle.rdm_added.specs.declared.state.Measured.{Measured}
+use Rattle.rdm_added.specs.Map.{Entry}
+use Rattle.rdm_added.specs.Views.State.{common_entries, own_entries, sensor_entries, kept_entry, added_entries}
 use Rattle.rdm_saved.specs.SavedText.{label_text}
 use Rattle.rdm_saved.specs.Laws.{IsWhole, AreTexts, AreWhole}
 

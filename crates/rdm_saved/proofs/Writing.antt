@@ -5,9 +5,9 @@ use borrow.Rule.Slice.PartMut.{put_mid}
 use Rattle.std.proofs.lemmas.Slice.{take-put_mid, drop-put_mid}
 use Rattle.std.proofs.lemmas.List.{take_at, drop_at, take_more, take-append-drop, append-nil}
 use Rattle.std.proofs.lemmas.Grind.{flat_map-append}
-use Rattle.rdm_device.specs.declared.device.state.CommonValues.{CommonValues}
-use Rattle.rdm_device.specs.Device.Map.{Entry}
-use Rattle.rdm_device.specs.Views.State.{common_entries}
+use Rattle.rdm_added.specs.declared.state.CommonValues.{CommonValues}
+use Rattle.rdm_added.specs.Map.{Entry}
+use Rattle.rdm_added.specs.Views.State.{common_entries}
 use Rattle.rdm_saved.specs.SavedText.{lasting, device_text}
 use Rattle.rdm_saved.specs.Restoring.{device_size}
 use Rattle.rdm_saved.specs.Laws.{IsWhole}

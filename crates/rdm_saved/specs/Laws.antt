@@ -1,12 +1,12 @@
 -- What holds of every image.
 use Rattle.std.specs.Prelude.{◌≡◌, ◌≢◌, ℕ, ◌<◌, ◌≤◌, ◌==◌, List, [], ◌∷◌, ◌++◌, length, take, drop, slice_index, slice_set, Some, None, if◌then◌else◌}
 use Rattle.rdm_saved.specs.declared.errors.RestoreError.TheVariants.{Length, Altered}
-use Rattle.rdm_device.specs.declared.profile.Profile.{Profile}
-use Rattle.rdm_device.specs.declared.device.state.CommonValues.{CommonValues}
-use Rattle.rdm_device.specs.declared.device.state.RootValues.{RootValues}
-use Rattle.rdm_device.specs.Device.Map.{Entry, entry}
-use Rattle.rdm_device.specs.Device.Parameters.{Parameters}
-use Rattle.rdm_device.specs.Views.State.{added_entries}
+use Rattle.rdm_profile.specs.declared.profile.Profile.{Profile}
+use Rattle.rdm_added.specs.declared.state.CommonValues.{CommonValues}
+use Rattle.rdm_added.specs.declared.state.RootValues.{RootValues}
+use Rattle.rdm_added.specs.Map.{Entry, entry}
+use Rattle.rdm_added.specs.Parameters.{Parameters}
+use Rattle.rdm_added.specs.Views.State.{added_entries}
 use Rattle.rdm_saved.specs.SavedText.{is_of_the_moment, kept, lasting, saved_text}
 use Rattle.rdm_saved.specs.Restoring.{size, restored, restore_refusal}
 

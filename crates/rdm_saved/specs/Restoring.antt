@@ -3,9 +3,9 @@ use Rattle.std.specs.Prelude.{ℕ, ◌+◌, ◌-◌, ◌*◌, ◌==◌, Bool, Li
 use Rattle.std.specs.List.{list_any}
 use Rattle.rdm_saved.specs.declared.errors.RestoreError.{RestoreError}
 use Rattle.rdm_saved.specs.declared.errors.RestoreError.TheVariants.{Length, Altered, OfAnother}
-use Rattle.rdm_device.specs.declared.profile.Profile.{Profile}
-use Rattle.rdm_device.specs.Device.Map.{Entry, entry}
-use Rattle.rdm_device.specs.Device.Parameters.{Parameters}
+use Rattle.rdm_profile.specs.declared.profile.Profile.{Profile}
+use Rattle.rdm_added.specs.Map.{Entry, entry}
+use Rattle.rdm_added.specs.Parameters.{Parameters}
 use Rattle.rdm_saved.specs.SavedText.{is_of_the_moment, profile_text, sum_text}
 
 -- how many bytes are saved of the value of a PID

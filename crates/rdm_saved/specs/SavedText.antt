@@ -1,16 +1,16 @@
 -- Which values of devices outlive power-off, and what image they are saved as.
 use Rattle.std.specs.Prelude.{ℕ, ◌-◌, ◌%◌, ◌^◌, ◌==◌, Bool, List, [], ◌∷◌, ◌++◌, length, drop, replicate, flat_map, map, sum, if◌then◌else◌}
 use Rattle.std.specs.List.{list_any}
-use Rattle.rdm_device.specs.declared.profile.Profile.{Profile}
-use Rattle.rdm_device.specs.declared.profile.own.ParameterDef.{ParameterDef}
-use Rattle.rdm_device.specs.declared.profile.Unit.{Unit as DeviceUnit}
-use Rattle.rdm_device.specs.Columns.Added.{data_type_of, size_of}
-use Rattle.rdm_device.specs.Device.Map.{Entry}
-use Rattle.rdm_device.specs.Device.Parameters.{Parameters}
-use Rattle.rdm_device.specs.declared.device.state.CommonValues.{CommonValues}
-use Rattle.rdm_device.specs.declared.device.state.RootValues.{RootValues}
-use Rattle.rdm_device.specs.Views.State.{common_entries, own_entries, added_entries}
-use Rattle.rdm_device.specs.Device.Values.{word_slots, long_slots}
+use Rattle.rdm_profile.specs.declared.profile.Profile.{Profile}
+use Rattle.rdm_profile.specs.declared.profile.own.ParameterDef.{ParameterDef}
+use Rattle.rdm_profile.specs.declared.profile.Unit.{Unit as DeviceUnit}
+use Rattle.rdm_added.specs.Added.{data_type_of, size_of}
+use Rattle.rdm_added.specs.Map.{Entry}
+use Rattle.rdm_added.specs.Parameters.{Parameters}
+use Rattle.rdm_added.specs.declared.state.CommonValues.{CommonValues}
+use Rattle.rdm_added.specs.declared.state.RootValues.{RootValues}
+use Rattle.rdm_added.specs.Views.State.{common_entries, own_entries, added_entries}
+use Rattle.rdm_profile.specs.Values.{word_slots, long_slots}
 
 -- The values of the moment, which power-off ends: LAMP_STATE, IDENTIFY_DEVICE, POWER_STATE, PERFORM_SELFTEST and
 -- PRESET_PLAYBACK. Sections 10.8.4 and 10.11.

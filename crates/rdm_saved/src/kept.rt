@@ -6,7 +6,7 @@ ghost use Rattle.rdm_saved.specs.declared.errors.SaveError.TheVariants.{Short};
 ghost use Rattle.rdm_saved.specs.SavedText.{kept, profile_text, saved_text, values_text};
 ghost use Rattle.rdm_saved.specs.Restoring.{saved_len, profile_size, restored, restored_device, restored_added, restored_devices, restore_refusal, is_sound};
 ghost use Rattle.rdm_saved.specs.Laws.{IsWhole, AreTexts, AreWhole};
-ghost use Rattle.rdm_device.specs.Views.State.{common_entries, own_entries, added_entries};
+ghost use Rattle.rdm_added.specs.Views.State.{common_entries, own_entries, added_entries};
 
 use crate::profile_text::{profile_len, profile_text};
 use crate::restoring::{restore_common, restore_each, restore_own};

@@ -1,7 +1,7 @@
 //! What an image says of the profile.
 
 ghost use Rattle.std.specs.Prelude.{◌≡◌, ◌+◌, ◌*◌, ◌≤◌, ◌++◌, length, flat_map};
-ghost use Rattle.rdm_device.specs.Device.Values.{word_slots};
+ghost use Rattle.rdm_profile.specs.Values.{word_slots};
 ghost use Rattle.rdm_saved.specs.SavedText.{devices_text, own_text, profile_text, unit_text};
 ghost use Rattle.rdm_saved.specs.Restoring.{profile_size};
 

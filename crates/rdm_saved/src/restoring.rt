@@ -1,8 +1,8 @@
 //! From the bytes of an image to values.
 
 ghost use Rattle.std.specs.Prelude.{◌≡◌, ◌+◌, ◌*◌, [], ◌∷◌, length, take, drop, map};
-ghost use Rattle.rdm_device.specs.Views.State.{common_entries, own_entries, sensor_entries, kept_entry, added_entries};
-ghost use Rattle.rdm_device.specs.Device.Values.{word_slots, long_slots, signed_slots};
+ghost use Rattle.rdm_added.specs.Views.State.{common_entries, own_entries, sensor_entries, kept_entry, added_entries};
+ghost use Rattle.rdm_profile.specs.Values.{word_slots, long_slots, signed_slots};
 ghost use Rattle.rdm_saved.specs.Restoring.{restored_device, restored_kept, restored_added, restored_devices};
 
 use crate::saving::{COMMON_BYTES, KEPT_BYTES, LABEL_BYTES, OWN_BYTES};
@@ -10,7 +10,7 @@ use rdm_device::{CommonValues, Kept, Measured, RootValues};
 use rdm_frame::Text;
 
 /// Restores what every device keeps.
-#[tactic(auto, unfolding(rdm_device::specs::Views::State::common_entries), using(crate::proofs::Restored::common_is))]
+#[tactic(auto, unfolding(rdm_added::specs::Views::State::common_entries), using(crate::proofs::Restored::common_is))]
 pub(crate) fn restore_common(values: &mut CommonValues, bytes: &[u8])
     requires { length bytes.now ≡ 46 }
     ensures { common_entries values.new ≡ restored_device (common_entries values.old) bytes.now }
@@ -76,7 +76,7 @@ pub(crate) fn restore_each(subs: &mut [CommonValues], bytes: &[u8])
 }
 
 /// Restores what the root keeps beside it.
-#[tactic(auto, unfolding(rdm_device::specs::Views::State::own_entries))]
+#[tactic(auto, unfolding(rdm_added::specs::Views::State::own_entries))]
 pub(crate) fn restore_own(values: &mut RootValues, bytes: &[u8], added: &[u8])
     requires own { length bytes.now ≡ 15 + 2 * length values.old.sensors.items }
     requires added { length added.now ≡ 33 * length values.old.added.items }

@@ -1,8 +1,8 @@
 //! From values to the image of them.
 
 ghost use Rattle.std.specs.Prelude.{◌≡◌, ◌≤◌, ◌*◌, ◌-◌, ◌%◌, ◌^◌, ◌++◌, [], ◌∷◌, length, replicate, flat_map, map, sum};
-ghost use Rattle.rdm_device.specs.Views.State.{common_entries, own_entries, sensor_entries, added_entries};
-ghost use Rattle.rdm_device.specs.Device.Values.{word_slots, long_slots, signed_slots};
+ghost use Rattle.rdm_added.specs.Views.State.{common_entries, own_entries, sensor_entries, added_entries};
+ghost use Rattle.rdm_profile.specs.Values.{word_slots, long_slots, signed_slots};
 ghost use Rattle.rdm_saved.specs.SavedText.{device_text, added_text, label_text};
 ghost use Rattle.rdm_saved.specs.Laws.{IsWhole, AreTexts, AreWhole};
 
@@ -21,7 +21,7 @@ pub(crate) const KEPT_BYTES: usize = 33;
 pub(crate) const LABEL_BYTES: usize = 32;
 
 /// Writes what is saved of what every device keeps.
-#[tactic(auto, unfolding(rdm_device::specs::Views::State::common_entries), using(crate::proofs::Whole::common_whole))]
+#[tactic(auto, unfolding(rdm_added::specs::Views::State::common_entries), using(crate::proofs::Whole::common_whole))]
 pub(crate) fn save_common(values: &CommonValues, out: &mut [u8])
     requires { length out.old ≡ 46 }
     ensures text { out.new ≡ device_text (common_entries values.now) }
@@ -132,7 +132,7 @@ fn write_recorded(sensors: &[Measured], out: &mut [u8])
 }
 
 /// What is saved of what the root keeps beside it, but for its sensors.
-#[tactic(auto, unfolding(rdm_device::specs::Views::State::own_entries))]
+#[tactic(auto, unfolding(rdm_added::specs::Views::State::own_entries))]
 pub(crate) fn own_text(values: &RootValues) -> [u8; 15]
     ensures { device_text (own_entries values.now) ≡ result ++ device_text (sensor_entries 0 values.now.sensors.items) }
 {

@@ -1,7 +1,7 @@
 -- The rules of the demonstration end its jobs as its scene says.
 use Rattle.std.proofs.Common.{◌≡◌, ◌↔◌, List, Some, subst}
-use Rattle.rdm_device.specs.Device.Demo.{demo}
-use Rattle.rdm_params.specs.declared.jobs.outcome.Outcome.{Outcome}
+use Rattle.rdm_profile.specs.Demo.{demo}
+use Rattle.rdm_commands.specs.declared.jobs.outcome.Outcome.{Outcome}
 use Rattle.rdm_outbox.specs.declared.job.Job.{Job}
 use Rattle.rdm_outcomes.specs.declared.rule.Rule.{Rule}
 use Rattle.rdm_outcomes.specs.Demo.{demo_rules, demo_outcome}

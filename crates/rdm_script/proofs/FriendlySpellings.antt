@@ -9,13 +9,13 @@ use Rattle.std.proofs.lemmas.Bool.{eqb-true, leb-true, le-leb, ltb-false}
 use Rattle.std.proofs.lemmas.Option.{same_Some, cond_some}
 use Rattle.std.proofs.lemmas.List.{take_more, take_all, take-append-le, length-append}
 use Rattle.std.proofs.lemmas.Slice.Eq.{bytes_eq-Decides}
-use Rattle.rdm_device.specs.declared.profile.own.ParameterDef.{ParameterDef}
+use Rattle.rdm_profile.specs.declared.profile.own.ParameterDef.{ParameterDef}
 use Rattle.rdm_frame.specs.DigitReading.{byte_in, bytes_in, number_in}
 use Rattle.rdm_frame.proofs.NumberSpellings.{long, word_read, word_again}
 use Rattle.rdm_script.specs.declared.dialect.Spelling.{Spelling}
 use Rattle.rdm_script.specs.declared.dialect.Spelling.TheVariants.{Strict, Friendly}
 use Rattle.rdm_script.specs.Decimals.{number_up_to}
-use Rattle.rdm_params.specs.declared.kind.Kind.{Kind}
+use Rattle.rdm_table.specs.declared.kind.Kind.{Kind}
 use Rattle.rdm_params.specs.Table.Kinds.{name_of, kinds, kind_named}
 use Rattle.rdm_params.specs.Table.Names.{named_in, dimmer_names, other_names, pid_named}
 use Rattle.rdm_script.specs.Grammar.{is_plain, sub_named, sub_in, own_named, pid_by_name, pid_in, bytes_load_in, is_shown, is_quoted, between, quoted_in, load_in}

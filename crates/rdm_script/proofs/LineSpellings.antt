@@ -9,11 +9,11 @@ use Rattle.std.proofs.lemmas.Option.{option_and_then_some, same_Some, cond_some}
 use Rattle.std.proofs.lemmas.Slice.Eq.{bytes_eq-Decides}
 use Rattle.rdm_frame.specs.declared.uid.Uid.{Uid}
 use Rattle.rdm_frame.specs.DigitReading.{◌>>=◌}
+use Rattle.rdm_frame.specs.declared.fault.Fault.{Fault}
+use Rattle.rdm_frame.specs.declared.fault.Fault.TheVariants as fault
 use Rattle.rdm_collector.specs.declared.command.Action.{Action}
 use Rattle.rdm_collector.specs.declared.command.Action.TheVariants.{Disc, Get, Set}
 use Rattle.rdm_collector.specs.declared.command.Command.{Command}
-use Rattle.rdm_bus.specs.declared.fault.Fault.{Fault}
-use Rattle.rdm_bus.specs.declared.fault.Fault.TheVariants as fault
 use Rattle.rdm_collector.specs.declared.want.Want.{Want}
 use Rattle.rdm_collector.specs.declared.want.Want.TheVariants.{Advisory, Warning, Error}
 use Rattle.rdm_crew.specs.declared.step.CrewStep.{CrewStep}

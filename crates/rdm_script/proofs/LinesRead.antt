@@ -5,11 +5,11 @@ use Rattle.std.specs.Option.{option_or}
 use Rattle.std.specs.List.{list_any}
 use Rattle.std.proofs.Math.Seq.{drop-cons}
 use Rattle.rdm_script.specs.declared.grammar.line.Line.{Line}
-use Rattle.rdm_trace.specs.declared.found.Finds.{Finds}
-use Rattle.rdm_trace.specs.declared.found.Finds.TheVariants.{Told, Untold}
 use Rattle.rdm_script.specs.Told.{says_find, finds_after}
 use Rattle.rdm_script.specs.StepLines.{step_line, set_line, step_lines_from, set_line_from}
 use Rattle.rdm_script.proofs.Lines.{AtLine}
+use Rattle.rdm_script.specs.declared.found.Finds.{Finds}
+use Rattle.rdm_script.specs.declared.found.Finds.TheVariants.{Told, Untold}
 
 drop_at : (said : List Line) (i : ℕ) (line : Line) (behind : List Line) → AtLine said i line behind → drop i said ≡ line ∷ behind
 drop_at said i line behind here =

@@ -3,9 +3,9 @@ use Rattle.std.proofs.Common.{◌≡◌, ◌<◌, ◌⊎◌, ℕ, suc, List, [],
 use Rattle.std.specs.Bool.{⊤}
 use Rattle.std.specs.Io.KnownBytes.{Appends}
 use Rattle.rdm_frame.specs.declared.uid.Uid.{Uid}
-use Rattle.rdm_device.specs.declared.profile.Profile.{Profile}
-use Rattle.rdm_params.specs.declared.panel.Change.{Change}
-use Rattle.rdm_params.specs.declared.jobs.outcome.Outcome.{Outcome}
+use Rattle.rdm_profile.specs.declared.profile.Profile.{Profile}
+use Rattle.rdm_commands.specs.declared.panel.Change.{Change}
+use Rattle.rdm_commands.specs.declared.jobs.outcome.Outcome.{Outcome}
 use Rattle.rdm_params.specs.Jobs.Work.{Choice}
 use Rattle.rdm_outbox.specs.declared.job.Job.{Job}
 use Rattle.rdm_responder.specs.declared.report.Report.{Report}
@@ -18,10 +18,8 @@ use Rattle.rdm_crew.specs.RunTrace.{IsCut, IsAnswered}
 use Rattle.rdm_crew.specs.Setups.{IsBadSetup, switched_on}
 use Rattle.rdm_crew.specs.Watchers.{AreOffered}
 use Rattle.rdm_crew.specs.Workers.{Answers}
-use Rattle.rdm_trace.specs.declared.found.Finds.{Finds}
 use Rattle.rdm_trace.specs.declared.line.Line.{Line}
 use Rattle.rdm_trace.specs.LineText.{lines_text}
-use Rattle.rdm_trace.specs.RunLines.{trace_lines}
 use Rattle.rdm_script.specs.Dialects.{Dialect}
 use Rattle.rdm_script.specs.declared.dialect.Spelling.{Spelling}
 use Rattle.rdm_script.specs.declared.playing.Unplayed.{Unplayed}
@@ -36,6 +34,8 @@ use Rattle.rdm_script.specs.Running.{crew_setup, IsBad, IsGood, IsScriptRun, Sto
 use Rattle.rdm_script.specs.Scene.{Scene, spoken_at}
 use Rattle.rdm_script.specs.Spelling.{IsScript}
 use Rattle.rdm_script.specs.Told.{finds_of}
+use Rattle.rdm_script.specs.declared.found.Finds.{Finds}
+use Rattle.rdm_script.specs.RunLines.{trace_lines}
 
 pub record IsWider (s t : Scene) : Type 0 where
   pub device : s.device ≡ t.device

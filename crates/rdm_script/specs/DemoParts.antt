@@ -1,8 +1,8 @@
 -- The demonstration: its fixture, how its jobs end, and what its panel offers.
 use Rattle.std.specs.Prelude.{◌≡◌, ℕ, ◌==◌, Option, Some, None, codes, if◌then◌else◌}
-use Rattle.rdm_device.specs.Device.Demo.{demo}
-use Rattle.rdm_params.specs.declared.panel.Change.{Change}
-use Rattle.rdm_params.specs.declared.panel.Change.TheVariants.{Start, Personality, Label}
+use Rattle.rdm_profile.specs.Demo.{demo}
+use Rattle.rdm_commands.specs.declared.panel.Change.{Change}
+use Rattle.rdm_commands.specs.declared.panel.Change.TheVariants.{Start, Personality, Label}
 use Rattle.rdm_outcomes.specs.Demo.{demo_outcome}
 use Rattle.rdm_script.specs.declared.dialect.Spelling.{Spelling}
 use Rattle.rdm_script.specs.declared.dialect.Spelling.TheVariants.{Strict}

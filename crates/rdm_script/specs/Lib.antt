@@ -2,11 +2,13 @@ pub mod Decimals
 pub mod DemoParts
 pub mod Dialects
 pub mod ErrorLine
+pub mod Finds
 pub mod Grammar
 pub mod Parties
 pub mod Playing
 pub mod Program
 pub mod Rules
+pub mod RunLines
 pub mod Running
 pub mod Scene
 pub mod Search

@@ -9,7 +9,6 @@ use Rattle.rdm_crew.specs.declared.stopped.Stopped.{Stopped as Stop}
 use Rattle.rdm_crew.specs.declared.stopped.Stopped.TheVariants as stop
 use Rattle.rdm_crew.specs.Stops.{IsStopAt, error_of}
 use Rattle.rdm_trace.specs.declared.line.Line.{Line}
-use Rattle.rdm_trace.specs.RunLines.{trace_lines}
 use Rattle.rdm_script.specs.Dialects.{Dialect}
 use Rattle.rdm_script.specs.declared.grammar.parsing.ScriptError.{ScriptError}
 use Rattle.rdm_script.specs.declared.grammar.parsing.ScriptError.TheVariants as script
@@ -25,6 +24,7 @@ use Rattle.rdm_script.specs.Scene.{Scene, spoken_at}
 use Rattle.rdm_script.specs.Spelling.{IsScript}
 use Rattle.rdm_script.specs.Told.{finds_of}
 use Rattle.rdm_script.specs.StepLines.{step_lines, setup_line}
+use Rattle.rdm_script.specs.RunLines.{trace_lines}
 
 -- The lines tell of what happens when the script that the text is gets played on the device of the scene, which has just been
 -- switched on, with its parts and its panel, and of what the controller recorded then; and if the script says a search, of the fixtures

@@ -7,7 +7,6 @@ use Rattle.rdm_crew.specs.declared.error.RunError.{RunError}
 use Rattle.rdm_crew.specs.declared.error.RunError.TheVariants as run
 use Rattle.rdm_crew.specs.declared.step.CrewStep.{CrewStep}
 use Rattle.rdm_trace.specs.LineText.{lines_text}
-use Rattle.rdm_trace.specs.RunLines.{trace_lines}
 use Rattle.rdm_script.specs.declared.script.ScriptSetup.{ScriptSetup}
 use Rattle.rdm_script.specs.declared.grammar.parsing.ScriptError.{ScriptError}
 use Rattle.rdm_script.specs.declared.grammar.parsing.ScriptError.TheVariants as script
@@ -18,6 +17,7 @@ use Rattle.rdm_script.specs.Spelling.{IsScript}
 use Rattle.rdm_script.specs.Running.{IsGood, IsScriptRun, Stops}
 use Rattle.rdm_script.specs.Scene.{Scene, spoken_at}
 use Rattle.rdm_script.specs.Told.{finds_of}
+use Rattle.rdm_script.specs.RunLines.{trace_lines}
 
 -- The output is the text of what happens when the script that the input is gets played on the device of the scene, which
 -- has just been switched on, with its parts and its panel, and of what the controller recorded then; and if the script says a search,

@@ -1,7 +1,7 @@
 -- A script is played: how its run is set up, what the run is, and why it stops before its end.
 use Rattle.std.specs.Prelude.{◌≡◌, ◌<◌, ◌⊎◌, List, Some}
 use Rattle.rdm_frame.specs.declared.uid.Uid.{Uid}
-use Rattle.rdm_device.specs.declared.profile.Profile.{Profile}
+use Rattle.rdm_profile.specs.declared.profile.Profile.{Profile}
 use Rattle.rdm_bus.specs.declared.event.Event.{Event}
 use Rattle.rdm_bus.specs.declared.system.PlayError.TheVariants as refused
 use Rattle.rdm_crew.specs.declared.error.RunError.{RunError}

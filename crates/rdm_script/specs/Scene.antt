@@ -1,9 +1,9 @@
 -- What a script is played on.
 use Rattle.std.specs.Prelude.{ℕ}
 use Rattle.rdm_frame.specs.declared.uid.Uid.{Uid}
-use Rattle.rdm_params.specs.declared.panel.Change.{Change}
-use Rattle.rdm_params.specs.declared.jobs.outcome.Outcome.{Outcome}
-use Rattle.rdm_device.specs.declared.profile.Profile.{Profile}
+use Rattle.rdm_commands.specs.declared.panel.Change.{Change}
+use Rattle.rdm_commands.specs.declared.jobs.outcome.Outcome.{Outcome}
+use Rattle.rdm_profile.specs.declared.profile.Profile.{Profile}
 use Rattle.rdm_outbox.specs.declared.job.Job.{Job}
 use Rattle.rdm_script.specs.Dialects.{Dialect}
 use Rattle.rdm_script.specs.declared.dialect.Spelling.{Spelling}

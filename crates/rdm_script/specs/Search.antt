@@ -3,8 +3,8 @@ use Rattle.std.specs.Prelude.{ℕ, List, [], ◌∷◌, ◌++◌}
 use Rattle.rdm_frame.specs.declared.uid.Uid.{Uid}
 use Rattle.rdm_frame.specs.Addressing.{all_devices}
 use Rattle.rdm_frame.specs.FrameText.{uid_slots}
+use Rattle.rdm_frame.specs.declared.fault.Fault.TheVariants as fault
 use Rattle.rdm_collector.specs.declared.command.Action.TheVariants.{Disc}
-use Rattle.rdm_bus.specs.declared.fault.Fault.TheVariants as fault
 use Rattle.rdm_crew.specs.declared.step.CrewStep.{CrewStep}
 use Rattle.rdm_crew.specs.declared.step.CrewStep.TheVariants.{Ask}
 use Rattle.rdm_script.specs.declared.dialect.Spelling.{Spelling}

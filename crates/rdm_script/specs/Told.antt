@@ -1,12 +1,12 @@
 -- Whether the trace of a script tells which fixtures are found.
 use Rattle.std.specs.Prelude.{ℕ, Bool, true, false, List, if◌then◌else◌}
 use Rattle.std.specs.List.{list_any}
-use Rattle.rdm_trace.specs.declared.found.Finds.{Finds as WhetherTold}
-use Rattle.rdm_trace.specs.declared.found.Finds.TheVariants.{Told, Untold}
 use Rattle.rdm_script.specs.Dialects.{Dialect}
 use Rattle.rdm_script.specs.declared.grammar.line.Line.{Line}
 use Rattle.rdm_script.specs.declared.grammar.line.Line.TheVariants.{Skipped, Sets, Says, Finds, Faulty}
 use Rattle.rdm_script.specs.Grammar.{said_by, lines_of}
+use Rattle.rdm_script.specs.declared.found.Finds.{Finds as WhetherTold}
+use Rattle.rdm_script.specs.declared.found.Finds.TheVariants.{Told, Untold}
 
 -- a line says a search
 abbrev pub says_find : Line → Bool

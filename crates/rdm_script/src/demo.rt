@@ -1,7 +1,7 @@
 //! The fixture of the demonstration: its jobs end by rules, and its panel offers four changes.
 
 ghost use Rattle.std.specs.Prelude.{◌≡◌};
-ghost use Rattle.rdm_device.specs.Device.Demo.{demo};
+ghost use Rattle.rdm_profile.specs.Demo.{demo};
 ghost use Rattle.rdm_outcomes.specs.Demo as says;
 ghost use Rattle.rdm_script.specs.Parties.{demo_device};
 ghost use Rattle.rdm_script.specs.Rules.{rules_of};

@@ -2,12 +2,11 @@
 
 ghost use Rattle.std.specs.Prelude.{◌≡◌, ◌↔◌, ℕ, List, IsTrue, false};
 ghost use Rattle.rdm_frame.specs.declared.uid.Uid.{Uid as TheUid};
-ghost use Rattle.rdm_device.specs.declared.profile.own.ParameterDef.{ParameterDef as TheParameter};
+ghost use Rattle.rdm_profile.specs.declared.profile.own.ParameterDef.{ParameterDef as TheParameter};
 ghost use Rattle.rdm_crew.specs.declared.step.CrewStep.{CrewStep as TheStep};
-ghost use Rattle.rdm_script.specs.Dialects.{strict, friendly};
+ghost use Rattle.rdm_script.specs.Dialects.{strict, friendly, Dialect as TheDialect};
 ghost use Rattle.rdm_script.specs.Spelling.{SpellsStep, SpellsFind, SpellsSetup, IsScript};
 ghost use Rattle.rdm_script.specs.Grammar.{is_skipped, line_in, first_line_in, Refuses};
-ghost use Rattle.rdm_script.specs.Dialects.{Dialect as TheDialect};
 ghost use Rattle.rdm_script.specs.declared.script.ScriptSetup.{ScriptSetup as TheSetup};
 ghost use Rattle.rdm_script.specs.declared.grammar.line.Line.TheVariants.{Sets, Says, Finds};
 ghost use Rattle.rdm_script.specs.declared.grammar.parsing.ScriptError.{ScriptError as TheError};

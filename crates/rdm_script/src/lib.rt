@@ -5,13 +5,15 @@
 //! other, and `run_program` ends a program with what came of it. `play_script` plays a text, and gives the lines of its trace, or the
 //! line at which it stops. `parse_as` reads strict scripts and friendly ones. The language stands in `specs/Spelling.antt`, what
 //! `find` spells in `specs/Search.antt`, how a run is set up and why it stops in `specs/Running.antt`, the demonstration in
-//! `specs/DemoParts.antt`. What a run is, rdm_crew says, and rdm_trace has the lines of its trace.
+//! `specs/DemoParts.antt`. `trace_lines` gives the lines of a run: which these are stands in `specs/RunLines.antt`, and whom a
+//! transaction finds in `specs/Finds.antt`. What a run is, rdm_crew says, and how a line is written rdm_trace.
 #![tactic(auto)]
 
 mod demo;
 mod dialect;
 mod error_line;
 mod exit;
+mod found;
 mod grammar;
 mod laws;
 mod parties;
@@ -19,6 +21,7 @@ mod playing;
 mod program;
 mod refusal;
 mod rules;
+mod run_lines;
 mod running;
 mod script;
 mod stage;
@@ -27,6 +30,7 @@ mod streams;
 pub use demo::DemoPanel;
 pub use dialect::{Dialect, Spelling};
 pub use exit::{report, run_program};
+pub use found::Finds;
 pub use grammar::{MOST_BYTES, ScriptError, parse, parse_as, refusal_at};
 pub use laws::{
     line_says_what_its_words_spell, program_errors_are_equal_by_value, refusals_are_equal_by_value,
@@ -39,5 +43,6 @@ pub use playing::{Unplayed, play_demonstration, play_script};
 pub use program::{ProgramError, run_script, run_script_on};
 pub use refusal::{Excerpt, Reason, Refusal, Wanted};
 pub use rules::{RuledPart, ruled_parts_fit};
+pub use run_lines::trace_lines;
 pub use script::{Script, ScriptSetup};
 pub use stage::Stage;

@@ -5,7 +5,7 @@ ghost use Rattle.rdm_crew.specs.RunTrace.{FitsFor};
 ghost use Rattle.rdm_outbox.specs.declared.job.Job.{Job as TheJob};
 ghost use Rattle.rdm_outcomes.specs.declared.rule.Rule.{Rule as TheRule};
 ghost use Rattle.rdm_outcomes.specs.Outcomes.{CanEnd, outcome_of};
-ghost use Rattle.rdm_params.specs.declared.jobs.outcome.Outcome.{Outcome as TheOutcome};
+ghost use Rattle.rdm_commands.specs.declared.jobs.outcome.Outcome.{Outcome as TheOutcome};
 ghost use Rattle.rdm_params.specs.Jobs.Work.{Choice};
 ghost use Rattle.rdm_script.specs.Rules.{rules_of, HasDone};
 ghost use Rattle.rdm_script.specs.declared.rules.RuledPart.{RuledPart as ThePart};

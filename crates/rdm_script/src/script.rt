@@ -1,8 +1,8 @@
 //! What a script says.
 
+use crate::found::Finds;
 use rdm_bus::Want;
 use rdm_crew::CrewStep;
-use rdm_trace::Finds;
 
 /// How the device and the controller of a script are set up.
 #[derive(Clone, Copy, Debug, PartialEq, Eq)]

@@ -109,13 +109,15 @@ Stands (Asking r) found line = IsLeft r.depth r.index found line
 Stands (Muting r uid) found line = IsLeft r.depth r.index found line × IsDue r uid line
 Stands Ended found line = IsReal found line × All (λ f. f.muted ≡ true → Contains found f.uid) line × All (λ f. f.muted ≡ true) line
 
--- ---- how many transactions are left at most, twice
+-- ---- how many transactions are left at most, in half transactions
 
--- those that the fixtures of a range take
+-- The fixtures of a range. At depth 48, where a range is one UID, each takes two transactions: a question that it answers, and its mute.
+-- For each halving before that it takes one and a half more.
 abbrev pub busy : ℕ → ℕ → List Fixture → ℕ
 busy depth index line = count depth index line * (148 - 3 * depth)
 
--- those that come after a range
+-- The ranges that come after this one. Where it is a lower half, the upper half beside it: a question that nobody answers any more, and
+-- its fixtures. Then what comes after the range that both are halves of.
 abbrev pub later : ℕ → ℕ → List Fixture → ℕ
 later zero index line = 0
 later (suc depth) index line =
@@ -125,6 +127,9 @@ later (suc depth) index line =
 abbrev pub is_astray : Range → Uid → List Fixture → Bool
 is_astray r u line = nat_lt (count r.depth r.index line) 2 && not (is_unmuted u line)
 
+-- What a stage has before it. At the start that is DISC_UN_MUTE, a question to the range of all UIDs that nobody answers any more, and all
+-- fixtures; where a range is asked, such a question, its fixtures, and the ranges after it; where a UID is muted, the same without the
+-- question, and a transaction and a half more if that UID came of an altered answer.
 abbrev pub price : Stage → List Fixture → ℕ
 price Start line = 4 + 148 * length line
 price (Asking r) line = 2 + busy r.depth r.index line + later r.depth r.index line

@@ -1,7 +1,6 @@
 //! A search is run over a port.
 
-ghost use Rattle.std.specs.Prelude.{◌≡◌, ◌≢◌, ◌+◌, ◌-◌, ◌*◌, ◌<◌, ◌≤◌, true, false, [], length, All, AllPairs, Contains};
-ghost use Rattle.std.specs.Prelude.{IfOk, OnOk, OnErr};
+ghost use Rattle.std.specs.Prelude.{◌≡◌, ◌≢◌, ◌+◌, ◌-◌, ◌*◌, ◌<◌, ◌≤◌, true, false, [], length, All, AllPairs, Contains, IfOk, OnOk, OnErr};
 ghost use Rattle.rdm_search.specs.Answers.{found_uids};
 ghost use Rattle.rdm_search.specs.Exchanges.{HasHeard};
 ghost use Rattle.rdm_search.specs.Line.{IsDevice, IsFound, uids, unmuted};

@@ -16,8 +16,7 @@ pub struct Found {
 }
 
 impl Found {
-    ghost use Rattle.std.specs.Prelude.{◌≡◌};
-    ghost use Rattle.std.specs.Prelude.{Some, None, is_some, if◌then◌else◌};
+    ghost use Rattle.std.specs.Prelude.{◌≡◌, Some, None, is_some, if◌then◌else◌};
     ghost use Rattle.rdm_search.specs.Answers.{found_in, is_mute_answer, mute_answer};
 
     /// What the bytes say, if they are the answer of that device to its mute.

@@ -1,7 +1,7 @@
 //! Searches over a line.
 
 use rdm_frame::{Frame, Uid, Wire};
-use rdm_search::{LossyPort, Port, WithRetries, discover, discover_lossy, discover_more};
+use rdm_search::{Port, discover, discover_more};
 use std::test::Fail;
 
 const CONSOLE: Uid = Uid {
@@ -33,28 +33,6 @@ impl Port for Empty {
     }
 }
 
-impl LossyPort for Empty {
-    ghost use Rattle.std.specs.Prelude.{◌≡◌, []};
-
-    ghost fixtures = { λ _. [] };
-
-    ghost hears = { λ _ _ heard _. heard ≡ [] };
-
-    ghost sent = { λ p. p.sent };
-
-    ghost altered = { λ _. 0 };
-
-    ghost lost = { λ _. 0 };
-
-    ghost may_lose = { λ _ n. n ≡ 0 };
-
-    #[tactic(auto, using(crate::proofs::Empties::nothing_comes, crate::proofs::Empties::nobody_after))]
-    fn exchange(&mut self, _frame: &Frame) -> Wire {
-        self.sent = self.sent.saturating_add(1);
-        Wire::new()
-    }
-}
-
 /// DISC_UN_MUTE, and the branch of all UIDs.
 #[test]
 fn nobody_is_found_where_nobody_is(rt: HostRuntime) -> Result<(), Fail> {
@@ -65,19 +43,5 @@ fn nobody_is_found_where_nobody_is(rt: HostRuntime) -> Result<(), Fail> {
     let found = discover_more(&mut line, CONSOLE, found, 1)?;
     assert!(rt; found.is_empty());
     assert_eq!(rt; line.sent, 3);
-    Ok(())
-}
-
-/// Each of the two, and twice more.
-#[test]
-fn silence_is_asked_again(rt: HostRuntime) -> Result<(), Fail> {
-    let mut line = WithRetries::new(Empty { sent: 0 }, 2);
-    let found = discover(rt.alloc(), &mut line, CONSOLE, 2)?;
-    assert!(rt; found.is_empty());
-    assert_eq!(rt; line.into_port().sent, 6);
-    let mut line = Empty { sent: 0 };
-    let found = discover_lossy(rt.alloc(), &mut line, CONSOLE, 3, 2)?;
-    assert!(rt; found.is_empty());
-    assert_eq!(rt; line.sent, 8);
     Ok(())
 }

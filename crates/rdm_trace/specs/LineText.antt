@@ -7,14 +7,14 @@ use Rattle.std.specs.List.{AllByRecursion, flat_map}
 use Rattle.rdm_frame.specs.FrameText.{IsUid}
 use Rattle.rdm_frame.specs.Digits.{digits}
 use Rattle.rdm_frame.specs.UidText.{uid_text}
-use Rattle.rdm_params.specs.declared.panel.Change.{Change}
-use Rattle.rdm_params.specs.declared.panel.Change.TheVariants.{Start, Personality, Label}
-use Rattle.rdm_params.specs.declared.jobs.outcome.Outcome.{Outcome}
-use Rattle.rdm_params.specs.declared.jobs.outcome.Outcome.TheVariants.{Done, Reading, Failed}
-use Rattle.rdm_params.specs.declared.jobs.status.Severity.{Severity}
-use Rattle.rdm_params.specs.Jobs.Severities.{severity_code}
-use Rattle.rdm_bus.specs.declared.fault.Fault.{Fault}
-use Rattle.rdm_bus.specs.declared.fault.Fault.TheVariants as fault
+use Rattle.rdm_frame.specs.declared.status.Severity.{Severity}
+use Rattle.rdm_frame.specs.Severities.{severity_code}
+use Rattle.rdm_frame.specs.declared.fault.Fault.{Fault}
+use Rattle.rdm_frame.specs.declared.fault.Fault.TheVariants as fault
+use Rattle.rdm_commands.specs.declared.panel.Change.{Change}
+use Rattle.rdm_commands.specs.declared.panel.Change.TheVariants.{Start, Personality, Label}
+use Rattle.rdm_commands.specs.declared.jobs.outcome.Outcome.{Outcome}
+use Rattle.rdm_commands.specs.declared.jobs.outcome.Outcome.TheVariants.{Done, Reading, Failed}
 use Rattle.rdm_collector.specs.declared.transaction.Heard.{Heard as TheHeard}
 use Rattle.rdm_collector.specs.declared.transaction.Heard.TheVariants as heard
 use Rattle.rdm_trace.specs.declared.line.JobName.{JobName}

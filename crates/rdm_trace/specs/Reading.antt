@@ -5,14 +5,14 @@ use Rattle.std.specs.Int.{w16}
 use Rattle.std.specs.Str.{bytes_eq}
 use Rattle.std.specs.List.{before_first, after_first}
 use Rattle.rdm_frame.specs.DigitReading.{◌>>=◌, byte_in, bytes_in, number_in, uid_in}
-use Rattle.rdm_params.specs.declared.panel.Change.{Change}
-use Rattle.rdm_params.specs.declared.panel.Change.TheVariants.{Start, Personality, Label}
-use Rattle.rdm_params.specs.declared.jobs.message.Message.{Message as TheMessage}
-use Rattle.rdm_params.specs.declared.jobs.outcome.Outcome.{Outcome}
-use Rattle.rdm_params.specs.declared.jobs.outcome.Outcome.TheVariants.{Done, Reading, Failed}
-use Rattle.rdm_params.specs.Jobs.Severities.{severity_in}
-use Rattle.rdm_bus.specs.declared.fault.Fault.{Fault}
-use Rattle.rdm_bus.specs.declared.fault.Fault.TheVariants as fault
+use Rattle.rdm_frame.specs.declared.message.Message.{Message as TheMessage}
+use Rattle.rdm_frame.specs.Severities.{severity_in}
+use Rattle.rdm_frame.specs.declared.fault.Fault.{Fault}
+use Rattle.rdm_frame.specs.declared.fault.Fault.TheVariants as fault
+use Rattle.rdm_commands.specs.declared.panel.Change.{Change}
+use Rattle.rdm_commands.specs.declared.panel.Change.TheVariants.{Start, Personality, Label}
+use Rattle.rdm_commands.specs.declared.jobs.outcome.Outcome.{Outcome}
+use Rattle.rdm_commands.specs.declared.jobs.outcome.Outcome.TheVariants.{Done, Reading, Failed}
 use Rattle.rdm_collector.specs.declared.transaction.Heard.{Heard as TheHeard}
 use Rattle.rdm_collector.specs.declared.transaction.Heard.TheVariants as heard
 use Rattle.rdm_trace.specs.declared.line.JobName.{JobName}

@@ -5,7 +5,7 @@ ghost use Rattle.rdm_trace.specs.Reading.{fault_in, lost_in, altered_in};
 
 use crate::numbers;
 use crate::words::first_word;
-use rdm_bus::Fault;
+use rdm_frame::Fault;
 
 /// What goes wrong, in the words of a script.
 #[tactic(auto, unfolding(crate::specs::Reading::fault_in))]

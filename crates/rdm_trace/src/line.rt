@@ -1,8 +1,7 @@
 //! What a line of a trace says.
 
-use rdm_bus::Fault;
 use rdm_collector::Heard;
-use rdm_frame::{Uid, Wire};
+use rdm_frame::{Fault, Uid, Wire};
 use rdm_params::{Change, Message, Outcome};
 
 /// A line of a trace.

@@ -9,10 +9,9 @@ ghost use Rattle.rdm_trace.specs.declared.line.Line.TheVariants.{Message as TheM
 use crate::put::{put_data, put_number, put_pair, put_status, put_word};
 use crate::time::put_seconds;
 use crate::{JobName, Line};
-use rdm_bus::Fault;
 use rdm_collector::Heard;
 use rdm_frame::digits::put_digits;
-use rdm_frame::{Uid, Wire};
+use rdm_frame::{Fault, Uid, Wire};
 use rdm_params::{Change, Message, Outcome};
 use std::alloc::AllocError;
 

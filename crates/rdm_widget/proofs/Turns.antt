@@ -6,6 +6,7 @@ use Rattle.std.proofs.lemmas.List.{map-append, take_all, length-drop, drop-drop}
 use Rattle.rdm_messages.specs.Framing.{Message, IsMessage, message_bytes, bytes_of, IsUnfinished, IsStray, Begins}
 use Rattle.rdm_messages.specs.Hearing.{Hearing}
 use Rattle.rdm_messages.specs.Protocol.{answer_to, after_message}
+use Rattle.rdm_messages.specs.Ends.{end_at}
 use Rattle.rdm_messages.specs.Serving.{Turn, messages_in, times_of, after_turns, answer_in, answers, Tells, IsServed, AreDone, AllWritten, LastCutShort, IsServedOnce, IsCutShort}
 use Rattle.rdm_messages.proofs.Frames.{unfinished_none}
 use Rattle.rdm_messages.proofs.Beginnings.{begins_none, begins_stray, begins_said, begins_then, begins_more}
@@ -143,16 +144,22 @@ said_done tells line a b bytes rest m now s d W is whole told written situation 
 -- ---- what has been served
 
 pub served : {C D S : Type 0} (tells : C → ℕ → C → Type 0) (line : Hearing D S) (a b : C) (unread left old new : Option (List ℕ)) (input rest : List ℕ) (s : S) (d : D)
-    → Consumes unread left input → AreDone tells line a b input rest s d (AllWritten line old new) → IsUnfinished rest → IsServed tells line a b unread left old new s d
-served tells line a b unread left old new input rest s d read done unfinished = record {
-  input = input;
-  turns = done.turns;
-  read = read;
-  holds = record { rest = rest; begins = done.begins; unfinished = unfinished };
-  times = done.times;
-  written = done.written;
-  situation = done.situation;
-}
+    → Consumes unread left input → AreDone tells line a b input rest s d (AllWritten line old new) → IsUnfinished rest
+    → (kept : List ℕ) × IsServed tells line (end_at a unread old []) (end_at b left new kept) s d
+served tells line a b unread left old new input rest s d read done unfinished = (
+  rest,
+  record {
+    none_held = refl;
+    input = input;
+    turns = done.turns;
+    read = read;
+    begins = done.begins;
+    unfinished = unfinished;
+    times = done.times;
+    written = done.written;
+    situation = done.situation;
+  },
+)
 
 -- ---- an answer that is written, whole or in part
 
@@ -245,7 +252,7 @@ nothing_so_far tells line a unread old held s d none is = record {
 
 pub read_once : {C D S : Type 0} (tells : C → ℕ → C → Type 0) (line : Hearing D S) (a b : C) (unread left old new : Option (List ℕ)) (held bytes buffer kept : List ℕ) (count done : ℕ) (s : S) (d : D)
     → buffer ≡ held ++ bytes → length bytes ≡ count → Consumes unread left bytes → kept ≡ drop done buffer → AreDone tells line a b buffer (drop done buffer) s d (AllWritten line old new)
-    → IsUnfinished (drop done buffer) → IsServedOnce tells line a b unread left old new held kept count s d
+    → IsUnfinished (drop done buffer) → IsServedOnce tells line (end_at a unread old held) (end_at b left new kept) count s d
 read_once tells line a b unread left old new held bytes buffer kept count done s d is size read kept_is all unfinished = record {
   input = bytes;
   size = size;
@@ -256,10 +263,10 @@ read_once tells line a b unread left old new held bytes buffer kept count done s
   unfinished = subst IsUnfinished (sym kept_is) unfinished;
 }
 
-pub cut_once : {C D S : Type 0} (tells : C → ℕ → C → Type 0) (line : Hearing D S) (a b : C) (unread left old new : Option (List ℕ)) (held bytes buffer : List ℕ) (s : S) (d : D)
+pub cut_once : {C D S : Type 0} (tells : C → ℕ → C → Type 0) (line : Hearing D S) (a b : C) (unread left old new : Option (List ℕ)) (held kept bytes buffer : List ℕ) (s : S) (d : D)
     → buffer ≡ held ++ bytes → Consumes unread left bytes → (rest : List ℕ) × AreDone tells line a b buffer rest s d (LastCutShort line old new)
-    → IsCutShort tells line a b unread left old new held s d
-cut_once tells line a b unread left old new held bytes buffer s d is read short = record {
+    → IsCutShort tells line (end_at a unread old held) (end_at b left new kept) s d
+cut_once tells line a b unread left old new held kept bytes buffer s d is read short = record {
   input = bytes;
   rest = short.0;
   read = read;
@@ -267,7 +274,7 @@ cut_once tells line a b unread left old new held bytes buffer s d is read short 
 }
 
 pub served_on : {C D S : Type 0} (tells : C → ℕ → C → Type 0) (line : Hearing D S) (a b c : C) (unread then left old mid new : Option (List ℕ)) (held kept : List ℕ) (count : ℕ) (s : S) (d e : D)
-    → SoFar tells line a b unread then old mid held s d → ((t : S) → line.is_in d t → IsServedOnce tells line b c then left mid new held kept count t e)
+    → SoFar tells line a b unread then old mid held s d → ((t : S) → line.is_in d t → IsServedOnce tells line (end_at b then mid held) (end_at c left new kept) count t e)
     → SoFar tells line a c unread left old new kept s e
 unfolding more_read
 served_on tells line a b c unread then left old mid new held kept count s d e so next =
@@ -283,11 +290,11 @@ served_on tells line a b c unread then left old mid new held kept count s d e so
       unfinished = two.unfinished;
     }
 
-pub fails_on : {C D S : Type 0} (tells : C → ℕ → C → Type 0) (line : Hearing D S) (a b c : C) (unread then left old mid new : Option (List ℕ)) (held : List ℕ) (s : S) (d e : D)
-    → SoFar tells line a b unread then old mid held s d → ((t : S) → line.is_in d t → IsCutShort tells line b c then left mid new held t e)
-    → IsCutShort tells line a c unread left old new [] s e
+pub fails_on : {C D S : Type 0} (tells : C → ℕ → C → Type 0) (line : Hearing D S) (a b c : C) (unread then left old mid new : Option (List ℕ)) (held kept : List ℕ) (s : S) (d e : D)
+    → SoFar tells line a b unread then old mid held s d → ((t : S) → line.is_in d t → IsCutShort tells line (end_at b then mid held) (end_at c left new kept) t e)
+    → IsCutShort tells line (end_at a unread old []) (end_at c left new []) s e
 unfolding more_read
-fails_on tells line a b c unread then left old mid new held s d e so next =
+fails_on tells line a b c unread then left old mid new held kept s d e so next =
     let two = next (after_turns line s so.done.turns) so.done.situation in
     let first : AreDone tells line a b (so.input ++ two.input) (held ++ two.input) s d (AllWritten line old mid) =
     more_read tells line a b so.input held two.input s d (AllWritten line old mid) so.done in
@@ -301,22 +308,23 @@ fails_on tells line a b c unread then left old mid new held s d e so next =
     }
 
 pub all_served : {C D S : Type 0} (tells : C → ℕ → C → Type 0) (line : Hearing D S) (a b : C) (unread left old new : Option (List ℕ)) (held : List ℕ) (s : S) (d : D)
-    → SoFar tells line a b unread left old new held s d → IsServed tells line a b unread left old new s d
+    → SoFar tells line a b unread left old new held s d → (kept : List ℕ) × IsServed tells line (end_at a unread old []) (end_at b left new kept) s d
 all_served tells line a b unread left old new held s d so = served tells line a b unread left old new so.input held s d so.read so.done so.unfinished
 
 -- a read that failed
 pub not_read : {C D S : Type 0} (tells : C → ℕ → C → Type 0) (line : Hearing D S) (a b : C) (unread then left old new : Option (List ℕ)) (held : List ℕ) (s : S) (d : D)
-    → Keeps then left → SoFar tells line a b unread then old new held s d → IsServed tells line a b unread left old new s d
+    → Keeps then left → SoFar tells line a b unread then old new held s d → (kept : List ℕ) × IsServed tells line (end_at a unread old []) (end_at b left new kept) s d
 not_read tells line a b unread then left old new held s d kept so =
     served tells line a b unread left old new so.input held s d (consumes_kept unread then left so.input so.read kept) so.done so.unfinished
 
 -- and changed nothing
 pub still_served : {C D S : Type 0} (tells : C → ℕ → C → Type 0) (line : Hearing D S) (a b c : C) (unread then left old new same : Option (List ℕ)) (held : List ℕ) (s : S) (d e : D)
-    → c ≡ b → same ≡ new → e ≡ d → Keeps then left → SoFar tells line a b unread then old new held s d → IsServed tells line a c unread left old same s e
+    → c ≡ b → same ≡ new → e ≡ d → Keeps then left → SoFar tells line a b unread then old new held s d
+    → (kept : List ℕ) × IsServed tells line (end_at a unread old []) (end_at c left same kept) s e
 still_served tells line a b c unread then left old new same held s d e clock writer stays kept so =
-    subst (λ x. IsServed tells line a x unread left old same s e) (sym clock)
-    (subst (λ (l : Option (List ℕ)). IsServed tells line a b unread left old l s e) (sym writer)
-    (subst (λ x. IsServed tells line a b unread left old new s x) (sym stays) (not_read tells line a b unread then left old new held s d kept so)))
+    subst (λ x. (kept : List ℕ) × IsServed tells line (end_at a unread old []) (end_at x left same kept) s e) (sym clock)
+    (subst (λ (l : Option (List ℕ)). (kept : List ℕ) × IsServed tells line (end_at a unread old []) (end_at b left l kept) s e) (sym writer)
+    (subst (λ x. (kept : List ℕ) × IsServed tells line (end_at a unread old []) (end_at b left new kept) s x) (sym stays) (not_read tells line a b unread then left old new held s d kept so)))
 
 -- the same fault of another call
 abbrev pub as_fault : {A B E : Type 0} → E → Result A E → Result B E

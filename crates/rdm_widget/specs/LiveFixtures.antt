@@ -1,6 +1,6 @@
 -- The fixture in time: a worker has one job at a time, which ends when its estimate has passed. Times are in milliseconds.
 use Rattle.std.specs.Prelude.{◌≡◌, ℕ, zero, suc, ◌+◌, ◌*◌, ◌==◌, List, [], ◌∷◌, nat_lt, nat_le, slice_get, Option, Some, None, if◌then◌else◌}
-use Rattle.rdm_params.specs.declared.panel.Change.{Change}
+use Rattle.rdm_commands.specs.declared.panel.Change.{Change}
 use Rattle.rdm_params.specs.Device.Parameters.{Parameters}
 use Rattle.rdm_params.specs.Jobs.Work.{worker_at, estimate_of}
 use Rattle.rdm_outbox.specs.declared.job.Job.{Job}

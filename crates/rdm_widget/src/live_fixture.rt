@@ -3,15 +3,14 @@
 ghost use Rattle.std.specs.Prelude.{◌≡◌, ◌≢◌, ◌↔◌, ℕ, Some, IsOk, IfOk, OnOk, OnErr, IfErr, IsErrOf};
 ghost use Rattle.std.specs.Result.{result_err};
 ghost use Rattle.rdm_params.specs.Commands.Placing.{place_refusal};
-ghost use Rattle.rdm_params.specs.Device.Profiles.{CanBeMade};
 ghost use Rattle.rdm_outbox.specs.Jobs.{outstanding_count};
-ghost use Rattle.rdm_outbox.specs.State.{most_entries};
 ghost use Rattle.rdm_responder.specs.History.{Changed, Placed, Restored, then_event};
 ghost use Rattle.rdm_responder.specs.Lawful.{IsLawful, MayChange};
 ghost use Rattle.rdm_responder.specs.Laws.{values_of};
 ghost use Rattle.rdm_responder.specs.Rules.{account_of, answered, reply_of};
 ghost use Rattle.rdm_responder.specs.Runs.{IsChange, outbox_of};
-ghost use Rattle.rdm_responder.specs.StandsFor.{IsQueueSize, StandsFor};
+ghost use Rattle.rdm_responder.specs.Settings.{HasBadProfile, HasBadSize, HasBadUid, setup_with, usual_settings};
+ghost use Rattle.rdm_responder.specs.StandsFor.{StandsFor};
 ghost use Rattle.rdm_saved.specs.Restoring.{restore_refusal};
 ghost use Rattle.rdm_widget.specs.LiveFixtures.{Situation, IsIn, switched_on, worker_in, oldest_of, first_ended, after_report, after_next, after_several, begun, ready, after_heard, after_panel, after_placing, after_restore};
 
@@ -50,11 +49,10 @@ impl LiveFixture {
         rules: &ArrayVec<Rule, MOST_RULES>,
     ) -> Result<LiveFixture, NewError>
         ensures fixture { IfOk result (λ d.
-            IsIn d (switched_on rules.now.items (record { uid = uid; profile = profile; queue_size = queue_size; entries = most_entries; first_job = 0 }))) }
-        ensures bad_uid { IsErrOf result NewError.BadUid ↔ (uid.device ≡ 0xFFFFFFFF) }
-        ensures bad_size { IsErrOf result NewError.BadSize ↔ ((uid.device ≢ 0xFFFFFFFF) × ¬ IsQueueSize queue_size) }
-        ensures bad_profile { IsErrOf result NewError.BadProfile
-            ↔ ((uid.device ≢ 0xFFFFFFFF) × IsQueueSize queue_size × ¬ CanBeMade profile) }
+            IsIn d (switched_on rules.now.items (setup_with (usual_settings uid queue_size) profile))) }
+        ensures bad_uid { IsErrOf result NewError.BadUid ↔ HasBadUid (usual_settings uid queue_size) }
+        ensures bad_size { IsErrOf result NewError.BadSize ↔ HasBadSize (usual_settings uid queue_size) }
+        ensures bad_profile { IsErrOf result NewError.BadProfile ↔ HasBadProfile (usual_settings uid queue_size) profile }
     {
         match Responder::new(alloc, uid, profile, queue_size) {
             Ok(responder) => Ok(LiveFixture {

@@ -1,8 +1,9 @@
 //! A stream of messages is read, and each is answered.
 
-ghost use Rattle.std.specs.Prelude.{◌≡◌, ◌≤◌, ◌<◌, ◌+◌, [], length, IfOk, OnOk};
+ghost use Rattle.std.specs.Prelude.{◌≡◌, ◌≤◌, ◌<◌, ◌+◌, ℕ, List, [], length, IfOk, OnOk};
 ghost use Rattle.std.specs.Io.KnownBytes.{IsAtEnd, Keeps};
 ghost use Rattle.rdm_widget.specs.declared.serving.ServeError.TheVariants.{Read as ReadFault, Write as WriteFault};
+ghost use Rattle.rdm_messages.specs.Ends.{end_at};
 ghost use Rattle.rdm_messages.specs.Serving.{IsServed, IsServedOnce, IsCutShort};
 
 use crate::answering::answer_all;
@@ -35,9 +36,9 @@ pub fn serve_some<R: Read, W: Write, C: Clock, L: OnLine>(
 ) -> Result<usize, ServeError>
     requires { length held.old < 605 }
     // All messages that are whole are answered, and only the beginning of one is held.
-    ensures ok { IfOk result (λ count. (s : L.Situation) → L.hearing.is_in line.old s → IsServedOnce C.tells L.hearing clock.old clock.new
-        (R.remaining reader.old) (R.remaining reader.new) (W.contents writer.old) (W.contents writer.new)
-        held.old held.new count s line.new) }
+    ensures ok { IfOk result (λ count. (s : L.Situation) → L.hearing.is_in line.old s → IsServedOnce C.tells L.hearing
+        (end_at clock.old (R.remaining reader.old) (W.contents writer.old) held.old)
+        (end_at clock.new (R.remaining reader.new) (W.contents writer.new) held.new) count s line.new) }
     // No more is read than there is room for behind what was held.
     ensures within { IfOk result (λ count. length held.old + count ≤ 605) }
     ensures room { OnOk result (length held.new < 605) }
@@ -46,8 +47,9 @@ pub fn serve_some<R: Read, W: Write, C: Clock, L: OnLine>(
     ensures read { result ≡ Err ReadFault → Keeps (R.remaining reader.old) (R.remaining reader.new)
         × (writer.new ≡ writer.old) × (clock.new ≡ clock.old) × (line.new ≡ line.old) × (held.new ≡ held.old) }
     // Where the writer failed, a message was read whose answer isn't all written, and the answers before it are.
-    ensures write { result ≡ Err WriteFault → (s : L.Situation) → L.hearing.is_in line.old s → IsCutShort C.tells L.hearing clock.old clock.new
-        (R.remaining reader.old) (R.remaining reader.new) (W.contents writer.old) (W.contents writer.new) held.old s line.new }
+    ensures write { result ≡ Err WriteFault → (s : L.Situation) → L.hearing.is_in line.old s → IsCutShort C.tells L.hearing
+        (end_at clock.old (R.remaining reader.old) (W.contents writer.old) held.old)
+        (end_at clock.new (R.remaining reader.new) (W.contents writer.new) held.new) s line.new }
 {
     let Ok(count) = take_more(reader, held) else {
         return Err(ServeError::Read);
@@ -69,16 +71,19 @@ pub fn serve<R: Read, W: Write, C: Clock, L: OnLine>(
     line: &mut L,
 ) -> Result<(), ServeError>
     // All messages of the stream are answered,
-    ensures ok { OnOk result ((s : L.Situation) → L.hearing.is_in line.old s → IsServed C.tells L.hearing clock.old clock.new
-        (R.remaining reader.old) (R.remaining reader.new) (W.contents writer.old) (W.contents writer.new) s line.new) }
+    ensures ok { OnOk result ((s : L.Situation) → L.hearing.is_in line.old s → (held : List ℕ) × IsServed C.tells L.hearing
+        (end_at clock.old (R.remaining reader.old) (W.contents writer.old) [])
+        (end_at clock.new (R.remaining reader.new) (W.contents writer.new) held) s line.new) }
     // and it is read to its end.
     ensures whole { OnOk result (IsAtEnd (R.remaining reader.new)) }
     // Where the reader failed, all messages of what was read before are answered.
-    ensures read { result ≡ Err ReadFault → (s : L.Situation) → L.hearing.is_in line.old s → IsServed C.tells L.hearing clock.old clock.new
-        (R.remaining reader.old) (R.remaining reader.new) (W.contents writer.old) (W.contents writer.new) s line.new }
+    ensures read { result ≡ Err ReadFault → (s : L.Situation) → L.hearing.is_in line.old s → (held : List ℕ) × IsServed C.tells L.hearing
+        (end_at clock.old (R.remaining reader.old) (W.contents writer.old) [])
+        (end_at clock.new (R.remaining reader.new) (W.contents writer.new) held) s line.new }
     // Where the writer failed, a message was read whose answer isn't all written, and the answers before it are.
-    ensures write { result ≡ Err WriteFault → (s : L.Situation) → L.hearing.is_in line.old s → IsCutShort C.tells L.hearing clock.old clock.new
-        (R.remaining reader.old) (R.remaining reader.new) (W.contents writer.old) (W.contents writer.new) [] s line.new }
+    ensures write { result ≡ Err WriteFault → (s : L.Situation) → L.hearing.is_in line.old s → IsCutShort C.tells L.hearing
+        (end_at clock.old (R.remaining reader.old) (W.contents writer.old) [])
+        (end_at clock.new (R.remaining reader.new) (W.contents writer.new) []) s line.new }
 {
     let mut held = Packet::new();
     for _turn in 0..u64::MAX {

@@ -15,7 +15,7 @@ use Rattle.rdm_frame.specs.Digits.{digits}
 use Rattle.rdm_frame.specs.Discovery.{branch_reply, IsBranchReply}
 use Rattle.rdm_frame.specs.Reading.{IsFirstFault}
 use Rattle.rdm_frame.specs.UidText.{uid_text}
-use Rattle.rdm_bus.specs.declared.fault.Fault.{Fault}
+use Rattle.rdm_frame.specs.declared.fault.Fault.{Fault}
 use Rattle.rdm_collector.specs.declared.transaction.Heard.{Heard as TheHeard}
 use Rattle.rdm_collector.specs.declared.transaction.Heard.TheVariants as heard
 use Rattle.rdm_trace.specs.declared.line.Line.{Line}

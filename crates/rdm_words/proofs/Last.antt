@@ -1,18 +1,17 @@
 -- The last words of what is said: they are plain, and stand at the end.
 use Rattle.std.proofs.Common.{◌≡◌, ◌≢◌, ℕ, ◌<◌, List, [], ◌∷◌, ◌++◌, Option, Some, None, codes, slice_index, Result, Ok, Err, OnOk, refl, sym, ap, subst, ◌∙◌, append_assoc, inl, inr, Bool, true}
 use Rattle.std.specs.Result.{result_ok}
-use Rattle.rdm_bus.specs.declared.fault.Fault.{Fault}
 use Rattle.rdm_frame.specs.declared.frame.Frame.{Frame}
 use Rattle.rdm_frame.specs.declared.uid.Uid.{Uid}
 use Rattle.rdm_frame.specs.Digits.{digits}
 use Rattle.rdm_frame.specs.FrameText.{IsFrame}
-use Rattle.rdm_frame.specs.Reading.{frame_in}
+use Rattle.rdm_frame.specs.Reading.{frame_in, IsFirstFault}
 use Rattle.rdm_collector.specs.declared.transaction.Heard.{Heard as TheHeard}
-use Rattle.rdm_params.specs.declared.jobs.message.Message.{Message}
 use Rattle.rdm_trace.specs.declared.line.Line.{Line}
 use Rattle.rdm_trace.specs.declared.line.Line.TheVariants.{Send, Reply, Heard, Found, Message as TheMessage, Time}
 use Rattle.rdm_frame.specs.declared.decoding.FrameError.{FrameError}
-use Rattle.rdm_frame.specs.Reading.{IsFirstFault}
+use Rattle.rdm_frame.specs.declared.fault.Fault.{Fault}
+use Rattle.rdm_frame.specs.declared.message.Message.{Message}
 use Rattle.rdm_words.specs.Before.{IsAnswerOf}
 use Rattle.rdm_words.specs.Fixed.{fault_line, stray_words, is_readable}
 use Rattle.rdm_words.specs.Plain.{IsPlain, IsFixed}

@@ -6,12 +6,9 @@ ghost use Rattle.rdm_words.specs.Before.{before_all, after, with_request, fixtur
 
 use crate::Known;
 use crate::data::known::Facts;
-use rdm_frame::standard::GET_COMMAND;
+use rdm_frame::standard::{GET_COMMAND, QUEUED_MESSAGE};
 use rdm_frame::{FrameView, Uid, Wire, branch_uid, decode_view};
 use rdm_trace::Line;
-
-/// The parameter with which a controller collects messages (E1.20 section 10.3.1).
-const QUEUED_MESSAGE: u16 = 0x0020;
 
 /// What went before a line of a trace: by it a line is said that doesn't name its fixture. That is the one that was polled last with a GET
 /// of QUEUED_MESSAGE, or, where none was polled, the one that was asked last.

@@ -4,22 +4,17 @@ ghost use Rattle.std.specs.Prelude.{◌≡◌, ◌≤◌, [], ◌∷◌, ◌++�
 ghost use Rattle.rdm_words.specs.Learned.{is_about, was_asked, IsSaidBy, IsSource};
 
 use rdm_frame::standard::{
-    ACK, ALL_SENSORS, GET_COMMAND_RESPONSE, PARAMETER_DESCRIPTION, SET_COMMAND_RESPONSE,
+    ACK, ALL_SENSORS, GET_COMMAND_RESPONSE, PARAMETER_DESCRIPTION, SENSOR_VALUE,
+    SET_COMMAND_RESPONSE, STATUS_MESSAGES,
 };
 use rdm_frame::{FrameView, Load, Uid, decode_view};
 use std::alloc::{AllocError, Global};
 
-/// What is wrong with a device (E1.20 section 10.3.2).
-const STATUS_MESSAGES: u16 = 0x0030;
-
-/// What a status ID means (section 10.3.3).
+/// What a status ID means (E1.20 section 10.3.3).
 pub(crate) const STATUS_ID_DESCRIPTION: u16 = 0x0031;
 
 /// What a sensor measures (section 10.7.1).
 pub(crate) const SENSOR_DEFINITION: u16 = 0x0200;
-
-/// What it measures now (section 10.7.2).
-const SENSOR_VALUE: u16 = 0x0201;
 
 /// How many slots a status message has.
 const STATUS_SLOTS: usize = 9;

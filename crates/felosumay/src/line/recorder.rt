@@ -1,6 +1,8 @@
 //! A port of which a trace is kept.
 
-ghost use Rattle.std.specs.Prelude.{◌≡◌};
+ghost use Rattle.std.specs.Prelude.{◌≡◌, IfErr};
+ghost use Rattle.rdm_collector.specs.declared.port.PortError.TheVariants.{Write as WriteFault};
+ghost use Rattle.felosumay.specs.Recorders.{FailsKept};
 
 use super::log::{Log, NotKept};
 use crate::host::Speaker;
@@ -60,12 +62,34 @@ impl<H: Speaker, P: Port, F: Write> Port for Recorder<'_, H, P, F> {
     // What is heard is what the port says.
     ghost hears = { λ before request heard after. P.hears before.port request heard after.port };
 
+    // It fails as the port does, or since the trace isn't kept.
+    ghost fails = { λ before request error after. FailsKept P.hears P.fails before.port request error after.port };
+
     fn exchange(&mut self, request: &Wire) -> Result<Option<Wire>, PortError> {
-        keep_sent(&mut self.log, request, Fault::None)?;
-        let heard = self.port.exchange(request)?;
-        keep(&mut self.log, Line::Reply(copy_of(&heard)))?;
-        keep(&mut self.log, Line::Heard(taken_for(request, &heard)))?;
-        Ok(heard)
+        match keep_sent(&mut self.log, request, Fault::None) {
+            Ok(()) => match self.port.exchange(request) {
+                Ok(heard) => match keep_heard(&mut self.log, request, &heard) {
+                    Ok(()) => Ok(heard),
+                    Err(error) => Err(error),
+                },
+                Err(error) => Err(error),
+            },
+            Err(error) => Err(error),
+        }
+    }
+}
+
+/// Keeps what was heard of a request, and what it is taken for.
+fn keep_heard<H: Speaker, F: Write>(
+    log: &mut Log<'_, H, F>,
+    request: &Wire,
+    heard: &Option<Wire>,
+) -> Result<(), PortError>
+    ensures { IfErr result (λ error. error ≡ WriteFault) }
+{
+    match keep(log, Line::Reply(copy_of(heard))) {
+        Ok(()) => keep(log, Line::Heard(taken_for(request, heard))),
+        Err(error) => Err(error),
     }
 }
 
@@ -74,7 +98,9 @@ fn keep_sent<H: Speaker, F: Write>(
     log: &mut Log<'_, H, F>,
     request: &Wire,
     fault: Fault,
-) -> Result<(), PortError> {
+) -> Result<(), PortError>
+    ensures { IfErr result (λ error. error ≡ WriteFault) }
+{
     match log.keep_time() {
         Ok(()) => keep(
             log,
@@ -88,7 +114,9 @@ fn keep_sent<H: Speaker, F: Write>(
 }
 
 /// Keeps a line.
-fn keep<H: Speaker, F: Write>(log: &mut Log<'_, H, F>, line: Line) -> Result<(), PortError> {
+fn keep<H: Speaker, F: Write>(log: &mut Log<'_, H, F>, line: Line) -> Result<(), PortError>
+    ensures { IfErr result (λ error. error ≡ WriteFault) }
+{
     match log.keep(&line) {
         Ok(()) => Ok(()),
         Err(NotKept) => Err(PortError::Write),

@@ -1,7 +1,7 @@
 //! The steps of a run.
 
 ghost use Rattle.std.specs.Prelude.{◌≢◌, Some};
-ghost use Rattle.rdm_bus.specs.BusRun.{raise_of};
+ghost use Rattle.rdm_frame.specs.Faults.{raise_of};
 ghost use Rattle.rdm_crew.specs.RunTrace.{HaveFaults, fault_at};
 
 use super::setup::DEVICE;

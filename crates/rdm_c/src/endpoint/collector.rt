@@ -1,11 +1,11 @@
 //! What a collector does for C.
 
-ghost use Rattle.std.specs.Prelude.{◌≡◌, ◌≢◌, ◌↔◌, IfSome, IsSome, MatchOption, false, length, slice_get, take};
-ghost use Rattle.rdm_frame.specs.FrameText.{frame_text, IsFrame};
+ghost use Rattle.std.specs.Prelude.{◌≡◌, ◌≢◌, ◌↔◌, IfSome, IsSome, MatchOption, false, length, slice_get};
 ghost use Rattle.rdm_collector.specs.Collecting.{refusal_of, poll_request, command_request, heard_in};
 ghost use Rattle.rdm_c.specs.CollectorStates.{CollectorState, asked, ended, listened, may_repeat, polled, taken};
 ghost use Rattle.rdm_c.specs.Messages.{heard_code, message_in};
 ghost use Rattle.rdm_c.specs.Endpoints.{IsIn, flag, found, is_collector};
+ghost use Rattle.rdm_c.specs.Requests.{IsWritten};
 ghost use Rattle.rdm_c.specs.Statuses.{of_refusal};
 
 use crate::endpoint::Endpoint;
@@ -25,11 +25,7 @@ pub(crate) fn ask(
 ) -> Status
     ensures refused { (s : CollectorState) → IsIn endpoint.old s → result ≡ of_refusal (refusal_of s.collector command.now) }
     ensures sent { (s : CollectorState) → IsIn endpoint.old s → result ≡ Status.Done →
-        take count.new request.new ≡ frame_text (command_request s.collector command.now) }
-    ensures count { (s : CollectorState) → IsIn endpoint.old s → result ≡ Status.Done →
-        count.new ≡ length (frame_text (command_request s.collector command.now)) }
-    ensures is_frame { (s : CollectorState) → IsIn endpoint.old s → result ≡ Status.Done →
-        IsFrame (command_request s.collector command.now) }
+        IsWritten count.new request.new (command_request s.collector command.now) }
     ensures after { (s : CollectorState) → IsIn endpoint.old s → result ≡ Status.Done → IsIn endpoint.new (asked s command.now) }
     ensures same { result ≢ Status.Done → endpoint.new ≡ endpoint.old }
     ensures absent { (result ≡ Status.Absent) ↔ (is_collector endpoint.old ≡ false) }
@@ -51,9 +47,7 @@ fn send(
     count: &mut usize,
 ) -> Status
     ensures refused { result ≡ of_refusal (refusal_of collector.old.collector command.now) }
-    ensures sent { result ≡ Status.Done → take count.new request.new ≡ frame_text (command_request collector.old.collector command.now) }
-    ensures count { result ≡ Status.Done → count.new ≡ length (frame_text (command_request collector.old.collector command.now)) }
-    ensures is_frame { result ≡ Status.Done → IsFrame (command_request collector.old.collector command.now) }
+    ensures sent { result ≡ Status.Done → IsWritten count.new request.new (command_request collector.old.collector command.now) }
     ensures after { result ≡ Status.Done → collector.new ≡ asked collector.old command.now }
     ensures same { result ≢ Status.Done → collector.new ≡ collector.old }
     ensures found { (result ≢ Status.Absent) × (result ≢ Status.Unknown) }
@@ -77,10 +71,7 @@ pub(crate) fn poll(
 ) -> Status
     ensures busy { (s : CollectorState) → IsIn endpoint.old s → ((result ≡ Status.Busy) ↔ IsSome s.collector.transaction) }
     ensures sent { (s : CollectorState) → IsIn endpoint.old s → result ≡ Status.Done →
-        take count.new request.new ≡ frame_text (poll_request s.collector) }
-    ensures count { (s : CollectorState) → IsIn endpoint.old s → result ≡ Status.Done →
-        count.new ≡ length (frame_text (poll_request s.collector)) }
-    ensures is_frame { (s : CollectorState) → IsIn endpoint.old s → result ≡ Status.Done → IsFrame (poll_request s.collector) }
+        IsWritten count.new request.new (poll_request s.collector) }
     ensures after { (s : CollectorState) → IsIn endpoint.old s → result ≡ Status.Done → IsIn endpoint.new (polled s) }
     ensures same { result ≢ Status.Done → endpoint.new ≡ endpoint.old }
     ensures absent { (result ≡ Status.Absent) ↔ (is_collector endpoint.old ≡ false) }
@@ -101,9 +92,7 @@ fn send_poll(
     count: &mut usize,
 ) -> Status
     ensures busy { (result ≡ Status.Busy) ↔ IsSome collector.old.collector.transaction }
-    ensures sent { result ≡ Status.Done → take count.new request.new ≡ frame_text (poll_request collector.old.collector) }
-    ensures count { result ≡ Status.Done → count.new ≡ length (frame_text (poll_request collector.old.collector)) }
-    ensures is_frame { result ≡ Status.Done → IsFrame (poll_request collector.old.collector) }
+    ensures sent { result ≡ Status.Done → IsWritten count.new request.new (poll_request collector.old.collector) }
     ensures after { result ≡ Status.Done → collector.new ≡ polled collector.old }
     ensures same { result ≢ Status.Done → collector.new ≡ collector.old }
     ensures found { result ≢ Status.Absent }

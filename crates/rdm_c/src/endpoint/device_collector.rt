@@ -1,11 +1,11 @@
 //! What a collector for any device does for C.
 
-ghost use Rattle.std.specs.Prelude.{◌≡◌, ◌≢◌, ◌↔◌, IfSome, IsSome, MatchOption, None, Some, drop, is_some, length, slice_get, take};
-ghost use Rattle.rdm_frame.specs.FrameText.{frame_text, IsFrame};
+ghost use Rattle.std.specs.Prelude.{◌≡◌, ◌≢◌, ◌↔◌, IfSome, IsSome, MatchOption, None, Some, drop, is_some, slice_get};
 ghost use Rattle.rdm_collector.specs.Collecting.{refusal_of, poll_request, command_request};
 ghost use Rattle.rdm_collector.specs.AnyDevice.Collecting.{sender, after_ask, after_poll, after_over, after_hearing, heard_in};
 ghost use Rattle.rdm_c.specs.Collecteds.{heard_numbers, Tells};
 ghost use Rattle.rdm_c.specs.Endpoints.{device_collector_of, found};
+ghost use Rattle.rdm_c.specs.Requests.{IsWritten};
 ghost use Rattle.rdm_c.specs.Statuses.{of_refusal};
 
 use crate::collected::{CollectedNumbers, HeardNumbers};
@@ -24,11 +24,7 @@ pub(crate) fn ask(
 ) -> Status
     ensures refused { IfSome (device_collector_of endpoint.old) (λ s. result ≡ of_refusal (refusal_of (sender s) command.now)) }
     ensures sent { IfSome (device_collector_of endpoint.old) (λ s. result ≡ Status.Done →
-        take count.new request.new ≡ frame_text (command_request (sender s) command.now)) }
-    ensures count { IfSome (device_collector_of endpoint.old) (λ s. result ≡ Status.Done →
-        count.new ≡ length (frame_text (command_request (sender s) command.now))) }
-    ensures is_frame { IfSome (device_collector_of endpoint.old) (λ s. result ≡ Status.Done →
-        IsFrame (command_request (sender s) command.now)) }
+        IsWritten count.new request.new (command_request (sender s) command.now)) }
     ensures after { IfSome (device_collector_of endpoint.old) (λ s. result ≡ Status.Done →
         device_collector_of endpoint.new ≡ Some (after_ask s command.now)) }
     ensures same { result ≢ Status.Done → endpoint.new ≡ endpoint.old }
@@ -49,9 +45,7 @@ fn send(
     count: &mut usize,
 ) -> Status
     ensures refused { result ≡ of_refusal (refusal_of (sender collector.old) command.now) }
-    ensures sent { result ≡ Status.Done → take count.new request.new ≡ frame_text (command_request (sender collector.old) command.now) }
-    ensures count { result ≡ Status.Done → count.new ≡ length (frame_text (command_request (sender collector.old) command.now)) }
-    ensures is_frame { result ≡ Status.Done → IsFrame (command_request (sender collector.old) command.now) }
+    ensures sent { result ≡ Status.Done → IsWritten count.new request.new (command_request (sender collector.old) command.now) }
     ensures after { result ≡ Status.Done → collector.new ≡ after_ask collector.old command.now }
     ensures same { result ≢ Status.Done → collector.new ≡ collector.old }
     ensures found { (result ≢ Status.Absent) × (result ≢ Status.Unknown) }
@@ -75,10 +69,7 @@ pub(crate) fn poll(
 ) -> Status
     ensures busy { IfSome (device_collector_of endpoint.old) (λ s. (result ≡ Status.Busy) ↔ IsSome s.transaction) }
     ensures sent { IfSome (device_collector_of endpoint.old) (λ s. result ≡ Status.Done →
-        take count.new request.new ≡ frame_text (poll_request (sender s))) }
-    ensures count { IfSome (device_collector_of endpoint.old) (λ s. result ≡ Status.Done →
-        count.new ≡ length (frame_text (poll_request (sender s)))) }
-    ensures is_frame { IfSome (device_collector_of endpoint.old) (λ s. result ≡ Status.Done → IsFrame (poll_request (sender s))) }
+        IsWritten count.new request.new (poll_request (sender s))) }
     ensures after { IfSome (device_collector_of endpoint.old) (λ s. result ≡ Status.Done →
         device_collector_of endpoint.new ≡ Some (after_poll s)) }
     ensures same { result ≢ Status.Done → endpoint.new ≡ endpoint.old }
@@ -98,9 +89,7 @@ fn send_poll(
     count: &mut usize,
 ) -> Status
     ensures busy { (result ≡ Status.Busy) ↔ IsSome collector.old.transaction }
-    ensures sent { result ≡ Status.Done → take count.new request.new ≡ frame_text (poll_request (sender collector.old)) }
-    ensures count { result ≡ Status.Done → count.new ≡ length (frame_text (poll_request (sender collector.old))) }
-    ensures is_frame { result ≡ Status.Done → IsFrame (poll_request (sender collector.old)) }
+    ensures sent { result ≡ Status.Done → IsWritten count.new request.new (poll_request (sender collector.old)) }
     ensures after { result ≡ Status.Done → collector.new ≡ after_poll collector.old }
     ensures same { result ≢ Status.Done → collector.new ≡ collector.old }
     ensures found { result ≢ Status.Absent }

@@ -1,21 +1,17 @@
 //! What a responder does for C.
 
-ghost use Rattle.std.specs.Prelude.{◌≡◌, ◌≢◌, ◌↔◌, IfSome, IsSomeAnd, None, false, length, is_some};
-ghost use Rattle.std.specs.Option.{option_map};
-ghost use Rattle.rdm_frame.specs.Reading.{frame_in};
-ghost use Rattle.rdm_device.specs.Device.Map.{value_at};
-ghost use Rattle.rdm_params.specs.Commands.Changed.{change_of};
+ghost use Rattle.std.specs.Prelude.{◌≡◌, ◌≢◌, ◌↔◌, false, length};
+ghost use Rattle.rdm_added.specs.Map.{value_at};
 ghost use Rattle.rdm_params.specs.Commands.Commands.{got};
 ghost use Rattle.rdm_outbox.specs.Jobs.{has_place, outstanding_count, waiting_of};
 ghost use Rattle.rdm_responder.specs.History.{History, Heard, Arrived, Changed, then_event};
 ghost use Rattle.rdm_responder.specs.Lawful.{IsLawful};
-ghost use Rattle.rdm_responder.specs.Rules.{account_of, reply_of, job_of};
+ghost use Rattle.rdm_responder.specs.Rules.{account_of};
 ghost use Rattle.rdm_responder.specs.Runs.{outbox_of};
 ghost use Rattle.rdm_responder.specs.StandsFor.{StandsFor};
-ghost use Rattle.rdm_c.specs.Changes.{change_in, IsPlainly};
-ghost use Rattle.rdm_c.specs.Jobs.{numbers_of, started_in};
+ghost use Rattle.rdm_c.specs.Steps.{ChangeTold, NoChangeTold, ReplyTold, StartTold};
 ghost use Rattle.rdm_c.specs.Statuses.{code_of};
-ghost use Rattle.rdm_c.specs.Endpoints.{changed, GetTold, IsFor, KeptTold, MayReport, found, flag, is_noted, is_responder, told};
+ghost use Rattle.rdm_c.specs.Endpoints.{changed, GetTold, IsFor, KeptTold, MayReport, found, flag, is_noted, is_responder};
 
 use crate::endpoint::{Endpoint, RunningResponder};
 use crate::front::write_front;
@@ -33,17 +29,11 @@ pub(crate) fn step(
     stepped: &mut SteppedNumbers,
 ) -> Status
     ensures status { result ≡ found (is_responder endpoint.old) }
-    ensures reply { (h : History) → IsFor endpoint.old h → told stepped.new.replied stepped.new.count reply.new ≡ reply_of h bytes.now }
-    ensures count { (h : History) → IsFor endpoint.old h → IfSome (reply_of h bytes.now) (λ r. stepped.new.count ≡ length r) }
-    ensures job { (h : History) → IsFor endpoint.old h →
-        started_in stepped.new ≡ option_map (numbers_of (account_of h).parameters.profile) (job_of h bytes.now) }
-    ensures flags { (h : History) → IsFor endpoint.old h → (stepped.new.replied ≡ flag (is_some (reply_of h bytes.now)))
-        × (stepped.new.started ≡ flag (is_some (job_of h bytes.now))) }
+    ensures reply { (h : History) → IsFor endpoint.old h → ReplyTold h bytes.now reply.new stepped.new }
+    ensures job { (h : History) → IsFor endpoint.old h → StartTold h bytes.now stepped.new }
     ensures stands { (h : History) → IsFor endpoint.old h → IsFor endpoint.new (then_event h (Heard bytes.now)) }
-    ensures unchanged { (h : History) → IsFor endpoint.old h → ((change_in stepped.new ≡ None)
-        ↔ ((account_of (then_event h (Heard bytes.now))).parameters ≡ (account_of h).parameters)) }
-    ensures what { IfSome (change_in stepped.new) (λ c. IsSomeAnd (frame_in bytes.now) (λ f. c ≡ change_of f.sub f.pid)) }
-    ensures plainly { IsPlainly stepped.new }
+    ensures unchanged { (h : History) → IsFor endpoint.old h → NoChangeTold h bytes.now stepped.new }
+    ensures change { ChangeTold bytes.now stepped.new }
     ensures absent { result ≢ Status.Done →
         (endpoint.new ≡ endpoint.old) × (stepped.new.replied ≡ 0) × (stepped.new.started ≡ 0) × (stepped.new.changed ≡ 0) }
 {
@@ -66,20 +56,11 @@ fn hear(
     reply: &mut [u8; MOST_SLOTS],
     stepped: &mut SteppedNumbers,
 )
-    ensures reply { (h : History) → StandsFor running.old.responder h →
-        told stepped.new.replied stepped.new.count reply.new ≡ reply_of h bytes.now }
-    ensures count { (h : History) → StandsFor running.old.responder h →
-        IfSome (reply_of h bytes.now) (λ r. stepped.new.count ≡ length r) }
-    ensures job { (h : History) → StandsFor running.old.responder h →
-        started_in stepped.new ≡ option_map (numbers_of (account_of h).parameters.profile) (job_of h bytes.now) }
-    ensures flags { (h : History) → StandsFor running.old.responder h → (stepped.new.replied ≡ flag (is_some (reply_of h bytes.now)))
-        × (stepped.new.started ≡ flag (is_some (job_of h bytes.now))) }
-    ensures stands { (h : History) → StandsFor running.old.responder h →
-        StandsFor running.new.responder (then_event h (Heard bytes.now)) }
-    ensures unchanged { (h : History) → StandsFor running.old.responder h → ((change_in stepped.new ≡ None)
-        ↔ ((account_of (then_event h (Heard bytes.now))).parameters ≡ (account_of h).parameters)) }
-    ensures what { IfSome (change_in stepped.new) (λ c. IsSomeAnd (frame_in bytes.now) (λ f. c ≡ change_of f.sub f.pid)) }
-    ensures plainly { IsPlainly stepped.new }
+    ensures reply { (h : History) → StandsFor running.old.responder h → ReplyTold h bytes.now reply.new stepped.new }
+    ensures job { (h : History) → StandsFor running.old.responder h → StartTold h bytes.now stepped.new }
+    ensures stands { (h : History) → StandsFor running.old.responder h → StandsFor running.new.responder (then_event h (Heard bytes.now)) }
+    ensures unchanged { (h : History) → StandsFor running.old.responder h → NoChangeTold h bytes.now stepped.new }
+    ensures change { ChangeTold bytes.now stepped.new }
 {
     let outcome = running.responder.step_into(bytes, &mut running.wire);
     stepped.clear();

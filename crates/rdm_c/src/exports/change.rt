@@ -1,8 +1,8 @@
 //! What a person changes at the fixture's own menu, as C tells of it.
 
 ghost use Rattle.std.specs.Prelude.{◌≡◌, ◌≢◌, ◌↔◌, ◌≤◌, ◌<◌, false, length};
-ghost use Rattle.rdm_params.specs.declared.panel.Change.{Change};
-ghost use Rattle.rdm_params.specs.declared.panel.Change.TheVariants.{Start, Personality, Label};
+ghost use Rattle.rdm_commands.specs.declared.panel.Change.{Change};
+ghost use Rattle.rdm_commands.specs.declared.panel.Change.TheVariants.{Start, Personality, Label};
 ghost use Rattle.rdm_responder.specs.History.{History, Changed, then_event};
 ghost use Rattle.rdm_c.specs.Statuses.{code_of};
 ghost use Rattle.rdm_c.specs.Endpoints.{HeldFor, changed, holds_responder};

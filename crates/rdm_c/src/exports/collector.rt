@@ -1,14 +1,14 @@
 //! The collector, as C calls it.
 
-ghost use Rattle.std.specs.Prelude.{◌≡◌, ◌≢◌, ◌↔◌, ◌⊎◌, IfSome, IsSome, MatchOption, None, Some, false, length, slice_get, take};
+ghost use Rattle.std.specs.Prelude.{◌≡◌, ◌≢◌, ◌↔◌, ◌⊎◌, IfSome, IsSome, MatchOption, None, Some, false, length, slice_get};
 ghost use denote.RawPtr.{Testable};
 ghost use types.Logic.{sem};
-ghost use Rattle.rdm_frame.specs.FrameText.{frame_text, IsFrame};
 ghost use Rattle.rdm_collector.specs.Collecting.{refusal_of, poll_request, command_request, heard_in};
 ghost use Rattle.rdm_c.specs.Places.{handle_at, nobody};
 ghost use Rattle.rdm_c.specs.CollectorStates.{CollectorState, asked, ended, listened, may_repeat, new_state, polled, taken};
 ghost use Rattle.rdm_c.specs.Messages.{action_in, command_in, heard_code, message_in, want_in};
 ghost use Rattle.rdm_c.specs.Endpoints.{HeldIn, flag, found, holds_collector};
+ghost use Rattle.rdm_c.specs.Requests.{IsWritten};
 ghost use Rattle.rdm_c.specs.Statuses.{code_of, of_refusal};
 
 use crate::endpoint;
@@ -81,11 +81,7 @@ pub extern "C" fn felosumay_collector_ask_nonnull(
     ensures refused { IfSome (command_in command.now load.now) (λ c. (s : CollectorState) → HeldIn collector.old.held s →
         result ≡ code_of (of_refusal (refusal_of s.collector c))) }
     ensures sent { IfSome (command_in command.now load.now) (λ c. (s : CollectorState) → HeldIn collector.old.held s →
-        result ≡ code_of Status.Done → take count.new request.new ≡ frame_text (command_request s.collector c)) }
-    ensures count { IfSome (command_in command.now load.now) (λ c. (s : CollectorState) → HeldIn collector.old.held s →
-        result ≡ code_of Status.Done → count.new ≡ length (frame_text (command_request s.collector c))) }
-    ensures is_frame { IfSome (command_in command.now load.now) (λ c. (s : CollectorState) → HeldIn collector.old.held s →
-        result ≡ code_of Status.Done → IsFrame (command_request s.collector c)) }
+        result ≡ code_of Status.Done → IsWritten count.new request.new (command_request s.collector c)) }
     ensures after { IfSome (command_in command.now load.now) (λ c. (s : CollectorState) → HeldIn collector.old.held s →
         result ≡ code_of Status.Done → HeldIn collector.new.held (asked s c)) }
     ensures same { result ≢ code_of Status.Done → collector.new.held ≡ collector.old.held }
@@ -114,11 +110,7 @@ pub extern "C" fn felosumay_collector_poll(
     ensures absent { (result ≡ code_of Status.Absent) ↔ (holds_collector collector.old.held ≡ false) }
     ensures busy { (s : CollectorState) → HeldIn collector.old.held s → ((result ≡ code_of Status.Busy) ↔ IsSome s.collector.transaction) }
     ensures sent { (s : CollectorState) → HeldIn collector.old.held s → result ≡ code_of Status.Done →
-        take count.new request.new ≡ frame_text (poll_request s.collector) }
-    ensures count { (s : CollectorState) → HeldIn collector.old.held s → result ≡ code_of Status.Done →
-        count.new ≡ length (frame_text (poll_request s.collector)) }
-    ensures is_frame { (s : CollectorState) → HeldIn collector.old.held s → result ≡ code_of Status.Done →
-        IsFrame (poll_request s.collector) }
+        IsWritten count.new request.new (poll_request s.collector) }
     ensures after { (s : CollectorState) → HeldIn collector.old.held s → result ≡ code_of Status.Done →
         HeldIn collector.new.held (polled s) }
     ensures same { result ≢ code_of Status.Done → collector.new.held ≡ collector.old.held }

@@ -1,15 +1,15 @@
 //! The collector for any device, as C calls it.
 
-ghost use Rattle.std.specs.Prelude.{◌≡◌, ◌≢◌, ◌↔◌, ◌⊎◌, IfSome, IsSome, MatchOption, None, Some, drop, is_some, length, slice_get, take};
+ghost use Rattle.std.specs.Prelude.{◌≡◌, ◌≢◌, ◌↔◌, ◌⊎◌, IfSome, IsSome, MatchOption, None, Some, drop, is_some, slice_get};
 ghost use denote.RawPtr.{Testable};
 ghost use types.Logic.{sem};
-ghost use Rattle.rdm_frame.specs.FrameText.{frame_text, IsFrame};
 ghost use Rattle.rdm_collector.specs.Collecting.{refusal_of, poll_request, command_request};
 ghost use Rattle.rdm_collector.specs.AnyDevice.Collecting.{new_device_collector, sender, after_ask, after_poll, after_over, after_hearing, heard_in};
 ghost use Rattle.rdm_c.specs.Places.{handle_at, nobody};
 ghost use Rattle.rdm_c.specs.Collecteds.{heard_numbers, Tells};
 ghost use Rattle.rdm_c.specs.Endpoints.{found, held_device_collector};
 ghost use Rattle.rdm_c.specs.Messages.{action_in, command_in, want_in};
+ghost use Rattle.rdm_c.specs.Requests.{IsWritten};
 ghost use Rattle.rdm_c.specs.Statuses.{code_of, of_refusal};
 
 use crate::collected::{CollectedNumbers, HeardNumbers};
@@ -77,11 +77,7 @@ pub extern "C" fn felosumay_device_collector_ask_nonnull(
     ensures refused { IfSome (command_in command.now load.now) (λ c. IfSome (held_device_collector collector.old.held) (λ s.
         result ≡ code_of (of_refusal (refusal_of (sender s) c)))) }
     ensures sent { IfSome (command_in command.now load.now) (λ c. IfSome (held_device_collector collector.old.held) (λ s.
-        result ≡ code_of Status.Done → take count.new request.new ≡ frame_text (command_request (sender s) c))) }
-    ensures count { IfSome (command_in command.now load.now) (λ c. IfSome (held_device_collector collector.old.held) (λ s.
-        result ≡ code_of Status.Done → count.new ≡ length (frame_text (command_request (sender s) c)))) }
-    ensures is_frame { IfSome (command_in command.now load.now) (λ c. IfSome (held_device_collector collector.old.held) (λ s.
-        result ≡ code_of Status.Done → IsFrame (command_request (sender s) c))) }
+        result ≡ code_of Status.Done → IsWritten count.new request.new (command_request (sender s) c))) }
     ensures after { IfSome (command_in command.now load.now) (λ c. IfSome (held_device_collector collector.old.held) (λ s.
         result ≡ code_of Status.Done → held_device_collector collector.new.held ≡ Some (after_ask s c))) }
     ensures same { result ≢ code_of Status.Done → collector.new.held ≡ collector.old.held }
@@ -110,11 +106,7 @@ pub extern "C" fn felosumay_device_collector_poll(
     ensures absent { (result ≡ code_of Status.Absent) ↔ (held_device_collector collector.old.held ≡ None) }
     ensures busy { IfSome (held_device_collector collector.old.held) (λ s. (result ≡ code_of Status.Busy) ↔ IsSome s.transaction) }
     ensures sent { IfSome (held_device_collector collector.old.held) (λ s. result ≡ code_of Status.Done →
-        take count.new request.new ≡ frame_text (poll_request (sender s))) }
-    ensures count { IfSome (held_device_collector collector.old.held) (λ s. result ≡ code_of Status.Done →
-        count.new ≡ length (frame_text (poll_request (sender s)))) }
-    ensures is_frame { IfSome (held_device_collector collector.old.held) (λ s. result ≡ code_of Status.Done →
-        IsFrame (poll_request (sender s))) }
+        IsWritten count.new request.new (poll_request (sender s))) }
     ensures after { IfSome (held_device_collector collector.old.held) (λ s. result ≡ code_of Status.Done →
         held_device_collector collector.new.held ≡ Some (after_poll s)) }
     ensures same { result ≢ code_of Status.Done → collector.new.held ≡ collector.old.held }

@@ -1,8 +1,8 @@
 //! What the firmware of a fixture does beside answering, as C calls it: it places values, and it tells of what is wrong.
 
 ghost use Rattle.std.specs.Prelude.{◌≡◌, ◌≢◌, ◌↔◌, IfSome, None, false};
+ghost use Rattle.rdm_frame.specs.Severities.{severity_in};
 ghost use Rattle.rdm_params.specs.Commands.Placing.{place_refusal};
-ghost use Rattle.rdm_params.specs.Jobs.Severities.{severity_in};
 ghost use Rattle.rdm_responder.specs.History.{History, Noted, Placed, then_event};
 ghost use Rattle.rdm_responder.specs.Lawful.{IsLawful};
 ghost use Rattle.rdm_responder.specs.Rules.{account_of};

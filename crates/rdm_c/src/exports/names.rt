@@ -1,9 +1,9 @@
 //! Names and the version, as C asks for them.
 
 ghost use Rattle.std.specs.Prelude.{◌≡◌};
-ghost use Rattle.rdm_params.specs.Commands.Nacks.{reason_name};
-ghost use Rattle.rdm_params.specs.Table.Kinds.{for_c};
-ghost use Rattle.rdm_params.specs.Table.Names.{name_in, parameter_name};
+ghost use Rattle.rdm_frame.specs.Nacks.{reason_name};
+ghost use Rattle.rdm_frame.specs.Names.{for_c, name_in};
+ghost use Rattle.rdm_params.specs.Table.Names.{parameter_name};
 ghost use Rattle.rdm_c.specs.Names.{named, results, version};
 
 use crate::names::{NameNumbers, result_name};

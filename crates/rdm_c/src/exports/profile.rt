@@ -1,8 +1,8 @@
 //! What is wrong with a profile, as C asks for it.
 
 ghost use Rattle.std.specs.Prelude.{◌≡◌, ◌↔◌, ◌≤◌, [], IfSome, length};
-ghost use Rattle.rdm_device.specs.Device.Faults.{IsFirstBroken};
-ghost use Rattle.rdm_device.specs.Device.Profiles.{CanBeMade};
+ghost use Rattle.rdm_profile_rules.specs.Faults.{IsFirstBroken};
+ghost use Rattle.rdm_profile.specs.Profiles.{CanBeMade};
 ghost use Rattle.rdm_c.specs.Faults.{fault_in};
 ghost use Rattle.rdm_c.specs.Profiles.{particular_in, profile_in};
 

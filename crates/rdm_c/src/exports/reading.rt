@@ -1,7 +1,7 @@
 //! What C reads of a responder.
 
 ghost use Rattle.std.specs.Prelude.{◌≡◌, ◌↔◌, false, length};
-ghost use Rattle.rdm_device.specs.Device.Map.{value_at};
+ghost use Rattle.rdm_added.specs.Map.{value_at};
 ghost use Rattle.rdm_params.specs.Commands.Commands.{got};
 ghost use Rattle.rdm_outbox.specs.Jobs.{has_place, outstanding_count, waiting_of};
 ghost use Rattle.rdm_responder.specs.History.{History};

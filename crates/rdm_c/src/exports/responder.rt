@@ -1,25 +1,20 @@
 //! The responder, as C calls it: made, given up, and what happens to it.
 
-ghost use Rattle.std.specs.Prelude.{◌≡◌, ◌≢◌, ◌↔◌, ◌⊎◌, ◌≤◌, ◌==◌, None, Some, Err, false, IfSome, IsSomeAnd, IfOk, IfErr, length, is_some};
-ghost use Rattle.std.specs.Option.{option_map};
+ghost use Rattle.std.specs.Prelude.{◌≡◌, ◌≢◌, ◌↔◌, ◌⊎◌, None, Some, false, IfSome};
 ghost use denote.RawPtr.{Testable};
 ghost use types.Logic.{sem};
-ghost use Rattle.rdm_frame.specs.Reading.{frame_in};
-ghost use Rattle.rdm_params.specs.Commands.Changed.{change_of};
-ghost use Rattle.rdm_device.specs.Device.Demo.{demo};
-ghost use Rattle.rdm_device.specs.Device.Profiles.{CanBeMade};
-ghost use Rattle.rdm_outbox.specs.State.{IsListSize, most_entries};
+ghost use Rattle.rdm_profile.specs.Demo.{demo};
+ghost use Rattle.rdm_outbox.specs.Settings.{most_entries};
 ghost use Rattle.rdm_responder.specs.History.{History, Heard, Arrived, empty_history, then_event};
 ghost use Rattle.rdm_responder.specs.Lawful.{IsLawful};
-ghost use Rattle.rdm_responder.specs.Rules.{account_of, reply_of, job_of};
-ghost use Rattle.rdm_responder.specs.StandsFor.{IsQueueSize, StandsFor};
+ghost use Rattle.rdm_responder.specs.Settings.{HasBadSize, HasBadUid, setup_with};
 ghost use Rattle.rdm_c.specs.Places.{handle_at, nobody};
 ghost use Rattle.rdm_c.specs.Statuses.{code_of};
-ghost use Rattle.rdm_c.specs.Changes.{change_in, IsPlainly};
-ghost use Rattle.rdm_c.specs.Jobs.{numbers_of, started_in};
+ghost use Rattle.rdm_c.specs.Making.{MakingTold, settings_of};
+ghost use Rattle.rdm_c.specs.Steps.{ChangeTold, NoChangeTold, ReplyTold, StartTold};
 ghost use Rattle.rdm_c.specs.Outcomes.{report_in};
 ghost use Rattle.rdm_c.specs.Profiles.{profile_in};
-ghost use Rattle.rdm_c.specs.Endpoints.{HeldFor, MayReport, found, holds_responder, flag, is_noted, setup_of, told};
+ghost use Rattle.rdm_c.specs.Endpoints.{HeldFor, MayReport, found, holds_responder, flag, is_noted};
 
 use crate::endpoint::responder::{arrive, step};
 use crate::endpoint::{Endpoint, RunningResponder};
@@ -33,60 +28,20 @@ use crate::profile::parameters::{ChoiceNumbers, ParameterNumbers};
 use crate::status::Status;
 use rdm_frame::standard::MOST_SLOTS;
 use rdm_frame::{Uid, Wire};
-use rdm_outbox::{MOST_ENTRIES, MOST_WAITING};
 use rdm_params::Profile;
-use rdm_responder::{NewError, Responder};
+use rdm_responder::{NewError, Responder, Settings};
 use std::alloc::Global;
 
 /// Makes a responder of this profile, in the place of what the handle held.
 ///
-/// A UID that addresses more than one device is rejected first, then a size that isn't 1 to 1,024, then a profile that
-/// breaks a rule or has more than 512 sub-devices, and last comes out of memory. If it is rejected, the handle stays
-/// as it was.
-#[unsafe(no_mangle)]
-pub extern "C" fn felosumay_responder_new_nonnull(
-    alloc: Global,
-    responder: &mut Handle,
-    maker: u16,
-    device: u32,
-    profile: &ProfileNumbers,
-    parameters: &[ParameterNumbers],
-    without: &[u16],
-    choices: &[ChoiceNumbers],
-    queue_size: u16,
-) -> u8
-    ensures made { result ≡ code_of Status.Done →
-        HeldFor responder.new.held (empty_history
-        (setup_of maker device (profile_in profile.now parameters.now without.now choices.now) queue_size most_entries 0)) }
-    ensures bad_uid { (result ≡ code_of Status.BadUid) ↔ (device ≡ 0xFFFFFFFF) }
-    ensures bad_size { (result ≡ code_of Status.BadSize) ↔ ((device ≢ 0xFFFFFFFF) × ¬ IsQueueSize queue_size) }
-    ensures bad_profile { (result ≡ code_of Status.BadProfile)
-        ↔ ((device ≢ 0xFFFFFFFF) × IsQueueSize queue_size × ¬ CanBeMade (profile_in profile.now parameters.now without.now choices.now)) }
-    ensures codes { result ≤ 4 }
-    ensures refused { result ≢ code_of Status.Done → responder.new ≡ responder.old }
-{
-    felosumay_responder_new_with_nonnull(
-        alloc,
-        responder,
-        maker,
-        device,
-        profile,
-        parameters,
-        without,
-        choices,
-        queue_size,
-        MOST_ENTRIES,
-        0,
-    )
-}
-
-/// Makes a responder as `felosumay_responder_new_nonnull` does, with room for `entries` status entries that weren't shown (E1.20
-/// section 10.3.2), at 9 bytes each: for a controller with little memory. While that many wait, a further one is dropped. The
-/// first job of each worker has the number `first_job`, and each later one the next; after 4,294,967,295 comes 0. So if it is
-/// greater than the number of each job of the responder before, each report of such a job is astray.
+/// It has room for `queue_size` results of slow commands, and for `entries` status entries that weren't shown (E1.20 section
+/// 10.3.2), at 9 bytes each: a controller with little memory has few. While that many wait, a further one is dropped. The first job
+/// of each worker has the number `first_job`, and each later one the next; after 4,294,967,295 comes 0. So if it is greater than
+/// the number of each job of the responder before, each report of such a job is astray.
 ///
-/// It is rejected as `felosumay_responder_new_nonnull` says, and a number of entries that isn't 1 to 1,024 is a bad size too. No
-/// `first_job` is rejected.
+/// A UID that addresses more than one device is rejected first, then a size or a number of entries that isn't 1 to 1,024, then a
+/// profile that breaks a rule or has more than 512 sub-devices, and last comes out of memory. If it is rejected, the handle stays
+/// as it was. No `first_job` is rejected.
 #[unsafe(no_mangle)]
 pub extern "C" fn felosumay_responder_new_with_nonnull(
     alloc: Global,
@@ -101,20 +56,19 @@ pub extern "C" fn felosumay_responder_new_with_nonnull(
     entries: u16,
     first_job: u32,
 ) -> u8
-    ensures made { result ≡ code_of Status.Done →
-        HeldFor responder.new.held (empty_history
-        (setup_of maker device (profile_in profile.now parameters.now without.now choices.now) queue_size entries first_job)) }
-    ensures bad_uid { (result ≡ code_of Status.BadUid) ↔ (device ≡ 0xFFFFFFFF) }
-    ensures bad_size { (result ≡ code_of Status.BadSize)
-        ↔ ((device ≢ 0xFFFFFFFF) × ¬ (IsQueueSize queue_size × IsListSize entries)) }
-    ensures bad_profile { (result ≡ code_of Status.BadProfile)
-        ↔ ((device ≢ 0xFFFFFFFF) × (IsQueueSize queue_size × IsListSize entries)
-        × ¬ CanBeMade (profile_in profile.now parameters.now without.now choices.now)) }
-    ensures codes { result ≤ 4 }
+    ensures made { result ≡ code_of Status.Done → HeldFor responder.new.held (empty_history (setup_with
+        (settings_of maker device queue_size entries first_job) (profile_in profile.now parameters.now without.now choices.now))) }
+    ensures told { MakingTold result
+        (settings_of maker device queue_size entries first_job) (profile_in profile.now parameters.now without.now choices.now) }
     ensures refused { result ≢ code_of Status.Done → responder.new ≡ responder.old }
 {
-    let uid = Uid { maker, device };
-    if let Some(refusal) = refusal(uid, queue_size, entries) {
+    let settings = Settings {
+        uid: Uid { maker, device },
+        queue_size,
+        entries,
+        first_job,
+    };
+    if let Some(refusal) = refusal(&settings) {
         return refusal.code();
     }
     if fault_of(profile, parameters, without, choices).is_some() {
@@ -123,15 +77,13 @@ pub extern "C" fn felosumay_responder_new_with_nonnull(
     let Some(profile) = boxed(alloc, profile, parameters, without, choices) else {
         return Status::OutOfMemory.code();
     };
-    start(
-        alloc, responder, uid, profile, queue_size, entries, first_job,
-    )
-    .code()
+    start(alloc, responder, &settings, profile).code()
 }
 
-/// Makes a responder that is the demonstration fixture with N sub-devices, and replaces what the handle held.
+/// Makes a responder that is the demonstration fixture with N sub-devices, with room for 1,024 status entries, whose jobs begin at
+/// 0, and replaces what the handle held.
 ///
-/// It is rejected as `felosumay_responder_new_nonnull` says, and a profile is bad only if there are more than 512 sub-devices.
+/// It is rejected as `felosumay_responder_new_with_nonnull` says, and a profile is bad only if there are more than 512 sub-devices.
 #[unsafe(no_mangle)]
 pub extern "C" fn felosumay_responder_demo(
     alloc: Global,
@@ -141,17 +93,13 @@ pub extern "C" fn felosumay_responder_demo(
     subs: u16,
     queue_size: u16,
 ) -> u8
-    ensures made { result ≡ code_of Status.Done →
-        HeldFor responder.new.held (empty_history (setup_of maker device (demo subs) queue_size most_entries 0)) }
-    ensures bad_uid { (result ≡ code_of Status.BadUid) ↔ (device ≡ 0xFFFFFFFF) }
-    ensures bad_size { (result ≡ code_of Status.BadSize) ↔ ((device ≢ 0xFFFFFFFF) × ¬ IsQueueSize queue_size) }
-    ensures bad_profile { (result ≡ code_of Status.BadProfile)
-        ↔ ((device ≢ 0xFFFFFFFF) × IsQueueSize queue_size × ¬ CanBeMade (demo subs)) }
-    ensures codes { result ≤ 4 }
+    ensures made { result ≡ code_of Status.Done → HeldFor responder.new.held (empty_history (setup_with
+        (settings_of maker device queue_size most_entries 0) (demo subs))) }
+    ensures told { MakingTold result (settings_of maker device queue_size most_entries 0) (demo subs) }
     ensures refused { result ≢ code_of Status.Done → responder.new ≡ responder.old }
 {
-    let uid = Uid { maker, device };
-    if let Some(refusal) = refusal(uid, queue_size, MOST_ENTRIES) {
+    let settings = Settings::usual(Uid { maker, device }, queue_size);
+    if let Some(refusal) = refusal(&settings) {
         return refusal.code();
     }
     if fault_of_demo(subs).is_some() {
@@ -160,7 +108,7 @@ pub extern "C" fn felosumay_responder_demo(
     let Some(profile) = boxed_demo(alloc, subs) else {
         return Status::OutOfMemory.code();
     };
-    start(alloc, responder, uid, profile, queue_size, MOST_ENTRIES, 0).code()
+    start(alloc, responder, &settings, profile).code()
 }
 
 /// Hears bytes, and tells of the reply, whose bytes stand at the front of `reply` then, of the job that started, and of what
@@ -174,18 +122,11 @@ pub extern "C" fn felosumay_responder_step_nonnull(
     stepped: &mut SteppedNumbers,
 ) -> u8
     ensures status { result ≡ code_of (found (holds_responder responder.old.held)) }
-    ensures reply { (h : History) → HeldFor responder.old.held h →
-        told stepped.new.replied stepped.new.count reply.new ≡ reply_of h bytes.now }
-    ensures count { (h : History) → HeldFor responder.old.held h → IfSome (reply_of h bytes.now) (λ r. stepped.new.count ≡ length r) }
-    ensures job { (h : History) → HeldFor responder.old.held h →
-        started_in stepped.new ≡ option_map (numbers_of (account_of h).parameters.profile) (job_of h bytes.now) }
-    ensures flags { (h : History) → HeldFor responder.old.held h → (stepped.new.replied ≡ flag (is_some (reply_of h bytes.now)))
-        × (stepped.new.started ≡ flag (is_some (job_of h bytes.now))) }
+    ensures reply { (h : History) → HeldFor responder.old.held h → ReplyTold h bytes.now reply.new stepped.new }
+    ensures job { (h : History) → HeldFor responder.old.held h → StartTold h bytes.now stepped.new }
     ensures stands { (h : History) → HeldFor responder.old.held h → HeldFor responder.new.held (then_event h (Heard bytes.now)) }
-    ensures unchanged { (h : History) → HeldFor responder.old.held h → ((change_in stepped.new ≡ None)
-        ↔ ((account_of (then_event h (Heard bytes.now))).parameters ≡ (account_of h).parameters)) }
-    ensures what { IfSome (change_in stepped.new) (λ c. IsSomeAnd (frame_in bytes.now) (λ f. c ≡ change_of f.sub f.pid)) }
-    ensures plainly { IsPlainly stepped.new }
+    ensures unchanged { (h : History) → HeldFor responder.old.held h → NoChangeTold h bytes.now stepped.new }
+    ensures change { ChangeTold bytes.now stepped.new }
     ensures absent { holds_responder responder.old.held ≡ false → (responder.new.held ≡ responder.old.held)
         × (stepped.new.replied ≡ 0) × (stepped.new.started ≡ 0) × (stepped.new.changed ≡ 0) }
 {
@@ -247,75 +188,43 @@ pub unsafe extern "C" fn felosumay_responder_free(alloc: Global, responder: *mut
     free_at(alloc, responder);
 }
 
-/// Why no responder has this UID and these sizes, if so.
-fn refusal(uid: Uid, queue_size: u16, entries: u16) -> Option<Status>
-    ensures bad_uid { (result ≡ Some Status.BadUid) ↔ (uid.device ≡ 0xFFFFFFFF) }
-    ensures bad_size { (result ≡ Some Status.BadSize) ↔ ((uid.device ≢ 0xFFFFFFFF) × ¬ (IsQueueSize queue_size × IsListSize entries)) }
-    ensures others { IfSome result (λ status. (status ≡ Status.BadUid) ⊎ (status ≡ Status.BadSize)) }
-{
-    if uid.is_broadcast() {
-        return Some(Status::BadUid);
-    }
-    if queue_size == 0 || queue_size > MOST_WAITING || entries == 0 || entries > MOST_ENTRIES {
-        return Some(Status::BadSize);
-    }
-    None
-}
-
 /// Makes a responder, in the place of what the handle held.
 #[inline(never)]
 fn start(
     alloc: Global,
     responder: &mut Handle,
-    uid: Uid,
+    settings: &Settings,
     profile: Box<Profile>,
-    queue_size: u16,
-    entries: u16,
-    first_job: u32,
 ) -> Status
     ensures made { result ≡ Status.Done →
-        HeldFor responder.new.held (empty_history (setup_of uid.maker uid.device profile.value queue_size entries first_job)) }
-    ensures bad_uid { (result ≡ Status.BadUid) ↔ (uid.device ≡ 0xFFFFFFFF) }
-    ensures bad_size { (result ≡ Status.BadSize) ↔ ((uid.device ≢ 0xFFFFFFFF) × ¬ (IsQueueSize queue_size × IsListSize entries)) }
-    ensures bad_profile { (result ≡ Status.BadProfile)
-        ↔ ((uid.device ≢ 0xFFFFFFFF) × (IsQueueSize queue_size × IsListSize entries) × ¬ CanBeMade profile.value) }
-    ensures codes { code_of result ≤ 4 }
+        HeldFor responder.new.held (empty_history (setup_with settings.now profile.value)) }
+    ensures told { MakingTold (code_of result) settings.now profile.value }
     ensures refused { result ≢ Status.Done → responder.new ≡ responder.old }
 {
-    match running_responder(alloc, uid, profile, queue_size, entries, first_job) {
-        Ok(made) => replace(alloc, responder, Endpoint::Responder(made)),
-        Err(status) => status,
+    match Responder::with_settings(alloc, settings, profile) {
+        Ok(made) => {
+            let running = RunningResponder {
+                responder: made,
+                wire: Wire::new(),
+            };
+            replace(alloc, responder, Endpoint::Responder(running))
+        }
+        Err(NewError::OutOfMemory) => Status::OutOfMemory,
+        Err(NewError::BadProfile) => Status::BadProfile,
+        Err(NewError::BadSize) => Status::BadSize,
+        Err(NewError::BadUid) => Status::BadUid,
     }
 }
 
-/// A responder with the room for its replies.
-// Inlined, since a call would hand on a copy of it.
-#[inline(always)]
-fn running_responder(
-    alloc: Global,
-    uid: Uid,
-    profile: Box<Profile>,
-    queue_size: u16,
-    entries: u16,
-    first_job: u32,
-) -> Result<RunningResponder, Status>
-    ensures made { IfOk result (λ s.
-        StandsFor s.responder (empty_history (setup_of uid.maker uid.device profile.value queue_size entries first_job))) }
-    ensures bad_uid { (result ≡ Err Status.BadUid) ↔ (uid.device ≡ 0xFFFFFFFF) }
-    ensures bad_size { (result ≡ Err Status.BadSize)
-        ↔ ((uid.device ≢ 0xFFFFFFFF) × ¬ (IsQueueSize queue_size × IsListSize entries)) }
-    ensures bad_profile { (result ≡ Err Status.BadProfile)
-        ↔ ((uid.device ≢ 0xFFFFFFFF) × (IsQueueSize queue_size × IsListSize entries) × ¬ CanBeMade profile.value) }
-    ensures codes { IfErr result (λ status. (code_of status ≤ 4) × (status ≢ Status.Done)) }
+/// Why no responder has these settings, if so.
+fn refusal(settings: &Settings) -> Option<Status>
+    ensures bad_uid { (result ≡ Some Status.BadUid) ↔ HasBadUid settings.now }
+    ensures bad_size { (result ≡ Some Status.BadSize) ↔ HasBadSize settings.now }
+    ensures others { IfSome result (λ status. (status ≡ Status.BadUid) ⊎ (status ≡ Status.BadSize)) }
 {
-    match Responder::new_boxed(alloc, uid, profile, queue_size, entries, first_job) {
-        Ok(made) => Ok(RunningResponder {
-            responder: made,
-            wire: Wire::new(),
-        }),
-        Err(NewError::OutOfMemory) => Err(Status::OutOfMemory),
-        Err(NewError::BadProfile) => Err(Status::BadProfile),
-        Err(NewError::BadSize) => Err(Status::BadSize),
-        Err(NewError::BadUid) => Err(Status::BadUid),
+    match settings.refusal() {
+        Some(NewError::BadUid) => Some(Status::BadUid),
+        Some(NewError::BadSize) => Some(Status::BadSize),
+        Some(NewError::BadProfile | NewError::OutOfMemory) | None => None,
     }
 }

@@ -2,12 +2,12 @@
 //! returns before that with the other is called, and what it calls takes little.
 
 ghost use Rattle.std.specs.Prelude.{◌≡◌, ◌↔◌, ◌<◌, ◌≤◌, List, None, IfOk, IfSome, IsTrue, length, map};
-ghost use Rattle.rdm_device.specs.Device.Demo.{demo};
-ghost use Rattle.rdm_device.specs.declared.profile.faults.ProfileFault.TheVariants.{ParameterNames, ParameterLocks};
-ghost use Rattle.rdm_device.specs.Device.Faults.{IsFirstBroken, KeepsBefore, KeepsLeftOut};
-ghost use Rattle.rdm_device.specs.Device.Particulars.{usual_particular};
-ghost use Rattle.rdm_device.specs.Device.Profiles.{Agree, AreGoodLocks, AreGoodParameters, CanBeMade};
-ghost use Rattle.rdm_device.specs.declared.profile.choices.ChoiceName.{ChoiceName};
+ghost use Rattle.rdm_profile.specs.Demo.{demo};
+ghost use Rattle.rdm_profile_rules.specs.declared.faults.ProfileFault.TheVariants.{ParameterNames, ParameterLocks};
+ghost use Rattle.rdm_profile_rules.specs.Faults.{IsFirstBroken, KeepsBefore, KeepsLeftOut};
+ghost use Rattle.rdm_profile.specs.Particulars.{usual_particular};
+ghost use Rattle.rdm_profile.specs.Profiles.{Agree, AreGoodLocks, AreGoodParameters, CanBeMade};
+ghost use Rattle.rdm_profile.specs.declared.profile.choices.ChoiceName.{ChoiceName};
 ghost use Rattle.rdm_c.specs.Parameters.{choice_in, lock_in, parameter_in, HasOwn};
 ghost use Rattle.rdm_c.specs.Profiles.{particular_in, profile_in};
 
@@ -19,7 +19,7 @@ use rdm_device::{
     profile_fault_with,
 };
 use rdm_frame::Text;
-use rdm_params::{ParameterDef, Particular, Particulars, Profile, Unit};
+use rdm_params::{ChoiceName, Lock, ParameterDef, Particular, Particulars, Profile, Unit};
 use std::alloc::{AllocError, Global};
 
 /// How many parameters of the maker's own there can be.
@@ -156,8 +156,8 @@ fn fault_of_few(
     ensures first { (p : Profile) → HasOwn p (map parameter_in parameters.now) (map choice_in choices.now) (map lock_in locks.now) without.now
         → KeepsLeftOut p → IfSome result (λ fault. IsFirstBroken fault p) }
 {
-    let mut own = ArrayVec::new();
-    lists::parameters(parameters, &mut own);
+    let mut own: ArrayVec<ParameterDef, 32> = ArrayVec::new();
+    lists::fill(parameters, &mut own);
     match own_fault(own.as_slice()) {
         Some(fault) => Some(fault),
         None => fault_beside(own.as_slice(), choices, locks, without),
@@ -195,8 +195,8 @@ fn have_few_names(own: &[ParameterDef], choices: &[ChoiceNumbers]) -> bool
     requires { length choices.now ≤ 64 }
     ensures { IsTrue result ↔ Agree own.now (map choice_in choices.now) }
 {
-    let mut names = ArrayVec::new();
-    lists::choices(choices, &mut names);
+    let mut names: ArrayVec<ChoiceName, 64> = ArrayVec::new();
+    lists::fill(choices, &mut names);
     agree(own, names.as_slice())
 }
 
@@ -212,8 +212,8 @@ fn fault_of_locks(
     ensures first { (p : Profile) (choices : List ChoiceName) → HasOwn p own.now choices (map lock_in locks.now) without.now
         → KeepsBefore ParameterLocks p → IfSome result (λ fault. IsFirstBroken fault p) }
 {
-    let mut list = ArrayVec::new();
-    lists::locks(locks, &mut list);
+    let mut list: ArrayVec<Lock, 64> = ArrayVec::new();
+    lists::fill(locks, &mut list);
     if !have_states(own, list.as_slice()) {
         return Some(ProfileFault::ParameterLocks);
     }

@@ -1,10 +1,11 @@
 //! A parameter of the maker's own as a plain struct of C's.
 
-ghost use Rattle.std.specs.Prelude.{◌≡◌, ◌≤◌, length, map};
+ghost use Rattle.std.specs.Prelude.{◌≡◌};
 ghost use Rattle.std.specs.List.{list_all};
 ghost use Rattle.rdm_c.specs.Parameters.{parameter_in, rights_in, shape_in, shape_of, width_in, has_width, has_widths, has_commands, field_in, choice_in, lock_in};
 
 use crate::profile::TextNumbers;
+use crate::profile::lists::{Numbers, fill};
 use arrayvec::ArrayVec;
 use rdm_params::{ChoiceName, Field, Lock, ParameterDef, Rights, Shape, Width};
 
@@ -81,11 +82,10 @@ pub struct LockNumbers {
     pub state: u8,
 }
 
-impl LockNumbers {
-    /// The lock.
-    pub(crate) fn lock(&self) -> Lock
-        ensures { result ≡ lock_in self.now }
-    {
+impl Numbers<Lock> for LockNumbers {
+    ghost stands_for = { lock_in };
+
+    fn entry(&self) -> Lock {
         Lock {
             state: self.state,
             pid: self.pid,
@@ -93,11 +93,10 @@ impl LockNumbers {
     }
 }
 
-impl FieldNumbers {
-    /// The field.
-    fn field(&self) -> Field
-        ensures { result ≡ field_in self.now }
-    {
+impl Numbers<Field> for FieldNumbers {
+    ghost stands_for = { field_in };
+
+    fn entry(&self) -> Field {
         Field {
             width: width_in(self.slots),
             low: self.low,
@@ -105,7 +104,9 @@ impl FieldNumbers {
             also: self.also,
         }
     }
+}
 
+impl FieldNumbers {
     /// Whether it has 1, 2 or 4 slots.
     fn has_width(&self) -> bool
         ensures { result ≡ has_width self.now }
@@ -125,11 +126,10 @@ fn width_in(slots: u8) -> Width
     }
 }
 
-impl ChoiceNumbers {
-    /// The name.
-    pub(crate) fn choice(&self) -> ChoiceName
-        ensures { result ≡ choice_in self.now }
-    {
+impl Numbers<ChoiceName> for ChoiceNumbers {
+    ghost stands_for = { choice_in };
+
+    fn entry(&self) -> ChoiceName {
         ChoiceName {
             pid: self.pid,
             number: self.number,
@@ -139,11 +139,10 @@ impl ChoiceNumbers {
     }
 }
 
-impl ParameterNumbers {
-    /// The parameter.
-    pub(crate) fn parameter(&self) -> ParameterDef
-        ensures { result ≡ parameter_in self.now }
-    {
+impl Numbers<ParameterDef> for ParameterNumbers {
+    ghost stands_for = { parameter_in };
+
+    fn entry(&self) -> ParameterDef {
         ParameterDef {
             pid: self.pid,
             rights: rights_in(self.commands),
@@ -158,7 +157,9 @@ impl ParameterNumbers {
             resets: self.resets != 0,
         }
     }
+}
 
+impl ParameterNumbers {
     /// Its data, if its fields are ones.
     fn shape(&self) -> Shape
         ensures { result ≡ (parameter_in self.now).shape }
@@ -183,7 +184,9 @@ impl ParameterNumbers {
         ensures { result ≡ (parameter_in self.now).fields }
     {
         let count = usize::from(self.field_count).min(8);
-        fields_of(&self.fields[..count])
+        let mut fields = ArrayVec::new();
+        fill(&self.fields[..count], &mut fields);
+        fields
     }
 }
 
@@ -192,18 +195,6 @@ fn have_widths(numbers: &[FieldNumbers]) -> bool
     ensures { result ≡ list_all has_width numbers.now }
 {
     numbers.iter().all(|number| number.has_width())
-}
-
-/// These fields.
-fn fields_of(numbers: &[FieldNumbers]) -> ArrayVec<Field, 8>
-    requires { length numbers.now ≤ 8 }
-    ensures { result.items ≡ map field_in numbers.now }
-{
-    let mut fields = ArrayVec::new();
-    for number in numbers {
-        fields.push(number.field());
-    }
-    fields
 }
 
 /// The commands of this number: those of table A-16, and those of COMMS_STATUS.

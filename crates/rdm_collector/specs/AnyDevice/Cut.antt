@@ -2,7 +2,7 @@
 use Rattle.std.specs.Prelude.{◌≡◌, ℕ, ◌==◌, Bool, true, false, List, [], ◌∷◌, ◌++◌, take, flat_map}
 use Rattle.std.specs.List.{list_any}
 use Rattle.rdm_frame.specs.declared.frame.Frame.{Frame}
-use Rattle.rdm_params.specs.declared.jobs.message.Message.{Message}
+use Rattle.rdm_frame.specs.declared.message.Message.{Message}
 use Rattle.rdm_collector.specs.declared.reply.Response.{Response}
 use Rattle.rdm_collector.specs.declared.reply.Response.TheVariants.{Ack, AckOverflow}
 use Rattle.rdm_collector.specs.declared.any_device.collected.Collected.{Collected}

@@ -1,7 +1,7 @@
 -- What a device says to a poll, of whatever response type, and when it says the same again. E1.20 sections 6.3 and 10.3.1.
 use Rattle.std.specs.Prelude.{ℕ, Bool, ◌&&◌, ◌==◌}
 use Rattle.rdm_frame.specs.declared.frame.Frame.{Frame}
-use Rattle.rdm_params.specs.declared.jobs.message.Message.{Message}
+use Rattle.rdm_frame.specs.declared.message.Message.{Message}
 use Rattle.rdm_collector.specs.declared.reply.Response.{Response}
 use Rattle.rdm_collector.specs.declared.reply.Response.TheVariants.{Ack, AckTimer, Nack, AckOverflow}
 use Rattle.rdm_collector.specs.declared.any_device.collected.Collected.{Collected}

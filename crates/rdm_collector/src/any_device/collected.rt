@@ -5,8 +5,7 @@ ghost use Rattle.rdm_collector.specs.AnyDevice.Collecting.{collected};
 
 use crate::message::message_of;
 use crate::reply::Response;
-use rdm_frame::FrameView;
-use rdm_params::Message;
+use rdm_frame::{FrameView, Message};
 
 /// A message that was collected, or a part of one (E1.20 section 10.3.1).
 #[derive(Debug, Drop, PartialEq, Eq)]

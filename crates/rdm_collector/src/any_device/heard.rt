@@ -6,9 +6,8 @@ ghost use Rattle.rdm_collector.specs.AnyDevice.Answers.{answer_to, taken_for, po
 
 use crate::reply::{Response, response_in};
 use crate::transaction::{Transaction, is_reply};
-use rdm_frame::FrameView;
-use rdm_frame::standard::{GET_COMMAND_RESPONSE, SET_COMMAND_RESPONSE};
-use rdm_params::{Kind, Nack};
+use rdm_frame::standard::{GET_COMMAND_RESPONSE, QUEUED_MESSAGE, SET_COMMAND_RESPONSE};
+use rdm_frame::{FrameView, Nack};
 
 /// What a collector for any device takes bytes for that it hears.
 #[derive(Clone, Copy, Debug, PartialEq, Eq)]
@@ -86,7 +85,7 @@ fn answer_to(tn: u8, frame: &FrameView<'_>) -> Option<Response>
 pub(crate) fn poll_heard(pid: u16, response: Response) -> DeviceHeard
     ensures { result ≡ poll_heard pid response }
 {
-    let is_of_poll = pid == Kind::QueuedMessage.pid();
+    let is_of_poll = pid == QUEUED_MESSAGE;
     match response {
         Response::AckOverflow => DeviceHeard::Part,
         Response::AckTimer { tenths } if is_of_poll => DeviceHeard::NotYet { tenths },

@@ -8,7 +8,7 @@ ghost use Rattle.rdm_collector.specs.AnyDevice.NoLoss.{NoneIsLostOfAnyDevice, Lo
 use crate::any_device::collected::Collected;
 use crate::any_device::heard::DeviceHeard;
 use crate::laws::responses_are_equal_by_value;
-use rdm_params::messages_are_equal_by_value;
+use rdm_frame::messages_are_equal_by_value;
 
 /// Against any device that keeps a queue and a last message, whatever response types its replies have, what was recorded, with
 /// equal neighbours joined, is what the device dispensed, joined likewise, but for one message at most. Nothing is missing if

@@ -6,8 +6,8 @@ ghost use Rattle.rdm_collector.specs.AnyDevice.Parts.{is_part, same_parameter, i
 
 use crate::any_device::collected::Collected;
 use crate::reply::Response;
+use rdm_frame::Message;
 use rdm_frame::standard::{ACK, ACK_OVERFLOW, ACK_TIMER, NACK_REASON};
-use rdm_params::Message;
 use std::alloc::AllocError;
 
 /// The first message of what was recorded, if it is whole: the one that came first and its repeats, or all its parts in order

@@ -2,12 +2,13 @@
 
 ghost use Rattle.std.specs.Prelude.{◌≡◌, ◌≢◌, ◌<◌, ◌++◌, ◌∷◌, [], List, Some, true, OnOk, IfOk, MatchResult, length};
 ghost use Rattle.std.specs.Option.{option_to_list};
+ghost use Rattle.rdm_frame.specs.Faults.{raise_of};
 ghost use Rattle.rdm_outbox.specs.Jobs.{jobs_of, has_place};
 ghost use Rattle.rdm_responder.specs.Runs.{outbox_of};
 ghost use Rattle.rdm_lane.specs.Ends.{with_item, IsSameTake};
 ghost use Rattle.rdm_lane.specs.Lane.{items_from};
 ghost use Rattle.rdm_params.specs.Jobs.Work.{worker_at};
-ghost use Rattle.rdm_bus.specs.BusRun.{raise_of, fault_of};
+ghost use Rattle.rdm_bus.specs.BusRun.{fault_of};
 ghost use Rattle.rdm_bus.specs.Systems.{refusal_in};
 ghost use Rattle.rdm_crew.specs.Crews.{IsTied, HasChanges, HasChanged, IsSameCrew, IsSent, HasSent, HasPlayed, HavePlayed, IsStopped, AreStopped, IsRefused};
 ghost use Rattle.rdm_crew.specs.Desks.{chosen, IsDrawn, IsSameDesk, stands_at};

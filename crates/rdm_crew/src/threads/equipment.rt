@@ -1,7 +1,7 @@
 //! What the threads of a run share, all of it made before any of them is started.
 
 ghost use Rattle.std.specs.Prelude.{◌≡◌, ◌≤◌, IfOk};
-ghost use Rattle.rdm_responder.specs.StandsFor.{IsQueueSize};
+ghost use Rattle.rdm_outbox.specs.Settings.{IsQueueSize};
 ghost use Rattle.rdm_crew.specs.Settling.{IsNewLaneOfOne, IsReportLane};
 ghost use Rattle.rdm_crew.specs.Watchers.{most_changes};
 ghost use Rattle.rdm_crew.specs.Workers.{most};

@@ -1,7 +1,7 @@
 //! What a person changes at the fixture's own menu while a run goes on.
 
 ghost use Rattle.std.specs.Prelude.{◌≡◌, ◌+◌, ◌%◌, IfOk};
-ghost use Rattle.rdm_params.specs.declared.panel.Change.TheVariants.{Start};
+ghost use Rattle.rdm_commands.specs.declared.panel.Change.TheVariants.{Start};
 ghost use Rattle.rdm_crew.specs.RunTrace.{HaveFaults};
 
 use super::hand::Hands;

@@ -1,22 +1,19 @@
 -- What the entries of a device become by a SET.
 use Rattle.std.specs.Prelude.{◌≡◌, ℕ, ◌==◌, ◌&&◌, ◌||◌, List, ◌++◌, take, if◌then◌else◌}
 use Rattle.std.specs.List.{list_any}
-use Rattle.rdm_device.specs.declared.profile.Profile.{Profile}
-use Rattle.rdm_device.specs.declared.value.Value.{Value}
-use Rattle.rdm_device.specs.Columns.Forms.{Form, has_form}
-use Rattle.rdm_device.specs.Device.Map.{Entry, has_key, lookup, update}
-use Rattle.rdm_device.specs.Device.Parameters.{root_at_start}
+use Rattle.rdm_profile.specs.declared.profile.Profile.{Profile}
+use Rattle.rdm_profile.specs.declared.value.Value.{Value}
+use Rattle.rdm_profile.specs.Forms.{Form, has_form}
+use Rattle.rdm_added.specs.Locking.{is_locked}
+use Rattle.rdm_added.specs.Map.{Entry, has_key, lookup, update}
+use Rattle.rdm_added.specs.Parameters.{root_at_start}
 use Rattle.rdm_device.specs.Columns.Replies.{factory_pids}
-use Rattle.rdm_device.specs.Device.Spot.{Spot}
-use Rattle.rdm_device.specs.Device.Values.{bytes_of, byte_or_0}
+use Rattle.rdm_added.specs.Spot.{Spot, Change}
+use Rattle.rdm_profile.specs.Values.{bytes_of, byte_or_0}
 
--- the bytes that an entry of a device becomes, by the value of a command
-abbrev pub Change : Type 0
-Change = Spot → Value → Entry → List ℕ
-
--- Values become what the change makes of them, at a device of this profile.
-abbrev pub IsChanged : Change → Value → Profile → List Entry → List Entry → Type 0
-IsChanged change value profile old new = (spot : Spot) → spot.profile ≡ profile → new ≡ update (change spot value) old
+-- Values become what the change makes of them, at a device of this profile that has these values of the maker's own parameters.
+abbrev pub IsChanged : Change → Value → Profile → List Entry → List Entry → List Entry → Type 0
+IsChanged change value profile added old new = (spot : Spot) → spot.profile ≡ profile → spot.added ≡ added → new ≡ update (change spot value) old
 
 -- no entry changes
 abbrev pub unchanged : Change
@@ -26,9 +23,14 @@ unchanged spot v e = e.bytes
 abbrev pub stored_at : ℕ → Form → Change
 stored_at pid form spot v e = if has_key pid 0 e && has_form form v then bytes_of v else e.bytes
 
--- each parameter that FACTORY_DEFAULTS sets back takes the value that it starts with. Section 10.5.6.
+-- what the bytes of an entry become, unless the lock state locks its parameter. E1.37-1, LOCK_STATE.
+abbrev pub unless_locked : Spot → Entry → List ℕ → List ℕ
+unless_locked spot e bytes = if is_locked spot.profile.particulars.locks spot.added e.pid then e.bytes else bytes
+
+-- Each parameter that FACTORY_DEFAULTS sets back takes the value that it starts with, unless it is locked. Section 10.5.6.
 abbrev pub set_back : Change
-set_back spot v e = if list_any (λ pid. has_key pid 0 e) factory_pids then lookup (root_at_start spot.profile) e.pid 0 else e.bytes
+set_back spot v e =
+    if list_any (λ pid. has_key pid 0 e) factory_pids then unless_locked spot e (lookup (root_at_start spot.profile) e.pid 0) else e.bytes
 
 -- the entries of the sensors that a byte names, one or with FF all, become what is made of their bytes
 abbrev pub sensor_change : (List ℕ → List ℕ) → ℕ → Entry → List ℕ

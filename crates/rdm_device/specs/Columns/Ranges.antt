@@ -1,24 +1,11 @@
 -- The ranges of the data of commands.
-use Rattle.std.specs.Prelude.{ℕ, Bool, false, ◌==◌, ◌&&◌, ◌||◌, not, nat_lt, nat_le, length, slice_get}
+use Rattle.std.specs.Prelude.{ℕ, false, ◌==◌, ◌&&◌, ◌||◌, not, nat_lt, nat_le, length, slice_get}
 use Rattle.std.specs.Option.{option_map_or}
 use Rattle.std.specs.List.{list_any}
-use Rattle.rdm_device.specs.declared.value.Value.{Value}
 use Rattle.rdm_device.specs.Device.Measuring.{records}
-use Rattle.rdm_device.specs.Device.Values.{byte_in, word_in, preset_in}
-use Rattle.rdm_device.specs.Device.Spot.{Spot, footprint}
-use Rattle.rdm_device.specs.Columns.Forms.{Form, has_form}
-
--- Whether a value is in range at a device. No value of another form is.
-abbrev pub Range : Type 0
-Range = Spot → Value → Bool
-
--- a test of the 8-bit number, if the value is one
-abbrev pub for_byte : (ℕ → Bool) → Value → Bool
-for_byte test v = option_map_or test (byte_in v) false
-
--- a test of the 16-bit number, if the value is one
-abbrev pub for_word : (ℕ → Bool) → Value → Bool
-for_word test v = option_map_or test (word_in v) false
+use Rattle.rdm_profile.specs.Values.{preset_in, for_byte, for_word}
+use Rattle.rdm_added.specs.Spot.{Range, footprint}
+use Rattle.rdm_profile.specs.Forms.{Form, has_form}
 
 -- every value of the form
 abbrev pub any : Form → Range

@@ -3,15 +3,15 @@ use Rattle.std.specs.Prelude.{ℕ, Bool, suc, ◌-◌, ◌==◌, ◌&&◌, ◌||
 use Rattle.std.specs.Int.{w16, from_be_bytes}
 use Rattle.std.specs.List.{list_all}
 use Rattle.std.specs.Option.{option_map_or}
-use Rattle.rdm_device.specs.declared.profile.Slot.{Slot}
-use Rattle.rdm_device.specs.declared.profile.own.ParameterDef.{ParameterDef}
-use Rattle.rdm_device.specs.declared.value.Value.{Value}
-use Rattle.rdm_device.specs.declared.value.Value.TheVariants.{Named, SlotName, Mode, Sensor, Info}
-use Rattle.rdm_device.specs.Device.Map.{lookup}
+use Rattle.rdm_profile.specs.declared.profile.Slot.{Slot}
+use Rattle.rdm_profile.specs.declared.profile.own.ParameterDef.{ParameterDef}
+use Rattle.rdm_profile.specs.declared.value.Value.{Value}
+use Rattle.rdm_profile.specs.declared.value.Value.TheVariants.{Named, SlotName, Mode, Sensor, Info}
+use Rattle.rdm_added.specs.Map.{lookup}
 use Rattle.rdm_device.specs.Device.Measuring.{shown_slots}
-use Rattle.rdm_device.specs.Device.Parameters.{root_at_start}
-use Rattle.rdm_device.specs.Device.Spot.{Spot, personality, footprint}
-use Rattle.rdm_device.specs.Device.Values.{word_slots, bytes_of, byte_or_0, word_or_0}
+use Rattle.rdm_added.specs.Parameters.{root_at_start}
+use Rattle.rdm_added.specs.Spot.{Spot, personality, footprint}
+use Rattle.rdm_profile.specs.Values.{word_slots, bytes_of, byte_or_0, word_or_0}
 
 -- the meaning of a status ID. Section 10.3.3.
 abbrev pub status_text : Spot → Value → List ℕ

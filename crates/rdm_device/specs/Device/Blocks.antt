@@ -3,13 +3,13 @@ use Rattle.std.specs.Prelude.{◌≡◌, ℕ, ◌+◌, min, Bool, true, ◌==◌
 use Rattle.std.specs.Int.{w16, from_be_bytes}
 use Rattle.std.specs.List.{list_all, sum_by}
 use Rattle.std.specs.Option.{option_map_or}
-use Rattle.rdm_device.specs.declared.profile.Profile.{Profile}
-use Rattle.rdm_device.specs.declared.value.Value.TheVariants.{Word}
+use Rattle.rdm_profile.specs.declared.profile.Profile.{Profile}
+use Rattle.rdm_profile.specs.declared.value.Value.TheVariants.{Word}
 use Rattle.rdm_device.specs.Columns.Changes.{stored_at}
-use Rattle.rdm_device.specs.Columns.Forms.{word}
-use Rattle.rdm_device.specs.Device.Map.{Entry, lookup, value_at, update}
-use Rattle.rdm_device.specs.Device.Spot.{Spot, sub_device, footprint}
-use Rattle.rdm_device.specs.Device.Values.{word_slots}
+use Rattle.rdm_profile.specs.Forms.{word}
+use Rattle.rdm_added.specs.Map.{Entry, lookup, value_at, update}
+use Rattle.rdm_added.specs.Spot.{Spot, sub_device, footprint}
+use Rattle.rdm_profile.specs.Values.{word_slots}
 
 -- the sub-devices of a profile that keep these values, in the order of their numbers
 abbrev pub sub_devices : Profile → List (List Entry) → List Spot

@@ -2,9 +2,9 @@
 use Rattle.std.specs.Prelude.{ℕ, ℤ, ◌%◌, Bool, ◌==◌, nat_le, List, ◌++◌, map, take, drop, slice_index, Option, if◌then◌else◌}
 use Rattle.std.specs.Option.{option_map_or}
 use Rattle.std.specs.Int.{w16, from_be_bytes, cast_signed, int_min, int_max}
-use Rattle.rdm_device.specs.declared.profile.SensorDef.{SensorDef}
-use Rattle.rdm_device.specs.Device.Map.{Entry, has_key}
-use Rattle.rdm_device.specs.Device.Values.{signed_slots}
+use Rattle.rdm_profile.specs.declared.profile.SensorDef.{SensorDef}
+use Rattle.rdm_added.specs.Map.{Entry, has_key}
+use Rattle.rdm_profile.specs.Values.{signed_slots}
 
 -- the signed number that 16 bits say
 abbrev pub signed_in : List ℕ → ℤ

@@ -5,18 +5,15 @@
 ghost use Rattle.std.specs.Prelude.{◌≡◌, ◌==◌, false, slice_get};
 ghost use Rattle.std.specs.Option.{option_map_or};
 ghost use Rattle.std.specs.List.{list_any};
-ghost use Rattle.rdm_device.specs.Columns.Forms.{byte, word, preset};
-ghost use Rattle.rdm_device.specs.Columns.Ranges.{below, a_message_type, a_threshold, a_status, a_language, a_personality};
-ghost use Rattle.rdm_device.specs.Columns.Ranges.{a_start, a_slot, a_sensor, sensors, a_power_state, a_test, a_self_test};
-ghost use Rattle.rdm_device.specs.Columns.Ranges.{a_preset, recording_sensors, lamp_states_told, lamp_modes_told};
+ghost use Rattle.rdm_profile.specs.Forms.{byte, word, preset};
+ghost use Rattle.rdm_device.specs.Columns.Ranges.{below, a_message_type, a_threshold, a_status, a_language, a_personality, a_start, a_slot, a_sensor, sensors, a_power_state, a_test, a_self_test, a_preset, recording_sensors, lamp_states_told, lamp_modes_told};
 ghost use Rattle.rdm_device.specs.Device.Measuring.{records};
 
-use crate::device::Place;
 use crate::device::footprint::footprint;
 use crate::device::supporting::records;
-use crate::value::argument::Argument;
-use crate::{SelfTest, SensorDef, StatusText};
+use rdm_added::Place;
 use rdm_frame::standard::{ALL_SENSORS, MOST_DMX_SLOTS};
+use rdm_profile::{Argument, SelfTest, SensorDef, StatusText};
 
 /// An 8-bit number below a limit.
 #[inline]

@@ -8,27 +8,21 @@ ghost use Rattle.std.specs.Prelude.{◌≡◌, ◌==◌, [], ◌∷◌, ◌++◌
 ghost use Rattle.std.specs.List.{list_all};
 ghost use Rattle.std.specs.Option.{option_copied};
 ghost use Rattle.std.specs.Int.{w16, from_be_bytes};
-ghost use Rattle.rdm_device.specs.Columns.Replies.{status_text, factory_pids, device_info, at_factory_defaults};
-ghost use Rattle.rdm_device.specs.Columns.Replies.{personality_of_all, personality_described, start_address};
-ghost use Rattle.rdm_device.specs.Columns.Replies.{slot_described, sensor_described, sensor_measured, self_test_runs};
-ghost use Rattle.rdm_device.specs.Columns.Replies.{self_test_described};
-ghost use Rattle.rdm_device.specs.Device.Map.{lookup};
+ghost use Rattle.rdm_device.specs.Columns.Replies.{status_text, factory_pids, device_info, at_factory_defaults, personality_of_all, personality_described, start_address, slot_described, sensor_described, sensor_measured, self_test_runs, self_test_described};
+ghost use Rattle.rdm_added.specs.Map.{lookup};
 ghost use Rattle.rdm_device.specs.Device.Measuring.{shown_slots};
-ghost use Rattle.rdm_device.specs.Device.Parameters.{root_at_start};
-ghost use Rattle.rdm_device.specs.Views.State.{common_entries, own_entries, sensor_entries, measured_slots};
-ghost use Rattle.rdm_device.specs.Device.Values.{bytes_of, word_slots};
+ghost use Rattle.rdm_added.specs.Parameters.{root_at_start};
+ghost use Rattle.rdm_added.specs.Views.State.{common_entries, own_entries, sensor_entries, measured_slots};
+ghost use Rattle.rdm_profile.specs.Values.{bytes_of, word_slots};
 
-use crate::columns::added::are_at_start;
 pub use crate::columns::replies::lists::{languages, slot_defaults, slot_infos};
-use crate::device::Place;
 use crate::device::footprint::footprint;
-use crate::device::state::{CommonValues, Measured, RootValues};
 use crate::device::supporting::shown;
-use crate::value::argument::Argument;
-use crate::value::writing::write_into;
-use crate::{Profile, SelfTest, StatusText, Value};
+use rdm_added::added::are_at_start;
+use rdm_added::{CommonValues, Measured, Place, RootValues};
 use rdm_frame::Body;
 use rdm_frame::standard::ALL_SENSORS;
+use rdm_profile::{Argument, Profile, SelfTest, StatusText, Value, write_into};
 
 /// The version of the protocol: 1.0 (E1.20 section 10.5.1).
 const PROTOCOL_VERSION: u16 = 0x0100;
@@ -52,7 +46,7 @@ fn status_of(texts: &[StatusText], id: u16) -> Option<&StatusText>
 }
 
 /// What the device is.
-#[tactic(auto, unfolding(crate::specs::Views::State::common_entries))]
+#[tactic(auto, unfolding(rdm_added::specs::Views::State::common_entries))]
 #[inline(never)]
 pub fn device_info(place: &Place<'_>, body: &mut Body)
     requires { body.old ≡ [] }
@@ -89,7 +83,7 @@ fn sensor_count(place: &Place<'_>) -> u8
 }
 
 /// 1 if each parameter that FACTORY_DEFAULTS sets back has the value that it starts with, else 0.
-#[tactic(auto, unfolding(crate::specs::Views::State::common_entries, crate::specs::Views::State::own_entries, crate::specs::Device::Parameters::common_at_start, crate::specs::Device::Parameters::own_at_start), using(crate::proofs::Words::never))]
+#[tactic(auto, unfolding(rdm_added::specs::Views::State::common_entries, rdm_added::specs::Views::State::own_entries, rdm_added::specs::Parameters::common_at_start, rdm_added::specs::Parameters::own_at_start), using(crate::proofs::Words::never))]
 #[inline(never)]
 pub fn at_factory_defaults(place: &Place<'_>, body: &mut Body)
     requires { body.old ≡ [] }
@@ -105,7 +99,7 @@ pub fn at_factory_defaults(place: &Place<'_>, body: &mut Body)
     }
 }
 
-#[tactic(auto, unfolding(crate::specs::Views::State::common_entries, crate::specs::Views::State::own_entries, crate::specs::Device::Parameters::common_at_start, crate::specs::Device::Parameters::own_at_start))]
+#[tactic(auto, unfolding(rdm_added::specs::Views::State::common_entries, rdm_added::specs::Views::State::own_entries, rdm_added::specs::Parameters::common_at_start, rdm_added::specs::Parameters::own_at_start))]
 fn is_set_back(profile: &Profile, common: &CommonValues, own: &RootValues) -> bool
     ensures { result ≡ list_all (λ pid. bytes_eq (lookup (common_entries common.now ++ own_entries own.now) pid 0)
         (lookup (root_at_start profile.now) pid 0)) factory_pids }
@@ -133,7 +127,7 @@ fn same(stored: &[u8], first: &[u8]) -> bool
 }
 
 /// The current personality, and how many there are.
-#[tactic(auto, unfolding(crate::specs::Views::State::common_entries))]
+#[tactic(auto, unfolding(rdm_added::specs::Views::State::common_entries))]
 #[inline(never)]
 pub fn personality_of_all(place: &Place<'_>, body: &mut Body)
     requires { body.old ≡ [] }
@@ -169,7 +163,7 @@ pub fn start_address(place: &Place<'_>, body: &mut Body)
     body.append(&shown_start(place).to_be_bytes());
 }
 
-#[tactic(auto, unfolding(crate::specs::Views::State::common_entries))]
+#[tactic(auto, unfolding(rdm_added::specs::Views::State::common_entries))]
 fn shown_start(place: &Place<'_>) -> u16
     ensures { word_slots result ≡ start_address place.now }
 {
@@ -214,7 +208,7 @@ pub fn sensor_described(place: &Place<'_>, value: &Argument<'_>, body: &mut Body
 }
 
 /// What a sensor measured, or FF and eight 00 for all sensors.
-#[tactic(auto, unfolding(crate::specs::Views::State::common_entries, crate::specs::Views::State::own_entries))]
+#[tactic(auto, unfolding(rdm_added::specs::Views::State::common_entries, rdm_added::specs::Views::State::own_entries))]
 #[inline(never)]
 pub fn sensor_measured(place: &Place<'_>, value: &Argument<'_>, body: &mut Body)
     requires { body.old ≡ [] }
@@ -266,7 +260,7 @@ fn reading(number: u8, measured: Measured) -> Value
 }
 
 /// 1 if the self test that was last switched on isn't off, else 0.
-#[tactic(auto, unfolding(crate::specs::Views::State::common_entries, crate::specs::Views::State::own_entries))]
+#[tactic(auto, unfolding(rdm_added::specs::Views::State::common_entries, rdm_added::specs::Views::State::own_entries))]
 #[inline(never)]
 pub fn self_test_runs(place: &Place<'_>, body: &mut Body)
     requires { body.old ≡ [] }

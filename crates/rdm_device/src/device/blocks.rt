@@ -4,21 +4,19 @@
 
 ghost use Rattle.std.specs.Prelude.{◌≡◌, ◌↔◌, ◌<◌, ◌+◌, ◌==◌, ◌&&◌, true, false, nat_le, min, map, length, find, slice_set, slice_index_or, []};
 ghost use Rattle.std.specs.Option.{option_map};
-ghost use Rattle.rdm_device.specs.declared.value.Value.TheVariants.{Word};
+ghost use Rattle.rdm_profile.specs.declared.value.Value.TheVariants.{Word};
 ghost use Rattle.rdm_device.specs.Columns.Changes.{stored_at};
-ghost use Rattle.rdm_device.specs.Columns.Forms.{word};
+ghost use Rattle.rdm_profile.specs.Forms.{word};
 ghost use Rattle.rdm_device.specs.Device.Blocks.{sub_devices, has_slots, total, start_in, follow, base_if, base_address, block_slots, BlockIsTold, fits, started, started_from};
-ghost use Rattle.rdm_device.specs.Device.Map.{update};
-ghost use Rattle.rdm_device.specs.Device.Spot.{Spot, sub_device, footprint};
-ghost use Rattle.rdm_device.specs.Views.State.{common_entries};
+ghost use Rattle.rdm_added.specs.Map.{update};
+ghost use Rattle.rdm_added.specs.Spot.{Spot, sub_device, footprint};
+ghost use Rattle.rdm_added.specs.Views.State.{common_entries};
 
-use crate::Profile;
-use crate::columns::writes;
-use crate::device::Place;
 use crate::device::footprint::footprint;
-use crate::device::state::CommonValues;
+use rdm_added::{CommonValues, Place};
 use rdm_frame::Body;
 use rdm_frame::standard::MOST_DMX_SLOTS;
+use rdm_profile::{Profile, writes};
 
 /// The base address where there is no block.
 const NO_BLOCK: u16 = 0xFFFF;
@@ -154,7 +152,7 @@ fn start_one(profile: &Profile, common: &mut CommonValues, start: u16) -> bool
 }
 
 /// Keeps a start address, and says whether it is another.
-#[tactic(auto, unfolding(crate::specs::Views::State::common_entries))]
+#[tactic(auto, unfolding(rdm_added::specs::Views::State::common_entries))]
 fn write_start(common: &mut CommonValues, start: u16) -> bool
     ensures after { (spot : Spot) → common_entries common.new ≡ update (stored_at 0x00F0 word spot (Word start)) (common_entries common.old) }
     ensures same { (result ≡ false) ↔ (common_entries common.new ≡ common_entries common.old) }
@@ -170,7 +168,7 @@ fn slots_of(profile: &Profile, common: &CommonValues) -> u16
 }
 
 /// The start address of a sub-device.
-#[tactic(auto, unfolding(crate::specs::Views::State::common_entries))]
+#[tactic(auto, unfolding(rdm_added::specs::Views::State::common_entries))]
 fn start_kept(common: &CommonValues) -> u16
     ensures { result ≡ start_in (common_entries common.now) }
 {

@@ -1,12 +1,12 @@
 //! The slots that a device uses.
 
 ghost use Rattle.std.specs.Prelude.{◌≡◌};
-ghost use Rattle.rdm_device.specs.Device.Spot.{footprint};
+ghost use Rattle.rdm_added.specs.Spot.{footprint};
 
-use crate::device::Place;
+use rdm_added::Place;
 
 /// How many slots the current personality uses.
-#[tactic(auto, unfolding(crate::specs::Views::State::common_entries))]
+#[tactic(auto, unfolding(rdm_added::specs::Views::State::common_entries))]
 #[inline]
 pub fn footprint(place: &Place<'_>) -> u16
     ensures { result ≡ footprint place.now }

@@ -1,17 +1,17 @@
 //! What a sensor shows after it has measured, and after its values were placed.
 
 ghost use Rattle.std.specs.Prelude.{◌≡◌, [], ◌∷◌, length, drop};
-ghost use Rattle.rdm_device.specs.declared.device.state.Measured.{Measured};
-ghost use Rattle.rdm_device.specs.Device.Map.{update};
+ghost use Rattle.rdm_added.specs.declared.state.Measured.{Measured};
+ghost use Rattle.rdm_added.specs.Map.{update};
 ghost use Rattle.rdm_device.specs.Device.Measuring.{measured, measured_by, at_sensor, placed_by};
-ghost use Rattle.rdm_device.specs.Views.State.{own_entries, sensor_entries, measured_slots};
-ghost use Rattle.rdm_device.specs.Device.Values.{signed_slots};
+ghost use Rattle.rdm_added.specs.Views.State.{own_entries, sensor_entries, measured_slots};
+ghost use Rattle.rdm_profile.specs.Values.{signed_slots};
 
-use crate::device::state::{Measured, RootValues};
+use rdm_added::{Measured, RootValues};
 
 /// Makes a value the present one of the sensor of this number, if there is one, and takes it into the lowest and the
 /// highest value.
-#[tactic(auto, unfolding(crate::specs::Views::State::own_entries))]
+#[tactic(auto, unfolding(rdm_added::specs::Views::State::own_entries))]
 pub fn measure(own: &mut RootValues, number: u8, value: i16)
     ensures own { own_entries own.new ≡ update (measured_by number value) (own_entries own.old) }
     ensures added { own.new.added ≡ own.old.added }
@@ -48,7 +48,7 @@ fn with_value(lowest: i16, highest: i16, recorded: i16, value: i16) -> Measured
 
 /// Makes the last eight of these nine slots the values of the sensor that the first one names, if there is one: the
 /// present, the lowest, the highest and the recorded value (E1.20 section 10.7.2).
-#[tactic(auto, unfolding(crate::specs::Views::State::own_entries))]
+#[tactic(auto, unfolding(rdm_added::specs::Views::State::own_entries))]
 pub fn place_measured(own: &mut RootValues, slots: &[u8])
     requires { length slots.now ≡ 9 }
     ensures own { own_entries own.new ≡ update (placed_by slots.now) (own_entries own.old) }

@@ -1,13 +1,13 @@
 //! What a sensor shows of its values: 0 for each that it doesn't support.
 
 ghost use Rattle.std.specs.Prelude.{◌≡◌, slice_get};
-ghost use Rattle.rdm_device.specs.declared.device.state.Measured.{Measured};
+ghost use Rattle.rdm_added.specs.declared.state.Measured.{Measured};
 ghost use Rattle.rdm_device.specs.Device.Measuring.{records, keeps_extremes, or_zero, supported_slots, shown_slots};
-ghost use Rattle.rdm_device.specs.Device.Values.{signed_slots};
-ghost use Rattle.rdm_device.specs.Views.State.{measured_slots};
+ghost use Rattle.rdm_profile.specs.Values.{signed_slots};
+ghost use Rattle.rdm_added.specs.Views.State.{measured_slots};
 
-use crate::device::state::Measured;
-use crate::{Profile, SensorDef};
+use rdm_added::Measured;
+use rdm_profile::{Profile, SensorDef};
 
 /// What the sensor of this number shows of these values, if the profile has it (E1.20 section 10.7.2).
 pub(crate) fn shown(profile: &Profile, number: u8, measured: Measured) -> Measured

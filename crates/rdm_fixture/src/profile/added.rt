@@ -2,7 +2,7 @@
 //! fixture lacks.
 
 ghost use Rattle.std.specs.Prelude.{◌≡◌, ◌<◌, ◌≤◌, ◌↔◌, Some, None, IfErr, IfSome, AllPairs, length, [], ◌∷◌, codes};
-ghost use Rattle.rdm_device.specs.Device.Profiles.{MayBeLeftOut, Agree, HaveStates};
+ghost use Rattle.rdm_profile.specs.Profiles.{MayBeLeftOut, Agree, HaveStates};
 ghost use Rattle.rdm_fixture_keys.specs.Faults.{fault, told};
 ghost use Rattle.rdm_fixture.specs.FirstWrong as parts;
 ghost use Rattle.rdm_fixture.specs.Format as says;

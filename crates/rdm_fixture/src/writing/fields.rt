@@ -3,7 +3,7 @@
 ghost use Rattle.std.specs.Prelude.{◌≡◌, ◌≤◌, ◌+◌, ℕ, pos, [], Some, IsOk, IfOk, IfSome, IsTrue, All, length, option_map};
 ghost use Rattle.toml.specs.Data.{Members, table as table_data, string, integer, boolean};
 ghost use Rattle.toml.specs.View.{view, table_view};
-ghost use Rattle.rdm_device.specs.Device.Workers.{worker_number};
+ghost use Rattle.rdm_profile.specs.Workers.{worker_number};
 ghost use Rattle.rdm_fixture.specs.Describable.{are_printable};
 ghost use Rattle.rdm_fixture_keys.specs.Keys.{may};
 ghost use Rattle.rdm_fixture.specs.Lists.{OfTable, ListAt};

@@ -4,12 +4,12 @@ ghost use Rattle.std.specs.Prelude.{◌≡◌, IfOk, IsTrue, Some, option_and_th
 ghost use Rattle.std.specs.Str.Lossy.{utf8_lossy};
 ghost use Rattle.toml.specs.View.{view};
 ghost use Rattle.rdm_frame.specs.Digits.{digits};
-ghost use Rattle.rdm_device.specs.Columns.Forms.{value_of};
-ghost use Rattle.rdm_device.specs.Device.OwnParameters.{is_addable, form_of, number_in, can_start, has_good_fields};
-ghost use Rattle.rdm_device.specs.Device.Standards.{follows};
+ghost use Rattle.rdm_profile.specs.Forms.{value_of};
+ghost use Rattle.rdm_profile.specs.OwnParameters.{is_addable, form_of, number_in, can_start, has_good_fields};
+ghost use Rattle.rdm_profile.specs.Standards.{follows};
 ghost use Rattle.rdm_fixture.specs.Describable.{is_sayable, can_stand};
 ghost use Rattle.rdm_fixture.specs.Parameters as says;
-ghost use Rattle.rdm_device.specs.Device.Fields.{width_of};
+ghost use Rattle.rdm_profile.specs.Fields.{width_of};
 ghost use Rattle.rdm_fixture.specs.Parameters.{IsField, IsParameter};
 ghost use Rattle.rdm_fixture.specs.Writing.{IsPlain, rights_name, shape_name, written_slots};
 
@@ -76,7 +76,7 @@ fn slots_of(width: Width) -> u8
     }
 }
 
-/// The name of the commands (E1.20 table A-16; `get_clear` is a GET with a SET that sets back).
+/// The name of the commands (E1.20 table A-16; `get_clear` is a GET with a SET that clears to zero).
 fn rights_name(rights: Rights) -> &'static str
     ensures { result.now ≡ rights_name rights }
 {

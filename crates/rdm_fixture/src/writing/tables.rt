@@ -4,8 +4,8 @@ ghost use Rattle.std.specs.Prelude.{◌≡◌, ◌≤◌, ℕ, Some, IsOk, IfOk,
 ghost use Rattle.toml.specs.Data.{Members, table as table_data, string, array};
 ghost use Rattle.toml.specs.View.{view, items_view, table_view};
 ghost use Rattle.rdm_frame.specs.Addressing.{is_broadcast};
-ghost use Rattle.rdm_device.specs.Device.LeftOut.{is_optional};
-ghost use Rattle.rdm_device.specs.Device.Profiles.{IsGoodUnit, CanBeMade};
+ghost use Rattle.rdm_profile.specs.LeftOut.{is_optional};
+ghost use Rattle.rdm_profile.specs.Profiles.{IsGoodUnit, CanBeMade};
 ghost use Rattle.rdm_params.specs.Table.Kinds.{pid_of, kind_named};
 ghost use Rattle.rdm_fixture.specs.Describable.{HasPrintableUnit, CanBeDescribed, is_coded};
 ghost use Rattle.rdm_fixture.specs.Format.{IsFixture, IsUnit, SubDevices, EstimatesAt, WorkersAt, LanguagesAt, parameter_named};

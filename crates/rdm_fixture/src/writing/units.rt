@@ -3,7 +3,7 @@
 ghost use Rattle.std.specs.Prelude.{ℕ, IfOk, IsTrue};
 ghost use Rattle.toml.specs.Data.{table as table_data};
 ghost use Rattle.toml.specs.View.{table_view};
-ghost use Rattle.rdm_device.specs.Device.Profiles.{IsGoodUnit};
+ghost use Rattle.rdm_profile.specs.Profiles.{IsGoodUnit};
 ghost use Rattle.rdm_fixture.specs.Describable.{HasPrintableUnit};
 ghost use Rattle.rdm_fixture.specs.Format.{IsUnit, unit_keys, root_keys};
 ghost use Rattle.rdm_fixture_keys.specs.Keys.{has_only};

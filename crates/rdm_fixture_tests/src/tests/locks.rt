@@ -1,4 +1,4 @@
-//! Orders, counts that a SET sets back, scenes, lock states and PINs, and which parameters a lock state keeps from being set.
+//! Orders, counts that a SET clears, scenes, lock states and PINs, and which parameters a lock state keeps from being set.
 
 use super::{LEAST, Row, told, try_row, try_rows};
 use rdm_device::{Lock, ParameterDef, Particular, Particulars, Rights, Shape};
@@ -35,7 +35,7 @@ fn check(
     assert!(rt; told == (rights, shape, start, limits.0, limits.1));
 }
 
-/// An order is SET alone, and COMMS_STATUS has a SET that sets its counts back.
+/// An order is SET alone, and COMMS_STATUS has a SET that clears its counts.
 #[test]
 fn orders_and_counts(rt: HostRuntime) -> Result<(), Fail> {
     let fixture = read(

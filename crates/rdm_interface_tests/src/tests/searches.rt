@@ -42,6 +42,9 @@ struct Lossy {
 impl Port for Lossy {
     ghost hears = { λ _ _ _ _. Unit {0} };
 
+    // It never fails.
+    ghost fails = { λ _ _ _ _. ⊥ };
+
     fn exchange(&mut self, request: &Wire) -> Result<Option<Wire>, PortError> {
         let is_bad = self.lost < self.most;
         self.lost = if is_bad {
@@ -69,7 +72,12 @@ impl Port for Lossy {
 struct Gone;
 
 impl Port for Gone {
+    ghost use Rattle.std.specs.Prelude.{◌≡◌};
+    ghost use Rattle.rdm_collector.specs.declared.port.PortError.TheVariants.{Closed};
+
     ghost hears = { λ _ _ _ _. Unit {0} };
+
+    ghost fails = { λ _ _ error _. error ≡ Closed };
 
     fn exchange(&mut self, _request: &Wire) -> Result<Option<Wire>, PortError> {
         Err(PortError::Closed)

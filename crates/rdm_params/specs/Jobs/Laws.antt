@@ -1,27 +1,27 @@
 -- Laws of slow commands and of what is fetched, for all devices and commands.
 use Rattle.std.specs.Prelude.{◌≡◌, ◌≢◌, ℕ, true, false, ◌==◌, if◌then◌else◌, List, [], ◌∷◌, length, Option}
-use Rattle.rdm_params.specs.declared.kind.Verb.{Verb}
-use Rattle.rdm_params.specs.declared.kind.Verb.TheVariants.{Get, Set}
-use Rattle.rdm_params.specs.declared.jobs.ask.Ask.{Ask}
-use Rattle.rdm_params.specs.declared.jobs.ask.Ask.TheVariants as asks
-use Rattle.rdm_params.specs.declared.jobs.outcome.Outcome.{Outcome}
-use Rattle.rdm_params.specs.declared.jobs.work.Work.{Work}
-use Rattle.rdm_params.specs.declared.panel.Change.{Change}
-use Rattle.rdm_params.specs.declared.verdict.Verdict.TheVariants.{Reply, Start, Queue, Status, Clear}
-use Rattle.rdm_device.specs.declared.profile.Profile.{Profile}
-use Rattle.rdm_device.specs.declared.value.Value.{Value}
-use Rattle.rdm_device.specs.declared.value.Value.TheVariants.{Byte}
+use Rattle.rdm_table.specs.declared.kind.Verb.{Verb}
+use Rattle.rdm_table.specs.declared.kind.Verb.TheVariants.{Get, Set}
+use Rattle.rdm_commands.specs.declared.jobs.ask.Ask.{Ask}
+use Rattle.rdm_commands.specs.declared.jobs.ask.Ask.TheVariants as asks
+use Rattle.rdm_commands.specs.declared.jobs.outcome.Outcome.{Outcome}
+use Rattle.rdm_commands.specs.declared.jobs.work.Work.{Work}
+use Rattle.rdm_commands.specs.declared.panel.Change.{Change}
+use Rattle.rdm_commands.specs.declared.verdict.Verdict.TheVariants.{Reply, Start, Queue, Status, Clear}
+use Rattle.rdm_profile.specs.declared.profile.Profile.{Profile}
+use Rattle.rdm_profile.specs.declared.value.Value.{Value}
+use Rattle.rdm_profile.specs.declared.value.Value.TheVariants.{Byte}
 use Rattle.rdm_device.specs.Columns.Replies.{sensor_measured}
-use Rattle.rdm_device.specs.Device.Estimates.{usual}
-use Rattle.rdm_device.specs.Device.Workers.{usual_workers}
-use Rattle.rdm_params.specs.Commands.Commands.{command_of, accepted, got, answer_to_set, after_set, root_spot}
-use Rattle.rdm_params.specs.Commands.Panel.{after_change}
-use Rattle.rdm_params.specs.Commands.Placing.{after_place}
-use Rattle.rdm_device.specs.Device.Parameters.{Parameters}
-use Rattle.rdm_params.specs.Jobs.Commit.{after_commit}
-use Rattle.rdm_params.specs.Jobs.Work.{IsAccepted, estimate_of, worker_at}
-use Rattle.rdm_params.specs.Table.Rows.{Command, is_left_out}
-use Rattle.rdm_params.specs.Table.Uses.{is_slow, is_at_once, way_of, way_at}
+use Rattle.rdm_profile.specs.Estimates.{usual}
+use Rattle.rdm_profile.specs.Workers.{usual_workers}
+use Rattle.rdm_table.specs.Table.Rows.{command_of, Command, is_left_out}
+use Rattle.rdm_commands.specs.Commands.Commands.{accepted, got, answer_to_set, after_set, root_spot}
+use Rattle.rdm_commands.specs.Commands.Panel.{after_change}
+use Rattle.rdm_commands.specs.Commands.Placing.{after_place}
+use Rattle.rdm_added.specs.Parameters.{Parameters}
+use Rattle.rdm_commands.specs.Jobs.Commit.{after_commit}
+use Rattle.rdm_commands.specs.Jobs.Work.{IsAccepted, estimate_of, worker_at}
+use Rattle.rdm_table.specs.Table.Uses.{is_slow, is_at_once, way_of, way_at}
 
 -- They have one profile and as many sub-devices, whatever their values are.
 pub record SameDevices (p q : Parameters) : Type 0 where

@@ -1,9 +1,6 @@
 //! Laws of slow commands and of what is fetched. Each is the contract of a call that does nothing.
 
-ghost use Rattle.rdm_params.specs.Jobs.Laws.{StaysAccepted, SetKeepsDevices, CommitKeepsDevices, GetStartsItsWork};
-ghost use Rattle.rdm_params.specs.Jobs.Laws.{SetStartsItsWork, GetQueues, GetStatuses, SetFetchesNothing};
-ghost use Rattle.rdm_params.specs.Jobs.Laws.{UsualTakesTheTablesTime, UsualHasTheTablesWorkers, UsualIsAnsweredByTheTable, SensorIsAnsweredAtOnce};
-ghost use Rattle.rdm_params.specs.Jobs.Laws.{PanelKeepsDevices, PlaceKeepsDevices, SetClears, GetClearsNothing};
+ghost use Rattle.rdm_params.specs.Jobs.Laws.{StaysAccepted, SetKeepsDevices, CommitKeepsDevices, GetStartsItsWork, SetStartsItsWork, GetQueues, GetStatuses, SetFetchesNothing, UsualTakesTheTablesTime, UsualHasTheTablesWorkers, UsualIsAnsweredByTheTable, SensorIsAnsweredAtOnce, PanelKeepsDevices, PlaceKeepsDevices, SetClears, GetClearsNothing};
 
 /// A slow command that is accepted stays so, whatever is set, whatever jobs end, whatever a person changes and whatever
 /// the firmware places.

@@ -129,15 +129,20 @@ const LOCKED: &[Step<'static>] = &[
     (Get, 0, 0x0140, &[], Reply(&[0, 2, 0xFF, 0xFF])),
 ];
 
-const MOVED: &[Step<'static>] = &[
+const STARTS_LOCKED: &[Step<'static>] = &[
     (Set, 1, 0x00F0, &[0, 5], Refuse(WriteProtect)),
-    (Set, 0, 0x0140, &[0, 5], Reply(&[])),
-    (Get, 0, 0x0140, &[], Reply(&[0, 2, 0, 5])),
+    (Set, 0, 0x0140, &[0, 5], Refuse(WriteProtect)),
+    (Get, 0, 0x0140, &[], Reply(&[0, 2, 0xFF, 0xFF])),
+    // Before its data are looked at, and behind what the device lacks.
+    (Set, 0, 0x0140, &[0, 0], Refuse(WriteProtect)),
+    (Set, 0, 0x0140, &[5], Refuse(WriteProtect)),
+    (Set, 1, 0x0140, &[0, 5], Refuse(UnknownPid)),
+    (Set, 4, 0x0140, &[0, 5], Refuse(SubDeviceOutOfRange)),
 ];
 
 #[test]
-fn a_block_has_a_lock_of_its_own(rt: HostRuntime) {
-    for (locked, steps) in [(0x0140, LOCKED), (0x00F0, MOVED)] {
+fn a_block_is_locked_with_its_start_addresses(rt: HostRuntime) {
+    for (locked, steps) in [(0x0140, LOCKED), (0x00F0, STARTS_LOCKED)] {
         plays(&rt, &mut rack(&rt, rt.alloc(), 2, Some(locked)), steps);
     }
 }

@@ -106,6 +106,112 @@ fn the_menu_and_the_firmware_are_not_locked(rt: HostRuntime) {
     plays(&rt, &mut devices, &[(Get, 0, 0x00F0, &[], Reply(&[0, 9]))]);
 }
 
+/// FACTORY_DEFAULTS passes over what is locked, at the root, and sets it back once it is unlocked. The burn in time isn't set back.
+const DEFAULTS: &[Step<'static>] = &[
+    (Set, 0, 0x00F0, &[0, 9], Reply(&[])),
+    (Set, 0, 0x0404, &[2], Reply(&[])),
+    (Set, 0, 0x0600, &[1], Reply(&[])),
+    (Set, 0, 0x0641, &[0x01, 0xB7, 1], Reply(&[])),
+    (Set, 0, 0x0090, &[], Reply(&[])),
+    (Get, 0, 0x00F0, &[], Reply(&[0, 9])),
+    (Get, 0, 0x0404, &[], Reply(&[0])),
+    (Get, 0, 0x0600, &[], Reply(&[0])),
+    (Get, 0, 0x0090, &[], Reply(&[0])),
+    (Set, 0, 0x0404, &[2], Reply(&[])),
+    (Set, 0, 0x0641, &[0x01, 0xB7, 2], Reply(&[])),
+    (Set, 0, 0x0090, &[], Reply(&[])),
+    (Get, 0, 0x00F0, &[], Reply(&[0, 9])),
+    (Get, 0, 0x0404, &[], Reply(&[2])),
+    (Set, 0, 0x0641, &[0x01, 0xB7, 0], Reply(&[])),
+    (Set, 0, 0x0090, &[], Reply(&[])),
+    (Get, 0, 0x00F0, &[], Reply(&[0, 1])),
+    (Get, 0, 0x0404, &[], Reply(&[0])),
+    (Get, 0, 0x0090, &[], Reply(&[1])),
+];
+
+#[test]
+fn factory_defaults_leave_what_is_locked(rt: HostRuntime) {
+    plays(&rt, &mut rack(&rt, rt.alloc(), Rights::Both), DEFAULTS);
+}
+
+/// A colour temperature that FACTORY_DEFAULTS sets back, which starts with 2000, and that is locked in the state that the device starts with.
+fn wash(rt: &impl Abort, alloc: Global) -> Devices {
+    let mut colour = parameter(
+        0x8001,
+        Rights::Both,
+        Shape::Word,
+        (2000, 8000),
+        &[0x07, 0xD0],
+    );
+    colour.resets = true;
+    let mut particular = Particular::usual();
+    let own = &mut particular.own;
+    add(
+        rt,
+        alloc,
+        own,
+        parameter(0x0640, Rights::Both, Shape::Pin, (0, 9999), &[0, 0]),
+    );
+    add(
+        rt,
+        alloc,
+        own,
+        parameter(0x0641, Rights::Both, Shape::Lock, (0, 1), &[1]),
+    );
+    add(
+        rt,
+        alloc,
+        own,
+        parameter(0x0642, Rights::Get, Shape::Names, (0, 0), &[]),
+    );
+    add(rt, alloc, own, colour);
+    add_name(
+        rt,
+        alloc,
+        &mut particular.choices,
+        (0x0642, 1, 0),
+        b"Locked",
+    );
+    add_locks(rt, alloc, &mut particular.locks, &[(1, 0x8001)]);
+    made(rt, alloc, set_apart(rt, alloc, 1, particular))
+}
+
+const OWN_DEFAULTS: &[Step<'static>] = &[
+    (Set, 0, 0x8001, &[0x0F, 0xA0], Refuse(WriteProtect)),
+    (Set, 0, 0x0641, &[0, 0, 0], Reply(&[])),
+    (Set, 0, 0x8001, &[0x0F, 0xA0], Reply(&[])),
+    (Set, 0, 0x0641, &[0, 0, 1], Reply(&[])),
+    (Set, 0, 0x0090, &[], Reply(&[])),
+    (Get, 0, 0x8001, &[], Reply(&[0x0F, 0xA0])),
+    (Set, 0, 0x0641, &[0, 0, 0], Reply(&[])),
+    (Set, 0, 0x0090, &[], Reply(&[])),
+    (Get, 0, 0x8001, &[], Reply(&[0x07, 0xD0])),
+];
+
+#[test]
+fn factory_defaults_leave_an_own_parameter_that_is_locked(rt: HostRuntime) {
+    plays(&rt, &mut wash(&rt, rt.alloc()), OWN_DEFAULTS);
+}
+
+/// RECORD_SENSORS would write the values of sensors.
+const SENSORS: &[Step<'static>] = &[
+    (Set, 0, 0x0202, &[0xFF], Reply(&[])),
+    (Set, 0, 0x0641, &[0x01, 0xB7, 2], Reply(&[])),
+    (Set, 0, 0x0201, &[0], Refuse(WriteProtect)),
+    (Set, 0, 0x0202, &[0], Refuse(WriteProtect)),
+    (Set, 0, 0x0202, &[], Refuse(WriteProtect)),
+    (Get, 0, 0x0202, &[], Refuse(UnsupportedCommandClass)),
+    (Set, 1, 0x0202, &[0], Refuse(UnknownPid)),
+    (Set, 0, 0x0641, &[0x01, 0xB7, 0], Reply(&[])),
+    (Set, 0, 0x0202, &[0xFF], Reply(&[])),
+];
+
+#[test]
+fn what_is_locked_is_not_recorded(rt: HostRuntime) {
+    let profile = profile_with(&rt, rt.alloc(), BOTH, Rights::Both, 0x0201);
+    plays(&rt, &mut made(&rt, rt.alloc(), profile), SENSORS);
+}
+
 /// The PIN has a SET alone: each PIN that is accepted opens, and none before it.
 const UNREAD: &[Step<'static>] = &[
     (Get, 0, 0x0640, &[], Refuse(UnsupportedCommandClass)),

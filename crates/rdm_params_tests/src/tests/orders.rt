@@ -1,4 +1,4 @@
-//! Orders, which have no GET, and COMMS_STATUS, whose SET sets its counts back.
+//! Orders, which have no GET, and COMMS_STATUS, whose SET clears its counts.
 
 use super::changes::{Told, tells};
 use super::*;
@@ -87,13 +87,13 @@ fn each_order_is_told(rt: HostRuntime) {
 
 const COUNTS: [u8; 6] = [0, 3, 0, 1, 0, 2];
 
-/// A SET sets the counts back, and once they are, changes nothing.
+/// A SET clears the counts, and once they are zero, changes nothing.
 const CLEARED: &[Told] = &[(0, 0x0015, &[], IS_CLEARED)];
 
 const CLEARED_AGAIN: &[Told] = &[(0, 0x0015, &[], None)];
 
 #[test]
-fn counts_are_placed_and_set_back(rt: HostRuntime) {
+fn counts_are_placed_and_cleared(rt: HostRuntime) {
     let mut devices = rack(&rt, rt.alloc());
     place_all(&rt, &mut devices, &[(0, 0x0015, &COUNTS, Ok(()))]);
     plays(&rt, &mut devices, &[(Get, 0, 0x0015, &[], Reply(&COUNTS))]);
@@ -102,7 +102,20 @@ fn counts_are_placed_and_set_back(rt: HostRuntime) {
     tells(&rt, &mut devices, CLEARED_AGAIN);
 }
 
-/// Neither a maker's parameter nor another one of the standards is set back so, and COMMS_STATUS takes no data.
+/// A SET clears counts to zero also where they start with others.
+const COUNTED: &[Slots<'static>] = &[(0x0015, Rights::Clear, false, &COUNTS, &[])];
+
+#[test]
+fn counts_are_cleared_to_zero(rt: HostRuntime) {
+    let mut own = OwnParameters::none();
+    add_slots(&rt, rt.alloc(), &mut own, COUNTED);
+    let mut devices = made(&rt, rt.alloc(), with_own(&rt, rt.alloc(), 1, own));
+    plays(&rt, &mut devices, &[(Get, 0, 0x0015, &[], Reply(&COUNTS))]);
+    tells(&rt, &mut devices, CLEARED);
+    plays(&rt, &mut devices, &[(Get, 0, 0x0015, &[], Reply(&[0; 6]))]);
+}
+
+/// Neither a maker's parameter nor another one of the standards is cleared so, and COMMS_STATUS takes no data.
 const OTHERS: &[Slots<'static>] = &[
     (0x8001, Rights::Clear, false, &[0; 6], &[]),
     (0x0440, Rights::Clear, false, &[0], &[]),
@@ -112,7 +125,7 @@ const OTHERS: &[Slots<'static>] = &[
 ];
 
 #[test]
-fn only_the_standards_set_back(rt: HostRuntime) {
+fn only_the_standards_clear(rt: HostRuntime) {
     for row in OTHERS {
         let told = refusal_with(&rt, rt.alloc(), 0, slots(&rt, row));
         assert_eq!(&rt; told, BAD, "{row:?}");

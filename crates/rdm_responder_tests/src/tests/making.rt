@@ -3,8 +3,9 @@
 use super::DEVICE;
 use rdm_frame::Uid;
 use rdm_params::Profile;
-use rdm_responder::{NewError, Responder};
+use rdm_responder::{NewError, Responder, Settings};
 use std::alloc::Global;
+use std::process::Abort;
 
 /// The broadcast to all devices of the maker.
 const BROADCAST: Uid = Uid {
@@ -65,9 +66,19 @@ const ENTRIES: &[(Uid, u16, u16, Option<NewError>)] = &[
 #[test]
 fn entries_are_1_to_1024(rt: HostRuntime) {
     for (uid, queue_size, entries, refusal) in ENTRIES {
-        let profile = Profile::demo(0);
-        let made = Responder::with_entries(rt.alloc(), *uid, profile, *queue_size, *entries);
+        let settings = Settings {
+            entries: *entries,
+            ..Settings::usual(*uid, *queue_size)
+        };
+        let profile = Box::new(rt.alloc(), Profile::demo(0)).expect(&rt, "memory");
+        let made = Responder::with_settings(rt.alloc(), &settings, profile);
         assert_eq!(rt; made.err(), *refusal, "{uid:?} {queue_size} {entries}");
+        // Without a profile the same is said of the settings.
+        assert_eq!(rt;
+            settings.refusal(),
+            *refusal,
+            "{uid:?} {queue_size} {entries}"
+        );
     }
 }
 
@@ -101,7 +112,7 @@ fn the_first_reason_is_told(rt: HostRuntime) {
     }
     for (entries, refusal) in &[(1, NewError::BadProfile), (1025, NewError::BadSize)] {
         assert_eq!(rt;
-            with_no_start(rt.alloc(), *entries),
+            with_no_start(&rt, rt.alloc(), *entries),
             Some(*refusal),
             "{entries}"
         );
@@ -109,6 +120,11 @@ fn the_first_reason_is_told(rt: HostRuntime) {
 }
 
 /// Why there is no responder of that profile, with room for so many entries.
-fn with_no_start(alloc: Global, entries: u16) -> Option<NewError> {
-    Responder::with_entries(alloc, DEVICE, no_start(), 8, entries).err()
+fn with_no_start(rt: &impl Abort, alloc: Global, entries: u16) -> Option<NewError> {
+    let settings = Settings {
+        entries,
+        ..Settings::usual(DEVICE, 8)
+    };
+    let profile = Box::new(alloc, no_start()).expect(rt, "memory");
+    Responder::with_settings(alloc, &settings, profile).err()
 }

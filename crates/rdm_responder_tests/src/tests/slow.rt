@@ -4,7 +4,7 @@ use super::{CONTROLLER, DEVICE, GET, IDENTIFY_DEVICE, SET, printed, request, res
 use rdm_frame::{Body, Frame, Wire, encode};
 use rdm_outbox::Job;
 use rdm_params::{Kind, Outcome, Profile, Severity, Verdict};
-use rdm_responder::{Report, Responder};
+use rdm_responder::{Report, Responder, Settings};
 use std::alloc::{AllocError, Global};
 use std::process::Abort;
 use std::test::Fail;
@@ -165,7 +165,12 @@ fn keeps_two(rt: &impl Abort, responder: &mut Responder) {
 
 #[test]
 fn a_list_of_2_entries_drops_that_of_the_third_failure(rt: HostRuntime) {
-    let made = Responder::with_entries(rt.alloc(), DEVICE, Profile::demo(0), 8, 2);
+    let settings = Settings {
+        entries: 2,
+        ..Settings::usual(DEVICE, 8)
+    };
+    let profile = Box::new(rt.alloc(), Profile::demo(0)).expect(&rt, "memory");
+    let made = Responder::with_settings(rt.alloc(), &settings, profile);
     keeps_two(&rt, &mut made.expect(&rt, "a good size"));
 }
 
@@ -239,7 +244,14 @@ fn tells_how_many_wait(rt: &impl Abort, responder: &mut Responder) {
 
 /// A responder whose jobs are numbered from this number on.
 fn numbered_from(rt: &impl Abort, alloc: Global, first: u32) -> Responder {
-    let made = Responder::new_numbered(alloc, DEVICE, Profile::demo(0), 8, 64, first);
+    let settings = Settings {
+        uid: DEVICE,
+        queue_size: 8,
+        entries: 64,
+        first_job: first,
+    };
+    let profile = Box::new(alloc, Profile::demo(0)).expect(rt, "memory");
+    let made = Responder::with_settings(alloc, &settings, profile);
     made.expect(rt, "a good size")
 }
 
@@ -269,16 +281,6 @@ fn a_report_for_the_responder_before_is_astray(rt: HostRuntime) {
         does(&rt, &mut responder, *first, before);
         does(&rt, &mut responder, *second, before);
     }
-}
-
-/// The place of a profile is handed on. With the same first number no report can be told from one on a job before.
-#[test]
-fn a_profile_may_have_its_place_already(rt: HostRuntime) {
-    let profile = Box::new(rt.alloc(), Profile::demo(0)).expect(&rt, "memory");
-    let made = Responder::new_boxed(rt.alloc(), DEVICE, profile, 8, 64, 7);
-    let mut responder = made.expect(&rt, "a good size");
-    let job = started(&rt, &mut responder, &lamp(&rt, 0));
-    assert_eq!(rt; job.number, 7);
 }
 
 /// SET LAMP_STATE on, QUEUED_MESSAGE, and what is answered to them: ACK_TIMER with 50 tenths of a second, and the response

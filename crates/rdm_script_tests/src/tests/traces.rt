@@ -5,7 +5,8 @@ use rdm_frame::Body;
 use rdm_outbox::Job;
 use rdm_params::{Message, Outcome, Severity, Verb, Work, Worker, Workers};
 use rdm_responder::Report;
-use rdm_trace::{Finds, text_of, trace_lines};
+use rdm_script::{Finds, trace_lines};
+use rdm_trace::text_of;
 use std::alloc::Global;
 use std::process::Abort;
 

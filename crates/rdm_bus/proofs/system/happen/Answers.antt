@@ -1,7 +1,8 @@
 -- What was altered is in vain, and after a poll the collector is where the bus stands.
 use Rattle.std.proofs.Common.{◌≢◌, true, false, List, Some, ℕ, ap, subst, ◌∙◌}
+use Rattle.rdm_frame.specs.Faults.{raise_of}
 use Rattle.rdm_bus.specs.declared.event.Step.{Step}
-use Rattle.rdm_bus.specs.BusRun.{raise_of, fault_of, transaction, reply_in, after_reply}
+use Rattle.rdm_bus.specs.BusRun.{fault_of, transaction, reply_in, after_reply}
 use Rattle.rdm_collector.specs.Collecting.{State, command_request, poll_request}
 use Rattle.rdm_bus.proofs.Systems.{in_vain, poll_ends}
 use Rattle.rdm_bus.proofs.system.happen.Goals as goal

@@ -2,12 +2,12 @@
 
 ghost use Rattle.std.specs.Prelude.{◌≡◌, ◌≤◌, [], take, length, flat_map};
 ghost use Rattle.rdm_device.specs.Columns.Replies.{languages, used_slots, slot_infos, slot_defaults};
-ghost use Rattle.rdm_device.specs.Device.Values.{word_slots};
+ghost use Rattle.rdm_profile.specs.Values.{word_slots};
 
-use crate::Slot;
-use crate::device::Place;
 use crate::device::footprint::footprint;
+use rdm_added::Place;
 use rdm_frame::Body;
+use rdm_profile::Slot;
 
 /// The codes of the languages.
 #[inline(never)]

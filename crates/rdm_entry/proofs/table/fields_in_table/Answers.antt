@@ -1,6 +1,6 @@
 use Rattle.std.proofs.Common.{sym, subst}
 use Rattle.std.specs.Option.{option_map}
-use Rattle.rdm_params.specs.declared.kind.Verb.{Verb}
+use Rattle.rdm_table.specs.declared.kind.Verb.{Verb}
 use Rattle.rdm_params.specs.Table.Kinds.{pid_of}
 use Rattle.rdm_params.specs.Table.Rows.{row_of}
 use Rattle.rdm_entry.specs.Slots.{Fit}

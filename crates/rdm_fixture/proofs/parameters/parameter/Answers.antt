@@ -4,8 +4,8 @@ use Rattle.std.proofs.lemmas.Int.{to_z-of_z}
 use Rattle.toml.specs.Data.{get_member}
 use Rattle.toml.specs.View.{table_view}
 use Rattle.rdm_fixture.specs.FirstWrong.{said_parts}
-use Rattle.rdm_device.specs.declared.profile.own.Shape.{Shape}
-use Rattle.rdm_device.specs.declared.profile.own.Rights.{Rights}
+use Rattle.rdm_profile.specs.declared.profile.own.Shape.{Shape}
+use Rattle.rdm_profile.specs.declared.profile.own.Rights.{Rights}
 use Rattle.rdm_fixture_keys.specs.Keys.{may, must}
 use Rattle.rdm_fixture_keys.specs.Values.{integer_from, flag, number}
 use Rattle.rdm_fixture.specs.Parameters.{SaysParameter, least_of, greatest_of, limit, low_in, high_in, start, is_setting}

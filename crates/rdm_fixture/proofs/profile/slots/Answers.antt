@@ -1,6 +1,6 @@
 use Rattle.std.proofs.Common.{◌≡◌, length, codes}
 use Rattle.arrayvec.specs.declared.array_vec.ArrayVec.{ArrayVec}
-use Rattle.rdm_device.specs.declared.profile.Slot.{Slot}
+use Rattle.rdm_profile.specs.declared.profile.Slot.{Slot}
 use Rattle.toml.specs.Data.{get_member}
 use Rattle.toml.specs.View.{table_view}
 use Rattle.rdm_fixture_keys.specs.Entries.{IsSlot}

@@ -1,5 +1,5 @@
 use Rattle.std.proofs.Common.{◌≢◌, ℕ, ◌<◌, slice_index_or}
-use Rattle.rdm_device.specs.declared.profile.StatusText.{StatusText}
+use Rattle.rdm_profile.specs.declared.profile.StatusText.{StatusText}
 use Rattle.rdm_fixture.proofs.profile.status_again.Given as goal
 
 -- those before this one differ

@@ -1,5 +1,5 @@
 use Rattle.std.proofs.Common.{◌≡◌, ◌+◌, List, inl, inr, sym, ap, ◌∙◌, subst, codes}
-use Rattle.rdm_device.specs.declared.profile.StatusText.{StatusText}
+use Rattle.rdm_profile.specs.declared.profile.StatusText.{StatusText}
 use Rattle.rdm_fixture_keys.specs.Faults.{in_entry}
 use Rattle.rdm_fixture.specs.FirstWrong.{IsFirstAgain}
 use Rattle.rdm_fixture_keys.specs.Entries.{IsStatus}

@@ -1,7 +1,7 @@
 use Rattle.std.proofs.Common.{rules, ◌≡◌, Some, None, refl, inl, inr, codes}
 use Rattle.toml.specs.Data.{get_member}
 use Rattle.toml.specs.View.{table_view}
-use Rattle.rdm_device.specs.declared.profile.workers.Worker.TheVariants.{First, Second}
+use Rattle.rdm_profile.specs.declared.profile.workers.Worker.TheVariants.{First, Second}
 use Rattle.rdm_fixture_keys.specs.Keys.{may}
 use Rattle.rdm_fixture_keys.specs.Values.{worker}
 use Rattle.rdm_fixture_keys.proofs.Parts.{free_none, free_right}

@@ -8,10 +8,10 @@ use Rattle.rdm_search.proofs.Exchanges.{heard_as}
 use Rattle.rdm_search.proofs.Reals.{begins_real}
 use Rattle.rdm_search.proofs.Runs.{begins, price_of_all}
 use Rattle.rdm_interface.specs.declared.searching.SearchFault.{SearchFault}
-use Rattle.rdm_interface.specs.declared.searching.SearchFault.TheVariants.{Search}
+use Rattle.rdm_interface.specs.declared.searching.SearchFault.TheVariants.{Search, Port}
 use Rattle.rdm_interface.specs.Askings.{Asking, AreDevices, AreHeardOf, FindsAll, FindsReal, Situation, TakesMore}
 use Rattle.rdm_interface.specs.Lines.{IsExchange}
-use Rattle.rdm_interface.proofs.Searches.{has_asked_as, said_to_end}
+use Rattle.rdm_interface.proofs.Searches.{fails_as, has_asked_as, said_to_end}
 use Rattle.rdm_interface.proofs.searching.discover_through.Goals as goal
 
 pub returns-in-Ok-clause-found : goal.returns-in-Ok-clause-found
@@ -67,3 +67,11 @@ returns-in-Ok-clause-said g c =
     heard_as (IsExchange g.P.Port.hears) c.args.source c.new-search.result.source c.args.port.now c.run_through.new.port [] c.new-search.result.found.items c.into_found.result.items c.run_through.new.search.found.items
     (said_to_end g.P.Port.hears c.new-search.result.source c.args.port.now c.run_through.new.port c.new-search.result.found.items c.run_through.new.search.found.items c.in-Ok.ensures.said)
     new.source new.found c.into_found.ensures
+
+pub returns-in-Err-clause-failed : goal.returns-in-Err-clause-failed
+returns-in-Err-clause-failed g c = λ error e.
+    let same : c.in-Err.fault ≡ Port error = cc in
+    let new = c.new-search.ensures in let search' = c.new-search.result in
+    let budget : (c.args.retries + 1) * search'.left ≡ (c.args.retries + 1) * c.args.limit = ap (λ (n : ℕ). (c.args.retries + 1) * n) new.left in
+    fails_as g.P.Port.hears g.P.Port.fails c.args.source search'.source ((c.args.retries + 1) * search'.left) ((c.args.retries + 1) * c.args.limit) c.args.port.now c.run_through.new.port error
+    (c.in-Err.ensures.failed error (ap (λ (f : SearchFault). Err f) same)) new.source (omega (arith, budget))

@@ -2,13 +2,13 @@ use Rattle.std.proofs.Common.{◌≡◌, ◌+◌, ◌*◌, Bool, Result, Ok, Err
 use Rattle.std.proofs.lemmas.Result.{err_from_is_err_and}
 use Rattle.rdm_search.specs.declared.error.SearchError.TheVariants.{Limit}
 use Rattle.rdm_search.specs.Answers.{found_uids}
-use Rattle.rdm_search.specs.Stages.{Stands}
+use Rattle.rdm_search.specs.Stages.{IsReal, Stands}
 use Rattle.rdm_search.proofs.Exchanges.{heard_then}
 use Rattle.rdm_interface.specs.declared.searching.SearchFault.{SearchFault}
 use Rattle.rdm_interface.specs.declared.searching.SearchFault.TheVariants.{Search, Port}
-use Rattle.rdm_interface.specs.Askings.{FindsAll, TakesMore}
+use Rattle.rdm_interface.specs.Askings.{FindsAll, FindsReal, TakesMore, askings_of}
 use Rattle.rdm_interface.specs.Lines.{IsExchange}
-use Rattle.rdm_interface.proofs.Searches.{Nears, has_asked_as, real_here, real_to_end, said_to_end, through_next, through_none}
+use Rattle.rdm_interface.proofs.Searches.{Nears, fails_then, paid_by, has_asked_as, real_here, real_to_end, said_to_end, through_next, through_none}
 use Rattle.rdm_interface.proofs.searching.run_through.Goals as goal
 
 pub loop-init : goal.loop-init
@@ -90,3 +90,13 @@ returns-clause-said g c =
           c.loop.invariant.said c.loop.invariant.same_source said.1,
       said.2,
     )
+
+pub returns-in_err-step_through-clause-failed : goal.returns-in_err-step_through-clause-failed
+returns-in_err-step_through-clause-failed g c = λ error e.
+    let p = err_from_is_err_and c.from_residual.result c.from_residual.ensures.1 in
+    let fault = ap (λ (f : SearchFault). Err f) (sym p.2 ∙ fault_is p.0 (Port error) (sym p.1 ∙ e)) in
+    let first = c.args.search.now in let l = c.loop in let next = c.step_through.new in
+    fails_then g.P.Port.hears g.P.Port.fails first.source l.search.source l.invariant.took (askings_of c.args.retries l.search.left) ((c.args.retries + 1) * first.left)
+    c.args.port.now l.port next.port error (FindsReal (IsReal (found_uids first.found.items)) (found_uids l.search.found.items))
+    l.invariant.real l.invariant.same_source (c.in_err-step_through.ensures.failed error fault)
+    (paid_by c.args.retries l.invariant.took first.left l.search.left l.invariant.paid)

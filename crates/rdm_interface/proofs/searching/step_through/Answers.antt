@@ -1,13 +1,14 @@
-use Rattle.std.proofs.Common.{ℕ, List, [], Option, Ok, refl, sym, ◌∙◌, subst}
+use Rattle.std.proofs.Common.{◌≡◌, ℕ, List, [], Option, Ok, refl, sym, ◌∙◌, subst}
+use Rattle.rdm_collector.specs.declared.port.PortError.{PortError}
 use Rattle.rdm_frame.specs.declared.frame.Frame.{Frame}
 use Rattle.rdm_search.specs.Answers.{found_uids}
 use Rattle.rdm_search.specs.Searches.{next_of}
 use Rattle.rdm_search.specs.Stages.{IsReal, request_of}
 use Rattle.rdm_search.proofs.Exchanges.{nothing_said}
 use Rattle.rdm_search.proofs.Runs.{Same}
-use Rattle.rdm_interface.specs.Askings.{FindsReal, askings_of}
+use Rattle.rdm_interface.specs.Askings.{FindsReal, HasFailedAt, askings_of}
 use Rattle.rdm_interface.specs.Lines.{IsAskedAgain, IsExchange}
-use Rattle.rdm_interface.proofs.Searches.{ends, goes_on, stops, finds_real, keeps_found, nothing_asked, real_still, noted_more, failed_said, transaction_said}
+use Rattle.rdm_interface.proofs.Searches.{ends, goes_on, stops, fails_at, finds_real, keeps_found, nothing_asked, real_still, noted_more, failed_said, transaction_said}
 use Rattle.rdm_interface.proofs.searching.step_through.Goals as goal
 
 pub returns-in-Ok-None-clause-ended : goal.returns-in-Ok-None-clause-ended
@@ -110,3 +111,13 @@ returns-in-Err-heard_of-clause-said g c = failed_said g.P.Port.hears c.args.sear
 
 pub returns-in-Err-clause-said : goal.returns-in-Err-clause-said
 returns-in-Err-clause-said g c = failed_said g.P.Port.hears c.args.search.now.source c.args.port.now c.args.search.now.found.items c.args.search.now.found.items refl
+
+pub returns-in-Err-heard_of-clause-failed : goal.returns-in-Err-heard_of-clause-failed
+returns-in-Err-heard_of-clause-failed g c = λ error e.
+    let old = c.args.search.now in
+    let same : c.in-Err-heard_of.error ≡ error = cc in
+    subst (λ (x : PortError). HasFailedAt g.P.Port.hears g.P.Port.fails old.source (askings_of c.args.retries old.left) c.args.port.now c.heard_of.new.port x) same
+    (fails_at g.P.Port.hears g.P.Port.fails c.args.retries c.args.port.now c.heard_of.new.port old.source old.tn old.left old.stage c.in-Ok-Some.frame c.in-Err-heard_of.error
+    old.valid c.heard_of.ensures.fits
+    (subst (λ (o : Option Frame). Same (Ok o) (next_of old.source old.tn (request_of old.stage) old.left)) c.in-Ok-Some.field-0-is c.in-Ok-Some.ensures)
+    c.in-Err-heard_of.ensures.failed)

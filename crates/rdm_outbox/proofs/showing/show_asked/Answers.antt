@@ -1,6 +1,6 @@
 use Rattle.std.proofs.Common.{◌≡◌, arith, sym, take, subst, true, false}
 use Rattle.std.specs.Prelude.{◌&&◌, nat_lt}
-use Rattle.rdm_params.specs.declared.jobs.status.Entry.{Entry}
+use Rattle.rdm_frame.specs.declared.status.Entry.{Entry}
 use Rattle.rdm_outbox.specs.Statuses.{asks_for}
 use Rattle.rdm_outbox.proofs.Entries.{said_shown, left_shown, room_shown, said_kept, left_kept, left_whole}
 use Rattle.rdm_outbox.proofs.Fronts.{said_at_first, left_at_first}

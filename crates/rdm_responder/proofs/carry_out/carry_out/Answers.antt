@@ -1,6 +1,6 @@
 use Rattle.std.proofs.Common.{ap, subst, ◌∙◌}
 use Rattle.rdm_params.specs.Jobs.Work.{Choice, worker_at}
-use Rattle.rdm_params.specs.declared.verdict.Answer.{Answer}
+use Rattle.rdm_commands.specs.declared.verdict.Answer.{Answer}
 use Rattle.rdm_params.specs.Views.Verdicts.{NamesItsJob}
 use Rattle.rdm_responder.specs.Rules.{answer_with}
 use Rattle.rdm_responder.proofs.carry_out.carry_out.Goals as goal

@@ -2,7 +2,7 @@ use Rattle.std.proofs.Common.{◌≡◌, Bool, Option, refl, ap}
 use Rattle.std.specs.Bool.{Decides}
 use Rattle.std.specs.Cmp.{booleans_Decides}
 use Rattle.std.proofs.lemmas.Bool.Decides.{Decides-and, Decides-like}
-use Rattle.rdm_params.specs.declared.changed.Changed.{Changed}
+use Rattle.rdm_commands.specs.declared.changed.Changed.{Changed}
 use Rattle.rdm_responder.specs.declared.stepped.Started.{Started}
 use Rattle.rdm_responder.specs.declared.stepped.Stepped.{Stepped}
 use Rattle.rdm_responder.specs.contracts.stepped.SteppedPartialEq.TheImpl as compared

@@ -1,8 +1,8 @@
 use Rattle.std.proofs.Common.{List, ap, ◌∙◌}
 use Rattle.std.specs.Prelude.{flat_map}
-use Rattle.rdm_device.specs.declared.device.state.Kept.{Kept}
-use Rattle.rdm_device.specs.declared.device.state.Measured.{Measured}
-use Rattle.rdm_device.specs.Views.State.{sensor_entries}
+use Rattle.rdm_added.specs.declared.state.Kept.{Kept}
+use Rattle.rdm_added.specs.declared.state.Measured.{Measured}
+use Rattle.rdm_added.specs.Views.State.{sensor_entries}
 use Rattle.rdm_saved.specs.SavedText.{device_text, label_text}
 use Rattle.rdm_saved.proofs.Parts.{values_are}
 use Rattle.rdm_saved.proofs.kept.write_values.Goals as goal

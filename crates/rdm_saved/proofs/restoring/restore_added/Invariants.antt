@@ -1,5 +1,5 @@
 use Rattle.std.proofs.Common.{◌≡◌, length, take, drop}
-use Rattle.rdm_device.specs.Views.State.{added_entries}
+use Rattle.rdm_added.specs.Views.State.{added_entries}
 use Rattle.rdm_saved.specs.Restoring.{restored_added}
 use Rattle.rdm_saved.proofs.restoring.restore_added.Given as goal
 

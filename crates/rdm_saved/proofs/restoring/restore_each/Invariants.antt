@@ -1,5 +1,5 @@
 use Rattle.std.proofs.Common.{◌≡◌, length, take, drop, map}
-use Rattle.rdm_device.specs.Views.State.{common_entries}
+use Rattle.rdm_added.specs.Views.State.{common_entries}
 use Rattle.rdm_saved.specs.Restoring.{restored_devices}
 use Rattle.rdm_saved.proofs.restoring.restore_each.Given as goal
 

@@ -1,9 +1,9 @@
 use Rattle.std.proofs.Common.{rules, ℤ, List, ℕ, ◌++◌, take, get_or, ap, ◌∙◌, w16, SFits, arith}
 use Rattle.std.proofs.lemmas.Int.{to_z-of_z}
 use Rattle.std.proofs.lemmas.List.{length-set}
-use Rattle.rdm_device.specs.Device.Values.{signed_slots}
-use Rattle.rdm_device.specs.Views.State.{measured_slots}
-use Rattle.rdm_device.proofs.Sensors.{unmeasured}
+use Rattle.rdm_profile.specs.Values.{signed_slots}
+use Rattle.rdm_added.specs.Views.State.{measured_slots}
+use Rattle.rdm_added.proofs.SensorStarts.{unmeasured}
 use Rattle.rdm_saved.proofs.Restored.{sensor_restored, others_after}
 use Rattle.rdm_saved.proofs.restoring.restore_sensors.Goals as goal
 

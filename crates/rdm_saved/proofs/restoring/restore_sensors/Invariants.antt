@@ -1,5 +1,5 @@
 use Rattle.std.proofs.Common.{◌≡◌, length, take, drop}
-use Rattle.rdm_device.specs.Views.State.{sensor_entries}
+use Rattle.rdm_added.specs.Views.State.{sensor_entries}
 use Rattle.rdm_saved.specs.Restoring.{restored_device}
 use Rattle.rdm_saved.proofs.restoring.restore_sensors.Given as goal
 

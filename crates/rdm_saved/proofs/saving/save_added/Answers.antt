@@ -1,5 +1,5 @@
 use Rattle.std.proofs.Common.{ap, subst, ◌∙◌, ◌≡◌, ◌≤◌, ◌+◌, ◌-◌, ◌*◌, ℕ, List, length, get_or, arith}
-use Rattle.rdm_device.specs.declared.device.state.Kept.{Kept}
+use Rattle.rdm_added.specs.declared.state.Kept.{Kept}
 use Rattle.rdm_saved.specs.SavedText.{label_text}
 use Rattle.rdm_saved.proofs.Whole.{label_size, texts_more}
 use Rattle.rdm_saved.proofs.Writing.{len_more, written_more}

@@ -1,6 +1,6 @@
 use Rattle.std.proofs.Common.{◌≡◌, ◌*◌, ◌++◌, length, take, drop}
 use Rattle.std.specs.Prelude.{flat_map}
-use Rattle.rdm_device.specs.Views.State.{added_entries}
+use Rattle.rdm_added.specs.Views.State.{added_entries}
 use Rattle.rdm_saved.specs.SavedText.{label_text}
 use Rattle.rdm_saved.specs.Laws.{AreTexts}
 use Rattle.rdm_saved.proofs.saving.save_added.Given as goal

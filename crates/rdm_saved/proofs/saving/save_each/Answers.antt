@@ -1,6 +1,6 @@
 use Rattle.std.proofs.Common.{ap, subst, ◌∙◌, ◌≡◌, ◌+◌, ◌-◌, ◌*◌, ℕ, List, get_or, arith}
-use Rattle.rdm_device.specs.declared.device.state.CommonValues.{CommonValues}
-use Rattle.rdm_device.specs.Views.State.{common_entries}
+use Rattle.rdm_added.specs.declared.state.CommonValues.{CommonValues}
+use Rattle.rdm_added.specs.Views.State.{common_entries}
 use Rattle.rdm_saved.specs.SavedText.{device_text}
 use Rattle.rdm_saved.specs.Laws.{IsWhole}
 use Rattle.rdm_saved.proofs.Whole.{whole_more}

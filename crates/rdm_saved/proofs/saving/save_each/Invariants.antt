@@ -1,6 +1,6 @@
 use Rattle.std.proofs.Common.{◌≡◌, ◌*◌, ◌++◌, length, take, drop, map}
 use Rattle.std.specs.Prelude.{flat_map}
-use Rattle.rdm_device.specs.Views.State.{common_entries}
+use Rattle.rdm_added.specs.Views.State.{common_entries}
 use Rattle.rdm_saved.specs.SavedText.{device_text}
 use Rattle.rdm_saved.specs.Laws.{AreWhole}
 use Rattle.rdm_saved.proofs.saving.save_each.Given as goal

@@ -1,6 +1,6 @@
 use Rattle.std.proofs.Common.{◌≡◌, ◌*◌, ◌++◌, length, take, drop}
 use Rattle.std.specs.Prelude.{flat_map}
-use Rattle.rdm_device.specs.Device.Values.{signed_slots}
+use Rattle.rdm_profile.specs.Values.{signed_slots}
 use Rattle.rdm_saved.proofs.saving.write_recorded.Given as goal
 
 -- the sensors before this one are written, and the bytes behind them are as they were

@@ -1,13 +1,11 @@
 use Rattle.std.proofs.Common.{◌≡◌, List, subst, ap, ◌∙◌}
 use Rattle.rdm_frame.specs.declared.uid.Uid.{Uid}
-use Rattle.rdm_device.specs.declared.profile.own.ParameterDef.{ParameterDef}
-use Rattle.rdm_params.specs.declared.jobs.message.Message.{Message}
+use Rattle.rdm_frame.specs.declared.message.Message.{Message}
+use Rattle.rdm_profile.specs.declared.profile.own.ParameterDef.{ParameterDef}
 use Rattle.rdm_bus.specs.declared.event.Event.{Event}
 use Rattle.rdm_bus.specs.BusLaws.{recorded}
 use Rattle.rdm_crew.specs.declared.step.CrewStep.{CrewStep}
 use Rattle.rdm_crew.specs.Stops.{IsStopAt, error_of}
-use Rattle.rdm_trace.specs.declared.found.Finds.{Finds}
-use Rattle.rdm_trace.specs.RunLines.{trace_lines}
 use Rattle.rdm_script.specs.declared.playing.Unplayed.{Unplayed}
 use Rattle.rdm_script.specs.declared.dialect.Spelling.{Spelling}
 use Rattle.rdm_script.specs.Dialects.{Dialect}
@@ -19,6 +17,8 @@ use Rattle.rdm_script.specs.StepLines.{step_lines, setup_line}
 use Rattle.rdm_script.specs.Told.{finds_of}
 use Rattle.rdm_script.proofs.PlayedLines.{play_traced, stopped_run, stopped_line, told_stop}
 use Rattle.rdm_script.proofs.playing.play_script.Goals as goal
+use Rattle.rdm_script.specs.declared.found.Finds.{Finds}
+use Rattle.rdm_script.specs.RunLines.{trace_lines}
 
 abbrev with_own : Uid → Spelling → List ParameterDef → Dialect
 with_own device spelling own = record { device = device; spelling = spelling; own = own }

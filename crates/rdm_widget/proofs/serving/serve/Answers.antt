@@ -36,7 +36,7 @@ returns-in-Err-clause-write g c = λ failed s is.
     fails_on g.C.Clock.tells g.L.OnLine.hearing c.args.clock.now c.loop-turn.clock c.serve_some.new.clock
     (g.R.Read.remaining c.args.reader.now) (g.R.Read.remaining c.loop-turn.reader) (g.R.Read.remaining c.serve_some.new.reader)
     (g.W.Write.contents c.args.writer.now) (g.W.Write.contents c.loop-turn.writer) (g.W.Write.contents c.serve_some.new.writer)
-    c.loop-turn.held s c.loop-turn.line c.serve_some.new.line (c.loop-turn.invariant.served s is)
+    c.loop-turn.held c.serve_some.new.held s c.loop-turn.line c.serve_some.new.line (c.loop-turn.invariant.served s is)
     (c.in-Err.ensures.write (ap (as_fault {A = Unit {0}} {B = ℕ} {E = ServeError} Write) failed))
 
 pub returns-in-Err-clause-read : goal.returns-in-Err-clause-read

@@ -3,5 +3,5 @@ use Rattle.rdm_c.specs.Parameters.{lock_in}
 use Rattle.rdm_c.proofs.profile.lists.profile_locks.Given as goal
 
 -- those before this one stand in the list
-abbrev pub invariant-loop-entry : goal.invariant-loop-entry
-invariant-loop-entry l = (l.locks ≡ map lock_in (take l.entry-index l.entries)) × (length l.locks ≡ l.entry-index)
+abbrev pub invariant-loop-numbers : goal.invariant-loop-numbers
+invariant-loop-numbers l = (l.locks ≡ map lock_in (take l.numbers-index l.entries)) × (length l.locks ≡ l.numbers-index)

@@ -1,7 +1,7 @@
 use Rattle.std.proofs.Common.{rules, ◌≡◌, ap, ◌∙◌, List, [], None, IfSome, subst}
-use Rattle.rdm_device.specs.declared.profile.Profile.{Profile}
-use Rattle.rdm_device.specs.declared.profile.particulars.Particular.{Particular}
-use Rattle.rdm_device.specs.Device.Faults.{IsFirstBroken, KeepsLeftOut}
+use Rattle.rdm_profile.specs.declared.profile.Profile.{Profile}
+use Rattle.rdm_profile.specs.declared.profile.particulars.Particular.{Particular}
+use Rattle.rdm_profile_rules.specs.Faults.{IsFirstBroken, KeepsLeftOut}
 use Rattle.rdm_c.specs.Profiles.{particular_in, plain_profile_in}
 use Rattle.rdm_c.proofs.Many.{keeps_left_out, still_first_if}
 use Rattle.rdm_c.proofs.profile.making.fault_but_own.Goals as goal

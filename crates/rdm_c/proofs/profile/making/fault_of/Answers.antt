@@ -1,5 +1,5 @@
 use Rattle.std.proofs.Common.{rules, ◌≡◌, refl, sym, ap, List, Some, None, map, subst}
-use Rattle.rdm_device.specs.Device.Profiles.{AreGoodLocks, AreGoodParameters}
+use Rattle.rdm_profile.specs.Profiles.{AreGoodLocks, AreGoodParameters}
 use Rattle.rdm_c.specs.declared.profile.parameters.LockNumbers.{LockNumbers}
 use Rattle.rdm_c.specs.Parameters.{choice_in, lock_in, parameter_in}
 use Rattle.rdm_c.specs.Profiles.{profile_in}

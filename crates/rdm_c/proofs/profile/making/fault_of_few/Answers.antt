@@ -1,7 +1,7 @@
 use Rattle.std.proofs.Common.{rules, ◌≡◌, sym, ◌∙◌, List, Some, None, map, subst}
-use Rattle.rdm_device.specs.declared.profile.own.ParameterDef.{ParameterDef}
-use Rattle.rdm_device.specs.Device.Faults.{KeepsOwn}
-use Rattle.rdm_device.specs.Device.Profiles.{Agree, AreGoodLocks}
+use Rattle.rdm_profile.specs.declared.profile.own.ParameterDef.{ParameterDef}
+use Rattle.rdm_profile_rules.specs.Faults.{KeepsOwn}
+use Rattle.rdm_profile.specs.Profiles.{Agree, AreGoodLocks}
 use Rattle.rdm_c.specs.Parameters.{choice_in, lock_in, parameter_in}
 use Rattle.rdm_c.proofs.Many.{before_names, good_own, keeps_own}
 use Rattle.rdm_c.proofs.profile.making.fault_of_few.Goals as goal

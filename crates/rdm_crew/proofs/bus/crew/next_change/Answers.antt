@@ -1,5 +1,5 @@
 use Rattle.std.proofs.Common.{List, [], ◌∷◌, ◌++◌, ap, ◌∙◌}
-use Rattle.rdm_params.specs.declared.panel.Change.{Change}
+use Rattle.rdm_commands.specs.declared.panel.Change.{Change}
 use Rattle.rdm_crew.proofs.Changing.{took_change, took_mark}
 use Rattle.rdm_crew.proofs.bus.crew.next_change.Goals as goal
 

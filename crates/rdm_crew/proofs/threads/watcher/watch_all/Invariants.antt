@@ -1,5 +1,5 @@
 use Rattle.std.proofs.Common.{◌≡◌, ℕ, length}
-use Rattle.rdm_params.specs.declared.panel.Change.{Change}
+use Rattle.rdm_commands.specs.declared.panel.Change.{Change}
 use Rattle.rdm_lane.specs.Ends.{IsSamePost}
 use Rattle.rdm_crew.specs.Watchers.{AreOffered}
 use Rattle.rdm_crew.proofs.threads.watcher.watch_all.Given as goal

@@ -1,4 +1,4 @@
-use Rattle.rdm_params.specs.declared.jobs.outcome.Outcome.{Outcome}
+use Rattle.rdm_commands.specs.declared.jobs.outcome.Outcome.{Outcome}
 use Rattle.rdm_outbox.specs.declared.job.Job.{Job}
 use Rattle.rdm_crew.specs.Workers.{IsWorking}
 use Rattle.rdm_crew.proofs.threads.worker.work_all.Given as goal

@@ -1,5 +1,5 @@
 use Rattle.std.proofs.Common.{◌≡◌, ◌↔◌, drop}
-use Rattle.rdm_device.specs.Views.State.{sensor_entries}
+use Rattle.rdm_added.specs.Views.State.{sensor_entries}
 use Rattle.rdm_device.proofs.columns.changes.are_same.Given as goal
 
 -- the sensors before this one are the same

@@ -1,6 +1,6 @@
 use Rattle.std.proofs.Common.{arith, cond, get_or}
 use Rattle.std.proofs.lemmas.List.{length_push, get_or_default}
-use Rattle.rdm_device.specs.declared.device.state.Measured.{Measured}
+use Rattle.rdm_added.specs.declared.state.Measured.{Measured}
 use Rattle.rdm_device.specs.Columns.Changes.{sensor_change, reset, record_present}
 use Rattle.rdm_device.proofs.Sensors.{changed_more}
 use Rattle.rdm_device.proofs.columns.changes.changed.Goals as goal

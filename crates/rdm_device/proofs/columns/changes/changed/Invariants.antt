@@ -1,7 +1,7 @@
 use Rattle.std.proofs.Common.{◌≡◌, length, take, cond}
 use Rattle.rdm_device.specs.Columns.Changes.{sensor_change, reset, record_present}
-use Rattle.rdm_device.specs.Device.Map.{update}
-use Rattle.rdm_device.specs.Views.State.{sensor_entries}
+use Rattle.rdm_added.specs.Map.{update}
+use Rattle.rdm_added.specs.Views.State.{sensor_entries}
 use Rattle.rdm_device.proofs.columns.changes.changed.Given as goal
 
 abbrev pub invariant-loop-i : goal.invariant-loop-i

@@ -1,7 +1,7 @@
 use Rattle.std.proofs.Common.{◌==◌, rules, tests}
 use Rattle.std.proofs.lemmas.Iterator.{YieldsList-from_slice}
 use Rattle.std.proofs.lemmas.Iterator.Search.{any_from_yields_List}
-use Rattle.rdm_device.specs.declared.profile.StatusText.{StatusText}
+use Rattle.rdm_profile.specs.declared.profile.StatusText.{StatusText}
 use Rattle.rdm_device.proofs.columns.ranges.has_status.Goals as goal
 
 pub returns : goal.returns

@@ -1,7 +1,7 @@
 use Rattle.std.proofs.Common.{◌==◌, rules, tests}
 use Rattle.std.proofs.lemmas.Iterator.{YieldsList-from_slice}
 use Rattle.std.proofs.lemmas.Iterator.Search.{any_from_yields_List}
-use Rattle.rdm_device.specs.declared.profile.SelfTest.{SelfTest}
+use Rattle.rdm_profile.specs.declared.profile.SelfTest.{SelfTest}
 use Rattle.rdm_device.proofs.columns.ranges.has_test.Goals as goal
 
 pub returns : goal.returns

@@ -1,7 +1,7 @@
 use Rattle.std.proofs.Common.{◌≡◌, map, drop}
 use Rattle.std.specs.Prelude.{find}
 use Rattle.rdm_device.specs.Device.Blocks.{sub_devices, has_slots}
-use Rattle.rdm_device.specs.Views.State.{common_entries}
+use Rattle.rdm_added.specs.Views.State.{common_entries}
 use Rattle.rdm_device.proofs.device.blocks.first_start.Given as goal
 
 -- the first of the sub-devices from this one on is the first of all

@@ -1,6 +1,6 @@
 use Rattle.std.proofs.Common.{◌≡◌, map, drop}
 use Rattle.rdm_device.specs.Device.Blocks.{sub_devices, follow}
-use Rattle.rdm_device.specs.Views.State.{common_entries}
+use Rattle.rdm_added.specs.Views.State.{common_entries}
 use Rattle.rdm_device.proofs.device.blocks.follow.Given as goal
 
 -- all follow one another exactly if those from this one on follow those before it

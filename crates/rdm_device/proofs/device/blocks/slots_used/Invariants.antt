@@ -1,7 +1,7 @@
 use Rattle.std.proofs.Common.{◌≡◌, ◌≤◌, ◌+◌, map, drop}
 use Rattle.std.specs.Prelude.{min}
 use Rattle.rdm_device.specs.Device.Blocks.{sub_devices, total}
-use Rattle.rdm_device.specs.Views.State.{common_entries}
+use Rattle.rdm_added.specs.Views.State.{common_entries}
 use Rattle.rdm_device.proofs.device.blocks.slots_used.Given as goal
 
 -- with those of the sub-devices from this one on they are those of all, as far as two slots can say

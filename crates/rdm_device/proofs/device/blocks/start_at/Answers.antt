@@ -1,9 +1,9 @@
 use Rattle.std.proofs.Common.{get_or, ap, []}
-use Rattle.rdm_device.specs.declared.device.state.CommonValues.{CommonValues}
+use Rattle.rdm_added.specs.declared.state.CommonValues.{CommonValues}
 use Rattle.rdm_device.specs.Device.Blocks.{started}
-use Rattle.rdm_device.specs.Device.Spot.{sub_device}
-use Rattle.rdm_device.specs.Views.State.{common_entries}
-use Rattle.rdm_device.proofs.Added.{one_written, one_same}
+use Rattle.rdm_added.specs.Spot.{sub_device}
+use Rattle.rdm_added.specs.Views.State.{common_entries}
+use Rattle.rdm_added.proofs.KeptValues.{one_written, one_same}
 use Rattle.rdm_device.proofs.device.blocks.start_at.Goals as goal
 
 pub returns-clause-after : goal.returns-clause-after

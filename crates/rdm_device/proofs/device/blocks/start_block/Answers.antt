@@ -1,10 +1,10 @@
 use Rattle.std.proofs.Common.{◌≡◌, ◌∙◌, ◌||◌, length, map, get_or, ap, List, [], arith}
 use Rattle.std.proofs.lemmas.List.{length-set}
 use Rattle.rdm_device.specs.Device.Blocks.{sub_devices, started_from}
-use Rattle.rdm_device.specs.Device.Map.{Entry}
-use Rattle.rdm_device.specs.Device.Spot.{sub_device, footprint}
-use Rattle.rdm_device.specs.Views.State.{common_entries}
-use Rattle.rdm_device.proofs.Added.{joined_true, joined_false}
+use Rattle.rdm_added.specs.Map.{Entry}
+use Rattle.rdm_added.specs.Spot.{sub_device, footprint}
+use Rattle.rdm_added.specs.Views.State.{common_entries}
+use Rattle.rdm_added.proofs.KeptValues.{joined_true, joined_false}
 use Rattle.rdm_device.proofs.BlockSteps.{Before, before_of, used_at, step_done, step_rest, step_room, step_same}
 use Rattle.rdm_device.proofs.device.blocks.start_block.Goals as goal
 use Rattle.rdm_device.proofs.device.blocks.start_block.Goals.{then-changed, else-changed}

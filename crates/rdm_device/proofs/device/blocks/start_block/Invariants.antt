@@ -1,6 +1,6 @@
 use Rattle.std.proofs.Common.{◌≡◌, ◌↔◌, ◌++◌, ◌+◌, ◌≤◌, false, length, map, take, drop}
 use Rattle.rdm_device.specs.Device.Blocks.{sub_devices, total, started_from}
-use Rattle.rdm_device.specs.Views.State.{common_entries}
+use Rattle.rdm_added.specs.Views.State.{common_entries}
 use Rattle.rdm_device.proofs.device.blocks.start_block.Given as goal
 
 -- the sub-devices before this one start where they are to, and the others as they did; those from this one on come behind them, and there

@@ -1,5 +1,5 @@
-use Rattle.rdm_device.specs.Device.Spot.{Spot, sub_device}
-use Rattle.rdm_device.specs.Views.State.{common_entries}
+use Rattle.rdm_added.specs.Spot.{Spot, sub_device}
+use Rattle.rdm_added.specs.Views.State.{common_entries}
 use Rattle.rdm_device.proofs.BlockSteps.{started_here}
 use Rattle.rdm_device.proofs.device.blocks.start_one.Goals as goal
 

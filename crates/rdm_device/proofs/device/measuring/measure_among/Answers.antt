@@ -1,9 +1,9 @@
 use Rattle.std.proofs.Common.{rules, ap, ◌∙◌, w16, ℤ, get_or}
 use Rattle.std.proofs.lemmas.Int.{to_z-of_z}
 use Rattle.rdm_device.specs.Device.Measuring.{measured}
-use Rattle.rdm_device.specs.Views.State.{measured_slots}
+use Rattle.rdm_added.specs.Views.State.{measured_slots}
 use Rattle.rdm_device.proofs.SensorReads.{one_measures, none_measures}
-use Rattle.rdm_device.proofs.Sensors.{unmeasured}
+use Rattle.rdm_added.proofs.SensorStarts.{unmeasured}
 use Rattle.rdm_device.proofs.device.measuring.measure_among.Goals as goal
 
 pub returns-then-index-sensors : goal.returns-then-index-sensors

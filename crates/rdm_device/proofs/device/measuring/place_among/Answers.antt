@@ -1,6 +1,6 @@
 use Rattle.std.proofs.Common.{rules, List, ℕ, drop}
 use Rattle.rdm_device.proofs.SensorReads.{one_measures, none_measures}
-use Rattle.rdm_device.proofs.Sensors.{unmeasured}
+use Rattle.rdm_added.proofs.SensorStarts.{unmeasured}
 use Rattle.rdm_device.proofs.device.measuring.place_among.Goals as goal
 
 pub returns-then-index-sensors : goal.returns-then-index-sensors

@@ -1,7 +1,7 @@
 use Rattle.std.proofs.Common.{◌≡◌, true, inl, inr, sym, ap, ◌∙◌}
 use Rattle.std.proofs.lemmas.Bool.{false≢true}
-use Rattle.rdm_device.specs.Device.OwnParameters.{can_start, has_good_fields}
-use Rattle.rdm_device.specs.Device.Standards.{follows}
+use Rattle.rdm_profile.specs.OwnParameters.{can_start, has_good_fields}
+use Rattle.rdm_profile.specs.Standards.{follows}
 use Rattle.toml.specs.View.{table_view}
 use Rattle.rdm_fixture.specs.FirstWrong.{parameter_parts}
 use Rattle.rdm_fixture.specs.Parameters.{IsParameter, can_reset}

@@ -1,9 +1,9 @@
 use Rattle.std.proofs.Common.{◌≡◌, ◌<◌, ◌++◌, List, [], ◌∷◌, AllPairs, inl, inr, sym, ◌∙◌, subst, codes}
 use Rattle.std.proofs.lemmas.Bool.{false≢true}
-use Rattle.rdm_device.specs.declared.profile.choices.ChoiceName.{ChoiceName}
-use Rattle.rdm_device.specs.declared.profile.locks.Lock.{Lock}
-use Rattle.rdm_device.specs.declared.profile.own.ParameterDef.{ParameterDef}
-use Rattle.rdm_device.specs.Device.Profiles.{Agree, HaveStates}
+use Rattle.rdm_profile.specs.declared.profile.choices.ChoiceName.{ChoiceName}
+use Rattle.rdm_profile.specs.declared.profile.locks.Lock.{Lock}
+use Rattle.rdm_profile.specs.declared.profile.own.ParameterDef.{ParameterDef}
+use Rattle.rdm_profile.specs.Profiles.{Agree, HaveStates}
 use Rattle.toml.specs.View.{table_view}
 use Rattle.rdm_fixture_keys.specs.Entries.{choice_parts, IsChoice}
 use Rattle.rdm_fixture.specs.FirstWrong.{AreAdded, added_parts, parameter_parts, ascending, agreeing, lock_parts, stated}

@@ -1,5 +1,5 @@
 use Rattle.std.proofs.Common.{ℕ, ◌<◌, slice_index_or}
-use Rattle.rdm_device.specs.declared.profile.own.ParameterDef.{ParameterDef}
+use Rattle.rdm_profile.specs.declared.profile.own.ParameterDef.{ParameterDef}
 use Rattle.rdm_fixture.proofs.profile.added.first_below.Given as goal
 
 -- those before this one ascend

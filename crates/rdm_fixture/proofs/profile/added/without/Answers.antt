@@ -1,7 +1,7 @@
 use Rattle.std.proofs.Common.{◌≡◌, inl, inr, sym, ap, ◌∙◌, subst}
 use Rattle.std.proofs.lemmas.Bool.{false≢true}
-use Rattle.rdm_device.specs.Device.LeftOut.{leave_no_need}
-use Rattle.rdm_device.specs.Device.Profiles.{AreOptional}
+use Rattle.rdm_profile.specs.LeftOut.{leave_no_need}
+use Rattle.rdm_profile.specs.Profiles.{AreOptional}
 use Rattle.rdm_fixture.proofs.OneFixture.{one_names}
 use Rattle.rdm_fixture.proofs.profile.added.without.Goals as goal
 

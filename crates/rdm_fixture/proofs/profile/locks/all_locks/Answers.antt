@@ -1,5 +1,5 @@
 use Rattle.std.proofs.Common.{◌≡◌, ℕ, ◌++◌, List, get_or, length, sym, ap, ◌∙◌, arith}
-use Rattle.rdm_device.specs.declared.profile.locks.Lock.{Lock}
+use Rattle.rdm_profile.specs.declared.profile.locks.Lock.{Lock}
 use Rattle.rdm_fixture.specs.Format.{locks_of}
 use Rattle.rdm_fixture.proofs.Locks.{length_both, locks_count, all_more, all_grow}
 use Rattle.rdm_fixture.proofs.profile.locks.all_locks.Goals as goal

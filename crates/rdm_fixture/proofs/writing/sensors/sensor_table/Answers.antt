@@ -1,7 +1,6 @@
-use Rattle.std.proofs.Common.{ap, refl, option_map}
+use Rattle.std.proofs.Common.{ap, refl, option_map, rules}
 use Rattle.std.specs.Int.{w16}
 use Rattle.std.proofs.lemmas.Int.{to_z-of_z}
-use Rattle.std.proofs.Common.{rules}
 use Rattle.toml.specs.View.{view, members_view}
 use Rattle.rdm_fixture.proofs.WrittenEntries.{sensor_says, present_says, sensor_plain}
 use Rattle.rdm_fixture.proofs.WrittenLists.{some_plain}

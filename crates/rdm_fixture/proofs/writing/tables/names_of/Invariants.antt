@@ -1,7 +1,7 @@
 use Rattle.std.proofs.Common.{◌≡◌, Some, take, All, IsTrue}
 use Rattle.toml.specs.Data.{array}
 use Rattle.toml.specs.View.{items_view}
-use Rattle.rdm_device.specs.Device.LeftOut.{is_optional}
+use Rattle.rdm_profile.specs.LeftOut.{is_optional}
 use Rattle.rdm_fixture.specs.Format.{parameter_named}
 use Rattle.rdm_fixture.specs.Lists.{EachIs}
 use Rattle.rdm_fixture.specs.Writing.{IsPlain}

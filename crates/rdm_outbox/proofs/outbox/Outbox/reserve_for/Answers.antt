@@ -1,7 +1,7 @@
 use Rattle.std.proofs.Common.{◌≡◌, ◌<◌, arith}
 use Rattle.std.proofs.lemmas.Grind.{common_steps}
 use Rattle.rdm_params.specs.Jobs.Work.{worker_at}
-use Rattle.rdm_params.proofs.TwoWorkers.{there_are_two_workers}
+use Rattle.rdm_commands.proofs.TwoWorkers.{there_are_two_workers}
 use Rattle.rdm_outbox.proofs.outbox.Outbox.reserve_for.Goals as goal
 
 pub returns-else-worker-eq0-clause-answer : goal.returns-else-worker-eq0-clause-answer

@@ -1,6 +1,6 @@
 use Rattle.std.proofs.Common.{length, refl, sym, ap, subst, ◌∙◌}
 use Rattle.std.specs.Prelude.{nat_lt}
-use Rattle.rdm_params.specs.declared.jobs.message.Message.{Message}
+use Rattle.rdm_frame.specs.declared.message.Message.{Message}
 use Rattle.rdm_params.specs.Jobs.Commit.{after_commit, committed}
 use Rattle.rdm_params.specs.Jobs.Work.{Choice, worker_at}
 use Rattle.rdm_outbox.specs.Jobs.{after_arrive}

@@ -1,6 +1,6 @@
 use Rattle.std.proofs.Common.{ℕ, ◌<◌, refl, sym, ap, subst, ◌∷◌, ◌++◌, [], ◌∙◌, Option}
 use Rattle.std.specs.Option.{option_to_list}
-use Rattle.rdm_params.proofs.TwoWorkers.{there_are_two_workers}
+use Rattle.rdm_commands.proofs.TwoWorkers.{there_are_two_workers}
 use Rattle.rdm_responder.specs.declared.stepped.Started.{Started}
 use Rattle.rdm_responder.specs.Started.{job_in}
 use Rattle.rdm_crew.specs.Desks.{began, chosen}

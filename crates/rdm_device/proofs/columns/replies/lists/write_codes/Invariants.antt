@@ -1,6 +1,6 @@
 use Rattle.std.proofs.Common.{◌≡◌, ◌*◌, ◌++◌, length, drop}
 use Rattle.std.specs.Prelude.{flat_map}
-use Rattle.rdm_device.specs.Device.Values.{word_slots}
+use Rattle.rdm_profile.specs.Values.{word_slots}
 use Rattle.rdm_device.proofs.columns.replies.lists.write_codes.Given as goal
 
 abbrev pub invariant-loop-i : goal.invariant-loop-i

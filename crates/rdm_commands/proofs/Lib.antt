@@ -1,0 +1,16 @@
+pub mod AddedCommands
+pub mod AddedReplies
+pub mod AddedRows
+pub mod BlockCommands
+pub mod BlockRows
+pub mod JobWays
+pub mod OtherForms
+pub mod OtherRanges
+pub mod Places
+pub mod PlacesOwn
+pub mod PlainGets
+pub mod Plates
+pub mod PowerOns
+pub mod ReadData
+pub mod Silent
+pub mod TwoWorkers

@@ -1,8 +1,0 @@
-use Rattle.std.proofs.Common.{◌≡◌, ◌++◌}
-use Rattle.rdm_device.specs.Columns.Scenes.{scenes_to}
-use Rattle.rdm_device.specs.Views.State.{added_entries}
-use Rattle.rdm_device.proofs.columns.added.scenes.start_each.Given as goal
-
--- the scenes so far
-abbrev pub invariant-loop-before : goal.invariant-loop-before
-invariant-loop-before l = added_entries l.added.items ≡ added_entries l.initial.added.items ++ scenes_to l.def l.before

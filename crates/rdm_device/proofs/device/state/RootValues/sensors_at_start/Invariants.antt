@@ -1,6 +1,0 @@
-use Rattle.std.proofs.Common.{◌≡◌, replicate}
-use Rattle.rdm_device.proofs.Sensors.{unmeasured}
-use Rattle.rdm_device.proofs.device.state.RootValues.sensors_at_start.Given as goal
-
-abbrev pub invariant-loop : goal.invariant-loop
-invariant-loop l = l.measured.items ≡ replicate l.counter unmeasured

@@ -1,7 +1,0 @@
-use Rattle.std.proofs.Common.{◌≡◌, ◌++◌, drop}
-use Rattle.rdm_device.specs.Device.Parameters.{added_at_start}
-use Rattle.rdm_device.specs.Views.State.{added_entries}
-use Rattle.rdm_device.proofs.device.state.start_added.Given as goal
-
-abbrev pub invariant-loop-i : goal.invariant-loop-i
-invariant-loop-i l = added_entries l.added.items ++ added_at_start (drop l.i l.defs) ≡ added_at_start l.defs

@@ -1,5 +1,0 @@
-use Rattle.rdm_device.proofs.Equality.{estimates_decide}
-use Rattle.rdm_device.proofs.laws.estimates_are_equal_by_value.Goals as goal
-
-pub returns : goal.returns
-returns c = estimates_decide

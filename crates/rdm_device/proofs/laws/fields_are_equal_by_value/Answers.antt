@@ -1,5 +1,0 @@
-use Rattle.rdm_device.proofs.Equality.{field_decides}
-use Rattle.rdm_device.proofs.laws.fields_are_equal_by_value.Goals as goal
-
-pub returns : goal.returns
-returns c = field_decides c.widths_are_equal_by_value.ensures

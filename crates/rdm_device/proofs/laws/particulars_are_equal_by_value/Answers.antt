@@ -1,5 +1,0 @@
-use Rattle.rdm_device.proofs.Equality.{particular_decides}
-use Rattle.rdm_device.proofs.laws.particulars_are_equal_by_value.Goals as goal
-
-pub returns : goal.returns
-returns c = particular_decides c.parameter_defs_are_equal_by_value.ensures c.choice_names_are_equal_by_value.ensures c.locks_are_equal_by_value.ensures c.estimates_are_equal_by_value.ensures

@@ -1,5 +1,0 @@
-use Rattle.rdm_device.proofs.Equality.{sensor_decides}
-use Rattle.rdm_device.proofs.laws.sensor_defs_are_equal_by_value.Goals as goal
-
-pub returns : goal.returns
-returns c = sensor_decides

@@ -1,5 +1,0 @@
-use Rattle.rdm_device.proofs.Equality.{unit_decides}
-use Rattle.rdm_device.proofs.laws.units_are_equal_by_value.Goals as goal
-
-pub returns : goal.returns
-returns c = unit_decides c.personalities_are_equal_by_value.ensures

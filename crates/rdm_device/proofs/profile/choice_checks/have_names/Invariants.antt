@@ -1,7 +1,0 @@
-use Rattle.std.proofs.Common.{◌≡◌, true}
-use Rattle.rdm_device.specs.Device.Choices.{have_names}
-use Rattle.rdm_device.proofs.profile.choice_checks.have_names.Given as goal
-
--- the things so far have names
-abbrev pub invariant-loop-before : goal.invariant-loop-before
-invariant-loop-before l = have_names l.choices l.pid l.before ≡ true

@@ -1,7 +1,0 @@
-use Rattle.std.proofs.Common.{◌≡◌, drop}
-use Rattle.rdm_device.specs.Device.Fields.{have_sizes}
-use Rattle.rdm_device.proofs.profile.standards.have_sizes.Given as goal
-
--- all fields have their sizes exactly if those from this one on have
-abbrev pub invariant-loop-i : goal.invariant-loop-i
-invariant-loop-i l = have_sizes (drop l.i l.fields) (drop l.i l.sizes) ≡ have_sizes l.fields l.sizes

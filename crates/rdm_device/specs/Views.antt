@@ -1,4 +1,0 @@
-pub mod ValueRef
-pub mod Own
-pub mod Plain
-pub mod State

@@ -1,8 +1,0 @@
-use Rattle.rdm_device.specs.Views.State.{added_entries}
-use Rattle.rdm_params.specs.Table.Kinds.{pid_of}
-use Rattle.rdm_params.proofs.AddedRows.{set_back_by_factory}
-use Rattle.rdm_params.proofs.table.store.store_added.Goals as goal
-
-pub returns-then-is_factory_defaults-clause-after : goal.returns-then-is_factory_defaults-clause-after
-returns-then-is_factory_defaults-clause-after c spot same =
-    set_back_by_factory (pid_of c.args.kind) c.is_factory_defaults.result spot c.args.value.now (added_entries c.args.own.now.added.items) (added_entries c.set_added_back.new.own.added.items) c.is_factory_defaults.ensures c.if-is_factory_defaults.true (c.set_added_back.ensures.after spot c.args.value.now same)

@@ -1,6 +1,0 @@
-use Rattle.rdm_params.specs.Table.Rows.{row_of}
-use Rattle.rdm_params.proofs.table.store.store_common.Goals as goal
-
-pub returns-in-FactoryDefaults-clause-after : goal.returns-in-FactoryDefaults-clause-after
-unfolding row_of
-returns-in-FactoryDefaults-clause-after c = rw c.in-FactoryDefaults.is (λ spot e. c.common_set_back.ensures.after c.args.value.now spot e)

@@ -1,7 +1,0 @@
-pub mod Added
-pub mod Changed
-pub mod Commands
-pub mod Nacks
-pub mod Panel
-pub mod Placing
-pub mod Saving

@@ -1,0 +1,15 @@
+pub mod Choices
+pub mod Demo
+pub mod Estimates
+pub mod Fields
+pub mod Forms
+pub mod LeftOut
+pub mod Locks
+pub mod OwnParameters
+pub mod Particulars
+pub mod Plain
+pub mod Profiles
+pub mod Standards
+pub mod Values
+pub mod Views
+pub mod Workers

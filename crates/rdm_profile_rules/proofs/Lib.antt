@@ -1,0 +1,2 @@
+pub mod ChoiceSteps
+pub mod FirstFaults

@@ -1,0 +1,106 @@
+//! Which profiles a device can be made with.
+
+ghost use Rattle.std.specs.Prelude.{◌≡◌, ◌≢◌, ◌↔◌, ◌<◌, ◌≤◌, IsTrue, All, AllPairs};
+ghost use Rattle.rdm_profile_rules.specs.Faults.{with_slots};
+ghost use Rattle.rdm_profile.specs.Profiles.{IsGoodUnit, IsGoodProfile, MayBeLeftOut, AreGoodParameters, AreGoodLocks, root_slots};
+
+use crate::faults::parameter_fault;
+use rdm_frame::standard::MOST_DMX_SLOTS;
+use rdm_profile::{
+    ChoiceName, Lock, ParameterDef, Personality, Profile, SelfTest, StatusText, Unit,
+};
+
+/// Whether a device can be made with the profile.
+pub fn is_good(profile: &Profile) -> bool
+    ensures { IsTrue result ↔ IsGoodProfile profile.now }
+{
+    is_good_unit(&profile.root, root_slots(profile))
+        && is_good_unit(&profile.sub, MOST_DMX_SLOTS as usize)
+        && !profile.languages.is_empty()
+        && are_numbered(profile.tests.as_slice())
+        && tests_differ(profile.tests.as_slice())
+        && statuses_differ(profile.status_texts.as_slice())
+        && profile.presets < 65535
+        && are_good(
+            profile.particulars.without(),
+            profile.particulars.own(),
+            profile.particulars.choices(),
+            profile.particulars.locks(),
+        )
+}
+
+/// Whether a device can lack the parameters with these PIDs, and have these of the maker's own, with these locks.
+fn are_good(without: &[u16], own: &[ParameterDef], choices: &[ChoiceName], locks: &[Lock]) -> bool
+    ensures { IsTrue result ↔ (MayBeLeftOut without.now × AreGoodParameters own.now choices.now × AreGoodLocks without.now own.now locks.now) }
+{
+    match parameter_fault(without, own, choices, locks) {
+        None => true,
+        Some(_) => false,
+    }
+}
+
+/// How many DMX512 slots the root can use.
+fn root_slots(profile: &Profile) -> usize
+    ensures { result ≡ root_slots profile.now }
+{
+    slots_with(profile, profile.particulars.more_slots())
+}
+
+/// How many it could use with so many slots beside those that the profile describes.
+pub(crate) fn slots_with(profile: &Profile, more_slots: u16) -> usize
+    ensures { result ≡ root_slots (with_slots profile.now more_slots) }
+{
+    (profile.slots.len() + more_slots as usize).min(MOST_DMX_SLOTS as usize)
+}
+
+/// Whether the unit keeps its rules at a device with this many slots.
+fn is_good_unit(unit: &Unit, slots: usize) -> bool
+    ensures { IsTrue result ↔ IsGoodUnit unit.now slots }
+{
+    !unit.personalities.is_empty()
+        && 1 <= unit.start
+        && unit.start <= MOST_DMX_SLOTS
+        && fit(unit.personalities.as_slice(), slots)
+}
+
+/// Whether no personality uses more slots than there are.
+pub(crate) fn fit(personalities: &[Personality], slots: usize) -> bool
+    ensures { IsTrue result ↔ All (λ m. m.footprint ≤ slots) personalities.now }
+{
+    personalities.iter().all(|m| m.footprint as usize <= slots)
+}
+
+/// Whether no test has a number that stands for none or for all.
+pub(crate) fn are_numbered(tests: &[SelfTest]) -> bool
+    ensures { IsTrue result ↔ All (λ t. (0 < t.number) × (t.number < 255)) tests.now }
+{
+    tests.iter().all(|t| 0 < t.number && t.number < 255)
+}
+
+/// Whether no two tests have one number.
+pub(crate) fn tests_differ(tests: &[SelfTest]) -> bool
+    ensures { IsTrue result ↔ AllPairs (λ s t. s.number ≢ t.number) tests.now }
+{
+    for i in 0..tests.len() {
+        for j in i + 1..tests.len() {
+            if tests[i].number == tests[j].number {
+                return false;
+            }
+        }
+    }
+    true
+}
+
+/// Whether no two status texts have one ID.
+pub(crate) fn statuses_differ(texts: &[StatusText]) -> bool
+    ensures { IsTrue result ↔ AllPairs (λ s t. s.id ≢ t.id) texts.now }
+{
+    for i in 0..texts.len() {
+        for j in i + 1..texts.len() {
+            if texts[i].id == texts[j].id {
+                return false;
+            }
+        }
+    }
+    true
+}
