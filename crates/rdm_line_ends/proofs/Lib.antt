@@ -1,3 +1,5 @@
+pub mod Places
+pub mod LineRuns
 pub mod Rereading
 pub mod Messages
 pub mod StatusAsks

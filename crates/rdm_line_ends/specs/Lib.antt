@@ -1,3 +1,5 @@
+pub mod LineRun
+pub mod LineLaws
 pub mod Replies
 pub mod Ends
 pub mod Searches

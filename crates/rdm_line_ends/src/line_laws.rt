@@ -1,6 +1,6 @@
 //! Laws of lines with collectors. Each is the contract of a call that does nothing.
 
-ghost use Rattle.rdm_line_runs.specs.LineLaws.{LineLawsHold};
+ghost use Rattle.rdm_line_ends.specs.LineLaws.{LineLawsHold};
 
 use rdm_params::two_commands_fetch;
 

@@ -44,9 +44,9 @@ use Rattle.rdm_line.specs.Line.{uids_of}
 use Rattle.rdm_line.proofs.Alone.{others_deaf}
 use Rattle.rdm_line.proofs.Collisions.{one_answers, silent_all}
 use Rattle.rdm_line.proofs.Unheard.{heard_as, unanswered, unchanged, frame_read}
-use Rattle.rdm_line_runs.specs.LineRun.{IsPaired, IsLine, LineStep, IsLinePlayed, IsLineRun, histories, bytes_on, line_replied, line_transaction, overheard, after_own, after_other, line_after, line_after_all, events_at}
-use Rattle.rdm_line_runs.specs.LineLaws.{dispensed_to, dispensed_at, recorded_at, PairLaws, LineLawsHold}
-use Rattle.rdm_line_runs.proofs.Places.{same_start, at_place, among, two_differ, line_stays, after_at}
+use Rattle.rdm_line_ends.specs.LineRun.{IsPaired, IsLine, LineStep, IsLinePlayed, IsLineRun, histories, bytes_on, line_replied, line_transaction, overheard, after_own, after_other, line_after, line_after_all, events_at}
+use Rattle.rdm_line_ends.specs.LineLaws.{dispensed_to, dispensed_at, recorded_at, PairLaws, LineLawsHold}
+use Rattle.rdm_line_ends.proofs.Places.{same_start, at_place, among, two_differ, line_stays, after_at}
 
 -- ---- a run of polls
 

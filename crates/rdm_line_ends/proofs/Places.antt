@@ -14,7 +14,7 @@ use Rattle.rdm_bus.specs.BusRun.{Start}
 use Rattle.rdm_line.specs.Hearing.{hears, heard_by}
 use Rattle.rdm_line.specs.Line.{uids_of}
 use Rattle.rdm_line.proofs.Unheard.{uid_stays}
-use Rattle.rdm_line_runs.specs.LineRun.{IsPaired, IsLine, histories, overheard, own_history, after_own, after_other, line_after_from}
+use Rattle.rdm_line_ends.specs.LineRun.{IsPaired, IsLine, histories, overheard, own_history, after_own, after_other, line_after_from}
 
 pub same_start : (s t : Start) → Some s ≡ Some t → s ≡ t
 same_start s t e = cc

@@ -11,7 +11,7 @@ use Rattle.rdm_bus.specs.declared.event.Event.TheVariants.{Bus, Arrived, Changed
 use Rattle.rdm_bus.specs.BusRun.{Start, replied}
 use Rattle.rdm_bus.specs.BusLaws.{message_in, recorded, queue_of}
 use Rattle.rdm_line.specs.declared.collision.Collision.{Collision}
-use Rattle.rdm_line_runs.specs.LineRun.{IsLine, IsLineRun, LineStep, events_at, line_after, line_after_all}
+use Rattle.rdm_line_ends.specs.LineRun.{IsLine, IsLineRun, LineStep, events_at, line_after, line_after_all}
 
 -- What a device of this history itself says to a poll, its own or another's: the message of its reply, whatever else is on the
 -- line.

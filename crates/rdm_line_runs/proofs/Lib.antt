@@ -1,2 +1,0 @@
-pub mod LineRuns
-pub mod Places
