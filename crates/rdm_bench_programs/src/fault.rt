@@ -1,5 +1,7 @@
 //! Why the program stops.
 
+use crate::crew::CrewFault;
+use crate::lane::LaneFault;
 use rdm_responder::NewError;
 use std::alloc::AllocError;
 use std::io;
@@ -10,8 +12,14 @@ use thiserror::Error;
 #[derive(Debug, Drop, Error)]
 pub(crate) enum Fault {
     /// The arguments are none of those that it knows.
-    #[error("usage: rdm_bench_line [alone ROUNDS | (line | gaps | scattered) DEVICES ROUNDS]")]
+    #[error("usage: rdm_bench_programs [(lane | crew | alone) ROUNDS | slow JOBS | (line | gaps | scattered) DEVICES ROUNDS]")]
     Usage,
+    /// The items of the lane weren't counted.
+    #[error("{0}")]
+    Lane(#[from] LaneFault),
+    /// The commands weren't played.
+    #[error("{0}")]
+    Crew(#[from] CrewFault),
     /// A device couldn't be made.
     #[error("{0}")]
     Device(#[from] NewError),
@@ -31,9 +39,12 @@ impl Fault {
     pub(crate) fn status(&self) -> ExitCode {
         match self {
             Fault::Usage => ExitCode::from(2),
-            Fault::Device(_) | Fault::Refused | Fault::OutOfMemory(_) | Fault::System(_) => {
-                ExitCode::FAILURE
-            }
+            Fault::Lane(_)
+            | Fault::Crew(_)
+            | Fault::Device(_)
+            | Fault::Refused
+            | Fault::OutOfMemory(_)
+            | Fault::System(_) => ExitCode::FAILURE,
         }
     }
 }
