@@ -144,7 +144,7 @@ may_have rights.Clear rights.Clear = true
 may_have rights.Clear rights.Get = true
 may_have rights.Clear _ = false
 
--- whether a SET sets back, and has no data
+-- whether a SET clears counts, and has no data
 abbrev pub is_clear : Rights → Bool
 is_clear rights.Clear = true
 is_clear _ = false

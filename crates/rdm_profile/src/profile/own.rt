@@ -18,7 +18,7 @@ pub enum Rights {
     Set,
     /// GET and SET.
     Both,
-    /// GET, and a SET without data that sets it back to what it starts with, as COMMS_STATUS has (E1.20).
+    /// GET, and a SET without data that clears it to zero: the counts of COMMS_STATUS (E1.20 section 10.2.1).
     Clear,
 }
 
