@@ -2,3 +2,4 @@ pub mod Drafts
 pub mod Hearing
 pub mod Messages
 pub mod Posts
+pub mod Repeats

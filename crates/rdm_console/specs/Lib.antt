@@ -1,4 +1,6 @@
 pub mod Belonging
+pub mod Conversations
 pub mod Endings
 pub mod Mailboxes
+pub mod Runs
 pub mod Sorting

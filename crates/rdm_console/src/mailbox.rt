@@ -174,6 +174,7 @@ impl Mailbox {
         // What is collected is sorted as the whole list of what was collected says.
         ensures sorted { (all : List Item) (item : Item) → Keeps self.old all → collected_of self.old.collector heard.now ≡ Some item
             → (said : Sorted) × (result ≡ Came.Message said) × IsSorted all self.old.last item said (post_in self.new.message) }
+        ensures message { (item : Item) → collected_of self.old.collector heard.now ≡ Some item → (said : Sorted) × (result ≡ Came.Message said) }
         ensures keeps { (all : List Item) → Keeps self.old all → Keeps self.new (all ++ option_to_list (collected_of self.old.collector heard.now)) }
         ensures other { collected_of self.old.collector heard.now ≡ None → result ≡ came_as (heard_as self.old.collector heard.now) }
         ensures device { self.new.device ≡ self.old.device }

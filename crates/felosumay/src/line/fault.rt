@@ -3,6 +3,7 @@
 use crate::fault::{BAD_USAGE, Fault};
 use crate::name::Name;
 use rdm_collector::{AskError, PollError, PortError};
+use rdm_console::ExchangeError;
 use rdm_entry::Complaint;
 use rdm_frame::Uid;
 use rdm_frame::standard::MOST_DATA;
@@ -121,6 +122,16 @@ impl From<PollError> for Fault<'_> {
         match error {
             PollError::OutOfMemory => Fault::Memory,
             PollError::Busy => Fault::Line(LineFault::Busy),
+        }
+    }
+}
+
+impl From<ExchangeError> for Fault<'_> {
+    fn from(error: ExchangeError) -> Self {
+        match error {
+            ExchangeError::Ask(error) => Fault::from(error),
+            ExchangeError::Poll(error) => Fault::from(error),
+            ExchangeError::Port(error) => Fault::from(error),
         }
     }
 }
