@@ -1,9 +1,15 @@
 pub mod Before
 pub mod Fixed
 pub mod FixtureWords
+pub mod FrameFacts
+pub mod HeaderFacts
+pub mod HeaderWords
 pub mod Known
 pub mod Learned
+pub mod LineWords
+pub mod Naming
 pub mod Plain
 pub mod Said
+pub mod Tables
 pub mod Unescaping
 pub mod Unread

@@ -1,7 +1,8 @@
 //! The words of parameter data that are one value.
 
-ghost use Rattle.std.specs.Prelude.{◌≡◌, ◌≢◌, [], ◌++◌, OnOk, codes, string_bytes};
+ghost use Rattle.std.specs.Prelude.{◌≡◌, ◌≢◌, [], ◌++◌, OnOk, codes, option_map, string_bytes};
 ghost use Rattle.rdm_frame.specs.Digits.{digits};
+ghost use Rattle.rdm_words.specs.HeaderWords.{named_words, words_or};
 
 use crate::data::form::{Field, Form, Layout, Record, Value};
 use crate::data::known::Facts;
@@ -141,13 +142,43 @@ pub(crate) fn put_named(
     text: &mut String,
     name: Option<&'static str>,
     slots: &[u8],
-) -> Result<(), AllocError> {
-    let Some(name) = name else {
-        return put_hex(text, slots);
-    };
-    write!(text, "{name} (")?;
+) -> Result<(), AllocError>
+    ensures { OnOk result (string_bytes text.new ≡ string_bytes text.old ++ named_words (option_map (λ name. name.now) name.entry) (digits slots.now)) }
+{
+    match name {
+        Some(name) => {
+            text.push_str(name)?;
+            put_behind(text, slots)
+        }
+        None => put_hex(text, slots),
+    }
+}
+
+/// A name, or what has none and its number in hexadecimal digits.
+pub(crate) fn put_or(
+    text: &mut String,
+    noun: &str,
+    name: Option<&'static str>,
+    slots: &[u8],
+) -> Result<(), AllocError>
+    ensures { OnOk result (string_bytes text.new ≡ string_bytes text.old ++ words_or noun.now (option_map (λ name. name.now) name.entry) (digits slots.now)) }
+{
+    match name {
+        Some(name) => text.push_str(name),
+        None => {
+            text.push_str(noun)?;
+            put_hex(text, slots)
+        }
+    }
+}
+
+/// The digits of a number behind its name.
+pub(crate) fn put_behind(text: &mut String, slots: &[u8]) -> Result<(), AllocError>
+    ensures { OnOk result (string_bytes text.new ≡ string_bytes text.old ++ (codes " (" ++ (digits slots.now ++ codes ")"))) }
+{
+    text.push_str(" (")?;
     put_hex(text, slots)?;
-    text.push(')')
+    text.push_str(")")
 }
 
 fn put_languages(text: &mut String, noun: &str, data: &[u8]) -> Result<(), AllocError> {
