@@ -5,7 +5,7 @@ ghost use Rattle.std.specs.Option.{option_copied, option_map_or};
 ghost use Rattle.rdm_table.specs.declared.kind.Verb.TheVariants.{Set};
 ghost use Rattle.rdm_commands.specs.declared.verdict.Verdict.TheVariants.{Refuse};
 ghost use Rattle.rdm_commands.specs.Commands.Commands.{got, got_by_row, answer_to_set, answer_by_row, after_set, after_by_row, in_range, answered, work, addressed, carried_out, reply_at};
-ghost use Rattle.rdm_table.specs.Table.Rows.{command_of, is_left_out};
+ghost use Rattle.rdm_table.specs.Table.Rows.{command_of};
 ghost use Rattle.rdm_commands.specs.Commands.Changed.{change_of};
 ghost use Rattle.rdm_table.specs.Table.Kinds.{pid_of};
 ghost use Rattle.rdm_added.specs.Spot.{Spot};
@@ -169,14 +169,6 @@ impl Devices {
             && self.is_in_range_at(sub, kind, verb, &place, &argument)
     }
 
-    /// Whether the devices lack the parameter, since the profile leaves it out.
-    #[inline(always)]
-    fn lacks(&self, pid: u16) -> bool
-        ensures { result ≡ is_left_out self.now.profile pid }
-    {
-        self.profile.lacks(pid)
-    }
-
     /// Whether the lock state keeps a parameter from being set.
     #[inline(always)]
     fn is_locked(&self, pid: u16) -> bool
@@ -199,7 +191,7 @@ impl Devices {
         if !self.has_device(sub) {
             return Err(Nack::SubDeviceOutOfRange);
         }
-        if self.lacks(pid) {
+        if self.profile.lacks(pid) {
             return Err(Nack::UnknownPid);
         }
         let found = match find(pid, sub == 0, Verb::Get) {
@@ -222,9 +214,7 @@ impl Devices {
         if found.is_plain_get() {
             return self.get_plain(sub, found.kind, data, body);
         }
-        let place = self
-            .first_place(sub, Verb::Get)
-            .ok_or(Nack::SubDeviceOutOfRange)?;
+        let place = self.place_of(sub);
         let value = read_form(Verb::Get, found, data)?;
         if !is_taken_at(Verb::Get, found, &place, &value) {
             return Err(Nack::DataOutOfRange);
@@ -257,7 +247,7 @@ impl Devices {
         let place = self
             .first_place(sub, Verb::Set)
             .ok_or(Nack::SubDeviceOutOfRange)?;
-        if self.lacks(pid) {
+        if self.profile.lacks(pid) {
             return Err(Nack::UnknownPid);
         }
         let found = match find(pid, sub == 0, Verb::Set) {
@@ -332,7 +322,7 @@ impl Devices {
                 &mut self.root,
             );
             let own = store_own(kind, value, profile, &mut self.own);
-            let added = store_added(kind, value, profile, &mut self.own);
+            let added = store_added(kind, profile, &mut self.own);
             common || own || added
         } else if sub == SUB_DEVICE_ALL_CALL {
             store_each(kind, value, profile, &mut self.subs)
