@@ -3,11 +3,58 @@
 ghost use Rattle.std.specs.Prelude.{◌≡◌, ◌↔◌, ◌*◌, ◌≤◌, ◌==◌, ◌||◌, length, IsTrue};
 ghost use Rattle.rdm_profile.specs.declared.profile.own.Rights.TheVariants as rights;
 ghost use Rattle.rdm_profile.specs.Fields.{have_sizes};
+ghost use Rattle.rdm_profile.specs.OwnParameters.{is_lent};
 ghost use Rattle.rdm_profile.specs.Profiles.{FollowStandards};
 ghost use Rattle.rdm_profile.specs.Standards.{are_words, is_choice, choice, names, numbers, rates, scenes, lock, pin, block, words, is_standards, is_shown, is_clear, is_only_standards, may_have, follows_at, follows};
 
-use crate::own_checks::is_lent;
 use rdm_profile::{Field, ParameterDef, Rights, Shape};
+
+// The parameters of the standards that a profile can add, a row each: the PID, which commands it may have, and which data it has.
+macro_rules! standards {
+    ($use:ident! $args:tt) => {
+        $use! { $args
+            (0x0015 may_be_cleared has_numbers (6, &[2, 2, 2]))
+            (0x0070 is_read has_words (6))
+            (0x0140 may_be_both has_block ())
+            (0x0141 may_be_both has_numbers (7, &[2, 2, 2, 1]))
+            (0x0142 may_be_both has_numbers (7, &[2, 2, 2, 1]))
+            (0x0340 is_read has_numbers (11, &[2, 2, 2, 2, 1, 1, 1]))
+            (0x0341 may_be_both has_numbers (5, &[2, 2, 1]))
+            (0x0342 may_be_both has_numbers (2, &[2]))
+            (0x0343 may_be_both has_choice ())
+            (0x0344 is_read has_names ())
+            (0x0345 may_be_both has_choice ())
+            (0x0346 is_read has_names ())
+            (0x0347 may_be_both has_choice ())
+            (0x0348 is_read has_rates ())
+            (0x0440 may_be_both has_numbers (1, &[1]))
+            (0x0603 may_be_both has_numbers (7, &[2, 1, 1, 1, 1, 1]))
+            (0x0640 may_be_both has_pin ())
+            (0x0641 may_be_both has_lock ())
+            (0x0642 is_read has_names ())
+            (0x1001 is_ordered has_numbers (1, &[1]))
+            (0x1030 is_ordered has_numbers (8, &[2, 2, 2, 2]))
+            (0x1040 may_be_both has_numbers (1, &[1]))
+            (0x1041 is_read has_numbers (32, &[]))
+            (0x1042 may_be_both has_scenes ())
+            (0x1043 may_be_both has_numbers (1, &[1]))
+            (0x1044 may_be_both has_numbers (1, &[1]))
+        }
+    };
+}
+
+macro_rules! pids {
+    (() $(($pid:tt $commands:ident $data:ident $args:tt))*) => { $($pid)|* };
+}
+
+macro_rules! follow_rows {
+    (($asked:ident $def:ident) $(($pid:tt $commands:ident $data:ident ($($args:tt)*)))*) => {
+        match $asked {
+            $($pid => $commands($def) && $data($def, $($args)*),)*
+            _ => true,
+        }
+    };
+}
 
 /// Whether each has the commands and the data of its standard, if its PID is one of a standard.
 pub(crate) fn follow_standards(defs: &[ParameterDef]) -> bool
@@ -27,34 +74,16 @@ pub fn follows(def: &ParameterDef) -> bool
 fn follows_at(pid: u16, def: &ParameterDef) -> bool
     ensures { result ≡ follows_at pid def.now }
 {
+    standards!(follow_rows!(pid def))
+}
+
+/// Whether the PID is one of the standards' that a profile can add.
+pub(crate) fn is_lent(pid: u16) -> bool
+    ensures { result ≡ is_lent pid }
+{
     match pid {
-        0x0015 => may_be_cleared(def) && has_numbers(def, 6, &[2, 2, 2]),
-        0x0070 => is_read(def) && has_words(def, 6),
-        0x0140 => may_be_both(def) && has_block(def),
-        0x0141 => may_be_both(def) && has_numbers(def, 7, &[2, 2, 2, 1]),
-        0x0142 => may_be_both(def) && has_numbers(def, 7, &[2, 2, 2, 1]),
-        0x0340 => is_read(def) && has_numbers(def, 11, &[2, 2, 2, 2, 1, 1, 1]),
-        0x0341 => may_be_both(def) && has_numbers(def, 5, &[2, 2, 1]),
-        0x0342 => may_be_both(def) && has_numbers(def, 2, &[2]),
-        0x0343 => may_be_both(def) && has_choice(def),
-        0x0344 => is_read(def) && has_names(def),
-        0x0345 => may_be_both(def) && has_choice(def),
-        0x0346 => is_read(def) && has_names(def),
-        0x0347 => may_be_both(def) && has_choice(def),
-        0x0348 => is_read(def) && has_rates(def),
-        0x0440 => may_be_both(def) && has_numbers(def, 1, &[1]),
-        0x0603 => may_be_both(def) && has_numbers(def, 7, &[2, 1, 1, 1, 1, 1]),
-        0x0640 => may_be_both(def) && has_pin(def),
-        0x0641 => may_be_both(def) && has_lock(def),
-        0x0642 => is_read(def) && has_names(def),
-        0x1001 => is_ordered(def) && has_numbers(def, 1, &[1]),
-        0x1030 => is_ordered(def) && has_numbers(def, 8, &[2, 2, 2, 2]),
-        0x1040 => may_be_both(def) && has_numbers(def, 1, &[1]),
-        0x1041 => is_read(def) && has_numbers(def, 32, &[]),
-        0x1042 => may_be_both(def) && has_scenes(def),
-        0x1043 => may_be_both(def) && has_numbers(def, 1, &[1]),
-        0x1044 => may_be_both(def) && has_numbers(def, 1, &[1]),
-        _ => true,
+        standards!(pids!()) => true,
+        _ => false,
     }
 }
 
