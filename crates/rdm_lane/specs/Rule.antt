@@ -9,6 +9,17 @@ use Rattle.rdm_lane.specs.declared.taken.Taken.{Taken}
 use Rattle.rdm_lane.specs.declared.taken.Taken.TheVariants.{Item, Mark, Empty, Closed}
 use Rattle.rdm_lane.specs.Lane.{of, has_mark, put_open, put_closed, IsPrefix}
 
+-- How the ends of a lane stand to what was put into it.
+pub record Order (T : Type 0) : Type 0 where
+  -- the pass that takes
+  pub reader : ℕ
+  -- how many posts were made
+  pub posts : ℕ
+  -- the pass that has the list of each producer
+  pub seat : ℕ → ℕ
+  -- what was taken, in order
+  pub taken : List (Taken T)
+
 module _ {T : Type 0} where
   abbrev pub put : ℕ → List (Taken T) → Put T
   put p es = record { producer = p; entries = es }
@@ -68,28 +79,26 @@ module _ {T : Type 0} where
   IsPut p es = (xs : List T) × (length xs ≤ 4294967295) × ((es ≡ put_open p xs) ⊎ (es ≡ put_closed p xs))
 
   -- this list of a post lies at pass i, and is what was put of that producer
-  abbrev pub LiesAt : ℕ → (ℕ → ℕ) → List (Taken T) → ℕ → Put T → Type 0
-  LiesAt posts seat all i o = (o.producer < posts) × (seat o.producer ≡ i) × (o.entries ≡ of o.producer all)
+  abbrev pub LiesAt : Order T → List (Taken T) → ℕ → Put T → Type 0
+  LiesAt order all i list = (list.producer < order.posts) × (order.seat list.producer ≡ i) × (list.entries ≡ of list.producer all)
 
   -- what pass i knows is so
-  abbrev pub Fits : ℕ → ℕ → (ℕ → ℕ) → List (Taken T) → List (Taken T) → ℕ → View T → Type 0
-  Fits reader posts seat taken all i (Taker n ts os) = (i ≡ reader) × (n ≡ posts) × (ts ≡ taken) × All (LiesAt posts seat all i) os
-  Fits reader posts seat taken all i (Poster o) = LiesAt posts seat all i o
-  Fits reader posts seat taken all i Spent = Unit {0}
+  abbrev pub Knows : Order T → List (Taken T) → ℕ → View T → Type 0
+  Knows order all i (Taker n ts os) = (i ≡ order.reader) × (n ≡ order.posts) × (ts ≡ order.taken) × All (LiesAt order all i) os
+  Knows order all i (Poster o) = LiesAt order all i o
+  Knows order all i Spent = Unit {0}
 
   -- over all that was put, in order: it has entries of given producers alone, of each a list as above, and what each pass
   -- knows is so
-  abbrev pub IsOrder : ℕ → ℕ → (ℕ → ℕ) → List (Taken T) → List (Taken T) → List (View T) → Type 0
-  IsOrder reader posts seat taken all views =
-      All (IsGiven posts) all
+  abbrev pub IsSound : Order T → List (Taken T) → List (View T) → Type 0
+  IsSound order all views =
+      All (IsGiven order.posts) all
       × ((p : ℕ) → IsPut p (of p all))
-      × ((i : ℕ) (v : View T) → get_elem? views i ≡ some v → Fits reader posts seat taken all i v)
+      × ((i : ℕ) (v : View T) → get_elem? views i ≡ some v → Knows order all i v)
 
-  -- The rule. There is a pass that takes, a number of posts, a pass with the list of each producer, and what was taken; with
-  -- what waits behind that, it is all that was put.
+  -- The rule: there is such an order, in which all that was put is what was taken, with what waits behind that.
   abbrev pub Ordered : List (Taken T) → List (View T) → Type 0
-  Ordered waiting views =
-      (reader : ℕ) × (posts : ℕ) × (seat : ℕ → ℕ) × (taken : List (Taken T)) × IsOrder reader posts seat taken (taken ++ waiting) views
+  Ordered waiting views = (order : Order T) × IsSound order (order.taken ++ waiting) views
 
   -- what an entry that is taken tells the taker
   abbrev pub FollowsIn : ℕ → List (Taken T) → Taken T → Type 0
