@@ -1,46 +1,33 @@
 -- What a script is played on is the scene of the fixture.
-use Rattle.std.proofs.Common.{◌≡◌, ℕ, List, Option, Some, None, Result, Ok, IfOk, sym, subst}
-use Rattle.rdm_frame.specs.declared.uid.Uid.{Uid}
-use Rattle.rdm_profile.specs.declared.profile.Profile.{Profile}
+use Rattle.std.proofs.Common.{◌≡◌, ℕ, List, [], Option, Some, None, Result, Ok, IfOk, sym, subst}
 use Rattle.rdm_fixture.specs.declared.fixture.Fixture.{Fixture}
 use Rattle.rdm_fixture.specs.Describes.{Describes}
-use Rattle.rdm_outcomes.specs.declared.rule.Rule.{Rule}
-use Rattle.rdm_outcomes.specs.Outcomes.{CanEnd}
 use Rattle.rdm_script.specs.declared.demo.DemoPanel.{DemoPanel}
-use Rattle.rdm_script.specs.declared.dialect.Spelling.{Spelling}
 use Rattle.rdm_script.specs.declared.dialect.Spelling.TheVariants.{Friendly}
 use Rattle.rdm_script.specs.declared.rules.RuledPart.{RuledPart}
 use Rattle.rdm_script.specs.declared.stage.Stage.{Stage}
-use Rattle.rdm_script.specs.DemoParts.{demo_scene_in, panel_change}
+use Rattle.rdm_script.specs.DemoParts.{demo_scene_in}
 use Rattle.rdm_script.specs.Playing.{IsPlayOf}
-use Rattle.rdm_script.specs.Rules.{rules_of}
-use Rattle.rdm_script.specs.Scene.{Scene}
+use Rattle.rdm_script.specs.Rules.{HasDone}
 use Rattle.rdm_script.proofs.DemoScene.{ruled_scene}
+use Rattle.rdm_script.proofs.Widening.{IsWider}
 use Rattle.rdm_script.proofs.PlayedLines.{play_traced}
 use Rattle.rdm_trace.specs.declared.line.Line.{Line}
 use Rattle.rdm_trace.specs.LineText.{lines_text}
 use Rattle.felosumay.specs.declared.fixture.FixtureFile.{FixtureFile}
 use Rattle.felosumay.specs.Scenes.{scene_on, ArePlayed, IsPlayed}
 
-abbrev scene_by : Uid → Profile → Spelling → List Rule → List Rule → Scene
-scene_by uid profile spelling first second = record {
-  device = uid;
+-- The scene of the stage gives no more than that of the fixture.
+pub fixture_is_wider : (stage : Stage RuledPart RuledPart DemoPanel) (f : Fixture) → stage.device ≡ f.uid → stage.profile ≡ f.profile → stage.spelling ≡ Friendly
+    → HasDone stage.first f.outcomes.items [] → HasDone stage.second f.outcomes.items [] → IsWider (ruled_scene stage) (scene_on f)
+fixture_is_wider stage f device profile spelling first second = record {
+  device = device;
   profile = profile;
   spelling = spelling;
-  first = λ job outcome. CanEnd first job outcome;
-  second = λ job outcome. CanEnd second job outcome;
-  offers = λ number change. panel_change number ≡ Some change;
+  first = λ before job outcome given. given.1 f.outcomes.items [] first;
+  second = λ before job outcome given. given.1 f.outcomes.items [] second;
+  offers = λ n c h. h;
 }
-
--- what holds of the scene of the stage holds of that of the fixture
-pub on_fixture : (P : Scene → Type 0) (stage : Stage RuledPart RuledPart DemoPanel) (f : Fixture) → stage.device ≡ f.uid → stage.profile ≡ f.profile → stage.spelling ≡ Friendly
-    → rules_of stage.first ≡ f.outcomes.items → rules_of stage.second ≡ f.outcomes.items → P (ruled_scene stage) → P (scene_on f)
-on_fixture P stage f device profile spelling first second h =
-    subst (λ (rules : List Rule). P (scene_by f.uid f.profile Friendly f.outcomes.items rules)) second
-    (subst (λ (rules : List Rule). P (scene_by f.uid f.profile Friendly rules (rules_of stage.second))) first
-    (subst (λ (s : Spelling). P (scene_by f.uid f.profile s (rules_of stage.first) (rules_of stage.second))) spelling
-    (subst (λ (p : Profile). P (scene_by f.uid p stage.spelling (rules_of stage.first) (rules_of stage.second))) profile
-    (subst (λ (u : Uid). P (scene_by u stage.profile stage.spelling (rules_of stage.first) (rules_of stage.second))) device h))))
 
 -- the text of lines that were played is the trace
 pub played_text : (file : Option FixtureFile) (text : List ℕ) (lines : List Line) → ArePlayed file text lines → IsPlayed file text (lines_text lines)

@@ -2,7 +2,7 @@
 use Rattle.std.specs.Prelude.{◌≡◌, ℕ, List, Option, Some, None}
 use Rattle.rdm_fixture.specs.declared.fixture.Fixture.{Fixture}
 use Rattle.rdm_fixture.specs.Describes.{Describes}
-use Rattle.rdm_outcomes.specs.Outcomes.{CanEnd}
+use Rattle.rdm_outcomes.specs.Outcomes.{outcome_of}
 use Rattle.rdm_script.specs.declared.dialect.Spelling.TheVariants.{Friendly}
 use Rattle.rdm_script.specs.DemoParts.{demo_scene_in, panel_change}
 use Rattle.rdm_script.specs.Playing.{IsPlayOf}
@@ -11,15 +11,15 @@ use Rattle.rdm_script.specs.Scene.{Scene}
 use Rattle.rdm_trace.specs.declared.line.Line.{Line}
 use Rattle.felosumay.specs.declared.fixture.FixtureFile.{FixtureFile}
 
--- The fixture of a file: both workers end its jobs by its rules, and its panel offers the changes of the demonstration. The words
+-- The fixture of a file: both workers end its jobs by its rules, each of which counts the jobs that its worker did before, and its panel offers the changes of the demonstration. The words
 -- of its scripts may be spelled as people say them.
 abbrev pub scene_on : Fixture → Scene
 scene_on fixture = record {
   device = fixture.uid;
   profile = fixture.profile;
   spelling = Friendly;
-  first = λ job outcome. CanEnd fixture.outcomes.items job outcome;
-  second = λ job outcome. CanEnd fixture.outcomes.items job outcome;
+  first = λ before job outcome. outcome ≡ outcome_of fixture.outcomes.items before job;
+  second = λ before job outcome. outcome ≡ outcome_of fixture.outcomes.items before job;
   offers = λ number change. panel_change number ≡ Some change;
 }
 

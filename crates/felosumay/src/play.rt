@@ -1,9 +1,9 @@
 //! `felosumay play`: a script is played, and its trace printed, or its words, and drawn.
 
-ghost use Rattle.std.specs.Prelude.{◌≡◌, ℕ, List, IfOk, IfErr, OnOk};
+ghost use Rattle.std.specs.Prelude.{◌≡◌, ℕ, List, [], IfOk, IfErr, OnOk};
 ghost use Rattle.std.specs.Io.KnownBytes.{Appends};
 ghost use Rattle.rdm_script.specs.Playing.{IsPlayOf, NamesStopLine};
-ghost use Rattle.rdm_script.specs.Rules.{rules_of};
+ghost use Rattle.rdm_script.specs.Rules.{HasDone};
 ghost use Rattle.rdm_script.specs.declared.dialect.Spelling.TheVariants.{Friendly};
 ghost use Rattle.felosumay.specs.Scenes.{scene_on, ArePlayed, IsPlayed};
 ghost use Rattle.felosumay.specs.Sources.{IsAskedFor};
@@ -216,8 +216,8 @@ fn stage_of(fixture: Fixture) -> Stage<RuledPart, RuledPart, DemoPanel>
     ensures device { result.device ≡ fixture.uid }
     ensures profile { result.profile ≡ fixture.profile }
     ensures spelling { result.spelling ≡ Friendly }
-    ensures first { rules_of result.first ≡ fixture.outcomes.items }
-    ensures second { rules_of result.second ≡ fixture.outcomes.items }
+    ensures first { HasDone result.first fixture.outcomes.items [] }
+    ensures second { HasDone result.second fixture.outcomes.items [] }
 {
     let first = RuledPart::new(&fixture.outcomes);
     let second = RuledPart::new(&fixture.outcomes);

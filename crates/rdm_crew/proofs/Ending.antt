@@ -1,5 +1,5 @@
 -- What the lists of all lanes tell of the run, when the workers have ended.
-use Rattle.std.proofs.Common.{◌≡◌, ℕ, zero, suc, ◌<◌, ◌==◌, false, List, [], ◌∷◌, ◌++◌, length, drop, Some, refl, sym, ap, subst, ◌∙◌, arith, append_assoc, append-nil, length-drop}
+use Rattle.std.proofs.Common.{◌≡◌, ℕ, zero, suc, ◌<◌, ◌==◌, false, List, [], ◌∷◌, ◌++◌, length, take, drop, Some, refl, sym, ap, subst, ◌∙◌, arith, append_assoc, append-nil, length-drop}
 use Rattle.std.specs.Prelude.{slice_get, slice_index_or}
 use Rattle.rdm_commands.specs.declared.jobs.outcome.Outcome.{Outcome}
 use Rattle.rdm_params.specs.Jobs.Laws.{GetStartsItsWork, SetStartsItsWork}
@@ -36,7 +36,7 @@ use Rattle.rdm_crew.proofs.Sorted.{EachOwn, AreOn, sorted, each_own, reports_on,
 
 -- ---- a worker
 
-module _ (p : ℕ) (gives : Job → Outcome → Type 0) (t : TakeState Job) (q : PostState Report) (post : PostState Job) (reports : TakeState Report) (w : Worked) (worked : IsWorked gives t q w) (settled : IsSettled p post reports w) where
+module _ (p : ℕ) (gives : List Job → Job → Outcome → Type 0) (t : TakeState Job) (q : PostState Report) (post : PostState Job) (reports : TakeState Report) (w : Worked) (worked : IsWorked gives t q w) (settled : IsSettled p post reports w) where
   took_front : IsPrefix (items_from 0 w.jobs.taken) post.items
   took_front = (takes_a_prefix 0 w.jobs.taken post.items settled.took).0
 
@@ -75,7 +75,7 @@ module _ (p : ℕ) (gives : Job → Outcome → Type 0) (t : TakeState Job) (q :
       ((worked.all not_refused).0 0 (omega arith)) (over p below) not_refused
 
   -- a report that was taken is on the job after those that were reported on before it
-  pub next_is : (n : ℕ) (r : Report) (before after : List (Taken Report)) → reports.taken ≡ before ++ Item p n r ∷ after → (slice_get post.items (length (items_from p before)) ≡ Some r.job) × gives r.job r.outcome
+  pub next_is : (n : ℕ) (r : Report) (before after : List (Taken Report)) → reports.taken ≡ before ++ Item p n r ∷ after → (slice_get post.items (length (items_from p before)) ≡ Some r.job) × gives (take (length (items_from p before)) post.items) r.job r.outcome
   next_is n r before after parts =
       none_astray gives post.items (items_from 0 w.jobs.taken) w.reports.items (items_from p before) worked.answers took_front.0 took_front.1 r (items_from p after ++ drawn_front.0)
       (ap (λ (l : List Report). items_from p before ++ (l ++ drawn_front.0)) (sym (own_item p n r after)) ∙ front_parts before (Item p n r ∷ after) parts)
@@ -90,7 +90,7 @@ below_two P zeroth first (suc (suc q)) below = absurd (omega arith)
 length-none : (n : ℕ) (js : List Job) → length js ≡ n → length (drop n js) ≡ 0
 length-none n js e = omega (arith, length-drop n js)
 
-module _ (g0 g1 : Job → Outcome → Type 0) (t u : TakeState Job) (v x : PostState Report) (first second : PostState Job) (d : Desk) (a b : Worked)
+module _ (g0 g1 : List Job → Job → Outcome → Type 0) (t u : TakeState Job) (v x : PostState Report) (first second : PostState Job) (d : Desk) (a b : Worked)
     (first_worked : IsWorked g0 t v a) (second_worked : IsWorked g1 u x b) (first_settled : IsSettled 0 first d.reports a) (second_settled : IsSettled 1 second d.reports b)
     (jobs : HasJobs d first second) where
   abbrev ws : Choice
@@ -107,7 +107,7 @@ module _ (g0 g1 : Job → Outcome → Type 0) (t u : TakeState Job) (v x : PostS
   arrived_from : (p : ℕ) (front more : List (Taken Report)) → d.reports.taken ≡ front ++ more → OfTwo front → items_of front ≡ reports_in d.system.trace → reports_of ws p (reports_in d.system.trace) ≡ items_from p front
   arrived_from p front more parts two all = ap (reports_of ws p) (sym all) ∙ sorted ws p front (front_own front more parts two)
 
-  answered : (p : ℕ) (gives : Job → Outcome → Type 0) (post : PostState Job) → IsDrawn d → post.items ≡ jobs_of ws p (jobs_in d.system.trace)
+  answered : (p : ℕ) (gives : List Job → Job → Outcome → Type 0) (post : PostState Job) → IsDrawn d → post.items ≡ jobs_of ws p (jobs_in d.system.trace)
       → Answers gives post.items (items_from p d.reports.taken) × (length post.items ≡ length (items_from p d.reports.taken)) → IsAnswered ws p gives d.system.trace
   answered p gives post is has all =
       let same : reports_of ws p (reports_in d.system.trace) ≡ items_from p d.reports.taken = arrived_from p d.reports.taken [] (sym (append-nil d.reports.taken)) is.two is.all in
@@ -155,15 +155,20 @@ module _ (g0 g1 : Job → Outcome → Type 0) (t u : TakeState Job) (v x : PostS
       }
 
   -- so none is astray
-  pub not_astray : GetStartsItsWork → SetStartsItsWork → FitsFor ws 0 g0 → FitsFor ws 1 g1 → IsSuspect d → ⊥
-  not_astray gets sets fits_0 fits_1 is =
+  pub not_astray : (f0 f1 : Job → Outcome → Type 0) → ((before : List Job) (j : Job) (o : Outcome) → g0 before j o → f0 j o) → ((before : List Job) (j : Job) (o : Outcome) → g1 before j o → f1 j o)
+      → GetStartsItsWork → SetStartsItsWork → FitsFor ws 0 f0 → FitsFor ws 1 f1 → IsSuspect d → ⊥
+  not_astray f0 f1 at_all_0 at_all_1 gets sets fits_0 fits_1 is =
       is.astray (below_two (λ p. is.producer ≡ p → MayArrive (account_of (stands_at d).history) is.report)
-      (λ e. may_arrive gets sets 0 g0 first is fits_0 jobs.0 (next_is 0 g0 t v first d.reports a first_worked first_settled is.number is.report is.before is.after (subst (λ (p : ℕ). d.reports.taken ≡ is.before ++ Item p is.number is.report ∷ is.after) e is.taken)))
-      (λ e. may_arrive gets sets 1 g1 second is fits_1 jobs.1 (next_is 1 g1 u x second d.reports b second_worked second_settled is.number is.report is.before is.after (subst (λ (p : ℕ). d.reports.taken ≡ is.before ++ Item p is.number is.report ∷ is.after) e is.taken)))
+      (λ e.
+      let next = next_is 0 g0 t v first d.reports a first_worked first_settled is.number is.report is.before is.after (subst (λ (p : ℕ). d.reports.taken ≡ is.before ++ Item p is.number is.report ∷ is.after) e is.taken) in
+      may_arrive gets sets 0 f0 first is fits_0 jobs.0 (next.0, at_all_0 _ _ _ next.1))
+      (λ e.
+      let next = next_is 1 g1 u x second d.reports b second_worked second_settled is.number is.report is.before is.after (subst (λ (p : ℕ). d.reports.taken ≡ is.before ++ Item p is.number is.report ∷ is.after) e is.taken) in
+      may_arrive gets sets 1 f1 second is fits_1 jobs.1 (next.0, at_all_1 _ _ _ next.1))
       is.producer is.below refl)
 
 -- no job is outstanding where each has its report
-pub none_outstanding : (d : Desk) (g0 g1 : Job → Outcome → Type 0) → IsDrawn d → IsAnswered (chosen d) 0 g0 d.system.trace → IsAnswered (chosen d) 1 g1 d.system.trace → outstanding_count (outbox_of (stands_at d).history) ≡ 0
+pub none_outstanding : (d : Desk) (g0 g1 : List Job → Job → Outcome → Type 0) → IsDrawn d → IsAnswered (chosen d) 0 g0 d.system.trace → IsAnswered (chosen d) 1 g1 d.system.trace → outstanding_count (outbox_of (stands_at d).history) ≡ 0
 none_outstanding d g0 g1 is one two =
     let ws : Choice = chosen d in
     let es = d.system.trace in
@@ -208,7 +213,7 @@ settled_of_two reports first second taken posted posts lane law same lists both 
 
 -- ---- the ends that come back are those that were given to the workers
 
-pub joined : (reports : TakeState Report) (first second : PostState Job) (t u : TakeState Job) (v x : PostState Report) (g0 g1 : Job → Outcome → Type 0) (a b : Worked) → AreLanes reports first second t v u x → IsWorked g0 t v a → IsWorked g1 u x b → AreLanes reports first second a.jobs a.reports b.jobs b.reports
+pub joined : (reports : TakeState Report) (first second : PostState Job) (t u : TakeState Job) (v x : PostState Report) (g0 g1 : List Job → Job → Outcome → Type 0) (a b : Worked) → AreLanes reports first second t v u x → IsWorked g0 t v a → IsWorked g1 u x b → AreLanes reports first second a.jobs a.reports b.jobs b.reports
 joined reports first second t u v x g0 g1 a b lanes one two = record {
   first = record { lane = lanes.first.lane ∙ sym one.take.0; producer = lanes.first.producer; posts = one.take.1 ∙ lanes.first.posts };
   second = record { lane = lanes.second.lane ∙ sym two.take.0; producer = lanes.second.producer; posts = two.take.1 ∙ lanes.second.posts };

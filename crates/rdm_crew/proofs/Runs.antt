@@ -40,7 +40,7 @@ run_cut steps d m e new same played arrived none =
     let events : e.system.trace ≡ played.0 ++ arrived.0 = arrived.1 ∙ ap (λ (l : List Event). l ++ arrived.0) (played.1 ∙ ap (λ (l : List Event). l ++ played.0) new) in
     subst (IsCut (began d) steps) (sym events) (subst (λ (l : List Event). IsCut (after_all (began d) l) steps (played.0 ++ arrived.0)) new last)
 
-run_trace : (steps : List CrewStep) (d m e : Desk) (g0 g1 : Job → Outcome → Type 0) (offers : ℕ → Change → Type 0) (t : Ended) → d.system.trace ≡ [] → m.setup ≡ d.setup → IsSameDesk m e → HavePlayed steps d m → HaveArrived m e
+run_trace : (steps : List CrewStep) (d m e : Desk) (g0 g1 : List Job → Job → Outcome → Type 0) (offers : ℕ → Change → Type 0) (t : Ended) → d.system.trace ≡ [] → m.setup ≡ d.setup → IsSameDesk m e → HavePlayed steps d m → HaveArrived m e
     → t.system.trace ≡ e.system.trace → outstanding_count (outbox_of (stands_at e).history) ≡ 0 → IsAnswered (chosen e) 0 g0 e.system.trace → IsAnswered (chosen e) 1 g1 e.system.trace
     → AreOffered offers 0 (changes_in e.system.trace) → IsRunTrace d.setup.value g0 g1 offers steps t.system.trace
 run_trace steps d m e g0 g1 offers t new kept same played arrived events none first second changes =
@@ -54,7 +54,7 @@ run_trace steps d m e g0 g1 offers t new kept same played arrived events none fi
     })
 
 -- what a run leaves whose last reports were drawn
-pub ended_at : (steps : List CrewStep) (d m e : Desk) (g0 g1 : Job → Outcome → Type 0) (offers : ℕ → Change → Type 0) (t : Ended) → d.system.trace ≡ [] → m.setup ≡ d.setup → IsSameDesk m e → HavePlayed steps d m → HaveArrived m e
+pub ended_at : (steps : List CrewStep) (d m e : Desk) (g0 g1 : List Job → Job → Outcome → Type 0) (offers : ℕ → Change → Type 0) (t : Ended) → d.system.trace ≡ [] → m.setup ≡ d.setup → IsSameDesk m e → HavePlayed steps d m → HaveArrived m e
     → t.system.trace ≡ e.system.trace → outstanding_count (outbox_of (stands_at e).history) ≡ 0 → IsAnswered (chosen e) 0 g0 e.system.trace → IsAnswered (chosen e) 1 g1 e.system.trace
     → AreOffered offers 0 (changes_in e.system.trace)
     → t.system.collector.recorded ≡ recorded e.system.trace → IsHandedOver (chosen e) e.system.trace (handed_by e.reports.taken) → t.reports.taken ≡ e.reports.taken → LaneLaw 2 t.reports.taken t.reports.posted

@@ -11,7 +11,7 @@ use Rattle.rdm_lane.specs.declared.taken.Taken.TheVariants.{Item, Mark, Empty, C
 use Rattle.rdm_lane.specs.Lane.{is_from, items_of, items_from}
 use Rattle.rdm_crew.specs.Desks.{OfTwo}
 use Rattle.rdm_bus.specs.Happened.{reports_of}
-use Rattle.rdm_crew.specs.Workers.{Answers}
+use Rattle.rdm_crew.specs.Workers.{Answers, AnswersAfter}
 
 -- the items of p of a list that begins with one of q
 cons-item : (p q n : ℕ) (r : Report) (es : List (Taken Report)) → items_from p (Item q n r ∷ es) ≡ cond (q == p) (r ∷ items_from p es) (items_from p es)
@@ -99,17 +99,17 @@ module _ (ws : Choice) where
   front_reports p [] more on = tt
   front_reports p (r ∷ rs) more on = (on.0, front_reports p rs more on.1)
 
-  answers_on : (gives : Job → Outcome → Type 0) (p : ℕ) (js : List Job) (rs : List Report) → Answers gives js rs → AreJobsOf p js → AreOn p rs
-  answers_on gives p js [] answered on = tt
-  answers_on gives p [] (r ∷ rs) answered on = absurd answered
-  answers_on gives p (j ∷ js) (r ∷ rs) answered on = (ap (λ i. worker_at ws i.work) answered.0 ∙ on.0, answers_on gives p js rs answered.2 on.1)
+  answers_on : (gives : List Job → Job → Outcome → Type 0) (before : List Job) (p : ℕ) (js : List Job) (rs : List Report) → AnswersAfter gives before js rs → AreJobsOf p js → AreOn p rs
+  answers_on gives before p js [] answered on = tt
+  answers_on gives before p [] (r ∷ rs) answered on = absurd answered
+  answers_on gives before p (j ∷ js) (r ∷ rs) answered on = (ap (λ i. worker_at ws i.work) answered.0 ∙ on.0, answers_on gives (before ++ j ∷ []) p js rs answered.2 on.1)
 
   -- The reports that were drawn of worker p are on its jobs: it took a prefix of those that were put, all of them p's, and
   -- reported on them.
-  pub reports_on : (gives : Job → Outcome → Type 0) (p : ℕ) (accepted taken more : List Job) (reports drawn rest : List Report) → Answers gives taken reports → taken ++ more ≡ jobs_of ws p accepted → drawn ++ rest ≡ reports → AreOn p drawn
+  pub reports_on : (gives : List Job → Job → Outcome → Type 0) (p : ℕ) (accepted taken more : List Job) (reports drawn rest : List Report) → Answers gives taken reports → taken ++ more ≡ jobs_of ws p accepted → drawn ++ rest ≡ reports → AreOn p drawn
   reports_on gives p accepted taken more reports drawn rest answered all parts =
       let mine : AreJobsOf p taken = front_jobs p taken more (subst (AreJobsOf p) (sym all) (jobs_on p accepted)) in
-      front_reports p drawn rest (subst (AreOn p) (sym parts) (answers_on gives p taken reports answered mine))
+      front_reports p drawn rest (subst (AreOn p) (sym parts) (answers_on gives [] p taken reports answered mine))
 
   own_at : (p : ℕ) (js : List Job) (n : ℕ) (j : Job) → AreJobsOf p js → slice_get js n ≡ Some j → worker_at ws j.work ≡ p
   own_at p [] n j on at = absurd cc

@@ -61,9 +61,9 @@ IsCut s (step ∷ steps) es =
 
 -- ---- jobs and reports
 
--- The reports of a worker, by this choice, that arrived are on its jobs, in their order, each with an outcome that its part gives, and
--- every job has one.
-pub record IsAnswered (ws : Choice) (worker : ℕ) (gives : Job → Outcome → Type 0) (events : List Event) : Type 0 where
+-- The reports of a worker, by this choice, that arrived are on its jobs, in their order, each with an outcome that its part gives after
+-- the jobs before, and every job has one.
+pub record IsAnswered (ws : Choice) (worker : ℕ) (gives : List Job → Job → Outcome → Type 0) (events : List Event) : Type 0 where
   pub answers : Answers gives (jobs_of ws worker (jobs_in events)) (reports_of ws worker (reports_in events))
   pub all : length (jobs_of ws worker (jobs_in events)) ≡ length (reports_of ws worker (reports_in events))
 
@@ -71,7 +71,7 @@ pub record IsAnswered (ws : Choice) (worker : ℕ) (gives : Job → Outcome → 
 
 -- A run of a setup, of the first worker's part and the second's, of what the panel offers, and of these steps, from the
 -- moment that the device is switched on. The changes that happened are offered for 0, 1, 2 and so on.
-pub record IsRunTrace (setup : Setup) (gives_0 gives_1 : Job → Outcome → Type 0) (offers : ℕ → Change → Type 0) (steps : List CrewStep) (events : List Event) : Type 0 where
+pub record IsRunTrace (setup : Setup) (gives_0 gives_1 : List Job → Job → Outcome → Type 0) (offers : ℕ → Change → Type 0) (steps : List CrewStep) (events : List Event) : Type 0 where
   pub cut : IsCut (switched_on setup) steps events
   pub first : IsAnswered setup.profile.workers 0 gives_0 events
   pub second : IsAnswered setup.profile.workers 1 gives_1 events

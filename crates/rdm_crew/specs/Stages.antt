@@ -28,7 +28,7 @@ pub record IsReady (r : Ready) : Type 0 where
   pub unwatched : IsUnwatched r.watcher.changes
 
 -- What a run leaves that was played to its end.
-pub record IsEnded (setup : Setup) (gives_0 gives_1 : Job → Outcome → Type 0) (offers : ℕ → Change → Type 0) (steps : List CrewStep) (e : Ended) : Type 0 where
+pub record IsEnded (setup : Setup) (gives_0 gives_1 : List Job → Job → Outcome → Type 0) (offers : ℕ → Change → Type 0) (steps : List CrewStep) (e : Ended) : Type 0 where
   pub trace : IsRunTrace setup gives_0 gives_1 offers steps e.system.trace
   pub collected : e.system.collector.recorded ≡ recorded e.system.trace
   pub handed : IsHandedOver setup.profile.workers e.system.trace (handed_by e.reports.taken)

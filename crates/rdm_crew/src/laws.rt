@@ -3,21 +3,22 @@
 ghost use Rattle.std.specs.Prelude.{◌≡◌, ◌↔◌, IsTrue};
 ghost use Rattle.rdm_crew.specs.Closes.{AfterTheMarkIsRuledOut};
 ghost use Rattle.rdm_crew.specs.Law.{NoneAstray, EachIsOnItsJob, NoneMissing, OneMissingAtMost};
+ghost use Rattle.rdm_crew.specs.Workers.{in_turn};
 
 use crate::{Part, RunError};
 
 /// The next report that is drawn of a worker is on its oldest job that isn't reported on yet, and its outcome is one that
-/// the part gives for the job. So the n-th that was drawn is on the n-th job that was put.
+/// the part gives for the job after those before it. So the n-th that was drawn is on the n-th job that was put.
 pub fn no_report_goes_astray<P: Part>()
-    ensures next { (part : P) → NoneAstray (P.gives part) }
-    ensures each { (part : P) → EachIsOnItsJob (P.gives part) }
+    ensures next { (part : P) → NoneAstray (in_turn P.gives P.gives_after part) }
+    ensures each { (part : P) → EachIsOnItsJob (in_turn P.gives P.gives_after part) }
 {}
 
 /// If the marks of both lanes were taken, the reports of a worker that were drawn are one on each job that was put for it,
 /// save perhaps on the last one, and that only if its memory was refused.
 pub fn no_report_is_missing<P: Part>()
-    ensures none { (part : P) → NoneMissing (P.gives part) }
-    ensures one { (part : P) → OneMissingAtMost (P.gives part) }
+    ensures none { (part : P) → NoneMissing (in_turn P.gives P.gives_after part) }
+    ensures one { (part : P) → OneMissingAtMost (in_turn P.gives P.gives_after part) }
 {}
 
 /// What the headline of a run rules out: a report that is taken from the report lane after the closing mark of the worker whose

@@ -12,6 +12,7 @@ ghost use Rattle.rdm_crew.specs.RunTrace.{IsRunTrace, HaveFaults, HasSettle, Fit
 ghost use Rattle.rdm_crew.specs.Settling.{IsLaneOfOne, AreLanes};
 ghost use Rattle.rdm_crew.specs.Setups.{switched_on, IsBadSetup};
 ghost use Rattle.rdm_crew.specs.Stops.{IsStopAt, error_of, step_of};
+ghost use Rattle.rdm_crew.specs.Workers.{in_turn};
 
 use crate::bus::crew::Crew;
 use crate::end::closing::Closing;
@@ -53,7 +54,8 @@ where
     R: Threads + Wait + Copy + Send + 'static,
     requires fits { FitsFor setup.profile.workers 0 (P.gives part0) × FitsFor setup.profile.workers 1 (Q.gives part1) }
     requires faults { HaveFaults steps.now }
-    ensures trace { IfOk result (λ trace. IsRunTrace setup (P.gives part0) (Q.gives part1) (N.offers panel) steps.now trace.events) }
+    ensures trace { IfOk result (λ trace. IsRunTrace setup
+        (in_turn P.gives P.gives_after part0) (in_turn Q.gives Q.gives_after part1) (N.offers panel) steps.now trace.events) }
     ensures recorded { IfOk result (λ trace. trace.recorded ≡ recorded trace.events) }
     ensures bus { IfOk result (λ trace. (bus : List Step) × IsBusRun (switched_on setup) bus trace.events) }
     ensures laws { IfOk result (λ trace. BusLaws (switched_on setup) trace.events) }
@@ -90,7 +92,8 @@ where
     R: Threads + Wait + Copy + Send + 'static,
     requires fits { FitsFor setup.profile.workers 0 (P.gives part0) × FitsFor setup.profile.workers 1 (Q.gives part1) }
     requires faults { HaveFaults steps.now }
-    ensures trace { IfOk result (λ trace. IsRunTrace setup (P.gives part0) (Q.gives part1) (N.offers panel) steps.now trace.events) }
+    ensures trace { IfOk result (λ trace. IsRunTrace setup
+        (in_turn P.gives P.gives_after part0) (in_turn Q.gives Q.gives_after part1) (N.offers panel) steps.now trace.events) }
     ensures recorded { IfOk result (λ trace. trace.recorded ≡ recorded trace.events) }
     ensures bus { IfOk result (λ trace. (bus : List Step) × IsBusRun (switched_on setup) bus trace.events) }
     ensures laws { IfOk result (λ trace. BusLaws (switched_on setup) trace.events) }
@@ -129,7 +132,8 @@ where
     R: Threads + Wait + Copy + Send + 'static,
     requires fits { FitsFor setup.profile.workers 0 (P.gives part0) × FitsFor setup.profile.workers 1 (Q.gives part1) }
     requires faults { HaveFaults steps.now }
-    ensures ended { IfOk result (λ ended. IsEnded setup (P.gives part0) (Q.gives part1) (N.offers panel) steps.now ended) }
+    ensures ended { IfOk result (λ ended. IsEnded setup
+        (in_turn P.gives P.gives_after part0) (in_turn Q.gives Q.gives_after part1) (N.offers panel) steps.now ended) }
     ensures bad_setup { IsErrOf result Stopped.BadSetup ↔ IsBadSetup setup }
     ensures stop { IfErr result (λ stopped. IsStopAt steps.now stopped) }
 {
@@ -157,7 +161,7 @@ where
     requires faults { HaveFaults steps.now }
     requires ready { IsReady ready }
     ensures ended { IfOk result (λ ended. IsEnded ready.crew.desk.setup.value
-        (P.gives part0) (Q.gives part1) (N.offers panel) steps.now ended) }
+        (in_turn P.gives P.gives_after part0) (in_turn Q.gives Q.gives_after part1) (N.offers panel) steps.now ended) }
     ensures stop { IfErr result (λ stopped. IsStopAt steps.now stopped) }
     ensures set_up { IfErr result (λ stopped. stopped ≢ Stopped.BadSetup) }
 {
@@ -211,7 +215,8 @@ fn play<P: Part, Q: Part, N: Panel, R: Threads + Wait>(
         first_worker.jobs.value first_worker.reports.value
         second_worker.jobs.value second_worker.reports.value }
     ensures ended { IfOk result (λ ended. IsEnded crew.desk.setup.value
-        (P.gives first_worker.part.value) (Q.gives second_worker.part.value) (N.offers watcher.panel.value) steps.now ended) }
+        (in_turn P.gives P.gives_after first_worker.part.value) (in_turn Q.gives Q.gives_after second_worker.part.value)
+        (N.offers watcher.panel.value) steps.now ended) }
     ensures stop { IfErr result (λ stopped. IsStopAt steps.now stopped) }
     ensures set_up { IfErr result (λ stopped. stopped ≢ Stopped.BadSetup) }
 {

@@ -3,6 +3,7 @@ use Rattle.std.proofs.Common.{◌≡◌, ◌↔◌, List, Some, subst}
 use Rattle.rdm_profile.specs.Demo.{demo}
 use Rattle.rdm_commands.specs.declared.jobs.outcome.Outcome.{Outcome}
 use Rattle.rdm_outbox.specs.declared.job.Job.{Job}
+use Rattle.rdm_crew.specs.Workers.{in_turn}
 use Rattle.rdm_outcomes.specs.declared.rule.Rule.{Rule}
 use Rattle.rdm_outcomes.specs.Demo.{demo_rules, demo_outcome}
 use Rattle.rdm_outcomes.specs.Outcomes.{CanEnd}
@@ -12,12 +13,16 @@ use Rattle.rdm_script.specs.declared.rules.RuledPart.{RuledPart}
 use Rattle.rdm_script.specs.declared.stage.Stage.{Stage}
 use Rattle.rdm_script.specs.DemoParts.{demo_scene_in, panel_change}
 use Rattle.rdm_script.specs.Parties.{demo_device}
-use Rattle.rdm_script.specs.Rules.{rules_of}
+use Rattle.rdm_script.specs.Rules.{rules_of, EndsAfter}
 use Rattle.rdm_script.specs.Scene.{Scene, scene_of}
 use Rattle.rdm_script.proofs.Widening.{IsWider}
 
+-- what a part may give by its rules
+abbrev pub ruled : RuledPart → List Job → Job → Outcome → Type 0
+ruled = in_turn (λ part job outcome. CanEnd (rules_of part) job outcome) (λ part before job outcome. EndsAfter part before job outcome)
+
 abbrev pub ruled_scene : Stage RuledPart RuledPart DemoPanel → Scene
-ruled_scene stage = scene_of (λ part job outcome. CanEnd (rules_of part) job outcome) (λ part job outcome. CanEnd (rules_of part) job outcome) (λ panel number change. panel_change number ≡ Some change) stage
+ruled_scene stage = scene_of ruled ruled (λ panel number change. panel_change number ≡ Some change) stage
 
 ends_so : (rules : List Rule) → rules ≡ demo_rules → ((job : Job) (outcome : Outcome) → CanEnd demo_rules job outcome ↔ (outcome ≡ demo_outcome job)) → (job : Job) (outcome : Outcome) → CanEnd rules job outcome → outcome ≡ demo_outcome job
 ends_so rules are law job outcome can = (law job outcome).0 (subst (λ (rs : List Rule). CanEnd rs job outcome) are can)
@@ -28,7 +33,7 @@ demo_is_wider spelling stage device profile spelled first second law = record {
   device = device;
   profile = profile;
   spelling = spelled;
-  first = ends_so (rules_of stage.first) first law;
-  second = ends_so (rules_of stage.second) second law;
+  first = λ before job outcome given. ends_so (rules_of stage.first) first law job outcome given.0;
+  second = λ before job outcome given. ends_so (rules_of stage.second) second law job outcome given.0;
   offers = λ n c h. h;
 }

@@ -1,5 +1,5 @@
 -- What happens on a scene happens on each scene of the same device that gives at least as much.
-use Rattle.std.proofs.Common.{◌≡◌, ◌<◌, ◌⊎◌, ℕ, suc, List, [], ◌∷◌, take, Option, Some, None, Result, Ok, Err, OnOk, IfOk, IfErr, IfSome, subst}
+use Rattle.std.proofs.Common.{◌≡◌, ◌<◌, ◌⊎◌, ℕ, suc, List, [], ◌∷◌, ◌++◌, take, Option, Some, None, Result, Ok, Err, OnOk, IfOk, IfErr, IfSome, subst}
 use Rattle.std.specs.Bool.{⊤}
 use Rattle.std.specs.Io.KnownBytes.{Appends}
 use Rattle.rdm_frame.specs.declared.uid.Uid.{Uid}
@@ -17,7 +17,7 @@ use Rattle.rdm_crew.specs.declared.step.CrewStep.{CrewStep}
 use Rattle.rdm_crew.specs.RunTrace.{IsCut, IsAnswered}
 use Rattle.rdm_crew.specs.Setups.{IsBadSetup, switched_on}
 use Rattle.rdm_crew.specs.Watchers.{AreOffered}
-use Rattle.rdm_crew.specs.Workers.{Answers}
+use Rattle.rdm_crew.specs.Workers.{AnswersAfter}
 use Rattle.rdm_trace.specs.declared.line.Line.{Line}
 use Rattle.rdm_trace.specs.LineText.{lines_text}
 use Rattle.rdm_script.specs.Dialects.{Dialect}
@@ -29,7 +29,7 @@ use Rattle.rdm_script.specs.declared.program.ProgramError.TheVariants.{Read, Scr
 use Rattle.rdm_script.specs.declared.script.ScriptSetup.{ScriptSetup}
 use Rattle.rdm_script.specs.Grammar.{Refuses}
 use Rattle.rdm_script.specs.Program.{IsTraceOf, IsStopped, IsFailure}
-use Rattle.rdm_script.specs.Playing.{IsPlayOf, IsUnplayed}
+use Rattle.rdm_script.specs.Playing.{IsPlayOf, IsStoppedAt, IsUnplayed, NamesStopLine}
 use Rattle.rdm_script.specs.Running.{crew_setup, IsBad, IsGood, IsScriptRun, Stops}
 use Rattle.rdm_script.specs.Scene.{Scene, spoken_at}
 use Rattle.rdm_script.specs.Spelling.{IsScript}
@@ -41,8 +41,8 @@ pub record IsWider (s t : Scene) : Type 0 where
   pub device : s.device ≡ t.device
   pub profile : s.profile ≡ t.profile
   pub spelling : s.spelling ≡ t.spelling
-  pub first : (j : Job) (o : Outcome) → s.first j o → t.first j o
-  pub second : (j : Job) (o : Outcome) → s.second j o → t.second j o
+  pub first : (before : List Job) (j : Job) (o : Outcome) → s.first before j o → t.first before j o
+  pub second : (before : List Job) (j : Job) (o : Outcome) → s.second before j o → t.second before j o
   pub offers : (n : ℕ) (c : Change) → s.offers n c → t.offers n c
 
 -- what hangs on the device alone
@@ -64,13 +64,13 @@ retraced s t w finds events P h =
     subst (λ (p : Profile). P (trace_lines p.workers (finds (spoken_at t)) events (recorded events))) w.profile
     (retold (λ (d : Dialect). P (trace_lines s.profile.workers (finds d) events (recorded events))) s t w h)
 
-answers_wider : (f g : Job → Outcome → Type 0) → ((j : Job) (o : Outcome) → f j o → g j o) → (js : List Job) (rs : List Report) → Answers f js rs → Answers g js rs
-answers_wider f g wider js [] h = tt
-answers_wider f g wider [] (r ∷ rs) h = absurd h
-answers_wider f g wider (j ∷ js) (r ∷ rs) h = (h.0, wider j r.outcome h.1, answers_wider f g wider js rs h.2)
+answers_wider : (f g : List Job → Job → Outcome → Type 0) → ((b : List Job) (j : Job) (o : Outcome) → f b j o → g b j o) → (before js : List Job) (rs : List Report) → AnswersAfter f before js rs → AnswersAfter g before js rs
+answers_wider f g wider before js [] h = tt
+answers_wider f g wider before [] (r ∷ rs) h = absurd h
+answers_wider f g wider before (j ∷ js) (r ∷ rs) h = (h.0, wider before j r.outcome h.1, answers_wider f g wider (before ++ j ∷ []) js rs h.2)
 
-answered_wider : (ws : Choice) (worker : ℕ) (f g : Job → Outcome → Type 0) → ((j : Job) (o : Outcome) → f j o → g j o) → (events : List Event) → IsAnswered ws worker f events → IsAnswered ws worker g events
-answered_wider ws worker f g wider events a = record { answers = answers_wider f g wider _ _ a.answers; all = a.all }
+answered_wider : (ws : Choice) (worker : ℕ) (f g : List Job → Job → Outcome → Type 0) → ((b : List Job) (j : Job) (o : Outcome) → f b j o → g b j o) → (events : List Event) → IsAnswered ws worker f events → IsAnswered ws worker g events
+answered_wider ws worker f g wider events a = record { answers = answers_wider f g wider [] _ _ a.answers; all = a.all }
 
 offered_wider : (f g : ℕ → Change → Type 0) → ((n : ℕ) (c : Change) → f n c → g n c) → (n : ℕ) (cs : List Change) → AreOffered f n cs → AreOffered g n cs
 offered_wider f g wider n [] h = tt
@@ -180,3 +180,12 @@ cause_wider s t w text (unplayed.Stopped e line) h = (stopped_wider s t text e w
 pub unplayed_wider : {A : Type 0} (s t : Scene) → IsWider s t → (r : Result A Unplayed) (text : List ℕ) → IfErr r (IsUnplayed s text) → IfErr r (IsUnplayed t text)
 unplayed_wider s t w (Ok a) text h = tt
 unplayed_wider s t w (Err e) text h = cause_wider s t w text e h
+
+names_wider : (s t : Scene) → IsWider s t → (text : List ℕ) (e : Unplayed) → NamesStopLine s text e → NamesStopLine t text e
+names_wider s t w text unplayed.OutOfMemory h = tt
+names_wider s t w text (unplayed.Faulty e) h = tt
+names_wider s t w text (unplayed.Stopped e line) h = retold (λ (d : Dialect). IsStoppedAt d text e line) s t w h
+
+pub line_wider : {A : Type 0} (s t : Scene) → IsWider s t → (r : Result A Unplayed) (text : List ℕ) → IfErr r (NamesStopLine s text) → IfErr r (NamesStopLine t text)
+line_wider s t w (Ok a) text h = tt
+line_wider s t w (Err e) text h = names_wider s t w text e h

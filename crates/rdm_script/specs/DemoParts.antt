@@ -25,8 +25,8 @@ demo_scene_in spelling = record {
   device = demo_device;
   profile = demo 512;
   spelling = spelling;
-  first = λ job outcome. outcome ≡ demo_outcome job;
-  second = λ job outcome. outcome ≡ demo_outcome job;
+  first = λ before job outcome. outcome ≡ demo_outcome job;
+  second = λ before job outcome. outcome ≡ demo_outcome job;
   offers = λ number change. panel_change number ≡ Some change;
 }
 

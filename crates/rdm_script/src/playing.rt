@@ -6,6 +6,7 @@ ghost use Rattle.rdm_trace.specs.LineText.{lines_text};
 ghost use Rattle.rdm_script.specs.DemoParts.{demo_scene_in};
 ghost use Rattle.rdm_script.specs.Playing.{IsPlayOf, IsUnplayed, NamesStopLine, unplayed_script, unplayed_run};
 ghost use Rattle.rdm_script.specs.Program.{IsTraceOf};
+ghost use Rattle.rdm_crew.specs.Workers.{in_turn};
 ghost use Rattle.rdm_script.specs.Scene.{scene_of};
 ghost use Rattle.rdm_script.specs.declared.playing.Unplayed.TheVariants.{OutOfMemory};
 
@@ -91,13 +92,13 @@ where
     N: Panel + Send + 'static,
     requires fits { FitsFor stage.profile.workers 0 (P.gives stage.first) × FitsFor stage.profile.workers 1 (Q.gives stage.second) }
     // The lines are those of a run of this script, and of what was recorded then.
-    ensures ok { IfOk result (λ lines. IsPlayOf (scene_of P.gives Q.gives N.offers stage) text.now lines.items) }
+    ensures ok { IfOk result (λ lines. IsPlayOf (scene_of (in_turn P.gives P.gives_after) (in_turn Q.gives Q.gives_after) N.offers stage) text.now lines.items) }
     // So their text is its trace.
-    ensures trace { IfOk result (λ lines. IsTraceOf (scene_of P.gives Q.gives N.offers stage) text.now (lines_text lines.items)) }
+    ensures trace { IfOk result (λ lines. IsTraceOf (scene_of (in_turn P.gives P.gives_after) (in_turn Q.gives Q.gives_after) N.offers stage) text.now (lines_text lines.items)) }
     // Each failure has its cause in the text.
-    ensures err { IfErr result (IsUnplayed (scene_of P.gives Q.gives N.offers stage) text.now) }
+    ensures err { IfErr result (IsUnplayed (scene_of (in_turn P.gives P.gives_after) (in_turn Q.gives Q.gives_after) N.offers stage) text.now) }
     // The line of a stop is that of the step at which the run stops, or of the setup.
-    ensures line { IfErr result (NamesStopLine (scene_of P.gives Q.gives N.offers stage) text.now) }
+    ensures line { IfErr result (NamesStopLine (scene_of (in_turn P.gives P.gives_after) (in_turn Q.gives Q.gives_after) N.offers stage) text.now) }
 {
     let dialect = Dialect {
         device: stage.device,

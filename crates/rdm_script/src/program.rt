@@ -4,6 +4,7 @@ ghost use Rattle.std.specs.Prelude.{◌≡◌, ◌≢◌, ℕ, List, take, OnOk,
 ghost use Rattle.std.specs.Io.KnownBytes.{Keeps, Appends, IsAtEnd};
 ghost use Rattle.rdm_crew.specs.RunTrace.{FitsFor};
 ghost use Rattle.rdm_script.specs.DemoParts.{demo_scene};
+ghost use Rattle.rdm_crew.specs.Workers.{in_turn};
 ghost use Rattle.rdm_script.specs.Scene.{scene_of};
 ghost use Rattle.rdm_script.specs.Playing.{fault_of_play};
 ghost use Rattle.rdm_script.specs.Program.{IsTraceOf, IsFailure, status_of, fault_of_script, fault_of_run};
@@ -179,15 +180,15 @@ where
     N: Panel + Send + 'static,
     requires fits { FitsFor stage.profile.workers 0 (P.gives stage.first) × FitsFor stage.profile.workers 1 (Q.gives stage.second) }
     ensures ok { OnOk result (IfSome (R.remaining reader.old) (λ input. (text : List ℕ) ×
-        IsTraceOf (scene_of P.gives Q.gives N.offers stage) input text ×
+        IsTraceOf (scene_of (in_turn P.gives P.gives_after) (in_turn Q.gives Q.gives_after) N.offers stage) input text ×
         Appends (W.contents writer.old) (W.contents writer.new) text)) }
     ensures whole { OnOk result (IsAtEnd (R.remaining reader.new)) }
     ensures silent { IfErr result (λ e. e ≢ WriteFault → Keeps (W.contents writer.old) (W.contents writer.new)) }
     ensures front { result ≡ Err WriteFault → IfSome (R.remaining reader.old) (λ input. (text : List ℕ) × (count : ℕ) ×
-        IsTraceOf (scene_of P.gives Q.gives N.offers stage) input text ×
+        IsTraceOf (scene_of (in_turn P.gives P.gives_after) (in_turn Q.gives Q.gives_after) N.offers stage) input text ×
         Appends (W.contents writer.old) (W.contents writer.new) (take count text)) }
     ensures err { IfErr result (λ e. IfSome (R.remaining reader.old)
-        (IsFailure (scene_of P.gives Q.gives N.offers stage) e)) }
+        (IsFailure (scene_of (in_turn P.gives P.gives_after) (in_turn Q.gives Q.gives_after) N.offers stage) e)) }
 {
     let input = read_input(alloc, reader)?;
     let text = play(rt, alloc, &input, stage)?;
@@ -208,8 +209,8 @@ where
     Q: Part + Send + 'static,
     N: Panel + Send + 'static,
     requires fits { FitsFor stage.profile.workers 0 (P.gives stage.first) × FitsFor stage.profile.workers 1 (Q.gives stage.second) }
-    ensures ok { IfOk result (λ text. IsTraceOf (scene_of P.gives Q.gives N.offers stage) input.now text.items) }
-    ensures err { IfErr result (λ e. IsFailure (scene_of P.gives Q.gives N.offers stage) e input.now ×
+    ensures ok { IfOk result (λ text. IsTraceOf (scene_of (in_turn P.gives P.gives_after) (in_turn Q.gives Q.gives_after) N.offers stage) input.now text.items) }
+    ensures err { IfErr result (λ e. IsFailure (scene_of (in_turn P.gives P.gives_after) (in_turn Q.gives Q.gives_after) N.offers stage) e input.now ×
         (e ≢ ReadFault) × (e ≢ WriteFault)) }
 {
     let lines = play_script(rt, alloc, input, stage)?;

@@ -7,7 +7,7 @@ ghost use Rattle.rdm_outcomes.specs.declared.rule.Rule.{Rule as TheRule};
 ghost use Rattle.rdm_outcomes.specs.Outcomes.{CanEnd, outcome_of};
 ghost use Rattle.rdm_commands.specs.declared.jobs.outcome.Outcome.{Outcome as TheOutcome};
 ghost use Rattle.rdm_params.specs.Jobs.Work.{Choice};
-ghost use Rattle.rdm_script.specs.Rules.{rules_of, HasDone};
+ghost use Rattle.rdm_script.specs.Rules.{rules_of, EndsAfter, HasDone};
 ghost use Rattle.rdm_script.specs.declared.rules.RuledPart.{RuledPart as ThePart};
 
 use arrayvec::ArrayVec;
@@ -36,14 +36,19 @@ impl RuledPart {
 
 impl Part for RuledPart {
     ghost use Rattle.rdm_outcomes.specs.Outcomes.{CanEnd};
-    ghost use Rattle.rdm_script.specs.Rules.{rules_of};
+    ghost use Rattle.rdm_script.specs.Rules.{rules_of, EndsAfter};
 
     ghost gives = { λ part job outcome. CanEnd (rules_of part) job outcome };
+
+    ghost gives_after = { λ part before job outcome. EndsAfter part before job outcome };
 
     // Besides, each job counts: its outcome is the one that the rules give after the jobs that the part has done before.
     fn work(&mut self, job: &Job) -> Outcome
         ensures gives { CanEnd (rules_of self.old) job.now result }
         ensures same { (j : TheJob) (o : TheOutcome) → CanEnd (rules_of self.new) j o ↔ CanEnd (rules_of self.old) j o }
+        ensures next { EndsAfter self.old [] job.now result }
+        ensures later { (before : List TheJob) (j : TheJob) (o : TheOutcome) →
+            EndsAfter self.new before j o → EndsAfter self.old (job.now ∷ before) j o }
         ensures counts { (rules : List TheRule) (before : List TheJob) → HasDone self.old rules before →
             (result ≡ outcome_of rules before job.now) × HasDone self.new rules (before ++ job.now ∷ []) }
     {

@@ -13,6 +13,7 @@ ghost use Rattle.rdm_bus.specs.Happened.{changes_in};
 ghost use Rattle.rdm_crew.specs.RunTrace.{IsAnswered, FitsFor};
 ghost use Rattle.rdm_crew.specs.Settling.{AreLanes, IsLaneOfOne};
 ghost use Rattle.rdm_crew.specs.Watchers.{AreOffered};
+ghost use Rattle.rdm_crew.specs.Workers.{in_turn};
 
 use crate::bus::desk::Desk;
 use crate::bus::stop::Stop;
@@ -55,9 +56,9 @@ impl<P: Part, Q: Part, N: Panel> Closing<P, Q, N> {
         ensures recorded { IfOk result (λ ended. ended.system.collector.recorded ≡ recorded self.desk.system.trace) }
         ensures last { IfOk result (λ ended. outstanding_count (outbox_of (stands_at self.desk).history) ≡ 0) }
         ensures first { IfOk result (λ ended.
-            IsAnswered (chosen self.desk) 0 (P.gives self.first_worker.part.value) self.desk.system.trace) }
+            IsAnswered (chosen self.desk) 0 (in_turn P.gives P.gives_after self.first_worker.part.value) self.desk.system.trace) }
         ensures second { IfOk result (λ ended.
-            IsAnswered (chosen self.desk) 1 (Q.gives self.second_worker.part.value) self.desk.system.trace) }
+            IsAnswered (chosen self.desk) 1 (in_turn Q.gives Q.gives_after self.second_worker.part.value) self.desk.system.trace) }
         ensures handed { IfOk result (λ ended. IsHandedOver (chosen self.desk) self.desk.system.trace (handed_by self.desk.reports.taken)) }
         ensures taken { IfOk result (λ ended. ended.reports.taken ≡ self.desk.reports.taken) }
         ensures lane { IfOk result (λ ended. LaneLaw 2 ended.reports.taken ended.reports.posted) }

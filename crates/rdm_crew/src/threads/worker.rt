@@ -1,7 +1,7 @@
 //! A worker: it takes jobs, has its part do them, and reports on each.
 
 ghost use Rattle.std.specs.Prelude.{◌≡◌, IfOk};
-ghost use Rattle.rdm_crew.specs.Workers.{IsIdle, IsWorked};
+ghost use Rattle.rdm_crew.specs.Workers.{in_turn, IsIdle, IsWorked};
 
 use crate::Part;
 use crate::threads::equipment::WorkerKit;
@@ -37,7 +37,8 @@ pub(crate) struct Works<P> {
 }
 
 impl<P: Part> Promise<Worked> for Works<P> {
-    ghost kept_by = { λ works worked. IsWorked (P.gives works.part.value) works.jobs.value works.reports.value worked };
+    ghost kept_by = { λ works worked.
+        IsWorked (in_turn P.gives P.gives_after works.part.value) works.jobs.value works.reports.value worked };
 }
 
 /// Starts a worker on a thread of its own.
@@ -78,7 +79,7 @@ fn work_all<P: Part, R: Wait>(
     signals: &Signals,
 ) -> Worked
     requires { IsIdle jobs reports }
-    ensures { IsWorked (P.gives part) jobs reports result }
+    ensures { IsWorked (in_turn P.gives P.gives_after part) jobs reports result }
 {
     let (mut jobs, mut reports, mut part) = (jobs, reports, part);
     let bell = &signals.reports;

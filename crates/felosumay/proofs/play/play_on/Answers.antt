@@ -1,7 +1,7 @@
-use Rattle.std.proofs.Common.{IfOk, IfErr}
-use Rattle.rdm_script.specs.Playing.{IsPlayOf, NamesStopLine}
-use Rattle.rdm_script.specs.Scene.{Scene}
-use Rattle.felosumay.proofs.Settings.{on_fixture}
+use Rattle.rdm_script.proofs.DemoScene.{ruled_scene}
+use Rattle.rdm_script.proofs.Widening.{line_wider, played_wider}
+use Rattle.felosumay.specs.Scenes.{scene_on}
+use Rattle.felosumay.proofs.Settings.{fixture_is_wider}
 use Rattle.felosumay.proofs.play.play_on.Goals as goal
 
 pub play_script-requires-clause-fits : goal.play_script-requires-clause-fits
@@ -9,10 +9,10 @@ play_script-requires-clause-fits g c = λ live lives. ((c.ruled_parts_fit.ensure
 
 pub returns-clause-ok : goal.returns-clause-ok
 returns-clause-ok g c =
-    on_fixture (λ (scene : Scene). IfOk c.play_script.result (λ lines. IsPlayOf scene c.args.script.now lines.items)) c.stage_of.result c.args.fixture
-    c.stage_of.ensures.device c.stage_of.ensures.profile c.stage_of.ensures.spelling c.stage_of.ensures.first c.stage_of.ensures.second c.play_script.ensures.ok
+    let wider = fixture_is_wider c.stage_of.result c.args.fixture c.stage_of.ensures.device c.stage_of.ensures.profile c.stage_of.ensures.spelling c.stage_of.ensures.first c.stage_of.ensures.second in
+    played_wider (ruled_scene c.stage_of.result) (scene_on c.args.fixture) wider c.play_script.result c.args.script.now (λ lines. lines.items) c.play_script.ensures.ok
 
 pub returns-clause-line : goal.returns-clause-line
 returns-clause-line g c =
-    on_fixture (λ (scene : Scene). IfErr c.play_script.result (NamesStopLine scene c.args.script.now)) c.stage_of.result c.args.fixture
-    c.stage_of.ensures.device c.stage_of.ensures.profile c.stage_of.ensures.spelling c.stage_of.ensures.first c.stage_of.ensures.second c.play_script.ensures.line
+    let wider = fixture_is_wider c.stage_of.result c.args.fixture c.stage_of.ensures.device c.stage_of.ensures.profile c.stage_of.ensures.spelling c.stage_of.ensures.first c.stage_of.ensures.second in
+    line_wider (ruled_scene c.stage_of.result) (scene_on c.args.fixture) wider c.play_script.result c.args.script.now c.play_script.ensures.line

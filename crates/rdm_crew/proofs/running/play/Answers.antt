@@ -1,5 +1,6 @@
 use Rattle.std.proofs.Common.{sym, subst}
 use Rattle.rdm_crew.specs.Stops.{IsStopAt}
+use Rattle.rdm_crew.specs.Workers.{in_turn}
 use Rattle.rdm_crew.proofs.Changing.{arrived_has}
 use Rattle.rdm_crew.proofs.Watching.{same_lane}
 use Rattle.rdm_crew.proofs.Runs.{closing_jobs, ended_at}
@@ -13,7 +14,7 @@ finish-requires-clause-jobs g c =
 pub returns-in-Ok-draw_all-clause-ended : goal.returns-in-Ok-draw_all-clause-ended
 returns-in-Ok-draw_all-clause-ended g c =
     let finished = c.in_ok-finish-in-Ok-draw_all.ensures in
-    ended_at c.args.steps.now c.args.crew.desk c.play_all-played.new.self.desk c.draw_all.new.self (g.P.Part.gives c.args.first_worker.part.value) (g.Q.Part.gives c.args.second_worker.part.value) (g.N.Panel.offers c.args.watcher.panel.value) c.in_ok-finish-in-Ok-draw_all.field-0
+    ended_at c.args.steps.now c.args.crew.desk c.play_all-played.new.self.desk c.draw_all.new.self (in_turn g.P.Part.gives g.P.Part.gives_after c.args.first_worker.part.value) (in_turn g.Q.Part.gives g.Q.Part.gives_after c.args.second_worker.part.value) (g.N.Panel.offers c.args.watcher.panel.value) c.in_ok-finish-in-Ok-draw_all.field-0
     c.requires.new.1 c.play_all-played.ensures.same.0.0 c.draw_all.ensures.same c.in-Ok.ensures.played.1 c.in-Ok-draw_all.ensures.drawn.1 finished.events finished.last finished.first finished.second finished.changes
     finished.recorded finished.handed finished.taken finished.lane
 

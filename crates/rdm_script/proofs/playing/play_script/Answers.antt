@@ -11,6 +11,7 @@ use Rattle.rdm_script.specs.declared.dialect.Spelling.{Spelling}
 use Rattle.rdm_script.specs.Dialects.{Dialect}
 use Rattle.rdm_script.specs.Playing.{IsPlayOf, IsUnplayed, NamesStopLine}
 use Rattle.rdm_script.specs.Running.{IsScriptRun, Stops}
+use Rattle.rdm_crew.specs.Workers.{in_turn}
 use Rattle.rdm_script.specs.Scene.{scene_of, spoken_at}
 use Rattle.rdm_script.specs.Spelling.{IsScript}
 use Rattle.rdm_script.specs.StepLines.{step_lines, setup_line}
@@ -25,7 +26,7 @@ with_own device spelling own = record { device = device; spelling = spelling; ow
 
 pub returns-in-Ok-clause-ok : goal.returns-in-Ok-clause-ok
 returns-in-Ok-clause-ok g c =
-    let scene = scene_of g.P.Part.gives g.Q.Part.gives g.N.Panel.offers c.args.stage in
+    let scene = scene_of (in_turn g.P.Part.gives g.P.Part.gives_after) (in_turn g.Q.Part.gives g.Q.Part.gives_after) g.N.Panel.offers c.args.stage in
     let script = c.in_ok-script.script in
     let ws = c.args.stage.profile.workers in
     let events : List Event = c.in-Ok.trace.events in
@@ -48,12 +49,12 @@ returns-in-Ok-clause-ok g c =
 
 pub returns-in-Ok-clause-trace : goal.returns-in-Ok-clause-trace
 returns-in-Ok-clause-trace g c =
-    let scene = scene_of g.P.Part.gives g.Q.Part.gives g.N.Panel.offers c.args.stage in
+    let scene = scene_of (in_turn g.P.Part.gives g.P.Part.gives_after) (in_turn g.Q.Part.gives g.Q.Part.gives_after) g.N.Panel.offers c.args.stage in
     play_traced scene c.args.text.now c.in_ok-trace_lines-in-Ok.field-0.items (returns-in-Ok-clause-ok g c)
 
 pub returns-clause-err : goal.returns-clause-err
 returns-clause-err g c =
-    let scene = scene_of g.P.Part.gives g.Q.Part.gives g.N.Panel.offers c.args.stage in
+    let scene = scene_of (in_turn g.P.Part.gives g.P.Part.gives_after) (in_turn g.Q.Part.gives g.Q.Part.gives_after) g.N.Panel.offers c.args.stage in
     let script = c.in_ok-script.script in
     let own = c.own.ensures.value in
     let spelled = subst (λ (ds : List ParameterDef). IsScript (with_own c.args.stage.device c.args.stage.spelling ds) c.args.text.now script.setup script.steps.items) own c.in_ok-script.ensures.ok in
@@ -65,7 +66,7 @@ returns-clause-err g c =
 
 pub returns-clause-line : goal.returns-clause-line
 returns-clause-line g c =
-    let scene = scene_of g.P.Part.gives g.Q.Part.gives g.N.Panel.offers c.args.stage in
+    let scene = scene_of (in_turn g.P.Part.gives g.P.Part.gives_after) (in_turn g.Q.Part.gives g.Q.Part.gives_after) g.N.Panel.offers c.args.stage in
     let script = c.in_ok-script.script in
     let own = c.own.ensures.value in
     let spelled = subst (λ (ds : List ParameterDef). IsScript (with_own c.args.stage.device c.args.stage.spelling ds) c.args.text.now script.setup script.steps.items) own c.in_ok-script.ensures.ok in
