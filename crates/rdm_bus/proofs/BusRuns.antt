@@ -29,8 +29,8 @@ use Rattle.rdm_responder.specs.Rules.{Account, account_of, answer_to, reply_of}
 use Rattle.rdm_responder.specs.Requests.{request_in}
 use Rattle.rdm_responder.specs.Runs.{IsArrival, outbox_of}
 use Rattle.rdm_collector.specs.declared.command.Command.{Command}
-use Rattle.rdm_collector.specs.declared.collector.AskError.{AskError}
-use Rattle.rdm_collector.specs.declared.collector.AskError.TheVariants.{Reserved}
+use Rattle.rdm_collector.specs.declared.sender.AskError.{AskError}
+use Rattle.rdm_collector.specs.declared.sender.AskError.TheVariants.{Reserved}
 use Rattle.rdm_bus.specs.declared.event.Event.{Event}
 use Rattle.rdm_bus.specs.declared.event.Event.TheVariants.{Bus, Arrived, Changed}
 use Rattle.rdm_bus.specs.declared.event.Step.{Step}

@@ -1,7 +1,7 @@
 -- The codes of what became of a call, as the header lists them.
 use Rattle.std.specs.Prelude.{ℕ, Option, Some, None}
-use Rattle.rdm_collector.specs.declared.collector.AskError.{AskError}
-use Rattle.rdm_collector.specs.declared.collector.AskError.TheVariants as ask
+use Rattle.rdm_collector.specs.declared.sender.AskError.{AskError}
+use Rattle.rdm_collector.specs.declared.sender.AskError.TheVariants as ask
 use Rattle.rdm_commands.specs.declared.placing.PlaceError.{PlaceError}
 use Rattle.rdm_commands.specs.declared.placing.PlaceError.TheVariants as place
 use Rattle.rdm_saved.specs.declared.errors.RestoreError.{RestoreError}

@@ -1,5 +1,6 @@
 pub mod Requests
 pub mod Answers
+pub mod Sending
 pub mod Collecting
 pub mod Hearing
 pub mod Recording

@@ -1,78 +1,40 @@
 //! The collector.
 
-ghost use Rattle.std.specs.Prelude.{◌≡◌, ◌↔◌, ◌≤◌, length, drop, is_some, IsSome, IfOk, OnOk, OnErr, IsErrOf};
+ghost use Rattle.std.specs.Prelude.{◌≡◌, ◌↔◌, drop, is_some, IsSome, IfOk, OnOk, OnErr, IsErrOf};
 ghost use Rattle.std.specs.Result.{result_err};
 ghost use Rattle.rdm_frame.specs.FrameText.{frame_text, IsFrame};
 ghost use Rattle.rdm_collector.specs.Collecting.{new_collector, refusal_of, poll_request, command_request, after_ask, after_poll, heard_in, after_hearing, without_transaction};
 
-use crate::command::{Command, class_of, is_reserved, queued_message, request_of};
+use crate::command::Command;
 use crate::message::message_of;
-use crate::transaction::{Heard, Transaction, taken_for};
-use crate::want::{Want, type_of};
-use rdm_frame::standard::{GET_LAST_MESSAGE, MOST_DATA};
-use rdm_frame::{Message, Uid, Wire, decode_view};
+use crate::record::{forget, make_room};
+use crate::sender::{AskError, PollError, Sender};
+use crate::transaction::{Heard, taken_for};
+use crate::want::Want;
+use rdm_frame::{Message, Uid, Wire};
 use std::alloc::Global;
 use std::marker::Model;
-use thiserror::Error;
-
-/// Why a command isn't sent, tested in this order.
-#[derive(Clone, Copy, Debug, PartialEq, Eq, Error)]
-pub enum AskError {
-    /// It asks for QUEUED_MESSAGE or STATUS_MESSAGES, which the collector keeps for itself.
-    #[error("reserved")]
-    Reserved,
-    /// A transaction is open.
-    #[error("busy")]
-    Busy,
-    /// It has more data than a frame can carry.
-    #[error("too long")]
-    TooLong,
-}
-
-/// Why no poll is sent, tested from the last to the first.
-#[derive(Clone, Copy, Debug, PartialEq, Eq, Error)]
-pub enum PollError {
-    /// Out of memory for the answer.
-    #[error("out of memory")]
-    OutOfMemory,
-    /// A transaction is open.
-    #[error("busy")]
-    Busy,
-}
 
 /// A controller that collects the messages of one device, the target, and sends its user's commands meanwhile.
 ///
 /// One transaction is open at a time. Its transaction numbers start at 0 and rise by 1 with each request, modulo 256.
 #[derive(Debug, Drop)]
 pub struct Collector {
-    uid: Uid,
-    target: Uid,
-    want: Want,
-    tn: u8,
-    transaction: Option<Transaction>,
-    unanswered: bool,
+    sender: Sender,
     recorded: Vec<Message>,
 }
 
 impl Model for Collector {
     ghost use Rattle.std.specs.Prelude.{◌<◌, IsTrue, vec_len, vec_capacity};
-    ghost use Rattle.rdm_collector.specs.Collecting.{State};
     ghost use Rattle.rdm_collector.specs.Answers.{is_poll};
+    ghost use Rattle.rdm_collector.specs.Collecting.{State, collector_with};
 
     ghost Value = { State };
 
-    ghost view = { λ c. record {
-      uid = c.uid;
-      target = c.target;
-      want = c.want;
-      tn = c.tn;
-      transaction = c.transaction;
-      unanswered = c.unanswered;
-      recorded = c.recorded.items;
-    } };
+    ghost view = { λ c. collector_with c.sender c.recorded.items };
 
     // While a poll is open there is room for its answer.
-    ghost invariant = { λ c. IsTrue (is_poll c.transaction) → vec_len c.recorded < vec_capacity c.recorded };
+    ghost invariant = { λ c. IsTrue (is_poll c.sender.transaction) → vec_len c.recorded < vec_capacity c.recorded };
 }
 
 impl Collector {
@@ -81,12 +43,7 @@ impl Collector {
         ensures { result ≡ new_collector uid target want }
     {
         Collector {
-            uid,
-            target,
-            want,
-            tn: 0,
-            transaction: None,
-            unanswered: false,
+            sender: Sender::new(uid, target, want),
             recorded: Vec::new(alloc),
         }
     }
@@ -102,24 +59,7 @@ impl Collector {
         ensures new { OnOk result (self.new ≡ after_ask self.old command.now) }
         ensures err { OnErr result (self.new ≡ self.old) }
     {
-        if is_reserved(command.pid) {
-            return Err(AskError::Reserved);
-        }
-        if self.transaction.is_some() {
-            return Err(AskError::Busy);
-        }
-        if command.load.as_slice().len() > MOST_DATA {
-            return Err(AskError::TooLong);
-        }
-        let sent = request_of(self.uid, self.tn, command);
-        self.transaction = Some(Transaction::Command {
-            tn: self.tn,
-            class: class_of(command.action),
-            sub: command.sub,
-            pid: command.pid,
-        });
-        self.tn = self.tn.wrapping_add(1);
-        Ok(sent)
+        self.sender.ask(command)
     }
 
     /// Sends a poll: gives the bytes of a request for the target's next message, and opens its transaction. If the
@@ -134,22 +74,8 @@ impl Collector {
         ensures busy { IsErrOf result PollError.Busy ↔ IsSome self.old.transaction }
         ensures err { OnErr result (self.new ≡ self.old) }
     {
-        if self.transaction.is_some() {
-            return Err(PollError::Busy);
-        }
-        if self.recorded.reserve(1).is_err() {
-            return Err(PollError::OutOfMemory);
-        }
-        let status_type = if self.unanswered {
-            GET_LAST_MESSAGE
-        } else {
-            type_of(self.want)
-        };
-        let sent = request_of(self.uid, self.tn, &queued_message(self.target, status_type));
-        self.transaction = Some(Transaction::Poll { tn: self.tn });
-        self.tn = self.tn.wrapping_add(1);
-        self.unanswered = true;
-        Ok(sent)
+        make_room(&mut self.recorded, self.sender.is_open())?;
+        self.sender.poll()
     }
 
     /// Hears bytes, and says what they are taken for. A frame from the target to this collector in the open
@@ -158,20 +84,16 @@ impl Collector {
         ensures heard { result ≡ heard_in self.old bytes.now }
         ensures new { self.new ≡ after_hearing self.old bytes.now }
     {
-        let Ok(frame) = decode_view(bytes) else {
+        let Some(frame) = self.sender.frame_from_target(bytes) else {
             return Heard::Ignored;
         };
-        if frame.src != self.target || frame.dst != self.uid {
-            return Heard::Ignored;
-        }
-        let heard = taken_for(self.transaction, &frame);
+        let heard = taken_for(self.sender.transaction(), &frame);
         match heard {
             Heard::Message => {
                 self.recorded.push_reserved(message_of(&frame));
-                self.unanswered = false;
-                self.transaction = None;
+                self.sender.answered(false);
             }
-            Heard::Reply => self.transaction = None,
+            Heard::Reply => self.sender.over(),
             Heard::Ignored => {}
         }
         heard
@@ -181,14 +103,14 @@ impl Collector {
     pub fn over(&mut self)
         ensures { self.new ≡ without_transaction self.old }
     {
-        self.transaction = None;
+        self.sender.over();
     }
 
     /// Whether a transaction is open: its answer wasn't heard, and it isn't over.
     pub fn is_open(&self) -> bool
         ensures { result ≡ is_some self.now.transaction }
     {
-        self.transaction.is_some()
+        self.sender.is_open()
     }
 
     /// Whether the last poll has no answer, so that the next one asks for the last message again (E1.20 table A-4). Its answer
@@ -196,7 +118,7 @@ impl Collector {
     pub fn is_unanswered(&self) -> bool
         ensures { result ≡ self.now.unanswered }
     {
-        self.unanswered
+        self.sender.is_unanswered()
     }
 
     /// The messages that were recorded and not forgotten, in order.
@@ -210,7 +132,6 @@ impl Collector {
     pub fn forget(&mut self, count: usize)
         ensures { self.new ≡ record self.old { recorded = drop count self.old.recorded } }
     {
-        let count = count.min(self.recorded.len());
-        drop(self.recorded.drain(..count));
+        forget(&mut self.recorded, count);
     }
 }

@@ -10,6 +10,8 @@
 //!
 //! A `DeviceCollector` does the same for any device, also for one that answers polls by NACK, ACK_TIMER or ACK_OVERFLOW:
 //! `specs/AnyDevice/` has its definitions and its laws.
+//!
+//! What both send is what their `Sender` sends: `specs/Sending.antt` says it.
 #![tactic(auto)]
 
 mod any_device;
@@ -18,7 +20,9 @@ mod command;
 mod laws;
 mod message;
 mod port;
+mod record;
 mod reply;
+mod sender;
 mod transaction;
 mod want;
 
@@ -27,7 +31,7 @@ pub use any_device::{
     any_device_law_rules_out, any_device_loses_none, collecteds_are_equal_by_value,
     cut_messages_are_joined, device_heards_are_equal_by_value, first_message, is_sure, join_data,
 };
-pub use collector::{AskError, Collector, PollError};
+pub use collector::Collector;
 pub use command::{Action, Command, is_reserved};
 pub use laws::{
     actions_are_equal_by_value, answers_are_taken, ask_errors_are_equal_by_value,
@@ -39,5 +43,6 @@ pub use port::{Port, PortError};
 pub use rdm_frame::standard::MOST_DATA;
 pub use rdm_frame::{Body, Load, Message, Uid, Wire};
 pub use reply::{Reply, Response, read_reply};
+pub use sender::{AskError, PollError, Sender};
 pub use transaction::Heard;
 pub use want::Want;

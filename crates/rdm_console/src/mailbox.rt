@@ -6,7 +6,7 @@ ghost use Rattle.std.specs.Result.{result_err};
 ghost use Rattle.rdm_frame.specs.FrameText.{frame_text, IsFrame};
 ghost use Rattle.rdm_collector.specs.declared.any_device.collected.Collected.{Collected as Item};
 ghost use Rattle.rdm_collector.specs.Answers.{is_poll};
-ghost use Rattle.rdm_collector.specs.Collecting.{command_request, poll_request, refusal_of};
+ghost use Rattle.rdm_collector.specs.Sending.{command_request, poll_request, refusal_of};
 ghost use Rattle.rdm_collector.specs.AnyDevice.Collecting.{after_ask, after_poll, sender};
 ghost use Rattle.rdm_console.specs.Mailboxes.{IsSorted, Keeps, after_bytes, came_as, collected_of, first_of, heard_as, is_said_by, new_mail, post_in, repeats_last, says_nothing};
 ghost use Rattle.rdm_console.specs.Sorting.{cleared, draft_in, put_before, put_message, said_with};

@@ -1,7 +1,7 @@
 //! What a collector for any device does for C.
 
 ghost use Rattle.std.specs.Prelude.{◌≡◌, ◌≢◌, ◌↔◌, IfSome, IsSome, MatchOption, None, Some, drop, is_some, slice_get};
-ghost use Rattle.rdm_collector.specs.Collecting.{refusal_of, poll_request, command_request};
+ghost use Rattle.rdm_collector.specs.Sending.{refusal_of, poll_request, command_request};
 ghost use Rattle.rdm_collector.specs.AnyDevice.Collecting.{sender, after_ask, after_poll, after_over, after_hearing, heard_in};
 ghost use Rattle.rdm_c.specs.Collecteds.{heard_numbers, Tells};
 ghost use Rattle.rdm_c.specs.Endpoints.{device_collector_of, found};

@@ -3,7 +3,7 @@
 ghost use Rattle.std.specs.Prelude.{◌≡◌, ◌≢◌, ◌↔◌, ◌⊎◌, IfSome, IsSome, MatchOption, None, Some, drop, is_some, slice_get};
 ghost use denote.RawPtr.{Testable};
 ghost use types.Logic.{sem};
-ghost use Rattle.rdm_collector.specs.Collecting.{refusal_of, poll_request, command_request};
+ghost use Rattle.rdm_collector.specs.Sending.{refusal_of, poll_request, command_request};
 ghost use Rattle.rdm_collector.specs.AnyDevice.Collecting.{new_device_collector, sender, after_ask, after_poll, after_over, after_hearing, heard_in};
 ghost use Rattle.rdm_c.specs.Places.{handle_at, nobody};
 ghost use Rattle.rdm_c.specs.Collecteds.{heard_numbers, Tells};

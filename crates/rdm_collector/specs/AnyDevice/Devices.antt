@@ -9,7 +9,7 @@ use Rattle.rdm_collector.specs.declared.command.Command.{Command}
 use Rattle.rdm_collector.specs.declared.reply.Response.{Response}
 use Rattle.rdm_collector.specs.declared.any_device.heard.DeviceHeard.{DeviceHeard}
 use Rattle.rdm_collector.specs.declared.any_device.heard.DeviceHeard.TheVariants.{Message, Part, NotYet}
-use Rattle.rdm_collector.specs.Collecting.{refusal_of, poll_request}
+use Rattle.rdm_collector.specs.Sending.{refusal_of, poll_request}
 use Rattle.rdm_collector.specs.Replies.{response_in}
 use Rattle.rdm_collector.specs.AnyDevice.Answers.{poll_heard}
 use Rattle.rdm_collector.specs.AnyDevice.Collecting.{DeviceState, sender, after_ask, after_poll, after_over, after_hearing}

@@ -1,19 +1,21 @@
 //! The collector for any device.
 
-ghost use Rattle.std.specs.Prelude.{◌≡◌, ◌↔◌, drop, IsSome, IfOk, OnOk, OnErr, IsErrOf};
+ghost use Rattle.std.specs.Prelude.{◌≡◌, ◌↔◌, drop, IsSome, IsTrue, IfOk, OnOk, OnErr, IsErrOf};
 ghost use Rattle.std.specs.Result.{result_err};
 ghost use Rattle.rdm_frame.specs.FrameText.{frame_text, IsFrame};
-ghost use Rattle.rdm_collector.specs.Collecting.{refusal_of, poll_request, command_request};
-ghost use Rattle.rdm_collector.specs.AnyDevice.Collecting.{new_device_collector, sender, after_ask, after_poll, after_over, heard_in, after_hearing};
+ghost use Rattle.rdm_collector.specs.Sending.{refusal_of, poll_request, command_request};
+ghost use Rattle.rdm_collector.specs.Answers.{is_poll};
+ghost use Rattle.rdm_collector.specs.AnyDevice.Answers.{poll_heard};
+ghost use Rattle.rdm_collector.specs.AnyDevice.Collecting.{new_device_collector, sender, after_ask, after_poll, after_over, heard_in, collected, after_answer, after_hearing};
 
 use crate::any_device::collected::{Collected, record_of};
 use crate::any_device::heard::{DeviceHeard, Taken, poll_heard, taken_for};
-use crate::collector::{AskError, PollError};
-use crate::command::{Command, class_of, is_reserved, queued_message, request_of};
-use crate::transaction::Transaction;
-use crate::want::{Want, type_of};
-use rdm_frame::standard::{GET_LAST_MESSAGE, MOST_DATA};
-use rdm_frame::{Uid, Wire, decode_view};
+use crate::command::Command;
+use crate::record::{forget, make_room};
+use crate::reply::Response;
+use crate::sender::{AskError, PollError, Sender};
+use crate::want::Want;
+use rdm_frame::{FrameView, Uid, Wire};
 use std::alloc::Global;
 use std::marker::Model;
 
@@ -26,13 +28,8 @@ use std::marker::Model;
 /// request, modulo 256.
 #[derive(Debug, Drop)]
 pub struct DeviceCollector {
-    uid: Uid,
-    target: Uid,
-    want: Want,
-    tn: u8,
-    transaction: Option<Transaction>,
+    sender: Sender,
     again: bool,
-    unanswered: bool,
     lost: bool,
     recorded: Vec<Collected>,
 }
@@ -40,24 +37,14 @@ pub struct DeviceCollector {
 impl Model for DeviceCollector {
     ghost use Rattle.std.specs.Prelude.{◌<◌, IsTrue, vec_len, vec_capacity};
     ghost use Rattle.rdm_collector.specs.Answers.{is_poll};
-    ghost use Rattle.rdm_collector.specs.AnyDevice.Collecting.{DeviceState};
+    ghost use Rattle.rdm_collector.specs.AnyDevice.Collecting.{DeviceState, collector_with};
 
     ghost Value = { DeviceState };
 
-    ghost view = { λ c. record {
-      uid = c.uid;
-      target = c.target;
-      want = c.want;
-      tn = c.tn;
-      transaction = c.transaction;
-      again = c.again;
-      unanswered = c.unanswered;
-      lost = c.lost;
-      recorded = c.recorded.items;
-    } };
+    ghost view = { λ c. collector_with c.sender c.again c.lost c.recorded.items };
 
     // While a poll is open there is room for its answer.
-    ghost invariant = { λ c. IsTrue (is_poll c.transaction) → vec_len c.recorded < vec_capacity c.recorded };
+    ghost invariant = { λ c. IsTrue (is_poll c.sender.transaction) → vec_len c.recorded < vec_capacity c.recorded };
 }
 
 impl DeviceCollector {
@@ -66,13 +53,8 @@ impl DeviceCollector {
         ensures { result ≡ new_device_collector uid target want }
     {
         DeviceCollector {
-            uid,
-            target,
-            want,
-            tn: 0,
-            transaction: None,
+            sender: Sender::new(uid, target, want),
             again: false,
-            unanswered: false,
             lost: false,
             recorded: Vec::new(alloc),
         }
@@ -89,24 +71,7 @@ impl DeviceCollector {
         ensures new { OnOk result (self.new ≡ after_ask self.old command.now) }
         ensures err { OnErr result (self.new ≡ self.old) }
     {
-        if is_reserved(command.pid) {
-            return Err(AskError::Reserved);
-        }
-        if self.transaction.is_some() {
-            return Err(AskError::Busy);
-        }
-        if command.load.as_slice().len() > MOST_DATA {
-            return Err(AskError::TooLong);
-        }
-        let sent = request_of(self.uid, self.tn, command);
-        self.transaction = Some(Transaction::Command {
-            tn: self.tn,
-            class: class_of(command.action),
-            sub: command.sub,
-            pid: command.pid,
-        });
-        self.tn = self.tn.wrapping_add(1);
-        Ok(sent)
+        self.sender.ask(command)
     }
 
     /// Sends a poll: gives the bytes of a request for the target's next message, and opens its transaction. If the
@@ -121,24 +86,10 @@ impl DeviceCollector {
         ensures busy { IsErrOf result PollError.Busy ↔ IsSome self.old.transaction }
         ensures err { OnErr result (self.new ≡ self.old) }
     {
-        if self.transaction.is_some() {
-            return Err(PollError::Busy);
-        }
-        if self.recorded.reserve(1).is_err() {
-            return Err(PollError::OutOfMemory);
-        }
-        let status_type = if self.unanswered {
-            GET_LAST_MESSAGE
-        } else {
-            type_of(self.want)
-        };
-        let sent = request_of(self.uid, self.tn, &queued_message(self.target, status_type));
-        self.transaction = Some(Transaction::Poll { tn: self.tn });
-        self.tn = self.tn.wrapping_add(1);
-        self.again = self.unanswered;
-        self.lost = self.lost || self.unanswered;
-        self.unanswered = true;
-        Ok(sent)
+        make_room(&mut self.recorded, self.sender.is_open())?;
+        self.again = self.sender.is_unanswered();
+        self.lost = self.lost || self.again;
+        self.sender.poll()
     }
 
     /// Hears bytes, and says what they are taken for. A frame from the target to this collector in the open
@@ -148,32 +99,39 @@ impl DeviceCollector {
         ensures heard { result ≡ heard_in self.old bytes.now }
         ensures new { self.new ≡ after_hearing self.old bytes.now }
     {
-        let Ok(frame) = decode_view(bytes) else {
+        let Some(frame) = self.sender.frame_from_target(bytes) else {
             return DeviceHeard::Ignored;
         };
-        if frame.src != self.target || frame.dst != self.uid {
-            return DeviceHeard::Ignored;
-        }
-        let response = match taken_for(self.transaction, &frame) {
-            Taken::Answer(response) => response,
+        match taken_for(self.sender.transaction(), &frame) {
+            Taken::Answer(response) => self.take_answer(&frame, response),
             Taken::Reply => {
-                self.transaction = None;
-                return DeviceHeard::Reply;
+                self.sender.over();
+                DeviceHeard::Reply
             }
-            Taken::Nothing => return DeviceHeard::Ignored,
-        };
+            Taken::Nothing => DeviceHeard::Ignored,
+        }
+    }
+
+    /// Ends the open poll by its answer, of this response type. A message and a part of one are recorded.
+    fn take_answer(&mut self, frame: &FrameView<'_>, response: Response) -> DeviceHeard
+        requires poll { IsTrue (is_poll self.old.transaction) }
+        ensures heard { result ≡ poll_heard frame.now.pid response }
+        ensures new { self.new ≡ after_answer self.old (collected self.old.again self.old.lost frame.now response) result }
+    {
         let heard = poll_heard(frame.pid, response);
         match heard {
             DeviceHeard::Message | DeviceHeard::Part => {
-                let collected = record_of(self.again, self.lost, &frame, response);
+                let collected = record_of(self.again, self.lost, frame, response);
                 self.recorded.push_reserved(collected);
-                self.unanswered = false;
+                self.sender.answered(false);
                 self.lost = false;
             }
-            DeviceHeard::NotYet { .. } => self.unanswered = self.again,
-            _ => self.unanswered = false,
+            DeviceHeard::NotYet { .. } => self.sender.answered(self.again),
+            DeviceHeard::Unsupported
+            | DeviceHeard::Refused { .. }
+            | DeviceHeard::Reply
+            | DeviceHeard::Ignored => self.sender.answered(false),
         }
-        self.transaction = None;
         heard
     }
 
@@ -181,7 +139,7 @@ impl DeviceCollector {
     pub fn over(&mut self)
         ensures { self.new ≡ after_over self.old }
     {
-        self.transaction = None;
+        self.sender.over();
     }
 
     /// What was recorded and not forgotten, in order.
@@ -195,7 +153,6 @@ impl DeviceCollector {
     pub fn forget(&mut self, count: usize)
         ensures { self.new ≡ record self.old { recorded = drop count self.old.recorded } }
     {
-        let count = count.min(self.recorded.len());
-        drop(self.recorded.drain(..count));
+        forget(&mut self.recorded, count);
     }
 }
