@@ -3,6 +3,7 @@
 #![tactic(auto)]
 
 pub mod fault;
+mod fault_text;
 pub mod fixture;
 pub mod host;
 pub mod line_fault;

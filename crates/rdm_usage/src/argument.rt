@@ -1,7 +1,7 @@
 //! The arguments of a command line, as a table has them.
 
-use clap::{Arg, ArgAction, Command, Error, value_parser};
-use std::alloc::Global;
+use clap::{Arg, ArgAction, Command, value_parser};
+use std::alloc::{AllocError, Global};
 
 /// An argument: the name by which the program asks for it, how it is given, what its value is called in the help, and its help.
 #[derive(Clone, Copy)]
@@ -39,81 +39,96 @@ pub(crate) enum Form {
     OneOf(&'static [&'static str]),
 }
 
-/// A command with these subcommands: the name of each, what it does, and what it takes.
-pub(crate) fn with_subcommands<'a>(
+/// Puts these subcommands at the end of a list: the name of each, what it does, and what it takes.
+pub(crate) fn push_subcommands<'a>(
     alloc: Global,
-    command: Command<'a>,
     subcommands: &[(&'static str, &'static str, &'static [Argument])],
-) -> Result<Command<'a>, Error> {
-    let mut command = command;
+    list: &mut Vec<Command<'a>>,
+) -> Result<(), AllocError> {
     for &(name, about, takes) in subcommands {
-        let subcommand = with_arguments(alloc, Command::new(alloc, name).about(about), takes)?;
-        command = command.subcommand(subcommand)?;
+        list.push(subcommand(alloc, name, about, takes)?)?;
     }
-    Ok(command)
+    Ok(())
 }
 
-/// A command that takes these arguments, in the order of its help.
-pub(crate) fn with_arguments<'a>(
+/// A subcommand of this name.
+fn subcommand<'a>(
     alloc: Global,
-    command: Command<'a>,
+    name: &'static str,
+    about: &'static str,
+    takes: &[Argument],
+) -> Result<Command<'a>, AllocError> {
+    let arguments = arguments(alloc, takes)?;
+    Command::new(alloc, name).about(about).args(arguments)
+}
+
+/// These arguments, in the order of the help.
+pub(crate) fn arguments<'a>(
+    alloc: Global,
     arguments: &[Argument],
-) -> Result<Command<'a>, Error> {
-    let mut command = command;
+) -> Result<Vec<Arg<'a>>, AllocError> {
+    let mut list = Vec::with_capacity(alloc, arguments.len())?;
+    push_arguments(alloc, arguments, &mut list)?;
+    Ok(list)
+}
+
+/// Puts these arguments at the end of a list.
+fn push_arguments<'a>(
+    alloc: Global,
+    arguments: &[Argument],
+    list: &mut Vec<Arg<'a>>,
+) -> Result<(), AllocError> {
     for argument in arguments {
-        command = command.arg(made(alloc, argument))?;
+        list.push(made(alloc, argument))?;
     }
-    Ok(command)
+    Ok(())
 }
 
 /// An argument for the parser.
 fn made<'a>(alloc: Global, argument: &Argument) -> Arg<'a> {
-    let arg = Arg::new(alloc, argument.id).help(argument.help);
-    let id = argument.id;
     match argument.form {
-        Form::Flag => arg.long(id).action(ArgAction::SetTrue),
-        Form::Place | Form::RequiredPlace | Form::Words => placed(
-            arg.value_name(argument.value),
-            argument.form,
-        ),
-        Form::Number16(..) | Form::Number32(..) | Form::OneOf(_) => limited(
-            arg.long(id).value_name(argument.value),
-            argument.form,
-        ),
-        _ => named(arg.long(id).value_name(argument.value), argument.form),
+        Form::Place => place(alloc, argument),
+        Form::RequiredPlace => place(alloc, argument).required(true),
+        Form::Words => place(alloc, argument)
+            .num_args(0..)
+            .allow_negative_numbers(true),
+        Form::Flag => described(alloc, argument)
+            .long(argument.id)
+            .action(ArgAction::SetTrue),
+        _ => named(alloc, argument),
     }
 }
 
-/// An argument by its place.
-fn placed(arg: Arg<'_>, form: Form) -> Arg<'_> {
-    let arg = arg.action(ArgAction::Set);
-    match form {
-        Form::RequiredPlace => arg.required(true),
-        Form::Words => arg.num_args(0..).allow_negative_numbers(true),
-        _ => arg,
+/// An option that has a value.
+fn named<'a>(alloc: Global, argument: &Argument) -> Arg<'a> {
+    match argument.form {
+        Form::RequiredOption => option(alloc, argument).required(true),
+        Form::Letter(letter) => option(alloc, argument).short(letter),
+        Form::Each => option(alloc, argument).action(ArgAction::Append),
+        Form::Number16(least, greatest) => option(alloc, argument).value_parser(value_parser!(
+            u16
+        ).range(i64::from(least)..=i64::from(greatest))),
+        Form::Number32(least, greatest) => option(alloc, argument).value_parser(value_parser!(
+            u32
+        ).range(i64::from(least)..=i64::from(greatest))),
+        Form::OneOf(words) => option(alloc, argument).value_parser(words),
+        _ => option(alloc, argument),
     }
+}
+
+/// An argument with its help.
+fn described<'a>(alloc: Global, argument: &Argument) -> Arg<'a> {
+    Arg::new(alloc, argument.id).help(argument.help)
+}
+
+/// A text at its place.
+fn place<'a>(alloc: Global, argument: &Argument) -> Arg<'a> {
+    described(alloc, argument)
+        .value_name(argument.value)
+        .action(ArgAction::Set)
 }
 
 /// An option whose value is a text.
-fn named(arg: Arg<'_>, form: Form) -> Arg<'_> {
-    match form {
-        Form::RequiredOption => arg.action(ArgAction::Set).required(true),
-        Form::Letter(letter) => arg.action(ArgAction::Set).short(letter),
-        Form::Each => arg.action(ArgAction::Append),
-        _ => arg.action(ArgAction::Set),
-    }
-}
-
-/// An option whose value is a number within limits, or one of some words.
-fn limited(arg: Arg<'_>, form: Form) -> Arg<'_> {
-    match form {
-        Form::Number16(least, greatest) => arg.value_parser(value_parser!(u16).range(
-            i64::from(least)..=i64::from(greatest),
-        )),
-        Form::Number32(least, greatest) => arg.value_parser(value_parser!(u32).range(
-            i64::from(least)..=i64::from(greatest),
-        )),
-        Form::OneOf(words) => arg.value_parser(words),
-        _ => arg,
-    }
+fn option<'a>(alloc: Global, argument: &Argument) -> Arg<'a> {
+    place(alloc, argument).long(argument.id)
 }

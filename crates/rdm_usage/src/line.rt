@@ -1,9 +1,9 @@
 //! The command line of `felosumay line`.
 
-use crate::argument::{Argument, Form, with_arguments, with_subcommands};
+use crate::argument::{Argument, Form, arguments, push_subcommands};
 use crate::usage::{DATA, FIXTURE, IN_WORDS, LIMIT, PARAMETER, PORT, SCRIPT, SUB, TRACE, UID};
-use clap::{Command, Error};
-use std::alloc::Global;
+use clap::Command;
+use std::alloc::{AllocError, Global};
 
 /// What each errand takes.
 const OF_LINE: &[Argument] = &[
@@ -119,10 +119,18 @@ const ERRANDS: &[(&str, &str, &[Argument])] = &[
 ];
 
 /// `felosumay line`.
-pub(crate) fn command<'a>(alloc: Global) -> Result<Command<'a>, Error> {
-    let line = Command::new(alloc, "line")
+pub(crate) fn command<'a>(alloc: Global) -> Result<Command<'a>, AllocError> {
+    let mut errands = Vec::new(alloc);
+    push_subcommands(alloc, ERRANDS, &mut errands)?;
+    with_arguments(alloc)?.subcommands(errands)
+}
+
+/// The same, without its errands.
+fn with_arguments<'a>(alloc: Global) -> Result<Command<'a>, AllocError> {
+    let arguments = arguments(alloc, OF_LINE)?;
+    Command::new(alloc, "line")
         .about("Be a console on a real line, through an ENTTEC DMX USB Pro")
         .subcommand_required(true)
-        .arg_required_else_help(true);
-    with_subcommands(alloc, with_arguments(alloc, line, OF_LINE)?, ERRANDS)
+        .arg_required_else_help(true)
+        .args(arguments)
 }

@@ -1,9 +1,9 @@
 //! The command line: its subcommands and what each takes.
 
-use crate::argument::{Argument, Form, with_subcommands};
+use crate::argument::{Argument, Form, push_subcommands};
 use clap::{ArgMatches, Command, Error};
 use rdm_frame::standard::MOST_SUB_DEVICES;
-use std::alloc::Global;
+use std::alloc::{AllocError, Global};
 
 /// The option that names a fixture file.
 pub const FIXTURE: &str = "fixture";
@@ -209,21 +209,39 @@ const SUBCOMMANDS: &[(&str, &str, &[Argument])] = &[
 
 /// What the arguments ask for, the program's name first.
 pub fn matches<'a>(alloc: Global, words: &'a [String]) -> Result<ArgMatches<'a>, Error> {
-    let command = with_subcommands(alloc, program(alloc)?, SUBCOMMANDS)?;
-    let line = crate::line::command(alloc)?;
-    command.subcommand(line)?.try_get_matches_from(words)
+    command(alloc)?.try_get_matches_from(words)
+}
+
+/// The program, with its subcommands.
+fn command<'a>(alloc: Global) -> Result<Command<'a>, AllocError> {
+    let mut subcommands = Vec::new(alloc);
+    push_all(alloc, &mut subcommands)?;
+    program(alloc)
+        .subcommands(subcommands)?
+        .bin_name("felosumay")
+}
+
+/// Puts all subcommands at the end of a list.
+fn push_all<'a>(alloc: Global, list: &mut Vec<Command<'a>>) -> Result<(), AllocError> {
+    push_subcommands(alloc, SUBCOMMANDS, list)?;
+    list.push(crate::line::command(alloc)?)?;
+    Ok(())
 }
 
 /// The program, without its subcommands.
-fn program<'a>(alloc: Global) -> Result<Command<'a>, Error> {
-    let command = Command::new(alloc, "felosumay")
-        .about("RDM (ANSI E1.20-2010) tools for makers of consoles and fixtures")
-        .version("0.1.0")
+fn program<'a>(alloc: Global) -> Command<'a> {
+    described(alloc)
         .subcommand_required(true)
         .arg_required_else_help(true)
         .propagate_version(true)
+}
+
+/// The program, with what its help says of it.
+fn described<'a>(alloc: Global) -> Command<'a> {
+    Command::new(alloc, "felosumay")
+        .about("RDM (ANSI E1.20-2010) tools for makers of consoles and fixtures")
+        .version("0.1.0")
         .after_help(
             "Exit status: 0 on success, 1 for invalid input, 2 if out of memory,\n3 if a run stops early, 4 if reading or writing fails, 64 for a usage error.",
-        );
-    Ok(command.bin_name("felosumay")?)
+        )
 }
