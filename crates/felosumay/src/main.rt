@@ -4,30 +4,17 @@
 //! What it prints, unless something else is asked for, is exactly what rdm_play prints.
 #![tactic(auto)]
 
-mod chart;
-mod fault;
-mod fixture;
-mod host;
-mod line;
-mod name;
-mod parameters;
-mod play;
-mod rig;
-mod saved;
-mod source;
 mod streams;
-mod usage;
-mod watched;
-mod widget;
-mod words;
 
 use clap::ArgMatches;
 use clap::error::ErrorKind;
-use fault::Fault;
-use host::Host;
-use line::telling::Terminals;
-use name::Lines;
-use source::OUTPUT;
+use rdm_host::fault;
+use rdm_host::fault::Fault;
+use rdm_host::host::Host;
+use rdm_host::name::Lines;
+use rdm_host::source::OUTPUT;
+use rdm_line_console::Terminals;
+use rdm_subcommands::{chart, fixture, parameters, play, widget, words};
 use std::env;
 use std::io::IsTerminal;
 use std::process::ExitCode;
@@ -43,7 +30,7 @@ fn main(rt: HostRuntime) -> ExitCode {
         Ok(words) => words,
         Err(fault) => return end(rt, &fault),
     };
-    let matches = match usage::matches(rt.alloc(), words.as_slice()) {
+    let matches = match rdm_usage::matches(rt.alloc(), words.as_slice()) {
         Ok(matches) => matches,
         Err(error) => return end_of_usage(rt, &error),
     };
@@ -79,7 +66,7 @@ fn run<'a, H: Host>(
         Some(("fixture", asked)) => fixture::run(rt, asked),
         Some(("parameters", asked)) => parameters::run(rt, asked),
         Some(("widget", asked)) => widget::run(rt, asked),
-        Some(("line", asked)) => line::run(rt, terminals, asked),
+        Some(("line", asked)) => rdm_line_console::run(rt, terminals, asked),
         _ => Ok(()),
     }
 }

@@ -1,6 +1,6 @@
 //! The standard streams of the process, which no file takes the place of.
 
-use crate::fault::Fault;
+use rdm_host::fault::Fault;
 use std::fs::{File, OpenOptions};
 use std::io;
 use std::os::fd::AsRawFd;

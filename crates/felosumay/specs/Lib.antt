@@ -1,3 +1,0 @@
-pub mod Recorders
-pub mod Scenes
-pub mod Sources

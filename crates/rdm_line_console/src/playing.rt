@@ -1,0 +1,221 @@
+//! A script is played on a real device.
+
+use super::console::Console;
+use super::errand::device_in;
+use super::log::Printed;
+use super::telling::CONSOLE;
+use clap::ArgMatches;
+use rdm_bus::Fault as BusFault;
+use rdm_collector::{
+    Action, Command, DeviceCollector, DeviceHeard, Heard, MOST_DATA, Port, Response, Uid, Wire,
+    is_reserved, read_reply,
+};
+use rdm_crew::{CrewStep, RunError};
+use rdm_frame::standard::DISC_MUTE;
+use rdm_host::fault::Fault;
+use rdm_host::host::Host;
+use rdm_host::source::{Source, without_mark};
+use rdm_script::{Dialect, MOST_BYTES, Script, Spelling, parse_as};
+use rdm_trace::Line;
+use std::io::Write;
+
+/// A script for a device.
+#[derive(Drop)]
+pub struct Play {
+    uid: Uid,
+    script: Script,
+    /// As what its trace is printed.
+    printed: Printed,
+}
+
+impl Play {
+    /// The one that the words of the command line ask for. A script is refused that isn't valid, or says what can't be sent.
+    pub(crate) fn asked_for<'a, H: Host>(rt: H, asked: &ArgMatches<'a>) -> Result<Play, Fault<'a>> {
+        let uid = device_in(asked)?;
+        let source = Source::named(asked.get_str(rdm_usage::INPUT));
+        let bytes = source.read(rt, MOST_BYTES as u64)?;
+        let text = without_mark(bytes.as_slice());
+        let dialect = Dialect::of(uid, Spelling::Friendly);
+        let script = match parse_as(rt.alloc(), &dialect, text) {
+            Ok(script) => script,
+            Err(error) => return Err(Fault::script(source.name(), &dialect, text, error)),
+        };
+        match stop_of(&script) {
+            Some((line, error)) => Err(Fault::Stopped(source.name(), line, error)),
+            None => Ok(Play {
+                uid,
+                script,
+                printed: printed(asked, uid),
+            }),
+        }
+    }
+}
+
+/// As what the trace of a script for this device is to be printed.
+fn printed(asked: &ArgMatches<'_>, uid: Uid) -> Printed {
+    if asked.get_flag(rdm_usage::WORDS) {
+        Printed::Words(uid)
+    } else {
+        Printed::Trace
+    }
+}
+
+/// The first step that can't be sent: its line, and why not.
+fn stop_of(script: &Script) -> Option<(Option<usize>, RunError)> {
+    for (index, step) in script.steps.iter().enumerate() {
+        if let CrewStep::Ask(command, _fault) = step {
+            let line = script.lines.get(index).copied();
+            if is_reserved(command.pid) {
+                return Some((line, RunError::Reserved));
+            }
+            if command.load.as_slice().len() > MOST_DATA {
+                return Some((line, RunError::TooLong));
+            }
+        }
+    }
+    None
+}
+
+/// Whether a script says a search, whose steps are on one line.
+fn has_search(script: &Script) -> bool {
+    let mut before = 0;
+    for line in &script.lines {
+        if *line == before {
+            return true;
+        }
+        before = *line;
+    }
+    false
+}
+
+/// A script that is being played.
+#[derive(Drop)]
+struct Playing {
+    uid: Uid,
+    collector: DeviceCollector,
+    /// Whether it is told who is found.
+    tells_finds: bool,
+    /// The times that the device has estimated since the last settle, one behind the other, in tenths of a second.
+    tenths: u16,
+}
+
+impl<'a, H: Host, P: Port, F: Write> Console<'a, H, P, F> {
+    /// Plays a script, and prints its trace, or its words. Its commands and polls are sent, once each, and what goes wrong with them
+    /// does. A settle waits for as long as the device has estimated for all commands since the last one. What else happens in a
+    /// script, happens in the device by itself.
+    pub(crate) fn play(&mut self, play: &Play) -> Result<(), Fault<'a>> {
+        let Play {
+            uid,
+            script,
+            printed,
+        } = play;
+        self.port.log().print_as(*printed);
+        let alloc = self.teller.rt().alloc();
+        let mut playing = Playing {
+            uid: *uid,
+            collector: DeviceCollector::new(alloc, CONSOLE, *uid, script.setup.want),
+            tells_finds: has_search(script),
+            tenths: 0,
+        };
+        self.play_all(&mut playing, script)
+    }
+
+    /// Plays all steps of a script, and tells what was collected.
+    fn play_all(&mut self, playing: &mut Playing, script: &Script) -> Result<(), Fault<'a>> {
+        for step in &script.steps {
+            self.play_step(playing, step)?;
+        }
+        for item in playing.collector.recorded() {
+            self.port.keep(Line::Message(item.message.copy()))?;
+        }
+        Ok(self.port.keep(Line::End)?)
+    }
+
+    /// Plays a step.
+    fn play_step(&mut self, playing: &mut Playing, step: &CrewStep) -> Result<(), Fault<'a>> {
+        match step {
+            CrewStep::Ask(command, fault) => self.play_command(playing, command, *fault),
+            CrewStep::Collect(fault) => {
+                let request = playing.collector.poll()?;
+                self.carry(playing, &request, *fault)?;
+                Ok(())
+            }
+            CrewStep::Settle(_empties) => {
+                self.teller.wait(playing.uid, playing.tenths);
+                playing.tenths = 0;
+                Ok(())
+            }
+            CrewStep::Draw | CrewStep::Panel(_) => Ok(()),
+        }
+    }
+
+    /// Sends a command, of which this goes wrong.
+    fn play_command(
+        &mut self,
+        playing: &mut Playing,
+        command: &Command,
+        fault: BusFault,
+    ) -> Result<(), Fault<'a>> {
+        let request = playing.collector.ask(command)?;
+        match self.carry(playing, &request, fault)? {
+            Some(Response::AckTimer { tenths }) => {
+                playing.tenths = playing.tenths.saturating_add(tenths);
+                Ok(())
+            }
+            Some(Response::Ack) if playing.tells_finds && is_mute(command) => {
+                Ok(self.port.keep(Line::Found(command.dst))?)
+            }
+            _ => Ok(()),
+        }
+    }
+
+    /// Sends a request, of which this goes wrong, keeps what it is taken for, and gives the response, if it is heard as one.
+    fn carry(
+        &mut self,
+        playing: &mut Playing,
+        request: &Wire,
+        fault: BusFault,
+    ) -> Result<Option<Response>, Fault<'a>> {
+        let heard = self.port.carry(request, fault)?;
+        let taken = taken_for(&mut playing.collector, &heard);
+        let Some(bytes) = heard else {
+            self.port.keep(Line::Heard(None))?;
+            return Ok(None);
+        };
+        self.port.keep(Line::Heard(Some(told_as(taken))))?;
+        if taken != DeviceHeard::Reply {
+            return Ok(None);
+        }
+        match read_reply(bytes.as_slice()) {
+            Some(reply) => Ok(Some(reply.response)),
+            None => Ok(None),
+        }
+    }
+}
+
+/// What a collector takes what came for. Its transaction is over then.
+fn taken_for(collector: &mut DeviceCollector, heard: &Option<Wire>) -> DeviceHeard {
+    let taken = match heard {
+        Some(bytes) => collector.hear(bytes.as_slice()),
+        None => DeviceHeard::Ignored,
+    };
+    collector.over();
+    taken
+}
+
+/// As what the trace tells that a reply was heard. What answers a poll and is no message is a reply.
+fn told_as(taken: DeviceHeard) -> Heard {
+    match taken {
+        DeviceHeard::Message | DeviceHeard::Part => Heard::Message,
+        DeviceHeard::Reply
+        | DeviceHeard::Unsupported
+        | DeviceHeard::Refused { .. }
+        | DeviceHeard::NotYet { .. } => Heard::Reply,
+        DeviceHeard::Ignored => Heard::Ignored,
+    }
+}
+
+/// Whether a command is DISC_MUTE.
+fn is_mute(command: &Command) -> bool {
+    command.action == Action::Disc && command.pid == DISC_MUTE
+}

@@ -1,0 +1,56 @@
+//! `felosumay chart`: a trace as a picture.
+
+use crate::words::MOST_BYTES;
+use clap::ArgMatches;
+use rdm_chart::{ChartError, MOST_TRANSACTIONS, chart, chart_of};
+use rdm_fixture::Fixture;
+use rdm_host::fault::Fault;
+use rdm_host::fixture::FixtureFile;
+use rdm_host::host::Host;
+use rdm_host::source::{Source, refuse_clashes, save, without_mark};
+use rdm_trace::Line;
+use rdm_words::Known;
+use std::alloc::AllocError;
+
+/// Reads the trace that is named, and writes its chart. Without a fixture's file, nothing is known of any fixture.
+pub fn run<'a, H: Host>(rt: H, asked: &ArgMatches<'a>) -> Result<(), Fault<'a>> {
+    refuse_clashes(asked)?;
+    let source = Source::named(asked.get_str(rdm_usage::INPUT));
+    let picture = match FixtureFile::asked_for(rt, asked)? {
+        Some(file) => {
+            let fixture = file.fixture(rt)?;
+            picture(rt, source, &Known::of(fixture.uid, &fixture.profile))?
+        }
+        None => picture(rt, source, &Known::nothing())?,
+    };
+    let path = asked.get_str(rdm_usage::OUTPUT).unwrap_or("-");
+    save(rt, path, picture.as_slice())
+}
+
+/// The chart of a trace that is read.
+fn picture<'a, H: Host>(
+    rt: H,
+    source: Source<'a>,
+    known: &Known<'_>,
+) -> Result<Vec<u8>, Fault<'a>> {
+    let trace = source.read(rt, MOST_BYTES)?;
+    match chart(rt.alloc(), without_mark(trace.as_slice()), known) {
+        Ok(picture) => Ok(picture),
+        Err(ChartError::OutOfMemory) => Err(Fault::Memory),
+        Err(ChartError::Line(line)) => Err(Fault::NoTrace(source.name(), line)),
+        Err(ChartError::TooMany) => Err(Fault::TooManyTransactions(
+            source.name(),
+            MOST_TRANSACTIONS,
+        )),
+    }
+}
+
+/// The chart of the lines of a trace.
+pub(crate) fn draw<H: Host>(
+    rt: H,
+    lines: &[Line],
+    fixture: &Fixture,
+) -> Result<Vec<u8>, AllocError> {
+    let known = Known::of(fixture.uid, &fixture.profile);
+    chart_of(rt.alloc(), lines, &known)
+}

@@ -1,0 +1,12 @@
+//! The subcommands of felosumay, but its console on a line: it plays a script, says what frames say, draws them, checks a fixture's file,
+//! lists parameters, and is a virtual fixture on a line, or a rig of them.
+#![tactic(auto)]
+
+pub mod chart;
+pub mod fixture;
+pub mod parameters;
+pub mod play;
+mod rig;
+mod saved;
+pub mod widget;
+pub mod words;

@@ -1,0 +1,187 @@
+//! The rig of `felosumay widget`: the fixtures that are asked for, on one line.
+
+use clap::ArgMatches;
+use rdm_device::Profile;
+use rdm_fixture::{Fixture, Starting, shown_at_start};
+use rdm_frame::Uid;
+use rdm_frame::standard::ROOT_DEVICE;
+use rdm_host::fault::Fault;
+use rdm_host::fixture::{DEMONSTRATION, FixtureFile, demonstration};
+use rdm_host::host::Host;
+use rdm_host::source::Source;
+use rdm_line::{Collision, JoinError, Line};
+use rdm_params::Kind;
+use rdm_widget::LiveFixture;
+
+/// How many results of slow commands there is room for in a fixture.
+const QUEUE_SIZE: u16 = 8;
+
+/// From where on bytes of a collision are made up: the same at each run.
+const SEED: u64 = 1;
+
+/// How many fixtures are asked for. More than there may be on a line are refused.
+pub(crate) fn fixture_count<'a>(asked: &ArgMatches<'a>) -> Result<usize, Fault<'a>> {
+    let kinds = match asked.get_strs(rdm_usage::FIXTURE) {
+        Some(names) => names.len(),
+        None => 1,
+    };
+    let each = count_of_each(asked);
+    let count = kinds.saturating_mul(usize::from(each));
+    if count > usize::from(rdm_usage::MOST_FIXTURES) {
+        return Err(Fault::TooManyFixtures(kinds, each));
+    }
+    Ok(count)
+}
+
+/// All fixtures that are asked for, on one line: so many of each file, or of the demonstration.
+pub(crate) fn asked_for<'a, H: Host>(
+    rt: H,
+    asked: &ArgMatches<'a>,
+) -> Result<Line<LiveFixture>, Fault<'a>> {
+    let mut line = Line::new(rt.alloc(), collision(asked));
+    join_all(rt, asked, &mut line)?;
+    Ok(line)
+}
+
+/// All fixtures that are asked for join a line.
+fn join_all<'a, H: Host>(
+    rt: H,
+    asked: &ArgMatches<'a>,
+    line: &mut Line<LiveFixture>,
+) -> Result<(), Fault<'a>> {
+    let Some(names) = asked.get_strs(rdm_usage::FIXTURE) else {
+        return join_each(rt, asked, None, line);
+    };
+    for name in names {
+        let file = FixtureFile::read(rt, Source::named(Some(*name)))?;
+        join_each(rt, asked, Some(&file), line)?;
+    }
+    Ok(())
+}
+
+/// So many fixtures of this file, or of the demonstration, join a line. Their device IDs are counted up.
+fn join_each<'a, H: Host>(
+    rt: H,
+    asked: &ArgMatches<'a>,
+    file: Option<&FixtureFile<'a>>,
+    line: &mut Line<LiveFixture>,
+) -> Result<(), Fault<'a>> {
+    let count = count_of_each(asked);
+    let name = name_of(file);
+    for number in 0..count {
+        let mut fixture = match file {
+            Some(file) => file.fixture(rt)?,
+            None => demonstration(),
+        };
+        fixture.uid = match counted_up(fixture.uid, number) {
+            Some(uid) => uid,
+            None => return Err(Fault::TooFewDeviceIds(name, fixture.uid, count)),
+        };
+        let uid = fixture.uid;
+        if let Err(refused) = line.join(live(rt, asked, name, fixture)?) {
+            return Err(no_rig(refused.error, name, uid));
+        }
+    }
+    Ok(())
+}
+
+/// By what name messages tell of a file's fixture, or of the demonstration.
+fn name_of<'a>(file: Option<&FixtureFile<'a>>) -> &'a str {
+    match file {
+        Some(file) => file.name(),
+        None => DEMONSTRATION,
+    }
+}
+
+/// Why the fixture of this name and with this UID can't join the line.
+fn no_rig<'a>(error: JoinError, name: &'a str, uid: Uid) -> Fault<'a> {
+    match error {
+        JoinError::OutOfMemory => Fault::Memory,
+        JoinError::Taken => Fault::TwoOfOneUid(name, uid),
+        JoinError::BadUid => Fault::NoDevice,
+    }
+}
+
+/// The UID whose device ID is this much greater. There is none if no device can have it (E1.20 section 6.2.4).
+fn counted_up(uid: Uid, number: u16) -> Option<Uid> {
+    let device = uid.device.checked_add(u32::from(number))?;
+    if device == Uid::EVERY_DEVICE {
+        return None;
+    }
+    Some(Uid { device, ..uid })
+}
+
+/// A fixture that was switched on, with as many sub-devices as are asked for, and shows what its file says that it starts with.
+pub(crate) fn live<'a, H: Host>(
+    rt: H,
+    asked: &ArgMatches<'a>,
+    name: &'a str,
+    fixture: Fixture,
+) -> Result<LiveFixture, Fault<'a>> {
+    let Fixture {
+        uid,
+        mut profile,
+        outcomes,
+        start,
+    } = fixture;
+    if let Some(subs) = asked.get_one::<u16>(rdm_usage::SUBS) {
+        if asked.contains_id(rdm_usage::FIXTURE) && subs > profile.subs {
+            return Err(Fault::TooManySubs(name, profile.subs));
+        }
+        profile.subs = subs;
+    }
+    let shown = shown_by(&profile, &start);
+    let mut live = LiveFixture::new(rt.alloc(), uid, profile, QUEUE_SIZE, &outcomes)?;
+    place_counters(&mut live, &start);
+    for sensor in shown.iter().flatten() {
+        place(&mut live, Kind::SensorValue, sensor);
+    }
+    Ok(live)
+}
+
+/// What the sensors show of which something is said.
+fn shown_by(profile: &Profile, start: &Starting) -> [Option<[u8; 9]>; 8] {
+    let mut shown = [None; 8];
+    for number in 0..8u8 {
+        let n = usize::from(number);
+        let present = start.presents.get(n).copied().flatten();
+        if let (Some(present), Some(sensor)) = (present, profile.sensors.get(n)) {
+            shown[n] = Some(shown_at_start(number, present, sensor));
+        }
+    }
+    shown
+}
+
+/// Places what the counters show, unless it is what they show anyway.
+fn place_counters(live: &mut LiveFixture, start: &Starting) {
+    let counters = [
+        (Kind::DeviceHours, start.device_hours),
+        (Kind::LampHours, start.lamp_hours),
+        (Kind::LampStrikes, start.lamp_strikes),
+        (Kind::DevicePowerCycles, start.device_power_cycles),
+    ];
+    for (kind, count) in counters {
+        if count != 0 {
+            place(live, kind, &count.to_be_bytes());
+        }
+    }
+}
+
+/// Places a value of the root. A file says nothing of what its fixture lacks, so it isn't refused.
+fn place(live: &mut LiveFixture, kind: Kind, bytes: &[u8]) {
+    let _ = live.place(ROOT_DEVICE, kind.pid(), bytes);
+}
+
+/// How many of each fixture are asked for.
+fn count_of_each(asked: &ArgMatches<'_>) -> u16 {
+    asked.get_one::<u16>(rdm_usage::COUNT).unwrap_or(1)
+}
+
+/// What is on the line if several fixtures answer at once, as it is asked for.
+fn collision(asked: &ArgMatches<'_>) -> Collision {
+    match asked.get_str(rdm_usage::COLLISION) {
+        Some(rdm_usage::FIRST) => Collision::First,
+        Some(rdm_usage::RUBBISH) => Collision::Rubbish(SEED),
+        _ => Collision::AllBits,
+    }
+}
