@@ -79,14 +79,27 @@ fn all_told(rt: &impl Abort, alloc: Global, items: &[Collected]) -> String {
 /// What a record says: the response type, the command class, the parameter ID and the data; whether it was asked for again, and whether a
 /// poll before it has no answer.
 fn item_told(rt: &impl Abort, alloc: Global, item: &Collected) -> String {
+    let response = name_of(rt, alloc, &item.response);
+    let said = item_said(rt, alloc, item);
+    let again = again_told(item);
+    format!(in alloc; "({response} {said}{again})").expect(rt, "memory")
+}
+
+/// The command class, the parameter ID and the data of a record.
+fn item_said(rt: &impl Abort, alloc: Global, item: &Collected) -> String {
     let data = printed(rt, alloc, item.message.body.as_slice());
     let (class, pid) = (item.message.class, item.message.pid);
-    let again = if item.again { " again" } else { "" };
-    let after_loss = if item.after_loss { " after loss" } else { "" };
-    let response = name_of(rt, alloc, &item.response);
-    format!(in alloc; "({response} {class:02X} {pid:04X} {data}{again}{after_loss})").expect(
-        rt, "memory",
-    )
+    format!(in alloc; "{class:02X} {pid:04X} {data}").expect(rt, "memory")
+}
+
+/// Whether a record was asked for again, and whether a poll before it has no answer.
+fn again_told(item: &Collected) -> &'static str {
+    match (item.again, item.after_loss) {
+        (false, false) => "",
+        (true, false) => " again",
+        (false, true) => " after loss",
+        (true, true) => " again after loss",
+    }
 }
 
 /// A deferred NACK is a message, and the next poll goes on (E1.20 section 6.3.4).

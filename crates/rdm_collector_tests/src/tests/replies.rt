@@ -1,7 +1,7 @@
 //! What responses say.
 
 use super::{bytes_of, name_of, printed, row_in, words_for};
-use rdm_collector::read_reply;
+use rdm_collector::{Reply, read_reply};
 use std::alloc::Global;
 use std::process::Abort;
 
@@ -22,16 +22,27 @@ CC01187FF0000000027FF0000000010100000000310403000400 = none
 
 /// What bytes say.
 fn told(rt: &impl Abort, alloc: Global, bytes: &[u8]) -> String {
-    let Some(reply) = read_reply(bytes) else {
-        return words_for(rt, alloc, &"none");
-    };
+    match read_reply(bytes) {
+        Some(reply) => reply_told(rt, alloc, &reply),
+        None => words_for(rt, alloc, &"none"),
+    }
+}
+
+fn reply_told(rt: &impl Abort, alloc: Global, reply: &Reply<'_>) -> String {
     let response = name_of(rt, alloc, &reply.response);
+    let from = words_for(rt, alloc, &reply.src);
+    let said = reply_said(rt, alloc, reply);
+    format!(in alloc; "{response} {from} {said}").expect(rt, "memory")
+}
+
+/// The command class, the parameter ID, the sub-device, how many messages wait, and the data.
+fn reply_said(rt: &impl Abort, alloc: Global, reply: &Reply<'_>) -> String {
+    let (class, pid) = (reply.class, reply.pid);
+    let command = format!(in alloc; "{class:02X} {pid:04X}").expect(rt, "memory");
+    let (sub, waiting) = (reply.sub, reply.waiting);
+    let device = format!(in alloc; "{sub:04X} {waiting}").expect(rt, "memory");
     let data = printed(rt, alloc, reply.body);
-    let (src, class, pid, sub) = (reply.src, reply.class, reply.pid, reply.sub);
-    let waiting = reply.waiting;
-    format!(in alloc; "{response} {src} {class:02X} {pid:04X} {sub:04X} {waiting} ({data})").expect(
-        rt, "memory",
-    )
+    format!(in alloc; "{command} {device} ({data})").expect(rt, "memory")
 }
 
 /// Bytes say this.
