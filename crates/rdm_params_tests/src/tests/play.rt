@@ -64,17 +64,20 @@ fn plays_row(rt: &impl Abort, devices: &mut Devices, row: &str) {
 }
 
 /// What is done by a command or to a value: at which device, of which PID, and with which data.
-#[derive(Debug, Drop)]
-struct Said {
+#[derive(Drop)]
+struct Said<'a> {
+    /// What the row says.
+    row: &'a str,
     sub: u16,
     pid: u16,
     body: Body,
 }
 
-fn said_in(rt: &impl Abort, words: &str) -> Said {
-    let (sub, words) = cut(words);
+fn said_in<'a>(rt: &impl Abort, row: &'a str) -> Said<'a> {
+    let (sub, words) = cut(row);
     let (pid, words) = cut(words);
     Said {
+        row,
         sub: word(rt, sub),
         pid: word(rt, pid),
         body: data(rt, words),
@@ -93,29 +96,29 @@ fn commands(rt: &impl Abort, devices: &mut Devices, verb: &str, words: &str, exp
     }
 }
 
-fn gets(rt: &impl Abort, devices: &Devices, said: &Said, expected: &str) {
+fn gets(rt: &impl Abort, devices: &Devices, said: &Said<'_>, expected: &str) {
     let told = devices.get(said.sub, said.pid, said.body.as_slice());
-    assert_eq!(rt; told, verdict(rt, Get, said, expected), "get {said:?}");
+    assert_eq!(rt; told, verdict(rt, Get, said, expected), "get {}", said.row);
 }
 
-fn sets(rt: &impl Abort, devices: &mut Devices, said: &Said, expected: &str) {
+fn sets(rt: &impl Abort, devices: &mut Devices, said: &Said<'_>, expected: &str) {
     let told = devices.set(said.sub, said.pid, said.body.as_slice());
-    assert_eq!(rt; told, verdict(rt, Set, said, expected), "set {said:?}");
+    assert_eq!(rt; told, verdict(rt, Set, said, expected), "set {}", said.row);
 }
 
-fn tells(rt: &impl Abort, devices: &mut Devices, said: &Said, expected: &str) {
+fn tells(rt: &impl Abort, devices: &mut Devices, said: &Said<'_>, expected: &str) {
     let mut body = Body::new();
     let (_, changed) = devices.set_into(said.sub, said.pid, said.body.as_slice(), &mut body);
-    assert_eq!(rt; changed, changed_in(rt, expected), "tell {said:?}");
+    assert_eq!(rt; changed, changed_in(rt, expected), "tell {}", said.row);
 }
 
-fn places(rt: &impl Abort, devices: &mut Devices, said: &Said, expected: &str) {
+fn places(rt: &impl Abort, devices: &mut Devices, said: &Said<'_>, expected: &str) {
     let placed = devices.place(said.sub, said.pid, said.body.as_slice());
-    assert_eq!(rt; name_of(&placed), expected, "place {said:?}");
+    assert_eq!(rt; name_of(&placed), expected, "place {}", said.row);
 }
 
 /// The verdict that words say.
-fn verdict(rt: &impl Abort, verb: Verb, said: &Said, expected: &str) -> Verdict {
+fn verdict(rt: &impl Abort, verb: Verb, said: &Said<'_>, expected: &str) -> Verdict {
     let (sub, pid) = (said.sub, said.pid);
     let (kind, words) = cut(expected);
     match kind {
